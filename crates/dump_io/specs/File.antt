@@ -1,0 +1,10 @@
+-- A named file in memory.
+use Rattle.std.specs.Prelude.{ℕ, List}
+use Rattle.std.specs.String.{string_bytes}
+use Rattle.dump_io.specs.declared.file.DumpFile.{DumpFile}
+
+abbrev pub name_of : DumpFile → List ℕ
+name_of file = string_bytes file.name
+
+abbrev pub bytes_of : DumpFile → List ℕ
+bytes_of file = file.bytes.items

@@ -1,0 +1,10 @@
+pub mod Counts
+pub mod Dumps
+pub mod File
+pub mod HeldDump
+pub mod Limits
+pub mod Lines
+pub mod MemDumps
+pub mod MemSink
+pub mod Numbers
+pub mod Sinks

@@ -1,0 +1,57 @@
+-- The lines of a dump and its headers. Offsets are counted in bytes from 0.
+use Rattle.std.specs.Prelude.{ℕ, ◌+◌, ◌-◌, ◌==◌, Bool, List, [], ◌∷◌, length, take, map, filter, nat_eq, if◌then◌else◌}
+use Rattle.std.specs.List.{starts_with, ends_with}
+
+abbrev pub lf : ℕ
+lf = 10
+
+abbrev pub cr : ℕ
+cr = 13
+
+abbrev pub equals_sign : ℕ
+equals_sign = 61
+
+-- lines with one more byte in front of the first of them
+abbrev pub lines_after : ℕ → List (List ℕ) → List (List ℕ)
+lines_after c [] = (c ∷ []) ∷ []
+lines_after c (line ∷ lines) = (c ∷ line) ∷ lines
+
+-- the raw lines: each ends behind its LF, and the last line may lack it
+abbrev pub raw_lines : List ℕ → List (List ℕ)
+raw_lines [] = []
+raw_lines (c ∷ bytes) = if c == lf then (c ∷ []) ∷ raw_lines bytes else lines_after c (raw_lines bytes)
+
+-- the text of a raw line: without its LF, and without one CR directly before that LF
+abbrev pub text_of : List ℕ → List ℕ
+text_of raw =
+    if ends_with nat_eq raw (cr ∷ lf ∷ []) then take (length raw - 2) raw
+    else (if ends_with nat_eq raw (lf ∷ []) then take (length raw - 1) raw else raw)
+
+-- a raw line and the number of bytes before it
+pub record Line : Type 0 where
+  pub at : ℕ
+  pub raw : List ℕ
+
+abbrev pub lines_from : ℕ → List (List ℕ) → List Line
+lines_from at [] = []
+lines_from at (raw ∷ raws) = record { at = at; raw = raw } ∷ lines_from (at + length raw) raws
+
+abbrev pub lines : List ℕ → List Line
+lines bytes = lines_from 0 (raw_lines bytes)
+
+-- a header is a line whose text begins with an equals sign
+abbrev pub is_header : List ℕ → Bool
+is_header raw = starts_with nat_eq (text_of raw) (equals_sign ∷ [])
+
+-- a header: where its line begins, where its raw line ends, and its text
+pub record Header : Type 0 where
+  pub at : ℕ
+  pub body : ℕ
+  pub text : List ℕ
+
+abbrev pub header_of : Line → Header
+header_of line = record { at = line.at; body = line.at + length line.raw; text = text_of line.raw }
+
+-- the headers of the bytes, in order
+abbrev pub headers : List ℕ → List Header
+headers bytes = map header_of (filter (λ line. is_header line.raw) (lines bytes))

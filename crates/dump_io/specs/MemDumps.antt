@@ -1,0 +1,74 @@
+-- A device whose files are in memory.
+use Rattle.std.specs.Prelude.{ℕ, ◌^◌, ◌<◌, ◌-◌, ◌%◌, ◌==◌, Bool, List, [], ◌∷◌, Option, None, Some, length, min, max, slice_get, slice_index, if◌then◌else◌}
+use Rattle.std.specs.List.{list_any}
+use Rattle.std.specs.Str.{bytes_eq}
+use Rattle.std.proofs.Common.{lit<}
+use Rattle.dump_io.specs.declared.file.DumpFile.{DumpFile}
+use Rattle.dump_io.specs.declared.mem_dumps.MemDumps.{MemDumps}
+use Rattle.dump_io.specs.File.{name_of, bytes_of}
+use Rattle.dump_io.specs.Dumps.{Files, Now, closed, told, size_of}
+
+-- the bytes of the first file of a name
+abbrev pub find_file : List DumpFile → Files
+find_file [] name = None
+find_file (file ∷ files) name = if bytes_eq (name_of file) name then Some (bytes_of file) else find_file files name
+
+-- what is open where this is the file, if any
+abbrev pub now_in : Option DumpFile → Now
+now_in None = closed
+now_in (Some file) = told (bytes_of file)
+
+-- what is open where the file at this place is, if any
+abbrev pub now_at : List DumpFile → Option ℕ → Now
+now_at files None = closed
+now_at files (Some i) = now_in (slice_get files i)
+
+-- a file's size is a number of 64 bits
+pub now_in-small : (file : Option DumpFile) → size_of (now_in file) < 2 ^ 64
+now_in-small None = lit< tt
+now_in-small (Some file) = file.fits
+
+pub now_at-small : (files : List DumpFile) (place : Option ℕ) → size_of (now_at files place) < 2 ^ 64
+now_at-small files None = lit< tt
+now_at-small files (Some i) = now_in-small (slice_get files i)
+
+-- what a device of this kind shows
+abbrev pub files_of : MemDumps → Files
+files_of device = find_file device.files.items
+
+abbrev pub now_of : MemDumps → Now
+now_of device = now_at device.files.items device.place
+
+-- how many calls were made, and how many reads that didn't fail
+abbrev pub calls_of : MemDumps → ℕ
+calls_of device = device.calls
+
+abbrev pub reads_of : MemDumps → ℕ
+reads_of device = device.reads
+
+abbrev pub faults_of : MemDumps → ℕ
+faults_of device = device.faults
+
+abbrev pub taken_of : MemDumps → ℕ
+taken_of device = min device.taken (2 ^ 64 - 1)
+
+-- the numbers of the calls that fail, and the most bytes that a read gives, in turn
+abbrev pub fails_of : MemDumps → List ℕ
+fails_of device = device.fails.items
+
+abbrev pub cuts_of : MemDumps → List ℕ
+cuts_of device = device.cuts.items
+
+-- whether the last call was one of those that fail
+abbrev pub is_failing : MemDumps → Bool
+is_failing device = list_any (λ number. number == calls_of device) (fails_of device)
+
+-- what is open after a call that asks for this file
+abbrev pub opened : Option (List ℕ) → Now
+opened None = closed
+opened (Some bytes) = told bytes
+
+-- how many bytes read number k gives, where `most` may be given
+abbrev pub cut_at : List ℕ → ℕ → ℕ → ℕ
+cut_at [] k most = most
+cut_at (cut ∷ cuts) k most = min most (max 1 (slice_index (cut ∷ cuts) (k % length (cut ∷ cuts))))

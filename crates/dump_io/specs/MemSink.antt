@@ -1,0 +1,34 @@
+-- A sink in memory.
+use Rattle.std.specs.Prelude.{ℕ, ◌==◌, Bool, List, min, if◌then◌else◌}
+use Rattle.std.specs.List.{list_any}
+use Rattle.dump_io.specs.declared.mem_sink.MemSink.{MemSink}
+
+abbrev pub written_of : MemSink → List ℕ
+written_of sink = sink.bytes.items
+
+-- the most bytes that a write takes, or 0 where it takes the whole piece
+abbrev pub step_of : MemSink → ℕ
+step_of sink = sink.step
+
+-- the numbers of the writes that fail
+abbrev pub fails_of : MemSink → List ℕ
+fails_of sink = sink.fails.items
+
+-- how many writes were made
+abbrev pub writes_of : MemSink → ℕ
+writes_of sink = sink.writes
+
+-- how many writes found no memory
+abbrev pub lacked_of : MemSink → ℕ
+lacked_of sink = sink.lacked
+
+abbrev pub faults_of : MemSink → ℕ
+faults_of sink = sink.faults
+
+-- whether the last write was one of those that fail
+abbrev pub is_failing : MemSink → Bool
+is_failing sink = list_any (λ number. number == writes_of sink) (fails_of sink)
+
+-- how many bytes a write of a piece takes, by the step and the piece's length
+abbrev pub taken_by : ℕ → ℕ → ℕ
+taken_by step length = if step == 0 then length else min step length

@@ -1,0 +1,23 @@
+-- The numbers of a dump's text: digits alone, of which a sign or a space is none. Leading zeros are taken.
+use Rattle.std.specs.Prelude.{ℕ, ◌^◌, Bool, ◌&&◌, List, length, Option, None, Some, nat_le, nat_lt, if◌then◌else◌}
+use Rattle.std.specs.List.{list_all}
+use Rattle.std.specs.Char.{digit_value}
+use Rattle.std.specs.Str.Parse.{digits_value}
+
+-- whether the text is of 1 to `most` digits of the base and writes a number below 2^64
+abbrev pub is_numeral : ℕ → ℕ → List ℕ → Bool
+is_numeral base most text =
+    nat_le 1 (length text) && nat_le (length text) most
+    && list_all (λ c. nat_lt (digit_value c) base) text && nat_lt (digits_value base text) (2 ^ 64)
+
+-- the number that the text writes, where it is a numeral
+abbrev pub number_of : ℕ → ℕ → List ℕ → Option ℕ
+number_of base most text = if is_numeral base most text then Some (digits_value base text) else None
+
+-- hex: 1 to 16 digits of `0`-`9`, `A`-`F` and `a`-`f`
+abbrev pub hex_number : List ℕ → Option ℕ
+hex_number text = number_of 16 16 text
+
+-- decimal: 1 to 20 digits of `0`-`9`, with a value below 2^64
+abbrev pub dec_number : List ℕ → Option ℕ
+dec_number text = number_of 10 20 text

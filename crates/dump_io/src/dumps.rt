@@ -1,0 +1,66 @@
+// A device that holds dumps.
+ghost use Rattle.std.specs.Prelude.{◌≡◌, ◌⊎◌, ℕ, ◌<◌, ◌≤◌, ◌^◌, length, Option, OnErr, IfOk, OnOk, MatchResult};
+ghost use Rattle.dump_io.specs.Counts.{Rose, HasCause, plus_capped};
+ghost use Rattle.dump_io.specs.Dumps.{Files, Now, closed, IsOpen, size_of, IsNamed, IsAbsent, Reads};
+
+use std::error::Error;
+use std::fmt;
+
+/// The fault of a device or a sink, which its count of faults tells.
+#[derive(Clone, Copy, Debug, PartialEq, Eq)]
+pub struct Failed;
+
+impl fmt::Display for Failed {
+    fn fmt<W: fmt::Write>(&self, f: &mut fmt::Formatter<W>) -> fmt::Result {
+        write!(f, "the device failed")
+    }
+}
+
+impl Error for Failed {}
+
+/// A device of dumps: it has one file open at a time, and gives the file's bytes in pieces of its choice.
+pub trait Dumps {
+    /// The files by name, where the device tells them. No call changes them.
+    ghost files: { Self → Option Files };
+
+    /// What is open: its size, and its bytes where the device tells them.
+    ghost now: { Self → Now };
+
+    /// How often the device has failed. This and `taken` stay at 2^64 - 1 once they have reached it.
+    ghost faults: { Self → ℕ };
+
+    /// How many bytes the device has given.
+    ghost taken: { Self → ℕ };
+
+    /// Closes what was open, opens the named file and gives its size in bytes.
+    ///
+    /// `Failed` comes only where `faults` rose, or where the files are told and none has that name.
+    /// No file is open then.
+    fn open_dump(&mut self, name: &str) -> Result<u64, Failed>
+        ensures same_files { files self.new ≡ files self.old }
+        ensures same_taken { taken self.new ≡ taken self.old }
+        ensures later { faults self.old ≤ faults self.new }
+        ensures opened { IfOk result (λ size. IsOpen (now self.new) × (size_of (now self.new) ≡ size)) }
+        ensures named { OnOk result (IsNamed (files self.old) name.now (now self.new)) }
+        ensures failed { OnErr result (now self.new ≡ closed) }
+        ensures cause { OnErr result (Rose (faults self.old) (faults self.new) ⊎ IsAbsent (files self.old) name.now) };
+
+    /// Gives bytes of the open file from the offset `at` on, as many as it likes but at least one, and
+    /// says how many. The places of `into` behind them may hold anything.
+    ///
+    /// `Failed` comes only where `faults` rose, and `into` may hold anything then. The file stays open.
+    fn read_at(&mut self, at: u64, into: &mut [u8]) -> Result<usize, Failed>
+        requires inside { at < size_of (now self.old) }
+        requires room { 0 < length into.old }
+        ensures same_files { files self.new ≡ files self.old }
+        ensures same_now { now self.new ≡ now self.old }
+        ensures cause { HasCause (faults self.old) (faults self.new) result }
+        ensures read { IfOk result (Reads (now self.old) at into.new) }
+        ensures taken { MatchResult result (λ n. taken self.new ≡ plus_capped (taken self.old) n) (λ _. taken self.new ≡ taken self.old) };
+
+    /// A size is a number of 64 bits.
+    ghost small_size: { (d : Self) → size_of (now d) < 2 ^ 64 };
+
+    /// So is the count of bytes.
+    ghost small_taken: { (d : Self) → taken d < 2 ^ 64 };
+}

@@ -1,0 +1,171 @@
+// A device whose files are in memory, which can cut its reads and fail.
+ghost use Rattle.std.specs.Prelude.{◌≡◌, ◌⊎◌, ℕ, ◌-◌, ◌^◌, ◌<◌, ◌≤◌, List, length, None, Some, min, is_err, is_ok, MatchOption, MatchResult, OnErr, OnOk, IfOk, if◌then◌else◌};
+ghost use Rattle.dump_io.specs.Counts.{Rose, HasCause, plus_capped};
+ghost use Rattle.dump_io.specs.Dumps.{closed, told, size_of, IsOpen, IsNamed, IsAbsent, Reads};
+ghost use Rattle.dump_io.specs.MemDumps.{find_file, now_at, now_at-small, cut_at, files_of, now_of, calls_of, reads_of, faults_of, taken_of, fails_of, cuts_of, is_failing, opened};
+ghost use Rattle.std.proofs.Common.{rules};
+
+use crate::dumps::{Dumps, Failed};
+use crate::file::DumpFile;
+
+/// A device that tells its files. Of two files with one name the first counts.
+///
+/// The calls are numbered together from 1, and one whose number is in `fails` fails and raises the count
+/// of faults. The reads that don't fail are numbered from 0, and read number k gives as many bytes as it
+/// may, but at most `cuts[k % cuts.len()]`, where a cut of 0 counts as 1. With no cuts nothing is cut.
+#[derive(Drop)]
+pub struct MemDumps {
+    files: Vec<DumpFile>,
+    cuts: Vec<usize>,
+    fails: Vec<u64>,
+    place: Option<usize>,
+    calls: u64,
+    reads: u64,
+    faults: u64,
+    taken: u64,
+}
+
+impl MemDumps {
+    /// A device of these files, with no open file and counts of 0.
+    pub fn new(files: Vec<DumpFile>, cuts: Vec<usize>, fails: Vec<u64>) -> MemDumps
+        ensures files { (name : List ℕ) → files_of result name ≡ find_file files.items name }
+        ensures cuts { cuts_of result ≡ cuts.items }
+        ensures fails { fails_of result ≡ fails.items }
+        ensures now { now_of result ≡ closed }
+        ensures calls { calls_of result ≡ 0 }
+        ensures reads { reads_of result ≡ 0 }
+        ensures faults { faults_of result ≡ 0 }
+        ensures taken { taken_of result ≡ 0 }
+    {
+        MemDumps {
+            files,
+            cuts,
+            fails,
+            place: None,
+            calls: 0,
+            reads: 0,
+            faults: 0,
+            taken: 0,
+        }
+    }
+
+    /// How many bytes were given.
+    pub fn taken(&self) -> u64
+        ensures { result ≡ taken_of self.now }
+    {
+        self.taken
+    }
+}
+
+fn place_of(files: &[DumpFile], name: &str) -> Option<usize>
+    ensures { MatchOption result (find_file files.now name.now ≡ None)
+        (λ i. (bytes : List ℕ) × (find_file files.now name.now ≡ Some bytes) × (now_at files.now (Some i) ≡ told bytes)) }
+{
+    for (i, file) in files.iter().enumerate() {
+        if file.name.as_str() == name {
+            return Some(i);
+        }
+    }
+    None
+}
+
+fn bytes_at(files: &[DumpFile], place: Option<usize>) -> Option<&[u8]>
+    ensures { MatchOption result (now_at files.now place ≡ closed) (λ bytes. now_at files.now place ≡ told bytes.now) }
+{
+    match place {
+        None => None,
+        Some(i) => match files.get(i) {
+            None => None,
+            Some(file) => Some(file.bytes.as_slice()),
+        },
+    }
+}
+
+fn cut(cuts: &[usize], read: u64, most: usize) -> usize
+    requires { 1 ≤ most }
+    ensures value { result ≡ cut_at cuts.now read most }
+    ensures some { 1 ≤ result }
+    ensures within { result ≤ most }
+{
+    if cuts.is_empty() {
+        return most;
+    }
+    let k = (read % cuts.len() as u64) as usize;
+    most.min(cuts[k].max(1))
+}
+
+impl Dumps for MemDumps {
+    ghost files = { λ m. Some (files_of m) };
+
+    ghost now = { now_of };
+
+    ghost faults = { faults_of };
+
+    ghost taken = { taken_of };
+
+    ghost small_size = { λ m. now_at-small m.files.items m.place };
+
+    ghost small_taken = { λ m. Prim.search rules };
+
+    fn open_dump(&mut self, name: &str) -> Result<u64, Failed>
+        ensures same_files { Some (files_of self.new) ≡ Some (files_of self.old) }
+        ensures same_taken { taken_of self.new ≡ taken_of self.old }
+        ensures later { faults_of self.old ≤ faults_of self.new }
+        ensures opened { IfOk result (λ size. IsOpen (now_of self.new) × (size_of (now_of self.new) ≡ size)) }
+        ensures named { OnOk result (IsNamed (Some (files_of self.old)) name.now (now_of self.new)) }
+        ensures failed { OnErr result (now_of self.new ≡ closed) }
+        ensures cause { OnErr result (Rose (faults_of self.old) (faults_of self.new) ⊎ IsAbsent (Some (files_of self.old)) name.now) }
+
+        ensures number { calls_of self.new ≡ plus_capped (calls_of self.old) 1 }
+        ensures reads { reads_of self.new ≡ reads_of self.old }
+        ensures cuts { cuts_of self.new ≡ cuts_of self.old }
+        ensures fails { fails_of self.new ≡ fails_of self.old }
+        ensures count { faults_of self.new ≡ (if is_failing self.new then plus_capped (faults_of self.old) 1 else faults_of self.old) }
+        ensures opens { now_of self.new ≡ (if is_failing self.new then closed else opened (files_of self.old name.now)) }
+    {
+        self.place = None;
+        self.calls = self.calls.saturating_add(1);
+        if self.fails.contains(&self.calls) {
+            self.faults = self.faults.saturating_add(1);
+            return Err(Failed);
+        }
+        self.place = place_of(&self.files, name);
+        match bytes_at(&self.files, self.place) {
+            None => Err(Failed),
+            Some(bytes) => Ok(bytes.len() as u64),
+        }
+    }
+
+    fn read_at(&mut self, at: u64, into: &mut [u8]) -> Result<usize, Failed>
+        requires inside { at < size_of (now_of self.old) }
+        requires room { 0 < length into.old }
+        ensures same_files { Some (files_of self.new) ≡ Some (files_of self.old) }
+        ensures same_now { now_of self.new ≡ now_of self.old }
+        ensures cause { HasCause (faults_of self.old) (faults_of self.new) result }
+        ensures read { IfOk result (Reads (now_of self.old) at into.new) }
+        ensures taken { MatchResult result (λ n. taken_of self.new ≡ plus_capped (taken_of self.old) n) (λ _. taken_of self.new ≡ taken_of self.old) }
+
+        ensures number { calls_of self.new ≡ plus_capped (calls_of self.old) 1 }
+        ensures reads { reads_of self.new ≡ (if is_ok result then plus_capped (reads_of self.old) 1 else reads_of self.old) }
+        ensures cuts { cuts_of self.new ≡ cuts_of self.old }
+        ensures fails { fails_of self.new ≡ fails_of self.old }
+        ensures count { faults_of self.new ≡ (if is_failing self.new then plus_capped (faults_of self.old) 1 else faults_of self.old) }
+        ensures failing { is_err result ≡ is_failing self.new }
+        ensures cut { IfOk result (λ n. n ≡ cut_at (cuts_of self.old) (reads_of self.old) (min (size_of (now_of self.old) - at) (length into.old))) }
+    {
+        self.calls = self.calls.saturating_add(1);
+        if self.fails.contains(&self.calls) {
+            self.faults = self.faults.saturating_add(1);
+            return Err(Failed);
+        }
+        let Some(bytes) = bytes_at(&self.files, self.place) else {
+            unreachable!()
+        };
+        let rest = &bytes[at as usize..];
+        let n = cut(&self.cuts, self.reads, rest.len().min(into.len()));
+        into[..n].copy_from_slice(&rest[..n]);
+        self.reads = self.reads.saturating_add(1);
+        self.taken = self.taken.saturating_add(n as u64);
+        Ok(n)
+    }
+}

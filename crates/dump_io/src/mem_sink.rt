@@ -1,0 +1,106 @@
+// A sink in memory, which can take small steps and fail.
+ghost use Rattle.std.specs.Prelude.{◌≡◌, ◌⊎◌, ℕ, ◌<◌, ◌≤◌, true, [], length, Some, is_err, IsErr, IfOk, if◌then◌else◌, ◌||◌, nat_lt};
+ghost use Rattle.dump_io.specs.Counts.{Rose, HasCause, plus_capped};
+ghost use Rattle.dump_io.specs.Sinks.{Writes};
+ghost use Rattle.dump_io.specs.MemSink.{written_of, step_of, fails_of, writes_of, lacked_of, faults_of, is_failing, taken_by};
+
+use crate::dumps::Failed;
+use crate::sink::Sink;
+use std::alloc::Global;
+
+/// A sink that tells what was written.
+///
+/// A write takes the first `step` bytes of its piece, or the whole piece where it is shorter or `step` is
+/// 0. The writes are numbered from 1, and one whose number is in `fails` fails, as does one that finds no
+/// memory.
+#[derive(Drop)]
+pub struct MemSink {
+    bytes: Vec<u8>,
+    step: usize,
+    fails: Vec<u64>,
+    writes: u64,
+    lacked: u64,
+    faults: u64,
+}
+
+impl MemSink {
+    /// An empty sink, with counts of 0. It takes no memory.
+    pub fn new(alloc: Global, step: usize, fails: Vec<u64>) -> MemSink
+        ensures written { written_of result ≡ [] }
+        ensures step { step_of result ≡ step }
+        ensures fails { fails_of result ≡ fails.items }
+        ensures writes { writes_of result ≡ 0 }
+        ensures lacked { lacked_of result ≡ 0 }
+        ensures faults { faults_of result ≡ 0 }
+    {
+        MemSink {
+            bytes: Vec::new(alloc),
+            step,
+            fails,
+            writes: 0,
+            lacked: 0,
+            faults: 0,
+        }
+    }
+
+    /// The bytes that were written.
+    pub fn written(&self) -> &[u8]
+        ensures { result.now ≡ written_of self.now }
+    {
+        self.bytes.as_slice()
+    }
+
+    /// How many writes found no memory.
+    pub fn lacked(&self) -> u64
+        ensures { result ≡ lacked_of self.now }
+    {
+        self.lacked
+    }
+
+    fn fail(&mut self) -> Failed
+        ensures count { self.new.faults ≡ plus_capped self.old.faults 1 }
+        ensures later { self.old.faults ≤ self.new.faults }
+        ensures rose { Rose self.old.faults self.new.faults }
+        ensures same { self.new ≡ record self.old { faults = self.new.faults } }
+    {
+        self.faults = self.faults.saturating_add(1);
+        Failed
+    }
+}
+
+impl Sink for MemSink {
+    ghost written = { λ m. Some (written_of m) };
+
+    ghost faults = { faults_of };
+
+    fn write(&mut self, piece: &[u8]) -> Result<usize, Failed>
+        requires { 0 < length piece.now }
+        ensures writes { Writes (Some (written_of self.old)) (Some (written_of self.new)) piece.now result }
+        ensures cause { HasCause (faults_of self.old) (faults_of self.new) result }
+
+        ensures number { writes_of self.new ≡ plus_capped (writes_of self.old) 1 }
+        ensures step { step_of self.new ≡ step_of self.old }
+        ensures fails { fails_of self.new ≡ fails_of self.old }
+        ensures lacked { lacked_of self.old ≤ lacked_of self.new }
+        ensures told { IsErr result → (is_failing self.new ≡ true) ⊎ Rose (lacked_of self.old) (lacked_of self.new) }
+        ensures failing { is_failing self.new ≡ true → IsErr result }
+        ensures lacking { lacked_of self.old < lacked_of self.new → IsErr result }
+        ensures count { faults_of self.new ≡ (if is_err result then plus_capped (faults_of self.old) 1 else faults_of self.old) }
+        ensures takes { IfOk result (λ n. n ≡ taken_by (step_of self.old) (length piece.now)) }
+    {
+        self.writes = self.writes.saturating_add(1);
+        if self.fails.contains(&self.writes) {
+            return Err(self.fail());
+        }
+        let n = if self.step == 0 {
+            piece.len()
+        } else {
+            self.step.min(piece.len())
+        };
+        if self.bytes.extend_from_slice(&piece[..n]).is_err() {
+            self.lacked = self.lacked.saturating_add(1);
+            return Err(self.fail());
+        }
+        Ok(n)
+    }
+}

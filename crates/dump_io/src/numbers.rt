@@ -1,0 +1,104 @@
+// The numbers that a dump's text has, and those that a report writes.
+ghost use Rattle.std.specs.Prelude.{◌≡◌, ◌⊎◌, ℕ, ◌+◌, ◌*◌, true, ◌<◌, ◌≤◌, ◌^◌, length, drop, decimal, Option, None, Some};
+ghost use Rattle.std.specs.Option.{SomeIff};
+ghost use Rattle.std.specs.Fmt.{digit_glyph, digits};
+ghost use Rattle.std.specs.Char.{digit_value};
+ghost use Rattle.dump_io.specs.Counts.{HasCause};
+ghost use Rattle.dump_io.specs.Numbers.{number_of, hex_number, dec_number};
+ghost use Rattle.dump_io.specs.Sinks.{WritesAll};
+
+use crate::dumps::Failed;
+use crate::sink::{Sink, write_all};
+use itoa::Buffer;
+
+// The number with one digit more, where that is a digit of the base and the number is below 2^64.
+fn with_digit(number: u64, digit: u8, base: u32) -> Option<u64>
+    requires low { 2 ≤ base }
+    requires high { base ≤ 36 }
+    ensures { SomeIff result ((digit_value digit < base) × (number * base + digit_value digit < 2 ^ 64))
+        (number * base + digit_value digit) }
+{
+    let value = char::from(digit).to_digit(base)?;
+    number
+        .checked_mul(u64::from(base))?
+        .checked_add(u64::from(value))
+}
+
+fn number(text: &[u8], base: u32, most: usize) -> Option<u64>
+    requires low { 2 ≤ base }
+    requires high { base ≤ 36 }
+    ensures { result ≡ number_of base most text.now }
+{
+    if text.is_empty() || text.len() > most {
+        return None;
+    }
+    let mut n = 0;
+    for digit in text {
+        n = with_digit(n, *digit, base)?;
+    }
+    Some(n)
+}
+
+/// The number that a text of 1 to 20 decimal digits writes, where it is below 2^64. Leading zeros are
+/// taken, and a sign or a space is not.
+pub fn dec_u64(text: &[u8]) -> Option<u64>
+    ensures { result ≡ dec_number text.now }
+{
+    number(text, 10, 20)
+}
+
+/// The number that a text of 1 to 16 hex digits of either case writes. Leading zeros are taken.
+pub fn hex_u64(text: &[u8]) -> Option<u64>
+    ensures { result ≡ hex_number text.now }
+{
+    number(text, 16, 16)
+}
+
+/// Writes a number in decimal, without leading zeros. `Failed` comes and leaves what it does at [`write_all`].
+pub fn put_dec<K: Sink>(sink: &mut K, n: u64) -> Result<(), Failed>
+    ensures writes { WritesAll (K.written sink.old) (K.written sink.new) (decimal n) result }
+    ensures cause { HasCause (K.faults sink.old) (K.faults sink.new) result }
+{
+    let mut buffer = Buffer::new();
+    write_all(sink, buffer.format(n).as_bytes())
+}
+
+fn hex_digit(d: u64) -> u8
+    requires { d < 16 }
+    ensures { result ≡ digit_glyph true d }
+{
+    if d < 10 {
+        b'0' + d as u8
+    } else {
+        b'A' - 10 + d as u8
+    }
+}
+
+// Puts the digits at the end of the buffer, and says where they begin.
+fn put_digits(n: u64, buffer: &mut [u8]) -> usize
+    requires { length buffer.old ≡ 16 }
+    ensures within { result ≤ 16 }
+    ensures text { drop result buffer.new ≡ digits 16 true n }
+{
+    let mut rest = n;
+    let mut at = 16;
+    while at > 0 {
+        at -= 1;
+        buffer[at] = hex_digit(rest % 16);
+        rest /= 16;
+        if rest == 0 {
+            return at;
+        }
+    }
+    unreachable!()
+}
+
+/// Writes a number in upper-case hex, without leading zeros. `Failed` comes and leaves what it does at [`write_all`].
+pub fn put_hex<K: Sink>(sink: &mut K, n: u64) -> Result<(), Failed>
+    ensures writes { WritesAll (K.written sink.old) (K.written sink.new) (digits 16 true n) result }
+    ensures cause { HasCause (K.faults sink.old) (K.faults sink.new) result }
+{
+    let mut buffer = [0; 16];
+    let at = put_digits(n, &mut buffer);
+    write_all(sink, &buffer[at..])
+}
