@@ -1,0 +1,49 @@
+-- What an index says of a dump.
+use Rattle.std.specs.Prelude.{◌≡◌, ℕ, ◌-◌, ◌≤◌, List, [], ◌∷◌, length, Option, None, Some, Result, Ok, Err, codes, if◌then◌else◌}
+use Rattle.std.specs.Str.{bytes_eq}
+use Rattle.dump_io.specs.Limits.{Numbers}
+use Rattle.dump_io.specs.Lines.{Header, headers}
+use Rattle.section_index.specs.declared.index.State.{State}
+use Rattle.section_index.specs.declared.index.State.TheVariants.{Whole, TruncatedIn}
+use Rattle.section_index.specs.declared.opening.OpenFault.{OpenFault}
+use Rattle.section_index.specs.declared.opening.OpenFault.TheVariants.{Read, Memory}
+use Rattle.section_index.specs.declared.opening.Version.{Version}
+use Rattle.section_index.specs.Opening.{opening, first_id, version_named}
+use Rattle.section_index.specs.Sections.{Section, sections_of, tag_of}
+
+-- the headers of a dump, its size in bytes and its version
+pub record Contents : Type 0 where
+  pub headers : List Header
+  pub size : ℕ
+  pub version : Version
+
+-- there is a section, and no dump is larger than 64 GiB
+pub record AreBounded (index : Contents) : Type 0 where
+  pub some : 1 ≤ length index.headers
+  pub size : index.size ≤ 68719476736
+
+-- the sections of an index
+abbrev pub sections_in : Contents → List Section
+sections_in index = sections_of index.headers index.size
+
+abbrev pub last_text : List Header → List ℕ
+last_text [] = []
+last_text (header ∷ []) = header.text
+last_text (header ∷ next ∷ rest) = last_text (next ∷ rest)
+
+-- a dump is whole where the tag of its last section is `end`, and else truncated in that section
+abbrev pub state_of : List Header → State
+state_of headers = if bytes_eq (tag_of (last_text headers)) (codes "end") then Whole else TruncatedIn (length headers - 1)
+
+-- the index is that of these bytes
+pub record IsIndexOf (bytes : List ℕ) (index : Contents) : Type 0 where
+  pub headers : index.headers ≡ headers bytes
+  pub size : index.size ≡ length bytes
+  pub version : version_named (first_id bytes) ≡ Some index.version
+
+-- what an answer about these bytes tells: the index of an accepted dump, or why it is refused
+abbrev pub IsAnswerFor : List ℕ → Numbers → Result Contents OpenFault → Type 0
+IsAnswerFor bytes limits (Ok index) = (opening bytes limits ≡ None) × IsIndexOf bytes index
+IsAnswerFor bytes limits (Err Read) = Unit {0}
+IsAnswerFor bytes limits (Err Memory) = Unit {0}
+IsAnswerFor bytes limits (Err fault) = opening bytes limits ≡ Some fault

@@ -1,0 +1,4 @@
+pub mod Headers
+pub mod Index
+pub mod Opening
+pub mod Sections
