@@ -3,8 +3,9 @@ use Rattle.std.specs.Prelude.{ℕ, List, [], ◌∷◌, ◌++◌, decimal, codes
 use Rattle.std.specs.List.{concat, flat_map}
 use Rattle.section_index.specs.declared.index.State.{State}
 use Rattle.section_index.specs.declared.index.State.TheVariants.{Whole, TruncatedIn}
-use Rattle.section_index.specs.Sections.{Section}
-use Rattle.section_index.specs.Index.{Contents, sections_in, state_of}
+use Rattle.dump_io.specs.Lines.{Header}
+use Rattle.section_index.specs.Sections.{Section, sections_of}
+use Rattle.section_index.specs.Index.{state_of}
 
 abbrev pub space : List ℕ
 space = codes " "
@@ -26,6 +27,7 @@ abbrev pub state_line : List Section → State → List ℕ
 state_line sections Whole = codes "whole\n"
 state_line sections (TruncatedIn i) = truncated_line (slice_get sections i)
 
--- the report of `index`: a line for each section, and then the state
-abbrev pub index_report : Contents → List ℕ
-index_report index = flat_map section_line (sections_in index) ++ state_line (sections_in index) (state_of index.headers)
+-- the report of `index` on a dump of these headers and this size: a line for each section, and then the state
+abbrev pub index_report : List Header → ℕ → List ℕ
+index_report headers size =
+    flat_map section_line (sections_of headers size) ++ state_line (sections_of headers size) (state_of headers)

@@ -68,7 +68,7 @@ fn put_sections<K: Sink>(sink: &mut K, index: &Index) -> Result<(), Failed>
 /// and at which it ends, and its header's text. Then comes the line of the state: `whole`, or `truncated`
 /// with the offset and the text of the section in which the dump breaks off.
 pub fn put_index<K: Sink>(sink: &mut K, index: &Index) -> Result<(), Failed>
-    ensures writes { WritesAll (K.written sink.old) (K.written sink.new) (index_report index.now) result }
+    ensures writes { WritesAll (K.written sink.old) (K.written sink.new) (index_report index.now.headers index.now.size) result }
     ensures cause { HasCause (K.faults sink.old) (K.faults sink.new) result }
 {
     put_sections(sink, index)?;

@@ -14,13 +14,13 @@ pub(crate) enum Piece<'a> {
     Dec(u64),
 }
 
-fn put_piece<K: Sink>(sink: &mut K, piece: Piece<'_>) -> Result<(), Failed>
-    ensures writes { WritesAll (K.written sink.old) (K.written sink.new) (text_of piece) result }
+fn put_piece<K: Sink>(sink: &mut K, piece: &Piece<'_>) -> Result<(), Failed>
+    ensures writes { WritesAll (K.written sink.old) (K.written sink.new) (text_of piece.now) result }
     ensures cause { HasCause (K.faults sink.old) (K.faults sink.new) result }
 {
     match piece {
         Piece::Bytes(bytes) => write_all(sink, bytes),
-        Piece::Dec(n) => put_dec(sink, n),
+        Piece::Dec(n) => put_dec(sink, *n),
     }
 }
 
@@ -30,7 +30,7 @@ pub(crate) fn put_pieces<K: Sink>(sink: &mut K, pieces: &[Piece<'_>]) -> Result<
     ensures cause { HasCause (K.faults sink.old) (K.faults sink.new) result }
 {
     for piece in pieces {
-        put_piece(sink, *piece)?;
+        put_piece(sink, piece)?;
     }
     Ok(())
 }

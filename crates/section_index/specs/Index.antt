@@ -1,5 +1,5 @@
 -- What an index says of a dump.
-use Rattle.std.specs.Prelude.{◌≡◌, ℕ, ◌-◌, ◌<◌, ◌≤◌, List, [], ◌∷◌, length, Option, None, Some, Result, Ok, Err, unwrap_or, codes, if◌then◌else◌}
+use Rattle.std.specs.Prelude.{◌≡◌, ℕ, ◌+◌, ◌-◌, ◌<◌, ◌≤◌, List, [], ◌∷◌, length, Option, None, Some, Result, Ok, Err, unwrap_or, codes, if◌then◌else◌}
 use Rattle.std.specs.Str.{bytes_eq}
 use Rattle.dump_io.specs.Dumps.{Now, closed, told, sized, size_of}
 use Rattle.dump_io.specs.Limits.{Numbers}
@@ -35,6 +35,11 @@ last_text (header ∷ next ∷ rest) = last_text (next ∷ rest)
 -- a dump is whole where the tag of its last section is `end`, and else truncated in that section
 abbrev pub state_of : List Header → State
 state_of headers = if bytes_eq (tag_of (last_text headers)) (codes "end") then Whole else TruncatedIn (length headers - 1)
+
+-- a dump that breaks off does so in its last section
+abbrev pub IsLastPlace : State → ℕ → Type 0
+IsLastPlace Whole count = Unit {0}
+IsLastPlace (TruncatedIn i) count = i + 1 ≡ count
 
 -- the index is that of these bytes
 pub record IsIndexOf (bytes : List ℕ) (index : Contents) : Type 0 where

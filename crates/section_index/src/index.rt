@@ -1,7 +1,7 @@
 // The index of a dump.
 ghost use Rattle.std.specs.Prelude.{◌≡◌, ◌<◌, ◌≤◌, length, slice_get, Some};
 ghost use Rattle.std.specs.Option.{option_copied};
-ghost use Rattle.section_index.specs.Index.{Contents, AreBounded, sections_in, state_of};
+ghost use Rattle.section_index.specs.Index.{Contents, AreBounded, sections_in, state_of, IsLastPlace};
 ghost use Rattle.section_index.specs.Sections.{section, end_at, tag_of, id_of};
 
 use crate::header_text::tag_and_id;
@@ -80,6 +80,7 @@ impl Index {
     /// The number of sections.
     pub fn len(&self) -> usize
         ensures value { result ≡ length self.now.headers }
+        ensures sections { result ≡ length (sections_in self.now) }
         ensures bounded { AreBounded self.now }
     {
         self.headers.len()
@@ -102,7 +103,8 @@ impl Index {
 
     /// Whether the dump is whole, or the place of the section in which it breaks off.
     pub fn state(&self) -> State
-        ensures { result ≡ state_of self.now.headers }
+        ensures value { result ≡ state_of self.now.headers }
+        ensures last { IsLastPlace result (length self.now.headers) }
     {
         let last = self.headers.len() - 1;
         let header = self.headers.header(last);
