@@ -1,0 +1,136 @@
+// The real file and the real streams.
+ghost use Rattle.std.specs.Prelude.{None, ◌^◌, ◌-◌, min};
+ghost use Rattle.dump_command.specs.Devices.{now_of, now_of-small};
+ghost use Rattle.std.proofs.Common.{rules};
+
+use dump_io::{Dumps, Failed, Sink};
+use std::fs::{self, File, OpenFile};
+use std::io::Write;
+use std::os::unix::fs::FileExt;
+
+#[derive(Drop)]
+struct OpenDump {
+    file: File,
+    size: u64,
+}
+
+/// The files of the machine. It tells neither its files nor their bytes, and counts each error of the
+/// machine as a fault: a name that can't be opened, a read that fails, and a file that ends before the
+/// size that it had when it was opened.
+#[derive(Drop)]
+pub struct FileDumps<'a> {
+    rt: &'a HostRuntime,
+    open: Option<OpenDump>,
+    faults: u64,
+    taken: u64,
+}
+
+impl<'a> FileDumps<'a> {
+    /// The machine's files, none of which is open yet.
+    pub fn new(rt: &'a HostRuntime) -> FileDumps<'a> {
+        FileDumps {
+            rt,
+            open: None,
+            faults: 0,
+            taken: 0,
+        }
+    }
+
+    fn open_named(&self, name: &str) -> Option<OpenDump> {
+        let file = fs::open(self.rt, name).ok()?;
+        let size = file.metadata().ok()?.len();
+        Some(OpenDump { file, size })
+    }
+}
+
+impl<'a> Dumps for FileDumps<'a> {
+    ghost files = { λ _. None };
+
+    ghost now = { λ d. now_of d.«open» };
+
+    ghost faults = { λ d. d.faults };
+
+    ghost taken = { λ d. min d.taken (2 ^ 64 - 1) };
+
+    ghost small_size = { λ d. now_of-small d.«open» };
+
+    ghost small_taken = { λ d. Prim.search rules };
+
+    fn open_dump(&mut self, name: &str) -> Result<u64, Failed> {
+        self.open = None;
+        match self.open_named(name) {
+            None => {
+                self.faults = self.faults.saturating_add(1);
+                Err(Failed)
+            }
+            Some(open) => {
+                let size = open.size;
+                self.open = Some(open);
+                Ok(size)
+            }
+        }
+    }
+
+    fn read_at(&mut self, at: u64, into: &mut [u8]) -> Result<usize, Failed> {
+        let Some(open) = &self.open else {
+            unreachable!()
+        };
+        let left = open.size - at;
+        let most = if (into.len() as u64) <= left {
+            into.len()
+        } else {
+            left as usize
+        };
+        match open.file.read_at(&mut into[..most], at) {
+            Ok(n) => {
+                if n == 0 {
+                    self.faults = self.faults.saturating_add(1);
+                    return Err(Failed);
+                }
+                self.taken = self.taken.saturating_add(n as u64);
+                Ok(n)
+            }
+            Err(_) => {
+                self.faults = self.faults.saturating_add(1);
+                Err(Failed)
+            }
+        }
+    }
+}
+
+/// A stream of the machine. It doesn't tell what was written, and counts each error as a fault, a write
+/// that takes nothing among them.
+#[derive(Drop)]
+pub struct StdSink<W: Write + Drop> {
+    inner: W,
+    faults: u64,
+}
+
+impl<W: Write + Drop> StdSink<W> {
+    /// A sink over a writer.
+    pub fn new(inner: W) -> StdSink<W> {
+        StdSink { inner, faults: 0 }
+    }
+}
+
+impl<W: Write + Drop> Sink for StdSink<W> {
+    ghost written = { λ _. None };
+
+    ghost faults = { λ s. s.faults };
+
+    fn write(&mut self, piece: &[u8]) -> Result<usize, Failed> {
+        match self.inner.write(piece) {
+            Ok(n) => {
+                if n == 0 {
+                    self.faults = self.faults.saturating_add(1);
+                    return Err(Failed);
+                }
+                Ok(n)
+            }
+            Err(_) => {
+                self.faults = self.faults.saturating_add(1);
+                Err(Failed)
+            }
+        }
+    }
+}
