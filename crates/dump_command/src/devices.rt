@@ -1,12 +1,17 @@
 // The real file and the real streams.
-ghost use Rattle.std.specs.Prelude.{None, ◌^◌, ◌-◌, min};
+ghost use Rattle.std.specs.Prelude.{◌≡◌, None, ◌^◌, ◌-◌, min, IfOk};
+ghost use Rattle.dump_io.specs.Counts.{HasCause};
 ghost use Rattle.dump_command.specs.Devices.{now_of, now_of-small};
 ghost use Rattle.std.proofs.Common.{rules};
 
 use dump_io::{Dumps, Failed, Sink};
+use std::alloc::{AllocError, Global};
 use std::fs::{self, File, OpenFile};
-use std::io::Write;
+use std::io::{BufWriter, Write};
 use std::os::unix::fs::FileExt;
+
+// How many bytes a stream gathers.
+const GATHERED: usize = 65_536;
 
 #[derive(Drop)]
 struct OpenDump {
@@ -98,18 +103,37 @@ impl<'a> Dumps for FileDumps<'a> {
     }
 }
 
-/// A stream of the machine. It doesn't tell what was written, and counts each error as a fault, a write
-/// that takes nothing among them.
+/// A stream of the machine. It gathers small writes and hands them on when 64 KiB have come together
+/// and at `flush`. It doesn't tell what was written, and counts each error as a fault, a write that takes
+/// nothing among them.
 #[derive(Drop)]
 pub struct StdSink<W: Write + Drop> {
-    inner: W,
+    stream: BufWriter<W>,
     faults: u64,
 }
 
 impl<W: Write + Drop> StdSink<W> {
-    /// A sink over a writer.
-    pub fn new(inner: W) -> StdSink<W> {
-        StdSink { inner, faults: 0 }
+    /// A sink over a stream. Its buffer is all the memory that it takes.
+    pub fn new(alloc: Global, stream: W) -> Result<StdSink<W>, AllocError>
+        ensures { IfOk result (λ sink. sink.faults ≡ 0) }
+    {
+        match BufWriter::with_capacity(alloc, GATHERED, stream) {
+            Ok(stream) => Ok(StdSink { stream, faults: 0 }),
+            Err(_) => Err(AllocError),
+        }
+    }
+
+    /// Hands on what is gathered. `Failed` comes only where the count of faults rose.
+    pub fn flush(&mut self) -> Result<(), Failed>
+        ensures { HasCause self.old.faults self.new.faults result }
+    {
+        match self.stream.flush() {
+            Ok(()) => Ok(()),
+            Err(_) => {
+                self.faults = self.faults.saturating_add(1);
+                Err(Failed)
+            }
+        }
     }
 }
 
@@ -119,7 +143,7 @@ impl<W: Write + Drop> Sink for StdSink<W> {
     ghost faults = { λ s. s.faults };
 
     fn write(&mut self, piece: &[u8]) -> Result<usize, Failed> {
-        match self.inner.write(piece) {
+        match self.stream.write(piece) {
             Ok(n) => {
                 if n == 0 {
                     self.faults = self.faults.saturating_add(1);

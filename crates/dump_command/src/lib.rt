@@ -8,3 +8,6 @@ mod words;
 pub use devices::{FileDumps, StdSink};
 pub use runner::run;
 pub use words::{Cmd, read_words};
+
+#[cfg(test)]
+mod tests;
