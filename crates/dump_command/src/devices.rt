@@ -1,6 +1,6 @@
 // The real file and the real streams.
-ghost use Rattle.std.specs.Prelude.{◌≡◌, None, ◌^◌, ◌-◌, min, IfOk};
-ghost use Rattle.dump_io.specs.Counts.{HasCause};
+ghost use Rattle.std.specs.Prelude.{◌≡◌, ◌≤◌, None, ◌^◌, ◌-◌, min, IfOk};
+ghost use Rattle.dump_io.specs.Counts.{HasCause, Rose};
 ghost use Rattle.dump_command.specs.Devices.{now_of, now_of-small};
 ghost use Rattle.std.proofs.Common.{rules};
 
@@ -41,6 +41,16 @@ impl<'a> FileDumps<'a> {
         }
     }
 
+    // Counts a fault.
+    fn fault(&mut self) -> Failed
+        ensures later { self.old.faults ≤ self.new.faults }
+        ensures rose { Rose self.old.faults self.new.faults }
+        ensures same { self.new ≡ record self.old { faults = self.new.faults } }
+    {
+        self.faults = self.faults.saturating_add(1);
+        Failed
+    }
+
     fn open_named(&self, name: &str) -> Option<OpenDump> {
         let file = fs::open(self.rt, name).ok()?;
         let size = file.metadata().ok()?.len();
@@ -64,10 +74,7 @@ impl<'a> Dumps for FileDumps<'a> {
     fn open_dump(&mut self, name: &str) -> Result<u64, Failed> {
         self.open = None;
         match self.open_named(name) {
-            None => {
-                self.faults = self.faults.saturating_add(1);
-                Err(Failed)
-            }
+            None => Err(self.fault()),
             Some(open) => {
                 let size = open.size;
                 self.open = Some(open);
@@ -87,18 +94,11 @@ impl<'a> Dumps for FileDumps<'a> {
             left as usize
         };
         match open.file.read_at(&mut into[..most], at) {
-            Ok(n) => {
-                if n == 0 {
-                    self.faults = self.faults.saturating_add(1);
-                    return Err(Failed);
-                }
+            Ok(n) if n > 0 => {
                 self.taken = self.taken.saturating_add(n as u64);
                 Ok(n)
             }
-            Err(_) => {
-                self.faults = self.faults.saturating_add(1);
-                Err(Failed)
-            }
+            _ => Err(self.fault()),
         }
     }
 }
@@ -129,11 +129,18 @@ impl<W: Write + Drop> StdSink<W> {
     {
         match self.stream.flush() {
             Ok(()) => Ok(()),
-            Err(_) => {
-                self.faults = self.faults.saturating_add(1);
-                Err(Failed)
-            }
+            Err(_) => Err(self.fault()),
         }
+    }
+
+    // Counts a fault.
+    fn fault(&mut self) -> Failed
+        ensures later { self.old.faults ≤ self.new.faults }
+        ensures rose { Rose self.old.faults self.new.faults }
+        ensures same { self.new ≡ record self.old { faults = self.new.faults } }
+    {
+        self.faults = self.faults.saturating_add(1);
+        Failed
     }
 }
 
@@ -144,17 +151,11 @@ impl<W: Write + Drop> Sink for StdSink<W> {
 
     fn write(&mut self, piece: &[u8]) -> Result<usize, Failed> {
         match self.stream.write(piece) {
-            Ok(n) => {
-                if n == 0 {
-                    self.faults = self.faults.saturating_add(1);
-                    return Err(Failed);
-                }
-                Ok(n)
-            }
-            Err(_) => {
-                self.faults = self.faults.saturating_add(1);
-                Err(Failed)
-            }
+            Ok(n) if n > 0 => Ok(n),
+            _ => Err(self.fault()),
         }
     }
 }
+
+#[cfg(test)]
+mod tests;
