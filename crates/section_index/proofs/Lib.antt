@@ -2,3 +2,4 @@ pub mod FirstHeader
 pub mod Kept
 pub mod Named
 pub mod Places
+pub mod FirstPlace

@@ -4,3 +4,5 @@ pub mod Opening
 pub mod Sections
 pub mod Reading
 pub mod Receiver
+pub mod Tiling
+pub mod Lookups

@@ -8,6 +8,7 @@ mod builder;
 mod header_text;
 mod headers;
 mod index;
+mod lookups;
 mod opening;
 
 pub use builder::build;
