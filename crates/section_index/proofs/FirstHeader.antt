@@ -16,7 +16,7 @@ use Rattle.dump_io.specs.Limits.{Numbers}
 raw_lines-equals : (bytes : List ℕ) → (line : List ℕ) × (rest : List (List ℕ)) × (raw_lines (61 ∷ bytes) ≡ (61 ∷ line) ∷ rest)
 raw_lines-equals bytes =
     elim (raw_lines bytes) as (λ lines. (line : List ℕ) × (rest : List (List ℕ)) × (lines_after 61 lines ≡ (61 ∷ line) ∷ rest))
-    [ [] ↦ ([], [], refl) | line ∷ rest ↦ (line, rest, refl) ]
+        [ [] ↦ ([], [], refl) | line ∷ rest ↦ (line, rest, refl) ]
 
 chosen : (a b : Bool) (m n : ℕ) (bytes : List ℕ)
     → starts_with nat_eq (if a then take (suc m) (61 ∷ bytes) else (if b then take (suc n) (61 ∷ bytes) else 61 ∷ bytes)) (equals_sign ∷ []) ≡ true
@@ -29,7 +29,7 @@ is_header-equals : (line : List ℕ) → is_header (61 ∷ line) ≡ true
 is_header-equals [] = refl
 is_header-equals (c ∷ []) =
     elim (ends_with nat_eq (61 ∷ c ∷ []) (lf ∷ [])) as (λ b. starts_with nat_eq (if b then 61 ∷ [] else 61 ∷ c ∷ []) (equals_sign ∷ []) ≡ true)
-    [ true ↦ refl | false ↦ refl ]
+        [ true ↦ refl | false ↦ refl ]
 is_header-equals (c ∷ d ∷ line) =
     let raw : List ℕ = 61 ∷ c ∷ d ∷ line in
     let two : length raw - 2 ≡ suc (length line) = omega arith in

@@ -3,3 +3,5 @@ pub mod Kept
 pub mod Named
 pub mod Places
 pub mod FirstPlace
+pub mod Tiling
+pub mod Parts
