@@ -6,3 +6,4 @@ pub mod Reading
 pub mod Receiver
 pub mod Tiling
 pub mod Lookups
+pub mod Bodies
