@@ -4,12 +4,15 @@
 //! [`Index`] has no part of a body; it keeps the offsets, and the texts of the headers in one pool.
 #![tactic(auto)]
 
+mod bodies;
 mod builder;
 mod header_text;
 mod headers;
 mod index;
+mod lookups;
 mod opening;
 
+pub use bodies::{BodyFault, read_body};
 pub use builder::build;
 pub use index::{Index, Section, State};
 pub use opening::{OpenFault, Version};
