@@ -11,8 +11,10 @@ mod headers;
 mod index;
 mod lookups;
 mod opening;
+mod tags;
 
 pub use bodies::{BodyFault, read_body};
 pub use builder::build;
 pub use index::{Index, Section, State};
 pub use opening::{OpenFault, Version};
+pub use tags::Tags;
