@@ -6,3 +6,4 @@ pub mod FirstPlace
 pub mod Tiling
 pub mod Parts
 pub mod Counts
+pub mod Cutting

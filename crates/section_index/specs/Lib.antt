@@ -8,3 +8,4 @@ pub mod Tiling
 pub mod Lookups
 pub mod Bodies
 pub mod Tags
+pub mod Cuts
