@@ -5,3 +5,5 @@ pub mod Places
 pub mod FirstPlace
 pub mod Tiling
 pub mod Parts
+pub mod Counts
+pub mod Cutting

@@ -7,3 +7,5 @@ pub mod Receiver
 pub mod Tiling
 pub mod Lookups
 pub mod Bodies
+pub mod Tags
+pub mod Cuts

@@ -9,10 +9,14 @@ mod builder;
 mod header_text;
 mod headers;
 mod index;
+mod laws;
 mod lookups;
 mod opening;
+mod tags;
 
 pub use bodies::{BodyFault, read_body};
 pub use builder::build;
 pub use index::{Index, Section, State};
+pub use laws::{a_cut_keeps_sections, sections_tile_a_dump};
 pub use opening::{OpenFault, Version};
+pub use tags::Tags;
