@@ -1,28 +1,37 @@
 -- The endings of a run.
-use Rattle.std.proofs.Common.{◌≡◌, ◌≢◌, ◌⊎◌, ℕ, Bool, true, false, ◌||◌, ◌≤◌, List, [], ◌∷◌, Option, None, Some, Result, Ok, Err, IsTrue, MatchResult, refl, sym, ◌∙◌, ap, subst, inl, inr, arith}
+use Rattle.std.proofs.Common.{◌≡◌, ◌≢◌, ◌⊎◌, ℕ, Bool, true, false, ◌||◌, ◌<◌, ◌≤◌, List, [], ◌∷◌, Option, None, Some, Result, Ok, Err, IsTrue, MatchResult, refl, sym, ◌∙◌, ap, subst, inl, inr, arith}
 use Rattle.std.specs.Prelude.{IsSomeAnd, OnErr, IsErrOf, option_map}
 use Rattle.std.proofs.lemmas.Bool.{false≢true}
 use Rattle.std.proofs.lemmas.Bool.Decides.{eqb_tells}
-use Rattle.dump_io.specs.Counts.{Rose, HasCause}
+use Rattle.dump_io.specs.Counts.{Rose, HasCause, plus_capped}
 use Rattle.dump_io.specs.Dumps.{Files, IsAbsent}
 use Rattle.dump_io.specs.Limits.{Numbers}
 use Rattle.dump_io.specs.Sinks.{grown, IsCut, WritesAll}
 use Rattle.report_text.specs.declared.refusals.Refusal.{Refusal}
-use Rattle.report_text.specs.declared.refusals.Refusal.TheVariants.{Open}
+use Rattle.report_text.specs.declared.refusals.Refusal.TheVariants.{Open, SectionTooLarge}
 use Rattle.section_index.specs.declared.opening.OpenFault.{OpenFault}
 use Rattle.section_index.specs.declared.opening.OpenFault.TheVariants.{Read, Memory}
+use Rattle.section_index.specs.declared.bodies.BodyFault.{BodyFault}
+use Rattle.section_index.specs.declared.bodies.BodyFault.TheVariants as body_faults
+use Rattle.section_index.specs.Bodies.{body_length, IsCauseOf}
+use Rattle.section_index.specs.Sections.{Section}
 use Rattle.section_index.specs.Opening.{opening}
 use Rattle.section_index.specs.Index.{Contents, IsAnswerFor}
 use Rattle.report_text.specs.Refusals.{refusal_line}
 use Rattle.dump_command.specs.Command.{Command, file_of}
-use Rattle.dump_command.specs.Run.{report, refusal, Change, Device, IsDumpOf, IsUnwritten, IsRunOf, IsKept, Gained, IsCutOff, EndsUnopened, is_one_of, HasFailed}
+use Rattle.dump_command.specs.Run.{report, refusal, Change, Device, IsDumpOf, IsUnwritten, IsRunOf, IsKept, Gained, IsCutOff, EndsUnopened, EndsUnloaded, allowance, is_one_of, HasFailed}
+
+-- no more bytes are taken than the command is allowed
+abbrev pub TakesAtMost : Command → Device → Type 0
+TakesAtMost cmd device =
+    (bytes : List ℕ) → IsDumpOf device cmd bytes → device.taken_after ≤ plus_capped device.taken_before (allowance cmd bytes)
 
 -- a report was written, or a part of it
 pub IsRunOf-written : {E : Type 0} (cmd : Command) (limits : Numbers) (status : ℕ) (device : Device) (out err : Change) (text : List ℕ) (r : Result (Unit {0}) E)
     → MatchResult r (λ _. status ≡ 0) (λ _. status ≡ 5) → WritesAll out.before out.after text r → HasCause out.faults_before out.faults_after r → IsKept err
     → ((bytes : List ℕ) → IsDumpOf device cmd bytes → (refusal cmd bytes limits ≡ None) × (text ≡ report cmd bytes))
-    → (IsAbsent device.files (file_of cmd) → ⊥) → IsRunOf cmd limits status device out err
-IsRunOf-written cmd limits status device out err text (Ok done) is wrote cause kept told there =
+    → (IsAbsent device.files (file_of cmd) → ⊥) → TakesAtMost cmd device → IsRunOf cmd limits status device out err
+IsRunOf-written cmd limits status device out err text (Ok done) is wrote cause kept told there bound =
     subst (λ n. IsRunOf cmd limits n device out err) (sym is) (record {
       known = refl;
       done = λ _ bytes dump. ((told bytes dump).0, wrote ∙ ap (grown out.before) (told bytes dump).1);
@@ -33,8 +42,9 @@ IsRunOf-written cmd limits status device out err text (Ok done) is wrote cause k
       out_kept = λ e. absurd (let no : ⊥ = cc (e) in no);
       err_kept = λ _. kept;
       absent = λ gone. absurd (there gone);
+      taken = bound;
     })
-IsRunOf-written cmd limits status device out err text (Err failed) is cut cause kept told there =
+IsRunOf-written cmd limits status device out err text (Err failed) is cut cause kept told there bound =
     subst (λ n. IsRunOf cmd limits n device out err) (sym is) (record {
       known = refl;
       done = λ e. absurd (omega (arith, e));
@@ -47,14 +57,15 @@ IsRunOf-written cmd limits status device out err text (Err failed) is cut cause 
       out_kept = λ e. absurd (let no : ⊥ = cc (e) in no);
       err_kept = λ e. absurd (let no : ⊥ = cc (e) in no);
       absent = λ gone. absurd (there gone);
+      taken = bound;
     })
 
 -- the line of a refusal was written, or a part of it
 IsRunOf-refused : (cmd : Command) (limits : Numbers) (status : ℕ) (device : Device) (out err : Change) (why : Refusal)
     → ((status ≡ 2) × Gained err (refusal_line why)) ⊎ ((status ≡ 5) × IsCutOff err (refusal_line why) × HasFailed err) → IsKept out
     → ((bytes : List ℕ) → IsDumpOf device cmd bytes → refusal cmd bytes limits ≡ Some why)
-    → (IsAbsent device.files (file_of cmd) → ⊥) → IsRunOf cmd limits status device out err
-IsRunOf-refused cmd limits status device out err why (inl wrote) kept told there =
+    → (IsAbsent device.files (file_of cmd) → ⊥) → TakesAtMost cmd device → IsRunOf cmd limits status device out err
+IsRunOf-refused cmd limits status device out err why (inl wrote) kept told there bound =
     subst (λ n. IsRunOf cmd limits n device out err) (sym wrote.0) (record {
       known = refl;
       done = λ e. absurd (omega (arith, e));
@@ -65,8 +76,9 @@ IsRunOf-refused cmd limits status device out err why (inl wrote) kept told there
       out_kept = λ _. kept;
       err_kept = λ e. absurd (let no : ⊥ = cc (e) in no);
       absent = λ gone. absurd (there gone);
+      taken = bound;
     })
-IsRunOf-refused cmd limits status device out err why (inr cut) kept told there =
+IsRunOf-refused cmd limits status device out err why (inr cut) kept told there bound =
     subst (λ n. IsRunOf cmd limits n device out err) (sym cut.0) (record {
       known = refl;
       done = λ e. absurd (omega (arith, e));
@@ -77,12 +89,13 @@ IsRunOf-refused cmd limits status device out err why (inr cut) kept told there =
       out_kept = λ e. absurd (let no : ⊥ = cc (e) in no);
       err_kept = λ e. absurd (let no : ⊥ = cc (e) in no);
       absent = λ gone. absurd (there gone);
+      taken = bound;
     })
 
 -- nothing was written: the device failed, or memory was wanting
 IsRunOf-unread : (cmd : Command) (limits : Numbers) (status : ℕ) (device : Device) (out err : Change) → status ≡ 4 → IsKept err → IsKept out
-    → Rose device.faults_before device.faults_after ⊎ IsAbsent device.files (file_of cmd) → IsRunOf cmd limits status device out err
-IsRunOf-unread cmd limits status device out err is err_kept out_kept cause =
+    → Rose device.faults_before device.faults_after ⊎ IsAbsent device.files (file_of cmd) → TakesAtMost cmd device → IsRunOf cmd limits status device out err
+IsRunOf-unread cmd limits status device out err is err_kept out_kept cause bound =
     subst (λ n. IsRunOf cmd limits n device out err) (sym is) (record {
       known = refl;
       done = λ e. absurd (omega (arith, e));
@@ -93,11 +106,12 @@ IsRunOf-unread cmd limits status device out err is err_kept out_kept cause =
       out_kept = λ _. out_kept;
       err_kept = λ _. err_kept;
       absent = λ _. refl;
+      taken = bound;
     })
 
-IsRunOf-no_memory : (cmd : Command) (limits : Numbers) (status : ℕ) (device : Device) (out err : Change) → status ≡ 6 → IsKept err → IsKept out
-    → IsRunOf cmd limits status device out err
-IsRunOf-no_memory cmd limits status device out err is err_kept out_kept =
+pub IsRunOf-no_memory : (cmd : Command) (limits : Numbers) (status : ℕ) (device : Device) (out err : Change) → status ≡ 6 → IsKept err → IsKept out
+    → TakesAtMost cmd device → IsRunOf cmd limits status device out err
+IsRunOf-no_memory cmd limits status device out err is err_kept out_kept bound =
     subst (λ n. IsRunOf cmd limits n device out err) (sym is) (record {
       known = refl;
       done = λ e. absurd (omega (arith, e));
@@ -108,24 +122,39 @@ IsRunOf-no_memory cmd limits status device out err is err_kept out_kept =
       out_kept = λ _. out_kept;
       err_kept = λ _. err_kept;
       absent = λ _. refl;
+      taken = bound;
     })
 
--- the dump isn't opened
+-- the dump isn't opened: why, in the words of the command
 pub IsRunOf-unopened : (cmd : Command) (limits : Numbers) (status : ℕ) (device : Device) (out err : Change) (fault : OpenFault)
     → EndsUnopened fault status err → IsKept out
     → ((bytes : List ℕ) → IsDumpOf device cmd bytes → IsAnswerFor bytes limits (Err fault))
     → (IsErrOf {T = Contents} (Err fault) Read → Rose device.faults_before device.faults_after ⊎ IsAbsent device.files (file_of cmd))
     → (IsAbsent device.files (file_of cmd) → IsErrOf {T = Contents} (Err fault) Read)
-    → ((bytes : List ℕ) → refusal cmd bytes limits ≡ option_map Open (opening bytes limits))
-    → IsRunOf cmd limits status device out err
-IsRunOf-unopened cmd limits status device out err Read ends kept told cause absent by_opening =
-    IsRunOf-unread cmd limits status device out err ends.0 ends.1 kept (cause refl)
-IsRunOf-unopened cmd limits status device out err Memory ends kept told cause absent by_opening =
-    IsRunOf-no_memory cmd limits status device out err ends.0 ends.1 kept
-IsRunOf-unopened cmd limits status device out err fault ends kept told cause absent by_opening =
+    → ((bytes : List ℕ) (why : OpenFault) → opening bytes limits ≡ Some why → refusal cmd bytes limits ≡ Some (Open why))
+    → TakesAtMost cmd device → IsRunOf cmd limits status device out err
+IsRunOf-unopened cmd limits status device out err Read ends kept told cause absent by_opening bound =
+    IsRunOf-unread cmd limits status device out err ends.0 ends.1 kept (cause refl) bound
+IsRunOf-unopened cmd limits status device out err Memory ends kept told cause absent by_opening bound =
+    IsRunOf-no_memory cmd limits status device out err ends.0 ends.1 kept bound
+IsRunOf-unopened cmd limits status device out err fault ends kept told cause absent by_opening bound =
     IsRunOf-refused cmd limits status device out err (Open fault) ends kept
-    (λ bytes dump. by_opening bytes ∙ ap (option_map Open) (told bytes dump))
-    (λ gone. let no : ⊥ = cc (absent gone) in no)
+    (λ bytes dump. by_opening bytes fault (told bytes dump))
+    (λ gone. let no : ⊥ = cc (absent gone) in no) bound
+
+-- a body isn't loaded
+pub IsRunOf-unloaded : (cmd : Command) (limits : Numbers) (status : ℕ) (device : Device) (out err : Change) (fault : BodyFault) (s : Section) (between : ℕ)
+    → EndsUnloaded fault status err → IsKept out → IsCauseOf s limits.section between device.faults_after fault → device.faults_before ≤ between
+    → ((bytes : List ℕ) → IsDumpOf device cmd bytes → limits.section < body_length s → refusal cmd bytes limits ≡ Some (SectionTooLarge s.at (body_length s)))
+    → (IsAbsent device.files (file_of cmd) → ⊥) → TakesAtMost cmd device → IsRunOf cmd limits status device out err
+IsRunOf-unloaded cmd limits status device out err body_faults.Read s between ends kept cause later told there bound =
+    IsRunOf-unread cmd limits status device out err ends.0 ends.1 kept (inl (omega (arith, cause, later))) bound
+IsRunOf-unloaded cmd limits status device out err body_faults.Memory s between ends kept cause later told there bound =
+    IsRunOf-no_memory cmd limits status device out err ends.0 ends.1 kept bound
+IsRunOf-unloaded cmd limits status device out err (body_faults.SectionTooLarge at len) s between ends kept cause later told there bound =
+    IsRunOf-refused cmd limits status device out err (SectionTooLarge at len) ends kept
+    (λ bytes dump. told bytes dump cause.2 ∙ ap (λ n. Some (SectionTooLarge n (body_length s))) (sym cause.0) ∙ ap (λ n. Some (SectionTooLarge at n)) (sym cause.1))
+    there bound
 
 -- the line of a refusal, as it was written
 pub line_written : {E : Type 0} (status : ℕ) (err : Change) (line : List ℕ) (r : Result (Unit {0}) E)
@@ -145,7 +174,7 @@ among : (m : ℕ) (ms : List ℕ) (n : ℕ) → is_one_of (m ∷ ms) n ≡ true 
 among m ms n is =
     elim (eqb_tells m n) [ inl p ↦ inl (sym p.1) | inr p ↦ inr (sym (ap (λ b. b || is_one_of ms n) p.0) ∙ is) ]
 
-there : (told : Option Files) (name : List ℕ) (files : Files) (bytes : List ℕ) → told ≡ Some files → files name ≡ Some bytes → IsAbsent told name → ⊥
+pub there : (told : Option Files) (name : List ℕ) (files : Files) (bytes : List ℕ) → told ≡ Some files → files name ≡ Some bytes → IsAbsent told name → ⊥
 there None name files bytes is named gone = gone
 there (Some own) name files bytes is named gone =
     let same : own ≡ files = cc in

@@ -1,27 +1,58 @@
 -- What a run writes, and with which status it ends.
-use Rattle.std.specs.Prelude.{◌≡◌, ◌⊎◌, ℕ, List, ◌∷◌, [], ◌++◌, length, Option, None, Some, option_map, IsSome, IsSomeAnd, IsTrue, Bool, ◌==◌, codes}
-use Rattle.std.specs.List.{list_any}
-use Rattle.dump_io.specs.Counts.{Rose}
+use Rattle.std.specs.Prelude.{◌≡◌, ◌⊎◌, ℕ, ◌+◌, ◌≤◌, List, map, slice_get, unwrap_or, nat_lt, if◌then◌else◌, ◌∷◌, [], ◌++◌, length, Option, None, Some, option_map, IsSome, IsSomeAnd, IsTrue, Bool, ◌==◌, codes}
+use Rattle.std.specs.List.{list_any, between}
+use Rattle.dump_io.specs.Counts.{Rose, plus_capped}
 use Rattle.dump_io.specs.Dumps.{Files, IsAbsent}
 use Rattle.dump_io.specs.Limits.{Numbers}
 use Rattle.dump_io.specs.Lines.{headers}
 use Rattle.dump_io.specs.Sinks.{grown, IsCut}
 use Rattle.section_index.specs.declared.opening.OpenFault.{OpenFault}
 use Rattle.section_index.specs.declared.opening.OpenFault.TheVariants.{Read, Memory}
-use Rattle.section_index.specs.Opening.{opening}
+use Rattle.section_index.specs.declared.bodies.BodyFault.{BodyFault}
+use Rattle.section_index.specs.declared.bodies.BodyFault.TheVariants as body_faults
+use Rattle.section_index.specs.Bodies.{body_length}
+use Rattle.section_index.specs.Opening.{opening, first_id}
+use Rattle.section_index.specs.Sections.{Section, section, sections, tag_of}
+use Rattle.section_index.specs.Tags.{tag_counts}
 use Rattle.report_text.specs.declared.refusals.Refusal.{Refusal}
-use Rattle.report_text.specs.declared.refusals.Refusal.TheVariants.{Open}
+use Rattle.report_text.specs.declared.refusals.Refusal.TheVariants.{Open, SectionTooLarge}
 use Rattle.report_text.specs.Refusals.{refusal_line}
-use Rattle.report_text.specs.Reports.{index_report}
-use Rattle.dump_command.specs.Command.{Command, index, file_of}
+use Rattle.report_text.specs.Reports.{index_report, info_report}
+use Rattle.dump_command.specs.Command.{Command, index, info, file_of}
+
+-- the first section of a dump
+abbrev pub first_section : List ℕ → Section
+first_section bytes = unwrap_or (slice_get (sections bytes) 0) (section 0 0 0 [])
+
+abbrev pub body_of : List ℕ → Section → List ℕ
+body_of bytes section = between section.body section.end bytes
+
+abbrev pub tags_of : List ℕ → List (List ℕ)
+tags_of bytes = map (λ s. tag_of s.text) (sections bytes)
 
 -- the report of a command on the bytes of a dump
 abbrev pub report : Command → List ℕ → List ℕ
 report (index file) bytes = index_report (headers bytes) (length bytes)
+report (info file) bytes =
+    info_report (first_id bytes) (headers bytes) (length bytes) (tag_counts (tags_of bytes)) (body_of bytes (first_section bytes))
 
--- why a command on these bytes is refused under these limits, or none
+abbrev pub first_of : Option Refusal → Option Refusal → Option Refusal
+first_of None next = next
+first_of (Some why) next = Some why
+
+-- the refusal of a body that is longer than the limit
+abbrev pub too_large : Section → ℕ → Option Refusal
+too_large section limit = if nat_lt limit (body_length section) then Some (SectionTooLarge section.at (body_length section)) else None
+
+-- why a command on these bytes is refused under these limits, or none: the first cause that holds
 abbrev pub refusal : Command → List ℕ → Numbers → Option Refusal
 refusal (index file) bytes limits = option_map Open (opening bytes limits)
+refusal (info file) bytes limits = first_of (option_map Open (opening bytes limits)) (too_large (first_section bytes) limits.section)
+
+-- the most bytes that a command takes from the device: the dump once, and the bodies that it loads
+abbrev pub allowance : Command → List ℕ → ℕ
+allowance (index file) bytes = length bytes
+allowance (info file) bytes = length bytes + body_length (first_section bytes)
 
 abbrev pub usage_line : List ℕ
 usage_line = codes "usage: edump COMMAND [WORDS]\n"
@@ -51,15 +82,21 @@ IsCutOff sink text = IsCut sink.before sink.after text
 abbrev pub HasFailed : Change → Type 0
 HasFailed sink = Rose sink.faults_before sink.faults_after
 
--- the device: its files, where they are told, and its count of faults before and after
+-- the device: its files, where they are told, and its counts of faults and of bytes given, before and after
 pub record Device : Type 0 where
   pub files : Option Files
   pub faults_before : ℕ
   pub faults_after : ℕ
+  pub taken_before : ℕ
+  pub taken_after : ℕ
 
-abbrev pub device : Option Files → ℕ → ℕ → Device
-device files faults_before faults_after =
-    record { files = files; faults_before = faults_before; faults_after = faults_after }
+abbrev pub device : Option Files → ℕ → ℕ → ℕ → ℕ → Device
+device files faults_before faults_after taken_before taken_after =
+    record {
+      files = files;
+      faults_before = faults_before; faults_after = faults_after;
+      taken_before = taken_before; taken_after = taken_after;
+    }
 
 -- these are the bytes of the command's file, where the device tells its files
 pub record IsDumpOf (device : Device) (cmd : Command) (bytes : List ℕ) : Type 0 where
@@ -93,6 +130,8 @@ pub record IsRunOf (cmd : Command) (limits : Numbers) (status : ℕ) (device : D
   pub err_kept : IsTrue (is_one_of (0 ∷ 4 ∷ 6 ∷ []) status) → IsKept err
   -- without such a file there is no report and no refusal
   pub absent : IsAbsent device.files (file_of cmd) → IsTrue (is_one_of (4 ∷ 6 ∷ []) status)
+  -- whatever the status, no more bytes are taken than the command is allowed
+  pub taken : (bytes : List ℕ) → IsDumpOf device cmd bytes → device.taken_after ≤ plus_capped device.taken_before (allowance cmd bytes)
 
 -- what a run leaves whose words are no command: the usage line, or a part of it where `err` failed
 pub record IsUsage (status : ℕ) (out err : Change) : Type 0 where
@@ -106,3 +145,11 @@ EndsUnopened Read status err = (status ≡ 4) × IsKept err
 EndsUnopened Memory status err = (status ≡ 6) × IsKept err
 EndsUnopened fault status err =
     ((status ≡ 2) × Gained err (refusal_line (Open fault))) ⊎ ((status ≡ 5) × IsCutOff err (refusal_line (Open fault)) × HasFailed err)
+
+-- what is left where a body isn't loaded, likewise
+abbrev pub EndsUnloaded : BodyFault → ℕ → Change → Type 0
+EndsUnloaded body_faults.Read status err = (status ≡ 4) × IsKept err
+EndsUnloaded body_faults.Memory status err = (status ≡ 6) × IsKept err
+EndsUnloaded (body_faults.SectionTooLarge at len) status err =
+    ((status ≡ 2) × Gained err (refusal_line (SectionTooLarge at len)))
+    ⊎ ((status ≡ 5) × IsCutOff err (refusal_line (SectionTooLarge at len)) × HasFailed err)

@@ -1,6 +1,7 @@
 // The real file and the real streams.
 ghost use Rattle.std.specs.Prelude.{◌≡◌, ◌≤◌, None, ◌^◌, ◌-◌, min, IfOk};
 ghost use Rattle.dump_io.specs.Counts.{HasCause, Rose};
+ghost use Rattle.dump_io.specs.Dumps.{closed};
 ghost use Rattle.dump_command.specs.Devices.{now_of, now_of-small};
 ghost use Rattle.std.proofs.Common.{rules};
 
@@ -32,7 +33,11 @@ pub struct FileDumps<'a> {
 
 impl<'a> FileDumps<'a> {
     /// The machine's files, none of which is open yet.
-    pub fn new(rt: &'a HostRuntime) -> FileDumps<'a> {
+    pub fn new(rt: &'a HostRuntime) -> FileDumps<'a>
+        ensures now { ⟦<FileDumps<'a> as Dumps>⟧.now result ≡ closed }
+        ensures faults { ⟦<FileDumps<'a> as Dumps>⟧.faults result ≡ 0 }
+        ensures taken { ⟦<FileDumps<'a> as Dumps>⟧.taken result ≡ 0 }
+    {
         FileDumps {
             rt,
             open: None,
@@ -115,7 +120,7 @@ pub struct StdSink<W: Write + Drop> {
 impl<W: Write + Drop> StdSink<W> {
     /// A sink over a stream. Its buffer is all the memory that it takes.
     pub fn new(alloc: Global, stream: W) -> Result<StdSink<W>, AllocError>
-        ensures { IfOk result (λ sink. sink.faults ≡ 0) }
+        ensures { IfOk result (λ sink. ⟦<StdSink<W> as Sink>⟧.faults sink ≡ 0) }
     {
         match BufWriter::with_capacity(alloc, GATHERED, stream) {
             Ok(stream) => Ok(StdSink { stream, faults: 0 }),
@@ -125,7 +130,7 @@ impl<W: Write + Drop> StdSink<W> {
 
     /// Hands on what is gathered. `Failed` comes only where the count of faults rose.
     pub fn flush(&mut self) -> Result<(), Failed>
-        ensures { HasCause self.old.faults self.new.faults result }
+        ensures { HasCause (⟦<StdSink<W> as Sink>⟧.faults self.old) (⟦<StdSink<W> as Sink>⟧.faults self.new) result }
     {
         match self.stream.flush() {
             Ok(()) => Ok(()),

@@ -3,13 +3,13 @@ ghost use Rattle.std.specs.Prelude.{◌≡◌, ◌≤◌, ◌⊎◌, MatchResult
 ghost use Rattle.std.specs.String.{string_bytes};
 ghost use Rattle.dump_io.specs.Counts.{Rose};
 ghost use Rattle.dump_io.specs.Sinks.{grown, IsCut};
-ghost use Rattle.dump_command.specs.Command.{Command, command, index, shown};
-ghost use Rattle.dump_command.specs.Run.{EndsUnopened, IsDumpOf, IsRunOf, IsUsage, usage_line, change, device, refusal};
+ghost use Rattle.dump_command.specs.Command.{Command, command, index, info, shown};
+ghost use Rattle.dump_command.specs.Run.{EndsUnloaded, EndsUnopened, IsDumpOf, IsRunOf, IsUsage, usage_line, change, device, refusal};
 
 use crate::words::{Cmd, read_words};
 use dump_io::{Dumps, Failed, Limits, Sink, write_all};
-use report_text::{Refusal, put_index, put_refusal};
-use section_index::{OpenFault, build};
+use report_text::{Refusal, put_index, put_info, put_refusal};
+use section_index::{BodyFault, OpenFault, Tags, build, read_body};
 use std::alloc::Global;
 
 const DONE: u8 = 0;
@@ -56,7 +56,7 @@ fn run_index<D: Dumps, K: Sink, E: Sink>(
     err: &mut E,
 ) -> u8
     ensures { IsRunOf (index file.now) limits.now result
-        (device (D.files dumps.old) (D.faults dumps.old) (D.faults dumps.new))
+        (device (D.files dumps.old) (D.faults dumps.old) (D.faults dumps.new) (D.taken dumps.old) (D.taken dumps.new))
         (change (K.written out.old) (K.written out.new) (K.faults out.old) (K.faults out.new))
         (change (E.written err.old) (E.written err.new) (E.faults err.old) (E.faults err.new)) }
 {
@@ -64,6 +64,46 @@ fn run_index<D: Dumps, K: Sink, E: Sink>(
         Ok(index) => status_of(put_index(out, &index), DONE),
         Err(fault) => put_unopened(err, fault),
     }
+}
+
+// The ending of a run in which a body isn't loaded.
+fn put_unloaded<E: Sink>(err: &mut E, fault: BodyFault) -> u8
+    ensures { EndsUnloaded fault result (change (E.written err.old) (E.written err.new) (E.faults err.old) (E.faults err.new)) }
+{
+    match fault {
+        BodyFault::Read => UNREAD,
+        BodyFault::Memory => NO_MEMORY,
+        BodyFault::SectionTooLarge { at, len } => {
+            status_of(put_refusal(err, &Refusal::SectionTooLarge { at, len }), REFUSED)
+        }
+    }
+}
+
+fn run_info<D: Dumps, K: Sink, E: Sink>(
+    alloc: Global,
+    file: &str,
+    limits: &Limits,
+    dumps: &mut D,
+    out: &mut K,
+    err: &mut E,
+) -> u8
+    ensures { IsRunOf (info file.now) limits.now result
+        (device (D.files dumps.old) (D.faults dumps.old) (D.faults dumps.new) (D.taken dumps.old) (D.taken dumps.new))
+        (change (K.written out.old) (K.written out.new) (K.faults out.old) (K.faults out.new))
+        (change (E.written err.old) (E.written err.new) (E.faults err.old) (E.faults err.new)) }
+{
+    let index = match build(alloc, dumps, file, limits) {
+        Ok(index) => index,
+        Err(fault) => return put_unopened(err, fault),
+    };
+    let first_body = match read_body(alloc, dumps, &index, 0, limits) {
+        Ok(body) => body,
+        Err(fault) => return put_unloaded(err, fault),
+    };
+    let Ok(tags) = Tags::count(alloc, &index) else {
+        return NO_MEMORY;
+    };
+    status_of(put_info(out, &index, &tags, first_body.as_slice()), DONE)
 }
 
 fn run_command<D: Dumps, K: Sink, E: Sink>(
@@ -75,12 +115,13 @@ fn run_command<D: Dumps, K: Sink, E: Sink>(
     err: &mut E,
 ) -> u8
     ensures { IsRunOf (shown cmd.now) limits.now result
-        (device (D.files dumps.old) (D.faults dumps.old) (D.faults dumps.new))
+        (device (D.files dumps.old) (D.faults dumps.old) (D.faults dumps.new) (D.taken dumps.old) (D.taken dumps.new))
         (change (K.written out.old) (K.written out.new) (K.faults out.old) (K.faults out.new))
         (change (E.written err.old) (E.written err.new) (E.faults err.old) (E.faults err.new)) }
 {
     match cmd {
         Cmd::Index { file } => run_index(alloc, file, limits, dumps, out, err),
+        Cmd::Info { file } => run_info(alloc, file, limits, dumps, out, err),
     }
 }
 
@@ -112,13 +153,13 @@ pub fn run<D: Dumps, K: Sink, E: Sink>(
 
     // What is left where they are one.
     ensures ends { (cmd : Command) → command (map string_bytes words.now) ≡ Some cmd → IsRunOf cmd limits.now result
-        (device (D.files dumps.old) (D.faults dumps.old) (D.faults dumps.new))
+        (device (D.files dumps.old) (D.faults dumps.old) (D.faults dumps.new) (D.taken dumps.old) (D.taken dumps.new))
         (change (K.written out.old) (K.written out.new) (K.faults out.old) (K.faults out.new))
         (change (E.written err.old) (E.written err.new) (E.faults err.old) (E.faults err.new)) }
 
     // A dump that is there and accepted is reported, where nothing failed and there was memory.
     ensures complete { (cmd : Command) (bytes : List ℕ) → command (map string_bytes words.now) ≡ Some cmd
-        → IsDumpOf (device (D.files dumps.old) (D.faults dumps.old) (D.faults dumps.new)) cmd bytes
+        → IsDumpOf (device (D.files dumps.old) (D.faults dumps.old) (D.faults dumps.new) (D.taken dumps.old) (D.taken dumps.new)) cmd bytes
         → refusal cmd bytes limits.now ≡ None
         → ¬ Rose (D.faults dumps.old) (D.faults dumps.new) → ¬ Rose (K.faults out.old) (K.faults out.new)
         → ¬ Rose (E.faults err.old) (E.faults err.new) → (result ≡ 0) ⊎ (result ≡ 6) }

@@ -8,6 +8,8 @@ ghost use Rattle.dump_command.specs.Command.{command, file_command, shown};
 pub enum Cmd<'a> {
     /// `index FILE`: the sections of a dump and its state.
     Index { file: &'a str },
+    /// `info FILE`: version, size, counts, slogan, tags and state of a dump.
+    Info { file: &'a str },
 }
 
 /// The command of the words behind the program's name. `None` comes exactly where they are no command.
@@ -25,6 +27,7 @@ fn file_command<'a>(name: &str, file: &'a str) -> Option<Cmd<'a>>
 {
     match name {
         "index" => Some(Cmd::Index { file }),
+        "info" => Some(Cmd::Info { file }),
         _ => None,
     }
 }

@@ -12,6 +12,9 @@ use section_index::OpenFault;
 pub enum Refusal {
     /// The dump isn't opened.
     Open(OpenFault),
+    /// A body that the command loads has more bytes than the limit on sections; `at` is the offset of its
+    /// section in the file, and `len` the number of bytes.
+    SectionTooLarge { at: u64, len: u64 },
 }
 
 fn put_open_fault<K: Sink>(sink: &mut K, fault: &OpenFault) -> Result<(), Failed>
@@ -45,6 +48,22 @@ fn put_open_fault<K: Sink>(sink: &mut K, fault: &OpenFault) -> Result<(), Failed
     }
 }
 
+fn put_too_large<K: Sink>(sink: &mut K, at: u64, len: u64) -> Result<(), Failed>
+    ensures writes { WritesAll (K.written sink.old) (K.written sink.new) (refusal_line (Refusal.SectionTooLarge at len)) result }
+    ensures cause { HasCause (K.faults sink.old) (K.faults sink.new) result }
+{
+    put_pieces(
+        sink,
+        &[
+            Piece::Bytes(b"refused: section too large at "),
+            Piece::Dec(at),
+            Piece::Bytes(b" length "),
+            Piece::Dec(len),
+            Piece::Bytes(b"\n"),
+        ],
+    )
+}
+
 /// Writes the line `refused: ` with the cause. An `Open` fault is none of `Read` and `Memory`.
 pub fn put_refusal<K: Sink>(sink: &mut K, refusal: &Refusal) -> Result<(), Failed>
     requires { IsRefusal refusal.now }
@@ -53,5 +72,6 @@ pub fn put_refusal<K: Sink>(sink: &mut K, refusal: &Refusal) -> Result<(), Faile
 {
     match refusal {
         Refusal::Open(fault) => put_open_fault(sink, fault),
+        Refusal::SectionTooLarge { at, len } => put_too_large(sink, *at, *len),
     }
 }

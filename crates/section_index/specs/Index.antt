@@ -1,7 +1,7 @@
 -- What an index says of a dump.
 use Rattle.std.specs.Prelude.{◌≡◌, ℕ, ◌+◌, ◌-◌, ◌<◌, ◌≤◌, List, [], ◌∷◌, length, Option, None, Some, Result, Ok, Err, unwrap_or, codes, if◌then◌else◌}
 use Rattle.std.specs.Str.{bytes_eq}
-use Rattle.dump_io.specs.Dumps.{Now, closed, told, sized, size_of}
+use Rattle.dump_io.specs.Dumps.{Files, IsNamed, Now, closed, told, sized, size_of}
 use Rattle.dump_io.specs.Limits.{Numbers}
 use Rattle.dump_io.specs.Lines.{Header, headers}
 use Rattle.section_index.specs.declared.index.State.{State}
@@ -11,6 +11,7 @@ use Rattle.section_index.specs.declared.opening.OpenFault.TheVariants.{Read, Mem
 use Rattle.section_index.specs.declared.opening.Version.{Version}
 use Rattle.section_index.specs.Opening.{opening, first_id, version_named}
 use Rattle.section_index.specs.Sections.{Section, sections_of, tag_of, id_of}
+use Rattle.section_index.specs.Tiling.{Tile}
 
 -- the headers of a dump, its size in bytes and its version
 pub record Contents : Type 0 where
@@ -18,14 +19,15 @@ pub record Contents : Type 0 where
   pub size : ℕ
   pub version : Version
 
--- there is a section, and no dump is larger than 64 GiB
-pub record AreBounded (index : Contents) : Type 0 where
-  pub some : 1 ≤ length index.headers
-  pub size : index.size ≤ 68719476736
-
 -- the sections of an index
 abbrev pub sections_in : Contents → List Section
 sections_in index = sections_of index.headers index.size
+
+-- there is a section, no dump is larger than 64 GiB, and the sections tile the whole dump
+pub record AreBounded (index : Contents) : Type 0 where
+  pub some : 1 ≤ length index.headers
+  pub size : index.size ≤ 68719476736
+  pub tiled : Tile 0 index.size (sections_in index)
 
 abbrev pub last_text : List Header → List ℕ
 last_text [] = []
@@ -81,3 +83,8 @@ abbrev pub IsOfTheBytes : OpenFault → Type 0
 IsOfTheBytes (TooLarge size) = ⊥
 IsOfTheBytes Read = ⊥
 IsOfTheBytes fault = Unit {0}
+
+-- what is open is nothing, or the file of this name where files are told
+abbrev pub IsClosedOrNamed : Option Files → List ℕ → Now → Type 0
+IsClosedOrNamed files name closed = Unit {0}
+IsClosedOrNamed files name now = IsNamed files name now

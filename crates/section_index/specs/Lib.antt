@@ -4,3 +4,8 @@ pub mod Opening
 pub mod Sections
 pub mod Reading
 pub mod Receiver
+pub mod Tiling
+pub mod Lookups
+pub mod Bodies
+pub mod Tags
+pub mod Cuts

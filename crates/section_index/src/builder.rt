@@ -4,7 +4,7 @@ ghost use Rattle.dump_io.specs.Counts.{Rose, HasCause, plus_capped};
 ghost use Rattle.dump_io.specs.Dumps.{Files, Now, IsOpen, size_of, IsAbsent};
 ghost use Rattle.dump_io.specs.Lines.{Header, headers};
 ghost use Rattle.line_source.specs.HeaderSink.{Refusal};
-ghost use Rattle.section_index.specs.Index.{IsAnswerFor, IsBuiltOver, IsTooLargeFor, IsVersionOf, IsOfTheBytes};
+ghost use Rattle.section_index.specs.Index.{IsAnswerFor, IsBuiltOver, IsTooLargeFor, IsVersionOf, IsOfTheBytes, IsClosedOrNamed};
 ghost use Rattle.section_index.specs.Reading.{AreAllOf};
 
 use crate::header_text::tag_and_id;
@@ -136,6 +136,7 @@ pub fn build<D: Dumps>(
     limits: &Limits,
 ) -> Result<Index, OpenFault>
     ensures same_files { D.files dumps.new ≡ D.files dumps.old }
+    ensures now { IsClosedOrNamed (D.files dumps.old) name.now (D.now dumps.new) }
     ensures later { D.faults dumps.old ≤ D.faults dumps.new }
     ensures taken_least { D.taken dumps.old ≤ D.taken dumps.new }
     ensures taken_most { D.taken dumps.new ≤ plus_capped (D.taken dumps.old) (size_of (D.now dumps.new)) }

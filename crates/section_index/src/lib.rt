@@ -4,12 +4,19 @@
 //! [`Index`] has no part of a body; it keeps the offsets, and the texts of the headers in one pool.
 #![tactic(auto)]
 
+mod bodies;
 mod builder;
 mod header_text;
 mod headers;
 mod index;
+mod laws;
+mod lookups;
 mod opening;
+mod tags;
 
+pub use bodies::{BodyFault, read_body};
 pub use builder::build;
 pub use index::{Index, Section, State};
+pub use laws::{a_cut_keeps_sections, sections_tile_a_dump};
 pub use opening::{OpenFault, Version};
+pub use tags::Tags;

@@ -1,5 +1,4 @@
 use super::outcome::{Hindrance, NONE, expect, run_on};
-use super::sample::SAMPLE;
 use dump_io::Limits;
 use std::test::Fail;
 
@@ -52,7 +51,9 @@ fn sections_and_state_of_small_dumps(rt: HostRuntime) -> Result<(), Fail> {
 
 #[test]
 fn refused_dumps(rt: HostRuntime) -> Result<(), Fail> {
-    let cases: [(&[u8], &str); 4] = [
+    let cases: [(&[u8], &str); 6] = [
+        (b"\x1f\x8b\x08", "refused: compressed\n"),
+        (b"\x1f", "refused: not a dump\n"),
         (b"", "refused: not a dump\n"),
         (b"\n", "refused: not a dump\n"),
         (b"=erl_crash_dump:0.2\n", "refused: version 0.2\n"),
@@ -78,17 +79,6 @@ fn words_that_are_no_command(rt: HostRuntime) -> Result<(), Fail> {
         let usage = "usage: edump COMMAND [WORDS]\n";
         expect(&rt, rt.alloc(), words, SMALL, 1, "", usage)?;
     }
-    Ok(())
-}
-
-#[test]
-fn a_dump_above_the_limit_is_refused(rt: HostRuntime) -> Result<(), Fail> {
-    let limits = Limits::new(936, 4096, 8_000_000, 268_435_456, 536_870_912, 100_000_000);
-    let limits = limits.ok_or("not allowed")?;
-    let end = run_on(rt.alloc(), &["index", "F"], SAMPLE.as_bytes(), &limits, NONE)?;
-    assert_eq!(rt; end.status, 2);
-    assert_eq!(rt; end.err.written(), b"refused: dump too large 937\n".as_slice());
-    assert_eq!(rt; end.out.written(), b"".as_slice());
     Ok(())
 }
 

@@ -25,6 +25,7 @@ pub struct Outcome {
     pub status: u8,
     pub out: MemSink,
     pub err: MemSink,
+    pub taken: u64,
 }
 
 fn owned(alloc: Global, words: &[&str]) -> Result<Vec<String>, AllocError> {
@@ -54,7 +55,30 @@ pub fn run_on(
     let mut out = MemSink::new(alloc, hindrance.step, writes);
     let mut err = MemSink::new(alloc, 0, Vec::new(alloc));
     let status = run(alloc, words.as_slice(), limits, &mut dumps, &mut out, &mut err);
-    Ok(Outcome { status, out, err })
+    let taken = dumps.taken();
+    Ok(Outcome {
+        status,
+        out,
+        err,
+        taken,
+    })
+}
+
+// Asserts what a run without hindrance leaves on `err` and in its status where these limits refuse it.
+pub fn expect_refusal(
+    rt: &impl Abort,
+    alloc: Global,
+    words: &[&str],
+    dump: &[u8],
+    limits: Option<Limits>,
+    err: &str,
+) -> Result<(), AllocError> {
+    let limits = limits.unwrap_or(Limits::usual());
+    let end = run_on(alloc, words, dump, &limits, NONE)?;
+    assert_eq!(rt; end.status, 2);
+    assert_eq!(rt; end.out.written().len(), 0);
+    assert_eq!(rt; end.err.written(), err.as_bytes());
+    Ok(())
 }
 
 // Asserts what a run without hindrance under the usual limits leaves.
