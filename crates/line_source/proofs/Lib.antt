@@ -1,3 +1,4 @@
+pub mod Growing
 pub mod HeaderLines
 pub mod Joins
 pub mod LastLines

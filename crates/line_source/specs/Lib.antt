@@ -1,4 +1,5 @@
 pub mod Feeding
+pub mod Growth
 pub mod Receiver
 pub mod Scan
 pub mod Starts
