@@ -1,4 +1,3 @@
-pub mod FirstHeader
 pub mod Kept
 pub mod Named
 pub mod Places

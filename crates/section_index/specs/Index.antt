@@ -7,7 +7,7 @@ use Rattle.dump_io.specs.Lines.{Header, headers}
 use Rattle.section_index.specs.declared.index.State.{State}
 use Rattle.section_index.specs.declared.index.State.TheVariants.{Whole, TruncatedIn}
 use Rattle.section_index.specs.declared.opening.OpenFault.{OpenFault}
-use Rattle.section_index.specs.declared.opening.OpenFault.TheVariants.{Read, Memory, TooLarge, Version as UnknownVersion}
+use Rattle.section_index.specs.declared.opening.OpenFault.TheVariants.{Compressed, NotADump, Version as UnknownVersion, TooLarge, HeaderTooLong, TooManySections, HeadersTooLarge, Read, Memory}
 use Rattle.section_index.specs.declared.opening.Version.{Version}
 use Rattle.section_index.specs.Opening.{opening, first_id, version_named}
 use Rattle.section_index.specs.Sections.{Section, sections_of, tag_of, id_of}
@@ -18,9 +18,10 @@ pub record Contents : Type 0 where
   pub size : ℕ
   pub version : Version
 
--- there is a section, and no dump is larger than 64 GiB
+-- there are from 1 to 8,000,000 sections, and no dump is larger than 64 GiB
 pub record AreBounded (index : Contents) : Type 0 where
   pub some : 1 ≤ length index.headers
+  pub sections : length index.headers ≤ 8000000
   pub size : index.size ≤ 68719476736
 
 -- the sections of an index
@@ -65,19 +66,7 @@ abbrev pub IsTooLargeFor : Now → Numbers → OpenFault → Type 0
 IsTooLargeFor now limits (TooLarge size) = (size ≡ size_of now) × (limits.dump < size)
 IsTooLargeFor now limits fault = Unit {0}
 
--- the id of the first header
-abbrev pub id_in : List Header → List ℕ
-id_in [] = []
-id_in (header ∷ rest) = unwrap_or (id_of header.text) []
-
--- the version that the first header names, or the fault that it names none
-abbrev pub IsVersionOf : List Header → Result Version OpenFault → Type 0
-IsVersionOf headers (Ok version) = version_named (id_in headers) ≡ Some version
-IsVersionOf headers (Err Memory) = Unit {0}
-IsVersionOf headers (Err fault) = (fault ≡ UnknownVersion (id_in headers)) × (version_named (id_in headers) ≡ None)
-
--- a fault of the bytes themselves, or want of memory
-abbrev pub IsOfTheBytes : OpenFault → Type 0
-IsOfTheBytes (TooLarge size) = ⊥
-IsOfTheBytes Read = ⊥
-IsOfTheBytes fault = Unit {0}
+-- another refusal than that the dump is too large
+abbrev pub IsSmall : OpenFault → Type 0
+IsSmall (TooLarge size) = ⊥
+IsSmall fault = Unit {0}

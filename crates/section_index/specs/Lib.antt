@@ -1,6 +1,9 @@
+pub mod Beginning
 pub mod Headers
 pub mod Index
 pub mod Opening
-pub mod Sections
 pub mod Reading
 pub mod Receiver
+pub mod Refused
+pub mod Scanning
+pub mod Sections

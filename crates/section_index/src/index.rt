@@ -67,6 +67,7 @@ impl Model for Index {
 impl Index {
     pub(crate) fn new(headers: Headers, size: u64, version: Version) -> Index
         requires some { 1 ≤ length headers }
+        requires sections { length headers ≤ 8000000 }
         requires size { size ≤ 68719476736 }
         ensures { result ≡ record { headers = headers; size = size; version = version } }
     {

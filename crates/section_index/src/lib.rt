@@ -4,11 +4,14 @@
 //! [`Index`] has no part of a body; it keeps the offsets, and the texts of the headers in one pool.
 #![tactic(auto)]
 
+mod beginning;
 mod builder;
 mod header_text;
 mod headers;
 mod index;
 mod opening;
+mod receiver;
+mod scanning;
 
 pub use builder::build;
 pub use index::{Index, Section, State};
