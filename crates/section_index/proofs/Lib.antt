@@ -1,3 +1,6 @@
+pub mod Causes
+pub mod Faults
 pub mod Kept
 pub mod Named
 pub mod Places
+pub mod Rising
