@@ -1,5 +1,6 @@
 pub mod Causes
 pub mod Faults
+pub mod FirstLine
 pub mod Kept
 pub mod Named
 pub mod Places

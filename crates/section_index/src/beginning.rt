@@ -1,7 +1,7 @@
 // How a dump begins.
-ghost use Rattle.std.specs.Prelude.{◌≡◌, ◌<◌, ◌≤◌, ◌++◌, ℕ, List, [], Option, None, Some, length, MatchOption};
+ghost use Rattle.std.specs.Prelude.{◌≡◌, ◌<◌, ◌≤◌, ◌++◌, ◌∷◌, ℕ, List, [], Option, None, Some, length, MatchOption};
 ghost use Rattle.std.specs.List.{position};
-ghost use Rattle.dump_io.specs.Lines.{text_of};
+ghost use Rattle.dump_io.specs.Lines.{lf, text_of};
 ghost use Rattle.line_source.specs.Streams.{length_before_lf};
 ghost use Rattle.section_index.specs.Opening.{first_line};
 ghost use Rattle.section_index.specs.Beginning.{is_lf, IsVersionOf, IsJudged, IsAllOrLong};
@@ -22,6 +22,16 @@ fn first_lf(bytes: &[u8]) -> Option<usize>
     bytes.iter().position(|c| *c == b'\n')
 }
 
+// The text of the line that these bytes and an LF make.
+fn text_before_lf(line: &[u8]) -> &[u8]
+    ensures { result.now ≡ text_of (line.now ++ lf ∷ []) }
+{
+    match line {
+        [text @ .., b'\r'] => text,
+        _ => line,
+    }
+}
+
 // The text of the first line, where that has at most `limit` bytes before its LF or the end.
 fn first_text(first: &[u8], limit: usize) -> Option<&[u8]>
     requires { limit ≤ 4096 }
@@ -29,10 +39,7 @@ fn first_text(first: &[u8], limit: usize) -> Option<&[u8]>
         MatchOption result (limit < length_before_lf line) (λ text. (length_before_lf line ≤ limit) × (text.now ≡ text_of line)) }
 {
     match first_lf(first) {
-        Some(end) if end <= limit => match &first[..end] {
-            [text @ .., b'\r'] => Some(text),
-            text => Some(text),
-        },
+        Some(end) if end <= limit => Some(text_before_lf(&first[..end])),
         None if first.len() <= limit => Some(first),
         _ => None,
     }
