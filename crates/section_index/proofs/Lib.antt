@@ -1,3 +1,4 @@
+pub mod Beginnings
 pub mod Causes
 pub mod Faults
 pub mod FirstLine
