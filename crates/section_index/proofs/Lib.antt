@@ -2,6 +2,7 @@ pub mod Beginnings
 pub mod Causes
 pub mod Faults
 pub mod FirstLine
+pub mod Grown
 pub mod Kept
 pub mod Named
 pub mod Places

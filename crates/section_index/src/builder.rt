@@ -3,7 +3,7 @@ ghost use Rattle.std.specs.Prelude.{◌≡◌, ◌⊎◌, ◌+◌, ◌-◌, ◌<
 ghost use Rattle.dump_io.specs.Counts.{Rose, HasCause, plus_capped};
 ghost use Rattle.dump_io.specs.Dumps.{Files, Now, told, IsOpen, size_of, IsAbsent, Gives};
 ghost use Rattle.section_index.specs.Index.{IsAnswerFor, IsBuiltOver, IsTooLargeFor, IsSmall};
-ghost use Rattle.section_index.specs.Reading.{HasBegun, IsScanFault};
+ghost use Rattle.section_index.specs.Reading.{HasBegun, IsRefusal};
 
 use crate::beginning::judge_beginning;
 use crate::index::Index;
@@ -70,7 +70,7 @@ fn feed_rest<B: Bounds, D: Dumps>(
     ensures offset { OnOk result (scan.new.offset ≡ size) }
     ensures silent { OnOk result (receiver.new.stop ≡ None) }
     ensures begun { OnOk result (HasBegun (D.now dumps.old) scan.new receiver.new) }
-    ensures fault { IfErr result (IsScanFault B.limits (D.now dumps.old)) }
+    ensures fault { IfErr result (λ fault. (fault ≡ OpenFault.Read) ⊎ IsRefusal B.limits (D.now dumps.old) fault) }
     ensures read { IsErrOf result OpenFault.Read → Rose (D.faults dumps.old) (D.faults dumps.new) }
 {
     let mut at = from;
