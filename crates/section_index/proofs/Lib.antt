@@ -1,3 +1,4 @@
+pub mod Answering
 pub mod Beginnings
 pub mod Causes
 pub mod Faults

@@ -6,7 +6,7 @@ use Rattle.dump_io.specs.Limits.{Numbers}
 use Rattle.dump_io.specs.Lines.{lf, text_of}
 use Rattle.line_source.specs.Streams.{length_before_lf}
 use Rattle.section_index.specs.declared.opening.OpenFault.{OpenFault}
-use Rattle.section_index.specs.declared.opening.OpenFault.TheVariants.{Version as UnknownVersion, Memory}
+use Rattle.section_index.specs.declared.opening.OpenFault.TheVariants.{Compressed, NotADump, Version as UnknownVersion, TooLarge, HeaderTooLong, TooManySections, HeadersTooLarge, Read, Memory}
 use Rattle.section_index.specs.declared.opening.Version.{Version}
 use Rattle.section_index.specs.Opening.{signature, first_line, first_id, version_named, compressed, unsigned, other_version, header_fault}
 use Rattle.section_index.specs.Sections.{id_of}
@@ -43,3 +43,9 @@ abbrev pub IsJudged : Numbers → List ℕ → Result Version OpenFault → Type
 IsJudged limits bytes (Ok version) = IsAccepted limits bytes version
 IsJudged limits bytes (Err Memory) = Unit {0}
 IsJudged limits bytes (Err fault) = fault_of bytes limits ≡ Some fault
+
+-- a refusal by the bytes, or want of memory
+abbrev pub IsOfTheBytes : OpenFault → Type 0
+IsOfTheBytes (TooLarge size) = ⊥
+IsOfTheBytes Read = ⊥
+IsOfTheBytes fault = Unit {0}

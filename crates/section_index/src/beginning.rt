@@ -1,10 +1,10 @@
 // How a dump begins.
-ghost use Rattle.std.specs.Prelude.{◌≡◌, ◌<◌, ◌≤◌, ◌++◌, ◌∷◌, ℕ, List, [], Option, None, Some, length, MatchOption};
+ghost use Rattle.std.specs.Prelude.{◌≡◌, ◌<◌, ◌≤◌, ◌++◌, ◌∷◌, ℕ, List, [], Option, None, Some, length, IfErr, MatchOption};
 ghost use Rattle.std.specs.List.{position};
 ghost use Rattle.dump_io.specs.Lines.{lf, text_of};
 ghost use Rattle.line_source.specs.Streams.{length_before_lf};
 ghost use Rattle.section_index.specs.Opening.{first_line};
-ghost use Rattle.section_index.specs.Beginning.{is_lf, IsVersionOf, IsJudged, IsAllOrLong};
+ghost use Rattle.section_index.specs.Beginning.{is_lf, IsVersionOf, IsJudged, IsAllOrLong, IsOfTheBytes};
 
 use crate::header_text::tag_and_id;
 use crate::opening::{OpenFault, Version, version_of};
@@ -68,7 +68,8 @@ pub(crate) fn judge_beginning(
     first: &[u8],
     limits: &Limits,
 ) -> Result<Version, OpenFault>
-    ensures { (more : List ℕ) → IsAllOrLong first.now more → IsJudged limits.now (first.now ++ more) result }
+    ensures judged { (more : List ℕ) → IsAllOrLong first.now more → IsJudged limits.now (first.now ++ more) result }
+    ensures fault { IfErr result IsOfTheBytes }
 {
     if first.starts_with(GZIP_MARK) {
         return Err(OpenFault::Compressed);
