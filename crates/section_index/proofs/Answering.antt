@@ -1,21 +1,20 @@
 -- What the answer tells of the bytes of a dump.
-use Rattle.std.proofs.Common.{◌≡◌, ℕ, ◌+◌, ◌-◌, ◌<◌, ◌≤◌, true, List, [], ◌∷◌, ◌++◌, length, take, drop, min, Option, None, Some, Ok, Err, Result, refl, sym, ◌∙◌, ap, subst, arith, if◌then◌else◌, ◌⊎◌, ⊎_elim}
+use Rattle.std.proofs.Common.{◌≡◌, ℕ, ◌-◌, ◌≤◌, true, List, [], ◌∷◌, ◌++◌, length, take, drop, min, Option, None, Some, Ok, Err, Result, refl, sym, ◌∙◌, ap, subst, arith, if◌then◌else◌, ◌⊎◌, ⊎_elim}
 use Rattle.std.specs.List.{starts_with}
 use Rattle.std.specs.Option.{option_or}
-use Rattle.std.specs.Prelude.{nat_eq}
+use Rattle.std.specs.Prelude.{nat_eq, IfErr}
 use Rattle.std.proofs.lemmas.Bool.{le-ltb}
 use Rattle.std.proofs.lemmas.List.{take_all, length-drop, append-nil, length-take-le}
 use Rattle.dump_io.specs.Limits.{Numbers}
 use Rattle.dump_io.specs.Lines.{Header, headers}
-use Rattle.dump_io.specs.Dumps.{Now, closed, told, sized, size_of, IsOpen, Gives}
-use Rattle.line_source.specs.Scan.{Scan}
+use Rattle.dump_io.specs.Dumps.{Files, Now, closed, told, sized, size_of, IsOpen, IsNamed, Gives}
 use Rattle.section_index.specs.declared.opening.OpenFault.{OpenFault}
 use Rattle.section_index.specs.declared.opening.OpenFault.TheVariants.{Compressed, NotADump, Version as UnknownVersion, TooLarge, HeaderTooLong, TooManySections, HeadersTooLarge, Read, Memory}
 use Rattle.section_index.specs.declared.opening.Version.{Version}
 use Rattle.section_index.specs.Opening.{signature, header_fault, opening}
 use Rattle.section_index.specs.Beginning.{IsAllOrLong, fault_of, IsAccepted, IsJudged, IsOfTheBytes}
 use Rattle.section_index.specs.Scanning.{IsHeaderFault}
-use Rattle.section_index.specs.Index.{Contents, IsIndexOf, IsAnswerFor, IsBuiltOver, IsSmall}
+use Rattle.section_index.specs.Index.{Contents, IsIndexOf, IsAnswerFor, IsBuiltOver, IsSmall, IsTooLargeFor}
 use Rattle.section_index.specs.Reading.{IsRefusal}
 use Rattle.section_index.proofs.Grown.{Gives-whole}
 
@@ -126,3 +125,28 @@ answer-rest bytes limits bounds version now fault small accepted same is why =
     (λ read. subst (λ f. IsAnswerFor bytes limits (Err f)) (sym read) tt)
     (λ refused. answer-header bytes limits version fault small accepted (subst (λ l. IsHeaderFault l bytes fault) (sym same) (refused.refusal bytes is)))
     why
+
+pub too_large-of-small : (now : Now) (limits : Numbers) (fault : OpenFault) → IsSmall fault → IsTooLargeFor now limits fault
+too_large-of-small now limits Compressed small = tt
+too_large-of-small now limits NotADump small = tt
+too_large-of-small now limits (UnknownVersion text) small = tt
+too_large-of-small now limits (TooLarge size) small = absurd small
+too_large-of-small now limits (HeaderTooLong at) small = tt
+too_large-of-small now limits (TooManySections at) small = tt
+too_large-of-small now limits (HeadersTooLarge at) small = tt
+too_large-of-small now limits Read small = tt
+too_large-of-small now limits Memory small = tt
+
+pub none-too_large : (now : Now) (limits : Numbers) (answer : Result Contents OpenFault) → IfErr answer IsSmall → IfErr answer (IsTooLargeFor now limits)
+none-too_large now limits (Ok index) small = small
+none-too_large now limits (Err fault) small = too_large-of-small now limits fault small
+
+-- the open file of a name that is told
+pub told-by-name : (files : Option Files) (name : List ℕ) (now : Now) (named : Files) (bytes : List ℕ) → IsNamed files name now → files ≡ Some named → named name ≡ Some bytes
+    → now ≡ told bytes
+told-by-name None name now named bytes open' is has = cc
+told-by-name (Some files) name now named bytes open' is has =
+    let same : files ≡ named = cc in
+    let found : Some open'.0 ≡ Some bytes = sym open'.1 ∙ ap (λ f. f name) same ∙ has in
+    let one : open'.0 ≡ bytes = cc in
+    open'.2 ∙ ap told one

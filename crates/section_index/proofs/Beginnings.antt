@@ -1,20 +1,20 @@
 -- How a dump begins, by its first bytes.
-use Rattle.std.proofs.Common.{◌≡◌, ℕ, suc, ◌+◌, ◌-◌, ◌<◌, ◌≤◌, Bool, true, false, ◌&&◌, cond, List, [], ◌∷◌, ◌++◌, length, take, drop, map, filter, Some, None, Ok, Err, Result, not, eqb, if◌then◌else◌, refl, sym, ◌∙◌, ap, subst, arith, append-nil, nat_lt}
+use Rattle.std.proofs.Common.{◌≡◌, ℕ, suc, ◌+◌, ◌-◌, ◌<◌, ◌≤◌, Bool, true, false, cond, List, [], ◌∷◌, ◌++◌, length, take, map, filter, Some, None, Ok, Err, Result, eqb, if◌then◌else◌, refl, sym, ◌∙◌, ap, subst, arith, append-nil, nat_lt}
 use Rattle.std.specs.List.{starts_with, ends_with}
 use Rattle.std.specs.Option.{option_or}
-use Rattle.std.specs.Prelude.{nat_eq, All, slice_get, get_or}
+use Rattle.std.specs.Prelude.{nat_eq, slice_get}
 use Rattle.std.specs.Cmp.Lexicographic.{pointwise}
-use Rattle.std.proofs.lemmas.Bool.{and_parts, and_from, eqb-true, cond-true, cond-false, lt-ltb, le-ltb, ltb-true, ltb-false}
+use Rattle.std.proofs.lemmas.Bool.{and_parts, eqb-true, lt-ltb, le-ltb, ltb-true, ltb-false}
 use Rattle.std.proofs.lemmas.List.{take-append-le}
 use Rattle.dump_io.specs.Limits.{Numbers}
-use Rattle.dump_io.specs.Lines.{lf, cr, equals_sign, raw_lines, lines_after, text_of, is_header, Header, headers, lines_from, lines, header_of, Line}
-use Rattle.line_source.specs.Streams.{begins_header, is_too_long, length_before_lf, too_long}
+use Rattle.dump_io.specs.Lines.{lf, cr, equals_sign, raw_lines, lines_after, text_of, is_header, Header, headers, lines_from, header_of, Line}
+use Rattle.line_source.specs.Streams.{is_too_long, length_before_lf}
 use Rattle.line_source.specs.Feeding.{first_too_long}
 use Rattle.section_index.specs.declared.opening.OpenFault.{OpenFault}
 use Rattle.section_index.specs.declared.opening.OpenFault.TheVariants.{Compressed, NotADump, Version as UnknownVersion, TooLarge, HeaderTooLong, TooManySections, HeadersTooLarge, Read, Memory}
 use Rattle.section_index.specs.declared.opening.Version.{Version}
-use Rattle.section_index.specs.Opening.{signature, gzip_mark, first_in, first_line, first_id, version_fault, version_named, compressed, unsigned, other_version, header_fault}
-use Rattle.section_index.specs.Beginning.{IsAllOrLong, id_in, IsVersionOf, fault_of, IsAccepted, IsJudged}
+use Rattle.section_index.specs.Opening.{signature, gzip_mark, first_in, first_line, first_id, version_fault, version_named, unsigned, other_version, header_fault}
+use Rattle.section_index.specs.Beginning.{IsAllOrLong, id_in, IsVersionOf, fault_of, IsJudged}
 use Rattle.section_index.proofs.Causes.{fault-long}
 
 -- the first bytes tell whether all begin so
@@ -31,7 +31,7 @@ starts-front first more start short all = starts-if (nat_lt (length first) 65536
 raw_lines-equals : (bytes : List ℕ) → (line : List ℕ) × (rest : List (List ℕ)) × (raw_lines (61 ∷ bytes) ≡ (61 ∷ line) ∷ rest)
 raw_lines-equals bytes =
     elim (raw_lines bytes) as (λ lines. (line : List ℕ) × (rest : List (List ℕ)) × (lines_after 61 lines ≡ (61 ∷ line) ∷ rest))
-        [ [] ↦ ([], [], refl) | line ∷ rest ↦ (line, rest, refl) ]
+    [ [] ↦ ([], [], refl) | line ∷ rest ↦ (line, rest, refl) ]
 
 chosen : (a b : Bool) (m n : ℕ) (bytes : List ℕ)
     → starts_with nat_eq (if a then take (suc m) (61 ∷ bytes) else (if b then take (suc n) (61 ∷ bytes) else 61 ∷ bytes)) (equals_sign ∷ []) ≡ true
@@ -44,7 +44,7 @@ is_header-equals : (line : List ℕ) → is_header (61 ∷ line) ≡ true
 is_header-equals [] = refl
 is_header-equals (c ∷ []) =
     elim (ends_with nat_eq (61 ∷ c ∷ []) (lf ∷ [])) as (λ b. starts_with nat_eq (if b then 61 ∷ [] else 61 ∷ c ∷ []) (equals_sign ∷ []) ≡ true)
-        [ true ↦ refl | false ↦ refl ]
+    [ true ↦ refl | false ↦ refl ]
 is_header-equals (c ∷ d ∷ line) =
     let raw : List ℕ = 61 ∷ c ∷ d ∷ line in
     let two : length raw - 2 ≡ suc (length line) = omega arith in

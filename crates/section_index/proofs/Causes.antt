@@ -1,11 +1,10 @@
 -- The refusal of a header, by the headers that stand before it.
 use Rattle.std.proofs.Common.{◌≡◌, ℕ, zero, suc, ◌+◌, ◌-◌, ◌<◌, ◌≤◌, Bool, true, false, not, cond, List, [], ◌∷◌, ◌++◌, length, map, Option, None, Some, refl, sym, ◌∙◌, ap, subst, arith, nat_lt, nat_le, append_assoc, append-nil}
 use Rattle.std.specs.Prelude.{All, filter, slice_get}
-use Rattle.std.specs.List.{sum_by}
 use Rattle.std.specs.Option.{option_map}
 use Rattle.std.proofs.lemmas.Bool.{cond-true, cond-false, lt-ltb, le-ltb, le-leb, lt-leb}
-use Rattle.std.proofs.lemmas.List.Elements.{All-nil, All-cons, All-head, All-tail, All-append, All-weaker, filter-append}
-use Rattle.std.proofs.lemmas.List.Sums.{sum_by-append, sum_by_push, sum_by-cons}
+use Rattle.std.proofs.lemmas.List.Elements.{All-cons, All-head, All-tail, All-weaker, filter-append}
+use Rattle.std.proofs.lemmas.List.Sums.{sum_by_push, sum_by-cons}
 use Rattle.dump_io.specs.Limits.{Numbers}
 use Rattle.dump_io.specs.Lines.{Header, headers}
 use Rattle.line_source.specs.Streams.{too_long}
@@ -13,7 +12,7 @@ use Rattle.line_source.specs.Feeding.{first_too_long}
 use Rattle.section_index.specs.declared.opening.OpenFault.{OpenFault}
 use Rattle.section_index.specs.declared.opening.OpenFault.TheVariants.{HeaderTooLong, TooManySections, HeadersTooLarge}
 use Rattle.section_index.specs.Opening.{long_header, surplus_header, text_bytes, headers_upto, headers_over, large_headers, place_of, earlier, header_fault}
-use Rattle.section_index.proofs.Rising.{AreRising, rising-left, rising-right, rising-apart, headers-rising}
+use Rattle.section_index.proofs.Rising.{AreRising, rising-right, rising-apart, headers-rising}
 
 -- a refusal, if any, names a header at this offset or behind it
 abbrev pub IsFrom : ℕ → Option OpenFault → Type 0

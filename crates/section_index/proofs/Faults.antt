@@ -1,5 +1,5 @@
 -- A fault of the scan on the first bytes of a dump is the refusal of the whole dump.
-use Rattle.std.proofs.Common.{◌≡◌, ℕ, ◌+◌, ◌<◌, ◌≤◌, List, [], ◌∷◌, ◌++◌, length, Option, None, Some, Ok, Err, refl, sym, ◌∙◌, ap, subst, arith, append_assoc}
+use Rattle.std.proofs.Common.{◌≡◌, ℕ, ◌+◌, ◌<◌, ◌≤◌, List, [], ◌∷◌, ◌++◌, length, Option, None, Some, refl, sym, ◌∙◌, ap, subst, append_assoc}
 use Rattle.std.specs.Prelude.{All, slice_get}
 use Rattle.std.proofs.lemmas.List.Elements.{All-nil, All-head, All-append, All-same}
 use Rattle.dump_io.specs.Limits.{Numbers}
@@ -12,7 +12,7 @@ use Rattle.line_source.specs.Receiver.{Refusal}
 use Rattle.line_source.specs.Streams.{ended_headers, open_headers, new_headers, headers_before, too_long}
 use Rattle.line_source.specs.Feeding.{first_too_long, refusal_value, IsStop, StopsAmong}
 use Rattle.line_source.specs.Growth.{TooLongGrows}
-use Rattle.section_index.specs.declared.opening.OpenFault.TheVariants.{HeaderTooLong, TooManySections, HeadersTooLarge, Memory}
+use Rattle.section_index.specs.declared.opening.OpenFault.TheVariants.{HeaderTooLong, TooManySections, HeadersTooLarge}
 use Rattle.section_index.specs.Opening.{text_bytes, header_fault}
 use Rattle.section_index.specs.Receiver.{Hearing, IsCause, IsStated, KeepsTo}
 use Rattle.section_index.specs.Scanning.{stop_fault, open_fault_of, IsHeaderFault}

@@ -1,10 +1,10 @@
 -- The first line, by the first LF.
-use Rattle.std.proofs.Common.{◌≡◌, ℕ, zero, suc, ◌+◌, ◌-◌, ◌<◌, ◌≤◌, Bool, true, false, not, ◌&&◌, cond, ltb, List, [], ◌∷◌, ◌++◌, length, take, drop, get_or, Option, MatchOption, None, Some, refl, sym, ◌∙◌, ap, subst, append_assoc, append-nil, length-append, arith, if◌then◌else◌, ◌==◌, nat_eq}
-use Rattle.std.specs.List.{list_all, ends_with, position, position_or_len, prefix_len}
+use Rattle.std.proofs.Common.{◌≡◌, ℕ, suc, ◌+◌, ◌-◌, ◌<◌, ◌≤◌, Bool, true, false, not, ◌&&◌, cond, ltb, List, [], ◌∷◌, ◌++◌, length, take, drop, get_or, Option, MatchOption, None, Some, refl, sym, ◌∙◌, ap, append_assoc, append-nil, length-append, arith, if◌then◌else◌, ◌==◌, nat_eq}
+use Rattle.std.specs.List.{list_all, ends_with, position, position_or_len}
 use Rattle.std.specs.Cmp.Lexicographic.{pointwise}
 use Rattle.std.proofs.lemmas.Bool.{cond-true, cond-false, and_parts, not-true, false≢true, false_from_ne_true, ltb-true, ltb-false, eqb-true}
 use Rattle.std.proofs.lemmas.List.{drop_at, length_push, drop-drop, take_all, take-append-drop, drop_more, length-take-le}
-use Rattle.std.proofs.lemmas.List.Sums.{passes_at_first, prefix_len-le-length}
+use Rattle.std.proofs.lemmas.List.Sums.{passes_at_first}
 use Rattle.std.proofs.lemmas.List.{length-drop}
 use Rattle.dump_io.specs.Lines.{lf, cr, raw_lines, lines_after, text_of}
 use Rattle.line_source.specs.Streams.{has_lf, length_before_lf}
@@ -19,7 +19,7 @@ lacks_lf bytes = list_all (λ c. not (c == lf)) bytes
 abbrev pub IsFirstLf : List ℕ → Option ℕ → Type 0
 IsFirstLf bytes place =
     MatchOption place (lacks_lf bytes ≡ true)
-        (λ k. (k < length bytes) × (lacks_lf (take k bytes) ≡ true) × (bytes ≡ take k bytes ++ lf ∷ drop (k + 1) bytes))
+    (λ k. (k < length bytes) × (lacks_lf (take k bytes) ≡ true) × (bytes ≡ take k bytes ++ lf ∷ drop (k + 1) bytes))
 
 lacks-if : (q : Bool) (c : ℕ) (bytes : List ℕ) (n : ℕ) → not (c == lf) ≡ q → lacks_lf (take n bytes) ≡ true → lacks_lf (take (cond q (1 + n) 0) (c ∷ bytes)) ≡ true
 lacks-if true c bytes n e rest =

@@ -1,9 +1,9 @@
 -- The headers of a dump begin one behind another.
-use Rattle.std.proofs.Common.{◌≡◌, ℕ, suc, ◌+◌, ◌<◌, ◌≤◌, Bool, true, false, not, cond, List, [], ◌∷◌, ◌++◌, length, map, refl, sym, ◌∙◌, ap, subst, arith, ◌==◌, nat_lt, if◌then◌else◌, add-zero}
+use Rattle.std.proofs.Common.{◌≡◌, ℕ, ◌+◌, ◌<◌, ◌≤◌, Bool, true, false, not, cond, List, [], ◌∷◌, ◌++◌, length, map, refl, sym, ◌∙◌, ap, arith, ◌==◌, nat_lt, if◌then◌else◌}
 use Rattle.std.specs.Prelude.{All, filter}
-use Rattle.std.proofs.lemmas.Bool.{cond-true, cond-false, lt-ltb, le-ltb, ltb-true, ltb-false}
-use Rattle.std.proofs.lemmas.List.Elements.{All-nil, All-cons, All-head, All-tail, All-append, All-weaker}
-use Rattle.dump_io.specs.Lines.{lf, lines_after, raw_lines, Line, lines_from, lines, is_header, Header, header_of, headers}
+use Rattle.std.proofs.lemmas.Bool.{cond-true, cond-false, le-ltb, ltb-false}
+use Rattle.std.proofs.lemmas.List.Elements.{All-nil, All-cons, All-head, All-tail, All-weaker}
+use Rattle.dump_io.specs.Lines.{lf, lines_after, raw_lines, Line, lines_from, is_header, Header, header_of, headers}
 use Rattle.line_source.specs.Streams.{headers_before}
 
 abbrev pub AreRising : List Header → Type 0
@@ -83,7 +83,7 @@ pub headers_from-at : (at : ℕ) (hs : List Header) → All (λ h. at ≤ h.at) 
 headers_from-at at [] = All-nil (λ h. at ≤ h.at)
 headers_from-at at (h ∷ hs) =
     elim (nat_lt h.at at) as (λ q. nat_lt h.at at ≡ q → All (λ x. at ≤ x.at) (cond (not q) (h ∷ headers_from at hs) (headers_from at hs)))
-        [ true ↦ λ e. headers_from-at at hs | false ↦ λ e. All-cons (λ x. at ≤ x.at) h (headers_from at hs) (ltb-false h.at at e) (headers_from-at at hs) ] refl
+    [ true ↦ λ e. headers_from-at at hs | false ↦ λ e. All-cons (λ x. at ≤ x.at) h (headers_from at hs) (ltb-false h.at at e) (headers_from-at at hs) ] refl
 
 before-none : (at : ℕ) (hs : List Header) → All (λ h. at ≤ h.at) hs → headers_before at hs ≡ []
 before-none at [] all = refl

@@ -1,14 +1,13 @@
 -- How a dump begins.
-use Rattle.std.specs.Prelude.{◌≡◌, ℕ, ◌<◌, ◌≤◌, ◌==◌, Bool, true, false, List, [], length, nat_eq, unwrap_or, Option, None, Some, Result, Ok, Err}
+use Rattle.std.specs.Prelude.{◌≡◌, ℕ, ◌<◌, ◌==◌, Bool, true, List, [], length, nat_eq, unwrap_or, Option, None, Some, Result, Ok, Err}
 use Rattle.std.specs.List.{starts_with}
 use Rattle.std.specs.Option.{option_or}
 use Rattle.dump_io.specs.Limits.{Numbers}
-use Rattle.dump_io.specs.Lines.{lf, text_of}
-use Rattle.line_source.specs.Streams.{length_before_lf}
+use Rattle.dump_io.specs.Lines.{lf}
 use Rattle.section_index.specs.declared.opening.OpenFault.{OpenFault}
-use Rattle.section_index.specs.declared.opening.OpenFault.TheVariants.{Compressed, NotADump, Version as UnknownVersion, TooLarge, HeaderTooLong, TooManySections, HeadersTooLarge, Read, Memory}
+use Rattle.section_index.specs.declared.opening.OpenFault.TheVariants.{Version as UnknownVersion, TooLarge, Read, Memory}
 use Rattle.section_index.specs.declared.opening.Version.{Version}
-use Rattle.section_index.specs.Opening.{signature, first_line, first_id, version_named, compressed, unsigned, other_version, header_fault}
+use Rattle.section_index.specs.Opening.{signature, first_id, version_named, compressed, unsigned, other_version, header_fault}
 use Rattle.section_index.specs.Sections.{id_of}
 
 abbrev pub is_lf : ℕ → Bool

@@ -1,5 +1,5 @@
 -- What an index says of a dump.
-use Rattle.std.specs.Prelude.{◌≡◌, ℕ, ◌+◌, ◌-◌, ◌<◌, ◌≤◌, List, [], ◌∷◌, length, Option, None, Some, Result, Ok, Err, unwrap_or, codes, if◌then◌else◌}
+use Rattle.std.specs.Prelude.{◌≡◌, ℕ, ◌+◌, ◌-◌, ◌<◌, ◌≤◌, List, [], ◌∷◌, length, None, Some, Result, Ok, Err, codes, if◌then◌else◌}
 use Rattle.std.specs.Str.{bytes_eq}
 use Rattle.dump_io.specs.Dumps.{Now, closed, told, sized, size_of}
 use Rattle.dump_io.specs.Limits.{Numbers}
@@ -7,10 +7,10 @@ use Rattle.dump_io.specs.Lines.{Header, headers}
 use Rattle.section_index.specs.declared.index.State.{State}
 use Rattle.section_index.specs.declared.index.State.TheVariants.{Whole, TruncatedIn}
 use Rattle.section_index.specs.declared.opening.OpenFault.{OpenFault}
-use Rattle.section_index.specs.declared.opening.OpenFault.TheVariants.{Compressed, NotADump, Version as UnknownVersion, TooLarge, HeaderTooLong, TooManySections, HeadersTooLarge, Read, Memory}
+use Rattle.section_index.specs.declared.opening.OpenFault.TheVariants.{TooLarge, Read, Memory}
 use Rattle.section_index.specs.declared.opening.Version.{Version}
 use Rattle.section_index.specs.Opening.{opening, first_id, version_named}
-use Rattle.section_index.specs.Sections.{Section, sections_of, tag_of, id_of}
+use Rattle.section_index.specs.Sections.{Section, sections_of, tag_of}
 
 -- the headers of a dump, its size in bytes and its version
 pub record Contents : Type 0 where

@@ -1,5 +1,5 @@
 -- Which dumps are accepted, and what is told of those that aren't.
-use Rattle.std.specs.Prelude.{◌≡◌, ℕ, List, [], ◌∷◌, length, filter, slice_get, Option, None, Some, unwrap_or, codes, nat_lt, nat_le, nat_eq, if◌then◌else◌}
+use Rattle.std.specs.Prelude.{ℕ, List, [], ◌∷◌, length, filter, slice_get, Option, None, Some, unwrap_or, codes, nat_lt, nat_le, nat_eq, if◌then◌else◌}
 use Rattle.std.specs.List.{starts_with, sum_by}
 use Rattle.std.specs.Option.{option_map, option_or}
 use Rattle.std.specs.Str.{bytes_eq}
@@ -8,7 +8,7 @@ use Rattle.dump_io.specs.Lines.{Header, raw_lines, text_of, headers}
 use Rattle.line_source.specs.Streams.{length_before_lf}
 use Rattle.line_source.specs.Feeding.{first_too_long}
 use Rattle.section_index.specs.declared.opening.OpenFault.{OpenFault}
-use Rattle.section_index.specs.declared.opening.OpenFault.TheVariants.{Compressed, NotADump, Version as UnknownVersion, TooLarge, HeaderTooLong, TooManySections, HeadersTooLarge, Read, Memory}
+use Rattle.section_index.specs.declared.opening.OpenFault.TheVariants.{Compressed, NotADump, Version as UnknownVersion, TooLarge, HeaderTooLong, TooManySections, HeadersTooLarge}
 use Rattle.section_index.specs.declared.opening.Version.{Version}
 use Rattle.section_index.specs.declared.opening.Version.TheVariants.{V03, V04, V05}
 use Rattle.section_index.specs.Sections.{id_of}

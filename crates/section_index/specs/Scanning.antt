@@ -1,9 +1,6 @@
 -- The scan of a dump that comes in pieces.
-use Rattle.std.specs.Prelude.{◌≡◌, ℕ, ◌≤◌, true, false, List, ◌++◌, length, nat_eq, Option, None, Some}
-use Rattle.std.specs.List.{starts_with}
-use Rattle.dump_io.specs.Dumps.{Now}
+use Rattle.std.specs.Prelude.{◌≡◌, ℕ, List, Some}
 use Rattle.dump_io.specs.Limits.{Numbers}
-use Rattle.dump_io.specs.Lines.{Header, headers}
 use Rattle.line_source.specs.Streams.{ended_headers}
 use Rattle.line_source.specs.Scan.{Scan, StandsFor}
 use Rattle.line_source.specs.declared.scan_fault.ScanFault.{ScanFault}
@@ -11,8 +8,8 @@ use Rattle.line_source.specs.declared.scan_fault.ScanFault.TheVariants.{HeaderTo
 use Rattle.line_source.specs.declared.header_sink.HeaderStop.{HeaderStop}
 use Rattle.line_source.specs.declared.header_sink.HeaderStop.TheVariants.{TooMany, PoolFull, Memory as NoMemory}
 use Rattle.section_index.specs.declared.opening.OpenFault.{OpenFault}
-use Rattle.section_index.specs.declared.opening.OpenFault.TheVariants.{Compressed, NotADump, Version as UnknownVersion, TooLarge, HeaderTooLong, TooManySections, HeadersTooLarge, Read, Memory}
-use Rattle.section_index.specs.Opening.{signature, header_fault}
+use Rattle.section_index.specs.declared.opening.OpenFault.TheVariants.{HeaderTooLong, TooManySections, HeadersTooLarge, Memory}
+use Rattle.section_index.specs.Opening.{header_fault}
 use Rattle.section_index.specs.Receiver.{Hearing}
 
 -- the refusal that a receiver's refusal stands for

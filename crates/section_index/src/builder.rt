@@ -104,6 +104,7 @@ fn index_of<B: Bounds, D: Dumps>(
     ensures taken_most { D.taken dumps.new ≤ plus_capped (D.taken dumps.old) size }
     ensures answer { (bytes : List ℕ) → D.now dumps.old ≡ told bytes → IsAnswerFor bytes limits.now result }
     ensures over { IfOk result (IsBuiltOver (D.now dumps.old)) }
+    ensures sized { IfOk result (λ index. index.size ≤ limits.now.dump) }
     ensures sections { IfOk result (λ index. length index.headers ≤ limits.now.sections) }
     ensures fault { IfErr result IsSmall }
     ensures read { IsErrOf result OpenFault.Read → Rose (D.faults dumps.old) (D.faults dumps.new) }
@@ -115,14 +116,7 @@ fn index_of<B: Bounds, D: Dumps>(
     let mut scan = LineScan::new(limits.header());
     let mut receiver = Receiver::<B>::new(alloc, limits);
     feed_piece(&mut scan, &mut receiver, &buffer[..count])?;
-    feed_rest(
-        dumps,
-        count as u64,
-        size,
-        buffer,
-        &mut scan,
-        &mut receiver,
-    )?;
+    feed_rest(dumps, count as u64, size, buffer, &mut scan, &mut receiver)?;
     let headers = finish_scan(&mut scan, receiver)?;
     Ok(Index::new(headers, size, version))
 }

@@ -1,5 +1,5 @@
-use Rattle.std.proofs.Common.{◌≡◌, ◌<◌, ◌≤◌, ◌++◌, ◌∷◌, [], List, ℕ, length, take, drop, Some, None, refl, sym, ◌∙◌, ap, subst, arith}
-use Rattle.std.proofs.lemmas.List.{length-take-le, take-append-drop}
+use Rattle.std.proofs.Common.{◌≡◌, ◌++◌, ◌∷◌, [], length, take, Some, None, sym, ◌∙◌, ap, subst, arith}
+use Rattle.std.proofs.lemmas.List.{length-take-le}
 use Rattle.dump_io.specs.Lines.{lf, text_of}
 use Rattle.line_source.specs.Streams.{length_before_lf}
 use Rattle.section_index.specs.Opening.{first_line}
@@ -29,8 +29,9 @@ returns-in-None c more is =
 pub returns-in_default : goal.returns-in_default
 returns-in_default c more is =
     let bytes = c.args.first.now in
-    elim c.in_default.branch
-        [ in_default-via-in-Some+else-end-limit w ↦
-            long-ended bytes more w.in-Some.end c.args.limit (subst (IsFirstLf bytes) (sym (w.in-Some.ensures {u = tt})) (IsFirstLf-position bytes)) w.if-end-limit.false
-        | in_default-via-in-None+else-first-limit w ↦
-            long-open bytes more c.args.limit (subst (IsFirstLf bytes) (sym (w.in-None.ensures {u = tt})) (IsFirstLf-position bytes)) w.if-first-limit.false ]
+    elim c.in_default.branch [
+      | in_default-via-in-Some+else-end-limit w ↦
+          long-ended bytes more w.in-Some.end c.args.limit (subst (IsFirstLf bytes) (sym (w.in-Some.ensures {u = tt})) (IsFirstLf-position bytes)) w.if-end-limit.false
+      | in_default-via-in-None+else-first-limit w ↦
+          long-open bytes more c.args.limit (subst (IsFirstLf bytes) (sym (w.in-None.ensures {u = tt})) (IsFirstLf-position bytes)) w.if-first-limit.false
+    ]

@@ -1,6 +1,4 @@
-use Rattle.std.proofs.Common.{◌≡◌, ◌<◌, ◌≤◌, ◌++◌, true, false, length, sym, ◌∙◌, ap, subst, lit≤}
-use Rattle.std.specs.List.{starts_with}
-use Rattle.std.specs.Prelude.{nat_eq}
+use Rattle.std.proofs.Common.{◌<◌, ◌≤◌, ◌++◌, sym, ◌∙◌, subst, lit≤}
 use Rattle.line_source.specs.Streams.{length_before_lf}
 use Rattle.section_index.specs.Opening.{first_line, signature, gzip_mark}
 use Rattle.section_index.proofs.Beginnings.{starts-front, judge-unsigned, judge-long, judge-version}

@@ -1,7 +1,6 @@
-use Rattle.std.proofs.Common.{◌≡◌, ◌+◌, ◌-◌, ◌≤◌, ◌++◌, length, take, sym, ◌∙◌, ap, subst, arith, inr, rules, min, ℕ}
+use Rattle.std.proofs.Common.{◌≡◌, ◌-◌, ◌≤◌, ◌++◌, length, take, sym, ◌∙◌, subst, arith, inr}
 use Rattle.std.proofs.lemmas.Result.{err_from_is_err_and}
 use Rattle.std.proofs.lemmas.List.{length-take-le}
-use Rattle.dump_io.specs.Counts.{plus_capped}
 use Rattle.dump_io.specs.Dumps.{Gives}
 use Rattle.section_index.specs.Opening.{signature}
 use Rattle.section_index.proofs.Grown.{Gives-next, starts_with-append, IsRefusal-first, taken-next}

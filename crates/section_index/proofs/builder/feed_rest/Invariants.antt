@@ -1,4 +1,4 @@
-use Rattle.std.proofs.Common.{◌≡◌, ◌+◌, ◌-◌, ◌≤◌, false, length, None}
+use Rattle.std.proofs.Common.{◌≡◌, ◌-◌, ◌≤◌, false, None}
 use Rattle.dump_io.specs.Counts.{plus_capped}
 use Rattle.section_index.specs.Reading.{HasBegun}
 use Rattle.section_index.proofs.builder.feed_rest.Given as goal

@@ -1,6 +1,6 @@
-use Rattle.std.proofs.Common.{◌≡◌, ◌+◌, ◌-◌, ◌≤◌, ◌++◌, ℕ, List, [], length, take, min, Ok, Err, refl, sym, ◌∙◌, ap, subst, arith}
+use Rattle.std.proofs.Common.{◌≡◌, ◌++◌, [], length, take, Ok, Err, sym, ◌∙◌, ap, subst, arith}
 use Rattle.std.proofs.lemmas.Result.{err_from_is_err_and}
-use Rattle.dump_io.specs.Dumps.{told, size_of, Gives}
+use Rattle.dump_io.specs.Dumps.{Gives}
 use Rattle.section_index.specs.Beginning.{IsOfTheBytes}
 use Rattle.section_index.specs.Scanning.{HasHeard, IsHeaderFault}
 use Rattle.dump_io.specs.Lines.{headers}

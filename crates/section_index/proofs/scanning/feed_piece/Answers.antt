@@ -1,5 +1,5 @@
 use Rattle.std.specs.Prelude.{All, ◌<◌}
-use Rattle.std.proofs.Common.{◌≡◌, List, ◌++◌, Err, Some, ap, sym, refl, subst, ◌∙◌}
+use Rattle.std.proofs.Common.{◌++◌, Err, ap, sym, subst, ◌∙◌}
 use Rattle.std.proofs.lemmas.Result.{err_from_is_err_and}
 use Rattle.line_source.specs.Feeding.{first_too_long, stop_of}
 use Rattle.line_source.specs.Streams.{too_long}
