@@ -1,10 +1,15 @@
 pub mod Answering
 pub mod Beginnings
 pub mod Causes
+pub mod Counts
+pub mod Cutting
 pub mod Faults
 pub mod FirstLine
+pub mod FirstPlace
 pub mod Grown
 pub mod Kept
 pub mod Named
+pub mod Parts
 pub mod Places
 pub mod Rising
+pub mod Tiling

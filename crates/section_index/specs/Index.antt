@@ -11,6 +11,7 @@ use Rattle.section_index.specs.declared.opening.OpenFault.TheVariants.{TooLarge,
 use Rattle.section_index.specs.declared.opening.Version.{Version}
 use Rattle.section_index.specs.Opening.{opening, first_id, version_named}
 use Rattle.section_index.specs.Sections.{Section, sections_of, tag_of}
+use Rattle.section_index.specs.Tiling.{Tile}
 
 -- the headers of a dump, its size in bytes and its version
 pub record Contents : Type 0 where
@@ -18,15 +19,16 @@ pub record Contents : Type 0 where
   pub size : ℕ
   pub version : Version
 
--- there are from 1 to 8,000,000 sections, and no dump is larger than 64 GiB
+-- the sections of an index
+abbrev pub sections_in : Contents → List Section
+sections_in index = sections_of index.headers index.size
+
+-- there are from 1 to 8,000,000 sections, no dump is larger than 64 GiB, and the sections tile the whole dump
 pub record AreBounded (index : Contents) : Type 0 where
   pub some : 1 ≤ length index.headers
   pub sections : length index.headers ≤ 8000000
   pub size : index.size ≤ 68719476736
-
--- the sections of an index
-abbrev pub sections_in : Contents → List Section
-sections_in index = sections_of index.headers index.size
+  pub tiled : Tile 0 index.size (sections_in index)
 
 abbrev pub last_text : List Header → List ℕ
 last_text [] = []

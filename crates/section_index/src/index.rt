@@ -2,7 +2,8 @@
 ghost use Rattle.std.specs.Prelude.{◌≡◌, ◌<◌, ◌≤◌, length, slice_get, Some};
 ghost use Rattle.std.specs.Option.{option_copied};
 ghost use Rattle.section_index.specs.Index.{Contents, AreBounded, sections_in, state_of, IsLastPlace};
-ghost use Rattle.section_index.specs.Sections.{section, end_at, tag_of, id_of};
+ghost use Rattle.section_index.specs.Sections.{section, sections_of, end_at, tag_of, id_of};
+ghost use Rattle.section_index.specs.Tiling.{Tile};
 
 use crate::header_text::tag_and_id;
 use crate::headers::Headers;
@@ -48,7 +49,8 @@ fn end_of(headers: &Headers, i: usize, size: u64) -> u64
     }
 }
 
-/// The sections of a dump in order, with the dump's size and version. There is at least one section.
+/// The sections of a dump in order, with the dump's size and version. There is at least one section, and
+/// together they are the whole dump.
 #[derive(Drop)]
 pub struct Index {
     headers: Headers,
@@ -69,6 +71,7 @@ impl Index {
         requires some { 1 ≤ length headers }
         requires sections { length headers ≤ 8000000 }
         requires size { size ≤ 68719476736 }
+        requires tiled { Tile 0 size (sections_of headers size) }
         ensures { result ≡ record { headers = headers; size = size; version = version } }
     {
         Index {
@@ -123,6 +126,9 @@ impl Index {
         ensures place { slice_get (sections_in self.now) i ≡ Some (section result.at result.body result.end result.text.now) }
         ensures tag { result.tag.now ≡ tag_of result.text.now }
         ensures id { option_copied result.id ≡ id_of result.text.now }
+        ensures begins { result.at < result.body }
+        ensures ends { result.body ≤ result.end }
+        ensures within { result.end ≤ self.now.size }
     {
         let header = self.headers.header(i);
         let end = end_of(&self.headers, i, self.size);

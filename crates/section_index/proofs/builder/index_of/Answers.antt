@@ -8,6 +8,9 @@ use Rattle.section_index.specs.Opening.{header_fault}
 use Rattle.section_index.specs.declared.opening.OpenFault.TheVariants.{Read}
 use Rattle.section_index.proofs.Beginnings.{headers-some}
 use Rattle.section_index.proofs.Answering.{IsFirstPiece, IsFirstPiece-read, judged-whole, signed-first, answer-judged, answer-header, answer-index, answer-rest, small-by-bytes, Gives-all, built-over}
+use Rattle.section_index.specs.Sections.{sections_of}
+use Rattle.section_index.specs.Tiling.{Tile}
+use Rattle.section_index.proofs.Tiling.{sections_tile}
 use Rattle.section_index.proofs.builder.index_of.Goals as goal
 
 pub returns-in_err-version-clause-answer : goal.returns-in_err-version-clause-answer
@@ -99,6 +102,13 @@ new-requires-clause-some g c =
     let begun = c.in_ok-feed_rest.ensures.begun in
     let heard = (c.in_ok-headers.ensures.heard begun.bytes begun.heard).0 in
     omega (arith, ap length heard, headers-some begun.bytes begun.signed)
+
+pub new-requires-clause-tiled : goal.new-requires-clause-tiled
+new-requires-clause-tiled g c =
+    let begun = c.in_ok-feed_rest.ensures.begun in
+    let heard = (c.in_ok-headers.ensures.heard begun.bytes begun.heard).0 in
+    let whole : length begun.bytes ≡ c.args.size = sym begun.heard.stands.offset ∙ c.in_ok-feed_rest.ensures.offset in
+    rw heard (subst (λ n. Tile 0 n (sections_of (headers begun.bytes) n)) whole (sections_tile begun.bytes begun.signed))
 
 pub returns-clause-answer : goal.returns-clause-answer
 returns-clause-answer g c bytes is =

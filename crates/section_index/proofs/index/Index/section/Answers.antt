@@ -1,13 +1,29 @@
-use Rattle.std.proofs.Common.{sym, ◌∙◌, ap, Some}
+use Rattle.std.proofs.Common.{◌≡◌, ◌<◌, ◌≤◌, sym, ◌∙◌, ap, Some, subst}
 use Rattle.std.specs.List.{slice_get}
-use Rattle.section_index.specs.Sections.{section}
-use Rattle.section_index.specs.Index.{sections_in}
+use Rattle.section_index.specs.Sections.{section, sections_of}
+use Rattle.section_index.specs.Index.{Contents, sections_in}
 use Rattle.section_index.proofs.Places.{sections_of-at}
+use Rattle.section_index.proofs.Parts.{Tile-at}
 use Rattle.section_index.proofs.index.Index.section.Goals as goal
 
-pub returns-clause-place : goal.returns-clause-place
-returns-clause-place c =
+place : (c : goal.After-result-1) → slice_get (sections_of c.self.inside.headers c.self.inside.size) c.args.i
+    ≡ Some (section c.header-header.result.at c.header-header.result.body c.end_of-end.result c.header-header.result.text.now)
+place c =
     let header = c.header-header.result in
-    ap (λ index. slice_get (sections_in index) c.args.i) (sym c.self.view_is)
-    ∙ sections_of-at c.self.inside.headers c.self.inside.size c.args.i _ c.header-header.ensures
+    sections_of-at c.self.inside.headers c.self.inside.size c.args.i _ c.header-header.ensures
     ∙ ap (λ end. Some (section header.at header.body end header.text.now)) (sym c.end_of-end.ensures)
+
+tile : (c : goal.After-result-1) → (c.header-header.result.at < c.header-header.result.body) × (c.header-header.result.body ≤ c.end_of-end.result) × (c.end_of-end.result ≤ c.self.inside.size)
+tile c = Tile-at 0 c.self.inside.size _ c.args.i _ c.self.invariant.tiled (place c)
+
+pub returns-clause-place : goal.returns-clause-place
+returns-clause-place c = ap (λ index. slice_get (sections_in index) c.args.i) (sym c.self.view_is) ∙ place c
+
+pub returns-clause-begins : goal.returns-clause-begins
+returns-clause-begins c = (tile c).0
+
+pub returns-clause-ends : goal.returns-clause-ends
+returns-clause-ends c = (tile c).1
+
+pub returns-clause-within : goal.returns-clause-within
+returns-clause-within c = subst (λ (index : Contents). c.end_of-end.result ≤ index.size) c.self.view_is (tile c).2

@@ -1,0 +1,30 @@
+-- The body of a section, and why it isn't loaded.
+use Rattle.std.specs.Prelude.{◌≡◌, ℕ, ◌-◌, ◌<◌, List, [], slice_get, unwrap_or}
+use Rattle.std.specs.List.{between}
+use Rattle.dump_io.specs.Counts.{Rose}
+use Rattle.dump_io.specs.Dumps.{Now, closed, told, sized}
+use Rattle.section_index.specs.declared.bodies.BodyFault.{BodyFault}
+use Rattle.section_index.specs.declared.bodies.BodyFault.TheVariants.{SectionTooLarge, Read, Memory}
+use Rattle.section_index.specs.Index.{Contents, sections_in}
+use Rattle.section_index.specs.Sections.{Section, section}
+
+-- the section at a place, and past the last one an empty section
+abbrev pub section_at : Contents → ℕ → Section
+section_at index i = unwrap_or (slice_get (sections_in index) i) (section 0 0 0 [])
+
+-- how many bytes the body of a section has
+abbrev pub body_length : Section → ℕ
+body_length section = section.end - section.body
+
+-- these are the bytes of the section's body, where the bytes of what is open are told
+abbrev pub IsBodyOf : Now → Section → List ℕ → Type 0
+IsBodyOf closed section bytes = ⊥
+IsBodyOf (told dump) section bytes = bytes ≡ between section.body section.end dump
+IsBodyOf (sized size) section bytes = Unit {0}
+
+-- why a body isn't loaded: it is longer than the limit, or the count of faults rose; memory may lack at any time
+abbrev pub IsCauseOf : Section → ℕ → ℕ → ℕ → BodyFault → Type 0
+IsCauseOf section limit before now (SectionTooLarge at len) =
+    (at ≡ section.at) × (len ≡ body_length section) × (limit < body_length section)
+IsCauseOf section limit before now Read = Rose before now
+IsCauseOf section limit before now Memory = Unit {0}
