@@ -1,1 +1,10 @@
-pub mod Split
+pub mod Growing
+pub mod HeaderLines
+pub mod Joins
+pub mod LastLines
+pub mod Pieces
+pub mod Scans
+pub mod StartPlaces
+pub mod Stretches
+pub mod Walk
+pub mod Wholes

@@ -1,2 +1,7 @@
-pub mod HeaderSink
-pub mod Lines
+pub mod Feeding
+pub mod Growth
+pub mod Receiver
+pub mod Scan
+pub mod Starts
+pub mod State
+pub mod Streams

@@ -111,7 +111,7 @@ tag_counts-push (first ∷ tags) tag =
         ∙ ap (λ l. (first, count_by (bytes_eq first) (first ∷ tags) + 1) ∷ l)
         (ap (λ t. others first (one_more t (tag_counts tags))) (bytes_eq-same tag first e) ∙ others-one_more first (tag_counts tags))
         ∙ ap (λ b. cond b ((first, count_by (bytes_eq first) (first ∷ tags) + 1) ∷ others first (tag_counts tags))
-            (counted (first ∷ tags) first ∷ one_more tag (others first (tag_counts tags)))) (sym e)
+        (counted (first ∷ tags) first ∷ one_more tag (others first (tag_counts tags)))) (sym e)
     by false e =
         let more : count_by (bytes_eq first) (first ∷ tags ++ tag ∷ []) ≡ count_by (bytes_eq first) (first ∷ tags) =
         count_by-push (bytes_eq first) (first ∷ tags) tag
@@ -120,7 +120,7 @@ tag_counts-push (first ∷ tags) tag =
         ap (λ n. (first, n) ∷ others first (one_more tag (tag_counts tags))) more
         ∙ ap (λ l. counted (first ∷ tags) first ∷ l) (one_more-others first tag (tag_counts tags) (bytes_eq-swap tag first e))
         ∙ ap (λ b. cond b ((first, count_by (bytes_eq first) (first ∷ tags) + 1) ∷ others first (tag_counts tags))
-            (counted (first ∷ tags) first ∷ one_more tag (others first (tag_counts tags)))) (sym e)
+        (counted (first ∷ tags) first ∷ one_more tag (others first (tag_counts tags)))) (sym e)
 
 -- the tag at a place is counted behind those before it
 pub tag_counts-more : (tags : List (List ℕ)) (i : ℕ) (tag : List ℕ) → slice_get tags i ≡ Some tag

@@ -8,10 +8,9 @@ use Rattle.std.proofs.lemmas.List.Sums.{sum_by-cons}
 use Rattle.std.proofs.lemmas.List.Elements.{All-head, All-tail}
 use Rattle.dump_io.specs.Lines.{lf, raw_lines, lines_after, is_header, Header, headers, lines_from, header_of, Line}
 use Rattle.dump_io.proofs.LineLaws.{AreLines-raw}
-use Rattle.line_source.specs.Lines.{line_at, headers_in}
 use Rattle.section_index.specs.Cuts.{AreCut}
 use Rattle.section_index.specs.Sections.{Section, section, sections_of, next_at, sections}
-use Rattle.section_index.proofs.Tiling.{is_header-first}
+use Rattle.section_index.proofs.Tiling.{line_at, headers_in, is_header-first}
 
 -- the lines of a front of so many bytes
 abbrev pub cut_lines : ℕ → List (List ℕ) → List (List ℕ)
@@ -64,9 +63,10 @@ raw_lines-take zero bytes = sym (cut_lines-zero (raw_lines bytes))
 raw_lines-take (suc n) [] = refl
 raw_lines-take (suc n) (c ∷ bytes) =
     let lines = raw_lines bytes in
-    elim (c == lf) as (λ b. (if b then (c ∷ []) ∷ raw_lines (take n bytes) else lines_after c (raw_lines (take n bytes))) ≡ cut_lines (suc n) (if b then (c ∷ []) ∷ lines else lines_after c lines))
-        [ true ↦ ap (λ l. (c ∷ []) ∷ l) (raw_lines-take n bytes) ∙ lf-cut c n lines
-        | false ↦ ap (lines_after c) (raw_lines-take n bytes) ∙ lines_after-cut c n lines ]
+    elim (c == lf) as (λ b. (if b then (c ∷ []) ∷ raw_lines (take n bytes) else lines_after c (raw_lines (take n bytes))) ≡ cut_lines (suc n) (if b then (c ∷ []) ∷ lines else lines_after c lines)) [
+      | true ↦ ap (λ l. (c ∷ []) ∷ l) (raw_lines-take n bytes) ∙ lf-cut c n lines
+      | false ↦ ap (lines_after c) (raw_lines-take n bytes) ∙ lines_after-cut c n lines
+    ]
 
 -- the headers of a front of m bytes, beside those of the whole
 abbrev AreCutHeaders : ℕ → List Header → List Header → Type 0
@@ -87,7 +87,7 @@ headers-behind at m (raw ∷ raws) behind =
     let more : List Line = lines_from (at + length raw) raws in
     let rest : AreCutHeaders m [] (headers_in more) = headers-behind (at + length raw) m raws (omega arith) in
     elim (is_header raw) as (λ b. AreCutHeaders m [] (map header_of (if b then line_at at raw ∷ filter (λ l. is_header l.raw) more else filter (λ l. is_header l.raw) more)))
-        [ true ↦ (behind, rest) | false ↦ rest ]
+    [ true ↦ (behind, rest) | false ↦ rest ]
 
 -- a front that ends within the first line keeps that line's header
 inside-cut : (at n c : ℕ) (line : List ℕ) (raws : List (List ℕ)) → suc n ≤ suc (length line)
@@ -98,10 +98,10 @@ inside-cut at n c line raws inside =
     let behind : AreCutHeaders (at + suc n) [] (headers_in more) = headers-behind (at + length raw) (at + suc n) raws (omega arith) in
     let same : is_header (c ∷ line) ≡ is_header (c ∷ take n line) = is_header-first c line ∙ sym (is_header-first c (take n line)) in
     subst (λ b. AreCutHeaders (at + suc n) (headers_in (line_at at (c ∷ take n line) ∷ []))
-        (map header_of (if b then line_at at raw ∷ filter (λ l. is_header l.raw) more else filter (λ l. is_header l.raw) more))) (sym same)
+    (map header_of (if b then line_at at raw ∷ filter (λ l. is_header l.raw) more else filter (λ l. is_header l.raw) more))) (sym same)
     (elim (is_header (c ∷ take n line)) as (λ b. AreCutHeaders (at + suc n) (map header_of (if b then line_at at (c ∷ take n line) ∷ [] else []))
-        (map header_of (if b then line_at at raw ∷ filter (λ l. is_header l.raw) more else filter (λ l. is_header l.raw) more)))
-        [ true ↦ (refl, omega arith, behind) | false ↦ behind ])
+    (map header_of (if b then line_at at raw ∷ filter (λ l. is_header l.raw) more else filter (λ l. is_header l.raw) more)))
+    [ true ↦ (refl, omega arith, behind) | false ↦ behind ])
 
 headers-cut : (at n : ℕ) (raws : List (List ℕ)) → All (λ raw. 0 < length raw) raws
     → AreCutHeaders (at + n) (headers_in (lines_from at (cut_lines n raws))) (headers_in (lines_from at raws))
@@ -121,8 +121,8 @@ headers-cut at (suc n) ((c ∷ line) ∷ raws) some =
     subst (λ m. AreCutHeaders m (headers_in fore) (headers_in more)) place (headers-cut (at + length raw) (suc n - length raw) raws (All-tail (λ r. 0 < length r) raw raws some)) in
     subst (λ l. AreCutHeaders (at + suc n) (headers_in (lines_from at l)) (headers_in (lines_from at (raw ∷ raws)))) (sym (cut_lines-past (suc n) raw raws past))
     (elim (is_header raw) as (λ b. AreCutHeaders (at + suc n) (map header_of (if b then line_at at raw ∷ filter (λ l. is_header l.raw) fore else filter (λ l. is_header l.raw) fore))
-        (map header_of (if b then line_at at raw ∷ filter (λ l. is_header l.raw) more else filter (λ l. is_header l.raw) more)))
-        [ true ↦ AreCutHeaders-cons (at + suc n) (header_of (line_at at raw)) (headers_in fore) (headers_in more) (omega arith) rest | false ↦ rest ]))
+    (map header_of (if b then line_at at raw ∷ filter (λ l. is_header l.raw) more else filter (λ l. is_header l.raw) more)))
+    [ true ↦ AreCutHeaders-cons (at + suc n) (header_of (line_at at raw)) (headers_in fore) (headers_in more) (omega arith) rest | false ↦ rest ]))
     (λ inside.
     subst (λ l. AreCutHeaders (at + suc n) (headers_in (lines_from at l)) (headers_in (lines_from at (raw ∷ raws)))) (sym (cut_lines-inside (suc n) raw raws (omega arith) inside))
     (inside-cut at n c line raws (omega arith)))
@@ -188,7 +188,7 @@ sections_within bytes n inside =
     subst (λ m. AreCutHeaders m (headers_in (lines_from 0 (cut_lines n raws))) (headers bytes)) start (headers-cut 0 n raws (AreLines-raw bytes).some) in
     subst (λ l. AreCut (sections_of (headers_in (lines_from 0 l)) (length (take n bytes))) (sections bytes) (length (take n bytes))) (sym (raw_lines-take n bytes))
     (subst (λ m. AreCut (sections_of (headers_in (lines_from 0 (cut_lines n raws))) m) (sections bytes) m) (sym (length-take-le n bytes inside))
-        (AreCut-headers n (length bytes) (headers_in (lines_from 0 (cut_lines n raws))) (headers bytes) cut))
+    (AreCut-headers n (length bytes) (headers_in (lines_from 0 (cut_lines n raws))) (headers bytes) cut))
 
 -- the law of cuts
 pub sections_cut : (bytes : List ℕ) (n : ℕ) → AreCut (sections (take n bytes)) (sections bytes) (length (take n bytes))

@@ -1,7 +1,6 @@
 -- The first colon of a header's text.
-use Rattle.std.proofs.Common.{◌≡◌, ℕ, suc, ◌+◌, ◌<◌, ◌≤◌, Bool, true, false, List, [], ◌∷◌, length, ltb, cond, not, ◌||◌, Option, MatchOption, Some, None, refl, sym, ◌∙◌, ap, subst, drop, if◌then◌else◌, arith}
+use Rattle.std.proofs.Common.{◌≡◌, ℕ, suc, ◌+◌, ◌<◌, Bool, true, false, List, [], ◌∷◌, length, ltb, cond, not, ◌||◌, Option, MatchOption, Some, None, refl, sym, ◌∙◌, ap, subst, drop, if◌then◌else◌, arith}
 use Rattle.std.specs.List.{list_any, position_or_len, position, prefix_len, after_first}
-use Rattle.std.proofs.lemmas.Grind.{common_steps}
 use Rattle.std.proofs.lemmas.Bool.{ltb-true, ltb-false, lt-ltb}
 use Rattle.std.proofs.lemmas.Bool.Decides.{nat_tests}
 use Rattle.std.proofs.lemmas.List.Sums.{prefix_len-le-length}
@@ -11,7 +10,7 @@ use Rattle.section_index.specs.Sections.{is_colon, name_of, id_of}
 abbrev pub IsFirstColon : List ℕ → Option ℕ → Type 0
 IsFirstColon name place =
     MatchOption place ((list_any is_colon name ≡ false) × (position_or_len is_colon name ≡ length name))
-        (λ k. (k < length name) × (list_any is_colon name ≡ true) × (position_or_len is_colon name ≡ k))
+    (λ k. (k < length name) × (list_any is_colon name ≡ true) × (position_or_len is_colon name ≡ k))
 
 pub list_any-position : (name : List ℕ) → list_any is_colon name ≡ ltb (position_or_len is_colon name) (length name)
 list_any-position [] = refl
@@ -19,7 +18,7 @@ list_any-position (c ∷ name) =
     let n : ℕ = prefix_len (λ x. not (is_colon x)) name in
     let step : ltb n (length name) ≡ ltb (1 + n) (suc (length name)) = grind (arith, nat_tests) in
     elim (is_colon c) as (λ b. (b || list_any is_colon name) ≡ ltb (cond (not b) (1 + prefix_len (λ x. not (is_colon x)) name) 0) (suc (length name)))
-        [ true ↦ sym (lt-ltb 0 (suc (length name)) (omega arith)) | false ↦ list_any-position name ∙ step ]
+    [ true ↦ sym (lt-ltb 0 (suc (length name)) (omega arith)) | false ↦ list_any-position name ∙ step ]
 
 pub first_colon : (b : Bool) (name : List ℕ) → ltb (position_or_len is_colon name) (length name) ≡ b
     → IsFirstColon name (cond b (Some (position_or_len is_colon name)) None)

@@ -1,7 +1,7 @@
 -- The section at a place.
-use Rattle.std.proofs.Common.{◌≡◌, ℕ, zero, suc, ◌+◌, ◌-◌, ◌<◌, List, [], ◌∷◌, length, slice_get, Some, None, refl, sym, ◌∙◌, ap, Bool, codes, if◌then◌else◌, arith}
+use Rattle.std.proofs.Common.{◌≡◌, ℕ, zero, suc, ◌+◌, ◌-◌, List, [], ◌∷◌, length, slice_get, Some, refl, sym, ◌∙◌, ap, Bool, codes, if◌then◌else◌, arith}
 use Rattle.dump_io.specs.Lines.{Header}
-use Rattle.section_index.specs.Sections.{Section, section, sections_of, next_at, end_at, tag_of}
+use Rattle.section_index.specs.Sections.{section, sections_of, next_at, end_at, tag_of}
 use Rattle.section_index.specs.Index.{last_text, state_of}
 use Rattle.section_index.specs.declared.index.State.TheVariants.{Whole, TruncatedIn}
 use Rattle.std.specs.Str.{bytes_eq}

@@ -6,10 +6,16 @@ use Rattle.std.proofs.lemmas.Bool.{and_parts, eqb-true}
 use Rattle.std.proofs.lemmas.List.Elements.{All-head, All-tail}
 use Rattle.dump_io.specs.Lines.{lf, cr, equals_sign, raw_lines, text_of, is_header, Header, headers, lines_from, header_of, Line}
 use Rattle.dump_io.proofs.LineLaws.{AreLines-raw}
-use Rattle.line_source.specs.Lines.{line_at, headers_in}
 use Rattle.section_index.specs.Opening.{signature}
 use Rattle.section_index.specs.Sections.{Section, section, sections_of, next_at, sections}
 use Rattle.section_index.specs.Tiling.{Tile}
+
+abbrev pub line_at : ℕ → List ℕ → Line
+line_at at raw = record { at = at; raw = raw }
+
+-- the headers among some lines
+abbrev pub headers_in : List Line → List Header
+headers_in lines = map header_of (filter (λ line. is_header line.raw) lines)
 
 -- whether a line begins with an equals sign
 abbrev begins : ℕ → Bool
@@ -79,9 +85,10 @@ lines_tile at size (raw ∷ raws) some all =
     let rest : List Header = headers_in (lines_from (at + length raw) raws) in
     let behind : Behind (at + length raw) size rest =
     lines_tile (at + length raw) size raws (All-tail (λ r. 0 < length r) raw raws some) (omega (arith, length-append raw (concat raws))) in
-    elim (is_header raw) as (λ b. Behind at size (map header_of (if b then line_at at raw ∷ filter (λ l. is_header l.raw) (lines_from (at + length raw) raws) else filter (λ l. is_header l.raw) (lines_from (at + length raw) raws))))
-        [ true ↦ (omega arith, Tile-header (header_of (line_at at raw)) rest size (omega arith) behind)
-        | false ↦ Behind-less at (at + length raw) size rest (omega arith) behind ]
+    elim (is_header raw) as (λ b. Behind at size (map header_of (if b then line_at at raw ∷ filter (λ l. is_header l.raw) (lines_from (at + length raw) raws) else filter (λ l. is_header l.raw) (lines_from (at + length raw) raws)))) [
+      | true ↦ (omega arith, Tile-header (header_of (line_at at raw)) rest size (omega arith) behind)
+      | false ↦ Behind-less at (at + length raw) size rest (omega arith) behind
+    ]
 
 -- where the first line is a header they tile all the bytes
 raws_tile : (raws : List (List ℕ)) (bytes : List ℕ) → concat raws ≡ bytes → All (λ raw. 0 < length raw) raws

@@ -1,16 +1,16 @@
 -- What an index says of a dump.
-use Rattle.std.specs.Prelude.{◌≡◌, ℕ, ◌+◌, ◌-◌, ◌<◌, ◌≤◌, List, [], ◌∷◌, length, Option, None, Some, Result, Ok, Err, unwrap_or, codes, if◌then◌else◌}
+use Rattle.std.specs.Prelude.{◌≡◌, ℕ, ◌+◌, ◌-◌, ◌<◌, ◌≤◌, List, [], ◌∷◌, length, None, Some, Result, Ok, Err, codes, if◌then◌else◌}
 use Rattle.std.specs.Str.{bytes_eq}
-use Rattle.dump_io.specs.Dumps.{Files, IsNamed, Now, closed, told, sized, size_of}
+use Rattle.dump_io.specs.Dumps.{Now, closed, told, sized, size_of}
 use Rattle.dump_io.specs.Limits.{Numbers}
 use Rattle.dump_io.specs.Lines.{Header, headers}
 use Rattle.section_index.specs.declared.index.State.{State}
 use Rattle.section_index.specs.declared.index.State.TheVariants.{Whole, TruncatedIn}
 use Rattle.section_index.specs.declared.opening.OpenFault.{OpenFault}
-use Rattle.section_index.specs.declared.opening.OpenFault.TheVariants.{Read, Memory, TooLarge, Version as UnknownVersion}
+use Rattle.section_index.specs.declared.opening.OpenFault.TheVariants.{TooLarge, Read, Memory}
 use Rattle.section_index.specs.declared.opening.Version.{Version}
 use Rattle.section_index.specs.Opening.{opening, first_id, version_named}
-use Rattle.section_index.specs.Sections.{Section, sections_of, tag_of, id_of}
+use Rattle.section_index.specs.Sections.{Section, sections_of, tag_of}
 use Rattle.section_index.specs.Tiling.{Tile}
 
 -- the headers of a dump, its size in bytes and its version
@@ -23,9 +23,10 @@ pub record Contents : Type 0 where
 abbrev pub sections_in : Contents → List Section
 sections_in index = sections_of index.headers index.size
 
--- there is a section, no dump is larger than 64 GiB, and the sections tile the whole dump
+-- there are from 1 to 8,000,000 sections, no dump is larger than 64 GiB, and the sections tile the whole dump
 pub record AreBounded (index : Contents) : Type 0 where
   pub some : 1 ≤ length index.headers
+  pub sections : length index.headers ≤ 8000000
   pub size : index.size ≤ 68719476736
   pub tiled : Tile 0 index.size (sections_in index)
 
@@ -67,24 +68,7 @@ abbrev pub IsTooLargeFor : Now → Numbers → OpenFault → Type 0
 IsTooLargeFor now limits (TooLarge size) = (size ≡ size_of now) × (limits.dump < size)
 IsTooLargeFor now limits fault = Unit {0}
 
--- the id of the first header
-abbrev pub id_in : List Header → List ℕ
-id_in [] = []
-id_in (header ∷ rest) = unwrap_or (id_of header.text) []
-
--- the version that the first header names, or the fault that it names none
-abbrev pub IsVersionOf : List Header → Result Version OpenFault → Type 0
-IsVersionOf headers (Ok version) = version_named (id_in headers) ≡ Some version
-IsVersionOf headers (Err Memory) = Unit {0}
-IsVersionOf headers (Err fault) = (fault ≡ UnknownVersion (id_in headers)) × (version_named (id_in headers) ≡ None)
-
--- a fault of the bytes themselves, or want of memory
-abbrev pub IsOfTheBytes : OpenFault → Type 0
-IsOfTheBytes (TooLarge size) = ⊥
-IsOfTheBytes Read = ⊥
-IsOfTheBytes fault = Unit {0}
-
--- what is open is nothing, or the file of this name where files are told
-abbrev pub IsClosedOrNamed : Option Files → List ℕ → Now → Type 0
-IsClosedOrNamed files name closed = Unit {0}
-IsClosedOrNamed files name now = IsNamed files name now
+-- another refusal than that the dump is too large
+abbrev pub IsSmall : OpenFault → Type 0
+IsSmall (TooLarge size) = ⊥
+IsSmall fault = Unit {0}

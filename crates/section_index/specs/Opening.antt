@@ -1,11 +1,14 @@
 -- Which dumps are accepted, and what is told of those that aren't.
-use Rattle.std.specs.Prelude.{◌≡◌, ℕ, List, [], ◌∷◌, length, Option, None, Some, unwrap_or, codes, nat_lt, nat_eq, not, if◌then◌else◌}
-use Rattle.std.specs.List.{starts_with}
+use Rattle.std.specs.Prelude.{ℕ, List, [], ◌∷◌, length, filter, slice_get, Option, None, Some, unwrap_or, codes, nat_lt, nat_le, nat_eq, if◌then◌else◌}
+use Rattle.std.specs.List.{starts_with, sum_by}
+use Rattle.std.specs.Option.{option_map, option_or}
 use Rattle.std.specs.Str.{bytes_eq}
 use Rattle.dump_io.specs.Limits.{Numbers}
-use Rattle.dump_io.specs.Lines.{raw_lines, text_of}
+use Rattle.dump_io.specs.Lines.{Header, raw_lines, text_of, headers}
+use Rattle.line_source.specs.Streams.{length_before_lf}
+use Rattle.line_source.specs.Feeding.{first_too_long}
 use Rattle.section_index.specs.declared.opening.OpenFault.{OpenFault}
-use Rattle.section_index.specs.declared.opening.OpenFault.TheVariants.{NotADump, Version as UnknownVersion, TooLarge}
+use Rattle.section_index.specs.declared.opening.OpenFault.TheVariants.{Compressed, NotADump, Version as UnknownVersion, TooLarge, HeaderTooLong, TooManySections, HeadersTooLarge}
 use Rattle.section_index.specs.declared.opening.Version.{Version}
 use Rattle.section_index.specs.declared.opening.Version.TheVariants.{V03, V04, V05}
 use Rattle.section_index.specs.Sections.{id_of}
@@ -14,28 +17,96 @@ use Rattle.section_index.specs.Sections.{id_of}
 abbrev pub signature : List ℕ
 signature = codes "=erl_crash_dump:"
 
+-- and what gzip wrote begins so
+abbrev pub gzip_mark : List ℕ
+gzip_mark = 31 ∷ 139 ∷ []
+
 -- the version of this name
 abbrev pub version_named : List ℕ → Option Version
 version_named id =
     if bytes_eq id (codes "0.3") then Some V03
     else (if bytes_eq id (codes "0.4") then Some V04 else (if bytes_eq id (codes "0.5") then Some V05 else None))
 
-abbrev pub first_line : List (List ℕ) → List ℕ
-first_line [] = []
-first_line (raw ∷ raws) = raw
+abbrev pub first_in : List (List ℕ) → List ℕ
+first_in [] = []
+first_in (raw ∷ raws) = raw
+
+-- the first raw line
+abbrev pub first_line : List ℕ → List ℕ
+first_line bytes = first_in (raw_lines bytes)
 
 -- the id of the first line
 abbrev pub first_id : List ℕ → List ℕ
-first_id bytes = unwrap_or (id_of (text_of (first_line (raw_lines bytes)))) []
+first_id bytes = unwrap_or (id_of (text_of (first_line bytes))) []
 
 -- the refusal of an id that names no version
 abbrev pub version_fault : List ℕ → Option Version → Option OpenFault
 version_fault id None = Some (UnknownVersion id)
 version_fault id (Some version) = None
 
+-- there are more bytes than the limit
+abbrev pub too_large : List ℕ → Numbers → Option OpenFault
+too_large bytes limits = if nat_lt limits.dump (length bytes) then Some (TooLarge (length bytes)) else None
+
+abbrev pub compressed : List ℕ → Option OpenFault
+compressed bytes = if starts_with nat_eq bytes gzip_mark then Some Compressed else None
+
+abbrev pub unsigned : List ℕ → Option OpenFault
+unsigned bytes = if starts_with nat_eq bytes signature then None else Some NotADump
+
+-- the first line has no more bytes than a header may have, and its id names no version
+abbrev pub other_version : List ℕ → Numbers → Option OpenFault
+other_version bytes limits =
+    if nat_lt limits.header (length_before_lf (first_line bytes)) then None
+    else version_fault (first_id bytes) (version_named (first_id bytes))
+
+-- a line that begins with an equals sign has more bytes before its LF or the end than a header may have
+abbrev pub long_header : List ℕ → Numbers → Option OpenFault
+long_header bytes limits = option_map (λ at. HeaderTooLong at) (first_too_long limits.header bytes)
+
+-- as many headers as are allowed stand before this one
+abbrev pub surplus_header : List Header → Numbers → Option OpenFault
+surplus_header headers limits = option_map (λ header. TooManySections header.at) (slice_get headers limits.sections)
+
+-- how many bytes the texts of the headers have together
+abbrev pub text_bytes : List Header → ℕ
+text_bytes headers = sum_by (λ header. length header.text) headers
+
+-- the headers that begin at this offset or before it
+abbrev pub headers_upto : ℕ → List Header → List Header
+headers_upto at headers = filter (λ header. nat_le header.at at) headers
+
+-- the headers up to which the texts have more bytes together than the limit
+abbrev pub headers_over : ℕ → List Header → List Header
+headers_over pool headers = filter (λ header. nat_lt pool (text_bytes (headers_upto header.at headers))) headers
+
+-- the first of those
+abbrev pub large_headers : List Header → Numbers → Option OpenFault
+large_headers headers limits = option_map (λ header. HeadersTooLarge header.at) (slice_get (headers_over limits.pool headers) 0)
+
+-- the offset of the header that a refusal names
+abbrev pub place_of : OpenFault → ℕ
+place_of (HeaderTooLong at) = at
+place_of (TooManySections at) = at
+place_of (HeadersTooLarge at) = at
+place_of fault = 0
+
+-- of two refusals the one whose header begins before the other's, and at one header the first
+abbrev pub earlier : Option OpenFault → Option OpenFault → Option OpenFault
+earlier None second = second
+earlier (Some first) None = Some first
+earlier (Some first) (Some second) = if nat_lt (place_of second) (place_of first) then Some second else Some first
+
+-- the refusal of a header: the first in the dump, and at one header the first of these three
+abbrev pub header_fault : List ℕ → Numbers → Option OpenFault
+header_fault bytes limits =
+    earlier (long_header bytes limits) (earlier (surplus_header (headers bytes) limits) (large_headers (headers bytes) limits))
+
 -- why the bytes of a dump are refused under these limits: the first cause that holds, or none
 abbrev pub opening : List ℕ → Numbers → Option OpenFault
 opening bytes limits =
-    if nat_lt limits.dump (length bytes) then Some (TooLarge (length bytes))
-    else (if not (starts_with nat_eq bytes signature) then Some NotADump
-    else version_fault (first_id bytes) (version_named (first_id bytes)))
+    option_or (too_large bytes limits)
+    (option_or (compressed bytes)
+    (option_or (unsigned bytes)
+    (option_or (other_version bytes limits)
+    (header_fault bytes limits))))

@@ -1,9 +1,22 @@
--- The bytes of a whole dump.
-use Rattle.std.specs.Prelude.{◌≡◌, ℕ, List, length}
-use Rattle.dump_io.specs.Dumps.{Now, closed, told, sized}
+-- The bytes of a dump that were read.
+use Rattle.std.specs.Prelude.{◌≡◌, ℕ, true, List, nat_eq}
+use Rattle.std.specs.List.{starts_with}
+use Rattle.dump_io.specs.Dumps.{Now, told, Gives}
+use Rattle.dump_io.specs.Limits.{Numbers}
+use Rattle.line_source.specs.Scan.{Scan}
+use Rattle.section_index.specs.declared.opening.OpenFault.{OpenFault}
+use Rattle.section_index.specs.Opening.{signature}
+use Rattle.section_index.specs.Receiver.{Hearing}
+use Rattle.section_index.specs.Scanning.{HasHeard, IsHeaderFault, IsOfAHeader}
 
--- these are the bytes of what is open, or as many where they aren't told
-abbrev pub AreAllOf : Now → List ℕ → Type 0
-AreAllOf closed bytes = ⊥
-AreAllOf (told all) bytes = bytes ≡ all
-AreAllOf (sized size) bytes = length bytes ≡ size
+-- a scan has heard the first bytes of what is open, which begin as a dump
+pub record HasBegun (now : Now) (scan : Scan) (hearing : Hearing) : Type 0 where
+  pub bytes : List ℕ
+  pub first : Gives now 0 bytes
+  pub signed : starts_with nat_eq bytes signature ≡ true
+  pub heard : HasHeard scan hearing bytes
+
+-- the refusal of a header, or want of memory; where the bytes of what is open are told, it is their refusal
+pub record IsRefusal (limits : Numbers) (now : Now) (fault : OpenFault) : Type 0 where
+  pub kind : IsOfAHeader fault
+  pub refusal : (bytes : List ℕ) → now ≡ told bytes → IsHeaderFault limits bytes fault

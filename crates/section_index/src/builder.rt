@@ -1,134 +1,136 @@
-// The index of a dump is built from its bytes.
-ghost use Rattle.std.specs.Prelude.{◌≡◌, ◌⊎◌, ◌<◌, ◌≤◌, ℕ, List, length, Some, None, [], Option, option_map, IfOk, IfErr, OnErr, IsErrOf, MatchResult, MatchOption};
+// The index of a dump is built in one pass over its bytes.
+ghost use Rattle.std.specs.Prelude.{◌≡◌, ◌⊎◌, ◌+◌, ◌-◌, ◌<◌, ◌≤◌, ℕ, List, length, take, min, false, Some, None, OnOk, IfOk, IfErr, IsErrOf};
 ghost use Rattle.dump_io.specs.Counts.{Rose, HasCause, plus_capped};
-ghost use Rattle.dump_io.specs.Dumps.{Files, Now, IsOpen, size_of, IsAbsent};
-ghost use Rattle.dump_io.specs.Lines.{Header, headers};
-ghost use Rattle.line_source.specs.HeaderSink.{Refusal};
-ghost use Rattle.section_index.specs.Index.{IsAnswerFor, IsBuiltOver, IsTooLargeFor, IsVersionOf, IsOfTheBytes, IsClosedOrNamed};
-ghost use Rattle.section_index.specs.Reading.{AreAllOf};
+ghost use Rattle.dump_io.specs.Dumps.{Files, Now, told, IsOpen, size_of, IsAbsent, Gives};
+ghost use Rattle.section_index.specs.Index.{IsAnswerFor, IsBuiltOver, IsTooLargeFor, IsSmall};
+ghost use Rattle.section_index.specs.Reading.{HasBegun, IsRefusal};
 
-use crate::header_text::tag_and_id;
-use crate::headers::Headers;
+use crate::beginning::judge_beginning;
 use crate::index::Index;
-use crate::opening::{OpenFault, Version, version_of};
-use dump_io::{Dumps, Limits, Text, read_full};
-use line_source::{HeaderSink, HeaderStop, scan_whole};
-use std::alloc::{AllocError, Global};
+use crate::opening::OpenFault;
+use crate::receiver::{Bounds, Receiver};
+use crate::scanning::{feed_piece, finish_scan};
+use dump_io::{Dumps, Failed, Limits, read_full};
+use line_source::LineScan;
+use std::alloc::Global;
+use std::marker::Brand;
 
-const SIGNATURE: &[u8] = b"=erl_crash_dump:";
+// The most bytes of a piece.
+const PIECE: usize = 65_536;
 
-// The header that found no memory.
-#[derive(Clone, Copy)]
-struct Refused {
+// Reads the bytes of the open file from an offset on into a buffer, up to the file's end, and says how many.
+fn read_piece<D: Dumps>(
+    dumps: &mut D,
     at: u64,
-    text_length: usize,
-}
-
-// Keeps the headers that it hears.
-#[derive(Drop)]
-struct Receiver {
-    headers: Headers,
-    refused: Option<Refused>,
-}
-
-impl HeaderSink for Receiver {
-    ghost use Rattle.section_index.specs.Receiver.{refusal_of};
-
-    ghost heard = { λ r. r.headers };
-
-    ghost stop = { λ r. option_map refusal_of r.refused };
-
-    fn header(&mut self, at: u64, body: u64, text: &[u8]) -> Result<(), HeaderStop> {
-        if self.headers.push(at, body, text).is_err() {
-            self.refused = Some(Refused {
-                at,
-                text_length: text.len(),
-            });
-            return Err(HeaderStop::Memory);
-        }
-        Ok(())
-    }
-}
-
-// Reads all bytes of what is open.
-fn read_all<D: Dumps>(alloc: Global, dumps: &mut D, size: u64) -> Result<Vec<u8>, OpenFault>
+    size: u64,
+    buffer: &mut [u8],
+) -> Result<usize, Failed>
     requires open { IsOpen (D.now dumps.old) }
     requires size { size_of (D.now dumps.old) ≡ size }
+    requires inside { at ≤ size }
+    ensures same_files { D.files dumps.new ≡ D.files dumps.old }
+    ensures same_now { D.now dumps.new ≡ D.now dumps.old }
+    ensures cause { HasCause (D.faults dumps.old) (D.faults dumps.new) result }
+    ensures count { IfOk result (λ count. count ≡ min (length buffer.old) (size - at)) }
+    ensures piece { IfOk result (λ count. Gives (D.now dumps.old) at (take count buffer.new)) }
+    ensures taken { IfOk result (λ count. D.taken dumps.new ≡ plus_capped (D.taken dumps.old) count) }
+    ensures taken_least { D.taken dumps.old ≤ D.taken dumps.new }
+    ensures taken_most { D.taken dumps.new ≤ plus_capped (D.taken dumps.old) (size - at) }
+{
+    let count = buffer.len().min((size - at) as usize);
+    read_full(dumps, at, &mut buffer[..count])?;
+    Ok(count)
+}
+
+// Feeds a scan with the bytes of the open file from an offset on, piece by piece.
+fn feed_rest<B: Bounds, D: Dumps>(
+    dumps: &mut D,
+    from: u64,
+    size: u64,
+    buffer: &mut [u8],
+    scan: &mut LineScan,
+    receiver: &mut Receiver<B>,
+) -> Result<(), OpenFault>
+    requires open { IsOpen (D.now dumps.old) }
+    requires size { size_of (D.now dumps.old) ≡ size }
+    requires inside { from ≤ size }
+    requires room { 0 < length buffer.old }
+    requires fresh { scan.old.spent ≡ false }
+    requires limit { scan.old.limit ≡ B.limits.header }
+    requires offset { scan.old.offset ≡ from }
+    requires silent { receiver.old.stop ≡ None }
+    requires begun { HasBegun (D.now dumps.old) scan.old receiver.old }
+    ensures same_files { D.files dumps.new ≡ D.files dumps.old }
+    ensures same_now { D.now dumps.new ≡ D.now dumps.old }
+    ensures later { D.faults dumps.old ≤ D.faults dumps.new }
+    ensures taken_least { D.taken dumps.old ≤ D.taken dumps.new }
+    ensures taken_most { D.taken dumps.new ≤ plus_capped (D.taken dumps.old) (size - from) }
+    ensures fresh { OnOk result (scan.new.spent ≡ false) }
+    ensures limit { scan.new.limit ≡ scan.old.limit }
+    ensures offset { OnOk result (scan.new.offset ≡ size) }
+    ensures silent { OnOk result (receiver.new.stop ≡ None) }
+    ensures begun { OnOk result (HasBegun (D.now dumps.old) scan.new receiver.new) }
+    ensures fault { IfErr result (λ fault. (fault ≡ OpenFault.Read) ⊎ IsRefusal B.limits (D.now dumps.old) fault) }
+    ensures read { IsErrOf result OpenFault.Read → Rose (D.faults dumps.old) (D.faults dumps.new) }
+{
+    let mut at = from;
+    while at < size {
+        let Ok(count) = read_piece(dumps, at, size, buffer) else {
+            return Err(OpenFault::Read);
+        };
+        feed_piece(scan, receiver, &buffer[..count])?;
+        at += count as u64;
+    }
+    Ok(())
+}
+
+// The index of the open file, or why it is refused.
+fn index_of<B: Bounds, D: Dumps>(
+    alloc: Global,
+    dumps: &mut D,
+    size: u64,
+    limits: &Limits,
+    buffer: &mut [u8],
+) -> Result<Index, OpenFault>
+    requires open { IsOpen (D.now dumps.old) }
+    requires size { size_of (D.now dumps.old) ≡ size }
+    requires small { size ≤ limits.now.dump }
+    requires limits { limits.now ≡ B.limits }
+    requires room { length buffer.old ≡ 65536 }
     ensures same_files { D.files dumps.new ≡ D.files dumps.old }
     ensures same_now { D.now dumps.new ≡ D.now dumps.old }
     ensures later { D.faults dumps.old ≤ D.faults dumps.new }
     ensures taken_least { D.taken dumps.old ≤ D.taken dumps.new }
     ensures taken_most { D.taken dumps.new ≤ plus_capped (D.taken dumps.old) size }
-    ensures all { IfOk result (λ bytes. AreAllOf (D.now dumps.old) bytes.items) }
-    ensures fault { IfErr result (λ fault. (fault ≡ OpenFault.Memory) ⊎ ((fault ≡ OpenFault.Read) × Rose (D.faults dumps.old) (D.faults dumps.new))) }
+    ensures answer { (bytes : List ℕ) → D.now dumps.old ≡ told bytes → IsAnswerFor bytes limits.now result }
+    ensures over { IfOk result (IsBuiltOver (D.now dumps.old)) }
+    ensures sized { IfOk result (λ index. index.size ≤ limits.now.dump) }
+    ensures sections { IfOk result (λ index. length index.headers ≤ limits.now.sections) }
+    ensures fault { IfErr result IsSmall }
+    ensures read { IsErrOf result OpenFault.Read → Rose (D.faults dumps.old) (D.faults dumps.new) }
 {
-    let Ok(mut bytes) = vec![in alloc; 0u8; size as usize] else {
-        return Err(OpenFault::Memory);
-    };
-    if read_full(dumps, 0, &mut bytes).is_err() {
+    let Ok(count) = read_piece(dumps, 0, size, buffer) else {
         return Err(OpenFault::Read);
-    }
-    Ok(bytes)
-}
-
-// The version that the id of the first header names, or the fault that it names none.
-fn version_in(alloc: Global, headers: &Headers) -> Result<Version, OpenFault>
-    requires { 1 ≤ length headers.now }
-    ensures { IsVersionOf headers.now result }
-{
-    let (_, id) = tag_and_id(headers.header(0).text);
-    let id = id.unwrap_or(b"");
-    match version_of(id) {
-        Some(version) => Ok(version),
-        None => match Vec::from_slice(alloc, id) {
-            Ok(text) => Err(OpenFault::Version {
-                text: Text::new(text),
-            }),
-            Err(_) => Err(OpenFault::Memory),
-        },
-    }
-}
-
-// The headers of these bytes.
-fn headers_of(alloc: Global, bytes: &[u8]) -> Result<Headers, AllocError>
-    ensures { IfOk result (λ heard. heard ≡ headers bytes.now) }
-{
-    let mut receiver = Receiver {
-        headers: Headers::new(alloc),
-        refused: None,
     };
-    if scan_whole(bytes, &mut receiver).is_err() {
-        return Err(AllocError);
-    }
-    let Receiver { headers, .. } = receiver;
-    Ok(headers)
+    let version = judge_beginning(alloc, &buffer[..count], limits)?;
+    let mut scan = LineScan::new(limits.header());
+    let mut receiver = Receiver::<B>::new(alloc, limits);
+    feed_piece(&mut scan, &mut receiver, &buffer[..count])?;
+    feed_rest(dumps, count as u64, size, buffer, &mut scan, &mut receiver)?;
+    let headers = finish_scan(&mut scan, receiver)?;
+    Ok(Index::new(headers, size, version))
 }
 
-// The index of these bytes, or why they are refused.
-fn index_of(alloc: Global, bytes: &[u8], limits: &Limits) -> Result<Index, OpenFault>
-    requires { length bytes.now ≤ limits.now.dump }
-    ensures answer { IsAnswerFor bytes.now limits.now result }
-    ensures fault { IfErr result IsOfTheBytes }
-{
-    if !bytes.starts_with(SIGNATURE) {
-        return Err(OpenFault::NotADump);
-    }
-    let Ok(headers) = headers_of(alloc, bytes) else {
-        return Err(OpenFault::Memory);
-    };
-    let _ = limits.dump();
-    match version_in(alloc, &headers) {
-        Ok(version) => Ok(Index::new(headers, bytes.len() as u64, version)),
-        Err(fault) => Err(fault),
-    }
-}
-
-/// Opens a dump by its name and finds its sections, reading it once. The file stays open at `Ok`.
+/// Opens a dump by its name and finds its sections, reading it once, in pieces of at most 65,536 bytes. The
+/// file stays open at `Ok`, and the index has at most as many sections as `limits` allows.
 ///
 /// The refusals come in this order, each exactly where it is stated: `TooLarge` where the file has more
-/// bytes than the limit, `NotADump` where it doesn't begin with `=erl_crash_dump:`, `Version` where the id
-/// of its first line is none of `0.3`, `0.4` and `0.5`. `Read` comes only where the device's count of
-/// faults rose, or where its files are told and none has that name; `Memory` may come at any growth.
+/// bytes than the limit; `Compressed` where it begins with `1F 8B`; `NotADump` where it doesn't begin with
+/// `=erl_crash_dump:`; `Version` where the first line isn't too long for a header, and its id is none of
+/// `0.3`, `0.4` and `0.5`; and then the refusal of the first header that is too long, is one too many, or with
+/// whose text the texts are too large together. `Read` comes only where the device's count of faults rose, or
+/// where its files are told and none has that name; `Memory` may come at any growth. Whatever the answer, the
+/// device gave at most as many bytes as the file has.
 pub fn build<D: Dumps>(
     alloc: Global,
     dumps: &mut D,
@@ -136,7 +138,6 @@ pub fn build<D: Dumps>(
     limits: &Limits,
 ) -> Result<Index, OpenFault>
     ensures same_files { D.files dumps.new ≡ D.files dumps.old }
-    ensures now { IsClosedOrNamed (D.files dumps.old) name.now (D.now dumps.new) }
     ensures later { D.faults dumps.old ≤ D.faults dumps.new }
     ensures taken_least { D.taken dumps.old ≤ D.taken dumps.new }
     ensures taken_most { D.taken dumps.new ≤ plus_capped (D.taken dumps.old) (size_of (D.now dumps.new)) }
@@ -144,9 +145,12 @@ pub fn build<D: Dumps>(
     // Where the files are told, the answer is that for the bytes of this name.
     ensures answer { (files : Files) (bytes : List ℕ) → D.files dumps.old ≡ Some files → files name.now ≡ Some bytes
         → IsAnswerFor bytes limits.now result }
-    ensures absent { IsAbsent (D.files dumps.old) name.now → IsErrOf result OpenFault.Read }
+
+    // So it is where the bytes alone are told.
+    ensures told { (bytes : List ℕ) → D.now dumps.new ≡ told bytes → IsAnswerFor bytes limits.now result }
     ensures over { IfOk result (IsBuiltOver (D.now dumps.new)) }
     ensures sized { IfOk result (λ index. index.size ≤ limits.now.dump) }
+    ensures sections { IfOk result (λ index. length index.headers ≤ limits.now.sections) }
     ensures too_large { IfErr result (IsTooLargeFor (D.now dumps.new) limits.now) }
     ensures read { IsErrOf result OpenFault.Read → Rose (D.faults dumps.old) (D.faults dumps.new) ⊎ IsAbsent (D.files dumps.old) name.now }
 {
@@ -156,6 +160,8 @@ pub fn build<D: Dumps>(
     if size > limits.dump() {
         return Err(OpenFault::TooLarge { size });
     }
-    let bytes = read_all(alloc, dumps, size)?;
-    index_of(alloc, bytes.as_slice(), limits)
+    let Ok(mut buffer) = vec![in alloc; 0u8; PIECE] else {
+        return Err(OpenFault::Memory);
+    };
+    index_of::<Brand, D>(alloc, dumps, size, limits, &mut buffer)
 }

@@ -69,6 +69,7 @@ impl Model for Index {
 impl Index {
     pub(crate) fn new(headers: Headers, size: u64, version: Version) -> Index
         requires some { 1 ≤ length headers }
+        requires sections { length headers ≤ 8000000 }
         requires size { size ≤ 68719476736 }
         requires tiled { Tile 0 size (sections_of headers size) }
         ensures { result ≡ record { headers = headers; size = size; version = version } }

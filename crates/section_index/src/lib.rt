@@ -1,9 +1,11 @@
 //! The index of a dump: its sections in order, each with the place of its header and of its body.
 //!
-//! [`build`] opens a dump by its name and finds its sections, or says why the dump is refused. An
-//! [`Index`] has no part of a body; it keeps the offsets, and the texts of the headers in one pool.
+//! [`build`] opens a dump by its name, reads it once in pieces and finds its sections, or says why the dump
+//! is refused. An [`Index`] has no part of a body; it keeps the offsets, and the texts of the headers in one
+//! pool. [`read_body`] loads the body of one section, and [`Tags`] counts the sections by their tags.
 #![tactic(auto)]
 
+mod beginning;
 mod bodies;
 mod builder;
 mod header_text;
@@ -12,6 +14,8 @@ mod index;
 mod laws;
 mod lookups;
 mod opening;
+mod receiver;
+mod scanning;
 mod tags;
 
 pub use bodies::{BodyFault, read_body};
@@ -20,3 +24,6 @@ pub use index::{Index, Section, State};
 pub use laws::{a_cut_keeps_sections, sections_tile_a_dump};
 pub use opening::{OpenFault, Version};
 pub use tags::Tags;
+
+#[cfg(test)]
+mod body_tests;

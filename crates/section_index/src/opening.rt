@@ -3,6 +3,7 @@ ghost use Rattle.std.specs.Prelude.{◌≡◌};
 ghost use Rattle.section_index.specs.Opening.{version_named};
 
 use dump_io::Text;
+use line_source::{HeaderStop, ScanFault};
 use thiserror::Error;
 
 /// A version of the dump format that is read.
@@ -16,9 +17,15 @@ pub enum Version {
     V05,
 }
 
-/// Why a dump wasn't opened.
+/// Why a dump wasn't opened. Offsets are counted in bytes from the file's beginning.
+///
+/// A header is a line that begins with `=`. Of the three refusals of a header that of the first header in
+/// the dump comes, and at one header the one that is named first here.
 #[derive(Debug, Drop, Error)]
 pub enum OpenFault {
+    /// The file begins with `1F 8B`, as gzip writes.
+    #[error("compressed")]
+    Compressed,
     /// The file doesn't begin with `=erl_crash_dump:`.
     #[error("not a dump")]
     NotADump,
@@ -28,12 +35,36 @@ pub enum OpenFault {
     /// The file has more bytes than the limit on dumps; `size` is their number.
     #[error("a dump of {size} bytes is too large")]
     TooLarge { size: u64 },
+    /// The header at this offset has more bytes before its LF or the end than the limit; a CR counts.
+    #[error("the header at {at} is too long")]
+    HeaderTooLong { at: u64 },
+    /// Before the header at this offset there are as many headers as the limit allows.
+    #[error("the section at {at} is one too many")]
+    TooManySections { at: u64 },
+    /// The texts of the headers up to the one at this offset have more bytes together than the limit.
+    #[error("the headers up to {at} are too large together")]
+    HeadersTooLarge { at: u64 },
     /// The device failed, or has no file of that name.
     #[error("the dump can't be read")]
     Read,
     /// There was no memory for the index.
     #[error("out of memory")]
     Memory,
+}
+
+impl From<ScanFault> for OpenFault {
+    ghost use Rattle.section_index.specs.Scanning.{open_fault_of};
+
+    ghost from_gives = { λ fault open'. open' ≡ open_fault_of fault };
+
+    fn from(fault: ScanFault) -> OpenFault {
+        match fault {
+            ScanFault::HeaderTooLong { at } => OpenFault::HeaderTooLong { at },
+            ScanFault::Stop(HeaderStop::TooMany { at }) => OpenFault::TooManySections { at },
+            ScanFault::Stop(HeaderStop::PoolFull { at }) => OpenFault::HeadersTooLarge { at },
+            ScanFault::Stop(HeaderStop::Memory) => OpenFault::Memory,
+        }
+    }
 }
 
 // The version that an id names.

@@ -1,6 +1,5 @@
-use Rattle.std.proofs.Common.{◌≡◌, ◌++◌, ◌∷◌, [], length, sym, ◌∙◌, ap, subst, rules, arith, length-append}
-use Rattle.section_index.specs.Headers.{headers_in, AreWithin}
-use Rattle.section_index.specs.declared.headers.Head.{Head}
+use Rattle.std.proofs.Common.{◌≡◌, length, ap, rules, arith, length-append}
+use Rattle.section_index.specs.Headers.{headers_in}
 use Rattle.section_index.proofs.Kept.{headers_in-grown, headers_in-push, AreWithin-more, AreWithin-push}
 use Rattle.section_index.proofs.headers.push_header.Goals as goal
 

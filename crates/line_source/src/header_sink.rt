@@ -1,0 +1,36 @@
+// What hears the headers of a stream.
+ghost use Rattle.std.specs.Prelude.{◌≡◌, ℕ, List, Option, None, length};
+ghost use Rattle.dump_io.specs.Lines.{Header};
+ghost use Rattle.line_source.specs.Receiver.{Refusal, Hears};
+
+/// Why a header was refused. `at` is the offset at which its line begins, in bytes from 0.
+#[derive(Clone, Copy, Debug, PartialEq, Eq)]
+pub enum HeaderStop {
+    /// There would be more headers than are allowed.
+    TooMany { at: u64 },
+    /// The texts of the headers would be longer together than is allowed.
+    PoolFull { at: u64 },
+    /// No memory was found for the header.
+    Memory,
+}
+
+/// What hears headers, one after another, until it refuses one.
+pub trait HeaderSink {
+    /// The headers that were heard, in order.
+    ghost heard: { Self → List Header };
+
+    /// The refusal, once there is one.
+    ghost stop: { Self → Option Refusal };
+
+    /// Hears a header: the offset at which its line begins, the offset at which that line ends, behind its
+    /// LF if it has one, and its text, without the LF and one CR before it. Offsets count bytes from 0.
+    ///
+    /// A refusal leaves what was heard, and is kept with the offset and the length of the header refused.
+    fn header(&mut self, at: u64, body: u64, text: &[u8]) -> Result<(), HeaderStop>
+        requires { stop self.old ≡ None }
+        ensures { Hears (heard self.old) (heard self.new) (stop self.new) (record {
+          at = at;
+          body = body;
+          text = text.now;
+        }) result };
+}

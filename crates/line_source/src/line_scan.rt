@@ -1,0 +1,403 @@
+// Headers from a stream that comes in pieces.
+ghost use Rattle.std.specs.Prelude.{◌≡◌, ◌+◌, ◌-◌, ◌<◌, ◌≤◌, ◌^◌, ◌++◌, ◌∷◌, [], ℕ, true, false, is_err, length, take, List, None, Some, Ok, Err, OnOk, OnErr, IfOk, IfErr, IsErrOf, All, ◌↔◌, slice_index, ◌==◌, if◌then◌else◌};
+ghost use Rattle.dump_io.specs.Lines.{Header, headers, lf, equals_sign, text_of};
+ghost use Rattle.line_source.specs.Streams.{LastLine, ended, plain, header, last_line, too_long, ended_headers, new_headers, open_headers, headers_before};
+ghost use Rattle.line_source.specs.Scan.{Scan, StandsFor};
+ghost use Rattle.line_source.specs.Receiver.{Refusal, Hears};
+ghost use Rattle.line_source.specs.Feeding.{first_too_long, header_bytes, is_header_line, refusal_value, stop_of, IsStop, StopsAmong, Ends, IsCutShort, IsRefused};
+
+use crate::header_sink::{HeaderSink, HeaderStop};
+use crate::kept_line::KeptLine;
+use crate::scan_fault::ScanFault;
+use crate::starts::{header_start, text_before_lf};
+use memchr::memchr;
+use std::marker::Model;
+
+// What is known of the last line that has come.
+#[derive(Clone, Copy)]
+enum LineState {
+    // It has its LF, or nothing has come.
+    Ended,
+    // It lacks its LF and begins with another byte than `=`.
+    Plain,
+    // It lacks its LF and begins with `=`, and its bytes are kept.
+    Header,
+}
+
+/// Finds the headers of a stream that comes in pieces, and lets a receiver hear them.
+///
+/// It keeps no more of the stream than the bytes of a header's line that has no LF yet, at most 4,096. In
+/// its contracts it is a `Scan`: the limit, how many bytes have come, what is known of the last line, and
+/// whether the stream is over. `StandsFor scan stream` says that this stream may have come; each clause on
+/// a stream holds of every such one.
+#[derive(Drop)]
+pub struct LineScan {
+    limit: u16,
+    offset: u64,
+    line: LineState,
+    kept: KeptLine,
+    spent: bool,
+}
+
+impl Model for LineScan {
+    ghost use Rattle.std.specs.Prelude.{ℕ, ◌≤◌, length};
+    ghost use Rattle.line_source.specs.Scan.{Scan};
+
+    ghost Value = { Scan };
+
+    ghost use Rattle.line_source.specs.State.{last_in};
+
+    ghost view = { λ scan. record {
+      limit = scan.limit;
+      offset = scan.offset;
+      last = last_in scan.line scan.kept;
+      spent = scan.spent;
+    } };
+
+    ghost invariant = { λ scan.
+        (1 ≤ scan.limit)
+        × (scan.limit ≤ 4096)
+        × (length scan.kept ≤ scan.limit)
+        × (length scan.kept ≤ scan.offset) };
+}
+
+impl LineScan {
+    /// A scan to which nothing has come. A line that begins with `=` may have at most `limit` bytes before
+    /// its LF. It takes no memory.
+    pub fn new(limit: u16) -> LineScan
+        requires some { 1 ≤ limit }
+        requires most { limit ≤ 4096 }
+        ensures stands { StandsFor result [] }
+        ensures limit { result.limit ≡ limit }
+        ensures spent { result.spent ≡ false }
+    {
+        LineScan {
+            limit,
+            offset: 0,
+            line: LineState::Ended,
+            kept: KeptLine::new(),
+            spent: false,
+        }
+    }
+
+    /// Whether the stream is over: after `finish`, and after a refusal.
+    pub fn spent(&self) -> bool
+        ensures { result ≡ self.now.spent }
+    {
+        self.spent
+    }
+
+    /// Takes the next piece of the stream, and lets the receiver hear each header whose LF stands in it.
+    ///
+    /// The stream so far is that which came before, followed by the piece. Its new headers are those whose
+    /// LF stands in the piece. `HeaderTooLong` comes exactly where the receiver refused nothing and some
+    /// line of the stream so far begins with `=` and has more bytes than the limit without an LF; it names
+    /// the first such line, and the new headers before it were heard. `Stop` comes exactly where the
+    /// receiver refused a header; the new headers before that one were heard. The scan is spent after both.
+    pub fn feed<H: HeaderSink>(&mut self, piece: &[u8], into: &mut H) -> Result<(), ScanFault>
+        requires fresh { self.old.spent ≡ false }
+        requires fits { self.old.offset + length piece.now < 2 ^ 64 }
+        requires open { H.stop into.old ≡ None }
+        ensures limit { self.new.limit ≡ self.old.limit }
+        ensures offset { OnOk result (self.new.offset ≡ self.old.offset + length piece.now) }
+        ensures spent { self.new.spent ≡ is_err result }
+        ensures stop { refusal_value (H.stop into.new) ≡ stop_of result }
+        ensures open { OnOk result (H.stop into.new ≡ None) }
+        ensures stands { OnOk result ((stream : List ℕ) → StandsFor self.old stream
+            → StandsFor self.new (stream ++ piece.now)) }
+        ensures heard { OnOk result ((stream : List ℕ) → StandsFor self.old stream
+            → H.heard into.new ≡ H.heard into.old ++ new_headers stream piece.now) }
+        ensures too_long { (stream : List ℕ) → StandsFor self.old stream
+            → (at : ℕ) → IsErrOf result (ScanFault.HeaderTooLong at)
+            ↔ ((H.stop into.new ≡ None)
+            × (first_too_long self.old.limit (stream ++ piece.now) ≡ Some at)) }
+        ensures heard_before_long { (stream : List ℕ) → StandsFor self.old stream
+            → (at : ℕ) → IsErrOf result (ScanFault.HeaderTooLong at)
+            → H.heard into.new ≡ H.heard into.old ++ headers_before at (new_headers stream piece.now) }
+        ensures refused { (stream : List ℕ) → StandsFor self.old stream
+            → (refusal : Refusal) → H.stop into.new ≡ Some refusal
+            → StopsAmong (H.heard into.old) (H.heard into.new) refusal (new_headers stream piece.now) }
+        ensures refused_is_short { (stream : List ℕ) → StandsFor self.old stream
+            → (refusal : Refusal) → H.stop into.new ≡ Some refusal
+            → All (λ at. refusal.at < at) (too_long self.old.limit (stream ++ piece.now)) }
+        // The same of the whole stream, however it goes on, where all its headers so far were heard.
+        ensures all_heard { OnOk result ((stream : List ℕ) → StandsFor self.old stream
+            → H.heard into.old ≡ ended_headers stream
+            → H.heard into.new ≡ ended_headers (stream ++ piece.now)) }
+        ensures cut_short { (stream rest : List ℕ) → StandsFor self.old stream
+            → H.heard into.old ≡ ended_headers stream
+            → (at : ℕ) → IsErrOf result (ScanFault.HeaderTooLong at)
+            → IsCutShort self.old.limit (stream ++ piece.now ++ rest) (H.heard into.new) at }
+        ensures refused_of_all { (stream rest : List ℕ) → StandsFor self.old stream
+            → H.heard into.old ≡ ended_headers stream
+            → (refusal : Refusal) → H.stop into.new ≡ Some refusal
+            → IsRefused self.old.limit (stream ++ piece.now ++ rest) (H.heard into.new) refusal }
+    {
+        let result = self.take_all(piece, into);
+        self.spent = result.is_err();
+        result
+    }
+
+    /// Ends the stream, and lets the receiver hear the last header where its line lacks its LF.
+    ///
+    /// Only `Stop` can come, exactly where the receiver refused that header. The scan is spent afterwards.
+    pub fn finish<H: HeaderSink>(&mut self, into: &mut H) -> Result<(), ScanFault>
+        requires fresh { self.old.spent ≡ false }
+        requires open { H.stop into.old ≡ None }
+        ensures spent { self.new.spent ≡ true }
+        ensures stop { refusal_value (H.stop into.new) ≡ stop_of result }
+        ensures only_stop { IfErr result IsStop }
+        ensures heard { OnOk result ((stream : List ℕ) → StandsFor self.old stream
+            → H.heard into.new ≡ H.heard into.old ++ open_headers stream) }
+        ensures unheard { OnErr result (H.heard into.new ≡ H.heard into.old) }
+        ensures refused { (stream : List ℕ) → StandsFor self.old stream
+            → (refusal : Refusal) → H.stop into.new ≡ Some refusal
+            → StopsAmong (H.heard into.old) (H.heard into.new) refusal (open_headers stream) }
+        // The same of the whole stream, where all its headers so far were heard.
+        ensures all_heard { OnOk result ((stream : List ℕ) → StandsFor self.old stream
+            → H.heard into.old ≡ ended_headers stream → H.heard into.new ≡ headers stream) }
+        ensures none_too_long { (stream : List ℕ) → StandsFor self.old stream
+            → too_long self.old.limit stream ≡ [] }
+        ensures refused_of_all { (stream : List ℕ) → StandsFor self.old stream
+            → H.heard into.old ≡ ended_headers stream
+            → (refusal : Refusal) → H.stop into.new ≡ Some refusal
+            → IsRefused self.old.limit stream (H.heard into.new) refusal }
+    {
+        let result = self.hear_last(into);
+        self.spent = true;
+        result
+    }
+
+    // Lets the receiver hear the last header where its line lacks its LF.
+    fn hear_last<H: HeaderSink>(&self, into: &mut H) -> Result<(), ScanFault>
+        requires open { H.stop into.old ≡ None }
+        ensures stop { refusal_value (H.stop into.new) ≡ stop_of result }
+        ensures only_stop { IfErr result IsStop }
+        ensures heard { OnOk result ((stream : List ℕ) → StandsFor self.now stream
+            → H.heard into.new ≡ H.heard into.old ++ open_headers stream) }
+        ensures unheard { OnErr result (H.heard into.new ≡ H.heard into.old) }
+        ensures refused { (stream : List ℕ) → StandsFor self.now stream
+            → (refusal : Refusal) → H.stop into.new ≡ Some refusal
+            → StopsAmong (H.heard into.old) (H.heard into.new) refusal (open_headers stream) }
+    {
+        if self.in_header() {
+            self.hear_open(into)?;
+        }
+        Ok(())
+    }
+
+    // Lets the receiver hear a header whose line lacks its LF.
+    fn hear_open<H: HeaderSink>(&self, into: &mut H) -> Result<(), HeaderStop>
+        requires header { is_header_line self.now.last ≡ true }
+        requires open { H.stop into.old ≡ None }
+        ensures { Hears (H.heard into.old) (H.heard into.new) (H.stop into.new) (record {
+          at = self.now.offset - length (header_bytes self.now.last);
+          body = self.now.offset;
+          text = header_bytes self.now.last;
+        }) result }
+    {
+        let at = self.offset - self.kept.len() as u64;
+        into.header(at, self.offset, self.kept.bytes())
+    }
+
+    // Passes over bytes up to the `=` of the next header and with it, or over all where there is none.
+    fn pass(&mut self, rest: &[u8]) -> usize
+        requires other { is_header_line self.old.last ≡ false }
+        requires some { 0 < length rest.now }
+        requires fits { self.old.offset + length rest.now < 2 ^ 64 }
+        ensures some { 1 ≤ result }
+        ensures within { result ≤ length rest.now }
+        ensures offset { self.new.offset ≡ self.old.offset + result }
+        ensures limit { self.new.limit ≡ self.old.limit }
+        ensures spent { self.new.spent ≡ self.old.spent }
+        ensures stands { (stream : List ℕ) → StandsFor self.old stream
+            → StandsFor self.new (stream ++ take result rest.now) }
+        ensures silent { (stream : List ℕ) → StandsFor self.old stream
+            → new_headers stream (take result rest.now) ≡ [] }
+    {
+        match header_start(rest, self.has_begun()) {
+            Some(at) => {
+                self.begin_header(at as u64);
+                at + 1
+            }
+            None => {
+                self.pass_all(rest);
+                rest.len()
+            }
+        }
+    }
+
+    // Whether the last line lacks its LF and begins with another byte than `=`.
+    fn has_begun(&self) -> bool
+        requires { is_header_line self.now.last ≡ false }
+        ensures { self.now.last ≡ (if result then plain else ended) }
+    {
+        matches!(self.line, LineState::Plain)
+    }
+
+    // Passes over bytes up to the `=` of a header, and keeps that.
+    fn begin_header(&mut self, passed: u64)
+        requires { self.old.offset + passed + 1 < 2 ^ 64 }
+        ensures header { self.new ≡ record self.old {
+          offset = self.old.offset + passed + 1;
+          last = header (equals_sign ∷ []);
+        } }
+        ensures limit { 1 ≤ self.old.limit }
+    {
+        self.kept.begin(b'=');
+        self.line = LineState::Header;
+        self.offset += passed + 1;
+    }
+
+    // Passes over bytes in which no header begins.
+    fn pass_all(&mut self, rest: &[u8])
+        requires some { 0 < length rest.now }
+        requires fits { self.old.offset + length rest.now < 2 ^ 64 }
+        ensures { self.new ≡ record self.old {
+          offset = self.old.offset + length rest.now;
+          last = (if slice_index rest.now (length rest.now - 1) == lf then ended else plain);
+        } }
+    {
+        self.line = if rest[rest.len() - 1] == b'\n' {
+            LineState::Ended
+        } else {
+            LineState::Plain
+        };
+        self.offset += rest.len() as u64;
+    }
+
+    // Keeps more bytes of a header's line.
+    fn keep(&mut self, part: &[u8]) -> Result<(), ScanFault>
+        requires header { is_header_line self.old.last ≡ true }
+        requires fits { self.old.offset + length part.now < 2 ^ 64 }
+        ensures ok { OnOk result (self.new ≡ record self.old {
+          offset = self.old.offset + length part.now;
+          last = header (header_bytes self.old.last ++ part.now);
+        }) }
+        ensures err { OnErr result (self.new ≡ self.old) }
+        ensures fits { OnOk result (length (header_bytes self.old.last) + length part.now ≤ self.old.limit) }
+        ensures over { OnErr result (self.old.limit < length (header_bytes self.old.last) + length part.now) }
+        ensures fault { IfErr result (λ fault.
+            fault ≡ ScanFault.HeaderTooLong (self.old.offset - length (header_bytes self.old.last))) }
+        ensures within_limit { length (header_bytes self.old.last) ≤ self.old.limit }
+        ensures within_offset { length (header_bytes self.old.last) ≤ self.old.offset }
+    {
+        let kept = self.kept.len();
+        if part.len() > self.limit as usize - kept {
+            return Err(ScanFault::HeaderTooLong {
+                at: self.offset - kept as u64,
+            });
+        }
+        self.kept.extend(part);
+        self.offset += part.len() as u64;
+        Ok(())
+    }
+
+    // Takes the LF of a header's line, and lets the receiver hear the header.
+    fn hear<H: HeaderSink>(&mut self, into: &mut H) -> Result<(), HeaderStop>
+        requires header { is_header_line self.old.last ≡ true }
+        requires fits { self.old.offset + 1 < 2 ^ 64 }
+        requires open { H.stop into.old ≡ None }
+        ensures hears { Hears (H.heard into.old) (H.heard into.new) (H.stop into.new) (record {
+          at = self.old.offset - length (header_bytes self.old.last);
+          body = self.old.offset + 1;
+          text = text_of (header_bytes self.old.last ++ lf ∷ []);
+        }) result }
+        ensures ok { OnOk result (self.new ≡ record self.old {
+          offset = self.old.offset + 1;
+          last = ended;
+        }) }
+        ensures err { OnErr result (self.new ≡ self.old) }
+    {
+        let at = self.offset - self.kept.len() as u64;
+        let body = self.offset + 1;
+        into.header(at, body, text_before_lf(self.kept.bytes()))?;
+        self.line = LineState::Ended;
+        self.offset = body;
+        Ok(())
+    }
+
+    // Takes a header's line up to its LF and with it, or all the bytes where none is an LF.
+    fn take_header<H: HeaderSink>(&mut self, rest: &[u8], into: &mut H) -> Result<usize, ScanFault>
+        requires header { is_header_line self.old.last ≡ true }
+        requires some { 0 < length rest.now }
+        requires fits { self.old.offset + length rest.now < 2 ^ 64 }
+        requires open { H.stop into.old ≡ None }
+        ensures within { IfOk result (λ n. (1 ≤ n) × (n ≤ length rest.now)) }
+        ensures offset { IfOk result (λ n. self.new.offset ≡ self.old.offset + n) }
+        ensures limit { self.new.limit ≡ self.old.limit }
+        ensures stop { refusal_value (H.stop into.new) ≡ stop_of result }
+        ensures stands { IfOk result (λ n. (stream : List ℕ) → StandsFor self.old stream
+            → StandsFor self.new (stream ++ take n rest.now)) }
+        ensures heard { IfOk result (λ n. (stream : List ℕ) → StandsFor self.old stream
+            → H.heard into.new ≡ H.heard into.old ++ new_headers stream (take n rest.now)) }
+        ensures ends { IfErr result (λ fault. (stream : List ℕ) → StandsFor self.old stream
+            → Ends self.old.limit stream rest.now (H.heard into.old) (H.heard into.new)
+            (H.stop into.new) fault) }
+    {
+        match memchr(b'\n', rest) {
+            Some(end) => {
+                self.keep(&rest[..end])?;
+                self.hear(into)?;
+                Ok(end + 1)
+            }
+            None => {
+                self.keep(rest)?;
+                Ok(rest.len())
+            }
+        }
+    }
+
+    // Whether the last line is a header's that lacks its LF.
+    fn in_header(&self) -> bool
+        ensures { result ≡ is_header_line self.now.last }
+    {
+        matches!(self.line, LineState::Header)
+    }
+
+    // Takes the first bytes of what is left of a piece, at least one, and says how many.
+    fn take_some<H: HeaderSink>(&mut self, rest: &[u8], into: &mut H) -> Result<usize, ScanFault>
+        requires some { 0 < length rest.now }
+        requires fits { self.old.offset + length rest.now < 2 ^ 64 }
+        requires open { H.stop into.old ≡ None }
+        ensures within { IfOk result (λ n. (1 ≤ n) × (n ≤ length rest.now)) }
+        ensures offset { IfOk result (λ n. self.new.offset ≡ self.old.offset + n) }
+        ensures limit { self.new.limit ≡ self.old.limit }
+        ensures stop { refusal_value (H.stop into.new) ≡ stop_of result }
+        ensures stands { IfOk result (λ n. (stream : List ℕ) → StandsFor self.old stream
+            → StandsFor self.new (stream ++ take n rest.now)) }
+        ensures heard { IfOk result (λ n. (stream : List ℕ) → StandsFor self.old stream
+            → H.heard into.new ≡ H.heard into.old ++ new_headers stream (take n rest.now)) }
+        ensures ends { IfErr result (λ fault. (stream : List ℕ) → StandsFor self.old stream
+            → Ends self.old.limit stream rest.now (H.heard into.old) (H.heard into.new)
+            (H.stop into.new) fault) }
+    {
+        if self.in_header() {
+            self.take_header(rest, into)
+        } else {
+            Ok(self.pass(rest))
+        }
+    }
+
+    // Takes a piece.
+    fn take_all<H: HeaderSink>(&mut self, piece: &[u8], into: &mut H) -> Result<(), ScanFault>
+        requires fits { self.old.offset + length piece.now < 2 ^ 64 }
+        requires open { H.stop into.old ≡ None }
+        ensures offset { OnOk result (self.new.offset ≡ self.old.offset + length piece.now) }
+        ensures limit { self.new.limit ≡ self.old.limit }
+        ensures stop { refusal_value (H.stop into.new) ≡ stop_of result }
+        ensures stands { OnOk result ((stream : List ℕ) → StandsFor self.old stream
+            → StandsFor self.new (stream ++ piece.now)) }
+        ensures heard { OnOk result ((stream : List ℕ) → StandsFor self.old stream
+            → H.heard into.new ≡ H.heard into.old ++ new_headers stream piece.now) }
+        ensures ends { IfErr result (λ fault. (stream : List ℕ) → StandsFor self.old stream
+            → Ends self.old.limit stream piece.now (H.heard into.old) (H.heard into.new)
+            (H.stop into.new) fault) }
+    {
+        let mut done = 0;
+        while done < piece.len() {
+            done += self.take_some(&piece[done..], into)?;
+        }
+        Ok(())
+    }
+}

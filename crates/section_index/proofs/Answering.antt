@@ -1,0 +1,152 @@
+-- What the answer tells of the bytes of a dump.
+use Rattle.std.proofs.Common.{◌≡◌, ℕ, ◌-◌, ◌≤◌, true, List, [], ◌∷◌, ◌++◌, length, take, drop, min, Option, None, Some, Ok, Err, Result, refl, sym, ◌∙◌, ap, subst, arith, if◌then◌else◌, ◌⊎◌, ⊎_elim}
+use Rattle.std.specs.List.{starts_with}
+use Rattle.std.specs.Option.{option_or}
+use Rattle.std.specs.Prelude.{nat_eq, IfErr}
+use Rattle.std.proofs.lemmas.Bool.{le-ltb}
+use Rattle.std.proofs.lemmas.List.{take_all, length-drop, append-nil, length-take-le}
+use Rattle.dump_io.specs.Limits.{Numbers}
+use Rattle.dump_io.specs.Lines.{Header, headers}
+use Rattle.dump_io.specs.Dumps.{Files, Now, closed, told, sized, size_of, IsOpen, IsNamed, Gives}
+use Rattle.section_index.specs.declared.opening.OpenFault.{OpenFault}
+use Rattle.section_index.specs.declared.opening.OpenFault.TheVariants.{Compressed, NotADump, Version as UnknownVersion, TooLarge, HeaderTooLong, TooManySections, HeadersTooLarge, Read, Memory}
+use Rattle.section_index.specs.declared.opening.Version.{Version}
+use Rattle.section_index.specs.Opening.{signature, header_fault, opening}
+use Rattle.section_index.specs.Beginning.{IsAllOrLong, fault_of, IsAccepted, IsJudged, IsOfTheBytes}
+use Rattle.section_index.specs.Scanning.{IsHeaderFault}
+use Rattle.section_index.specs.Index.{Contents, IsIndexOf, IsAnswerFor, IsBuiltOver, IsSmall, IsTooLargeFor}
+use Rattle.section_index.specs.Reading.{IsRefusal}
+use Rattle.section_index.proofs.Grown.{Gives-whole}
+
+-- the first piece is all, or long
+pub first-piece : (all first : List ℕ) (size : ℕ) → length first ≡ min 65536 (size - 0) → length all ≡ size → IsAllOrLong first (drop (length first) all)
+first-piece all first size count whole short =
+    empty (drop (length first) all) (omega (arith, length-drop (length first) all, count, whole, short))
+  where
+    empty : (bytes : List ℕ) → length bytes ≡ 0 → bytes ≡ []
+    empty [] none = refl
+    empty (b ∷ bytes) none = absurd (omega (arith, none))
+
+opening-small : (bytes : List ℕ) (limits : Numbers) → length bytes ≤ limits.dump → opening bytes limits ≡ fault_of bytes limits
+opening-small bytes limits small =
+    ap (λ q. option_or (if q then Some (TooLarge (length bytes)) else None) (fault_of bytes limits)) (le-ltb limits.dump (length bytes) small)
+
+pub answer-judged : (bytes : List ℕ) (limits : Numbers) (fault : OpenFault) → length bytes ≤ limits.dump → IsJudged limits bytes (Err fault) → IsAnswerFor bytes limits (Err fault)
+answer-judged bytes limits Read small is = tt
+answer-judged bytes limits Memory small is = tt
+answer-judged bytes limits Compressed small is = opening-small bytes limits small ∙ is
+answer-judged bytes limits NotADump small is = opening-small bytes limits small ∙ is
+answer-judged bytes limits (UnknownVersion text) small is = opening-small bytes limits small ∙ is
+answer-judged bytes limits (TooLarge size) small is = opening-small bytes limits small ∙ is
+answer-judged bytes limits (HeaderTooLong at) small is = opening-small bytes limits small ∙ is
+answer-judged bytes limits (TooManySections at) small is = opening-small bytes limits small ∙ is
+answer-judged bytes limits (HeadersTooLarge at) small is = opening-small bytes limits small ∙ is
+
+pub answer-header : (bytes : List ℕ) (limits : Numbers) (version : Version) (fault : OpenFault) → length bytes ≤ limits.dump → IsAccepted limits bytes version
+    → IsHeaderFault limits bytes fault → IsAnswerFor bytes limits (Err fault)
+answer-header bytes limits version Read small accepted is = tt
+answer-header bytes limits version Memory small accepted is = tt
+answer-header bytes limits version Compressed small accepted is = opening-small bytes limits small ∙ accepted.fault ∙ is
+answer-header bytes limits version NotADump small accepted is = opening-small bytes limits small ∙ accepted.fault ∙ is
+answer-header bytes limits version (UnknownVersion text) small accepted is = opening-small bytes limits small ∙ accepted.fault ∙ is
+answer-header bytes limits version (TooLarge size) small accepted is = opening-small bytes limits small ∙ accepted.fault ∙ is
+answer-header bytes limits version (HeaderTooLong at) small accepted is = opening-small bytes limits small ∙ accepted.fault ∙ is
+answer-header bytes limits version (TooManySections at) small accepted is = opening-small bytes limits small ∙ accepted.fault ∙ is
+answer-header bytes limits version (HeadersTooLarge at) small accepted is = opening-small bytes limits small ∙ accepted.fault ∙ is
+
+pub answer-index : (bytes : List ℕ) (limits : Numbers) (version : Version) (heard : List Header) (size : ℕ) → length bytes ≡ size → length bytes ≤ limits.dump
+    → IsAccepted limits bytes version → heard ≡ headers bytes → header_fault bytes limits ≡ None
+    → IsAnswerFor bytes limits (Ok (record { headers = heard; size = size; version = version }))
+answer-index bytes limits version heard size whole small accepted all none = (
+  opening-small bytes limits small ∙ accepted.fault ∙ none,
+  record { headers = all; size = sym whole; version = accepted.version },
+)
+
+-- what was read of a file is all of it
+pub Gives-all : (bytes all : List ℕ) → length bytes ≡ length all → Gives (told all) 0 bytes → bytes ≡ all
+Gives-all bytes all size first = first ∙ take_all (length bytes) all (omega (arith, size))
+
+pub built-over : (now : Now) (index : Contents) (size : ℕ) → IsOpen now → size_of now ≡ size → index.size ≡ size
+    → ((bytes : List ℕ) → now ≡ told bytes → IsIndexOf bytes index) → IsBuiltOver now index
+built-over closed index size open' whole same told' = open'
+built-over (told bytes) index size open' whole same told' = told' bytes refl
+built-over (sized n) index size open' whole same told' = same ∙ sym whole
+
+-- the first piece of a file whose bytes are told
+pub record IsFirstPiece (all first : List ℕ) (size : ℕ) : Type 0 where
+  pub rest : List ℕ
+  pub whole : first ++ rest ≡ all
+  pub long : IsAllOrLong first rest
+  pub size' : length all ≡ size
+
+pub piece-size : (old buffer : List ℕ) (count size : ℕ) → length buffer ≡ length old → length old ≡ 65536 → count ≡ min (length old) (size - 0)
+    → length (take count buffer) ≡ min 65536 (size - 0)
+piece-size old buffer count size same room is = length-take-le count buffer (omega (arith, same, room, is)) ∙ omega (arith, room, is)
+
+pub IsFirstPiece-read : (all old buffer : List ℕ) (now : Now) (count size : ℕ) → now ≡ told all → Gives now 0 (take count buffer) → length buffer ≡ length old → length old ≡ 65536
+    → count ≡ min (length old) (size - 0) → size_of now ≡ size → IsFirstPiece all (take count buffer) size
+IsFirstPiece-read all old buffer now count size is gives same room counted whole =
+    let first = take count buffer in
+    let told' : Gives (told all) 0 first = subst (λ n. Gives n 0 first) is gives in
+    let sized' : length all ≡ size = ap size_of (sym is) ∙ whole in
+    record {
+      rest = drop (length first) all;
+      whole = sym (Gives-whole first all told');
+      long = first-piece all first size (piece-size old buffer count size same room counted) sized';
+      size' = sized';
+    }
+
+pub judged-whole : (all first : List ℕ) (size : ℕ) (limits : Numbers) (answer : Result Version OpenFault) → IsFirstPiece all first size
+    → ((more : List ℕ) → IsAllOrLong first more → IsJudged limits (first ++ more) answer) → IsJudged limits all answer
+judged-whole all first size limits answer piece judged = subst (λ b. IsJudged limits b answer) piece.whole (judged piece.rest piece.long)
+
+-- the first piece begins as a dump
+pub signed-first : (first : List ℕ) (limits : Numbers) (version : Version) → ((more : List ℕ) → IsAllOrLong first more → IsJudged limits (first ++ more) (Ok version))
+    → starts_with nat_eq first signature ≡ true
+signed-first first limits version judged = subst (λ b. starts_with nat_eq b signature ≡ true) (append-nil first) (judged [] (λ lt. refl)).signed
+
+-- a refusal by the bytes isn't that the dump is too large
+pub small-by-bytes : (fault : OpenFault) → IsOfTheBytes fault → IsSmall fault
+small-by-bytes Compressed of = tt
+small-by-bytes NotADump of = tt
+small-by-bytes (UnknownVersion text) of = tt
+small-by-bytes (TooLarge size) of = of
+small-by-bytes (HeaderTooLong at) of = tt
+small-by-bytes (TooManySections at) of = tt
+small-by-bytes (HeadersTooLarge at) of = tt
+small-by-bytes Read of = tt
+small-by-bytes Memory of = tt
+
+-- a fault of the rest of the file
+pub answer-rest : (bytes : List ℕ) (limits bounds : Numbers) (version : Version) (now : Now) (fault : OpenFault) → length bytes ≤ limits.dump → IsAccepted limits bytes version
+    → limits ≡ bounds → now ≡ told bytes → (fault ≡ Read) ⊎ IsRefusal bounds now fault → IsAnswerFor bytes limits (Err fault)
+answer-rest bytes limits bounds version now fault small accepted same is why =
+    ⊎_elim
+    (λ read. subst (λ f. IsAnswerFor bytes limits (Err f)) (sym read) tt)
+    (λ refused. answer-header bytes limits version fault small accepted (subst (λ l. IsHeaderFault l bytes fault) (sym same) (refused.refusal bytes is)))
+    why
+
+pub too_large-of-small : (now : Now) (limits : Numbers) (fault : OpenFault) → IsSmall fault → IsTooLargeFor now limits fault
+too_large-of-small now limits Compressed small = tt
+too_large-of-small now limits NotADump small = tt
+too_large-of-small now limits (UnknownVersion text) small = tt
+too_large-of-small now limits (TooLarge size) small = absurd small
+too_large-of-small now limits (HeaderTooLong at) small = tt
+too_large-of-small now limits (TooManySections at) small = tt
+too_large-of-small now limits (HeadersTooLarge at) small = tt
+too_large-of-small now limits Read small = tt
+too_large-of-small now limits Memory small = tt
+
+pub none-too_large : (now : Now) (limits : Numbers) (answer : Result Contents OpenFault) → IfErr answer IsSmall → IfErr answer (IsTooLargeFor now limits)
+none-too_large now limits (Ok index) small = small
+none-too_large now limits (Err fault) small = too_large-of-small now limits fault small
+
+-- the open file of a name that is told
+pub told-by-name : (files : Option Files) (name : List ℕ) (now : Now) (named : Files) (bytes : List ℕ) → IsNamed files name now → files ≡ Some named → named name ≡ Some bytes
+    → now ≡ told bytes
+told-by-name None name now named bytes open' is has = cc
+told-by-name (Some files) name now named bytes open' is has =
+    let same : files ≡ named = cc in
+    let found : Some open'.0 ≡ Some bytes = sym open'.1 ∙ ap (λ f. f name) same ∙ has in
+    let one : open'.0 ≡ bytes = cc in
+    open'.2 ∙ ap told one

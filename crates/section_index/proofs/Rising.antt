@@ -1,0 +1,109 @@
+-- The headers of a dump begin one behind another.
+use Rattle.std.proofs.Common.{◌≡◌, ℕ, ◌+◌, ◌<◌, ◌≤◌, Bool, true, false, not, cond, List, [], ◌∷◌, ◌++◌, length, map, refl, sym, ◌∙◌, ap, arith, ◌==◌, nat_lt, if◌then◌else◌}
+use Rattle.std.specs.Prelude.{All, filter}
+use Rattle.std.proofs.lemmas.Bool.{cond-true, cond-false, le-ltb, ltb-false}
+use Rattle.std.proofs.lemmas.List.Elements.{All-nil, All-cons, All-head, All-tail, All-weaker}
+use Rattle.dump_io.specs.Lines.{lf, lines_after, raw_lines, Line, lines_from, is_header, Header, header_of, headers}
+use Rattle.line_source.specs.Streams.{headers_before}
+
+abbrev pub AreRising : List Header → Type 0
+AreRising [] = Unit {0}
+AreRising (h ∷ hs) = All (λ x. h.at < x.at) hs × AreRising hs
+
+-- no raw line is empty
+after-some : (c : ℕ) (ls : List (List ℕ)) → All (λ raw. 0 < length raw) ls → All (λ raw. 0 < length raw) (lines_after c ls)
+after-some c [] all = All-cons (λ raw. 0 < length raw) (c ∷ []) [] (omega arith) all
+after-some c (l ∷ ls) all = All-cons (λ raw. 0 < length raw) (c ∷ l) ls (omega arith) (All-tail (λ raw. 0 < length raw) l ls all)
+
+some-if : (q : Bool) (c : ℕ) (ls : List (List ℕ)) → All (λ raw. 0 < length raw) ls → All (λ raw. 0 < length raw) (if q then (c ∷ []) ∷ ls else lines_after c ls)
+some-if true c ls all = All-cons (λ raw. 0 < length raw) (c ∷ []) ls (omega arith) all
+some-if false c ls all = after-some c ls all
+
+raw_lines-some : (bytes : List ℕ) → All (λ raw. 0 < length raw) (raw_lines bytes)
+raw_lines-some [] = All-nil (λ raw. 0 < length raw)
+raw_lines-some (c ∷ bytes) = some-if (c == lf) c (raw_lines bytes) (raw_lines-some bytes)
+
+abbrev headers_of : ℕ → List (List ℕ) → List Header
+headers_of n raws = map header_of (filter (λ line. is_header line.raw) (lines_from n raws))
+
+from-if : (q : Bool) (n : ℕ) (raw : List ℕ) (ls : List Line) → All (λ h. n ≤ h.at) (map header_of ls)
+    → All (λ h. n ≤ h.at) (map header_of (cond q (record { at = n; raw = raw } ∷ ls) ls))
+from-if true n raw ls all = let line : Line = record { at = n; raw = raw } in All-cons (λ h. n ≤ h.at) (header_of line) (map header_of ls) (omega arith) all
+from-if false n raw ls all = all
+
+headers_of-from : (n : ℕ) (raws : List (List ℕ)) → All (λ h. n ≤ h.at) (headers_of n raws)
+headers_of-from n [] = All-nil (λ h. n ≤ h.at)
+headers_of-from n (raw ∷ raws) =
+    from-if (is_header raw) n raw (filter (λ line. is_header line.raw) (lines_from (n + length raw) raws))
+    (All-weaker (λ h. n + length raw ≤ h.at) (λ h. n ≤ h.at) (λ h le. omega (arith, le)) (headers_of (n + length raw) raws) (headers_of-from (n + length raw) raws))
+
+rising-if : (q : Bool) (n : ℕ) (raw : List ℕ) (ls : List Line) → All (λ h. n < h.at) (map header_of ls) → AreRising (map header_of ls)
+    → AreRising (map header_of (cond q (record { at = n; raw = raw } ∷ ls) ls))
+rising-if true n raw ls all rising = (all, rising)
+rising-if false n raw ls all rising = rising
+
+headers_of-rising : (n : ℕ) (raws : List (List ℕ)) → All (λ raw. 0 < length raw) raws → AreRising (headers_of n raws)
+headers_of-rising n [] some = tt
+headers_of-rising n (raw ∷ raws) some =
+    let first : 0 < length raw = All-head (λ raw. 0 < length raw) raw raws some in
+    rising-if (is_header raw) n raw (filter (λ line. is_header line.raw) (lines_from (n + length raw) raws))
+    (All-weaker (λ h. n + length raw ≤ h.at) (λ h. n < h.at) (λ h le. omega (arith, le, first)) (headers_of (n + length raw) raws) (headers_of-from (n + length raw) raws))
+    (headers_of-rising (n + length raw) raws (All-tail (λ raw. 0 < length raw) raw raws some))
+
+pub headers-rising : (bytes : List ℕ) → AreRising (headers bytes)
+headers-rising bytes = headers_of-rising 0 (raw_lines bytes) (raw_lines-some bytes)
+
+-- parts of a rising list
+All-left : {X : Type 0} (P : X → Type 0) (xs ys : List X) → All P (xs ++ ys) → All P xs
+All-left P [] ys all = All-nil P
+All-left P (x ∷ xs) ys all = All-cons P x xs (All-head P x (xs ++ ys) all) (All-left P xs ys (All-tail P x (xs ++ ys) all))
+
+pub All-right : {X : Type 0} (P : X → Type 0) (xs ys : List X) → All P (xs ++ ys) → All P ys
+All-right P [] ys all = all
+All-right P (x ∷ xs) ys all = All-right P xs ys (All-tail P x (xs ++ ys) all)
+
+pub rising-left : (xs ys : List Header) → AreRising (xs ++ ys) → AreRising xs
+rising-left [] ys rising = tt
+rising-left (x ∷ xs) ys rising = (All-left (λ h. x.at < h.at) xs ys rising.0, rising-left xs ys rising.1)
+
+pub rising-right : (xs ys : List Header) → AreRising (xs ++ ys) → AreRising ys
+rising-right [] ys rising = rising
+rising-right (x ∷ xs) ys rising = rising-right xs ys rising.1
+
+pub rising-apart : (xs ys : List Header) → AreRising (xs ++ ys) → All (λ h. All (λ x. h.at < x.at) ys) xs
+rising-apart [] ys rising = All-nil (λ h. All (λ x. h.at < x.at) ys)
+rising-apart (x ∷ xs) ys rising =
+    All-cons (λ h. All (λ x. h.at < x.at) ys) x xs (All-right (λ h. x.at < h.at) xs ys rising.0) (rising-apart xs ys rising.1)
+
+-- a rising list is cut at an offset
+abbrev pub headers_from : ℕ → List Header → List Header
+headers_from at hs = filter (λ h. not (nat_lt h.at at)) hs
+
+pub headers_from-at : (at : ℕ) (hs : List Header) → All (λ h. at ≤ h.at) (headers_from at hs)
+headers_from-at at [] = All-nil (λ h. at ≤ h.at)
+headers_from-at at (h ∷ hs) =
+    elim (nat_lt h.at at) as (λ q. nat_lt h.at at ≡ q → All (λ x. at ≤ x.at) (cond (not q) (h ∷ headers_from at hs) (headers_from at hs)))
+    [ true ↦ λ e. headers_from-at at hs | false ↦ λ e. All-cons (λ x. at ≤ x.at) h (headers_from at hs) (ltb-false h.at at e) (headers_from-at at hs) ] refl
+
+before-none : (at : ℕ) (hs : List Header) → All (λ h. at ≤ h.at) hs → headers_before at hs ≡ []
+before-none at [] all = refl
+before-none at (h ∷ hs) all =
+    cond-false (nat_lt h.at at) _ _ (le-ltb h.at at (All-head (λ h. at ≤ h.at) h hs all)) ∙ before-none at hs (All-tail (λ h. at ≤ h.at) h hs all)
+
+from-all : (at : ℕ) (hs : List Header) → All (λ h. at ≤ h.at) hs → headers_from at hs ≡ hs
+from-all at [] all = refl
+from-all at (h ∷ hs) all =
+    cond-true (not (nat_lt h.at at)) _ _ (ap not (le-ltb h.at at (All-head (λ h. at ≤ h.at) h hs all)))
+    ∙ ap (λ r. h ∷ r) (from-all at hs (All-tail (λ h. at ≤ h.at) h hs all))
+
+cut-if : (q : Bool) (at : ℕ) (h : Header) (hs : List Header) → nat_lt h.at at ≡ q → AreRising (h ∷ hs) → hs ≡ headers_before at hs ++ headers_from at hs
+    → h ∷ hs ≡ cond q (h ∷ headers_before at hs) (headers_before at hs) ++ cond (not q) (h ∷ headers_from at hs) (headers_from at hs)
+cut-if true at h hs e rising rest = ap (λ r. h ∷ r) rest
+cut-if false at h hs e rising rest =
+    let le : at ≤ h.at = ltb-false h.at at e in
+    let all : All (λ x. at ≤ x.at) hs = All-weaker (λ x. h.at < x.at) (λ x. at ≤ x.at) (λ x l. omega (arith, l, le)) hs rising.0 in
+    ap (λ r. h ∷ r) (sym (from-all at hs all)) ∙ ap (λ r. r ++ h ∷ headers_from at hs) (sym (before-none at hs all))
+
+pub cut-at : (at : ℕ) (hs : List Header) → AreRising hs → hs ≡ headers_before at hs ++ headers_from at hs
+cut-at at [] rising = refl
+cut-at at (h ∷ hs) rising = cut-if (nat_lt h.at at) at h hs refl rising (cut-at at hs rising.1)
