@@ -2,16 +2,20 @@
 use Rattle.std.specs.Prelude.{ℕ, List, [], ◌∷◌, ◌++◌, decimal, codes}
 use Rattle.std.specs.List.{concat}
 use Rattle.section_index.specs.declared.opening.OpenFault.{OpenFault}
-use Rattle.section_index.specs.declared.opening.OpenFault.TheVariants.{NotADump, Version, TooLarge, Read, Memory}
+use Rattle.section_index.specs.declared.opening.OpenFault.TheVariants.{Compressed, NotADump, Version, TooLarge, HeaderTooLong, TooManySections, HeadersTooLarge, Read, Memory}
 use Rattle.report_text.specs.declared.refusals.Refusal.{Refusal}
 use Rattle.report_text.specs.declared.refusals.Refusal.TheVariants.{Open, SectionTooLarge}
 use Rattle.report_text.specs.Reports.{newline}
 
 -- what a dump that isn't opened is refused for, part by part
 abbrev pub open_cause : OpenFault → List (List ℕ)
+open_cause Compressed = codes "compressed" ∷ []
 open_cause NotADump = codes "not a dump" ∷ []
 open_cause (Version text) = codes "version " ∷ text ∷ []
 open_cause (TooLarge size) = codes "dump too large " ∷ decimal size ∷ []
+open_cause (HeaderTooLong at) = codes "header too long at " ∷ decimal at ∷ []
+open_cause (TooManySections at) = codes "too many sections at " ∷ decimal at ∷ []
+open_cause (HeadersTooLarge at) = codes "headers too large at " ∷ decimal at ∷ []
 open_cause Read = []
 open_cause Memory = []
 
