@@ -1,0 +1,4 @@
+pub mod Elements
+pub mod Reading
+pub mod Words
+pub mod Seen

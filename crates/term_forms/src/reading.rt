@@ -1,0 +1,2 @@
+//! Reading elements and forms.
+pub use crate::elements::elem;
