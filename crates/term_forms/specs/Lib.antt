@@ -1,4 +1,9 @@
 pub mod Elements
+pub mod Forms
+pub mod Joined
+pub mod Payload
 pub mod Reading
-pub mod Words
+pub mod ReadingForms
 pub mod Seen
+pub mod SeenForms
+pub mod Words

@@ -1,11 +1,11 @@
 -- What the readers give, as functions of the text. The laws of `laws.rt` say that these are the texts of
 -- `Elements` and no others.
-use Rattle.std.specs.Prelude.{ℕ, suc, ◌+◌, ◌-◌, ◌==◌, Bool, ◌&&◌, List, [], ◌∷◌, length, take, drop, Option, None, Some, nat_eq, nat_lt, nat_le, if◌then◌else◌}
-use Rattle.std.specs.Option.{option_and_then}
+use Rattle.std.specs.Prelude.{ℕ, zero, suc, ◌+◌, ◌-◌, ◌==◌, Bool, ◌&&◌, List, [], ◌∷◌, length, take, drop, Option, None, Some, nat_eq, nat_lt, nat_le, if◌then◌else◌}
+use Rattle.std.specs.Option.{option_and_then, unwrap_or}
 use Rattle.std.specs.List.{prefix_len, position_or_len, starts_with}
 use Rattle.std.specs.Char.{is_ascii_digit}
 use Rattle.dump_io.specs.Numbers.{hex_number}
-use Rattle.term_forms.specs.Words.{colon, minus, less, greater, is_hex_digit, is_dotted}
+use Rattle.term_forms.specs.Words.{comma, colon, minus, less, greater, is_hex_digit, is_dotted}
 use Rattle.term_forms.specs.Elements.{Element, Nil, Small, Atom, Pid, Port, Ref, port_word}
 
 infixl 10 ◌>>=◌
@@ -65,3 +65,31 @@ front (c ∷ text) =
     else (if c == 80 then pid_front text
     else (if c == 112 then port_front text
     else (if c == 72 then ref_front text else None)))))
+
+-- the element that is the whole text
+unfoldable pub whole_of : List ℕ → Option Element
+whole_of text = front text >>= λ found. if found.1 == length text then Some found.0 else None
+
+-- what stands behind the byte that begins the text, where it is that byte
+unfoldable pub behind : ℕ → List ℕ → Option (List ℕ)
+behind stop [] = None
+behind stop (c ∷ text) = if c == stop then Some text else None
+
+-- the element that begins the text, and what stands behind the byte that follows it
+unfoldable pub until_of : ℕ → List ℕ → Option (Element × List ℕ)
+until_of stop text = front text >>= λ found. behind stop (drop found.1 text) >>= λ rest. Some (found.0, rest)
+
+-- the elements, so many of them, that the whole text spells, joined by commas
+unfoldable pub joined_of : ℕ → List ℕ → Option (List Element)
+joined_of zero [] = Some []
+joined_of zero (c ∷ text) = None
+joined_of (suc zero) text = whole_of text >>= λ e. Some (e ∷ [])
+joined_of (suc (suc n)) text = until_of comma text >>= λ found. joined_of (suc n) found.1 >>= λ es. Some (found.0 ∷ es)
+
+-- the same as a list, which is empty where the text spells none
+abbrev pub joined_list : ℕ → List ℕ → List Element
+joined_list count text = unwrap_or (joined_of count text) []
+
+-- the elements, where the first of them and the text of the others are found, so many of which are left
+unfoldable pub with_first : ℕ → Option (Element × List ℕ) → Option (List Element)
+with_first left found = found >>= λ found. joined_of left found.1 >>= λ es. Some (found.0 ∷ es)

@@ -1,6 +1,6 @@
 -- The words that elements and forms are made of.
-use Rattle.std.specs.Prelude.{◌≡◌, ℕ, ◌<◌, ◌==◌, Bool, false, ◌&&◌, ◌||◌, List, [], ◌∷◌, ◌++◌, length, Some, nat_lt, IsTrue, if◌then◌else◌}
-use Rattle.std.specs.List.{list_all}
+use Rattle.std.specs.Prelude.{◌≡◌, ℕ, ◌<◌, ◌==◌, Bool, true, false, ◌&&◌, ◌||◌, List, [], ◌∷◌, ◌++◌, length, drop, Some, nat_eq, nat_lt, IsTrue, if◌then◌else◌}
+use Rattle.std.specs.List.{list_all, starts_with}
 use Rattle.std.specs.Char.{digit_value, is_ascii_digit}
 use Rattle.dump_io.specs.Numbers.{hex_number}
 
@@ -50,3 +50,16 @@ IsBracketed text =
 -- the text is a hex number n, a colon, and the rest
 abbrev pub IsLed : List ℕ → ℕ → List ℕ → Type 0
 IsLed text n rest = (hex : List ℕ) × (hex_number hex ≡ Some n) × (text ≡ hex ++ colon ∷ rest)
+
+-- one or more hex digits
+abbrev pub is_hex_digits : List ℕ → Bool
+is_hex_digits text = nat_lt 0 (length text) && list_all is_hex_digit text
+
+-- `16#` and hex digits
+abbrev pub is_based : List ℕ → Bool
+is_based text = starts_with nat_eq text (49 ∷ 54 ∷ 35 ∷ []) && is_hex_digits (drop 3 text)
+
+-- a big integer: an optional minus, and then digits, or `16#` and hex digits
+abbrev pub is_long : List ℕ → Bool
+is_long [] = false
+is_long (c ∷ text) = if c == minus then is_digits text || is_based text else is_digits (c ∷ text) || is_based (c ∷ text)

@@ -1,7 +1,6 @@
 // Reading elements.
-ghost use Rattle.std.specs.Prelude.{◌≡◌, ◌≤◌, ℕ, List, length, take, IfSome, IfNone};
+ghost use Rattle.std.specs.Prelude.{◌≡◌, ◌+◌, ◌≤◌, length, IfSome};
 ghost use Rattle.std.specs.Option.{option_map};
-ghost use Rattle.term_forms.specs.Elements.{Element, IsElem, IsFront};
 ghost use Rattle.term_forms.specs.Reading.{front, small_front, atom_front, pid_front, port_front, ref_front};
 ghost use Rattle.term_forms.specs.Seen.{element_len};
 
@@ -11,7 +10,8 @@ use dump_io::hex_u64;
 
 #[tactic(auto, unfolding(crate::specs::Reading::small_front))]
 fn small(text: &[u8]) -> Option<(Elem<'_>, usize)>
-    ensures { option_map element_len result ≡ small_front text.now }
+    ensures exact { option_map element_len result ≡ small_front text.now }
+    ensures within { IfSome result (λ found. found.1 ≤ length text.now + 1) }
 {
     let n = integer_prefix(text)?;
     Some((Elem::Small(&text[..n]), n + 1))
@@ -19,7 +19,8 @@ fn small(text: &[u8]) -> Option<(Elem<'_>, usize)>
 
 #[tactic(auto, unfolding(crate::specs::Reading::atom_front))]
 fn atom(text: &[u8]) -> Option<(Elem<'_>, usize)>
-    ensures { option_map element_len result ≡ atom_front text.now }
+    ensures exact { option_map element_len result ≡ atom_front text.now }
+    ensures within { IfSome result (λ found. found.1 ≤ length text.now + 1) }
 {
     let (len, rest) = heap_line(text)?;
     if len > rest.len() as u64 {
@@ -31,7 +32,8 @@ fn atom(text: &[u8]) -> Option<(Elem<'_>, usize)>
 
 #[tactic(auto, unfolding(crate::specs::Reading::pid_front))]
 fn pid(text: &[u8]) -> Option<(Elem<'_>, usize)>
-    ensures { option_map element_len result ≡ pid_front text.now }
+    ensures exact { option_map element_len result ≡ pid_front text.now }
+    ensures within { IfSome result (λ found. found.1 ≤ length text.now + 1) }
 {
     let n = bracketed_prefix(text)?;
     Some((Elem::Pid(&text[..n]), n + 1))
@@ -39,7 +41,8 @@ fn pid(text: &[u8]) -> Option<(Elem<'_>, usize)>
 
 #[tactic(auto, unfolding(crate::specs::Reading::port_front))]
 fn port(text: &[u8]) -> Option<(Elem<'_>, usize)>
-    ensures { option_map element_len result ≡ port_front text.now }
+    ensures exact { option_map element_len result ≡ port_front text.now }
+    ensures within { IfSome result (λ found. found.1 ≤ length text.now + 1) }
 {
     let skip = if text.starts_with(b"#Port") { 5 } else { 0 };
     let number = &text[skip..];
@@ -49,7 +52,8 @@ fn port(text: &[u8]) -> Option<(Elem<'_>, usize)>
 
 #[tactic(auto, unfolding(crate::specs::Reading::ref_front))]
 fn reference(text: &[u8]) -> Option<(Elem<'_>, usize)>
-    ensures { option_map element_len result ≡ ref_front text.now }
+    ensures exact { option_map element_len result ≡ ref_front text.now }
+    ensures within { IfSome result (λ found. found.1 ≤ length text.now + 1) }
 {
     let n = hex_run(text);
     Some((Elem::Ref(hex_u64(&text[..n])?), n + 1))
@@ -60,6 +64,7 @@ fn reference(text: &[u8]) -> Option<(Elem<'_>, usize)>
 #[tactic(auto, unfolding(crate::specs::Reading::front))]
 pub fn elem(text: &[u8]) -> Option<(Elem<'_>, usize)>
     ensures exact { option_map element_len result ≡ front text.now }
+    ensures within { IfSome result (λ found. found.1 ≤ length text.now) }
 {
     let (tag, rest) = text.split_first()?;
     match *tag {

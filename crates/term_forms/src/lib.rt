@@ -2,8 +2,14 @@
 #![tactic(auto)]
 
 mod elements;
+mod elems;
+mod enc;
+mod forms;
+mod payloads;
 pub mod reading;
 pub mod shapes;
 mod words;
 
+pub use elems::Elems;
+pub use enc::Enc;
 pub use words::heap_line;

@@ -1,2 +1,3 @@
 //! Reading elements and forms.
 pub use crate::elements::elem;
+pub use crate::forms::form;

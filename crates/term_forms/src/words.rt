@@ -1,9 +1,9 @@
 // The words that elements and forms are made of.
 ghost use Rattle.std.specs.Prelude.{◌≡◌, ◌==◌, ◌<◌, ◌≤◌, length, take, IfSome};
-ghost use Rattle.std.specs.List.{prefix_len, position};
+ghost use Rattle.std.specs.List.{prefix_len, position, list_all};
 ghost use Rattle.std.specs.Option.{option_map};
 ghost use Rattle.std.specs.Char.{is_ascii_digit};
-ghost use Rattle.term_forms.specs.Words.{colon, is_hex_digit, is_dotted, IsLed};
+ghost use Rattle.term_forms.specs.Words.{colon, is_hex_digit, is_dotted, is_digits, is_hex_digits, is_based, is_long};
 ghost use Rattle.term_forms.specs.Reading.{led_of, digits_len, integer_len, bracketed_len};
 
 use dump_io::hex_u64;
@@ -88,5 +88,48 @@ pub(crate) fn bracketed_prefix(text: &[u8]) -> Option<usize>
         Some(n + 2)
     } else {
         None
+    }
+}
+
+fn all_digits(text: &[u8]) -> bool
+    ensures { result ≡ list_all is_ascii_digit text.now }
+{
+    text.iter().all(|c| c.is_ascii_digit())
+}
+
+fn all_hex_digits(text: &[u8]) -> bool
+    ensures { result ≡ list_all is_hex_digit text.now }
+{
+    text.iter().all(|c| char::from(*c).is_digit(16))
+}
+
+fn is_digits(text: &[u8]) -> bool
+    ensures { result ≡ is_digits text.now }
+{
+    !text.is_empty() && all_digits(text)
+}
+
+fn is_hex_digits(text: &[u8]) -> bool
+    ensures { result ≡ is_hex_digits text.now }
+{
+    !text.is_empty() && all_hex_digits(text)
+}
+
+fn is_based(text: &[u8]) -> bool
+    ensures { result ≡ is_based text.now }
+{
+    text.starts_with(b"16#") && is_hex_digits(&text[3..])
+}
+
+// Whether the text is a big integer, in decimal or behind `16#` in hex.
+pub(crate) fn is_long(text: &[u8]) -> bool
+    ensures { result ≡ is_long text.now }
+{
+    match text.split_first() {
+        None => false,
+        Some((first, rest)) => {
+            let digits = if *first == b'-' { rest } else { text };
+            is_digits(digits) || is_based(digits)
+        }
     }
 }
