@@ -23,3 +23,10 @@ guard_some false x y h = cc
 
 pub guard_from : {A : Type 0} (b : Bool) (o : Option A) → b ≡ true → (if b then o else None) ≡ o
 guard_from b o e = ap (λ c. if c then o else None) e
+
+pub guard_option : {A : Type 0} (b : Bool) (o : Option A) (y : A) → (if b then o else None) ≡ Some y → (b ≡ true) × (o ≡ Some y)
+guard_option true o y h = (refl, h)
+guard_option false o y h = cc
+
+pub some_pair : {A B : Type 0} (a x : A) (b y : B) → a ≡ x → b ≡ y → ◌≡◌ {A = Option (A × B)} (Some (a, b)) (Some (x, y))
+some_pair {A} {B} a x b y e h = ap (λ (z : A). Some (z, b)) e ∙ ap (λ (z : B). Some (x, z)) h
