@@ -2,6 +2,8 @@ pub mod Fronts
 pub mod FrontsTaken
 pub mod Hexes
 pub mod Joins
+pub mod OfElements
+pub mod PlainHex
 pub mod Runs
 pub mod Steps
 pub mod WordTexts

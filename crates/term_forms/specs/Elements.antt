@@ -1,8 +1,8 @@
 -- Elements of a dump's text: what a stack, a dictionary, a mailbox and a heap's forms hold.
-use Rattle.std.specs.Prelude.{◌≡◌, ◌⊎◌, ℕ, ◌<◌, ◌≤◌, true, List, [], ◌∷◌, ◌++◌, length, take, Some, IsTrue}
+use Rattle.std.specs.Prelude.{◌≡◌, ◌⊎◌, ℕ, ◌≤◌, true, List, [], ◌∷◌, ◌++◌, length, take, Some, IsTrue}
 use Rattle.std.specs.Fmt.{digits}
 use Rattle.dump_io.specs.Numbers.{hex_number}
-use Rattle.term_forms.specs.Words.{colon, is_integer, IsBracketed, IsLed}
+use Rattle.term_forms.specs.Words.{comma, colon, bar, is_integer, IsBracketed, IsLed}
 
 -- an element without where it lies in memory
 pub data Element : Type 0 where
@@ -50,3 +50,8 @@ plain_elem (Atom bytes) = 65 ∷ (hex (length bytes) ++ colon ∷ bytes)
 plain_elem (Pid pid) = 80 ∷ pid
 plain_elem (Port port) = 112 ∷ port
 plain_elem (Ref address) = 72 ∷ hex address
+
+-- the text is empty, or begins with one of the bytes that may stand behind an element
+abbrev pub EndsElement : List ℕ → Type 0
+EndsElement [] = Unit {0}
+EndsElement (c ∷ text) = (c ≡ bar) ⊎ ((c ≡ comma) ⊎ (c ≡ colon))
