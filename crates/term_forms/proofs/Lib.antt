@@ -1,0 +1,5 @@
+pub mod Base64Payload
+pub mod Encodings
+pub mod HexDigits
+pub mod HexPayload
+pub mod Pieces
