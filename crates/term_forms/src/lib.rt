@@ -6,6 +6,3 @@ mod payloads;
 
 pub use enc::Enc;
 pub use payloads::{encoding_in_pieces, is_payload, payload, payload_is_of_one};
-
-#[cfg(test)]
-mod tests;

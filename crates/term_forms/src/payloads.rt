@@ -81,3 +81,6 @@ pub fn payload_is_of_one(enc: Enc)
     ensures bytes { (chars one other : List ℕ) → IsPayload enc chars one → IsPayload enc chars other → one ≡ other }
     ensures length { (chars bytes : List ℕ) → IsPayload enc chars bytes → length chars ≡ chars_of enc (length bytes) }
 {}
+
+#[cfg(test)]
+mod tests;
