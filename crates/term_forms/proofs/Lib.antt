@@ -3,3 +3,4 @@ pub mod Encodings
 pub mod HexDigits
 pub mod HexPayload
 pub mod Pieces
+pub mod Ranges

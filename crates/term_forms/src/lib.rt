@@ -1,8 +1,12 @@
 //! The payloads of binaries.
 #![tactic(auto)]
 
+mod covering;
+mod covers;
 mod enc;
 mod payloads;
+pub mod reading;
+pub mod shapes;
 
 pub use enc::Enc;
 pub use payloads::{encoding_in_pieces, is_payload, payload, payload_is_of_one};

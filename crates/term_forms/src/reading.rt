@@ -1,0 +1,3 @@
+//! The functions that have the names of the types of [`shapes`](crate::shapes).
+
+pub use crate::covering::cover;
