@@ -22,6 +22,7 @@ hex-covered chars bytes from count is fits =
     let rest : IsPayload Hex (drop (2 * from) chars) (drop from bytes) = payload-drop Hex from chars bytes (omega arith) (omega arith) is in
     let room : count ≤ length (drop from bytes) = omega (arith, length-drop from bytes) in
     record {
+      within = omega (arith, length-payload Hex chars bytes is);
       covered = take count (drop from bytes);
       payload = payload-take Hex count (drop (2 * from) chars) (drop from bytes) (omega arith) room rest;
       size = length-take-le count (drop from bytes) room;
@@ -52,6 +53,7 @@ base64-covered chars bytes from count is fits =
     subst (λ n. IsPayload Base64 (drop n chars) (drop (3 * start) bytes)) e (payload-drop Base64 (3 * start) chars bytes (omega arith) (omega arith) is) in
     let there : 3 * start + (from - 3 * start) ≡ from = omega arith in
     record {
+      within = omega (arith, length-payload Base64 chars bytes is);
       covered = take (3 * (past - start)) (drop (3 * start) bytes);
       payload = front-payload (drop (4 * start) chars) (drop (3 * start) bytes) (past - start) rest;
       size = length-take (3 * (past - start)) (drop (3 * start) bytes) ∙ omega (arith, length-drop (3 * start) bytes);
@@ -67,9 +69,9 @@ range-covered Base64 chars bytes from count is fits = base64-covered chars bytes
 none-covered : (enc : Enc) (chars bytes : List ℕ) (from : ℕ) → IsPayload enc chars bytes
     → IsCovered enc (record { first = 0; chars = 0; skip = 0; bytes = 0 }) chars bytes from 0
 none-covered Hex chars bytes from is =
-    record { covered = take 0 bytes; payload = payload-take Hex 0 chars bytes (omega arith) (omega arith) is; size = refl; range = refl }
+    record { within = omega arith; covered = take 0 bytes; payload = payload-take Hex 0 chars bytes (omega arith) (omega arith) is; size = refl; range = refl }
 none-covered Base64 chars bytes from is =
-    record { covered = take 0 bytes; payload = payload-take Base64 0 chars bytes (omega arith) (omega arith) is; size = refl; range = refl }
+    record { within = omega arith; covered = take 0 bytes; payload = payload-take Base64 0 chars bytes (omega arith) (omega arith) is; size = refl; range = refl }
 
 pub cover-covered : (enc : Enc) (chars bytes : List ℕ) (from count : ℕ) → IsPayload enc chars bytes → from + count ≤ length bytes
     → IsCovered enc (cover_of enc (length bytes) from count) chars bytes from count

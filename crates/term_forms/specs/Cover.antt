@@ -1,5 +1,5 @@
 -- Covers: the characters of a payload that write a range of its bytes, both counted from 0.
-use Rattle.std.specs.Prelude.{◌≡◌, ℕ, ◌+◌, ◌-◌, ◌*◌, ◌/◌, ◌==◌, List, length, take, drop, min, if◌then◌else◌}
+use Rattle.std.specs.Prelude.{◌≡◌, ℕ, ◌+◌, ◌-◌, ◌*◌, ◌/◌, ◌==◌, ◌≤◌, List, length, take, drop, min, if◌then◌else◌}
 use Rattle.std.specs.Int.{div_ceil}
 use Rattle.term_forms.specs.declared.covers.Cover.{Cover}
 use Rattle.term_forms.specs.declared.enc.Enc.{Enc}
@@ -29,6 +29,7 @@ cover_of enc size from count =
 
 -- the characters of a cover are the payload of its bytes, in which the range stands behind those that are skipped
 pub record IsCovered (enc : Enc) (cover : Cover) (chars bytes : List ℕ) (from count : ℕ) : Type 0 where
+  pub within : cover.first + cover.chars ≤ length chars
   pub covered : List ℕ
   pub payload : IsPayload enc (take cover.chars (drop cover.first chars)) covered
   pub size : length covered ≡ cover.bytes

@@ -7,7 +7,8 @@ use crate::covers::Cover;
 use crate::enc::Enc;
 
 fn hex_cover(from: u64, count: u32) -> Cover
-    requires { from ≤ 2 ^ 60 }
+    requires few { count ≤ 32 }
+    requires small { from ≤ 2 ^ 60 }
     ensures { result ≡ hex_cover from count }
 {
     Cover {
@@ -41,7 +42,10 @@ pub fn cover(enc: Enc, size: u64, from: u64, count: u32) -> Cover
     requires few { count ≤ 32 }
     requires within { from + count ≤ size }
     requires small { from ≤ 2 ^ 60 }
-    ensures { result ≡ cover_of enc size from count }
+    ensures value { result ≡ cover_of enc size from count }
+    ensures holds { result.skip + count ≤ result.bytes }
+    ensures bytes { result.bytes ≤ count + 4 }
+    ensures chars { result.chars ≤ 64 }
 {
     if count == 0 {
         return Cover {
@@ -63,3 +67,6 @@ pub fn cover_holds_range(enc: Enc)
     ensures { (chars bytes : List ℕ) (from count : ℕ) → IsPayload enc chars bytes → from + count ≤ length bytes
         → IsCovered enc (cover_of enc (length bytes) from count) chars bytes from count }
 {}
+
+#[cfg(test)]
+mod tests;

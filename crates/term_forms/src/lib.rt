@@ -8,5 +8,6 @@ mod payloads;
 pub mod reading;
 pub mod shapes;
 
+pub use covering::cover_holds_range;
 pub use enc::Enc;
 pub use payloads::{encoding_in_pieces, is_payload, payload, payload_is_of_one};

@@ -32,3 +32,16 @@ fn payloads_are_read(rt: HostRuntime) {
     refused(&rt, b"68656C6C6F", Enc::Hex, 4);
     refused(&rt, b"68656C6C6G", Enc::Hex, 5);
 }
+
+#[test]
+fn long_payloads_are_judged(rt: HostRuntime) {
+    let zeros = [b'A'; 2048];
+    assert!(rt; is_payload(&zeros, Enc::Base64, 1536));
+    assert!(rt; !is_payload(&zeros, Enc::Base64, 1535));
+    assert!(rt; !is_payload(&zeros, Enc::Base64, 1537));
+    assert!(rt; is_payload(&zeros, Enc::Hex, 1024));
+    let mut other = zeros;
+    other[1600] = b'=';
+    assert!(rt; !is_payload(&other, Enc::Base64, 1536));
+    assert!(rt; !is_payload(&other, Enc::Hex, 1024));
+}
