@@ -1,6 +1,8 @@
 pub mod Base64Payload
+pub mod Decoded
 pub mod Encodings
 pub mod HexDigits
 pub mod HexPayload
+pub mod PayloadBytes
 pub mod Pieces
 pub mod Ranges

@@ -1,9 +1,10 @@
 -- Payloads: the characters that write the bytes of a binary.
-use Rattle.std.specs.Prelude.{◌≡◌, ℕ, ◌+◌, ◌*◌, ◌/◌, List, length}
+use Rattle.std.specs.Prelude.{◌≡◌, ℕ, ◌+◌, ◌*◌, ◌/◌, List, length, Option}
+use Rattle.std.specs.Result.{result_ok}
 use Rattle.std.specs.Str.{str_to_ascii_uppercase}
-use Rattle.hex.specs.Hex.{encode_upper}
+use Rattle.hex.specs.Hex.{encode_upper, decode_of}
 use Rattle.base64.specs.Engines.{standard}
-use Rattle.base64.specs.GeneralPurpose.{encode_of, IsBytes}
+use Rattle.base64.specs.GeneralPurpose.{encode_of, decoded_of, IsBytes}
 use Rattle.term_forms.specs.declared.enc.Enc.{Enc}
 use Rattle.term_forms.specs.declared.enc.Enc.TheVariants.{Hex, Base64}
 
@@ -25,6 +26,15 @@ in_one_case Base64 chars = chars
 pub record IsPayload (enc : Enc) (chars bytes : List ℕ) : Type 0 where
   pub are_bytes : IsBytes bytes
   pub written : in_one_case enc chars ≡ encoding enc bytes
+
+-- the bytes that base64 characters write, if they are a payload
+unfoldable pub base64_bytes : List ℕ → Option (List ℕ)
+base64_bytes chars = decoded_of standard chars
+
+-- the bytes that the characters write, if they are a payload
+abbrev pub payload_bytes : Enc → List ℕ → Option (List ℕ)
+payload_bytes Hex chars = result_ok (decode_of chars)
+payload_bytes Base64 chars = base64_bytes chars
 
 -- the characters are the payload of so many bytes
 pub record IsPayloadOf (enc : Enc) (chars : List ℕ) (size : ℕ) : Type 0 where

@@ -64,7 +64,8 @@ pub fn cover(enc: Enc, size: u64, from: u64, count: u32) -> Cover
 /// The law of what a cover is for: of a payload, its characters alone are the payload of some bytes, and these hold the
 /// bytes of the range.
 pub fn cover_holds_range(enc: Enc)
-    ensures { (chars bytes : List ℕ) (from count : ℕ) → IsPayload enc chars bytes → from + count ≤ length bytes
+    ensures { (chars bytes : List ℕ) (from count : ℕ)
+        → IsPayload enc chars bytes → from + count ≤ length bytes
         → IsCovered enc (cover_of enc (length bytes) from count) chars bytes from count }
 {}
 

@@ -1,6 +1,7 @@
 // The payloads of binaries: the characters that write their bytes.
 ghost use Rattle.std.specs.Prelude.{◌≡◌, ◌↔◌, ℕ, ◌%◌, List, ◌++◌, length, IsTrue};
-ghost use Rattle.term_forms.specs.Payload.{IsPayload, IsPayloadOf, encoding, chars_of, group_of};
+ghost use Rattle.base64.specs.GeneralPurpose.{IsBytes};
+ghost use Rattle.term_forms.specs.Payload.{IsPayload, IsPayloadOf, encoding, chars_of, group_of, payload_bytes};
 
 use crate::enc::Enc;
 use base64::engine::general_purpose::STANDARD;
@@ -78,8 +79,17 @@ pub fn encoding_in_pieces(enc: Enc)
 
 /// The law that characters are the payload of one list of bytes at most, whose number gives theirs.
 pub fn payload_is_of_one(enc: Enc)
-    ensures bytes { (chars one other : List ℕ) → IsPayload enc chars one → IsPayload enc chars other → one ≡ other }
-    ensures length { (chars bytes : List ℕ) → IsPayload enc chars bytes → length chars ≡ chars_of enc (length bytes) }
+    ensures bytes { (chars one other : List ℕ)
+        → IsPayload enc chars one → IsPayload enc chars other → one ≡ other }
+    ensures length { (chars bytes : List ℕ)
+        → IsPayload enc chars bytes → length chars ≡ chars_of enc (length bytes) }
+{}
+
+/// The law that the definition `payload_bytes`, which computes, gives the bytes of a payload, and none for other
+/// characters.
+pub fn payload_bytes_are_read(enc: Enc)
+    ensures { (chars bytes : List ℕ) → IsBytes chars
+        → (payload_bytes enc chars ≡ Some bytes) ↔ IsPayload enc chars bytes }
 {}
 
 #[cfg(test)]
