@@ -8,7 +8,7 @@ use Rattle.base64.specs.GeneralPurpose.{encode_of, decoded_of, IsBytes}
 use Rattle.term_forms.specs.declared.enc.Enc.{Enc}
 use Rattle.term_forms.specs.declared.enc.Enc.TheVariants.{Hex, Base64}
 
--- base64 by RFC 4648 as `STANDARD` writes it: with padding, and with the unused bits zero
+-- base64 by RFC 4648 in the alphabet of `STANDARD`: with padding, and with the unused bits zero
 unfoldable pub base64_of : List ℕ → List ℕ
 base64_of bytes = encode_of standard bytes
 
