@@ -79,14 +79,14 @@ payload-unique enc chars a b pa pb = encoding-unique enc a b pa.are_bytes pb.are
 
 -- ---- pieces
 
-pub bytes-take : (n : ℕ) (bytes : List ℕ) → IsBytes bytes → IsBytes (take n bytes)
+bytes-take : (n : ℕ) (bytes : List ℕ) → IsBytes bytes → IsBytes (take n bytes)
 bytes-take n bytes h = let whole : IsBytes (take n bytes ++ drop n bytes) = subst IsBytes (sym (take-append-drop n bytes)) h in
     front_bytes (take n bytes) (drop n bytes) whole
 
-pub bytes-drop : (n : ℕ) (bytes : List ℕ) → IsBytes bytes → IsBytes (drop n bytes)
+bytes-drop : (n : ℕ) (bytes : List ℕ) → IsBytes bytes → IsBytes (drop n bytes)
 bytes-drop n bytes h i = rw (get_or-drop n bytes i 0) (h (n + i))
 
-pub bytes-append : (a b : List ℕ) → IsBytes a → IsBytes b → IsBytes (a ++ b)
+bytes-append : (a b : List ℕ) → IsBytes a → IsBytes b → IsBytes (a ++ b)
 bytes-append [] b ha hb i = hb i
 bytes-append (x ∷ a) b ha hb zero = ha 0
 bytes-append (x ∷ a) b ha hb (suc i) = bytes-append a b (λ k. ha (suc k)) hb i

@@ -1,5 +1,4 @@
 pub mod Base64Payload
-pub mod Decoded
 pub mod Encodings
 pub mod HexDigits
 pub mod HexPayload

@@ -1,55 +1,93 @@
 -- The bytes that the characters of a payload write.
-use Rattle.std.proofs.Common.{◌≡◌, ◌↔◌, ℕ, List, Some, Result, Ok, Err, refl, sym, ap, ◌∙◌, arith}
+use Rattle.std.proofs.Common.{◌≡◌, ◌↔◌, ℕ, zero, suc, ◌==◌, nat_lt, Bool, true, false, List, [], ◌∷◌, length, Option, None, Some, Decides, option_and_then, if◌then◌else◌, refl, sym, ap, ◌∙◌, arith}
+use Rattle.std.specs.List.{list_all}
+use Rattle.std.specs.Option.{option_map_or}
 use Rattle.std.specs.Result.{result_ok}
-use Rattle.hex.specs.Hex.{decode_of as decode_hex}
-use Rattle.hex.proofs.HexLemmas.{decode_of-even, decode_of-ok}
+use Rattle.std.specs.Str.{bytes_eq}
+use Rattle.std.proofs.lemmas.Bool.{and_parts, and_from, eq-eqb, eqb-true, ltb-true, lt-ltb}
+use Rattle.std.proofs.lemmas.Slice.Eq.{bytes_eq-Decides}
+use Rattle.hex.proofs.HexLemmas.{decode_of-even}
 use Rattle.base64.specs.declared.engine.general_purpose.GeneralPurpose.{GeneralPurpose}
 use Rattle.base64.specs.Engines.{standard}
-use Rattle.base64.specs.GeneralPurpose.{decode_of, decoded_of, encode_of, IsBytes, IsStrict, IsConsistent}
-use Rattle.base64.proofs.EngineFacts.{decode_of_strict, decode_of-encode_of}
+use Rattle.base64.specs.GeneralPurpose.{decode_of, decoded_of, encode_of, IsBytes, IsConsistent}
+use Rattle.base64.proofs.EngineFacts.{decode_of-encode_of}
 use Rattle.term_forms.specs.declared.enc.Enc.{Enc}
 use Rattle.term_forms.specs.declared.enc.Enc.TheVariants.{Hex, Base64}
-use Rattle.term_forms.specs.Payload.{IsPayload, payload_bytes, base64_bytes, base64_of}
-use Rattle.term_forms.proofs.Decoded.{decoded-bytes}
+use Rattle.term_forms.specs.Payload.{IsPayload, IsPayloadOf, base64_of, base64_decoded, decoded, encoding, in_one_case, writes, payload_bytes, payload_test}
 use Rattle.term_forms.proofs.Encodings.{length-payload}
-use Rattle.term_forms.proofs.HexDigits.{upper-decoded, decode-upper}
+use Rattle.term_forms.proofs.HexDigits.{decode-upper}
 
--- a value that is there
-ok_there : {E : Type 0} (r : Result (List ℕ) E) (bytes : List ℕ) → result_ok r ≡ Some bytes → r ≡ Ok bytes
-ok_there (Ok x) bytes h = cc h
-ok_there (Err e) bytes h = cc h
+-- ---- a payload decodes to its bytes
 
-hex-read : (chars bytes : List ℕ) → (payload_bytes Hex chars ≡ Some bytes) ↔ IsPayload Hex chars bytes
-hex-read chars bytes = (
-  λ h.
-      let decoded = ok_there (decode_hex chars) bytes h in
-      let facts = decode_of-ok chars bytes decoded in
-      record { are_bytes = facts.3; written = upper-decoded 0 chars bytes (sym (decode_of-even chars facts.0) ∙ decoded) },
-  λ is.
-      let twice = length-payload Hex chars bytes is in
-      ap result_ok (decode_of-even chars (omega (arith, twice)) ∙ decode-upper 0 chars bytes is.are_bytes is.written),
-)
-
-engine-read : (e : GeneralPurpose) (s b : List ℕ) → IsStrict e → IsConsistent e → IsBytes s
-    → (decoded_of e s ≡ Some b) ↔ (IsBytes b × (s ≡ encode_of e b))
+engine-decoded : (e : GeneralPurpose) (s b : List ℕ) → IsConsistent e → IsBytes b → s ≡ encode_of e b → decoded_of e s ≡ Some b
 unfolding decoded_of
-engine-read e s b strict consistent bytes = (
-  λ h.
-      let decoded = ok_there (decode_of e s) b h in
-      (decoded-bytes e s b bytes decoded, decode_of_strict e s b strict bytes decoded),
-  λ is. ap result_ok (ap (λ x. decode_of e x) is.1 ∙ decode_of-encode_of e b consistent is.0),
-)
+engine-decoded e s b consistent bytes is = ap result_ok (ap (λ x. decode_of e x) is ∙ decode_of-encode_of e b consistent bytes)
 
-base64-read : (chars bytes : List ℕ) → IsBytes chars → (payload_bytes Base64 chars ≡ Some bytes) ↔ IsPayload Base64 chars bytes
-unfolding base64_bytes base64_of
-base64-read chars bytes small =
-    let read = engine-read standard chars bytes (refl, refl) refl small in (
+base64-decoded : (chars bytes : List ℕ) → IsPayload Base64 chars bytes → base64_decoded chars ≡ Some bytes
+unfolding base64_decoded base64_of
+base64-decoded chars bytes is = engine-decoded standard chars bytes refl is.are_bytes is.written
+
+payload-decoded : (enc : Enc) (chars bytes : List ℕ) → IsPayload enc chars bytes → decoded enc chars ≡ Some bytes
+payload-decoded Hex chars bytes is =
+    let twice = length-payload Hex chars bytes is in
+    ap result_ok (decode_of-even chars (omega (arith, twice)) ∙ decode-upper 0 chars bytes is.are_bytes is.written)
+payload-decoded Base64 chars bytes is = base64-decoded chars bytes is
+
+-- ---- the test of one list of bytes
+
+all-bytes : (bytes : List ℕ) → list_all (λ b. nat_lt b 256) bytes ≡ true → IsBytes bytes
+all-bytes [] h i = omega arith
+all-bytes (b ∷ bytes) h zero = ltb-true b 256 (and_parts (nat_lt b 256) (list_all (λ b. nat_lt b 256) bytes) h).0
+all-bytes (b ∷ bytes) h (suc i) = all-bytes bytes (and_parts (nat_lt b 256) (list_all (λ b. nat_lt b 256) bytes) h).1 i
+
+bytes-all : (bytes : List ℕ) → IsBytes bytes → list_all (λ b. nat_lt b 256) bytes ≡ true
+bytes-all [] h = refl
+bytes-all (b ∷ bytes) h = and_from (nat_lt b 256) (list_all (λ b. nat_lt b 256) bytes) (lt-ltb b 256 (h 0)) (bytes-all bytes (λ i. h (suc i)))
+
+writes-decides : (enc : Enc) (chars bytes : List ℕ) → Decides (writes enc chars bytes) (IsPayload enc chars bytes)
+writes-decides enc chars bytes =
+    let same = bytes_eq-Decides (in_one_case enc chars) (encoding enc bytes) in (
       λ h.
-          let is = read.0 h in
-          record { are_bytes = is.0; written = is.1 },
-      λ is. read.1 (is.are_bytes, is.written),
+          let parts = and_parts (list_all (λ b. nat_lt b 256) bytes) (bytes_eq (in_one_case enc chars) (encoding enc bytes)) h in
+          record { are_bytes = all-bytes bytes parts.0; written = same.0 parts.1 },
+      λ is. and_from (list_all (λ b. nat_lt b 256) bytes) (bytes_eq (in_one_case enc chars) (encoding enc bytes)) (bytes-all bytes is.are_bytes) (same.1 is.written),
     )
 
-pub payload-read : (enc : Enc) (chars bytes : List ℕ) → IsBytes chars → (payload_bytes enc chars ≡ Some bytes) ↔ IsPayload enc chars bytes
-payload-read Hex chars bytes small = hex-read chars bytes
-payload-read Base64 chars bytes small = base64-read chars bytes small
+-- ---- the bytes and the test
+
+kept : (t : List ℕ → Bool) (bytes : List ℕ) → t bytes ≡ true → option_and_then (λ b. if t b then Some b else None) (Some bytes) ≡ Some bytes
+kept t bytes h = rw h refl
+
+chosen : (b : Bool) (x bytes : List ℕ) → (if b then Some x else None) ≡ Some bytes → (b ≡ true) × (x ≡ bytes)
+chosen true x bytes h = (refl, cc h)
+chosen false x bytes h = cc h
+
+found : (t : List ℕ → Bool) (o : Option (List ℕ)) (bytes : List ℕ) → option_and_then (λ b. if t b then Some b else None) o ≡ Some bytes → t bytes ≡ true
+found t None bytes h = cc h
+found t (Some x) bytes h =
+    let parts = chosen (t x) x bytes h in
+    ap t (sym parts.1) ∙ parts.0
+
+pub payload-read : (enc : Enc) (chars bytes : List ℕ) → (payload_bytes enc chars ≡ Some bytes) ↔ IsPayload enc chars bytes
+unfolding payload_bytes
+payload-read enc chars bytes = (
+  λ h. (writes-decides enc chars bytes).0 (found (writes enc chars) (decoded enc chars) bytes h),
+  λ is.
+      ap (option_and_then (λ b. if writes enc chars b then Some b else None)) (payload-decoded enc chars bytes is)
+      ∙ kept (writes enc chars) bytes ((writes-decides enc chars bytes).1 is),
+)
+
+sized : (o : Option (List ℕ)) (size : ℕ) → option_map_or (λ bytes. length bytes == size) o false ≡ true → (bytes : List ℕ) × (o ≡ Some bytes) × (length bytes ≡ size)
+sized None size h = cc h
+sized (Some bytes) size h = (bytes, refl, eqb-true (length bytes) size h)
+
+pub payload_test-decides : (enc : Enc) (size : ℕ) (chars : List ℕ) → Decides (payload_test enc size chars) (IsPayloadOf enc chars size)
+unfolding payload_test
+payload_test-decides enc size chars = (
+  λ h.
+      let it = sized (payload_bytes enc chars) size h in
+      record { bytes = it.0; count = it.2; payload = (payload-read enc chars it.0).0 it.1 },
+  λ is.
+      ap (λ o. option_map_or (λ bytes. length bytes == size) o false) ((payload-read enc chars is.bytes).1 is.payload)
+      ∙ eq-eqb (length is.bytes) size is.count,
+)

@@ -1,7 +1,6 @@
 // The payloads of binaries: the characters that write their bytes.
 ghost use Rattle.std.specs.Prelude.{◌≡◌, ◌↔◌, ℕ, ◌%◌, List, ◌++◌, length, IsTrue};
-ghost use Rattle.base64.specs.GeneralPurpose.{IsBytes};
-ghost use Rattle.term_forms.specs.Payload.{IsPayload, IsPayloadOf, encoding, chars_of, group_of, payload_bytes};
+ghost use Rattle.term_forms.specs.Payload.{IsPayload, IsPayloadOf, encoding, chars_of, group_of, payload_bytes, payload_test};
 
 use crate::enc::Enc;
 use base64::engine::general_purpose::STANDARD;
@@ -50,7 +49,8 @@ fn piece_chars(enc: Enc) -> usize
 
 /// Whether the characters are the payload of exactly `size` bytes.
 pub fn is_payload(chars: &[u8], enc: Enc, size: u64) -> bool
-    ensures { IsTrue result ↔ IsPayloadOf enc chars.now size }
+    ensures found { IsTrue result ↔ IsPayloadOf enc chars.now size }
+    ensures test { result ≡ payload_test enc size chars.now }
 {
     let mut buffer = [0; PIECE];
     let width = piece_chars(enc);
@@ -85,11 +85,12 @@ pub fn payload_is_of_one(enc: Enc)
         → IsPayload enc chars bytes → length chars ≡ chars_of enc (length bytes) }
 {}
 
-/// The law that the definition `payload_bytes`, which computes, gives the bytes of a payload, and none for other
-/// characters.
+/// The law of the two definitions that compute: `payload_bytes` gives the bytes of a payload and nothing else, and
+/// `payload_test` tells a payload of so many bytes.
 pub fn payload_bytes_are_read(enc: Enc)
-    ensures { (chars bytes : List ℕ) → IsBytes chars
-        → (payload_bytes enc chars ≡ Some bytes) ↔ IsPayload enc chars bytes }
+    ensures bytes { (chars bytes : List ℕ) → (payload_bytes enc chars ≡ Some bytes) ↔ IsPayload enc chars bytes }
+    ensures test { (chars : List ℕ) (size : ℕ)
+        → IsTrue (payload_test enc size chars) ↔ IsPayloadOf enc chars size }
 {}
 
 #[cfg(test)]

@@ -3,6 +3,8 @@ use Rattle.std.proofs.lemmas.List.{length-take-le}
 use Rattle.term_forms.specs.declared.enc.Enc.{Enc}
 use Rattle.term_forms.specs.declared.enc.Enc.TheVariants.{Hex, Base64}
 use Rattle.term_forms.specs.Payload.{IsPayloadOf, chars_of, group_of}
+use Rattle.std.proofs.lemmas.Bool.Decides.{same_from_decides}
+use Rattle.term_forms.proofs.PayloadBytes.{payload_test-decides}
 use Rattle.term_forms.proofs.Pieces.{too_few, payload_of-front, payload_of-rest, payload_of-whole}
 use Rattle.term_forms.proofs.payloads.is_payload.Goals as goal
 
@@ -18,14 +20,14 @@ same_payload enc x y m n e room is = subst (λ k. IsPayloadOf enc y k) room (sub
 pub loop-left-init : goal.loop-left-init
 loop-left-init c = (search rules, (λ is. is, λ is. is))
 
-pub returns-in_default : goal.returns-in_default
-returns-in_default c = (
+pub returns-in_default-clause-found : goal.returns-in_default-clause-found
+returns-in_default-clause-found c = (
   λ no. cc no,
   λ is. absurd (too_few c.args.enc c.loop-left.rest.now 768 c.loop-left.left c.piece_chars-width.result c.piece_chars-width.ensures (omega arith) c.in_default.ensures.cases (c.loop-left.invariant.1.0 is)),
 )
 
-pub returns-then-not-payload : goal.returns-then-not-payload
-returns-then-not-payload c =
+pub returns-then-not-payload-clause-found : goal.returns-then-not-payload-clause-found
+returns-then-not-payload-clause-found c =
     let cut = c.in-Some.ensures.cases in (
       λ no. cc no,
       λ is.
@@ -52,10 +54,19 @@ loop-left-preserved c =
       ),
     )
 
-pub returns : goal.returns
-returns c =
+pub returns-clause-found : goal.returns-clause-found
+returns-clause-found c =
     let room : length (take c.loop-left.left c.loop-left.buffer) ≡ c.loop-left.left = length-take-le _ _ (omega (arith, c.loop-left.invariant.0)) in
     let back = c.loop-left.invariant.1 in (
       λ yes. back.1 (same_payload c.args.enc c.loop-left.rest.now _ _ _ refl room (c.payload-2.ensures.found.0 yes)),
       λ is. c.payload-2.ensures.found.1 (same_payload c.args.enc c.loop-left.rest.now _ _ _ refl (sym room) (back.0 is)),
     )
+
+pub returns-in_default-clause-test : goal.returns-in_default-clause-test
+returns-in_default-clause-test c = same_from_decides _ _ (returns-in_default-clause-found c) (payload_test-decides c.args.enc c.args.size c.args.chars.now)
+
+pub returns-then-not-payload-clause-test : goal.returns-then-not-payload-clause-test
+returns-then-not-payload-clause-test c = same_from_decides _ _ (returns-then-not-payload-clause-found c) (payload_test-decides c.args.enc c.args.size c.args.chars.now)
+
+pub returns-clause-test : goal.returns-clause-test
+returns-clause-test c = same_from_decides _ _ (returns-clause-found c) (payload_test-decides c.args.enc c.args.size c.args.chars.now)
