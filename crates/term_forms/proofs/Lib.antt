@@ -1,9 +1,16 @@
+pub mod Base64Payload
+pub mod Encodings
 pub mod Fronts
 pub mod FrontsTaken
+pub mod HexDigits
+pub mod HexPayload
 pub mod Hexes
 pub mod Joins
 pub mod OfElements
+pub mod PayloadBytes
+pub mod Pieces
 pub mod PlainHex
+pub mod Ranges
 pub mod Runs
 pub mod Steps
 pub mod WordTexts

@@ -1,3 +1,4 @@
+pub mod Cover
 pub mod Elements
 pub mod Forms
 pub mod Joined

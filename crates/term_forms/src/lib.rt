@@ -1,6 +1,12 @@
-//! The elements and the heap forms of a crash dump's text, read and written, in both encodings of binaries.
+//! The elements and the heap forms of a crash dump's text, read and written, and the payloads of binaries, in both
+//! encodings.
+//!
+//! The types `Elem`, `Form` and `Cover` stand in [`shapes`], and the functions `elem`, `form` and `cover`, which have
+//! their names, in [`reading`].
 #![tactic(auto)]
 
+mod covering;
+mod covers;
 mod elements;
 mod elems;
 mod enc;
@@ -11,9 +17,13 @@ pub mod reading;
 pub mod shapes;
 mod words;
 
+pub use covering::cover_holds_range;
 pub use elems::Elems;
 pub use enc::Enc;
 pub use laws::{
     front_is_longest, front_of_element, plain_spelling_of_elements, unique_reading_of_elements,
+};
+pub use payloads::{
+    encoding_in_pieces, is_payload, payload, payload_bytes_are_read, payload_is_of_one,
 };
 pub use words::heap_line;
