@@ -1,12 +1,17 @@
 pub mod Base64Payload
 pub mod Encodings
+pub mod FormParts
+pub mod FormsRead
+pub mod FormsTaken
 pub mod Fronts
 pub mod FrontsTaken
 pub mod HexDigits
 pub mod HexPayload
 pub mod Hexes
 pub mod Joins
+pub mod LedLines
 pub mod OfElements
+pub mod OfForms
 pub mod PayloadBytes
 pub mod Pieces
 pub mod PlainHex

@@ -21,3 +21,7 @@ element_len found = (element found.0, found.1)
 -- the value of an element beside a text
 abbrev pub element_rest : Elem × Bor (List ℕ) → Element × List ℕ
 element_rest found = (element found.0, found.1.now)
+
+-- a number beside a text
+abbrev pub number_rest : ℕ × Bor (List ℕ) → ℕ × List ℕ
+number_rest found = (found.0, found.1.now)

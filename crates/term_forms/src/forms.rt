@@ -1,9 +1,9 @@
 // Reading forms.
-ghost use Rattle.std.specs.Prelude.{◌≡◌, ℕ, List};
+ghost use Rattle.std.specs.Prelude.{◌≡◌, IfSome, IfNone};
 ghost use Rattle.std.specs.Option.{option_map, option_copied};
-ghost use Rattle.std.specs.Bool.{IsTrue};
-ghost use Rattle.term_forms.specs.Words.{is_digits, is_hex_digits, is_based, is_long};
+ghost use Rattle.term_forms.specs.Forms.{HeapForm, IsForm};
 ghost use Rattle.term_forms.specs.ReadingForms.{cons_of, counted_of, float_of, bracketed_of, port_of, payload_of, range_of, binary_of, flat_of, hash_of, map_of, form_of};
+ghost use Rattle.term_forms.specs.Seen.{number_rest};
 ghost use Rattle.term_forms.specs.SeenForms.{heap_form};
 
 use crate::elems::{Elems, elem_until, whole_elem};
@@ -64,7 +64,7 @@ fn port(text: &[u8]) -> Option<Form<'_>>
 // A length, and the characters of so many bytes.
 #[tactic(auto, unfolding(crate::specs::ReadingForms::payload_of))]
 fn sized(text: &[u8], enc: Enc) -> Option<(u64, &[u8])>
-    ensures { option_map (λ found. (found.0, found.1.now)) result ≡ payload_of enc text.now }
+    ensures { option_map number_rest result ≡ payload_of enc text.now }
 {
     let (size, chars) = heap_line(text)?;
     if is_payload(chars, enc, size) {
@@ -142,10 +142,9 @@ fn map(text: &[u8]) -> Option<Form<'_>>
     }
 }
 
-/// The form that the whole text spells, with payloads in the encoding. None where it spells no form.
 #[tactic(auto, unfolding(crate::specs::ReadingForms::form_of))]
-pub fn form(text: &[u8], enc: Enc) -> Option<Form<'_>>
-    ensures exact { option_map heap_form result ≡ form_of enc text.now }
+fn read_form(text: &[u8], enc: Enc) -> Option<Form<'_>>
+    ensures { option_map heap_form result ≡ form_of enc text.now }
 {
     let (tag, rest) = text.split_first()?;
     match *tag {
@@ -169,4 +168,16 @@ pub fn form(text: &[u8], enc: Enc) -> Option<Form<'_>>
         b'M' => map(rest),
         _ => None,
     }
+}
+
+/// The form that the whole text spells, with payloads in the encoding. None where it spells no form.
+pub fn form(text: &[u8], enc: Enc) -> Option<Form<'_>>
+    // What is found is a form that the text spells.
+    ensures found { IfSome result (λ f. IsForm enc text.now (heap_form f)) }
+    // Nothing is found only where the text spells no form.
+    ensures none { IfNone result ((f : HeapForm) → IsForm enc text.now f → ⊥) }
+    // The same, as a function of the text.
+    ensures exact { option_map heap_form result ≡ form_of enc text.now }
+{
+    read_form(text, enc)
 }

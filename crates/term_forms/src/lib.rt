@@ -21,7 +21,8 @@ pub use covering::cover_holds_range;
 pub use elems::Elems;
 pub use enc::Enc;
 pub use laws::{
-    front_is_longest, front_of_element, plain_spelling_of_elements, unique_reading_of_elements,
+    form_is_read, front_is_longest, front_of_element, number_is_read, plain_spelling_of_elements,
+    plain_spelling_of_forms, unique_reading_of_elements, unique_reading_of_forms,
 };
 pub use payloads::{
     encoding_in_pieces, is_payload, payload, payload_bytes_are_read, payload_is_of_one,

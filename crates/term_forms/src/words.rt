@@ -1,9 +1,10 @@
 // The words that elements and forms are made of.
-ghost use Rattle.std.specs.Prelude.{◌≡◌, ◌==◌, ◌<◌, ◌≤◌, length, take, IfSome};
+ghost use Rattle.std.specs.Prelude.{◌≡◌, ℕ, ◌==◌, ◌<◌, ◌≤◌, List, length, take, IfSome, IfNone};
 ghost use Rattle.std.specs.List.{prefix_len, position, list_all};
 ghost use Rattle.std.specs.Option.{option_map};
 ghost use Rattle.std.specs.Char.{is_ascii_digit};
-ghost use Rattle.term_forms.specs.Words.{colon, is_hex_digit, is_dotted, is_digits, is_hex_digits, is_based, is_long};
+ghost use Rattle.term_forms.specs.Words.{colon, is_hex_digit, is_dotted, is_digits, is_hex_digits, is_based, is_long, IsLed};
+ghost use Rattle.term_forms.specs.Seen.{number_rest};
 ghost use Rattle.term_forms.specs.Reading.{led_of, digits_len, integer_len, bracketed_len};
 
 use dump_io::hex_u64;
@@ -14,16 +15,29 @@ fn first_colon(text: &[u8]) -> Option<usize>
     text.iter().position(|c| *c == b':')
 }
 
-/// The address of a heap line and its form's text: a hex number of 1 to 16 digits, and what stands behind
-/// the first `:`. None where the text has no `:`, or something else than such a number before the first.
+// The number before the first colon, and what stands behind that colon.
 #[tactic(auto, unfolding(crate::specs::Reading::led_of))]
-pub fn heap_line(text: &[u8]) -> Option<(u64, &[u8])>
-    ensures exact { option_map (λ found. (found.0, found.1.now)) result ≡ led_of text.now }
+fn read_led(text: &[u8]) -> Option<(u64, &[u8])>
+    ensures exact { option_map number_rest result ≡ led_of text.now }
     ensures shorter { IfSome result (λ found. length found.1.now < length text.now) }
 {
     let at = first_colon(text)?;
     let number = hex_u64(&text[..at])?;
     Some((number, &text[at + 1..]))
+}
+
+/// The address of a heap line and its form's text: a hex number of 1 to 16 digits, and what stands behind
+/// the first `:`. None where the text has no `:`, or something else than such a number before the first.
+pub fn heap_line(text: &[u8]) -> Option<(u64, &[u8])>
+    // What is found is a number, a colon and the rest.
+    ensures found { IfSome result (λ found. IsLed text.now found.0 found.1.now) }
+    // Nothing is found only where the text isn't one.
+    ensures none { IfNone result ((address : ℕ) (rest : List ℕ) → IsLed text.now address rest → ⊥) }
+    // The same, as a function of the text.
+    ensures exact { option_map number_rest result ≡ led_of text.now }
+    ensures shorter { IfSome result (λ found. length found.1.now < length text.now) }
+{
+    read_led(text)
 }
 
 fn digit_run(text: &[u8]) -> usize
