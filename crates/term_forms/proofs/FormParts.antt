@@ -32,7 +32,7 @@ pub whole_full : (text : List ℕ) (e : Element) → IsElem text e → whole_of 
 unfolding whole_of
 whole_full text e is =
     bind_from (front text) (λ found. if found.1 == length text then Some found.0 else None) (e, length text) e (front_whole text e is)
-        (guard_from (length text == length text) (Some e) (same_length (length text)))
+    (guard_from (length text == length text) (Some e) (same_length (length text)))
 
 pub whole_sound : (text : List ℕ) (e : Element) → whole_of text ≡ Some e → IsElem text e
 unfolding whole_of
@@ -63,9 +63,9 @@ until_full stop text first rest e ends split is =
     let whole = first ++ stop ∷ rest in
     ap (until_of stop) split
     ∙ bind_from (front (first ++ stop ∷ rest)) (λ found. behind stop (drop found.1 (first ++ stop ∷ rest)) >>= λ rest. Some (found.0, rest)) (e, length first) (e, rest)
-        (front_before first (stop ∷ rest) e is ends)
-        (bind_from (behind stop (drop (length first) (first ++ stop ∷ rest))) (λ rest. Some (e, rest)) rest (e, rest)
-            (ap (behind stop) (drop_at first (stop ∷ rest) (length first) refl) ∙ behind_from stop rest) refl)
+    (front_before first (stop ∷ rest) e is ends)
+    (bind_from (behind stop (drop (length first) (first ++ stop ∷ rest))) (λ rest. Some (e, rest)) rest (e, rest)
+    (ap (behind stop) (drop_at first (stop ∷ rest) (length first) refl) ∙ behind_from stop rest) refl)
 
 pub until_sound : (stop : ℕ) (text : List ℕ) (e : Element) (rest : List ℕ) → until_of stop text ≡ Some (e, rest) → (first : List ℕ) × (text ≡ first ++ stop ∷ rest) × IsElem first e
 unfolding until_of
@@ -76,7 +76,7 @@ until_sound stop text e rest h =
     let is = front_sound text step.0.0 step.0.1 step.1 in (
       take step.0.1 text,
       sym (take-append-drop step.0.1 text) ∙ ap (λ t. take step.0.1 text ++ t) (behind_sound stop (drop step.0.1 text) next.0 next.1)
-      ∙ ap (λ rest. take step.0.1 text ++ stop ∷ rest) same.1,
+          ∙ ap (λ rest. take step.0.1 text ++ stop ∷ rest) same.1,
       subst (λ e. IsElem (take step.0.1 text) e) same.0 is.1,
     )
 
@@ -88,8 +88,8 @@ joined_full text [] is = ap (joined_of 0) is
 joined_full text (e ∷ []) is = bind_from (whole_of text) (λ e. Some (e ∷ [])) e (e ∷ []) (whole_full text e is) refl
 joined_full text (e ∷ d ∷ es) is =
     bind_from (until_of comma text) (λ found. joined_of (suc (length es)) found.1 >>= λ es. Some (found.0 ∷ es)) (e, is.1) (e ∷ d ∷ es)
-        (until_full comma text is.0 is.1 e (inr (inl refl)) is.2 is.3)
-        (bind_from (joined_of (suc (length es)) is.1) (λ es. Some (e ∷ es)) (d ∷ es) (e ∷ d ∷ es) (joined_full is.1 (d ∷ es) is.4) refl)
+    (until_full comma text is.0 is.1 e (inr (inl refl)) is.2 is.3)
+    (bind_from (joined_of (suc (length es)) is.1) (λ es. Some (e ∷ es)) (d ∷ es) (e ∷ d ∷ es) (joined_full is.1 (d ∷ es) is.4) refl)
 
 joined_cons : (text first rest : List ℕ) (e : Element) (others : List Element) (n : ℕ) → length others ≡ suc n → text ≡ first ++ comma ∷ rest → IsElem first e → IsJoined rest others
     → IsJoined text (e ∷ others)
@@ -109,7 +109,7 @@ joined_sound (suc (suc n)) text es h =
     let first = until_sound comma text step.0.0 step.0.1 step.1 in
     let others = joined_sound (suc n) step.0.1 next.0 next.1 in
     subst (λ es. (length es ≡ suc (suc n)) × IsJoined text es) (same_Some (step.0.0 ∷ next.0) es next.2)
-        (ap suc others.0, joined_cons text first.0 step.0.1 step.0.0 next.0 n others.0 first.1 first.2 others.1)
+    (ap suc others.0, joined_cons text first.0 step.0.1 step.0.0 next.0 n others.0 first.1 first.2 others.1)
 
 -- ---- a number and so many elements
 
@@ -130,8 +130,8 @@ pub bracketed_whole : (text : List ℕ) → IsBracketed text → bracketed_of te
 unfolding bracketed_of
 bracketed_whole text is =
     bind_from (bracketed_len text) (λ n. if n == length text then Some text else None) (length text) text
-        (ap bracketed_len (sym (append-nil text)) ∙ bracketed_full text [] is)
-        (guard_from (length text == length text) (Some text) (same_length (length text)))
+    (ap bracketed_len (sym (append-nil text)) ∙ bracketed_full text [] is)
+    (guard_from (length text == length text) (Some text) (same_length (length text)))
 
 pub bracketed_is : (text port : List ℕ) → bracketed_of text ≡ Some port → (text ≡ port) × IsBracketed port
 unfolding bracketed_of
@@ -149,7 +149,7 @@ pub payload_full : (enc : Enc) (text : List ℕ) (size : ℕ) (chars : List ℕ)
 unfolding payload_of
 payload_full enc text size chars led is =
     bind_from (led_of text) (λ led. if payload_test enc led.0 led.1 then Some led else None) (size, chars) (size, chars) (led_full text size chars led)
-        (guard_from (payload_test enc size chars) (Some (size, chars)) ((payload_test-decides enc size chars).1 is))
+    (guard_from (payload_test enc size chars) (Some (size, chars)) ((payload_test-decides enc size chars).1 is))
 
 pub payload_sound : (enc : Enc) (text : List ℕ) (found : ℕ × List ℕ) → payload_of enc text ≡ Some found → IsLed text found.0 found.1 × IsPayloadOf enc found.1 found.0
 unfolding payload_of
@@ -157,7 +157,7 @@ payload_sound enc text found h =
     let step = bind_some (led_of text) (λ led. if payload_test enc led.0 led.1 then Some led else None) found h in
     let guard = guard_some (payload_test enc step.0.0 step.0.1) step.0 found step.2 in
     subst (λ found. IsLed text found.0 found.1 × IsPayloadOf enc found.1 found.0) guard.1
-        (led_sound text step.0.0 step.0.1 step.1, (payload_test-decides enc step.0.0 step.0.1).0 guard.0)
+    (led_sound text step.0.0 step.0.1 step.1, (payload_test-decides enc step.0.0 step.0.1).0 guard.0)
 
 -- ---- an address, an offset and a size
 
@@ -165,10 +165,10 @@ pub range_full : (text : List ℕ) (address offset size : ℕ) → IsRange text 
 unfolding range_of
 range_full text address offset size is =
     bind_from (led_of text) (λ address. led_of address.1 >>= λ offset. hex_number offset.1 >>= λ size. Some (address.0, offset.0, size)) (address, is.0) (address, offset, size)
-        (led_full text address is.0 is.2)
-        (bind_from (led_of is.0) (λ offset. hex_number offset.1 >>= λ size. Some (address, offset.0, size)) (offset, is.1) (address, offset, size)
-            (led_full is.0 offset is.1 is.3)
-            (bind_from (hex_number is.1) (λ size. Some (address, offset, size)) size (address, offset, size) is.4 refl))
+    (led_full text address is.0 is.2)
+    (bind_from (led_of is.0) (λ offset. hex_number offset.1 >>= λ size. Some (address, offset.0, size)) (offset, is.1) (address, offset, size)
+    (led_full is.0 offset is.1 is.3)
+    (bind_from (hex_number is.1) (λ size. Some (address, offset, size)) size (address, offset, size) is.4 refl))
 
 pub range_sound : (text : List ℕ) (range : ℕ × ℕ × ℕ) → range_of text ≡ Some range → IsRange text range.0 range.1 range.2
 unfolding range_of
@@ -177,4 +177,4 @@ range_sound text range h =
     let second = bind_some (led_of first.0.1) (λ offset. hex_number offset.1 >>= λ size. Some (first.0.0, offset.0, size)) range first.2 in
     let third = bind_some (hex_number second.0.1) (λ size. Some (first.0.0, second.0.0, size)) range second.2 in
     subst (λ range. IsRange text range.0 range.1 range.2) (same_Some (first.0.0, second.0.0, third.0) range third.2)
-        (first.0.1, second.0.1, led_sound text first.0.0 first.0.1 first.1, led_sound first.0.1 second.0.0 second.0.1 second.1, third.1)
+    (first.0.1, second.0.1, led_sound text first.0.0 first.0.1 first.1, led_sound first.0.1 second.0.0 second.0.1 second.1, third.1)

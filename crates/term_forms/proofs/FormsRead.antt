@@ -21,14 +21,14 @@ cons_full : (text first rest : List ℕ) (head tail : Element) → text ≡ firs
 unfolding cons_of
 cons_full text first rest head tail split h t =
     bind_from (until_of bar text) (λ head. whole_of head.1 >>= λ tail. Some (Cons head.0 tail)) (head, rest) (Cons head tail)
-        (until_full bar text first rest head (inl refl) split h)
-        (bind_from (whole_of rest) (λ tail. Some (Cons head tail)) tail (Cons head tail) (whole_full rest tail t) refl)
+    (until_full bar text first rest head (inl refl) split h)
+    (bind_from (whole_of rest) (λ tail. Some (Cons head tail)) tail (Cons head tail) (whole_full rest tail t) refl)
 
 float_full : (text bytes : List ℕ) → IsLed text (length bytes) bytes → float_of text ≡ Some (Float bytes)
 unfolding float_of
 float_full text bytes led =
     bind_from (led_of text) (λ led. if length led.1 == led.0 then Some (Float led.1) else None) (length bytes, bytes) (Float bytes) (led_full text (length bytes) bytes led)
-        (guard_from (length bytes == length bytes) (Some (Float bytes)) (eq-eqb (length bytes) (length bytes) refl))
+    (guard_from (length bytes == length bytes) (Some (Float bytes)) (eq-eqb (length bytes) (length bytes) refl))
 
 port_at : (text port : List ℕ) (skip : ℕ) → (if starts_with nat_eq text port_word then 5 else 0) ≡ skip → drop skip text ≡ port → IsBracketed port → port_of text ≡ Some (Port port)
 unfolding port_of
@@ -47,17 +47,17 @@ flat_full : (text first rest : List ℕ) (keys : Element) (values : List Element
 unfolding flat_of
 flat_full text first rest keys values led k vs =
     bind_from (led_of text) (λ led. until_of colon led.1 >>= λ keys. joined_of led.0 keys.1 >>= λ values. Some (Flat keys.0 values)) (length values, first ++ colon ∷ rest) (Flat keys values)
-        (led_full text (length values) (first ++ colon ∷ rest) led)
-        (bind_from (until_of colon (first ++ colon ∷ rest)) (λ keys. joined_of (length values) keys.1 >>= λ values. Some (Flat keys.0 values)) (keys, rest) (Flat keys values)
-            (until_full colon (first ++ colon ∷ rest) first rest keys (inr (inr refl)) refl k)
-            (bind_from (joined_of (length values) rest) (λ values. Some (Flat keys values)) values (Flat keys values) (joined_full rest values vs) refl))
+    (led_full text (length values) (first ++ colon ∷ rest) led)
+    (bind_from (until_of colon (first ++ colon ∷ rest)) (λ keys. joined_of (length values) keys.1 >>= λ values. Some (Flat keys.0 values)) (keys, rest) (Flat keys values)
+    (until_full colon (first ++ colon ∷ rest) first rest keys (inr (inr refl)) refl k)
+    (bind_from (joined_of (length values) rest) (λ values. Some (Flat keys values)) values (Flat keys values) (joined_full rest values vs) refl))
 
 hash_full : (text counted rest : List ℕ) (size : ℕ) (children : List Element) → IsLed text size counted → IsLed counted (length children) rest → IsJoined rest children
     → hash_of text ≡ Some (Hash size children)
 unfolding hash_of
 hash_full text counted rest size children led count is =
     bind_from (led_of text) (λ led. counted_of led.1 >>= λ children. Some (Hash led.0 children)) (size, counted) (Hash size children) (led_full text size counted led)
-        (bind_from (counted_of counted) (λ children. Some (Hash size children)) children (Hash size children) (counted_full counted rest children count is) refl)
+    (bind_from (counted_of counted) (λ children. Some (Hash size children)) children (Hash size children) (counted_full counted rest children count is) refl)
 
 long_full : (enc : Enc) (number : List ℕ) → IsTrue (is_long number) → form_of enc (66 ∷ number) ≡ Some (Long number)
 unfolding form_of

@@ -26,7 +26,7 @@ cons_takes enc text f h =
     let tail = bind_some (whole_of head.0.1) (λ tail. Some (Cons head.0.0 tail)) f head.2 in
     let first = until_sound bar text head.0.0 head.0.1 head.1 in
     subst (Spells enc (108 ∷ text)) (same_Some (Cons head.0.0 tail.0) f tail.2)
-        (first.0, head.0.1, ap (λ t. 108 ∷ t) first.1, first.2, whole_sound head.0.1 tail.0 tail.1)
+    (first.0, head.0.1, ap (λ t. 108 ∷ t) first.1, first.2, whole_sound head.0.1 tail.0 tail.1)
 
 tuple_takes : (enc : Enc) (text : List ℕ) (f : HeapForm) → (counted_of text >>= λ elements. Some (Tuple elements)) ≡ Some f → Spells enc (116 ∷ text) f
 tuple_takes enc text f h =
@@ -63,7 +63,7 @@ port_takes_by enc text f true e h =
     let step = bind_some (bracketed_of (drop 5 text)) (λ port. Some (Port port)) f h in
     let is = bracketed_is (drop 5 text) step.0 step.1 in
     subst (Spells enc (112 ∷ text)) (same_Some (Port step.0) f step.2)
-        (inr (ap (λ t. 112 ∷ t) (starts_parts text port_word e) ∙ ap (λ t. 112 ∷ (port_word ++ t)) is.0), is.1)
+    (inr (ap (λ t. 112 ∷ t) (starts_parts text port_word e) ∙ ap (λ t. 112 ∷ (port_word ++ t)) is.0), is.1)
 
 port_takes : (enc : Enc) (text : List ℕ) (f : HeapForm) → port_of text ≡ Some f → Spells enc (112 ∷ text) f
 unfolding port_of
@@ -101,7 +101,7 @@ flat_takes enc text f h =
     let is = joined_sound led.0.0 keys.0.1 values.0 values.1 in
     let count = subst (λ n. IsLed text n led.0.1) (sym is.0) (led_sound text led.0.0 led.0.1 led.1) in
     subst (Spells enc (77 ∷ 102 ∷ text)) (same_Some (Flat keys.0.0 values.0) f values.2)
-        (text, first.0, keys.0.1, refl, subst (λ t. IsLed text (length values.0) t) first.1 count, first.2, is.1)
+    (text, first.0, keys.0.1, refl, subst (λ t. IsLed text (length values.0) t) first.1 count, first.2, is.1)
 
 hash_takes : (enc : Enc) (text : List ℕ) (f : HeapForm) → hash_of text ≡ Some f → Spells enc (77 ∷ 104 ∷ text) f
 unfolding hash_of
@@ -110,7 +110,7 @@ hash_takes enc text f h =
     let step = bind_some (counted_of led.0.1) (λ children. Some (Hash led.0.0 children)) f led.2 in
     let is = counted_sound led.0.1 step.0 step.1 in
     subst (Spells enc (77 ∷ 104 ∷ text)) (same_Some (Hash led.0.0 step.0) f step.2)
-        (text, led.0.1, is.0, refl, led_sound text led.0.0 led.0.1 led.1, is.1, is.2)
+    (text, led.0.1, is.0, refl, led_sound text led.0.0 led.0.1 led.1, is.1, is.2)
 
 node_takes : (enc : Enc) (text : List ℕ) (f : HeapForm) → (counted_of text >>= λ children. Some (Node children)) ≡ Some f → Spells enc (77 ∷ 110 ∷ text) f
 node_takes enc text f h =
@@ -129,45 +129,60 @@ unfolding binary_of
 binary_takes enc [] f h = absurd (let e : None ≡ Some f = h in cc)
 binary_takes enc (c ∷ text) f h =
     elim (chosen (c == 104) (payload_of enc text >>= λ bin. Some (HeapBin bin.0 bin.1)) _ (Some f) h) as (λ _. Spells enc (89 ∷ c ∷ text) f) [
-      inl p ↦ tagged_second enc 89 c 104 text f p.0 (bin_takes enc text f p.1)
-    | inr p ↦ elim (chosen (c == 99) (range_of text >>= λ range. Some (RefBin range.0 range.1 range.2)) _ (Some f) p.1) as (λ _. Spells enc (89 ∷ c ∷ text) f) [
-      inl q ↦ tagged_second enc 89 c 99 text f q.0 (ref_takes enc text f q.1)
-    | inr q ↦ elim (chosen (c == 115) (range_of text >>= λ range. Some (SubBin range.0 range.1 range.2)) None (Some f) q.1) as (λ _. Spells enc (89 ∷ c ∷ text) f) [
-      inl r ↦ tagged_second enc 89 c 115 text f r.0 (sub_takes enc text f r.1)
-    | inr r ↦ absurd (let e : None ≡ Some f = r.1 in cc) ] ] ]
+      | inl p ↦ tagged_second enc 89 c 104 text f p.0 (bin_takes enc text f p.1)
+      | inr p ↦ elim (chosen (c == 99) (range_of text >>= λ range. Some (RefBin range.0 range.1 range.2)) _ (Some f) p.1) as (λ _. Spells enc (89 ∷ c ∷ text) f) [
+        | inl q ↦ tagged_second enc 89 c 99 text f q.0 (ref_takes enc text f q.1)
+        | inr q ↦ elim (chosen (c == 115) (range_of text >>= λ range. Some (SubBin range.0 range.1 range.2)) None (Some f) q.1) as (λ _. Spells enc (89 ∷ c ∷ text) f) [
+          | inl r ↦ tagged_second enc 89 c 115 text f r.0 (sub_takes enc text f r.1)
+          | inr r ↦ absurd (let e : None ≡ Some f = r.1 in cc)
+        ]
+      ]
+    ]
 
 map_takes : (enc : Enc) (text : List ℕ) (f : HeapForm) → map_of text ≡ Some f → Spells enc (77 ∷ text) f
 unfolding map_of
 map_takes enc [] f h = absurd (let e : None ≡ Some f = h in cc)
 map_takes enc (c ∷ text) f h =
     elim (chosen (c == 102) (flat_of text) _ (Some f) h) as (λ _. Spells enc (77 ∷ c ∷ text) f) [
-      inl p ↦ tagged_second enc 77 c 102 text f p.0 (flat_takes enc text f p.1)
-    | inr p ↦ elim (chosen (c == 104) (hash_of text) _ (Some f) p.1) as (λ _. Spells enc (77 ∷ c ∷ text) f) [
-      inl q ↦ tagged_second enc 77 c 104 text f q.0 (hash_takes enc text f q.1)
-    | inr q ↦ elim (chosen (c == 110) (counted_of text >>= λ children. Some (Node children)) None (Some f) q.1) as (λ _. Spells enc (77 ∷ c ∷ text) f) [
-      inl r ↦ tagged_second enc 77 c 110 text f r.0 (node_takes enc text f r.1)
-    | inr r ↦ absurd (let e : None ≡ Some f = r.1 in cc) ] ] ]
+      | inl p ↦ tagged_second enc 77 c 102 text f p.0 (flat_takes enc text f p.1)
+      | inr p ↦ elim (chosen (c == 104) (hash_of text) _ (Some f) p.1) as (λ _. Spells enc (77 ∷ c ∷ text) f) [
+        | inl q ↦ tagged_second enc 77 c 104 text f q.0 (hash_takes enc text f q.1)
+        | inr q ↦ elim (chosen (c == 110) (counted_of text >>= λ children. Some (Node children)) None (Some f) q.1) as (λ _. Spells enc (77 ∷ c ∷ text) f) [
+          | inl r ↦ tagged_second enc 77 c 110 text f r.0 (node_takes enc text f r.1)
+          | inr r ↦ absurd (let e : None ≡ Some f = r.1 in cc)
+        ]
+      ]
+    ]
 
 pub form_sound : (enc : Enc) (text : List ℕ) (f : HeapForm) → form_of enc text ≡ Some f → IsForm enc text f
 unfolding form_of
 form_sound enc [] f h = absurd (let e : None ≡ Some f = h in cc)
 form_sound enc (c ∷ text) f h =
     elim (chosen (c == 108) (cons_of text) _ (Some f) h) as (λ _. Spells enc (c ∷ text) f) [
-      inl p ↦ tagged enc c 108 text f p.0 (cons_takes enc text f p.1)
-    | inr p ↦ elim (chosen (c == 116) (counted_of text >>= λ elements. Some (Tuple elements)) _ (Some f) p.1) as (λ _. Spells enc (c ∷ text) f) [
-      inl q ↦ tagged enc c 116 text f q.0 (tuple_takes enc text f q.1)
-    | inr q ↦ elim (chosen (c == 70) (float_of text) _ (Some f) q.1) as (λ _. Spells enc (c ∷ text) f) [
-      inl r ↦ tagged enc c 70 text f r.0 (float_takes enc text f r.1)
-    | inr r ↦ elim (chosen (c == 66) (if is_long text then Some (Long text) else None) _ (Some f) r.1) as (λ _. Spells enc (c ∷ text) f) [
-      inl s ↦ tagged enc c 66 text f s.0 (long_takes enc text f s.1)
-    | inr s ↦ elim (chosen (c == 80) (bracketed_of text >>= λ pid. Some (Pid pid)) _ (Some f) s.1) as (λ _. Spells enc (c ∷ text) f) [
-      inl t ↦ tagged enc c 80 text f t.0 (pid_takes enc text f t.1)
-    | inr t ↦ elim (chosen (c == 112) (port_of text) _ (Some f) t.1) as (λ _. Spells enc (c ∷ text) f) [
-      inl u ↦ tagged enc c 112 text f u.0 (port_takes enc text f u.1)
-    | inr u ↦ elim (chosen (c == 69) (payload_of enc text >>= λ ext. Some (Ext ext.0 ext.1)) _ (Some f) u.1) as (λ _. Spells enc (c ∷ text) f) [
-      inl v ↦ tagged enc c 69 text f v.0 (ext_takes enc text f v.1)
-    | inr v ↦ elim (chosen (c == 89) (binary_of enc text) _ (Some f) v.1) as (λ _. Spells enc (c ∷ text) f) [
-      inl w ↦ tagged enc c 89 text f w.0 (binary_takes enc text f w.1)
-    | inr w ↦ elim (chosen (c == 77) (map_of text) None (Some f) w.1) as (λ _. Spells enc (c ∷ text) f) [
-      inl x ↦ tagged enc c 77 text f x.0 (map_takes enc text f x.1)
-    | inr x ↦ absurd (let e : None ≡ Some f = x.1 in cc) ] ] ] ] ] ] ] ] ]
+      | inl p ↦ tagged enc c 108 text f p.0 (cons_takes enc text f p.1)
+      | inr p ↦ elim (chosen (c == 116) (counted_of text >>= λ elements. Some (Tuple elements)) _ (Some f) p.1) as (λ _. Spells enc (c ∷ text) f) [
+        | inl q ↦ tagged enc c 116 text f q.0 (tuple_takes enc text f q.1)
+        | inr q ↦ elim (chosen (c == 70) (float_of text) _ (Some f) q.1) as (λ _. Spells enc (c ∷ text) f) [
+          | inl r ↦ tagged enc c 70 text f r.0 (float_takes enc text f r.1)
+          | inr r ↦ elim (chosen (c == 66) (if is_long text then Some (Long text) else None) _ (Some f) r.1) as (λ _. Spells enc (c ∷ text) f) [
+            | inl s ↦ tagged enc c 66 text f s.0 (long_takes enc text f s.1)
+            | inr s ↦ elim (chosen (c == 80) (bracketed_of text >>= λ pid. Some (Pid pid)) _ (Some f) s.1) as (λ _. Spells enc (c ∷ text) f) [
+              | inl t ↦ tagged enc c 80 text f t.0 (pid_takes enc text f t.1)
+              | inr t ↦ elim (chosen (c == 112) (port_of text) _ (Some f) t.1) as (λ _. Spells enc (c ∷ text) f) [
+                | inl u ↦ tagged enc c 112 text f u.0 (port_takes enc text f u.1)
+                | inr u ↦ elim (chosen (c == 69) (payload_of enc text >>= λ ext. Some (Ext ext.0 ext.1)) _ (Some f) u.1) as (λ _. Spells enc (c ∷ text) f) [
+                  | inl v ↦ tagged enc c 69 text f v.0 (ext_takes enc text f v.1)
+                  | inr v ↦ elim (chosen (c == 89) (binary_of enc text) _ (Some f) v.1) as (λ _. Spells enc (c ∷ text) f) [
+                    | inl w ↦ tagged enc c 89 text f w.0 (binary_takes enc text f w.1)
+                    | inr w ↦ elim (chosen (c == 77) (map_of text) None (Some f) w.1) as (λ _. Spells enc (c ∷ text) f) [
+                      | inl x ↦ tagged enc c 77 text f x.0 (map_takes enc text f x.1)
+                      | inr x ↦ absurd (let e : None ≡ Some f = x.1 in cc)
+                    ]
+                  ]
+                ]
+              ]
+            ]
+          ]
+        ]
+      ]
+    ]

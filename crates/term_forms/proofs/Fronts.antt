@@ -51,9 +51,9 @@ reach_small t rest h =
       far = omega arith;
       exact = λ none. (
         let none_here : prefix_len is_ascii_digit rest ≡ 0 = none.1 in
-        ap Small (take-append-add t rest (prefix_len is_ascii_digit rest) ∙ ap (λ n. t ++ take n rest) none_here ∙ append-nil t),
+            ap Small (take-append-add t rest (prefix_len is_ascii_digit rest) ∙ ap (λ n. t ++ take n rest) none_here ∙ append-nil t),
         let none_here : prefix_len is_ascii_digit rest ≡ 0 = none.1 in
-        omega (arith, none_here)
+            omega (arith, none_here),
       );
     }
 
@@ -69,16 +69,16 @@ reach_atom t rest bytes led =
     let size : length t ≡ length led.0 + suc (length bytes) = ap length led.2 ∙ length-append led.0 (colon ∷ bytes) in
     let whole : length (t ++ rest) - length (bytes ++ rest) + length bytes + 1 ≡ suc (length t) = omega (arith, size, length-append t rest, length-append bytes rest) in
     bind_from (led_of (t ++ rest))
-        (λ led. if nat_le led.0 (length led.1) then Some (Atom (take led.0 led.1), length (t ++ rest) - length led.1 + led.0 + 1) else None)
-        (length bytes, bytes ++ rest) (Atom bytes, suc (length t)) read
-        (guard_from (nat_le (length bytes) (length (bytes ++ rest))) _ (le-leb (length bytes) (length (bytes ++ rest)) inside)
-        ∙ some_pair (Atom (take (length bytes) (bytes ++ rest))) (Atom bytes) _ (suc (length t)) (ap Atom (take-append_seam bytes rest)) whole)
+    (λ led. if nat_le led.0 (length led.1) then Some (Atom (take led.0 led.1), length (t ++ rest) - length led.1 + led.0 + 1) else None)
+    (length bytes, bytes ++ rest) (Atom bytes, suc (length t)) read
+    (guard_from (nat_le (length bytes) (length (bytes ++ rest))) _ (le-leb (length bytes) (length (bytes ++ rest)) inside)
+    ∙ some_pair (Atom (take (length bytes) (bytes ++ rest))) (Atom bytes) _ (suc (length t)) (ap Atom (take-append_seam bytes rest)) whole)
 
 reach_pid : (t rest : List ℕ) → IsBracketed t → front ((80 ∷ t) ++ rest) ≡ Some (Pid t, length (80 ∷ t))
 unfolding front pid_front
 reach_pid t rest is =
     bind_from (bracketed_len (t ++ rest)) (λ n. Some (Pid (take n (t ++ rest)), n + 1)) (length t) (Pid t, suc (length t)) (bracketed_full t rest is)
-        (some_pair (Pid (take (length t) (t ++ rest))) (Pid t) (length t + 1) (suc (length t)) (ap Pid (take-append_seam t rest)) (omega arith))
+    (some_pair (Pid (take (length t) (t ++ rest))) (Pid t) (length t + 1) (suc (length t)) (ap Pid (take-append_seam t rest)) (omega arith))
 
 -- what stands behind `p` or behind `p#Port` is read alike
 port_behind : (text t rest : List ℕ) (skip : ℕ) → (if starts_with nat_eq text port_word then 5 else 0) ≡ skip → drop skip text ≡ t ++ rest → IsBracketed t
@@ -88,7 +88,7 @@ port_behind text t rest skip e split is =
     ap (λ k. bracketed_len (drop k text) >>= λ n. Some (Port (take n (drop k text)), k + n + 1)) e
     ∙ ap (λ s. bracketed_len s >>= λ n. Some (Port (take n s), skip + n + 1)) split
     ∙ bind_from (bracketed_len (t ++ rest)) (λ n. Some (Port (take n (t ++ rest)), skip + n + 1)) (length t) (Port t, skip + length t + 1) (bracketed_full t rest is)
-        (some_pair (Port (take (length t) (t ++ rest))) (Port t) (skip + length t + 1) (skip + length t + 1) (ap Port (take-append_seam t rest)) refl)
+    (some_pair (Port (take (length t) (t ++ rest))) (Port t) (skip + length t + 1) (skip + length t + 1) (ap Port (take-append_seam t rest)) refl)
 
 no_port_word : (t rest : List ℕ) → IsBracketed t → starts_with nat_eq (t ++ rest) port_word ≡ false
 no_port_word t rest is = ap (λ t. starts_with nat_eq (t ++ rest) port_word) is.3
@@ -119,14 +119,14 @@ hex_run t rest address is =
     let all : 16 ≡ length t + (16 - length t) = omega (arith, is.few) in
     let split : take 16 (t ++ rest) ≡ t ++ take (16 - length t) rest = ap (λ k. take k (t ++ rest)) all ∙ take-append-add t rest (16 - length t) in
     let run : prefix_len is_hex_digit (take 16 (t ++ rest)) ≡ length t + prefix_len is_hex_digit (take (16 - length t) rest)
-        = ap (prefix_len is_hex_digit) split ∙ run_over is_hex_digit t (take (16 - length t) rest) is.digits in
+    = ap (prefix_len is_hex_digit) split ∙ run_over is_hex_digit t (take (16 - length t) rest) is.digits in
     let within : prefix_len is_hex_digit (take 16 (t ++ rest)) ≤ length (take 16 (t ++ rest)) = prefix_len-le-length is_hex_digit (take 16 (t ++ rest)) in
     let most : prefix_len is_hex_digit (take 16 (t ++ rest)) ≤ 16 = omega (arith, within, length-take 16 (t ++ rest)) in
     let inside : prefix_len is_hex_digit (take 16 (t ++ rest)) ≤ length (t ++ rest) = omega (arith, within, length-take 16 (t ++ rest)) in
     let count : length (take (prefix_len is_hex_digit (take 16 (t ++ rest))) (t ++ rest)) ≡ prefix_len is_hex_digit (take 16 (t ++ rest))
-        = length-take-le (prefix_len is_hex_digit (take 16 (t ++ rest))) (t ++ rest) inside in
+    = length-take-le (prefix_len is_hex_digit (take 16 (t ++ rest))) (t ++ rest) inside in
     let digits : list_all is_hex_digit (take (prefix_len is_hex_digit (take 16 (t ++ rest))) (t ++ rest)) ≡ true
-        = ap (list_all is_hex_digit) (sym (take-take (prefix_len is_hex_digit (take 16 (t ++ rest))) 16 (t ++ rest) most)) ∙ run_passes is_hex_digit (take 16 (t ++ rest)) in
+    = ap (list_all is_hex_digit) (sym (take-take (prefix_len is_hex_digit (take 16 (t ++ rest))) 16 (t ++ rest) most)) ∙ run_passes is_hex_digit (take 16 (t ++ rest)) in
     record {
       n = prefix_len is_hex_digit (take 16 (t ++ rest));
       n_is = refl;

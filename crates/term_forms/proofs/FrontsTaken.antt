@@ -29,7 +29,7 @@ small_takes text found h =
     let step = bind_some (integer_len text) (λ n. Some (Small (take n text), n + 1)) found h in
     let is = integer_sound text step.0 step.1 in
     subst (Takes 73 text) (same_Some (Small (take step.0 text), step.0 + 1) found step.2)
-        (omega (arith, is.0), (one_more 73 text step.0, is.1))
+    (omega (arith, is.0), (one_more 73 text step.0, is.1))
 
 atom_led : (text : List ℕ) (n : ℕ) (more : List ℕ) → IsLed text n more → n ≤ length more → Takes 65 text (Atom (take n more), length text - length more + n + 1)
 atom_led text n more led inside =
@@ -37,7 +37,7 @@ atom_led text n more led inside =
     let size : length text ≡ length led.0 + suc (length more) = ap length led.2 ∙ length-append led.0 (colon ∷ more) in
     let len : length text - length more + n ≡ length led.0 + suc n = omega (arith, size) in
     let front : take (length text - length more + n) text ≡ led.0 ++ colon ∷ take n more
-        = ap (λ k. take k text) len ∙ ap (λ t. take (length led.0 + suc n) t) led.2 ∙ take-append-add led.0 (colon ∷ more) (suc n) in
+    = ap (λ k. take k text) len ∙ ap (λ t. take (length led.0 + suc n) t) led.2 ∙ take-append-add led.0 (colon ∷ more) (suc n) in
     let count : n ≡ length (take n more) = sym (length-take-le n more inside) in (
       omega (arith, size, inside),
       (take (length text - length more + n) text, one_more 65 text (length text - length more + n), (led.0, led.1 ∙ ap Some count, front)),
@@ -56,7 +56,7 @@ pid_takes text found h =
     let step = bind_some (bracketed_len text) (λ n. Some (Pid (take n text), n + 1)) found h in
     let is = bracketed_sound text step.0 step.1 in
     subst (Takes 80 text) (same_Some (Pid (take step.0 text), step.0 + 1) found step.2)
-        (omega (arith, is.0), (one_more 80 text step.0, is.1))
+    (omega (arith, is.0), (one_more 80 text step.0, is.1))
 
 -- `p` may have `#Port` behind it, or not
 port_skip : (text : List ℕ) (skip : ℕ) (word : List ℕ) (found : Element × ℕ) → text ≡ word ++ drop skip text → skip ≡ length word
@@ -68,10 +68,10 @@ port_skip text skip word found split size either h =
     let is = bracketed_sound (drop skip text) step.0 step.1 in
     let count : length text ≡ length word + length (drop skip text) = ap length split ∙ length-append word (drop skip text) in
     let front : take (skip + step.0) text ≡ word ++ take step.0 (drop skip text)
-        = ap (λ k. take (k + step.0) text) size ∙ ap (λ t. take (length word + step.0) t) split ∙ take-append-add word (drop skip text) step.0 in
+    = ap (λ k. take (k + step.0) text) size ∙ ap (λ t. take (length word + step.0) t) split ∙ take-append-add word (drop skip text) step.0 in
     let spelled : take (skip + step.0 + 1) (112 ∷ text) ≡ 112 ∷ (word ++ take step.0 (drop skip text)) = one_more 112 text (skip + step.0) ∙ ap (λ t. 112 ∷ t) front in
     subst (Takes 112 text) (same_Some (Port (take step.0 (drop skip text)), skip + step.0 + 1) found step.2)
-        (omega (arith, count, is.0, size), (either (take (skip + step.0 + 1) (112 ∷ text)) (take step.0 (drop skip text)) spelled, is.1))
+    (omega (arith, count, is.0, size), (either (take (skip + step.0 + 1) (112 ∷ text)) (take step.0 (drop skip text)) spelled, is.1))
 
 port_takes_by : (text : List ℕ) (found : Element × ℕ) (b : Bool) → starts_with nat_eq text port_word ≡ b
     → (bracketed_len (drop (if b then 5 else 0) text) >>= λ n. Some (Port (take n (drop (if b then 5 else 0) text)), (if b then 5 else 0) + n + 1)) ≡ Some found → Takes 112 text found
@@ -88,7 +88,7 @@ ref_takes text found h =
     let step = bind_some (hex_number (take (prefix_len is_hex_digit (take 16 text)) text)) (λ address. Some (Ref address, prefix_len is_hex_digit (take 16 text) + 1)) found h in
     let inside : prefix_len is_hex_digit (take 16 text) ≤ length text = omega (arith, prefix_len-le-length is_hex_digit (take 16 text), length-take 16 text) in
     subst (Takes 72 text) (same_Some (Ref step.0, prefix_len is_hex_digit (take 16 text) + 1) found step.2)
-        (omega (arith, inside), (take (prefix_len is_hex_digit (take 16 text)) text, one_more 72 text (prefix_len is_hex_digit (take 16 text)), step.1))
+    (omega (arith, inside), (take (prefix_len is_hex_digit (take 16 text)) text, one_more 72 text (prefix_len is_hex_digit (take 16 text)), step.1))
 
 nil_takes : (text : List ℕ) (found : Element × ℕ) → Some (Nil, 1) ≡ Some found → Takes 78 text found
 nil_takes text found h = subst (Takes 78 text) (same_Some (Nil, 1) found h) (omega arith, refl)
@@ -100,18 +100,24 @@ front_takes : (c : ℕ) (text : List ℕ) (found : Element × ℕ) → front (c 
 unfolding front
 front_takes c text found h =
     elim (chosen (c == 78) (Some (Nil, 1)) _ (Some found) h) as (λ _. Takes c text found) [
-      inl p ↦ tagged c 78 text found p.0 (nil_takes text found p.1)
-    | inr p ↦ elim (chosen (c == 73) (small_front text) _ (Some found) p.1) as (λ _. Takes c text found) [
-      inl q ↦ tagged c 73 text found q.0 (small_takes text found q.1)
-    | inr q ↦ elim (chosen (c == 65) (atom_front text) _ (Some found) q.1) as (λ _. Takes c text found) [
-      inl r ↦ tagged c 65 text found r.0 (atom_takes text found r.1)
-    | inr r ↦ elim (chosen (c == 80) (pid_front text) _ (Some found) r.1) as (λ _. Takes c text found) [
-      inl s ↦ tagged c 80 text found s.0 (pid_takes text found s.1)
-    | inr s ↦ elim (chosen (c == 112) (port_front text) _ (Some found) s.1) as (λ _. Takes c text found) [
-      inl t ↦ tagged c 112 text found t.0 (port_takes text found t.1)
-    | inr t ↦ elim (chosen (c == 72) (ref_front text) None (Some found) t.1) as (λ _. Takes c text found) [
-      inl u ↦ tagged c 72 text found u.0 (ref_takes text found u.1)
-    | inr u ↦ absurd (let e : None ≡ Some found = u.1 in cc) ] ] ] ] ] ]
+      | inl p ↦ tagged c 78 text found p.0 (nil_takes text found p.1)
+      | inr p ↦ elim (chosen (c == 73) (small_front text) _ (Some found) p.1) as (λ _. Takes c text found) [
+        | inl q ↦ tagged c 73 text found q.0 (small_takes text found q.1)
+        | inr q ↦ elim (chosen (c == 65) (atom_front text) _ (Some found) q.1) as (λ _. Takes c text found) [
+          | inl r ↦ tagged c 65 text found r.0 (atom_takes text found r.1)
+          | inr r ↦ elim (chosen (c == 80) (pid_front text) _ (Some found) r.1) as (λ _. Takes c text found) [
+            | inl s ↦ tagged c 80 text found s.0 (pid_takes text found s.1)
+            | inr s ↦ elim (chosen (c == 112) (port_front text) _ (Some found) s.1) as (λ _. Takes c text found) [
+              | inl t ↦ tagged c 112 text found t.0 (port_takes text found t.1)
+              | inr t ↦ elim (chosen (c == 72) (ref_front text) None (Some found) t.1) as (λ _. Takes c text found) [
+                | inl u ↦ tagged c 72 text found u.0 (ref_takes text found u.1)
+                | inr u ↦ absurd (let e : None ≡ Some found = u.1 in cc)
+              ]
+            ]
+          ]
+        ]
+      ]
+    ]
 
 -- what is read is a part of the text, and spells the element
 pub front_sound : (text : List ℕ) (e : Element) (n : ℕ) → front text ≡ Some (e, n) → (n ≤ length text) × IsElem (take n text) e

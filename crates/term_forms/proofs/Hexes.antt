@@ -80,7 +80,7 @@ led_at text at e inside =
 colon_after : (hex rest : List ℕ) → list_all is_hex_digit hex ≡ true → position_or_len is_colon (hex ++ colon ∷ rest) ≡ length hex
 colon_after hex rest digits =
     let over : prefix_len (λ c. not (is_colon c)) (hex ++ colon ∷ rest) ≡ length hex + 0
-        = run_over (λ c. not (is_colon c)) hex (colon ∷ rest) (list_all_also is_hex_digit (λ c. not (is_colon c)) hex no_colon digits) in
+    = run_over (λ c. not (is_colon c)) hex (colon ∷ rest) (list_all_also is_hex_digit (λ c. not (is_colon c)) hex no_colon digits) in
     omega (arith, over)
 
 -- the number that leads a text, and what stands behind its colon, are read
@@ -93,7 +93,7 @@ led_full text n rest led =
     let number : hex_number (take (length hex) whole) ≡ Some n = ap hex_number (take-append_seam hex (colon ∷ rest)) ∙ led.1 in
     ap led_of led.2 ∙ led_at whole (length hex) (colon_after hex rest is.digits) inside
     ∙ bind_from (hex_number (take (length hex) whole)) (λ n. Some (n, drop (length hex + 1) whole)) n (n, rest) number
-        (ap (λ r. Some (n, r)) (drop-append-add hex (colon ∷ rest) 1))
+    (ap (λ r. Some (n, r)) (drop-append-add hex (colon ∷ rest) 1))
 
 -- what is read is the number that leads the text
 pub led_sound : (text : List ℕ) (n : ℕ) (rest : List ℕ) → led_of text ≡ Some (n, rest) → IsLed text n rest

@@ -1,3 +1,4 @@
+pub mod Appending
 pub mod Base64Payload
 pub mod Encodings
 pub mod FormParts
@@ -7,12 +8,14 @@ pub mod Fronts
 pub mod FrontsTaken
 pub mod HexDigits
 pub mod HexPayload
+pub mod HexSteps
 pub mod Hexes
 pub mod Joins
 pub mod LedLines
 pub mod OfElements
 pub mod OfForms
 pub mod PayloadBytes
+pub mod PieceTexts
 pub mod Pieces
 pub mod PlainHex
 pub mod Ranges

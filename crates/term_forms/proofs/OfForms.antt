@@ -57,12 +57,24 @@ plain_form_is enc text (Ext size chars) (led, e, l, is) = (hex size ++ colon ∷
 plain_form_is enc text (HeapBin size chars) (led, e, l, is) = (hex size ++ colon ∷ chars, refl, led_again led size chars chars l, is)
 plain_form_is enc text (RefBin address offset size) (range, e, is) = (hex address ++ colon ∷ (hex offset ++ colon ∷ hex size), refl, range_plain range address offset size is)
 plain_form_is enc text (SubBin address offset size) (range, e, is) = (hex address ++ colon ∷ (hex offset ++ colon ∷ hex size), refl, range_plain range address offset size is)
-plain_form_is enc text (Flat keys values) (led, first, rest, e, l, k, vs) =
-    (hex (length values) ++ colon ∷ (plain_elem keys ++ colon ∷ plain_joined values), plain_elem keys, plain_joined values, refl,
-      led_again led (length values) (first ++ colon ∷ rest) (plain_elem keys ++ colon ∷ plain_joined values) l, plain_is first keys k, joined_plain rest values vs)
-plain_form_is enc text (Hash size children) (led, counted, rest, e, l, c, is) =
-    (hex size ++ colon ∷ (hex (length children) ++ colon ∷ plain_joined children), hex (length children) ++ colon ∷ plain_joined children, plain_joined children, refl,
-      led_again led size counted (hex (length children) ++ colon ∷ plain_joined children) l, led_again counted (length children) rest (plain_joined children) c, joined_plain rest children is)
+plain_form_is enc text (Flat keys values) (led, first, rest, e, l, k, vs) = (
+  hex (length values) ++ colon ∷ (plain_elem keys ++ colon ∷ plain_joined values),
+  plain_elem keys,
+  plain_joined values,
+  refl,
+  led_again led (length values) (first ++ colon ∷ rest) (plain_elem keys ++ colon ∷ plain_joined values) l,
+  plain_is first keys k,
+  joined_plain rest values vs,
+)
+plain_form_is enc text (Hash size children) (led, counted, rest, e, l, c, is) = (
+  hex size ++ colon ∷ (hex (length children) ++ colon ∷ plain_joined children),
+  hex (length children) ++ colon ∷ plain_joined children,
+  plain_joined children,
+  refl,
+  led_again led size counted (hex (length children) ++ colon ∷ plain_joined children) l,
+  led_again counted (length children) rest (plain_joined children) c,
+  joined_plain rest children is,
+)
 plain_form_is enc text (Node children) (led, rest, e, l, is) =
     (hex (length children) ++ colon ∷ plain_joined children, plain_joined children, refl, led_again led (length children) rest (plain_joined children) l, joined_plain rest children is)
 

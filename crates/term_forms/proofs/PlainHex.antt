@@ -15,25 +15,25 @@ use Rattle.term_forms.specs.Elements.{hex}
 use Rattle.term_forms.proofs.Hexes.{hex_from}
 
 -- the digits of a number before those that stand already, at most k of them
-unfoldable onto : ℕ → ℕ → List ℕ → List ℕ
+unfoldable pub onto : ℕ → ℕ → List ℕ → List ℕ
 onto k n last = digits_onto k 16 true n last
 
-onto_last : (k n : ℕ) (last : List ℕ) → n / 16 ≡ 0 → onto (suc k) n last ≡ digit_glyph true (n % 16) ∷ last
+pub onto_last : (k n : ℕ) (last : List ℕ) → n / 16 ≡ 0 → onto (suc k) n last ≡ digit_glyph true (n % 16) ∷ last
 unfolding onto
 onto_last k n last e = ap (λ d. if d == 0 then digit_glyph true (n % 16) ∷ last else digits_onto k 16 true (n / 16) (digit_glyph true (n % 16) ∷ last)) e
 
-onto_more : (k n : ℕ) (last : List ℕ) → (n / 16 ≡ 0 → ⊥) → onto (suc k) n last ≡ onto k (n / 16) (digit_glyph true (n % 16) ∷ last)
+pub onto_more : (k n : ℕ) (last : List ℕ) → (n / 16 ≡ 0 → ⊥) → onto (suc k) n last ≡ onto k (n / 16) (digit_glyph true (n % 16) ∷ last)
 unfolding onto
 onto_more k n last more = ap (λ b. if b then digit_glyph true (n % 16) ∷ last else digits_onto k 16 true (n / 16) (digit_glyph true (n % 16) ∷ last)) (ne_eqb (n / 16) 0 more)
 
-hex_onto : (n : ℕ) → hex n ≡ onto 64 n []
+pub hex_onto : (n : ℕ) → hex n ≡ onto 64 n []
 unfolding onto digits
 hex_onto n = refl
 
-pow_step : (k : ℕ) → 16 ^ suc k ≡ 16 * 16 ^ k
+pub pow_step : (k : ℕ) → 16 ^ suc k ≡ 16 * 16 ^ k
 pow_step k = grind (arith, common_steps)
 
-some_digit : (m j : ℕ) → (m ≡ 0 → ⊥) → m < 16 ^ j → 1 ≤ j
+pub some_digit : (m j : ℕ) → (m ≡ 0 → ⊥) → m < 16 ^ j → 1 ≤ j
 some_digit m zero more below = absurd (more (omega (arith, below)))
 some_digit m (suc j) more below = omega arith
 
@@ -48,7 +48,7 @@ onto_short_step k j n last below shorter (inr more) =
     let all : length (onto (suc k) n last) ≡ length (onto k (n / 16) (digit_glyph true (n % 16) ∷ last)) = ap length (onto_more k n last more) in
     omega (arith, rest, all)
 
-onto_none : (n : ℕ) (last : List ℕ) → onto zero n last ≡ last
+pub onto_none : (n : ℕ) (last : List ℕ) → onto zero n last ≡ last
 unfolding onto
 onto_none n last = refl
 

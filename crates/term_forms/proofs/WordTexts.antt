@@ -79,15 +79,15 @@ integer_sound (c ∷ text) n h = of (chosen (c == minus) (digits_len text >>= λ
         let more : suc found.0 ≡ n = omega (arith, e) in (
           omega (arith, more, is.1),
           ap (λ k. is_integer (take k (c ∷ text))) (sym more)
-          ∙ cond-true (c == minus) (is_digits (take found.0 text)) (is_digits (c ∷ take found.0 text)) p.0 ∙ is.2,
+              ∙ cond-true (c == minus) (is_digits (take found.0 text)) (is_digits (c ∷ take found.0 text)) p.0 ∙ is.2,
         )
     of (inr p) =
         let is = digits_sound (c ∷ text) n p.1 in
         let more : n ≡ suc (n - 1) = omega (arith, is.0) in (
           is.1,
           ap (λ k. is_integer (take k (c ∷ text))) more
-          ∙ cond-false (c == minus) (is_digits (take (n - 1) text)) (is_digits (c ∷ take (n - 1) text)) p.0
-          ∙ ap (λ k. is_digits (take k (c ∷ text))) (sym more) ∙ is.2,
+              ∙ cond-false (c == minus) (is_digits (take (n - 1) text)) (is_digits (c ∷ take (n - 1) text)) p.0
+              ∙ ap (λ k. is_digits (take k (c ∷ text))) (sym more) ∙ is.2,
         )
 
 -- how a text in brackets is read, by where its dotted bytes end
@@ -116,9 +116,13 @@ bracketed_split c text n inner rest split first some dotted size =
     let count : length text ≡ length inner + suc (length rest) = ap length split ∙ length-append inner (greater ∷ rest) in
     let more : n ≡ suc (length inner + 1) = omega (arith, size) in (
       omega (arith, count, size),
-      (inner, some, dotted,
+      (
+        inner,
+        some,
+        dotted,
         ap (λ k. take k (c ∷ text)) more ∙ ap (λ t. c ∷ take (length inner + 1) t) split
-        ∙ ap (λ t. c ∷ t) (take-append-add inner (greater ∷ rest) 1) ∙ ap (λ c. c ∷ (inner ++ greater ∷ [])) first),
+            ∙ ap (λ t. c ∷ t) (take-append-add inner (greater ∷ rest) 1) ∙ ap (λ c. c ∷ (inner ++ greater ∷ [])) first,
+      ),
     )
 
 pub bracketed_sound : (text : List ℕ) (n : ℕ) → bracketed_len text ≡ Some n → (n ≤ length text) × IsBracketed (take n text)
@@ -129,10 +133,10 @@ bracketed_sound (c ∷ text) n h =
     let outer = and_parts ((c == less) && nat_lt 0 (prefix_len is_dotted text)) (starts_with nat_eq (drop (prefix_len is_dotted text) text) (greater ∷ [])) found.0 in
     let both = and_parts (c == less) (nat_lt 0 (prefix_len is_dotted text)) outer.0 in
     let split : text ≡ take (prefix_len is_dotted text) text ++ (greater ∷ drop 1 (drop (prefix_len is_dotted text) text)) =
-        sym (take-append-drop (prefix_len is_dotted text) text)
-        ∙ ap (λ t. take (prefix_len is_dotted text) text ++ t) (starts_parts (drop (prefix_len is_dotted text) text) (greater ∷ []) outer.1) in
+    sym (take-append-drop (prefix_len is_dotted text) text)
+    ∙ ap (λ t. take (prefix_len is_dotted text) text ++ t) (starts_parts (drop (prefix_len is_dotted text) text) (greater ∷ []) outer.1) in
     let count : length (take (prefix_len is_dotted text) text) ≡ prefix_len is_dotted text = length-prefix_len is_dotted text in
     let some : 0 < prefix_len is_dotted text = ltb-true 0 (prefix_len is_dotted text) both.1 in
     let size : prefix_len is_dotted text + 2 ≡ n = found.1 in
     bracketed_split c text n (take (prefix_len is_dotted text) text) (drop 1 (drop (prefix_len is_dotted text) text)) split (eqb-true c less both.0)
-        (omega (arith, count, some)) (run_passes is_dotted text) (omega (arith, size, count))
+    (omega (arith, count, some)) (run_passes is_dotted text) (omega (arith, size, count))

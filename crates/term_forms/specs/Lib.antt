@@ -1,8 +1,10 @@
+pub mod Appends
 pub mod Cover
 pub mod Elements
 pub mod Forms
 pub mod Joined
 pub mod Payload
+pub mod Pieces
 pub mod Reading
 pub mod ReadingForms
 pub mod Seen

@@ -16,6 +16,7 @@ mod payloads;
 pub mod reading;
 pub mod shapes;
 mod words;
+mod writing;
 
 pub use covering::cover_holds_range;
 pub use elems::Elems;
@@ -28,3 +29,4 @@ pub use payloads::{
     encoding_in_pieces, is_payload, payload, payload_bytes_are_read, payload_is_of_one,
 };
 pub use words::heap_line;
+pub use writing::{put_elem, put_form};

@@ -1,7 +1,6 @@
 //! The types that have the names of the functions of [`reading`](crate::reading).
 
 pub use crate::covers::Cover;
-
 use crate::elems::Elems;
 
 /// An element of a dump's text. The slices are parts of the text read.

@@ -27,7 +27,7 @@ pub returns-clause-steps : goal.returns-clause-steps
 returns-clause-steps c =
     sym c.self.view_is
     ∙ joined_list_first c.self.inside.left (c.self.inside.left - 1) c.self.inside.text.now (element c.in_ok-first.first) c.in_ok-first.rest.now
-        c.in_ok-first.ensures c.self.invariant
+    c.in_ok-first.ensures c.self.invariant
 
 pub returns-clause-goes : goal.returns-clause-goes
 returns-clause-goes c =
