@@ -13,9 +13,10 @@ pub fn unique_reading_of_elements()
     ensures { (text : List ℕ) (one other : Element) → IsElem text one → IsElem text other → one ≡ other }
 {}
 
-/// An element that a text spells is also spelled by its plain spelling.
+/// An element that a text spells is also spelled by its plain spelling, as which it is read again.
 pub fn plain_spelling_of_elements()
-    ensures { (text : List ℕ) (e : Element) → IsElem text e → IsElem (plain_elem e) e }
+    ensures spells { (text : List ℕ) (e : Element) → IsElem text e → IsElem (plain_elem e) e }
+    ensures again { (text : List ℕ) (e : Element) → IsElem text e → front (plain_elem e) ≡ Some (e, length (plain_elem e)) }
 {}
 
 /// Where an element's spelling is followed by `|`, `,` or `:`, or by nothing, it is the longest prefix
@@ -35,9 +36,11 @@ pub fn unique_reading_of_forms(enc: Enc)
     ensures { (text : List ℕ) (one other : HeapForm) → IsForm enc text one → IsForm enc text other → one ≡ other }
 {}
 
-/// A form that a text spells under an encoding is spelled under it by its plain spelling too.
+/// A form that a text spells under an encoding is spelled under it by its plain spelling too, as which it is
+/// read again.
 pub fn plain_spelling_of_forms(enc: Enc)
-    ensures { (text : List ℕ) (f : HeapForm) → IsForm enc text f → IsForm enc (plain_form f) f }
+    ensures spells { (text : List ℕ) (f : HeapForm) → IsForm enc text f → IsForm enc (plain_form f) f }
+    ensures again { (text : List ℕ) (f : HeapForm) → IsForm enc text f → form_of enc (plain_form f) ≡ Some f }
 {}
 
 /// What `form_of` computes is the form that the text spells.

@@ -30,3 +30,6 @@ pub use payloads::{
 };
 pub use words::heap_line;
 pub use writing::{put_elem, put_form};
+
+#[cfg(test)]
+mod tests;
