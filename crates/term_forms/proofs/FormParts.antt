@@ -1,15 +1,12 @@
 -- The parts of a form, each with what it is read as.
-use Rattle.std.proofs.Common.{◌≡◌, ℕ, zero, suc, ◌+◌, ◌-◌, ◌<◌, ◌≤◌, ◌==◌, Bool, true, false, cond, ◌&&◌, List, [], ◌∷◌, ◌++◌, length, take, drop, Option, Some, None, refl, sym, ◌∙◌, ap, subst, arith, if◌then◌else◌, inl, inr}
-use Rattle.std.specs.Prelude.{nat_eq, IsTrue, ◌⊎◌}
-use Rattle.std.specs.List.{starts_with}
+use Rattle.std.proofs.Common.{◌≡◌, ℕ, zero, suc, ◌==◌, true, List, [], ◌∷◌, ◌++◌, length, take, drop, Some, None, refl, sym, ◌∙◌, ap, subst, arith, if◌then◌else◌, inl, inr}
 use Rattle.std.proofs.lemmas.Bool.{eqb-true, eq-eqb}
 use Rattle.std.proofs.lemmas.List.{take_all, append-nil, take-append-drop}
 use Rattle.std.proofs.lemmas.Option.{same_Some, some_pair_parts}
-use Rattle.std.proofs.Math.Seq.{drop-append-add}
 use Rattle.std.proofs.lemmas.List.{drop_at}
 use Rattle.dump_io.specs.Numbers.{hex_number}
 use Rattle.term_forms.specs.declared.enc.Enc.{Enc}
-use Rattle.term_forms.specs.Words.{comma, colon, bar, IsBracketed, IsLed}
+use Rattle.term_forms.specs.Words.{comma, IsBracketed, IsLed}
 use Rattle.term_forms.specs.Elements.{Element, IsElem, EndsElement}
 use Rattle.term_forms.specs.Joined.{IsJoined}
 use Rattle.term_forms.specs.Forms.{IsRange}

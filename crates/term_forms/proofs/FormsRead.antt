@@ -1,18 +1,16 @@
 -- The form that a text spells is read.
-use Rattle.std.proofs.Common.{◌≡◌, ℕ, zero, suc, ◌+◌, ◌==◌, Bool, true, false, List, [], ◌∷◌, ◌++◌, length, take, drop, Option, Some, None, refl, sym, ◌∙◌, ap, subst, arith, if◌then◌else◌, inl, inr}
-use Rattle.std.specs.Prelude.{nat_eq, IsTrue, ◌⊎◌}
+use Rattle.std.proofs.Common.{◌≡◌, ℕ, ◌==◌, List, ◌∷◌, ◌++◌, length, drop, Some, None, refl, ◌∙◌, ap, if◌then◌else◌, inl, inr}
+use Rattle.std.specs.Prelude.{nat_eq, IsTrue}
 use Rattle.std.specs.List.{starts_with}
 use Rattle.std.proofs.lemmas.Bool.{eq-eqb}
-use Rattle.dump_io.specs.Numbers.{hex_number}
 use Rattle.term_forms.specs.declared.enc.Enc.{Enc}
-use Rattle.term_forms.specs.Words.{comma, colon, bar, is_long, IsBracketed, IsLed}
+use Rattle.term_forms.specs.Words.{colon, bar, is_long, IsBracketed, IsLed}
 use Rattle.term_forms.specs.Elements.{Element, IsElem, port_word}
-use Rattle.term_forms.specs.Forms.{HeapForm, Cons, Tuple, Float, Long, Pid, Port, Ext, HeapBin, RefBin, SubBin, Flat, Hash, Node, IsForm, IsRange}
+use Rattle.term_forms.specs.Forms.{HeapForm, Cons, Tuple, Float, Long, Pid, Port, Ext, HeapBin, RefBin, SubBin, Flat, Hash, Node, IsForm}
 use Rattle.term_forms.specs.Joined.{IsJoined}
-use Rattle.term_forms.specs.Payload.{IsPayloadOf}
 use Rattle.term_forms.specs.Reading.{◌>>=◌, led_of, whole_of, until_of, joined_of}
 use Rattle.term_forms.specs.ReadingForms.{cons_of, counted_of, float_of, bracketed_of, port_of, payload_of, range_of, binary_of, flat_of, hash_of, map_of, form_of}
-use Rattle.term_forms.proofs.Steps.{bind_some, bind_from, guard_some, guard_from}
+use Rattle.term_forms.proofs.Steps.{bind_from, guard_from}
 use Rattle.term_forms.proofs.Hexes.{led_full}
 use Rattle.term_forms.proofs.WordTexts.{starts_from}
 use Rattle.term_forms.proofs.FormParts.{whole_full, until_full, joined_full, counted_full, bracketed_whole, payload_full, range_full}

@@ -1,12 +1,12 @@
 -- What is read of a text is a form that it spells.
-use Rattle.std.proofs.Common.{◌≡◌, ℕ, zero, suc, ◌+◌, ◌==◌, Bool, true, false, cond, List, [], ◌∷◌, ◌++◌, length, take, drop, Option, Some, None, refl, sym, ◌∙◌, ap, subst, arith, if◌then◌else◌, inl, inr}
-use Rattle.std.specs.Prelude.{nat_eq, IsTrue, ◌⊎◌}
+use Rattle.std.proofs.Common.{◌≡◌, ℕ, ◌==◌, Bool, true, false, List, [], ◌∷◌, ◌++◌, length, drop, Some, None, refl, sym, ◌∙◌, ap, subst, if◌then◌else◌, inl, inr}
+use Rattle.std.specs.Prelude.{nat_eq}
 use Rattle.std.specs.List.{starts_with}
 use Rattle.std.proofs.lemmas.Bool.{eqb-true}
 use Rattle.std.proofs.lemmas.Option.{same_Some}
 use Rattle.term_forms.specs.declared.enc.Enc.{Enc}
-use Rattle.term_forms.specs.Words.{comma, colon, bar, is_long, IsBracketed, IsLed}
-use Rattle.term_forms.specs.Elements.{Element, IsElem, port_word}
+use Rattle.term_forms.specs.Words.{colon, bar, is_long, IsLed}
+use Rattle.term_forms.specs.Elements.{port_word}
 use Rattle.term_forms.specs.Forms.{HeapForm, Cons, Tuple, Float, Long, Pid, Port, Ext, HeapBin, RefBin, SubBin, Flat, Hash, Node, IsForm}
 use Rattle.term_forms.specs.Reading.{◌>>=◌, led_of, whole_of, until_of, joined_of}
 use Rattle.term_forms.specs.ReadingForms.{cons_of, counted_of, float_of, bracketed_of, port_of, payload_of, range_of, binary_of, flat_of, hash_of, map_of, form_of}

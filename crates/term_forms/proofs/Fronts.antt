@@ -1,22 +1,21 @@
 -- The element that begins a text is read whole.
-use Rattle.std.proofs.Common.{◌≡◌, ℕ, zero, suc, ◌+◌, ◌-◌, ◌<◌, ◌≤◌, ◌==◌, min, Bool, true, false, cond, ◌&&◌, List, [], ◌∷◌, ◌++◌, length, take, drop, Option, Some, None, refl, sym, ◌∙◌, ap, subst, arith, if◌then◌else◌, inl, inr}
-use Rattle.std.specs.Prelude.{nat_lt, nat_le, nat_eq, IsTrue, ◌⊎◌}
+use Rattle.std.proofs.Common.{◌≡◌, ℕ, suc, ◌+◌, ◌-◌, ◌≤◌, true, false, List, ◌∷◌, ◌++◌, length, take, drop, Some, None, refl, sym, ◌∙◌, ap, subst, arith, if◌then◌else◌, inl, inr}
+use Rattle.std.specs.Prelude.{nat_le, nat_eq}
 use Rattle.std.specs.List.{list_all, prefix_len, starts_with}
 use Rattle.std.specs.Char.{is_ascii_digit}
 use Rattle.std.specs.Str.Parse.{digits_value}
-use Rattle.std.proofs.lemmas.Bool.{and_parts, and_from, ltb-true, leb-true, eqb-true, lt-ltb, le-leb, false≢true}
-use Rattle.std.proofs.lemmas.List.{length-append, length-take, length-take-le, take-append-drop, take-append-le, append_assoc, append-nil, drop_at, take_at, take_all, take-take}
+use Rattle.std.proofs.lemmas.Bool.{le-leb}
+use Rattle.std.proofs.lemmas.List.{length-append, length-take, length-take-le, append_assoc, append-nil, take-take}
 use Rattle.std.proofs.lemmas.List.Sums.{prefix_len-le-length}
-use Rattle.std.proofs.lemmas.List.Folds.{length-prefix_len, list_all-append}
 use Rattle.std.proofs.lemmas.Option.{same_Some}
-use Rattle.std.proofs.Math.Seq.{take-append_seam, take-append-add, drop-append-add}
+use Rattle.std.proofs.Math.Seq.{take-append_seam, take-append-add}
 use Rattle.dump_io.specs.Numbers.{hex_number}
-use Rattle.term_forms.specs.Words.{colon, less, is_hex_digit, is_integer, IsBracketed, IsLed}
+use Rattle.term_forms.specs.Words.{colon, is_hex_digit, is_integer, IsBracketed, IsLed}
 use Rattle.term_forms.specs.Elements.{Element, Nil, Small, Atom, Pid, Port, Ref, IsElem, port_word}
 use Rattle.term_forms.specs.Reading.{◌>>=◌, led_of, integer_len, bracketed_len, small_front, atom_front, pid_front, port_front, ref_front, front}
-use Rattle.term_forms.proofs.Steps.{bind_some, bind_from, chosen, guard_some, guard_from, some_pair}
-use Rattle.term_forms.proofs.Runs.{run_over, run_passes, run_stops, run_shorter}
-use Rattle.term_forms.proofs.Hexes.{IsHex, hex_parts, hex_from, led_full, led_sound}
+use Rattle.term_forms.proofs.Steps.{bind_from, guard_from, some_pair}
+use Rattle.term_forms.proofs.Runs.{run_over, run_passes, run_shorter}
+use Rattle.term_forms.proofs.Hexes.{IsHex, hex_parts, hex_from, led_full}
 use Rattle.term_forms.proofs.WordTexts.{integer_full, bracketed_full, starts_from}
 
 -- nothing begins the text that could go on with a number

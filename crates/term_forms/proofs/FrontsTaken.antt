@@ -1,15 +1,14 @@
 -- What is read at a text's front spells the element that it is read as.
-use Rattle.std.proofs.Common.{◌≡◌, ℕ, zero, suc, ◌+◌, ◌-◌, ◌<◌, ◌≤◌, ◌==◌, Bool, true, false, cond, ◌&&◌, List, [], ◌∷◌, ◌++◌, length, take, drop, Option, Some, None, refl, sym, ◌∙◌, ap, subst, add-one, arith, if◌then◌else◌, inl, inr}
-use Rattle.std.specs.Prelude.{nat_lt, nat_le, nat_eq, IsTrue, ◌⊎◌}
-use Rattle.std.specs.List.{list_all, prefix_len, starts_with}
-use Rattle.std.specs.Char.{is_ascii_digit}
+use Rattle.std.proofs.Common.{◌≡◌, ℕ, suc, ◌+◌, ◌-◌, ◌≤◌, ◌==◌, Bool, true, false, List, [], ◌∷◌, ◌++◌, length, take, drop, Some, None, refl, sym, ◌∙◌, ap, subst, add-one, arith, if◌then◌else◌, inl, inr}
+use Rattle.std.specs.Prelude.{nat_le, nat_eq, ◌⊎◌}
+use Rattle.std.specs.List.{prefix_len, starts_with}
 use Rattle.std.proofs.lemmas.Bool.{leb-true, eqb-true}
-use Rattle.std.proofs.lemmas.List.{length-append, length-take, length-take-le, length-drop}
+use Rattle.std.proofs.lemmas.List.{length-append, length-take, length-take-le}
 use Rattle.std.proofs.lemmas.List.Sums.{prefix_len-le-length}
 use Rattle.std.proofs.lemmas.Option.{same_Some}
-use Rattle.std.proofs.Math.Seq.{take-append_seam, take-append-add, drop-append-add}
+use Rattle.std.proofs.Math.Seq.{take-append-add}
 use Rattle.dump_io.specs.Numbers.{hex_number}
-use Rattle.term_forms.specs.Words.{colon, is_hex_digit, is_integer, IsBracketed, IsLed}
+use Rattle.term_forms.specs.Words.{colon, is_hex_digit, IsLed}
 use Rattle.term_forms.specs.Elements.{Element, Nil, Small, Atom, Pid, Port, Ref, IsElem, port_word}
 use Rattle.term_forms.specs.Reading.{◌>>=◌, led_of, integer_len, bracketed_len, small_front, atom_front, pid_front, port_front, ref_front, front}
 use Rattle.term_forms.proofs.Steps.{bind_some, chosen, guard_some}

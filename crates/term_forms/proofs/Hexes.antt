@@ -1,11 +1,11 @@
 -- Hex numbers, and what stands behind one and a colon.
-use Rattle.std.proofs.Common.{◌≡◌, ℕ, zero, suc, ◌+◌, ◌-◌, ◌*◌, ◌<◌, ◌≤◌, ◌^◌, ◌==◌, Bool, true, false, not, cond, eqb, ltb, leb, ◌&&◌, List, [], ◌∷◌, ◌++◌, length, take, drop, get_or, Option, Some, None, refl, sym, ◌∙◌, ap, subst, arith, if◌then◌else◌}
+use Rattle.std.proofs.Common.{◌≡◌, ℕ, ◌+◌, ◌<◌, ◌≤◌, ◌^◌, ◌==◌, Bool, true, not, ◌&&◌, List, [], ◌∷◌, ◌++◌, length, take, drop, get_or, Some, None, ◌∙◌, ap, subst, arith, if◌then◌else◌}
 use Rattle.std.specs.Prelude.{nat_lt, nat_le}
-use Rattle.std.specs.List.{list_all, prefix_len, position_or_len, before_first, after_first}
+use Rattle.std.specs.List.{list_all, prefix_len, position_or_len}
 use Rattle.std.specs.Char.{digit_value}
 use Rattle.std.specs.Str.Parse.{digits_value, AllDigits}
-use Rattle.std.proofs.lemmas.Bool.{and_parts, and_from, ltb-true, leb-true, eqb-true, lt-ltb, le-leb, not-false, not_from_false, cases_Bool, false≢true, false_from_ne_true}
-use Rattle.std.proofs.lemmas.List.{take_at, drop_at, length-append}
+use Rattle.std.proofs.lemmas.Bool.{and_parts, and_from, ltb-true, leb-true, eqb-true, lt-ltb, le-leb, not-false, not_from_false, false≢true, false_from_ne_true}
+use Rattle.std.proofs.lemmas.List.{length-append}
 use Rattle.std.proofs.lemmas.List.Sums.{prefix_len_stops, split_at_first}
 use Rattle.std.proofs.lemmas.Option.{some_pair_parts}
 use Rattle.std.proofs.Math.Seq.{take-append_seam, drop-append-add}
@@ -15,7 +15,7 @@ use Rattle.dump_io.specs.Numbers.{hex_number, is_numeral}
 use Rattle.term_forms.specs.Words.{colon, is_hex_digit, IsLed}
 use Rattle.term_forms.specs.Reading.{◌>>=◌, led_of}
 use Rattle.term_forms.proofs.Steps.{bind_some, bind_from, guard_some, guard_from, guard_option}
-use Rattle.term_forms.proofs.Runs.{run_over, run_stops, list_all_also}
+use Rattle.term_forms.proofs.Runs.{run_over, list_all_also}
 
 -- what a hex number is
 pub record IsHex (text : List ℕ) (n : ℕ) : Type 0 where

@@ -1,7 +1,6 @@
 -- Elements joined by commas, as they are read.
-use Rattle.std.proofs.Common.{◌≡◌, ℕ, zero, suc, ◌+◌, ◌-◌, ◌<◌, ◌==◌, true, false, List, [], ◌∷◌, length, drop, Option, Some, None, refl, sym, ◌∙◌, ap, arith}
-use Rattle.std.specs.Option.{is_some, option_and_then, unwrap_or}
-use Rattle.std.proofs.lemmas.List.{drop_all}
+use Rattle.std.proofs.Common.{◌≡◌, ℕ, zero, suc, ◌-◌, ◌<◌, ◌==◌, true, List, [], ◌∷◌, length, Option, Some, None, refl, sym, ◌∙◌, ap, arith}
+use Rattle.std.specs.Option.{is_some, unwrap_or}
 use Rattle.term_forms.specs.Words.{comma}
 use Rattle.term_forms.specs.Elements.{Element}
 use Rattle.term_forms.specs.Reading.{◌>>=◌, whole_of, until_of, joined_of, joined_list, with_first}

@@ -1,20 +1,17 @@
 -- The laws on elements.
-use Rattle.std.proofs.Common.{◌≡◌, ℕ, zero, suc, ◌+◌, ◌-◌, ◌<◌, ◌≤◌, ◌^◌, true, false, List, [], ◌∷◌, ◌++◌, length, take, drop, Option, Some, None, refl, sym, ◌∙◌, ap, subst, arith, inl, inr}
-use Rattle.std.specs.Prelude.{◌⊎◌, IfSome, IfNone}
+use Rattle.std.proofs.Common.{◌≡◌, ℕ, ◌≤◌, List, [], ◌∷◌, ◌++◌, length, take, drop, Option, Some, None, refl, sym, ◌∙◌, ap, subst, arith, inl, inr}
+use Rattle.std.specs.Prelude.{IfSome, IfNone}
 use Rattle.std.specs.Option.{option_map}
-use Rattle.std.proofs.lemmas.List.{length-take-le, take-append-drop, take_all, append-nil, length-append}
+use Rattle.std.proofs.lemmas.List.{length-take-le, take-append-drop, append-nil}
 use Rattle.std.proofs.lemmas.Option.{some_pair_parts}
-use Rattle.std.proofs.Math.Seq.{take-append_seam}
-use Rattle.dump_io.specs.Numbers.{hex_number}
-use Rattle.term_forms.specs.Words.{bar, comma, colon, is_hex_digit, IsLed}
+use Rattle.term_forms.specs.Words.{colon, IsLed}
 use Rattle.term_forms.specs.Elements.{Element, Nil, Small, Atom, Pid, Port, Ref, IsElem, IsFront, EndsElement, plain_elem, hex}
 use Rattle.term_forms.specs.Reading.{front}
 use Rattle.term_forms.specs.Seen.{element, element_len}
 use Rattle.term_forms.specs.declared.shapes.Elem.{Elem}
-use Rattle.term_forms.proofs.Runs.{run_stops}
-use Rattle.term_forms.proofs.Hexes.{IsHex, hex_parts}
+use Rattle.term_forms.proofs.Hexes.{hex_parts}
 use Rattle.term_forms.proofs.PlainHex.{hex_plain}
-use Rattle.term_forms.proofs.Fronts.{NoDigit, Reaches, reach}
+use Rattle.term_forms.proofs.Fronts.{NoDigit, reach}
 use Rattle.term_forms.proofs.FrontsTaken.{front_sound}
 
 -- an element that begins a text is found, or a longer one

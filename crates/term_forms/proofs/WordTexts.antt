@@ -1,19 +1,19 @@
 -- The words at a text's front, as they are read.
-use Rattle.std.proofs.Common.{◌≡◌, ℕ, zero, suc, ◌+◌, ◌-◌, ◌<◌, ◌≤◌, ◌==◌, Bool, true, false, not, cond, eqb, ltb, leb, ◌&&◌, List, [], ◌∷◌, ◌++◌, length, take, drop, get_or, Option, Some, None, refl, sym, ◌∙◌, ap, subst, arith, if◌then◌else◌, inl, inr}
-use Rattle.std.specs.Prelude.{nat_lt, nat_le, nat_eq, IsTrue, ◌⊎◌}
+use Rattle.std.proofs.Common.{◌≡◌, ℕ, suc, ◌+◌, ◌-◌, ◌<◌, ◌≤◌, ◌==◌, true, false, ◌&&◌, List, [], ◌∷◌, ◌++◌, length, take, drop, Some, None, refl, sym, ◌∙◌, ap, arith, if◌then◌else◌, inl, inr}
+use Rattle.std.specs.Prelude.{nat_lt, nat_eq, ◌⊎◌}
 use Rattle.std.specs.List.{list_all, prefix_len, starts_with}
 use Rattle.std.specs.Char.{is_ascii_digit}
-use Rattle.std.proofs.lemmas.Bool.{and_parts, and_from, ltb-true, eqb-true, eqb-false, lt-ltb, false≢true, ne_eqb, cases_Bool, cond-true, cond-false}
+use Rattle.std.proofs.lemmas.Bool.{and_parts, and_from, ltb-true, eqb-true, eqb-false, lt-ltb, false≢true, ne_eqb, cond-true, cond-false}
 use Rattle.std.proofs.lemmas.Bool.Decides.{Decides-eqb}
 use Rattle.std.proofs.lemmas.List.{length-append, take-append-drop, append_assoc, drop_at}
 use Rattle.std.proofs.lemmas.List.Sums.{prefix_len-le-length}
 use Rattle.std.proofs.lemmas.List.Folds.{length-prefix_len}
 use Rattle.std.proofs.lemmas.Slice.Eq.{starts_is}
-use Rattle.std.proofs.Math.Seq.{take-append_seam, take-append-add, drop-append-add}
+use Rattle.std.proofs.Math.Seq.{take-append-add}
 use Rattle.term_forms.specs.Words.{minus, less, greater, is_digits, is_integer, is_dotted, IsBracketed}
 use Rattle.term_forms.specs.Reading.{◌>>=◌, digits_len, integer_len, bracketed_len}
 use Rattle.term_forms.proofs.Steps.{bind_some, bind_from, chosen, guard_some, guard_from}
-use Rattle.term_forms.proofs.Runs.{run_over, run_passes, run_stops}
+use Rattle.term_forms.proofs.Runs.{run_over, run_passes}
 
 -- what begins as a word begins so, and what begins so has it in front
 pub starts_parts : (text word : List ℕ) → starts_with nat_eq text word ≡ true → text ≡ word ++ drop (length word) text

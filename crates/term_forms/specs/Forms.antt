@@ -1,5 +1,5 @@
 -- The forms of a heap's cells.
-use Rattle.std.specs.Prelude.{◌≡◌, ◌⊎◌, ℕ, List, [], ◌∷◌, ◌++◌, length, Some, IsTrue}
+use Rattle.std.specs.Prelude.{◌≡◌, ◌⊎◌, ℕ, List, ◌∷◌, ◌++◌, length, Some, IsTrue}
 use Rattle.dump_io.specs.Numbers.{hex_number}
 use Rattle.term_forms.specs.declared.enc.Enc.{Enc}
 use Rattle.term_forms.specs.Words.{colon, bar, is_long, IsBracketed, IsLed}

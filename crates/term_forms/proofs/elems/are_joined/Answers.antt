@@ -1,4 +1,4 @@
-use Rattle.std.proofs.Common.{◌≡◌, ◌-◌, Some, None, length, ap, sym, ◌∙◌, arith}
+use Rattle.std.proofs.Common.{◌≡◌, ◌-◌, ap, sym, ◌∙◌, arith}
 use Rattle.std.specs.Option.{is_some}
 use Rattle.term_forms.specs.Reading.{joined_of}
 use Rattle.term_forms.specs.Seen.{element}

@@ -1,6 +1,6 @@
-use Rattle.std.proofs.Common.{◌≡◌, ◌-◌, Some, None, [], ◌∷◌, length, drop, refl, ap, sym, ◌∙◌, arith}
+use Rattle.std.proofs.Common.{◌≡◌, ◌-◌, Some, [], ◌∷◌, ap, sym, ◌∙◌, arith}
 use Rattle.std.specs.Option.{option_map}
-use Rattle.term_forms.specs.Reading.{◌>>=◌, whole_of, until_of, joined_of, with_first}
+use Rattle.term_forms.specs.Reading.{◌>>=◌, joined_of, with_first}
 use Rattle.term_forms.specs.Seen.{element, element_rest}
 use Rattle.term_forms.proofs.Joins.{joined_one, joined_several, with_first_none, with_first_last}
 use Rattle.term_forms.proofs.elems.split_elem.Goals as goal

@@ -1,4 +1,4 @@
-use Rattle.std.proofs.Common.{◌≡◌, ◌/◌, ◌<◌, ◌≤◌, ◌^◌, [], ◌∷◌, ◌++◌, sym, ◌∙◌, ap, subst, rules, arith}
+use Rattle.std.proofs.Common.{◌/◌, ◌<◌, ◌^◌, [], ◌∷◌, ◌++◌, sym, ◌∙◌, ap, subst, rules}
 use Rattle.term_forms.specs.Appends.{Appends}
 use Rattle.term_forms.specs.Elements.{hex}
 use Rattle.term_forms.proofs.Appending.{appends_then, cut_more, cut_exit}

@@ -1,9 +1,9 @@
-use Rattle.std.proofs.Common.{◌≡◌, List, ℕ, [], ◌∷◌, ◌++◌, refl, sym, ◌∙◌, ap}
+use Rattle.std.proofs.Common.{List, [], ◌∷◌, ◌++◌, refl, sym, ◌∙◌, ap}
 use Rattle.term_forms.specs.Words.{comma}
 use Rattle.term_forms.specs.Elements.{Element, plain_elem}
 use Rattle.term_forms.specs.Joined.{plain_joined}
 use Rattle.term_forms.specs.Seen.{element}
-use Rattle.term_forms.proofs.Appending.{IsUnder, under_start, under_step, under_cut, under_done, cut_exit, cut_more}
+use Rattle.term_forms.proofs.Appending.{under_start, under_step, under_cut, under_done, cut_exit}
 use Rattle.term_forms.proofs.PieceTexts.{with_commas, joined_first}
 use Rattle.term_forms.proofs.writing.put_joined.Goals as goal
 

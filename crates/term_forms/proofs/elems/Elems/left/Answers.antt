@@ -1,4 +1,4 @@
-use Rattle.std.proofs.Common.{◌≡◌, ap, sym, ◌∙◌, length}
+use Rattle.std.proofs.Common.{ap, sym, ◌∙◌, length}
 use Rattle.term_forms.proofs.Joins.{joined_list_length}
 use Rattle.term_forms.proofs.elems.Elems.left.Goals as goal
 
