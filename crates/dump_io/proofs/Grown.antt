@@ -1,13 +1,7 @@
 -- Writes one after another.
-use Rattle.std.proofs.Common.{◌≡◌, ℕ, ◌+◌, ◌-◌, ◌≤◌, List, [], ◌++◌, length, take, drop, Option, None, Some, refl, sym, ◌∙◌, ap, append_assoc, append-nil, arith}
+use Rattle.std.proofs.Common.{◌≡◌, ℕ, ◌+◌, ◌-◌, List, [], ◌++◌, length, take, drop, Option, None, Some, refl, sym, ◌∙◌, ap, append_assoc, append-nil, arith}
 use Rattle.std.proofs.lemmas.Grind.{common_steps}
 use Rattle.dump_io.specs.Sinks.{grown}
-use Rattle.std.proofs.lemmas.List.{drop-drop, take-take}
-use Rattle.std.specs.List.{between}
-use Rattle.std.specs.Prelude.{Result, Ok, Err, OnOk}
-use Rattle.std.proofs.lemmas.List.Edits.{between_none}
-use Rattle.std.proofs.lemmas.Slice.{between_is, between-put_mid, take-put_mid_below}
-use borrow.Rule.Slice.PartMut.{put_mid}
 use Rattle.dump_io.proofs.Fill.{take-two}
 
 pub grown-grown : (w : Option (List ℕ)) (xs ys : List ℕ) → grown (grown w xs) ys ≡ grown w (xs ++ ys)

@@ -1,5 +1,7 @@
 pub mod Digits
+pub mod Examples
 pub mod Files
 pub mod Fill
 pub mod Grown
+pub mod LineLaws
 pub mod Numerals

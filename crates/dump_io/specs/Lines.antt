@@ -1,6 +1,6 @@
 -- The lines of a dump and its headers. Offsets are counted in bytes from 0.
-use Rattle.std.specs.Prelude.{ℕ, ◌+◌, ◌-◌, ◌==◌, Bool, List, [], ◌∷◌, length, take, map, filter, nat_eq, if◌then◌else◌}
-use Rattle.std.specs.List.{starts_with, ends_with}
+use Rattle.std.specs.Prelude.{◌≡◌, ◌≢◌, ℕ, ◌+◌, ◌-◌, ◌<◌, ◌==◌, Bool, List, [], ◌∷◌, length, take, map, filter, nat_eq, slice_index, All, if◌then◌else◌}
+use Rattle.std.specs.List.{concat, starts_with, ends_with}
 
 abbrev pub lf : ℕ
 lf = 10
@@ -11,12 +11,28 @@ cr = 13
 abbrev pub equals_sign : ℕ
 equals_sign = 61
 
+-- LF stands in the line as its last byte alone
+abbrev pub HasLfLast : List ℕ → Type 0
+HasLfLast line = All (λ c. c ≢ lf) (take (length line - 1) line)
+
+-- the line ends in LF
+abbrev pub IsEnded : List ℕ → Type 0
+IsEnded line = slice_index line (length line - 1) ≡ lf
+
+-- the rule of lines: together they are the bytes, none is empty, LF stands only at the end of a line,
+-- and only the last line may lack it
+pub record AreLines (bytes : List ℕ) (lines : List (List ℕ)) : Type 0 where
+  pub together : concat lines ≡ bytes
+  pub some : All (λ line. 0 < length line) lines
+  pub lf_last : All HasLfLast lines
+  pub ended : All IsEnded (take (length lines - 1) lines)
+
 -- lines with one more byte in front of the first of them
 abbrev pub lines_after : ℕ → List (List ℕ) → List (List ℕ)
 lines_after c [] = (c ∷ []) ∷ []
 lines_after c (line ∷ lines) = (c ∷ line) ∷ lines
 
--- the raw lines: each ends behind its LF, and the last line may lack it
+-- the one list of raw lines by that rule: each ends behind its LF, and the last line may lack it
 abbrev pub raw_lines : List ℕ → List (List ℕ)
 raw_lines [] = []
 raw_lines (c ∷ bytes) = if c == lf then (c ∷ []) ∷ raw_lines bytes else lines_after c (raw_lines bytes)

@@ -1,5 +1,5 @@
 // A device that holds dumps.
-ghost use Rattle.std.specs.Prelude.{◌≡◌, ◌⊎◌, ℕ, ◌<◌, ◌≤◌, ◌^◌, length, Option, OnErr, IfOk, OnOk, MatchResult};
+ghost use Rattle.std.specs.Prelude.{◌≡◌, ◌⊎◌, ℕ, ◌<◌, ◌≤◌, ◌^◌, length, Option, Some, codes, OnErr, IfOk, OnOk, MatchResult};
 ghost use Rattle.dump_io.specs.Counts.{Rose, HasCause, plus_capped};
 ghost use Rattle.dump_io.specs.Dumps.{Files, Now, closed, IsOpen, size_of, IsNamed, IsAbsent, Reads};
 
@@ -11,6 +11,8 @@ use std::fmt;
 pub struct Failed;
 
 impl fmt::Display for Failed {
+    ghost output = { λ _. Some (codes "the device failed") };
+
     fn fmt<W: fmt::Write>(&self, f: &mut fmt::Formatter<W>) -> fmt::Result {
         write!(f, "the device failed")
     }

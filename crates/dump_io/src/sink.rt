@@ -1,5 +1,5 @@
 // What takes the bytes of a report.
-ghost use Rattle.std.specs.Prelude.{ℕ, ◌<◌, List, length, Option};
+ghost use Rattle.std.specs.Prelude.{◌≡◌, ℕ, ◌<◌, List, length, Option};
 ghost use Rattle.dump_io.specs.Counts.{HasCause};
 ghost use Rattle.dump_io.specs.Sinks.{Writes, WritesAll};
 
@@ -29,6 +29,7 @@ pub trait Sink {
 pub fn write_all<K: Sink>(sink: &mut K, bytes: &[u8]) -> Result<(), Failed>
     ensures writes { WritesAll (K.written sink.old) (K.written sink.new) bytes.now result }
     ensures cause { HasCause (K.faults sink.old) (K.faults sink.new) result }
+    ensures no_call { length bytes.now ≡ 0 → sink.new ≡ sink.old }
 {
     let mut done = 0;
     while done < bytes.len() {

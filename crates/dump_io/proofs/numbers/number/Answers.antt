@@ -7,7 +7,6 @@ use Rattle.std.proofs.lemmas.List.Folds.{list_all_more}
 use Rattle.std.proofs.lemmas.Int.Digits.{digits_value_more}
 use Rattle.std.specs.List.{list_all}
 use Rattle.std.specs.Str.Parse.{digits_value}
-use Rattle.std.proofs.lemmas.Grind.{common_steps}
 use Rattle.dump_io.proofs.Numerals.{is_digit_of, number_of-stopped, number_of-read}
 use Rattle.dump_io.proofs.numbers.number.Goals as goal
 

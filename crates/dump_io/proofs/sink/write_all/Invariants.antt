@@ -8,6 +8,7 @@ invariant-loop-done g l =
     (l.done ≤ length l.bytes)
     × (k.faults l.initial.sink ≤ k.faults l.sink)
     × (k.written l.sink ≡ grown (k.written l.initial.sink) (take l.done l.bytes))
+    × (length l.bytes ≡ 0 → l.sink ≡ l.initial.sink)
 
 abbrev pub decreases-loop-done : goal.decreases-loop-done
 decreases-loop-done g l = length l.bytes - l.done

@@ -1,0 +1,4 @@
+pub mod Examples
+pub mod FieldFacts
+pub mod LineFacts
+pub mod PartFacts

@@ -1,0 +1,14 @@
+//! The lines and the fields of a body, which is the bytes between a header and the next one.
+//!
+//! [`reading::lines`] gives the lines, [`field`] splits a line's text at its first colon, and [`find`]
+//! looks for the first field with a key. All calls are pure and take no memory.
+#![tactic(auto)]
+
+pub mod reading;
+pub mod shapes;
+
+pub use reading::{field, find};
+pub use shapes::{FieldAt, Line};
+
+#[cfg(test)]
+mod tests;

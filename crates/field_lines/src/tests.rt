@@ -1,0 +1,69 @@
+use crate::reading::lines;
+use crate::{FieldAt, field, find};
+use std::test::Fail;
+
+const BODY: &[u8] = b"State: Waiting\r\nname:  a:b\n\nnames:x\nState:\nlast: c\r";
+
+#[test]
+fn a_body_has_lines(rt: HostRuntime) -> Result<(), Fail> {
+    let mut left = lines(BODY);
+    for (at, text) in [
+        (0, "State: Waiting"),
+        (16, "name:  a:b"),
+        (27, ""),
+        (28, "names:x"),
+        (36, "State:"),
+        (43, "last: c\r"),
+    ] {
+        let line = left.next().ok_or("no line")?;
+        assert_eq!(rt; line.at, at);
+        assert_eq!(rt; line.text, text.as_bytes());
+    }
+    assert!(rt; left.next().is_none());
+    assert!(rt; lines(b"".as_slice()).next().is_none());
+    Ok(())
+}
+
+#[test]
+fn fields_are_found(rt: HostRuntime) {
+    for (key, found) in [
+        (
+            "State",
+            Some(FieldAt {
+                at: 0,
+                from: 7,
+                upto: 14,
+            }),
+        ),
+        (
+            "name",
+            Some(FieldAt {
+                at: 16,
+                from: 22,
+                upto: 26,
+            }),
+        ),
+        (
+            "names",
+            Some(FieldAt {
+                at: 28,
+                from: 34,
+                upto: 35,
+            }),
+        ),
+        (
+            "last",
+            Some(FieldAt {
+                at: 43,
+                from: 49,
+                upto: 51,
+            }),
+        ),
+        ("", None),
+        ("Stat", None),
+    ] {
+        assert_eq!(rt; find(BODY, key.as_bytes()), found, "{key}");
+    }
+    assert_eq!(rt; field(b":".as_slice()).is_some(), true);
+    assert_eq!(rt; field(b"no colon".as_slice()).is_none(), true);
+}

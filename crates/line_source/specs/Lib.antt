@@ -1,0 +1,2 @@
+pub mod HeaderSink
+pub mod Lines

@@ -1,0 +1,15 @@
+use Rattle.std.proofs.Common.{sym, subst}
+use Rattle.dump_io.specs.Sinks.{WritesAll}
+use Rattle.report_text.specs.declared.refusals.Refusal.TheVariants.{Open}
+use Rattle.report_text.specs.Refusals.{refusal_line}
+use Rattle.report_text.proofs.refusals.put_open_fault.Goals as goal
+
+pub returns-in-NotADump-clause-writes : goal.returns-in-NotADump-clause-writes
+returns-in-NotADump-clause-writes g c =
+    subst (λ fault. WritesAll (g.K.Sink.written c.args.sink.now) (g.K.Sink.written c.put_pieces.new.sink) (refusal_line (Open fault)) c.put_pieces.result)
+    (sym c.in-NotADump.is) c.put_pieces.ensures.writes
+
+pub returns-in-TooLarge-clause-writes : goal.returns-in-TooLarge-clause-writes
+returns-in-TooLarge-clause-writes g c =
+    subst (λ fault. WritesAll (g.K.Sink.written c.args.sink.now) (g.K.Sink.written c.put_pieces-in-TooLarge.new.sink) (refusal_line (Open fault)) c.put_pieces-in-TooLarge.result)
+    (sym c.in-TooLarge.is) c.put_pieces-in-TooLarge.ensures.writes

@@ -1,0 +1,31 @@
+-- The lines that say why a dump is refused.
+use Rattle.std.specs.Prelude.{ℕ, List, [], ◌∷◌, ◌++◌, decimal, codes}
+use Rattle.std.specs.List.{concat}
+use Rattle.section_index.specs.declared.opening.OpenFault.{OpenFault}
+use Rattle.section_index.specs.declared.opening.OpenFault.TheVariants.{NotADump, Version, TooLarge, Read, Memory}
+use Rattle.report_text.specs.declared.refusals.Refusal.{Refusal}
+use Rattle.report_text.specs.declared.refusals.Refusal.TheVariants.{Open}
+use Rattle.report_text.specs.Reports.{newline}
+
+-- what a dump that isn't opened is refused for, part by part
+abbrev pub open_cause : OpenFault → List (List ℕ)
+open_cause NotADump = codes "not a dump" ∷ []
+open_cause (Version text) = codes "version " ∷ text ∷ []
+open_cause (TooLarge size) = codes "dump too large " ∷ decimal size ∷ []
+open_cause Read = []
+open_cause Memory = []
+
+abbrev pub cause_of : Refusal → List (List ℕ)
+cause_of (Open fault) = open_cause fault
+
+abbrev pub refusal_line : Refusal → List ℕ
+refusal_line refusal = concat ((codes "refused: " ∷ cause_of refusal) ++ newline ∷ [])
+
+-- a fault that refuses a dump, and is none of the device or of memory
+abbrev pub IsRefusing : OpenFault → Type 0
+IsRefusing Read = ⊥
+IsRefusing Memory = ⊥
+IsRefusing fault = Unit {0}
+
+abbrev pub IsRefusal : Refusal → Type 0
+IsRefusal (Open fault) = IsRefusing fault

@@ -1,0 +1,76 @@
+// The report of `index`.
+ghost use Rattle.std.specs.Prelude.{◌≡◌, ◌<◌, length};
+ghost use Rattle.std.specs.List.{flat_map};
+ghost use Rattle.dump_io.specs.Counts.{HasCause};
+ghost use Rattle.dump_io.specs.Sinks.{WritesAll};
+ghost use Rattle.section_index.specs.Index.{sections_in, state_of};
+ghost use Rattle.section_index.specs.Sections.{section};
+ghost use Rattle.report_text.specs.Reports.{section_line, state_line, index_report};
+
+use crate::pieces::{Piece, put_pieces};
+use dump_io::{Failed, Sink, write_all};
+use section_index::{Index, Section, State};
+
+fn put_section<K: Sink>(sink: &mut K, s: &Section<'_>) -> Result<(), Failed>
+    ensures writes { WritesAll (K.written sink.old) (K.written sink.new) (section_line (section s.now.at s.now.body s.now.end s.now.text.now)) result }
+    ensures cause { HasCause (K.faults sink.old) (K.faults sink.new) result }
+{
+    let space = Piece::Bytes(b" ");
+    put_pieces(
+        sink,
+        &[
+            Piece::Dec(s.at),
+            space,
+            Piece::Dec(s.body),
+            space,
+            Piece::Dec(s.end),
+            space,
+            Piece::Bytes(s.text),
+            Piece::Bytes(b"\n"),
+        ],
+    )
+}
+
+// Writes whether the dump is whole, or in which section it breaks off.
+fn put_state<K: Sink>(sink: &mut K, index: &Index) -> Result<(), Failed>
+    ensures writes { WritesAll (K.written sink.old) (K.written sink.new) (state_line (sections_in index.now) (state_of index.now.headers)) result }
+    ensures cause { HasCause (K.faults sink.old) (K.faults sink.new) result }
+{
+    match index.state() {
+        State::Whole => write_all(sink, b"whole\n"),
+        State::TruncatedIn(last) => {
+            let s = index.section(last);
+            put_pieces(
+                sink,
+                &[
+                    Piece::Bytes(b"truncated "),
+                    Piece::Dec(s.at),
+                    Piece::Bytes(b" "),
+                    Piece::Bytes(s.text),
+                    Piece::Bytes(b"\n"),
+                ],
+            )
+        }
+    }
+}
+
+fn put_sections<K: Sink>(sink: &mut K, index: &Index) -> Result<(), Failed>
+    ensures writes { WritesAll (K.written sink.old) (K.written sink.new) (flat_map section_line (sections_in index.now)) result }
+    ensures cause { HasCause (K.faults sink.old) (K.faults sink.new) result }
+{
+    for i in 0..index.len() {
+        put_section(sink, &index.section(i))?;
+    }
+    Ok(())
+}
+
+/// Writes a line for each section, `AT BODY END TEXT`: the offsets at which its header and its body begin
+/// and at which it ends, and its header's text. Then comes the line of the state: `whole`, or `truncated`
+/// with the offset and the text of the section in which the dump breaks off.
+pub fn put_index<K: Sink>(sink: &mut K, index: &Index) -> Result<(), Failed>
+    ensures writes { WritesAll (K.written sink.old) (K.written sink.new) (index_report index.now.headers index.now.size) result }
+    ensures cause { HasCause (K.faults sink.old) (K.faults sink.new) result }
+{
+    put_sections(sink, index)?;
+    put_state(sink, index)
+}

@@ -1,0 +1,12 @@
+//! The texts of the reports and of the refusals.
+//!
+//! Each call writes one report, or one line on a refusal, to a sink. It takes no memory. `Failed` comes
+//! only where the sink's count of faults rose, and a proper front of the text was written then.
+#![tactic(auto)]
+
+mod index_report;
+mod pieces;
+mod refusals;
+
+pub use index_report::put_index;
+pub use refusals::{Refusal, put_refusal};

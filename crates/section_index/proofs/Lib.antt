@@ -1,0 +1,4 @@
+pub mod FirstHeader
+pub mod Kept
+pub mod Named
+pub mod Places

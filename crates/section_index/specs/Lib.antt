@@ -1,0 +1,6 @@
+pub mod Headers
+pub mod Index
+pub mod Opening
+pub mod Sections
+pub mod Reading
+pub mod Receiver

@@ -1,0 +1,48 @@
+-- The sections of a dump: each header with the bytes up to the next one.
+use Rattle.std.specs.Prelude.{ℕ, ◌+◌, ◌==◌, Bool, List, [], ◌∷◌, length, drop, slice_get, Option, None, Some, if◌then◌else◌}
+use Rattle.std.specs.List.{list_any, before_first, after_first}
+use Rattle.dump_io.specs.Lines.{Header, headers}
+
+abbrev pub is_colon : ℕ → Bool
+is_colon c = c == 58
+
+-- a header's text behind its equals sign
+abbrev pub name_of : List ℕ → List ℕ
+name_of text = drop 1 text
+
+-- the tag stands between the equals sign and the first colon, or the end of the text
+abbrev pub tag_of : List ℕ → List ℕ
+tag_of text = before_first is_colon (name_of text)
+
+-- the id follows that colon, and without one there is no id
+abbrev pub id_of : List ℕ → Option (List ℕ)
+id_of text = if list_any is_colon (name_of text) then Some (after_first is_colon (name_of text)) else None
+
+-- a section: where its header begins, where its body begins and ends, and its header's text
+pub record Section : Type 0 where
+  pub at : ℕ
+  pub body : ℕ
+  pub end : ℕ
+  pub text : List ℕ
+
+abbrev pub section : ℕ → ℕ → ℕ → List ℕ → Section
+section at body end text = record { at = at; body = body; end = end; text = text }
+
+-- the offset at which the next header begins, or the size of the dump
+abbrev pub next_at : Option Header → ℕ → ℕ
+next_at None size = size
+next_at (Some header) size = header.at
+
+-- where the section at a place ends
+abbrev pub end_at : List Header → ℕ → ℕ → ℕ
+end_at headers size i = next_at (slice_get headers (i + 1)) size
+
+-- each section ends where the next header begins, and the last at the end of the dump
+abbrev pub sections_of : List Header → ℕ → List Section
+sections_of [] size = []
+sections_of (header ∷ rest) size =
+    section header.at header.body (next_at (slice_get rest 0) size) header.text ∷ sections_of rest size
+
+-- the sections of the bytes of a dump, in order
+abbrev pub sections : List ℕ → List Section
+sections bytes = sections_of (headers bytes) (length bytes)

@@ -1,0 +1,138 @@
+// The index of a dump.
+ghost use Rattle.std.specs.Prelude.{◌≡◌, ◌<◌, ◌≤◌, length, slice_get, Some};
+ghost use Rattle.std.specs.Option.{option_copied};
+ghost use Rattle.section_index.specs.Index.{Contents, AreBounded, sections_in, state_of, IsLastPlace};
+ghost use Rattle.section_index.specs.Sections.{section, end_at, tag_of, id_of};
+
+use crate::header_text::tag_and_id;
+use crate::headers::Headers;
+use crate::opening::Version;
+use std::marker::Model;
+
+/// A section of a dump: a header and the bytes up to the next header or the end of the dump.
+#[derive(Clone, Copy, Debug)]
+pub struct Section<'a> {
+    /// The offset in the file at which the header's line begins.
+    pub at: u64,
+    /// The offset in the file at which the body begins, behind the header's line.
+    pub body: u64,
+    /// The offset in the file at which the body ends.
+    pub end: u64,
+    /// The header's line without its LF, and without a CR in front of that.
+    pub text: &'a [u8],
+    /// What stands between the equals sign and the first colon, or the end of the text.
+    pub tag: &'a [u8],
+    /// What follows that colon; without a colon there is no id.
+    pub id: Option<&'a [u8]>,
+}
+
+/// Whether a dump was written to its end.
+#[derive(Clone, Copy, Debug, PartialEq, Eq)]
+pub enum State {
+    /// The last section's tag is `end`.
+    Whole,
+    /// The dump breaks off in its last section, whose place this is, from 0.
+    TruncatedIn(usize),
+}
+
+// Where the section at a place ends.
+fn end_of(headers: &Headers, i: usize, size: u64) -> u64
+    requires { i < length headers.now }
+    ensures { result ≡ end_at headers.now size i }
+{
+    let count = headers.len();
+    if i + 1 < count {
+        headers.header(i + 1).at
+    } else {
+        size
+    }
+}
+
+/// The sections of a dump in order, with the dump's size and version. There is at least one section.
+#[derive(Drop)]
+pub struct Index {
+    headers: Headers,
+    size: u64,
+    version: Version,
+}
+
+impl Model for Index {
+    ghost Value = { Contents };
+
+    ghost view = { λ i. record { headers = i.headers; size = i.size; version = i.version } };
+
+    ghost invariant = { λ i. AreBounded (record { headers = i.headers; size = i.size; version = i.version }) };
+}
+
+impl Index {
+    pub(crate) fn new(headers: Headers, size: u64, version: Version) -> Index
+        requires some { 1 ≤ length headers }
+        requires size { size ≤ 68719476736 }
+        ensures { result ≡ record { headers = headers; size = size; version = version } }
+    {
+        Index {
+            headers,
+            size,
+            version,
+        }
+    }
+
+    /// The number of sections.
+    pub fn len(&self) -> usize
+        ensures value { result ≡ length self.now.headers }
+        ensures sections { result ≡ length (sections_in self.now) }
+        ensures bounded { AreBounded self.now }
+    {
+        self.headers.len()
+    }
+
+    /// The number of bytes of the file.
+    pub fn size(&self) -> u64
+        ensures value { result ≡ self.now.size }
+        ensures bounded { AreBounded self.now }
+    {
+        self.size
+    }
+
+    /// The version of the dump's format.
+    pub fn version(&self) -> Version
+        ensures { result ≡ self.now.version }
+    {
+        self.version
+    }
+
+    /// Whether the dump is whole, or the place of the section in which it breaks off.
+    pub fn state(&self) -> State
+        ensures value { result ≡ state_of self.now.headers }
+        ensures last { IsLastPlace result (length self.now.headers) }
+    {
+        let last = self.headers.len() - 1;
+        let header = self.headers.header(last);
+        let (tag, _) = tag_and_id(header.text);
+        if tag == b"end".as_slice() {
+            State::Whole
+        } else {
+            State::TruncatedIn(last)
+        }
+    }
+
+    /// The section at a place, from 0.
+    pub fn section(&self, i: usize) -> Section<'_>
+        requires { i < length self.now.headers }
+        ensures place { slice_get (sections_in self.now) i ≡ Some (section result.at result.body result.end result.text.now) }
+        ensures tag { result.tag.now ≡ tag_of result.text.now }
+        ensures id { option_copied result.id ≡ id_of result.text.now }
+    {
+        let header = self.headers.header(i);
+        let end = end_of(&self.headers, i, self.size);
+        let (tag, id) = tag_and_id(header.text);
+        Section {
+            at: header.at,
+            body: header.body,
+            end,
+            text: header.text,
+            tag,
+            id,
+        }
+    }
+}
