@@ -1,5 +1,5 @@
--- What the readers give, as functions of the text. The laws of `laws.rt` say that these are the texts of
--- `Elements` and no others.
+-- What the readers give, as functions of the text. The laws `front_is_longest` and `number_is_read` say that these are
+-- the texts that `Elements` and `Words` describe, and no others.
 use Rattle.std.specs.Prelude.{ℕ, zero, suc, ◌+◌, ◌-◌, ◌==◌, ◌&&◌, List, [], ◌∷◌, length, take, drop, Option, None, Some, nat_eq, nat_lt, nat_le, if◌then◌else◌}
 use Rattle.std.specs.Option.{option_and_then, unwrap_or}
 use Rattle.std.specs.List.{prefix_len, position_or_len, starts_with}

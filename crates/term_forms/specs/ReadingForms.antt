@@ -1,4 +1,5 @@
--- The form that a text spells, as a function of the text. Each part is given what stands behind the first byte
+-- The form that a text spells, as a function of the text; the law `form_is_read` says that it is the form that
+-- `Forms` describes. Each part is given what stands behind the first byte
 -- or the first two.
 use Rattle.std.specs.Prelude.{ℕ, ◌==◌, List, [], ◌∷◌, length, drop, Option, None, Some, nat_eq, if◌then◌else◌}
 use Rattle.std.specs.List.{starts_with}
