@@ -55,3 +55,13 @@ returns g c =
     let answer = built.answer dump.files bytes dump.told dump.named in
     let opened = taken-named _ dump.files c.args.file.now _ bytes _ _ dump.told dump.named built.now built.taken_most in
     omega (arith, opened, read.taken_most, ap body_length (first_section-index bytes index answer.1)))
+
+pub returns-in_default : goal.returns-in_default
+returns-in_default g c =
+    let built = c.in-Ok.ensures in
+    let read = c.in-Ok-read_body.ensures in
+    IsRunOf-no_memory (info c.args.file.now) c.args.limits.now _ _ _ _ refl refl refl
+    (λ bytes dump.
+    let answer = built.answer dump.files bytes dump.told dump.named in
+    let opened = taken-named _ dump.files c.args.file.now _ bytes _ _ dump.told dump.named built.now built.taken_most in
+    omega (arith, opened, read.taken_most, ap body_length (first_section-index bytes c.in-Ok.index answer.1)))
