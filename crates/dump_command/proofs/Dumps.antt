@@ -67,10 +67,10 @@ chosen false false false version is = absurd (let no_version : ⊥ = cc in no_ve
 version_text-named : (id : List ℕ) (version : Version) → version_named id ≡ Some version → version_text version ≡ id
 version_text-named id version is =
     elim (chosen (bytes_eq id (codes "0.3")) (bytes_eq id (codes "0.4")) (bytes_eq id (codes "0.5")) version is) [
-      inl p ↦ ap version_text p.1 ∙ sym ((bytes_eq-Decides id (codes "0.3")).0 p.0)
-    | inr rest ↦ elim rest [
-        inl p ↦ ap version_text p.1 ∙ sym ((bytes_eq-Decides id (codes "0.4")).0 p.0)
-      | inr p ↦ ap version_text p.1 ∙ sym ((bytes_eq-Decides id (codes "0.5")).0 p.0)
+      | inl p ↦ ap version_text p.1 ∙ sym ((bytes_eq-Decides id (codes "0.3")).0 p.0)
+      | inr rest ↦ elim rest [
+        | inl p ↦ ap version_text p.1 ∙ sym ((bytes_eq-Decides id (codes "0.4")).0 p.0)
+        | inr p ↦ ap version_text p.1 ∙ sym ((bytes_eq-Decides id (codes "0.5")).0 p.0)
       ]
     ]
 

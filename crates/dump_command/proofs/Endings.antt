@@ -52,8 +52,8 @@ IsRunOf-written cmd limits status device out err text (Err failed) is cut cause 
       unread = λ e. absurd (omega (arith, e));
       unwritten = λ _. inl cause.failed;
       cut = λ _ bytes dump.
-      subst (λ why. IsUnwritten cmd bytes why out err) (sym (told bytes dump).0)
-      (subst (IsCut out.before out.after) (told bytes dump).1 cut, cause.failed, kept);
+          subst (λ why. IsUnwritten cmd bytes why out err) (sym (told bytes dump).0)
+          (subst (IsCut out.before out.after) (told bytes dump).1 cut, cause.failed, kept);
       out_kept = λ e. absurd (let no : ⊥ = cc (e) in no);
       err_kept = λ e. absurd (let no : ⊥ = cc (e) in no);
       absent = λ gone. absurd (there gone);
@@ -186,15 +186,15 @@ pub IsRunOf-complete : (cmd : Command) (limits : Numbers) (status : ℕ) (device
     → (Rose device.faults_before device.faults_after → ⊥) → (HasFailed out → ⊥) → (HasFailed err → ⊥) → (status ≡ 0) ⊎ (status ≡ 6)
 IsRunOf-complete cmd limits status device out err run bytes dump open_to device_well out_well err_well =
     elim (among 0 (2 ∷ 4 ∷ 5 ∷ 6 ∷ []) status run.known) [
-      inl zero_is ↦ inl zero_is
-    | inr rest ↦ elim (among 2 (4 ∷ 5 ∷ 6 ∷ []) status rest) [
-        inl two ↦ absurd (let no : IsSomeAnd None (λ (why : Refusal). Gained err (refusal_line why)) =
-          subst (λ r. IsSomeAnd r (λ why. Gained err (refusal_line why))) open_to (run.refused two bytes dump) in no)
-      | inr rest ↦ elim (among 4 (5 ∷ 6 ∷ []) status rest) [
-          inl four ↦ absurd (elim (run.unread four) [ inl rose ↦ device_well rose | inr gone ↦ there device.files (file_of cmd) dump.files bytes dump.told dump.named gone ])
-        | inr rest ↦ elim (among 5 (6 ∷ []) status rest) [
-            inl five ↦ absurd (elim (run.unwritten five) [ inl rose ↦ out_well rose | inr rose ↦ err_well rose ])
-          | inr rest ↦ elim (among 6 [] status rest) [ inl six ↦ inr six | inr none ↦ absurd (false≢true none) ]
+      | inl zero_is ↦ inl zero_is
+      | inr rest ↦ elim (among 2 (4 ∷ 5 ∷ 6 ∷ []) status rest) [
+        | inl two ↦ absurd (let no : IsSomeAnd None (λ (why : Refusal). Gained err (refusal_line why)) =
+            subst (λ r. IsSomeAnd r (λ why. Gained err (refusal_line why))) open_to (run.refused two bytes dump) in no)
+        | inr rest ↦ elim (among 4 (5 ∷ 6 ∷ []) status rest) [
+          | inl four ↦ absurd (elim (run.unread four) [ inl rose ↦ device_well rose | inr gone ↦ there device.files (file_of cmd) dump.files bytes dump.told dump.named gone ])
+          | inr rest ↦ elim (among 5 (6 ∷ []) status rest) [
+            | inl five ↦ absurd (elim (run.unwritten five) [ inl rose ↦ out_well rose | inr rose ↦ err_well rose ])
+            | inr rest ↦ elim (among 6 [] status rest) [ inl six ↦ inr six | inr none ↦ absurd (false≢true none) ]
           ]
         ]
       ]

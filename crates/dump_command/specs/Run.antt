@@ -94,8 +94,10 @@ abbrev pub device : Option Files → ℕ → ℕ → ℕ → ℕ → Device
 device files faults_before faults_after taken_before taken_after =
     record {
       files = files;
-      faults_before = faults_before; faults_after = faults_after;
-      taken_before = taken_before; taken_after = taken_after;
+      faults_before = faults_before;
+      faults_after = faults_after;
+      taken_before = taken_before;
+      taken_after = taken_after;
     }
 
 -- these are the bytes of the command's file, where the device tells its files

@@ -13,10 +13,15 @@ use section_index::{BodyFault, OpenFault, Tags, build, read_body};
 use std::alloc::Global;
 
 const DONE: u8 = 0;
+
 const USAGE: u8 = 1;
+
 const REFUSED: u8 = 2;
+
 const UNREAD: u8 = 4;
+
 const UNWRITTEN: u8 = 5;
+
 const NO_MEMORY: u8 = 6;
 
 // The status after a text was written: this one, or that of a failed write.
@@ -74,7 +79,10 @@ fn put_unloaded<E: Sink>(err: &mut E, fault: BodyFault) -> u8
         BodyFault::Read => UNREAD,
         BodyFault::Memory => NO_MEMORY,
         BodyFault::SectionTooLarge { at, len } => {
-            status_of(put_refusal(err, &Refusal::SectionTooLarge { at, len }), REFUSED)
+            status_of(
+                put_refusal(err, &Refusal::SectionTooLarge { at, len }),
+                REFUSED,
+            )
         }
     }
 }

@@ -50,7 +50,10 @@ fn a_stream_gets_what_was_gathered(rt: HostRuntime) -> Result<(), Fail> {
     write_all(&mut sink, b"01234567")?;
     assert_eq!(rt; sink.stream.get_ref().taken.len(), 0);
     sink.flush()?;
-    assert_eq!(rt; sink.stream.get_ref().taken.as_slice(), b"01234567".as_slice());
+    assert_eq!(rt;
+        sink.stream.get_ref().taken.as_slice(),
+        b"01234567".as_slice()
+    );
     write_all(&mut sink, b"8")?;
     assert!(rt; sink.flush().is_err());
     Ok(())

@@ -3,6 +3,7 @@ use dump_io::Limits;
 use std::test::Fail;
 
 const SMALL: &[u8] = b"=erl_crash_dump:0.5\nSlogan: x\n=end\n";
+
 const SMALL_INDEX: &str = "0 20 30 =erl_crash_dump:0.5\n30 35 35 =end\nwhole\n";
 
 #[test]
@@ -91,7 +92,13 @@ fn a_missing_file_and_failing_reads(rt: HostRuntime) -> Result<(), Fail> {
             failing_calls: &[call],
             ..NONE
         };
-        let end = run_on(rt.alloc(), &["index", "F"], SMALL, &Limits::usual(), failing)?;
+        let end = run_on(
+            rt.alloc(),
+            &["index", "F"],
+            SMALL,
+            &Limits::usual(),
+            failing,
+        )?;
         assert_eq!(rt; end.status, 4);
         assert_eq!(rt; end.out.written(), b"".as_slice());
         assert_eq!(rt; end.err.written(), b"".as_slice());
@@ -107,7 +114,13 @@ fn a_failing_write_at_each_place(rt: HostRuntime) -> Result<(), Fail> {
             step: 1,
             ..NONE
         };
-        let end = run_on(rt.alloc(), &["index", "F"], SMALL, &Limits::usual(), failing)?;
+        let end = run_on(
+            rt.alloc(),
+            &["index", "F"],
+            SMALL,
+            &Limits::usual(),
+            failing,
+        )?;
         assert_eq!(rt; end.status, 5);
         assert!(rt; SMALL_INDEX.as_bytes().starts_with(end.out.written()));
         assert_eq!(rt; end.out.written().len() as u64, place);

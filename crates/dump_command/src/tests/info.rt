@@ -31,6 +31,13 @@ fn info_of_dumps(rt: HostRuntime) -> Result<(), Fail> {
 fn a_first_body_above_the_limit_is_refused(rt: HostRuntime) -> Result<(), Fail> {
     let limits = Limits::new(1000, 4096, 100, 1000, 90, 100);
     let line = "refused: section too large at 0 length 91\n";
-    expect_refusal(&rt, rt.alloc(), &["info", "F"], SAMPLE.as_bytes(), limits, line)?;
+    expect_refusal(
+        &rt,
+        rt.alloc(),
+        &["info", "F"],
+        SAMPLE.as_bytes(),
+        limits,
+        line,
+    )?;
     Ok(())
 }

@@ -38,7 +38,12 @@ fn limits_lowered(rt: HostRuntime) -> Result<(), Fail> {
 }
 
 // A dump whose second line is this text with so many letters `x` behind it, and then an `=end`.
-fn long_line(alloc: Global, start: &[u8], letters: usize, end: &[u8]) -> Result<Vec<u8>, AllocError> {
+fn long_line(
+    alloc: Global,
+    start: &[u8],
+    letters: usize,
+    end: &[u8],
+) -> Result<Vec<u8>, AllocError> {
     let mut dump = Vec::from_slice(alloc, b"=erl_crash_dump:0.5\n")?;
     dump.extend_from_slice(start)?;
     dump.extend_from_slice(vec![in alloc; b'x'; letters]?.as_slice())?;
@@ -50,25 +55,66 @@ fn long_line(alloc: Global, start: &[u8], letters: usize, end: &[u8]) -> Result<
 fn long_lines(rt: HostRuntime) -> Result<(), Fail> {
     // A header of the most bytes, and one of a byte more.
     let longest = long_line(rt.alloc(), b"=", 4095, b"\n=end\n")?;
-    let end = run_on(rt.alloc(), &["index", "F"], longest.as_slice(), &Limits::usual(), NONE)?;
+    let end = run_on(
+        rt.alloc(),
+        &["index", "F"],
+        longest.as_slice(),
+        &Limits::usual(),
+        NONE,
+    )?;
     assert_eq!(rt; end.status, 0);
-    assert!(rt; end.out.written().ends_with(b"xx\n4117 4122 4122 =end\nwhole\n"));
-    assert_eq!(rt; end.out.written().len(), 28 + 15 + 4096 + 1 + 20 + 6);
+    assert!(rt;
+        end.out
+            .written()
+            .ends_with(b"xx\n4117 4122 4122 =end\nwhole\n")
+    );
+    assert_eq!(rt; end.out.written().len(), 28 + 13 + 4096 + 1 + 20 + 6);
     let longer = long_line(rt.alloc(), b"=", 4096, b"\n=end\n")?;
     let line = "refused: header too long at 20\n";
-    expect_refusal(&rt, rt.alloc(), &["index", "F"], longer.as_slice(), None, line)?;
+    expect_refusal(
+        &rt,
+        rt.alloc(),
+        &["index", "F"],
+        longer.as_slice(),
+        None,
+        line,
+    )?;
 
     // A line that is no header may be of any length.
     let plain = long_line(rt.alloc(), b"", 10_000_000, b"\n=end\n")?;
     let out = "0 20 10000021 =erl_crash_dump:0.5\n10000021 10000026 10000026 =end\nwhole\n";
-    expect(&rt, rt.alloc(), &["index", "F"], plain.as_slice(), 0, out, "")?;
+    expect(
+        &rt,
+        rt.alloc(),
+        &["index", "F"],
+        plain.as_slice(),
+        0,
+        out,
+        "",
+    )?;
 
     // A header that begins with the second piece that is read, behind LF and behind CR LF.
     let out = "0 20 65536 =erl_crash_dump:0.5\n65536 65541 65541 =end\nwhole\n";
     let behind_lf = long_line(rt.alloc(), b"", 65_515, b"\n=end\n")?;
-    expect(&rt, rt.alloc(), &["index", "F"], behind_lf.as_slice(), 0, out, "")?;
+    expect(
+        &rt,
+        rt.alloc(),
+        &["index", "F"],
+        behind_lf.as_slice(),
+        0,
+        out,
+        "",
+    )?;
     let behind_crlf = long_line(rt.alloc(), b"", 65_514, b"\r\n=end\n")?;
-    expect(&rt, rt.alloc(), &["index", "F"], behind_crlf.as_slice(), 0, out, "")?;
+    expect(
+        &rt,
+        rt.alloc(),
+        &["index", "F"],
+        behind_crlf.as_slice(),
+        0,
+        out,
+        "",
+    )?;
     Ok(())
 }
 
@@ -120,7 +166,10 @@ fn few_bytes_are_taken(rt: HostRuntime) -> Result<(), Fail> {
     ];
     for (words, most) in cases {
         for cut in [0, 1, 2, 3, 7] {
-            let cuts = Hindrance { cuts: &[cut], ..NONE };
+            let cuts = Hindrance {
+                cuts: &[cut],
+                ..NONE
+            };
             let end = run_on(rt.alloc(), words, SAMPLE.as_bytes(), &Limits::usual(), cuts)?;
             assert!(rt; end.taken <= most);
         }

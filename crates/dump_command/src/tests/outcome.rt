@@ -54,7 +54,14 @@ pub fn run_on(
     let writes = Vec::from_slice(alloc, hindrance.failing_writes)?;
     let mut out = MemSink::new(alloc, hindrance.step, writes);
     let mut err = MemSink::new(alloc, 0, Vec::new(alloc));
-    let status = run(alloc, words.as_slice(), limits, &mut dumps, &mut out, &mut err);
+    let status = run(
+        alloc,
+        words.as_slice(),
+        limits,
+        &mut dumps,
+        &mut out,
+        &mut err,
+    );
     let taken = dumps.taken();
     Ok(Outcome {
         status,

@@ -47,8 +47,8 @@ returns g c =
     let now = told-named _ dump.files c.args.file.now _ bytes index dump.told dump.named built.now built.over in (
       refusal-opened c.args.file.now bytes c.args.limits.now answer.0 (subst (λ s. body_length s ≤ c.args.limits.now.section) first read.loaded),
       ap (λ b. info_report (version_text index.version) index.headers index.size c.in-Ok-count.tags b) c.as_slice.ensures.value
-      ∙ ap (λ t. info_report (version_text index.version) index.headers index.size t body) c.in-Ok-count.ensures
-      ∙ info_report-index c.args.file.now bytes _ index body answer.1 now read.body,
+          ∙ ap (λ t. info_report (version_text index.version) index.headers index.size t body) c.in-Ok-count.ensures
+          ∙ info_report-index c.args.file.now bytes _ index body answer.1 now read.body,
     ))
     (λ gone. let no : ⊥ = cc (built.absent gone) in no)
     (λ bytes dump.
