@@ -27,3 +27,5 @@ pub use tags::Tags;
 
 #[cfg(test)]
 mod body_tests;
+#[cfg(test)]
+mod build_tests;
