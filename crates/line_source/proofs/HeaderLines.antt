@@ -1,17 +1,16 @@
 -- The bytes of a header line, up to its LF or to the end of the piece.
-use Rattle.std.proofs.Common.{◌≡◌, ℕ, zero, suc, ◌+◌, ◌-◌, ◌<◌, ◌≤◌, Bool, true, false, not, ◌&&◌, List, [], ◌∷◌, ◌++◌, length, take, drop, get_or, Option, None, Some, refl, sym, ◌∙◌, ap, subst, append_assoc, append-nil, length-append, arith, if◌then◌else◌, ◌==◌, nat_lt}
+use Rattle.std.proofs.Common.{◌≡◌, ℕ, zero, suc, ◌+◌, ◌-◌, ◌<◌, ◌≤◌, true, false, List, [], ◌∷◌, ◌++◌, length, take, drop, get_or, Option, Some, refl, sym, ◌∙◌, ap, append-nil, arith, ◌==◌, nat_lt}
 use Rattle.std.specs.Prelude.{All, slice_get}
-use Rattle.std.specs.List.{list_all}
 use Rattle.std.proofs.lemmas.Bool.{cond-true, cond-false, eqb-true, and_from, and_right, le-ltb, lt-ltb, le-leb, not_from_false, false_from_ne_true}
 use Rattle.std.proofs.lemmas.List.{take_more, drop_more, take-append-drop, length_push}
 use Rattle.std.proofs.lemmas.List.Elements.{All-weaker, All-same}
 use Rattle.memchr.specs.Find.{Nowhere, Passes, is_byte}
 use Rattle.dump_io.specs.Lines.{lf, text_of, Header}
-use Rattle.line_source.specs.Streams.{LastLine, ended, plain, header, last_line, new_headers, headers_before, too_long}
+use Rattle.line_source.specs.Streams.{LastLine, ended, plain, header, new_headers, headers_before, too_long}
 use Rattle.line_source.specs.Scan.{Scan, StandsFor}
 use Rattle.line_source.specs.Receiver.{Refusal}
-use Rattle.line_source.specs.Feeding.{first_too_long, header_bytes, is_header_line, StopsAmong, EndsTooLong, EndsRefused}
-use Rattle.line_source.proofs.Walk.{step, last_by, heard_by, long_by, last_by-append, heard_by-append, long_by-append}
+use Rattle.line_source.specs.Feeding.{header_bytes, is_header_line, EndsTooLong, EndsRefused}
+use Rattle.line_source.proofs.Walk.{last_by, heard_by, long_by, last_by-append, heard_by-append, long_by-append}
 use Rattle.line_source.proofs.Pieces.{Lies, held, heard_by-lies, long_by-from, filter-none}
 use Rattle.line_source.proofs.Stretches.{lacks_lf, last_by-header, heard_by-header, long_by-header, passes}
 use Rattle.line_source.proofs.Scans.{too_long-walked, new_headers-walked, StandsFor-more}
@@ -144,3 +143,37 @@ StandsFor-longer scan after s t x stands line low lacks fits limit offset last =
 pub new_headers-longer : (scan : Scan) (s t x : List ℕ) → StandsFor scan s → scan.last ≡ header t → lacks_lf x ≡ true → new_headers s x ≡ []
 new_headers-longer scan s t x stands line lacks =
     new_headers-walked scan s x stands ∙ ap (λ l. heard_by scan.offset l x) line ∙ heard_by-header scan.offset t x lacks
+
+-- a scan that kept more bytes of its header line
+abbrev pub longer : Scan → List ℕ → Scan
+longer scan x = record scan { offset = scan.offset + length x; last = header (header_bytes scan.last ++ x) }
+
+pub kept-offset : (scan after : Scan) (x : List ℕ) → after ≡ longer scan x → after.offset ≡ scan.offset + length x
+kept-offset scan after x is = ap (λ s. s.offset) is
+
+pub kept-bytes : (scan after : Scan) (x : List ℕ) → after ≡ longer scan x → header_bytes after.last ≡ header_bytes scan.last ++ x
+kept-bytes scan after x is = ap (λ s. header_bytes s.last) is
+
+pub StandsFor-kept : (scan after : Scan) (s x : List ℕ) → StandsFor scan s → is_header_line scan.last ≡ true → length (header_bytes scan.last) ≤ scan.offset
+    → lacks_lf x ≡ true → length (header_bytes scan.last) + length x ≤ scan.limit → after ≡ longer scan x → StandsFor after (s ++ x)
+StandsFor-kept scan after s x stands line low lacks fits is =
+    StandsFor-longer scan after s (header_bytes scan.last) x stands (header-known scan.last line) low lacks fits
+    (ap (λ s. s.limit) is) (kept-offset scan after x is) (ap (λ s. s.last) is)
+
+-- and then heard it
+pub StandsFor-heard : (scan middle after : Scan) (s x : List ℕ) → StandsFor scan s → is_header_line scan.last ≡ true → length (header_bytes scan.last) ≤ scan.offset
+    → lacks_lf x ≡ true → length (header_bytes scan.last) + length x ≤ scan.limit → middle ≡ longer scan x → after ≡ record middle { offset = middle.offset + 1; last = ended }
+    → StandsFor after (s ++ (x ++ lf ∷ []))
+StandsFor-heard scan middle after s x stands line low lacks fits is then =
+    StandsFor-line scan after s (header_bytes scan.last) x stands (header-known scan.last line) low lacks fits
+    (ap (λ s. s.limit) then ∙ ap (λ s. s.limit) is)
+    (ap (λ s. s.offset) then ∙ ap (λ n. n + 1) (kept-offset scan middle x is))
+    (ap (λ s. s.last) then)
+
+-- the header that it heard
+pub heard-kept : (scan middle : Scan) (x : List ℕ) → middle ≡ longer scan x
+    → record { at = middle.offset - length (header_bytes middle.last); body = middle.offset + 1; text = text_of (header_bytes middle.last ++ lf ∷ []) }
+    ≡ ended_header scan.offset (header_bytes scan.last) x
+heard-kept scan middle x is =
+    let heard : Scan → Header = λ s. record { at = s.offset - length (header_bytes s.last); body = s.offset + 1; text = text_of (header_bytes s.last ++ lf ∷ []) } in
+    ap heard is

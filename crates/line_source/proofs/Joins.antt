@@ -1,16 +1,15 @@
 -- A piece taken in two parts.
-use Rattle.std.proofs.Common.{◌≡◌, ℕ, ◌+◌, ◌-◌, ◌<◌, ◌≤◌, Bool, true, false, List, [], ◌∷◌, ◌++◌, length, take, drop, Option, None, Some, refl, sym, ◌∙◌, ap, subst, append_assoc, append-nil, length-append, arith, nat_lt}
-use Rattle.std.specs.Prelude.{All, slice_get, filter}
+use Rattle.std.proofs.Common.{◌≡◌, ℕ, ◌+◌, ◌-◌, ◌<◌, ◌≤◌, true, List, [], ◌∷◌, ◌++◌, length, take, drop, Option, None, Some, refl, sym, ◌∙◌, ap, subst, append_assoc, length-append, arith, nat_lt}
+use Rattle.std.specs.Prelude.{All, slice_get}
 use Rattle.std.proofs.lemmas.Bool.{lt-ltb}
 use Rattle.std.proofs.lemmas.List.{take_rest, take-append-drop, take-take, drop-take}
 use Rattle.std.proofs.lemmas.List.Elements.{All-weaker, All-same, All-head, filter-append}
 use Rattle.dump_io.specs.Lines.{Header}
-use Rattle.line_source.specs.Streams.{LastLine, last_line, new_headers, headers_before, too_long}
-use Rattle.line_source.specs.Scan.{Scan, StandsFor}
+use Rattle.line_source.specs.Streams.{last_line, new_headers, headers_before, too_long}
 use Rattle.line_source.specs.Receiver.{Refusal}
 use Rattle.line_source.specs.declared.scan_fault.ScanFault.{ScanFault}
 use Rattle.line_source.specs.declared.scan_fault.ScanFault.TheVariants.{HeaderTooLong, Stop}
-use Rattle.line_source.specs.Feeding.{first_too_long, refusal_value, StopsAmong, EndsTooLong, EndsRefused, Ends}
+use Rattle.line_source.specs.Feeding.{first_too_long, refusal_value, EndsTooLong, EndsRefused, Ends}
 use Rattle.line_source.proofs.Walk.{last_by, heard_by, long_by}
 use Rattle.line_source.proofs.Pieces.{Lies, held, held-line, last_line-append, too_long-append, heard_by-lies, long_by-from, filter-all, new_headers-walk, new_headers-append}
 
@@ -31,7 +30,16 @@ first-from n at (a ∷ ats) all is =
     let same : a ≡ at = cc in
     subst (λ x. n ≤ x) same (All-head (λ at. n ≤ at) a ats all)
 
--- the first line that is too long begins behind each header that was heard before
+-- the first line that is too long is the last line of what was right before, or begins later
+pub long-from : (limit : ℕ) (s p : List ℕ) (at : ℕ) → too_long limit s ≡ [] → first_too_long limit (s ++ p) ≡ Some at
+    → length s - held (last_line s) ≤ at
+long-from limit s p at short first =
+    let longs : too_long limit (s ++ p) ≡ long_by limit (length s) (last_line s) p =
+    too_long-append limit s p ∙ ap (λ ls. ls ++ long_by limit (length s) (last_line s) p) short in
+    first-from (length s - held (last_line s)) at (long_by limit (length s) (last_line s) p)
+    (long_by-from limit (length s) (last_line s) p (held-line s)) (sym (ap (λ ls. slice_get ls 0) longs) ∙ first)
+
+-- it begins behind each header that was heard before
 before-all : (limit : ℕ) (s a b : List ℕ) (at : ℕ) → too_long limit (s ++ a) ≡ [] → first_too_long limit ((s ++ a) ++ b) ≡ Some at
     → headers_before at (new_headers s a) ≡ new_headers s a
 before-all limit s a b at short first =
@@ -40,12 +48,7 @@ before-all limit s a b at short first =
     let high = length s + length a - held (last_by line a) in
     let sum : length (s ++ a) ≡ length s + length a = length-append s a in
     let same : held (last_line (s ++ a)) ≡ held (last_by line a) = ap held (last_line-append s a) in
-    let longs : too_long limit ((s ++ a) ++ b) ≡ long_by limit (length (s ++ a)) (last_line (s ++ a)) b =
-    too_long-append limit (s ++ a) b ∙ ap (λ ls. ls ++ long_by limit (length (s ++ a)) (last_line (s ++ a)) b) short in
-    let from : length (s ++ a) - held (last_line (s ++ a)) ≤ at =
-    first-from (length (s ++ a) - held (last_line (s ++ a))) at (long_by limit (length (s ++ a)) (last_line (s ++ a)) b)
-    (long_by-from limit (length (s ++ a)) (last_line (s ++ a)) b (held-line (s ++ a)))
-    (sym (ap (λ ls. slice_get ls 0) longs) ∙ first) in
+    let from : length (s ++ a) - held (last_line (s ++ a)) ≤ at = long-from limit (s ++ a) b at short first in
     ap (headers_before at) (new_headers-walk s a)
     ∙ filter-all (λ h. nat_lt h.at at) hs
     (All-weaker (Lies (length s - held line) (length s) high) (λ h. nat_lt h.at at ≡ true)

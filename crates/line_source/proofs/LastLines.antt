@@ -1,12 +1,12 @@
 -- The last line, where it lacks its LF.
-use Rattle.std.proofs.Common.{◌≡◌, ℕ, zero, suc, ◌+◌, ◌-◌, ◌<◌, ◌≤◌, Bool, true, false, not, ◌&&◌, cond, List, [], ◌∷◌, ◌++◌, length, take, drop, map, refl, sym, ◌∙◌, ap, subst, append_assoc, append-nil, length-drop, arith, if◌then◌else◌, ◌==◌, nat_eq}
+use Rattle.std.proofs.Common.{◌≡◌, ℕ, suc, ◌+◌, ◌-◌, Bool, true, false, not, ◌&&◌, cond, List, [], ◌∷◌, ◌++◌, length, drop, map, refl, sym, ◌∙◌, ap, subst, append-nil, length-drop, arith, if◌then◌else◌, ◌==◌, nat_eq}
 use Rattle.std.specs.Prelude.{filter, Some}
 use Rattle.std.specs.List.{ends_with}
 use Rattle.std.specs.Cmp.Lexicographic.{pointwise}
-use Rattle.std.proofs.lemmas.Bool.{cond-true, cond-false, and_parts, false≢true, false_from_ne_true}
+use Rattle.std.proofs.lemmas.Bool.{cond-false, and_parts, false≢true, false_from_ne_true}
 use Rattle.std.proofs.lemmas.List.{length_push, drop-drop}
-use Rattle.dump_io.specs.Lines.{lf, cr, equals_sign, raw_lines, Line, lines_from, lines, text_of, is_header, Header, header_of, headers}
-use Rattle.line_source.specs.Streams.{has_lf, begins_header, LastLine, ended, plain, header, last_line, ended_headers, open_headers}
+use Rattle.dump_io.specs.Lines.{lf, cr, equals_sign, raw_lines, Line, lines_from, text_of, is_header, Header, header_of, headers}
+use Rattle.line_source.specs.Streams.{has_lf, begins_with_equals, LastLine, ended, plain, header, last_line, ended_headers, open_headers}
 use Rattle.line_source.specs.Scan.{Scan, StandsFor}
 use Rattle.line_source.specs.Receiver.{Refusal}
 use Rattle.line_source.specs.Feeding.{header_bytes, is_header_line, StopsAmong}
@@ -60,7 +60,7 @@ open-last n (c ∷ t) e =
     let raw = c ∷ t in
     let text : text_of raw ≡ raw = text_of-open raw e in
     open_of-cons (is_header raw && not (has_lf raw)) (line_at n raw) []
-    ∙ ap (λ q. cond q (header_of (line_at n raw) ∷ []) []) (ap (λ q. is_header raw && not q) e ∙ and-true (is_header raw) ∙ ap begins_header text ∙ begins-head c t)
+    ∙ ap (λ q. cond q (header_of (line_at n raw) ∷ []) []) (ap (λ q. is_header raw && not q) e ∙ and-true (is_header raw) ∙ ap begins_with_equals text ∙ begins-head c t)
     ∙ ap (λ x. cond (c == equals_sign) (record { at = n; body = n + length raw; text = x } ∷ []) []) text
     ∙ open_by-kind (c == equals_sign) n raw
 

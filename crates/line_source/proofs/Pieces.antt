@@ -1,11 +1,11 @@
 -- What a piece adds to the stream before it.
-use Rattle.std.proofs.Common.{◌≡◌, ℕ, zero, suc, ◌+◌, ◌-◌, ◌<◌, ◌≤◌, Bool, true, false, not, ◌&&◌, cond, eqb, ltb, List, [], ◌∷◌, ◌++◌, length, take, drop, map, refl, sym, ◌∙◌, ap, subst, append_assoc, append-nil, length-append, arith, if◌then◌else◌, ◌==◌, nat_eq, nat_lt}
-use Rattle.std.specs.Prelude.{filter, fold, All}
+use Rattle.std.proofs.Common.{◌≡◌, ℕ, suc, ◌+◌, ◌-◌, ◌<◌, ◌≤◌, Bool, true, false, List, [], ◌∷◌, ◌++◌, length, refl, sym, ◌∙◌, ap, subst, length-append, arith, if◌then◌else◌, ◌==◌, nat_lt}
+use Rattle.std.specs.Prelude.{filter, All}
 use Rattle.std.proofs.lemmas.Bool.{cond-true, cond-false, lt-ltb, le-ltb}
-use Rattle.std.proofs.lemmas.List.{drop_at, length_push}
+use Rattle.std.proofs.lemmas.List.{length_push}
 use Rattle.std.proofs.lemmas.List.Elements.{All-nil, All-cons, All-head, All-tail, All-append, All-weaker, filter-append}
-use Rattle.dump_io.specs.Lines.{lf, cr, equals_sign, raw_lines, Line, lines_from, lines, text_of, is_header, Header, header_of, headers}
-use Rattle.line_source.specs.Streams.{has_lf, begins_header, kind_of, LastLine, ended, plain, header, last_line, ended_headers, new_headers, headers_before, too_long, is_too_long, length_before_lf}
+use Rattle.dump_io.specs.Lines.{lf, equals_sign, text_of, Header}
+use Rattle.line_source.specs.Streams.{LastLine, ended, plain, header, last_line, ended_headers, new_headers, too_long}
 use Rattle.line_source.proofs.Walk.{step, heard_at, long_at, last_by, heard_by, long_by, last_by-append, heard_by-append, long_by-append, last_line-walk, ended_headers-walk, too_long-walk}
 
 pub last_line-append : (s p : List ℕ) → last_line (s ++ p) ≡ last_by (last_line s) p
@@ -126,6 +126,27 @@ long_by-from limit n l (b ∷ bs) fits =
     (All-weaker (λ at. n + 1 - held after ≤ at) (λ at. n - held l ≤ at) wider (long_at limit (n + 1) after) (long_at-from limit (n + 1) after))
     (All-weaker (λ at. n + 1 - held after ≤ at) (λ at. n - held l ≤ at) wider (long_by limit (n + 1) after bs)
     (long_by-from limit (n + 1) after bs (omega (arith, more, fits))))
+
+long_at-most : (q : Bool) (n m : ℕ) → n ≤ m → All (λ at. at ≤ m) (if q then n ∷ [] else [])
+long_at-most true n m fits = All-cons (λ at. at ≤ m) n [] fits (All-nil (λ at. at ≤ m))
+long_at-most false n m fits = All-nil (λ at. at ≤ m)
+
+-- a line that is too long is the last line, or begins before it
+long_at-upto : (limit n m : ℕ) (l : LastLine) → n - held l ≤ m → All (λ at. at ≤ m) (long_at limit n l)
+long_at-upto limit n m ended fits = All-nil (λ at. at ≤ m)
+long_at-upto limit n m plain fits = All-nil (λ at. at ≤ m)
+long_at-upto limit n m (header t) fits = long_at-most (length t == limit + 1) (n - length t) m fits
+
+pub long_by-upto : (limit n : ℕ) (l : LastLine) (p : List ℕ) → All (λ at. at ≤ n + length p - held (last_by l p)) (long_by limit n l p)
+long_by-upto limit n l [] = All-nil (λ at. at ≤ n + 0 - held l)
+long_by-upto limit n l (b ∷ bs) =
+    let after = step l b in
+    let last : held (last_by after bs) ≤ held after + length bs = held-by after bs in
+    let high = n + suc (length bs) - held (last_by after bs) in
+    All-append (λ at. at ≤ high) (long_at limit (n + 1) after) (long_by limit (n + 1) after bs)
+    (long_at-upto limit (n + 1) high after (omega (arith, last)))
+    (All-weaker (λ at. at ≤ n + 1 + length bs - held (last_by after bs)) (λ at. at ≤ high) (λ at le. omega (arith, le))
+    (long_by limit (n + 1) after bs) (long_by-upto limit (n + 1) after bs))
 
 pub filter-all : {X : Type 0} (p : X → Bool) (xs : List X) → All (λ x. p x ≡ true) xs → filter p xs ≡ xs
 filter-all p [] all = refl

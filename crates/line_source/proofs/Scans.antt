@@ -1,13 +1,13 @@
 -- What a scan stands for after more bytes.
-use Rattle.std.proofs.Common.{◌≡◌, ℕ, zero, suc, ◌+◌, ◌-◌, ◌<◌, ◌≤◌, Bool, true, false, not, List, [], ◌∷◌, ◌++◌, length, take, drop, get_or, refl, sym, ◌∙◌, ap, subst, append_assoc, append-nil, length-append, arith, if◌then◌else◌, ◌==◌}
+use Rattle.std.proofs.Common.{◌≡◌, ℕ, suc, ◌+◌, ◌-◌, ◌<◌, ◌≤◌, Bool, true, false, not, List, [], ◌∷◌, ◌++◌, length, take, get_or, refl, sym, ◌∙◌, ap, append-nil, length-append, arith, if◌then◌else◌, ◌==◌}
 use Rattle.std.proofs.lemmas.Bool.{cond-false, ne_eqb}
-use Rattle.std.proofs.lemmas.List.{take_more, length-take-le}
-use Rattle.memchr.specs.Find.{Nowhere, NoneBefore}
-use Rattle.dump_io.specs.Lines.{lf, equals_sign, Header}
-use Rattle.line_source.specs.Streams.{LastLine, ended, plain, header, last_line, new_headers, too_long}
+use Rattle.std.proofs.lemmas.List.{take_more}
+use Rattle.memchr.specs.Find.{Nowhere}
+use Rattle.dump_io.specs.Lines.{lf, equals_sign}
+use Rattle.line_source.specs.Streams.{ended, plain, header, last_line, new_headers, too_long}
 use Rattle.line_source.specs.Starts.{begins_line, BeginsHeader}
 use Rattle.line_source.specs.Scan.{Scan, StandsFor}
-use Rattle.line_source.proofs.Walk.{step, heard_at, long_at, last_by, heard_by, long_by, last_by-append, heard_by-append, long_by-append}
+use Rattle.line_source.proofs.Walk.{last_by, heard_by, long_by, last_by-append, heard_by-append, long_by-append}
 use Rattle.line_source.proofs.Pieces.{last_line-append, too_long-append, new_headers-walk}
 use Rattle.line_source.proofs.Stretches.{other_line, heard_by-quiet, long_by-quiet, last_by-stretch, last_by-start, Nowhere-front}
 

@@ -1,8 +1,8 @@
 -- Where headers begin within a part of the stream.
-use Rattle.std.proofs.Common.{◌≡◌, ℕ, ◌+◌, ◌-◌, ◌<◌, ◌≤◌, Bool, true, false, List, length, take, drop, get_or, length-drop, sym, ◌∙◌, ap, subst, arith, ⊎_elim}
+use Rattle.std.proofs.Common.{◌≡◌, ℕ, ◌+◌, ◌-◌, ◌≤◌, Bool, true, false, List, length, take, drop, get_or, length-drop, sym, ◌∙◌, ap, subst, arith, ⊎_elim}
 use Rattle.std.proofs.lemmas.Bool.{cases_lt, eq-eqb, eqb-true, both_ways}
 use Rattle.std.proofs.lemmas.List.{get_or-drop, take_rest}
-use Rattle.memchr.specs.Find.{Nowhere, NoneBefore, IsFirst, IsFirstByte, Passes, is_byte}
+use Rattle.memchr.specs.Find.{Nowhere, Passes, is_byte}
 use Rattle.dump_io.specs.Lines.{equals_sign}
 use Rattle.line_source.specs.Starts.{begins_line, BeginsHeader}
 

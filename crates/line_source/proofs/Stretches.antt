@@ -1,10 +1,10 @@
 -- Stretches of the stream in which no header begins, and the bytes of one header line.
-use Rattle.std.proofs.Common.{◌≡◌, ℕ, zero, suc, ◌+◌, ◌-◌, ◌<◌, ◌≤◌, Bool, true, false, not, ◌&&◌, cond, List, [], ◌∷◌, ◌++◌, length, take, drop, get_or, refl, sym, ◌∙◌, ap, subst, append_assoc, append-nil, length-append, add-one, arith, if◌then◌else◌, ◌==◌, nat_le, nat_lt}
+use Rattle.std.proofs.Common.{◌≡◌, ℕ, zero, suc, ◌+◌, ◌-◌, ◌<◌, ◌≤◌, Bool, true, false, not, ◌&&◌, List, [], ◌∷◌, ◌++◌, length, take, get_or, refl, sym, ◌∙◌, ap, append_assoc, append-nil, arith, if◌then◌else◌, ◌==◌, nat_le, nat_lt}
 use Rattle.std.specs.List.{list_all}
-use Rattle.std.proofs.lemmas.Bool.{cond-true, cond-false, cases_Bool, eqb-true, eq-eqb, ne_eqb, both_ways, and_parts, not-true}
+use Rattle.std.proofs.lemmas.Bool.{cond-false, eqb-true, ne_eqb, and_parts, not-true}
 use Rattle.std.proofs.lemmas.List.{length_push, get_or-take, length-take-le}
-use Rattle.memchr.specs.Find.{Nowhere, Passes, is_byte}
-use Rattle.dump_io.specs.Lines.{lf, equals_sign, Header}
+use Rattle.memchr.specs.Find.{Nowhere}
+use Rattle.dump_io.specs.Lines.{lf, equals_sign}
 use Rattle.line_source.specs.Streams.{LastLine, ended, plain, header}
 use Rattle.line_source.specs.Starts.{begins_line, BeginsHeader}
 use Rattle.line_source.proofs.Walk.{step, heard_at, long_at, last_by, heard_by, long_by}

@@ -1,11 +1,11 @@
 -- The lines of a stream, byte by byte: what is known of the last line, and what each byte adds.
-use Rattle.std.proofs.Common.{◌≡◌, ℕ, zero, suc, ◌+◌, ◌-◌, ◌<◌, ◌≤◌, Bool, true, false, not, ◌&&◌, cond, eqb, ltb, List, [], ◌∷◌, ◌++◌, length, take, drop, map, refl, sym, ◌∙◌, ap, subst, append_assoc, append-nil, length-append, arith, if◌then◌else◌, ◌==◌, nat_eq, nat_lt}
+use Rattle.std.proofs.Common.{◌≡◌, ℕ, suc, ◌+◌, ◌-◌, Bool, true, false, ◌&&◌, cond, List, [], ◌∷◌, ◌++◌, length, take, drop, map, refl, sym, ◌∙◌, ap, append_assoc, append-nil, arith, if◌then◌else◌, ◌==◌, nat_eq, nat_lt}
 use Rattle.std.specs.Prelude.{filter, fold}
-use Rattle.std.specs.List.{starts_with, ends_with}
+use Rattle.std.specs.List.{ends_with}
 use Rattle.std.proofs.lemmas.Bool.{cond-true, cond-false}
 use Rattle.std.proofs.lemmas.List.{drop_at, length_push}
-use Rattle.dump_io.specs.Lines.{lf, cr, equals_sign, lines_after, raw_lines, Line, lines_from, lines, text_of, is_header, Header, header_of}
-use Rattle.line_source.specs.Streams.{has_lf, begins_header, kind_of, LastLine, ended, plain, header, last_line, ended_headers, too_long, is_too_long, length_before_lf}
+use Rattle.dump_io.specs.Lines.{lf, cr, equals_sign, lines_after, raw_lines, Line, lines_from, text_of, is_header, Header, header_of}
+use Rattle.line_source.specs.Streams.{has_lf, begins_with_equals, kind_of, LastLine, ended, plain, header, last_line, ended_headers, too_long, is_too_long, length_before_lf}
 
 -- what is known of the last line after one more byte
 abbrev pub step : LastLine → ℕ → LastLine
@@ -106,7 +106,7 @@ abbrev pub open_kind : List ℕ → LastLine
 open_kind [] = ended
 open_kind (c ∷ t) = if c == equals_sign then header (c ∷ t) else plain
 
-pub begins-head : (c : ℕ) (t : List ℕ) → begins_header (c ∷ t) ≡ (c == equals_sign)
+pub begins-head : (c : ℕ) (t : List ℕ) → begins_with_equals (c ∷ t) ≡ (c == equals_sign)
 begins-head c t = grind arith
 
 kind_of-open : (c : ℕ) (t : List ℕ) → has_lf (c ∷ t) ≡ false → kind_of (c ∷ t) ≡ open_kind (c ∷ t)
@@ -174,7 +174,7 @@ line_at n raw = record { at = n; raw = raw }
 pub eqb-lf : (b : ℕ) → (b == lf) ≡ true → b ≡ lf
 eqb-lf b e = grind arith
 
-begins-take : (c m : ℕ) (t : List ℕ) → begins_header (take (suc m) (c ∷ t)) ≡ (c == equals_sign)
+begins-take : (c m : ℕ) (t : List ℕ) → begins_with_equals (take (suc m) (c ∷ t)) ≡ (c == equals_sign)
 begins-take c m t = begins-head c (take m t)
 
 text_of-lf : (raw : List ℕ) → has_lf raw ≡ true → ends_with nat_eq raw (cr ∷ lf ∷ []) ≡ false → text_of raw ≡ take (length raw - 1) raw
@@ -191,11 +191,11 @@ is_header-long : (q : Bool) (c d : ℕ) (t : List ℕ) → ends_with nat_eq (c �
 is_header-long true c d t e =
     let raw = c ∷ d ∷ (t ++ lf ∷ []) in
     let size : length raw - 2 ≡ suc (length t) = omega (arith, length_push t lf) in
-    ap begins_header (text_of-cr raw e ∙ ap (λ k. take k raw) size) ∙ begins-take c (length t) (d ∷ (t ++ lf ∷ []))
+    ap begins_with_equals (text_of-cr raw e ∙ ap (λ k. take k raw) size) ∙ begins-take c (length t) (d ∷ (t ++ lf ∷ []))
 is_header-long false c d t e =
     let raw = c ∷ d ∷ (t ++ lf ∷ []) in
     let size : length raw - 1 ≡ suc (suc (length t)) = omega (arith, length_push t lf) in
-    ap begins_header (text_of-lf raw (has_lf-push (c ∷ d ∷ t) lf) e ∙ ap (λ k. take k raw) size) ∙ begins-take c (suc (length t)) (d ∷ (t ++ lf ∷ []))
+    ap begins_with_equals (text_of-lf raw (has_lf-push (c ∷ d ∷ t) lf) e ∙ ap (λ k. take k raw) size) ∙ begins-take c (suc (length t)) (d ∷ (t ++ lf ∷ []))
 
 pub is_header-ended : (c : ℕ) (t : List ℕ) → is_header (c ∷ (t ++ lf ∷ [])) ≡ (c == equals_sign)
 is_header-ended c [] = is_header-short c
@@ -283,7 +283,7 @@ long_of limit ls = map (λ line. line.at) (filter (λ line. is_too_long limit li
 
 -- an open line that is too long already
 abbrev pub long_open : ℕ → ℕ → List ℕ → List ℕ
-long_open limit n t = if begins_header t && nat_lt limit (length t) then n ∷ [] else []
+long_open limit n t = if begins_with_equals t && nat_lt limit (length t) then n ∷ [] else []
 
 long_of-cons : (limit : ℕ) (q : Bool) (line : Line) (rest : List Line) →
     map (λ line. line.at) (cond q (line ∷ filter (λ line. is_too_long limit line.raw) rest) (filter (λ line. is_too_long limit line.raw) rest))
@@ -296,9 +296,9 @@ long_of-none limit n [] e = refl
 long_of-none limit n (c ∷ t) e =
     long_of-cons limit (is_too_long limit (c ∷ t)) (line_at n (c ∷ t)) []
     ∙ append-nil _
-    ∙ ap (λ k. if begins_header (c ∷ t) && nat_lt limit k then n ∷ [] else []) (cond-false (has_lf (c ∷ t)) _ _ e)
+    ∙ ap (λ k. if begins_with_equals (c ∷ t) && nat_lt limit k then n ∷ [] else []) (cond-false (has_lf (c ∷ t)) _ _ e)
 
-begins-push : (c : ℕ) (t : List ℕ) (b : ℕ) → begins_header ((c ∷ t) ++ b ∷ []) ≡ begins_header (c ∷ t)
+begins-push : (c : ℕ) (t : List ℕ) (b : ℕ) → begins_with_equals ((c ∷ t) ++ b ∷ []) ≡ begins_with_equals (c ∷ t)
 begins-push c t b = begins-head c (t ++ b ∷ []) ∙ sym (begins-head c t)
 
 long_of-lf : (limit n : ℕ) (t : List ℕ) (rest : List Line) → long_of limit (line_at n (t ++ lf ∷ []) ∷ rest) ≡ long_open limit n t ++ long_of limit rest
@@ -308,7 +308,7 @@ long_of-lf limit n (c ∷ t) rest =
     let size : length_before_lf raw ≡ length (c ∷ t) = cond-true (has_lf raw) _ _ (has_lf-push (c ∷ t) lf) ∙ omega (arith, length_push t lf) in
     long_of-cons limit (is_too_long limit raw) (line_at n raw) rest
     ∙ ap (λ q. (if q && nat_lt limit (length_before_lf raw) then n ∷ [] else []) ++ long_of limit rest) (begins-push c t lf)
-    ∙ ap (λ k. (if begins_header (c ∷ t) && nat_lt limit k then n ∷ [] else []) ++ long_of limit rest) size
+    ∙ ap (λ k. (if begins_with_equals (c ∷ t) && nat_lt limit k then n ∷ [] else []) ++ long_of limit rest) size
 
 long_by_one : (q : Bool) (limit n m : ℕ) →
     (if q && nat_lt limit (m + 1) then n ∷ [] else [])

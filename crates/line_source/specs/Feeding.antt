@@ -1,7 +1,7 @@
 -- What becomes of a piece of the stream.
-use Rattle.std.specs.Prelude.{◌≡◌, ℕ, ◌<◌, Bool, true, false, List, [], ◌∷◌, ◌++◌, length, take, All, Option, None, Some, Result, Ok, Err, slice_get}
+use Rattle.std.specs.Prelude.{◌≡◌, ℕ, ◌<◌, Bool, true, false, List, [], ◌∷◌, ◌++◌, length, All, Option, None, Some, Result, Ok, Err, slice_get}
 use Rattle.std.specs.Option.{option_map}
-use Rattle.dump_io.specs.Lines.{Header}
+use Rattle.dump_io.specs.Lines.{Header, headers}
 use Rattle.line_source.specs.declared.header_sink.HeaderStop.{HeaderStop}
 use Rattle.line_source.specs.declared.scan_fault.ScanFault.{ScanFault}
 use Rattle.line_source.specs.declared.scan_fault.ScanFault.TheVariants.{HeaderTooLong, Stop}
@@ -61,3 +61,13 @@ pub record EndsRefused (limit : ℕ) (stream piece : List ℕ) (before after : L
 abbrev pub Ends : ℕ → List ℕ → List ℕ → List Header → List Header → Option Refusal → ScanFault → Type 0
 Ends limit stream piece before after stop (HeaderTooLong at) = EndsTooLong limit stream piece before after at
 Ends limit stream piece before after stop (Stop value) = EndsRefused limit stream piece before after stop
+
+-- the first line of the bytes that is too long begins at this offset, and the headers before it were heard
+pub record IsCutShort (limit : ℕ) (bytes : List ℕ) (heard : List Header) (at : ℕ) : Type 0 where
+  pub first : first_too_long limit bytes ≡ Some at
+  pub before : heard ≡ headers_before at (headers bytes)
+
+-- a header of the bytes was refused, those before it were heard, and each line that is too long comes later
+pub record IsRefused (limit : ℕ) (bytes : List ℕ) (heard : List Header) (refusal : Refusal) : Type 0 where
+  pub among : StopsAmong [] heard refusal (headers bytes)
+  pub short : All (λ at. refusal.at < at) (too_long limit bytes)

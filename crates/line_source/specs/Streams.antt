@@ -1,15 +1,15 @@
 -- The lines of a stream that comes in pieces. Offsets are counted in bytes from the stream's beginning.
-use Rattle.std.specs.Prelude.{ℕ, ◌+◌, ◌-◌, Bool, true, false, not, ◌&&◌, List, [], ◌∷◌, ◌++◌, length, map, filter, fold, nat_eq, nat_lt, if◌then◌else◌}
+use Rattle.std.specs.Prelude.{ℕ, ◌-◌, Bool, not, ◌&&◌, List, [], ◌∷◌, ◌++◌, length, map, filter, fold, nat_eq, nat_lt, if◌then◌else◌}
 use Rattle.std.specs.List.{starts_with, ends_with}
-use Rattle.dump_io.specs.Lines.{lf, equals_sign, raw_lines, Line, lines, is_header, Header, header_of}
+use Rattle.dump_io.specs.Lines.{lf, equals_sign, raw_lines, lines, is_header, Header, header_of}
 
 -- whether a raw line has its LF
 abbrev pub has_lf : List ℕ → Bool
 has_lf raw = ends_with nat_eq raw (lf ∷ [])
 
 -- whether a raw line begins with an equals sign
-abbrev pub begins_header : List ℕ → Bool
-begins_header raw = starts_with nat_eq raw (equals_sign ∷ [])
+abbrev pub begins_with_equals : List ℕ → Bool
+begins_with_equals raw = starts_with nat_eq raw (equals_sign ∷ [])
 
 -- how many bytes of a raw line stand before its LF, or before the end where it has none
 abbrev pub length_before_lf : List ℕ → ℕ
@@ -17,7 +17,7 @@ length_before_lf raw = if has_lf raw then length raw - 1 else length raw
 
 -- whether a raw line begins with an equals sign and has more than `limit` bytes before its LF or the end
 abbrev pub is_too_long : ℕ → List ℕ → Bool
-is_too_long limit raw = begins_header raw && nat_lt limit (length_before_lf raw)
+is_too_long limit raw = begins_with_equals raw && nat_lt limit (length_before_lf raw)
 
 -- where the lines that are too long begin, in order
 abbrev pub too_long : ℕ → List ℕ → List ℕ
@@ -47,7 +47,7 @@ pub data LastLine : Type 0 where
   header : List ℕ → LastLine
 
 abbrev pub kind_of : List ℕ → LastLine
-kind_of raw = if has_lf raw then ended else (if begins_header raw then header raw else plain)
+kind_of raw = if has_lf raw then ended else (if begins_with_equals raw then header raw else plain)
 
 abbrev pub last_line : List ℕ → LastLine
 last_line bytes = fold (λ _ raw. kind_of raw) ended (raw_lines bytes)

@@ -3,7 +3,7 @@ ghost use Rattle.std.specs.Prelude.{◌≡◌, ℕ, List, Option, None, length};
 ghost use Rattle.dump_io.specs.Lines.{Header};
 ghost use Rattle.line_source.specs.Receiver.{Refusal, Hears};
 
-/// Why a header was refused. `at` is the offset at which its line begins.
+/// Why a header was refused. `at` is the offset at which its line begins, in bytes from 0.
 #[derive(Clone, Copy, Debug, PartialEq, Eq)]
 pub enum HeaderStop {
     /// There would be more headers than are allowed.
@@ -22,10 +22,15 @@ pub trait HeaderSink {
     /// The refusal, once there is one.
     ghost stop: { Self → Option Refusal };
 
-    /// Hears a header: the offset at which its line begins, the offset behind that line's LF, and its text.
+    /// Hears a header: the offset at which its line begins, the offset at which that line ends, behind its
+    /// LF if it has one, and its text, without the LF and one CR before it. Offsets count bytes from 0.
     ///
-    /// A refusal changes nothing but that it is kept, with the header that it refused.
+    /// A refusal leaves what was heard, and is kept with the offset and the length of the header refused.
     fn header(&mut self, at: u64, body: u64, text: &[u8]) -> Result<(), HeaderStop>
         requires { stop self.old ≡ None }
-        ensures { Hears (heard self.old) (heard self.new) (stop self.new) (record { at = at; body = body; text = text.now }) result };
+        ensures { Hears (heard self.old) (heard self.new) (stop self.new) (record {
+          at = at;
+          body = body;
+          text = text.now;
+        }) result };
 }

@@ -1,13 +1,13 @@
 // Headers from a stream that comes in pieces.
 ghost use Rattle.std.specs.Prelude.{◌≡◌, ◌+◌, ◌-◌, ◌<◌, ◌≤◌, ◌^◌, ◌++◌, ◌∷◌, [], ℕ, true, false, is_err, length, take, List, None, Some, Ok, Err, OnOk, OnErr, IfOk, IfErr, IsErrOf, All, ◌↔◌, slice_index, ◌==◌, if◌then◌else◌};
-ghost use Rattle.dump_io.specs.Lines.{Header, lf, equals_sign, text_of};
-ghost use Rattle.line_source.specs.Streams.{LastLine, ended, plain, header, last_line, too_long, new_headers, open_headers, headers_before};
+ghost use Rattle.dump_io.specs.Lines.{Header, headers, lf, equals_sign, text_of};
+ghost use Rattle.line_source.specs.Streams.{LastLine, ended, plain, header, last_line, too_long, ended_headers, new_headers, open_headers, headers_before};
 ghost use Rattle.line_source.specs.Scan.{Scan, StandsFor};
 ghost use Rattle.line_source.specs.Receiver.{Refusal, Hears};
-ghost use Rattle.line_source.specs.Feeding.{first_too_long, header_bytes, is_header_line, refusal_value, stop_of, IsStop, StopsAmong, Ends};
+ghost use Rattle.line_source.specs.Feeding.{first_too_long, header_bytes, is_header_line, refusal_value, stop_of, IsStop, StopsAmong, Ends, IsCutShort, IsRefused};
 
 use crate::header_sink::{HeaderSink, HeaderStop};
-use crate::kept_line::{KeptLine, MOST};
+use crate::kept_line::KeptLine;
 use crate::scan_fault::ScanFault;
 use crate::starts::{header_start, text_before_lf};
 use memchr::memchr;
@@ -24,9 +24,12 @@ enum LineState {
     Header,
 }
 
-/// Hears the headers of a stream that comes in pieces.
+/// Finds the headers of a stream that comes in pieces, and lets a receiver hear them.
 ///
-/// It keeps no more of the stream than the bytes of a header's line that has no LF yet, at most 4,096.
+/// It keeps no more of the stream than the bytes of a header's line that has no LF yet, at most 4,096. In
+/// its contracts it is a `Scan`: the limit, how many bytes have come, what is known of the last line, and
+/// whether the stream is over. `StandsFor scan stream` says that this stream may have come; each clause on
+/// a stream holds of every such one.
 #[derive(Drop)]
 pub struct LineScan {
     limit: u16,
@@ -51,7 +54,11 @@ impl Model for LineScan {
       spent = scan.spent;
     } };
 
-    ghost invariant = { λ scan. (1 ≤ scan.limit) × (scan.limit ≤ 4096) × (length scan.kept ≤ scan.limit) × (length scan.kept ≤ scan.offset) };
+    ghost invariant = { λ scan.
+        (1 ≤ scan.limit)
+        × (scan.limit ≤ 4096)
+        × (length scan.kept ≤ scan.limit)
+        × (length scan.kept ≤ scan.offset) };
 }
 
 impl LineScan {
@@ -102,7 +109,8 @@ impl LineScan {
             → H.heard into.new ≡ H.heard into.old ++ new_headers stream piece.now) }
         ensures too_long { (stream : List ℕ) → StandsFor self.old stream
             → (at : ℕ) → IsErrOf result (ScanFault.HeaderTooLong at)
-            ↔ ((H.stop into.new ≡ None) × (first_too_long self.old.limit (stream ++ piece.now) ≡ Some at)) }
+            ↔ ((H.stop into.new ≡ None)
+            × (first_too_long self.old.limit (stream ++ piece.now) ≡ Some at)) }
         ensures heard_before_long { (stream : List ℕ) → StandsFor self.old stream
             → (at : ℕ) → IsErrOf result (ScanFault.HeaderTooLong at)
             → H.heard into.new ≡ H.heard into.old ++ headers_before at (new_headers stream piece.now) }
@@ -112,6 +120,18 @@ impl LineScan {
         ensures refused_is_short { (stream : List ℕ) → StandsFor self.old stream
             → (refusal : Refusal) → H.stop into.new ≡ Some refusal
             → All (λ at. refusal.at < at) (too_long self.old.limit (stream ++ piece.now)) }
+        // The same of the whole stream, however it goes on, where all its headers so far were heard.
+        ensures all_heard { OnOk result ((stream : List ℕ) → StandsFor self.old stream
+            → H.heard into.old ≡ ended_headers stream
+            → H.heard into.new ≡ ended_headers (stream ++ piece.now)) }
+        ensures cut_short { (stream rest : List ℕ) → StandsFor self.old stream
+            → H.heard into.old ≡ ended_headers stream
+            → (at : ℕ) → IsErrOf result (ScanFault.HeaderTooLong at)
+            → IsCutShort self.old.limit (stream ++ piece.now ++ rest) (H.heard into.new) at }
+        ensures refused_of_all { (stream rest : List ℕ) → StandsFor self.old stream
+            → H.heard into.old ≡ ended_headers stream
+            → (refusal : Refusal) → H.stop into.new ≡ Some refusal
+            → IsRefused self.old.limit (stream ++ piece.now ++ rest) (H.heard into.new) refusal }
     {
         let result = self.take_all(piece, into);
         self.spent = result.is_err();
@@ -133,6 +153,15 @@ impl LineScan {
         ensures refused { (stream : List ℕ) → StandsFor self.old stream
             → (refusal : Refusal) → H.stop into.new ≡ Some refusal
             → StopsAmong (H.heard into.old) (H.heard into.new) refusal (open_headers stream) }
+        // The same of the whole stream, where all its headers so far were heard.
+        ensures all_heard { OnOk result ((stream : List ℕ) → StandsFor self.old stream
+            → H.heard into.old ≡ ended_headers stream → H.heard into.new ≡ headers stream) }
+        ensures none_too_long { (stream : List ℕ) → StandsFor self.old stream
+            → too_long self.old.limit stream ≡ [] }
+        ensures refused_of_all { (stream : List ℕ) → StandsFor self.old stream
+            → H.heard into.old ≡ ended_headers stream
+            → (refusal : Refusal) → H.stop into.new ≡ Some refusal
+            → IsRefused self.old.limit stream (H.heard into.new) refusal }
     {
         let result = self.hear_last(into);
         self.spent = true;
@@ -181,8 +210,10 @@ impl LineScan {
         ensures offset { self.new.offset ≡ self.old.offset + result }
         ensures limit { self.new.limit ≡ self.old.limit }
         ensures spent { self.new.spent ≡ self.old.spent }
-        ensures stands { (stream : List ℕ) → StandsFor self.old stream → StandsFor self.new (stream ++ take result rest.now) }
-        ensures silent { (stream : List ℕ) → StandsFor self.old stream → new_headers stream (take result rest.now) ≡ [] }
+        ensures stands { (stream : List ℕ) → StandsFor self.old stream
+            → StandsFor self.new (stream ++ take result rest.now) }
+        ensures silent { (stream : List ℕ) → StandsFor self.old stream
+            → new_headers stream (take result rest.now) ≡ [] }
     {
         match header_start(rest, self.has_begun()) {
             Some(at) => {
@@ -207,7 +238,10 @@ impl LineScan {
     // Passes over bytes up to the `=` of a header, and keeps that.
     fn begin_header(&mut self, passed: u64)
         requires { self.old.offset + passed + 1 < 2 ^ 64 }
-        ensures header { self.new ≡ record self.old { offset = self.old.offset + passed + 1; last = header (equals_sign ∷ []) } }
+        ensures header { self.new ≡ record self.old {
+          offset = self.old.offset + passed + 1;
+          last = header (equals_sign ∷ []);
+        } }
         ensures limit { 1 ≤ self.old.limit }
     {
         self.kept.begin(b'=');
@@ -243,7 +277,8 @@ impl LineScan {
         ensures err { OnErr result (self.new ≡ self.old) }
         ensures fits { OnOk result (length (header_bytes self.old.last) + length part.now ≤ self.old.limit) }
         ensures over { OnErr result (self.old.limit < length (header_bytes self.old.last) + length part.now) }
-        ensures fault { IfErr result (λ fault. fault ≡ ScanFault.HeaderTooLong (self.old.offset - length (header_bytes self.old.last))) }
+        ensures fault { IfErr result (λ fault.
+            fault ≡ ScanFault.HeaderTooLong (self.old.offset - length (header_bytes self.old.last))) }
         ensures within_limit { length (header_bytes self.old.last) ≤ self.old.limit }
         ensures within_offset { length (header_bytes self.old.last) ≤ self.old.offset }
     {
@@ -268,7 +303,10 @@ impl LineScan {
           body = self.old.offset + 1;
           text = text_of (header_bytes self.old.last ++ lf ∷ []);
         }) result }
-        ensures ok { OnOk result (self.new ≡ record self.old { offset = self.old.offset + 1; last = ended }) }
+        ensures ok { OnOk result (self.new ≡ record self.old {
+          offset = self.old.offset + 1;
+          last = ended;
+        }) }
         ensures err { OnErr result (self.new ≡ self.old) }
     {
         let at = self.offset - self.kept.len() as u64;
@@ -289,11 +327,13 @@ impl LineScan {
         ensures offset { IfOk result (λ n. self.new.offset ≡ self.old.offset + n) }
         ensures limit { self.new.limit ≡ self.old.limit }
         ensures stop { refusal_value (H.stop into.new) ≡ stop_of result }
-        ensures stands { IfOk result (λ n. (stream : List ℕ) → StandsFor self.old stream → StandsFor self.new (stream ++ take n rest.now)) }
+        ensures stands { IfOk result (λ n. (stream : List ℕ) → StandsFor self.old stream
+            → StandsFor self.new (stream ++ take n rest.now)) }
         ensures heard { IfOk result (λ n. (stream : List ℕ) → StandsFor self.old stream
             → H.heard into.new ≡ H.heard into.old ++ new_headers stream (take n rest.now)) }
         ensures ends { IfErr result (λ fault. (stream : List ℕ) → StandsFor self.old stream
-            → Ends self.old.limit stream rest.now (H.heard into.old) (H.heard into.new) (H.stop into.new) fault) }
+            → Ends self.old.limit stream rest.now (H.heard into.old) (H.heard into.new)
+            (H.stop into.new) fault) }
     {
         match memchr(b'\n', rest) {
             Some(end) => {
@@ -324,11 +364,13 @@ impl LineScan {
         ensures offset { IfOk result (λ n. self.new.offset ≡ self.old.offset + n) }
         ensures limit { self.new.limit ≡ self.old.limit }
         ensures stop { refusal_value (H.stop into.new) ≡ stop_of result }
-        ensures stands { IfOk result (λ n. (stream : List ℕ) → StandsFor self.old stream → StandsFor self.new (stream ++ take n rest.now)) }
+        ensures stands { IfOk result (λ n. (stream : List ℕ) → StandsFor self.old stream
+            → StandsFor self.new (stream ++ take n rest.now)) }
         ensures heard { IfOk result (λ n. (stream : List ℕ) → StandsFor self.old stream
             → H.heard into.new ≡ H.heard into.old ++ new_headers stream (take n rest.now)) }
         ensures ends { IfErr result (λ fault. (stream : List ℕ) → StandsFor self.old stream
-            → Ends self.old.limit stream rest.now (H.heard into.old) (H.heard into.new) (H.stop into.new) fault) }
+            → Ends self.old.limit stream rest.now (H.heard into.old) (H.heard into.new)
+            (H.stop into.new) fault) }
     {
         if self.in_header() {
             self.take_header(rest, into)
@@ -344,11 +386,13 @@ impl LineScan {
         ensures offset { OnOk result (self.new.offset ≡ self.old.offset + length piece.now) }
         ensures limit { self.new.limit ≡ self.old.limit }
         ensures stop { refusal_value (H.stop into.new) ≡ stop_of result }
-        ensures stands { OnOk result ((stream : List ℕ) → StandsFor self.old stream → StandsFor self.new (stream ++ piece.now)) }
+        ensures stands { OnOk result ((stream : List ℕ) → StandsFor self.old stream
+            → StandsFor self.new (stream ++ piece.now)) }
         ensures heard { OnOk result ((stream : List ℕ) → StandsFor self.old stream
             → H.heard into.new ≡ H.heard into.old ++ new_headers stream piece.now) }
         ensures ends { IfErr result (λ fault. (stream : List ℕ) → StandsFor self.old stream
-            → Ends self.old.limit stream piece.now (H.heard into.old) (H.heard into.new) (H.stop into.new) fault) }
+            → Ends self.old.limit stream piece.now (H.heard into.old) (H.heard into.new)
+            (H.stop into.new) fault) }
     {
         let mut done = 0;
         while done < piece.len() {

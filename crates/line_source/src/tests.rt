@@ -42,7 +42,8 @@ impl Listener {
     }
 
     fn keep(&mut self, at: u64, body: u64, text: &[u8]) -> Result<(), HeaderStop>
-        ensures grown { OnOk result (map {B = Header} (λ h. record { at = h.at; body = h.body; text = h.text.items }) self.new.headers.items
+        ensures grown { OnOk result (
+            map {B = Header} (λ h. record { at = h.at; body = h.body; text = h.text.items }) self.new.headers.items
             ≡ map {B = Header} (λ h. record { at = h.at; body = h.body; text = h.text.items }) self.old.headers.items
             ++ record { at = at; body = body; text = text.now } ∷ []) }
         ensures same { OnErr result (self.new.headers.items ≡ self.old.headers.items) }

@@ -2,21 +2,26 @@
 use Rattle.std.specs.Prelude.{ℕ, List, [], ◌∷◌, ◌++◌, decimal, codes}
 use Rattle.std.specs.List.{concat}
 use Rattle.section_index.specs.declared.opening.OpenFault.{OpenFault}
-use Rattle.section_index.specs.declared.opening.OpenFault.TheVariants.{NotADump, Version, TooLarge, Read, Memory}
+use Rattle.section_index.specs.declared.opening.OpenFault.TheVariants.{Compressed, NotADump, Version, TooLarge, HeaderTooLong, TooManySections, HeadersTooLarge, Read, Memory}
 use Rattle.report_text.specs.declared.refusals.Refusal.{Refusal}
-use Rattle.report_text.specs.declared.refusals.Refusal.TheVariants.{Open}
+use Rattle.report_text.specs.declared.refusals.Refusal.TheVariants.{Open, SectionTooLarge}
 use Rattle.report_text.specs.Reports.{newline}
 
 -- what a dump that isn't opened is refused for, part by part
 abbrev pub open_cause : OpenFault → List (List ℕ)
+open_cause Compressed = codes "compressed" ∷ []
 open_cause NotADump = codes "not a dump" ∷ []
 open_cause (Version text) = codes "version " ∷ text ∷ []
 open_cause (TooLarge size) = codes "dump too large " ∷ decimal size ∷ []
+open_cause (HeaderTooLong at) = codes "header too long at " ∷ decimal at ∷ []
+open_cause (TooManySections at) = codes "too many sections at " ∷ decimal at ∷ []
+open_cause (HeadersTooLarge at) = codes "headers too large at " ∷ decimal at ∷ []
 open_cause Read = []
 open_cause Memory = []
 
 abbrev pub cause_of : Refusal → List (List ℕ)
 cause_of (Open fault) = open_cause fault
+cause_of (SectionTooLarge at len) = codes "section too large at " ∷ decimal at ∷ codes " length " ∷ decimal len ∷ []
 
 abbrev pub refusal_line : Refusal → List ℕ
 refusal_line refusal = concat ((codes "refused: " ∷ cause_of refusal) ++ newline ∷ [])
@@ -29,3 +34,4 @@ IsRefusing fault = Unit {0}
 
 abbrev pub IsRefusal : Refusal → Type 0
 IsRefusal (Open fault) = IsRefusing fault
+IsRefusal (SectionTooLarge at len) = Unit {0}

@@ -1,9 +1,12 @@
 -- The texts of the reports, line by line. Offsets are of the file.
-use Rattle.std.specs.Prelude.{ℕ, List, [], ◌∷◌, ◌++◌, decimal, codes, slice_get, Option, None, Some}
+use Rattle.std.specs.Prelude.{ℕ, List, [], ◌∷◌, ◌++◌, decimal, codes, length, unwrap_or, slice_get, Option, None, Some}
 use Rattle.std.specs.List.{concat, flat_map}
 use Rattle.section_index.specs.declared.index.State.{State}
 use Rattle.section_index.specs.declared.index.State.TheVariants.{Whole, TruncatedIn}
 use Rattle.dump_io.specs.Lines.{Header}
+use Rattle.field_lines.specs.Fields.{find_value}
+use Rattle.section_index.specs.declared.opening.Version.{Version}
+use Rattle.section_index.specs.declared.opening.Version.TheVariants.{V03, V04, V05}
 use Rattle.section_index.specs.Sections.{Section, sections_of}
 use Rattle.section_index.specs.Index.{state_of}
 
@@ -31,3 +34,29 @@ state_line sections (TruncatedIn i) = truncated_line (slice_get sections i)
 abbrev pub index_report : List Header → ℕ → List ℕ
 index_report headers size =
     flat_map section_line (sections_of headers size) ++ state_line (sections_of headers size) (state_of headers)
+
+abbrev pub version_text : Version → List ℕ
+version_text V03 = codes "0.3"
+version_text V04 = codes "0.4"
+version_text V05 = codes "0.5"
+
+-- the line of a tag, with the number of sections that have it
+abbrev pub tag_line : List ℕ × ℕ → List ℕ
+tag_line (tag, count) = concat (codes "tag " ∷ decimal count ∷ space ∷ tag ∷ newline ∷ [])
+
+-- a text, or `-` where there is none
+abbrev pub text_or_dash : Option (List ℕ) → List ℕ
+text_or_dash text = unwrap_or text (codes "-")
+
+-- the first lines of `info`: version, size, number of sections and slogan
+abbrev pub info_heading : List ℕ → ℕ → ℕ → Option (List ℕ) → List ℕ
+info_heading version size sections slogan =
+    concat (codes "version " ∷ version ∷ newline ∷ codes "size " ∷ decimal size ∷ newline
+        ∷ codes "sections " ∷ decimal sections ∷ newline ∷ codes "slogan " ∷ text_or_dash slogan ∷ newline ∷ [])
+
+-- the report of `info` on a dump of this version, these headers and this size, with these counts of tags and
+-- this body of the first section
+abbrev pub info_report : List ℕ → List Header → ℕ → List (List ℕ × ℕ) → List ℕ → List ℕ
+info_report version headers size tags first_body =
+    info_heading version size (length headers) (find_value first_body (codes "Slogan"))
+    ++ (flat_map tag_line tags ++ state_line (sections_of headers size) (state_of headers))

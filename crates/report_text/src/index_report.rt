@@ -32,7 +32,7 @@ fn put_section<K: Sink>(sink: &mut K, s: &Section<'_>) -> Result<(), Failed>
 }
 
 // Writes whether the dump is whole, or in which section it breaks off.
-fn put_state<K: Sink>(sink: &mut K, index: &Index) -> Result<(), Failed>
+pub(crate) fn put_state<K: Sink>(sink: &mut K, index: &Index) -> Result<(), Failed>
     ensures writes { WritesAll (K.written sink.old) (K.written sink.new) (state_line (sections_in index.now) (state_of index.now.headers)) result }
     ensures cause { HasCause (K.faults sink.old) (K.faults sink.new) result }
 {

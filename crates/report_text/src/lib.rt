@@ -5,8 +5,10 @@
 #![tactic(auto)]
 
 mod index_report;
+mod info_report;
 mod pieces;
 mod refusals;
 
 pub use index_report::put_index;
+pub use info_report::put_info;
 pub use refusals::{Refusal, put_refusal};

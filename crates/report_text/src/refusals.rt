@@ -1,10 +1,13 @@
 // The lines that say why a dump is refused.
+ghost use Rattle.std.specs.Prelude.{[], ◌∷◌, codes, decimal};
+ghost use Rattle.std.specs.List.{concat};
 ghost use Rattle.dump_io.specs.Counts.{HasCause};
 ghost use Rattle.dump_io.specs.Sinks.{WritesAll};
+ghost use Rattle.report_text.specs.Reports.{newline};
 ghost use Rattle.report_text.specs.Refusals.{IsRefusal, IsRefusing, refusal_line};
 
 use crate::pieces::{Piece, put_pieces};
-use dump_io::{Failed, Sink};
+use dump_io::{Failed, Sink, write_all};
 use section_index::OpenFault;
 
 /// Why a command is refused.
@@ -12,6 +15,25 @@ use section_index::OpenFault;
 pub enum Refusal {
     /// The dump isn't opened.
     Open(OpenFault),
+    /// A body that the command loads has more bytes than the limit on sections; `at` is the offset of its
+    /// section in the file, and `len` the number of bytes.
+    SectionTooLarge { at: u64, len: u64 },
+}
+
+// Writes a line whose cause is a text and a number.
+fn put_numbered<K: Sink>(sink: &mut K, cause: &[u8], n: u64) -> Result<(), Failed>
+    ensures writes { WritesAll (K.written sink.old) (K.written sink.new) (concat (codes "refused: " ∷ cause.now ∷ decimal n ∷ newline ∷ [])) result }
+    ensures cause { HasCause (K.faults sink.old) (K.faults sink.new) result }
+{
+    put_pieces(
+        sink,
+        &[
+            Piece::Bytes(b"refused: "),
+            Piece::Bytes(cause),
+            Piece::Dec(n),
+            Piece::Bytes(b"\n"),
+        ],
+    )
 }
 
 fn put_open_fault<K: Sink>(sink: &mut K, fault: &OpenFault) -> Result<(), Failed>
@@ -19,30 +41,39 @@ fn put_open_fault<K: Sink>(sink: &mut K, fault: &OpenFault) -> Result<(), Failed
     ensures writes { WritesAll (K.written sink.old) (K.written sink.new) (refusal_line (Refusal.Open fault.now)) result }
     ensures cause { HasCause (K.faults sink.old) (K.faults sink.new) result }
 {
-    let refused = Piece::Bytes(b"refused: ");
-    let newline = Piece::Bytes(b"\n");
     match fault {
-        OpenFault::NotADump => put_pieces(sink, &[refused, Piece::Bytes(b"not a dump"), newline]),
+        OpenFault::Compressed => write_all(sink, b"refused: compressed\n"),
+        OpenFault::NotADump => write_all(sink, b"refused: not a dump\n"),
         OpenFault::Version { text } => put_pieces(
             sink,
             &[
-                refused,
-                Piece::Bytes(b"version "),
+                Piece::Bytes(b"refused: version "),
                 Piece::Bytes(text.bytes()),
-                newline,
+                Piece::Bytes(b"\n"),
             ],
         ),
-        OpenFault::TooLarge { size } => put_pieces(
-            sink,
-            &[
-                refused,
-                Piece::Bytes(b"dump too large "),
-                Piece::Dec(*size),
-                newline,
-            ],
-        ),
+        OpenFault::TooLarge { size } => put_numbered(sink, b"dump too large ", *size),
+        OpenFault::HeaderTooLong { at } => put_numbered(sink, b"header too long at ", *at),
+        OpenFault::TooManySections { at } => put_numbered(sink, b"too many sections at ", *at),
+        OpenFault::HeadersTooLarge { at } => put_numbered(sink, b"headers too large at ", *at),
         OpenFault::Read | OpenFault::Memory => unreachable!(),
     }
+}
+
+fn put_too_large<K: Sink>(sink: &mut K, at: u64, len: u64) -> Result<(), Failed>
+    ensures writes { WritesAll (K.written sink.old) (K.written sink.new) (refusal_line (Refusal.SectionTooLarge at len)) result }
+    ensures cause { HasCause (K.faults sink.old) (K.faults sink.new) result }
+{
+    put_pieces(
+        sink,
+        &[
+            Piece::Bytes(b"refused: section too large at "),
+            Piece::Dec(at),
+            Piece::Bytes(b" length "),
+            Piece::Dec(len),
+            Piece::Bytes(b"\n"),
+        ],
+    )
 }
 
 /// Writes the line `refused: ` with the cause. An `Open` fault is none of `Read` and `Memory`.
@@ -53,5 +84,6 @@ pub fn put_refusal<K: Sink>(sink: &mut K, refusal: &Refusal) -> Result<(), Faile
 {
     match refusal {
         Refusal::Open(fault) => put_open_fault(sink, fault),
+        Refusal::SectionTooLarge { at, len } => put_too_large(sink, *at, *len),
     }
 }

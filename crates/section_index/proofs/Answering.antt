@@ -7,14 +7,14 @@ use Rattle.std.proofs.lemmas.Bool.{le-ltb}
 use Rattle.std.proofs.lemmas.List.{take_all, length-drop, append-nil, length-take-le}
 use Rattle.dump_io.specs.Limits.{Numbers}
 use Rattle.dump_io.specs.Lines.{Header, headers}
-use Rattle.dump_io.specs.Dumps.{Files, Now, closed, told, sized, size_of, IsOpen, IsNamed, Gives}
+use Rattle.dump_io.specs.Dumps.{Files, Now, closed, told, sized, size_of, IsOpen, IsNamed, IsAbsent, Gives}
 use Rattle.section_index.specs.declared.opening.OpenFault.{OpenFault}
 use Rattle.section_index.specs.declared.opening.OpenFault.TheVariants.{Compressed, NotADump, Version as UnknownVersion, TooLarge, HeaderTooLong, TooManySections, HeadersTooLarge, Read, Memory}
 use Rattle.section_index.specs.declared.opening.Version.{Version}
 use Rattle.section_index.specs.Opening.{signature, header_fault, opening}
 use Rattle.section_index.specs.Beginning.{IsAllOrLong, fault_of, IsAccepted, IsJudged, IsOfTheBytes}
 use Rattle.section_index.specs.Scanning.{IsHeaderFault}
-use Rattle.section_index.specs.Index.{Contents, IsIndexOf, IsAnswerFor, IsBuiltOver, IsSmall, IsTooLargeFor}
+use Rattle.section_index.specs.Index.{Contents, IsIndexOf, IsAnswerFor, IsBuiltOver, IsClosedOrNamed, IsSmall, IsTooLargeFor}
 use Rattle.section_index.specs.Reading.{IsRefusal}
 use Rattle.section_index.proofs.Grown.{Gives-whole}
 
@@ -150,3 +150,14 @@ told-by-name (Some files) name now named bytes open' is has =
     let found : Some open'.0 ≡ Some bytes = sym open'.1 ∙ ap (λ f. f name) same ∙ has in
     let one : open'.0 ≡ bytes = cc in
     open'.2 ∙ ap told one
+
+-- the file that was opened by its name is the one that is open
+pub IsClosedOrNamed-named : (files : Option Files) (name : List ℕ) (now : Now) → IsNamed files name now → IsClosedOrNamed files name now
+IsClosedOrNamed-named files name closed named = tt
+IsClosedOrNamed-named files name (told bytes) named = named
+IsClosedOrNamed-named files name (sized size) named = named
+
+-- a file that was opened is there
+pub present-named : (files : Option Files) (name : List ℕ) (now : Now) → IsNamed files name now → IsAbsent files name → ⊥
+present-named None name now named gone = gone
+present-named (Some files) name now named gone = let never : ⊥ = cc (named.1, gone) in never

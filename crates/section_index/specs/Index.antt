@@ -1,7 +1,7 @@
 -- What an index says of a dump.
-use Rattle.std.specs.Prelude.{◌≡◌, ℕ, ◌+◌, ◌-◌, ◌<◌, ◌≤◌, List, [], ◌∷◌, length, None, Some, Result, Ok, Err, codes, if◌then◌else◌}
+use Rattle.std.specs.Prelude.{◌≡◌, ℕ, ◌+◌, ◌-◌, ◌<◌, ◌≤◌, List, [], ◌∷◌, length, None, Some, Result, Ok, Err, codes, if◌then◌else◌, Option}
 use Rattle.std.specs.Str.{bytes_eq}
-use Rattle.dump_io.specs.Dumps.{Now, closed, told, sized, size_of}
+use Rattle.dump_io.specs.Dumps.{IsNamed, Files, Now, closed, told, sized, size_of}
 use Rattle.dump_io.specs.Limits.{Numbers}
 use Rattle.dump_io.specs.Lines.{Header, headers}
 use Rattle.section_index.specs.declared.index.State.{State}
@@ -72,3 +72,8 @@ IsTooLargeFor now limits fault = Unit {0}
 abbrev pub IsSmall : OpenFault → Type 0
 IsSmall (TooLarge size) = ⊥
 IsSmall fault = Unit {0}
+
+-- what is open is nothing, or the file of this name where files are told
+abbrev pub IsClosedOrNamed : Option Files → List ℕ → Now → Type 0
+IsClosedOrNamed files name closed = Unit {0}
+IsClosedOrNamed files name now = IsNamed files name now

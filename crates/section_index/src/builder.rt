@@ -2,7 +2,7 @@
 ghost use Rattle.std.specs.Prelude.{◌≡◌, ◌⊎◌, ◌+◌, ◌-◌, ◌<◌, ◌≤◌, ℕ, List, length, take, min, false, Some, None, OnOk, IfOk, IfErr, IsErrOf};
 ghost use Rattle.dump_io.specs.Counts.{Rose, HasCause, plus_capped};
 ghost use Rattle.dump_io.specs.Dumps.{Files, Now, told, IsOpen, size_of, IsAbsent, Gives};
-ghost use Rattle.section_index.specs.Index.{IsAnswerFor, IsBuiltOver, IsTooLargeFor, IsSmall};
+ghost use Rattle.section_index.specs.Index.{IsAnswerFor, IsClosedOrNamed, IsBuiltOver, IsTooLargeFor, IsSmall};
 ghost use Rattle.section_index.specs.Reading.{HasBegun, IsRefusal};
 
 use crate::beginning::judge_beginning;
@@ -12,11 +12,18 @@ use crate::receiver::{Bounds, Receiver};
 use crate::scanning::{feed_piece, finish_scan};
 use dump_io::{Dumps, Failed, Limits, read_full};
 use line_source::LineScan;
-use std::alloc::Global;
+use std::alloc::{AllocError, Global};
 use std::marker::Brand;
 
 // The most bytes of a piece.
 const PIECE: usize = 65_536;
+
+// A buffer for a piece.
+fn make_buffer(alloc: Global) -> Result<Vec<u8>, AllocError>
+    ensures { IfOk result (λ buffer. length buffer.items ≡ 65536) }
+{
+    vec![in alloc; 0u8; PIECE]
+}
 
 // Reads the bytes of the open file from an offset on into a buffer, up to the file's end, and says how many.
 fn read_piece<D: Dumps>(
@@ -138,6 +145,7 @@ pub fn build<D: Dumps>(
     limits: &Limits,
 ) -> Result<Index, OpenFault>
     ensures same_files { D.files dumps.new ≡ D.files dumps.old }
+    ensures now { IsClosedOrNamed (D.files dumps.old) name.now (D.now dumps.new) }
     ensures later { D.faults dumps.old ≤ D.faults dumps.new }
     ensures taken_least { D.taken dumps.old ≤ D.taken dumps.new }
     ensures taken_most { D.taken dumps.new ≤ plus_capped (D.taken dumps.old) (size_of (D.now dumps.new)) }
@@ -148,6 +156,7 @@ pub fn build<D: Dumps>(
 
     // So it is where the bytes alone are told.
     ensures told { (bytes : List ℕ) → D.now dumps.new ≡ told bytes → IsAnswerFor bytes limits.now result }
+    ensures absent { IsAbsent (D.files dumps.old) name.now → IsErrOf result OpenFault.Read }
     ensures over { IfOk result (IsBuiltOver (D.now dumps.new)) }
     ensures sized { IfOk result (λ index. index.size ≤ limits.now.dump) }
     ensures sections { IfOk result (λ index. length index.headers ≤ limits.now.sections) }
@@ -160,7 +169,7 @@ pub fn build<D: Dumps>(
     if size > limits.dump() {
         return Err(OpenFault::TooLarge { size });
     }
-    let Ok(mut buffer) = vec![in alloc; 0u8; PIECE] else {
+    let Ok(mut buffer) = make_buffer(alloc) else {
         return Err(OpenFault::Memory);
     };
     index_of::<Brand, D>(alloc, dumps, size, limits, &mut buffer)

@@ -1,4 +1,4 @@
-use Rattle.std.proofs.Common.{◌+◌, length, sym, ◌∙◌, arith}
+use Rattle.std.proofs.Common.{◌+◌, sym, ◌∙◌, arith}
 use Rattle.line_source.proofs.StartPlaces.{Nowhere-more, Nowhere-past, Nowhere-end, found-reads, length-rest}
 use Rattle.line_source.proofs.starts.header_start.Goals as goal
 

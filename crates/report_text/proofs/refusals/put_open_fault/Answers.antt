@@ -6,10 +6,15 @@ use Rattle.report_text.proofs.refusals.put_open_fault.Goals as goal
 
 pub returns-in-NotADump-clause-writes : goal.returns-in-NotADump-clause-writes
 returns-in-NotADump-clause-writes g c =
-    subst (λ fault. WritesAll (g.K.Sink.written c.args.sink.now) (g.K.Sink.written c.put_pieces.new.sink) (refusal_line (Open fault)) c.put_pieces.result)
-    (sym c.in-NotADump.is) c.put_pieces.ensures.writes
+    subst (λ fault. WritesAll (g.K.Sink.written c.args.sink.now) (g.K.Sink.written c.write_all-in-NotADump.new.sink) (refusal_line (Open fault)) c.write_all-in-NotADump.result)
+    (sym c.in-NotADump.is) c.write_all-in-NotADump.ensures.writes
 
 pub returns-in-TooLarge-clause-writes : goal.returns-in-TooLarge-clause-writes
 returns-in-TooLarge-clause-writes g c =
-    subst (λ fault. WritesAll (g.K.Sink.written c.args.sink.now) (g.K.Sink.written c.put_pieces-in-TooLarge.new.sink) (refusal_line (Open fault)) c.put_pieces-in-TooLarge.result)
-    (sym c.in-TooLarge.is) c.put_pieces-in-TooLarge.ensures.writes
+    subst (λ fault. WritesAll (g.K.Sink.written c.args.sink.now) (g.K.Sink.written c.put_numbered.new.sink) (refusal_line (Open fault)) c.put_numbered.result)
+    (sym c.in-TooLarge.is) c.put_numbered.ensures.writes
+
+pub returns-in-HeadersTooLarge-clause-writes : goal.returns-in-HeadersTooLarge-clause-writes
+returns-in-HeadersTooLarge-clause-writes g c =
+    subst (λ fault. WritesAll (g.K.Sink.written c.args.sink.now) (g.K.Sink.written c.put_numbered-in-HeadersTooLarge.new.sink) (refusal_line (Open fault)) c.put_numbered-in-HeadersTooLarge.result)
+    (sym c.in-HeadersTooLarge.is) c.put_numbered-in-HeadersTooLarge.ensures.writes

@@ -1,5 +1,6 @@
-use Rattle.std.proofs.Common.{refl, sym, ◌∙◌}
-use Rattle.section_index.proofs.Answering.{none-too_large, told-by-name}
+use Rattle.std.proofs.Common.{refl, sym, ◌∙◌, subst}
+use Rattle.section_index.proofs.Answering.{none-too_large, told-by-name, IsClosedOrNamed-named, present-named}
+use Rattle.section_index.specs.Index.{IsClosedOrNamed}
 use Rattle.section_index.proofs.builder.build.Goals as goal
 
 pub index_of-requires-clause-limits : goal.index_of-requires-clause-limits
@@ -15,3 +16,13 @@ returns-clause-told g c bytes is = c.index_of.ensures.answer bytes (sym c.index_
 
 pub returns-clause-too_large : goal.returns-clause-too_large
 returns-clause-too_large g c = none-too_large (g.D.Dumps.now c.index_of.new.dumps) c.args.limits.now c.index_of.result c.index_of.ensures.fault
+
+pub returns-clause-now : goal.returns-clause-now
+returns-clause-now g c =
+    let files = g.D.Dumps.files c.args.dumps.now in
+    subst (IsClosedOrNamed files c.args.name.now) (sym c.index_of.ensures.same_now)
+    (IsClosedOrNamed-named files c.args.name.now _ c.in-Ok.ensures.named)
+
+pub returns-clause-absent : goal.returns-clause-absent
+returns-clause-absent g c gone =
+    absurd (present-named (g.D.Dumps.files c.args.dumps.now) c.args.name.now _ c.in-Ok.ensures.named gone)

@@ -1,9 +1,7 @@
-use Rattle.std.proofs.Common.{◌≡◌, ◌+◌, ◌-◌, suc, List, [], length, take, get_or, not, sym, ◌∙◌, ap, arith, if◌then◌else◌, ◌==◌}
+use Rattle.std.proofs.Common.{◌≡◌, ◌+◌, length, take, sym, ◌∙◌, ap, arith}
 use Rattle.std.proofs.lemmas.List.{take_all, length-take-le}
-use Rattle.dump_io.specs.Lines.{lf}
-use Rattle.line_source.specs.Streams.{LastLine}
 use Rattle.line_source.proofs.Walk.{last_by, heard_by, long_by}
-use Rattle.line_source.proofs.Stretches.{other_line, heard_by-quiet, long_by-quiet, last_by-stretch}
+use Rattle.line_source.proofs.Stretches.{other_line, heard_by-quiet, long_by-quiet}
 use Rattle.line_source.proofs.Scans.{StandsFor-more, new_headers-walked, last_by-found, last_by-all, heard_by-found, long_by-found}
 use Rattle.line_source.proofs.line_scan.LineScan.pass.Goals as goal
 

@@ -1,12 +1,12 @@
-use Rattle.std.proofs.Common.{◌≡◌, ℕ, ◌+◌, ◌-◌, true, List, [], ◌∷◌, ◌++◌, length, take, drop, refl, sym, ◌∙◌, ap, subst, arith}
+use Rattle.std.proofs.Common.{◌≡◌, ◌+◌, ◌-◌, true, [], ◌∷◌, ◌++◌, length, take, drop, refl, sym, ◌∙◌, ap, subst, arith}
 use Rattle.std.proofs.lemmas.Result.{err_from_is_err_and}
-use Rattle.std.proofs.lemmas.List.{take_all, length-take-le, append-nil, take-append-drop}
+use Rattle.std.proofs.lemmas.List.{take_all, append-nil, take-append-drop}
 use Rattle.dump_io.specs.Lines.{lf, text_of}
 use Rattle.line_source.specs.Streams.{new_headers}
-use Rattle.line_source.specs.Scan.{Scan, StandsFor}
-use Rattle.line_source.specs.Feeding.{header_bytes, EndsTooLong, EndsRefused, Ends}
+use Rattle.line_source.specs.Scan.{StandsFor}
+use Rattle.line_source.specs.Feeding.{header_bytes, EndsTooLong, EndsRefused}
 use Rattle.line_source.proofs.Stretches.{lacks_lf}
-use Rattle.line_source.proofs.HeaderLines.{lacks-before, header-known, EndsTooLong-here, EndsRefused-here, around-lf, up-to-lf, ended_header, StandsFor-line, new_headers-line, StandsFor-longer, new_headers-longer}
+use Rattle.line_source.proofs.HeaderLines.{lacks-before, header-known, EndsTooLong-here, EndsRefused-here, around-lf, up-to-lf, new_headers-line, new_headers-longer, kept-offset, kept-bytes, StandsFor-kept, StandsFor-heard, heard-kept}
 use Rattle.line_source.proofs.line_scan.LineScan.take_header.Goals as goal
 
 pub returns-in_err-keep-in-Some-clause-ends : goal.returns-in_err-keep-in-Some-clause-ends
@@ -38,8 +38,8 @@ returns-in_err-hear-in-Some-clause-ends g c =
     let before = g.H.HeaderSink.heard c.args.into.now in
     let after = g.H.HeaderSink.heard c.hear.new.into in
     let stop = g.H.HeaderSink.stop c.hear.new.into in
-    let bytes : header_bytes c.keep.new.self.last ≡ t ++ x = ap (λ s. header_bytes s.last) k.ok in
-    let offset : c.keep.new.self.offset ≡ scan.offset + length x = ap (λ s. s.offset) k.ok in
+    let bytes : header_bytes c.keep.new.self.last ≡ t ++ x = kept-bytes scan c.keep.new.self x k.ok in
+    let offset : c.keep.new.self.offset ≡ scan.offset + length x = kept-offset scan c.keep.new.self x k.ok in
     rw (p.1, p.2) (λ stream stands.
     subst (λ bytes. EndsRefused scan.limit stream bytes before after stop) (around-lf rest end first.high c.in-Some.ensures.1)
     (EndsRefused-here scan stream t x (drop (end + 1) rest) before after stop _ stands (header-known scan.last c.requires.header)
@@ -64,46 +64,36 @@ returns-in_err-keep-in-None-clause-ends g c =
 pub returns-in_ok-hear-in-Some-clause-stands : goal.returns-in_ok-hear-in-Some-clause-stands
 returns-in_ok-hear-in-Some-clause-stands g c stream stands =
     let k = c.in_ok-keep-in-Some.ensures in
-    let h = c.in_ok-hear-in-Some.ensures in
     let scan = c.args.self.now in
-    let t = header_bytes scan.last in
     let rest = c.args.rest.now in
     let end = c.in-Some.end in
     let first = c.in-Some.ensures.0 in
-    let x = take end rest in
     subst (λ bytes. StandsFor c.hear.new.self (stream ++ bytes)) (sym (up-to-lf rest end first.high c.in-Some.ensures.1))
-    (StandsFor-line scan c.hear.new.self stream t x stands (header-known scan.last c.requires.header) k.within_offset
-    (lacks-before rest end (omega (arith, first.high)) first.before) k.fits
-    (ap (λ s. s.limit) h.ok ∙ ap (λ s. s.limit) k.ok)
-    (ap (λ s. s.offset) h.ok ∙ ap (λ s. s.offset + 1) k.ok)
-    (ap (λ s. s.last) h.ok))
+    (StandsFor-heard scan c.keep.new.self c.hear.new.self stream (take end rest) stands c.requires.header k.within_offset
+    (lacks-before rest end (omega (arith, first.high)) first.before) k.fits k.ok c.in_ok-hear-in-Some.ensures.ok)
 
 pub returns-in_ok-hear-in-Some-clause-heard : goal.returns-in_ok-hear-in-Some-clause-heard
 returns-in_ok-hear-in-Some-clause-heard g c stream stands =
-    let k = c.in_ok-keep-in-Some.ensures in
-    let h = c.in_ok-hear-in-Some.ensures.hears in
     let scan = c.args.self.now in
-    let t = header_bytes scan.last in
     let rest = c.args.rest.now in
     let end = c.in-Some.end in
     let first = c.in-Some.ensures.0 in
     let x = take end rest in
     let before = g.H.HeaderSink.heard c.args.into.now in
-    h.0 ∙ ap (λ s. before ++ record { at = s.offset - length (header_bytes s.last); body = s.offset + 1; text = text_of (header_bytes s.last ++ lf ∷ []) } ∷ []) k.ok
+    c.in_ok-hear-in-Some.ensures.hears.0
+    ∙ ap (λ h. before ++ h ∷ []) (heard-kept scan c.keep.new.self x c.in_ok-keep-in-Some.ensures.ok)
     ∙ ap (λ hs. before ++ hs) (sym (ap (new_headers stream) (up-to-lf rest end first.high c.in-Some.ensures.1)
-    ∙ new_headers-line scan stream t x stands (header-known scan.last c.requires.header) (lacks-before rest end (omega (arith, first.high)) first.before)))
+    ∙ new_headers-line scan stream (header_bytes scan.last) x stands (header-known scan.last c.requires.header)
+    (lacks-before rest end (omega (arith, first.high)) first.before)))
 
 pub returns-in_ok-keep-in-None-clause-stands : goal.returns-in_ok-keep-in-None-clause-stands
 returns-in_ok-keep-in-None-clause-stands g c stream stands =
     let k = c.in_ok-keep-in-None.ensures in
-    let scan = c.args.self.now in
-    let t = header_bytes scan.last in
     let rest = c.args.rest.now in
     let whole : take (length rest) rest ≡ rest = take_all (length rest) rest (omega arith) in
     let lacks : lacks_lf rest ≡ true = ap lacks_lf (sym whole) ∙ lacks-before rest (length rest) (omega arith) c.in-None.ensures in
     subst (λ bytes. StandsFor c.keep-in-None.new.self (stream ++ bytes)) (sym whole)
-    (StandsFor-longer scan c.keep-in-None.new.self stream t rest stands (header-known scan.last c.requires.header) k.within_offset lacks k.fits
-    (ap (λ s. s.limit) k.ok) (ap (λ s. s.offset) k.ok) (ap (λ s. s.last) k.ok))
+    (StandsFor-kept c.args.self.now c.keep-in-None.new.self stream rest stands c.requires.header k.within_offset lacks k.fits k.ok)
 
 pub returns-in_ok-keep-in-None-clause-heard : goal.returns-in_ok-keep-in-None-clause-heard
 returns-in_ok-keep-in-None-clause-heard g c stream stands =

@@ -1,0 +1,67 @@
+// What the benchmark needs beside edump: a dump of a stated size, a plain scan to compare with, and the
+// measure of a command.
+//
+//   bench write FILE BYTES SECTIONS   writes a dump of so many bytes and sections, heap lines of about 40 bytes
+//   bench scan FILE                   counts the headers: reads of 64 KiB, memchr for `=`, the byte before
+//   bench measure OUT COMMAND WORDS.. runs a command, its output into the file OUT: seconds and peak memory
+#define _GNU_SOURCE
+#include <fcntl.h>
+#include <stdio.h>
+#include <stdlib.h>
+#include <string.h>
+#include <sys/resource.h>
+#include <sys/wait.h>
+#include <time.h>
+#include <unistd.h>
+
+static int write_dump(const char *name, long bytes, long sections) {
+    FILE *f = fopen(name, "w");
+    if (!f) return 1;
+    long at = fprintf(f, "=erl_crash_dump:0.5\nSlogan: a benchmark\n");
+    for (long i = 1; i < sections - 1; i++) {
+        long until = bytes / sections * (i + 1);
+        at += fprintf(f, "=proc_heap:<0.%ld.0>\n", i);
+        while (at < until)
+            at += fprintf(f, "%012lX:lI%08ld|H%012lX\n", at, at % 100000000, at + 16);
+    }
+    fprintf(f, "=end\n");
+    return fclose(f) != 0;
+}
+
+static int scan(const char *name) {
+    static char piece[65536];
+    int f = open(name, O_RDONLY);
+    long count = 0;
+    char before = '\n';
+    for (ssize_t n; (n = read(f, piece, sizeof piece)) > 0; before = piece[n - 1])
+        for (char *p = piece; (p = memchr(p, '=', piece + n - p)); p++)
+            count += (p == piece ? before : p[-1]) == '\n';
+    printf("%ld headers\n", count);
+    return 0;
+}
+
+static int measure(const char *out, char **command) {
+    struct timespec from, upto;
+    clock_gettime(CLOCK_MONOTONIC, &from);
+    pid_t child = fork();
+    if (child == 0) {
+        dup2(open(out, O_WRONLY | O_CREAT | O_TRUNC, 0600), 1);
+        execvp(command[0], command);
+        _exit(127);
+    }
+    int status;
+    struct rusage use;
+    wait4(child, &status, 0, &use);
+    clock_gettime(CLOCK_MONOTONIC, &upto);
+    printf("%.3f s wall, %.3f s user, %ld KiB at most\n",
+           (upto.tv_sec - from.tv_sec) + (upto.tv_nsec - from.tv_nsec) / 1e9,
+           use.ru_utime.tv_sec + use.ru_utime.tv_usec / 1e6, use.ru_maxrss);
+    return status != 0;
+}
+
+int main(int count, char **words) {
+    if (count == 5 && !strcmp(words[1], "write")) return write_dump(words[2], atol(words[3]), atol(words[4]));
+    if (count == 3 && !strcmp(words[1], "scan")) return scan(words[2]);
+    if (count > 3 && !strcmp(words[1], "measure")) return measure(words[2], words + 3);
+    return 2;
+}

@@ -1,0 +1,5 @@
+mod index;
+mod info;
+mod limits;
+mod outcome;
+mod sample;

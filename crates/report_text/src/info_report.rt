@@ -1,0 +1,104 @@
+// The report of `info`.
+ghost use Rattle.std.specs.Prelude.{◌≡◌, length, codes};
+ghost use Rattle.std.specs.List.{flat_map};
+ghost use Rattle.dump_io.specs.Counts.{HasCause};
+ghost use Rattle.dump_io.specs.Sinks.{WritesAll};
+ghost use Rattle.field_lines.specs.Fields.{find_value};
+ghost use Rattle.report_text.specs.Reports.{version_text, text_or_dash, tag_line, info_heading, info_report};
+
+use crate::index_report::put_state;
+use crate::pieces::{Piece, put_pieces};
+use dump_io::{Failed, Sink};
+use field_lines::find;
+use section_index::{Index, Tags, Version};
+
+fn version_text(version: Version) -> &'static [u8]
+    ensures { result.now ≡ version_text version }
+{
+    match version {
+        Version::V03 => b"0.3",
+        Version::V04 => b"0.4",
+        Version::V05 => b"0.5",
+    }
+}
+
+// The text of the first `Slogan` field, or `-`.
+fn slogan_of(first_body: &[u8]) -> &[u8]
+    ensures { result.now ≡ text_or_dash (find_value first_body.now (codes "Slogan")) }
+{
+    match find(first_body, b"Slogan") {
+        Some(field) => &first_body[field.from..field.upto],
+        None => b"-",
+    }
+}
+
+fn put_heading<K: Sink>(sink: &mut K, index: &Index, first_body: &[u8]) -> Result<(), Failed>
+    ensures writes { WritesAll (K.written sink.old) (K.written sink.new)
+        (info_heading (version_text index.now.version) index.now.size (length index.now.headers) (find_value first_body.now (codes "Slogan"))) result }
+    ensures cause { HasCause (K.faults sink.old) (K.faults sink.new) result }
+{
+    let newline = Piece::Bytes(b"\n");
+    put_pieces(
+        sink,
+        &[
+            Piece::Bytes(b"version "),
+            Piece::Bytes(version_text(index.version())),
+            newline,
+            Piece::Bytes(b"size "),
+            Piece::Dec(index.size()),
+            newline,
+            Piece::Bytes(b"sections "),
+            Piece::Dec(index.len() as u64),
+            newline,
+            Piece::Bytes(b"slogan "),
+            Piece::Bytes(slogan_of(first_body)),
+            newline,
+        ],
+    )
+}
+
+fn put_tag<K: Sink>(sink: &mut K, tag: &[u8], count: u64) -> Result<(), Failed>
+    ensures writes { WritesAll (K.written sink.old) (K.written sink.new) (tag_line (tag.now, count)) result }
+    ensures cause { HasCause (K.faults sink.old) (K.faults sink.new) result }
+{
+    put_pieces(
+        sink,
+        &[
+            Piece::Bytes(b"tag "),
+            Piece::Dec(count),
+            Piece::Bytes(b" "),
+            Piece::Bytes(tag),
+            Piece::Bytes(b"\n"),
+        ],
+    )
+}
+
+fn put_tags<K: Sink>(sink: &mut K, tags: &Tags) -> Result<(), Failed>
+    ensures writes { WritesAll (K.written sink.old) (K.written sink.new) (flat_map tag_line tags.now) result }
+    ensures cause { HasCause (K.faults sink.old) (K.faults sink.new) result }
+{
+    for i in 0..tags.len() {
+        let (tag, count) = tags.at(i);
+        put_tag(sink, tag, count)?;
+    }
+    Ok(())
+}
+
+/// Writes the version, the size in bytes, the number of sections and the slogan, which is the first `Slogan`
+/// field of the first section's body, or `-`. A line for each tag follows, with the number of sections that
+/// have it, in the order in which the tags first appear, and then the line of the state, as in
+/// [`put_index`](crate::put_index).
+pub fn put_info<K: Sink>(
+    sink: &mut K,
+    index: &Index,
+    tags: &Tags,
+    first_body: &[u8],
+) -> Result<(), Failed>
+    ensures writes { WritesAll (K.written sink.old) (K.written sink.new)
+        (info_report (version_text index.now.version) index.now.headers index.now.size tags.now first_body.now) result }
+    ensures cause { HasCause (K.faults sink.old) (K.faults sink.new) result }
+{
+    put_heading(sink, index, first_body)?;
+    put_tags(sink, tags)?;
+    put_state(sink, index)
+}

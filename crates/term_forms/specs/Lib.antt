@@ -1,0 +1,12 @@
+pub mod Appends
+pub mod Cover
+pub mod Elements
+pub mod Forms
+pub mod Joined
+pub mod Payload
+pub mod Pieces
+pub mod Reading
+pub mod ReadingForms
+pub mod Seen
+pub mod SeenForms
+pub mod Words

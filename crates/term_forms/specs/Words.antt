@@ -1,0 +1,65 @@
+-- The words that elements and forms are made of.
+use Rattle.std.specs.Prelude.{◌≡◌, ℕ, ◌<◌, ◌==◌, Bool, false, ◌&&◌, ◌||◌, List, [], ◌∷◌, ◌++◌, length, drop, Some, nat_eq, nat_lt, IsTrue, if◌then◌else◌}
+use Rattle.std.specs.List.{list_all, starts_with}
+use Rattle.std.specs.Char.{digit_value, is_ascii_digit}
+use Rattle.dump_io.specs.Numbers.{hex_number}
+
+abbrev pub comma : ℕ
+comma = 44
+
+abbrev pub minus : ℕ
+minus = 45
+
+abbrev pub dot : ℕ
+dot = 46
+
+abbrev pub colon : ℕ
+colon = 58
+
+abbrev pub less : ℕ
+less = 60
+
+abbrev pub greater : ℕ
+greater = 62
+
+abbrev pub bar : ℕ
+bar = 124
+
+-- a hex digit of either case
+abbrev pub is_hex_digit : ℕ → Bool
+is_hex_digit c = nat_lt (digit_value c) 16
+
+-- one or more decimal digits
+abbrev pub is_digits : List ℕ → Bool
+is_digits text = nat_lt 0 (length text) && list_all is_ascii_digit text
+
+-- an optional minus, and digits
+abbrev pub is_integer : List ℕ → Bool
+is_integer [] = false
+is_integer (c ∷ text) = if c == minus then is_digits text else is_digits (c ∷ text)
+
+-- a byte of a pid's or a port's number
+abbrev pub is_dotted : ℕ → Bool
+is_dotted c = is_ascii_digit c || c == dot
+
+-- `<`, one or more of `0` to `9` and `.`, and `>`
+abbrev pub IsBracketed : List ℕ → Type 0
+IsBracketed text =
+    (inner : List ℕ) × (0 < length inner) × IsTrue (list_all is_dotted inner) × (text ≡ less ∷ (inner ++ greater ∷ []))
+
+-- the text is a hex number n, a colon, and the rest
+abbrev pub IsLed : List ℕ → ℕ → List ℕ → Type 0
+IsLed text n rest = (hex : List ℕ) × (hex_number hex ≡ Some n) × (text ≡ hex ++ colon ∷ rest)
+
+-- one or more hex digits
+abbrev pub is_hex_digits : List ℕ → Bool
+is_hex_digits text = nat_lt 0 (length text) && list_all is_hex_digit text
+
+-- `16#` and hex digits
+abbrev pub is_based : List ℕ → Bool
+is_based text = starts_with nat_eq text (49 ∷ 54 ∷ 35 ∷ []) && is_hex_digits (drop 3 text)
+
+-- a big integer: an optional minus, and then digits, or `16#` and hex digits
+abbrev pub is_long : List ℕ → Bool
+is_long [] = false
+is_long (c ∷ text) = if c == minus then is_digits text || is_based text else is_digits (c ∷ text) || is_based (c ∷ text)

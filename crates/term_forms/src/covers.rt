@@ -1,0 +1,14 @@
+// The characters that cover some bytes of a payload.
+
+/// Which characters of a payload are read for a range of its bytes. The characters are a payload of their own.
+#[derive(Clone, Copy, Debug, PartialEq, Eq)]
+pub struct Cover {
+    /// The place of the first of these characters, from 0.
+    pub first: u64,
+    /// How many they are.
+    pub chars: u64,
+    /// How many of the bytes that they write come before the range.
+    pub skip: u32,
+    /// How many bytes they write.
+    pub bytes: u32,
+}

@@ -1,0 +1,136 @@
+// Elements joined by commas.
+ghost use Rattle.std.specs.Prelude.{◌≡◌, ℕ, ◌-◌, ◌<◌, List, [], ◌∷◌, length, is_some, IsTrue, Some};
+ghost use Rattle.std.specs.Option.{option_map, option_copied};
+ghost use Rattle.std.specs.Iterator.{YieldsFirstBy, item_count};
+ghost use Rattle.term_forms.specs.Elements.{Element};
+ghost use Rattle.term_forms.specs.Reading.{whole_of, until_of, behind, joined_of, joined_list, with_first};
+ghost use Rattle.term_forms.specs.Seen.{element, element_rest};
+
+use crate::elements::elem;
+use crate::shapes::Elem;
+use std::marker::Model;
+
+// The element that is the whole text.
+#[tactic(auto, unfolding(crate::specs::Reading::whole_of))]
+pub(crate) fn whole_elem(text: &[u8]) -> Option<Elem<'_>>
+    ensures { option_map element result ≡ whole_of text.now }
+{
+    let (e, len) = elem(text)?;
+    if len == text.len() { Some(e) } else { None }
+}
+
+#[tactic(auto, unfolding(crate::specs::Reading::behind))]
+fn behind(stop: u8, text: &[u8]) -> Option<&[u8]>
+    ensures { option_copied result ≡ behind stop text.now }
+{
+    let (first, rest) = text.split_first()?;
+    if *first == stop { Some(rest) } else { None }
+}
+
+// The element that begins the text, and what stands behind the byte that follows it.
+#[tactic(auto, unfolding(crate::specs::Reading::until_of))]
+pub(crate) fn elem_until(text: &[u8], stop: u8) -> Option<(Elem<'_>, &[u8])>
+    ensures { option_map element_rest result ≡ until_of stop text.now }
+{
+    let (e, len) = elem(text)?;
+    let rest = behind(stop, &text[len..])?;
+    Some((e, rest))
+}
+
+fn end_of(text: &[u8]) -> &[u8]
+    ensures { result.now ≡ [] }
+{
+    &text[text.len()..]
+}
+
+// The first of so many elements, and the text of the others.
+fn split_elem(count: u64, text: &[u8]) -> Option<(Elem<'_>, &[u8])>
+    requires { 0 < count }
+    ensures { joined_of count text.now ≡ with_first (count - 1) (option_map element_rest result) }
+{
+    if count == 1 {
+        let e = whole_elem(text)?;
+        Some((e, end_of(text)))
+    } else {
+        elem_until(text, b',')
+    }
+}
+
+fn are_joined(count: u64, text: &[u8]) -> bool
+    ensures { result ≡ is_some (joined_of count text.now) }
+{
+    let mut left = count;
+    let mut rest = text;
+    while left > 0 {
+        let Some((_, others)) = split_elem(left, rest) else {
+            return false;
+        };
+        rest = others;
+        left -= 1;
+    }
+    rest.is_empty()
+}
+
+/// An iterator over the elements that a text spells, joined by commas. Contracts see it as the list of the
+/// elements that are left.
+#[derive(Debug, Drop)]
+pub struct Elems<'a> {
+    text: &'a [u8],
+    left: u64,
+}
+
+impl<'a> Model for Elems<'a> {
+    ghost Value = { List Element };
+
+    ghost view = { λ s. joined_list s.left s.text.now };
+
+    ghost invariant = { λ s. IsTrue (is_some (joined_of s.left s.text.now)) };
+}
+
+impl<'a> Elems<'a> {
+    // So many elements, where the whole text spells them.
+    pub(crate) fn new(count: u64, text: &'a [u8]) -> Option<Elems<'a>>
+        ensures { result ≡ joined_of count text.now }
+    {
+        if are_joined(count, text) {
+            Some(Elems { text, left: count })
+        } else {
+            None
+        }
+    }
+
+    /// How many elements are left.
+    pub fn left(&self) -> u64
+        ensures { result ≡ length self.now }
+    {
+        self.left
+    }
+
+    /// A second iterator over the elements that are left.
+    pub fn again(&self) -> Elems<'a>
+        ensures { result ≡ self.now }
+    {
+        Elems {
+            text: self.text,
+            left: self.left,
+        }
+    }
+}
+
+impl<'a> Iterator for Elems<'a> {
+    type Item = Elem<'a>;
+
+    ghost next_gives = { YieldsFirstBy element (λ left. left) };
+
+    ghost remaining = { item_count (λ left. left) };
+
+    fn next(&mut self) -> Option<Elem<'a>> {
+        if self.left == 0 {
+            return None;
+        }
+        let (first, rest) = split_elem(self.left, self.text)?;
+        self.text = rest;
+        self.left -= 1;
+        Some(first)
+    }
+}

@@ -1,0 +1,55 @@
+//! The laws of elements and forms. Each is the contract of a function that does nothing.
+ghost use Rattle.std.specs.Prelude.{◌≡◌, ◌↔◌, ℕ, List, ◌++◌, length, take, None, Some};
+ghost use Rattle.term_forms.specs.Elements.{Element, IsElem, IsFront, EndsElement, plain_elem};
+ghost use Rattle.term_forms.specs.Forms.{HeapForm, IsForm, plain_form};
+ghost use Rattle.term_forms.specs.Reading.{led_of, front};
+ghost use Rattle.term_forms.specs.ReadingForms.{form_of};
+ghost use Rattle.term_forms.specs.Words.{IsLed};
+
+use crate::enc::Enc;
+
+/// A text spells one element at most.
+pub fn unique_reading_of_elements()
+    ensures { (text : List ℕ) (one other : Element) → IsElem text one → IsElem text other → one ≡ other }
+{}
+
+/// An element that a text spells is also spelled by its plain spelling, as which it is read again.
+pub fn plain_spelling_of_elements()
+    ensures spells { (text : List ℕ) (e : Element) → IsElem text e → IsElem (plain_elem e) e }
+    ensures again { (text : List ℕ) (e : Element) → IsElem text e → front (plain_elem e) ≡ Some (e, length (plain_elem e)) }
+{}
+
+/// Where an element's spelling is followed by `|`, `,` or `:`, or by nothing, it is the longest prefix
+/// that spells an element.
+pub fn front_of_element()
+    ensures { (text rest : List ℕ) (e : Element) → IsElem text e → EndsElement rest → IsFront (text ++ rest) e (length text) }
+{}
+
+/// What `front` computes is the longest prefix that spells an element.
+pub fn front_is_longest()
+    ensures found { (text : List ℕ) (e : Element) (n : ℕ) → (front text ≡ Some (e, n)) ↔ IsFront text e n }
+    ensures none { (text : List ℕ) → (front text ≡ None) ↔ ((n : ℕ) (e : Element) → IsElem (take n text) e → ⊥) }
+{}
+
+/// Under one encoding a text spells one form at most.
+pub fn unique_reading_of_forms(enc: Enc)
+    ensures { (text : List ℕ) (one other : HeapForm) → IsForm enc text one → IsForm enc text other → one ≡ other }
+{}
+
+/// A form that a text spells under an encoding is spelled under it by its plain spelling too, as which it is
+/// read again.
+pub fn plain_spelling_of_forms(enc: Enc)
+    ensures spells { (text : List ℕ) (f : HeapForm) → IsForm enc text f → IsForm enc (plain_form f) f }
+    ensures again { (text : List ℕ) (f : HeapForm) → IsForm enc text f → form_of enc (plain_form f) ≡ Some f }
+{}
+
+/// What `form_of` computes is the form that the text spells.
+pub fn form_is_read(enc: Enc)
+    ensures found { (text : List ℕ) (f : HeapForm) → (form_of enc text ≡ Some f) ↔ IsForm enc text f }
+    ensures none { (text : List ℕ) → (form_of enc text ≡ None) ↔ ((f : HeapForm) → IsForm enc text f → ⊥) }
+{}
+
+/// What `led_of` computes is the number that leads the text and what stands behind its colon.
+pub fn number_is_read()
+    ensures { (text : List ℕ) (n : ℕ) (rest : List ℕ) → (led_of text ≡ Some (n, rest)) ↔ IsLed text n rest }
+{}

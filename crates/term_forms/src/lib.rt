@@ -1,0 +1,35 @@
+//! The elements and the heap forms of a crash dump's text, read and written, and the payloads of binaries, in both
+//! encodings.
+//!
+//! The types `Elem`, `Form` and `Cover` stand in [`shapes`], and the functions `elem`, `form` and `cover`, which have
+//! their names, in [`reading`].
+#![tactic(auto)]
+
+mod covering;
+mod covers;
+mod elements;
+mod elems;
+mod enc;
+mod forms;
+mod laws;
+mod payloads;
+pub mod reading;
+pub mod shapes;
+mod words;
+mod writing;
+
+pub use covering::cover_holds_range;
+pub use elems::Elems;
+pub use enc::Enc;
+pub use laws::{
+    form_is_read, front_is_longest, front_of_element, number_is_read, plain_spelling_of_elements,
+    plain_spelling_of_forms, unique_reading_of_elements, unique_reading_of_forms,
+};
+pub use payloads::{
+    encoding_in_pieces, is_payload, payload, payload_bytes_are_read, payload_is_of_one,
+};
+pub use words::heap_line;
+pub use writing::{put_elem, put_form};
+
+#[cfg(test)]
+mod tests;

@@ -1,0 +1,97 @@
+// The payloads of binaries: the characters that write their bytes.
+ghost use Rattle.std.specs.Prelude.{◌≡◌, ◌↔◌, ℕ, ◌%◌, List, ◌++◌, length, IsTrue};
+ghost use Rattle.term_forms.specs.Payload.{IsPayload, IsPayloadOf, encoding, chars_of, group_of, payload_bytes, payload_test};
+
+use crate::enc::Enc;
+use base64::engine::general_purpose::STANDARD;
+
+// How many bytes are read at once: a whole number of groups, and few enough to be kept on the stack.
+const PIECE: usize = 768;
+
+fn hex_payload(chars: &[u8], into: &mut [u8]) -> bool
+    ensures found { IsTrue result ↔ IsPayloadOf Enc.Hex chars.now (length into.old) }
+    ensures bytes { IsTrue result → IsPayload Enc.Hex chars.now into.new }
+{
+    hex::decode_to_slice(chars, into).is_ok()
+}
+
+fn base64_payload(chars: &[u8], into: &mut [u8]) -> bool
+    ensures found { IsTrue result ↔ IsPayloadOf Enc.Base64 chars.now (length into.old) }
+    ensures bytes { IsTrue result → IsPayload Enc.Base64 chars.now into.new }
+{
+    match STANDARD.decode_slice(chars, into) {
+        Ok(count) => count == into.len(),
+        Err(_) => false,
+    }
+}
+
+/// Whether the characters are the payload of exactly `into.len()` bytes, which `into` then holds. At `false` it may
+/// hold anything.
+pub fn payload(chars: &[u8], enc: Enc, into: &mut [u8]) -> bool
+    ensures found { IsTrue result ↔ IsPayloadOf enc chars.now (length into.old) }
+    ensures bytes { IsTrue result → IsPayload enc chars.now into.new }
+{
+    match enc {
+        Enc::Hex => hex_payload(chars, into),
+        Enc::Base64 => base64_payload(chars, into),
+    }
+}
+
+// How many characters write `PIECE` bytes.
+fn piece_chars(enc: Enc) -> usize
+    ensures { result ≡ chars_of enc PIECE }
+{
+    match enc {
+        Enc::Hex => 2 * PIECE,
+        Enc::Base64 => PIECE / 3 * 4,
+    }
+}
+
+/// Whether the characters are the payload of exactly `size` bytes.
+pub fn is_payload(chars: &[u8], enc: Enc, size: u64) -> bool
+    ensures found { IsTrue result ↔ IsPayloadOf enc chars.now size }
+    ensures test { result ≡ payload_test enc size chars.now }
+{
+    let mut buffer = [0; PIECE];
+    let width = piece_chars(enc);
+    let mut rest = chars;
+    let mut left = size;
+    while left > PIECE as u64 {
+        let Some((piece, after)) = rest.split_at_checked(width) else {
+            return false;
+        };
+        if !payload(piece, enc, &mut buffer) {
+            return false;
+        }
+        rest = after;
+        left -= PIECE as u64;
+    }
+    payload(rest, enc, &mut buffer[..left as usize])
+}
+
+/// The law by which a payload is read in pieces: the encoding of bytes is the encoding of a front of whole groups,
+/// followed by the encoding of the rest. In hex a group is one byte, and in base64 three.
+pub fn encoding_in_pieces(enc: Enc)
+    ensures pieces { (front rest : List ℕ) → length front % group_of enc ≡ 0
+        → encoding enc (front ++ rest) ≡ encoding enc front ++ encoding enc rest }
+    ensures length { (bytes : List ℕ) → length (encoding enc bytes) ≡ chars_of enc (length bytes) }
+{}
+
+/// The law that characters are the payload of one list of bytes at most, whose number gives theirs.
+pub fn payload_is_of_one(enc: Enc)
+    ensures bytes { (chars one other : List ℕ)
+        → IsPayload enc chars one → IsPayload enc chars other → one ≡ other }
+    ensures length { (chars bytes : List ℕ)
+        → IsPayload enc chars bytes → length chars ≡ chars_of enc (length bytes) }
+{}
+
+/// The law of the two definitions that compute: `payload_bytes` gives the bytes of a payload and nothing else, and
+/// `payload_test` tells a payload of so many bytes.
+pub fn payload_bytes_are_read(enc: Enc)
+    ensures bytes { (chars bytes : List ℕ) → (payload_bytes enc chars ≡ Some bytes) ↔ IsPayload enc chars bytes }
+    ensures test { (chars : List ℕ) (size : ℕ)
+        → IsTrue (payload_test enc size chars) ↔ IsPayloadOf enc chars size }
+{}
+
+#[cfg(test)]
+mod tests;

@@ -1,0 +1,5 @@
+//! The functions that have the names of the types of [`shapes`](crate::shapes).
+
+pub use crate::covering::cover;
+pub use crate::elements::elem;
+pub use crate::forms::form;

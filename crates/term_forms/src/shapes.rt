@@ -1,0 +1,52 @@
+//! The types that have the names of the functions of [`reading`](crate::reading).
+
+pub use crate::covers::Cover;
+use crate::elems::Elems;
+
+/// An element of a dump's text. The slices are parts of the text read.
+#[derive(Clone, Copy, Debug, PartialEq, Eq)]
+pub enum Elem<'a> {
+    /// The empty list.
+    Nil,
+    /// A small integer: an optional minus and digits.
+    Small(&'a [u8]),
+    /// An atom: its bytes.
+    Atom(&'a [u8]),
+    /// A pid, from `<` to `>`.
+    Pid(&'a [u8]),
+    /// A port, from `<` to `>`.
+    Port(&'a [u8]),
+    /// A reference to the heap cell with this address.
+    Ref(u64),
+}
+
+/// The form of a heap's cell. The slices are parts of the text read, and lengths are in bytes.
+#[derive(Debug, Drop)]
+pub enum Form<'a> {
+    /// A list cell: its head and its tail.
+    List(Elem<'a>, Elem<'a>),
+    /// A tuple: its elements.
+    Tuple(Elems<'a>),
+    /// A float: its text.
+    Float(&'a [u8]),
+    /// A big integer: its text, in decimal or behind `16#` in hex.
+    Long(&'a [u8]),
+    /// A pid of another node, from `<` to `>`.
+    Pid(&'a [u8]),
+    /// A port of another node, from `<` to `>`.
+    Port(&'a [u8]),
+    /// An external term: its length, and the characters that write its bytes.
+    Ext(u64, &'a [u8]),
+    /// A binary on the heap: its length, and the characters that write its bytes.
+    HeapBin(u64, &'a [u8]),
+    /// A reference to a binary: the binary's address, the offset in it and the size.
+    RefBin(u64, u64, u64),
+    /// A part of a binary: the binary's address, the offset in it and the size.
+    SubBin(u64, u64, u64),
+    /// A flat map: the element of the keys' tuple, and the values.
+    Flat(Elem<'a>, Elems<'a>),
+    /// The root of a hash map: its stated size, and its children.
+    Hash(u64, Elems<'a>),
+    /// An inner node of a hash map: its children.
+    Node(Elems<'a>),
+}

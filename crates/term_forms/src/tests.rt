@@ -1,0 +1,162 @@
+use crate::reading::{elem, form};
+use crate::shapes::Elem;
+use crate::{Enc, heap_line, put_elem, put_form};
+use std::alloc::Global;
+use std::process::Abort;
+use std::test::Fail;
+
+// The text begins with an element of that many bytes, which is written in the plain spelling.
+fn begins(
+    rt: &impl Abort,
+    alloc: Global,
+    text: &[u8],
+    len: usize,
+    plain: &[u8],
+) -> Result<(), Fail> {
+    let (e, found) = elem(text).ok_or("no element")?;
+    assert_eq!(rt; found, len);
+    let mut written = Vec::new(alloc);
+    put_elem(&mut written, &e)?;
+    assert_eq!(rt; written.as_slice(), plain);
+    assert_eq!(rt; elem(plain), Some((e, plain.len())));
+    Ok(())
+}
+
+#[test]
+fn elements_are_read_and_written(rt: HostRuntime) -> Result<(), Fail> {
+    let alloc = rt.alloc();
+    assert_eq!(rt; elem(b"A5:Hello,A1:x"), Some((Elem::Atom(b"Hello"), 8)));
+    assert_eq!(rt; elem(b"H00000000000000020"), Some((Elem::Ref(2), 17)));
+    for (text, len, plain) in [
+        (b"NN".as_slice(), 1, b"N".as_slice()),
+        (b"I12,I3", 3, b"I12"),
+        (b"I-007|N", 5, b"I-007"),
+        (b"A5:Hello,A1:x", 8, b"A5:Hello"),
+        (b"A00b:Hello World", 16, b"AB:Hello World"),
+        (b"A0::N", 3, b"A0:"),
+        (b"P<0.17.0>:N", 9, b"P<0.17.0>"),
+        (b"p<0.1>", 6, b"p<0.1>"),
+        (b"p#Port<0.1>", 11, b"p<0.1>"),
+        (b"H00000000000000020", 17, b"H2"),
+        (b"HfFfFfFfFfFfFfFfF,", 17, b"HFFFFFFFFFFFFFFFF"),
+        (b"H0", 2, b"H0"),
+    ] {
+        begins(&rt, alloc, text, len, plain)?;
+    }
+    for text in [
+        b"".as_slice(),
+        b"A6:Hello",
+        b"A5Hello",
+        b"A:x",
+        b"A00000000000000001:x",
+        b"I",
+        b"I-",
+        b"P<>",
+        b"P<0.1",
+        b"Q<0.1>",
+        b"p#port<0.1>",
+        b"H",
+        b"Hg",
+        b" N",
+    ] {
+        assert_eq!(rt; elem(text), None);
+    }
+    Ok(())
+}
+
+#[test]
+fn heap_lines_are_split(rt: HostRuntime) {
+    assert_eq!(rt; heap_line(b"1f:lN|N"), Some((31, b"lN|N".as_slice())));
+    assert_eq!(rt; heap_line(b"10:"), Some((16, b"".as_slice())));
+    for text in [b"g:N".as_slice(), b":lI1|N", b"10", b"00000000000000001:N"] {
+        assert_eq!(rt; heap_line(text), None);
+    }
+}
+
+// The text spells a form under the encoding, which is written in the plain spelling.
+fn spells(rt: &impl Abort, alloc: Global, text: &[u8], enc: Enc, plain: &[u8]) -> Result<(), Fail> {
+    let mut written = Vec::new(alloc);
+    put_form(&mut written, &form(text, enc).ok_or("no form")?)?;
+    assert_eq!(rt; written.as_slice(), plain);
+    let mut again = Vec::new(alloc);
+    put_form(&mut again, &form(plain, enc).ok_or("not read again")?)?;
+    assert_eq!(rt; again.as_slice(), plain);
+    Ok(())
+}
+
+#[test]
+fn forms_are_read_and_written(rt: HostRuntime) -> Result<(), Fail> {
+    let alloc = rt.alloc();
+    for enc in [Enc::Hex, Enc::Base64] {
+        for (text, plain) in [
+            (b"lI1|H0a".as_slice(), b"lI1|HA".as_slice()),
+            (b"t002:N,p#Port<0.1>", b"t2:N,p<0.1>"),
+            (b"t0:", b"t0:"),
+            (b"t1:A3:a,b", b"t1:A3:a,b"),
+            (b"F4:1.50", b"F4:1.50"),
+            (b"B-123", b"B-123"),
+            (b"B16#fF", b"B16#fF"),
+            (b"B-16#0", b"B-16#0"),
+            (b"P<0.1.0>", b"P<0.1.0>"),
+            (b"p#Port<0.1>", b"p<0.1>"),
+            (b"E0:", b"E0:"),
+            (b"Yh00:", b"Yh0:"),
+            (b"Yc0a:01:2", b"YcA:1:2"),
+            (b"Ys10:0:ff", b"Ys10:0:FF"),
+            (b"Mf2:H20:I1,I2", b"Mf2:H20:I1,I2"),
+            (b"Mf0:N:", b"Mf0:N:"),
+            (b"Mh3:2:H1,H2", b"Mh3:2:H1,H2"),
+            (b"Mn1:H5", b"Mn1:H5"),
+        ] {
+            spells(&rt, alloc, text, enc, plain)?;
+        }
+    }
+    spells(&rt, alloc, b"E2:0a0B", Enc::Hex, b"E2:0a0B")?;
+    spells(&rt, alloc, b"Yh5:68656C6C6F", Enc::Hex, b"Yh5:68656C6C6F")?;
+    spells(&rt, alloc, b"E2:Cgs=", Enc::Base64, b"E2:Cgs=")?;
+    spells(&rt, alloc, b"Yh5:aGVsbG8=", Enc::Base64, b"Yh5:aGVsbG8=")?;
+    Ok(())
+}
+
+#[test]
+fn other_texts_are_no_forms(rt: HostRuntime) {
+    for enc in [Enc::Hex, Enc::Base64] {
+        for text in [
+            b"".as_slice(),
+            b"I5",
+            b"q",
+            b"t2:I1",
+            b"t1:",
+            b"t1:I1,I2",
+            b"t1:N,",
+            b"t0:N",
+            b"lI1",
+            b"lI1|N ",
+            b"lN|N|N",
+            b"F4:1.5",
+            b"F4:1.500",
+            b"B",
+            b"B-",
+            b"B16#",
+            b"B16#G",
+            b"P<>",
+            b"P<0.1>x",
+            b"p#Port<>",
+            b"Yc1:2",
+            b"Yc1:2:",
+            b"Ys1:2:3:4",
+            b"Yq1:2:3",
+            b"Yh5:aGVsbG9=",
+            b"Mf1:H20:",
+            b"Mf1:H20",
+            b"Mf2:H20:I1",
+            b"Mh1:H1",
+            b"Mn2:H1",
+            b"Mx1:H1",
+        ] {
+            assert!(rt; form(text, enc).is_none());
+        }
+    }
+    assert!(rt; form(b"Yh5:aGVsbG8=", Enc::Hex).is_none());
+    assert!(rt; form(b"Yh5:68656C6C6F", Enc::Base64).is_none());
+}

@@ -1,0 +1,149 @@
+// The words that elements and forms are made of.
+ghost use Rattle.std.specs.Prelude.{◌≡◌, ℕ, ◌==◌, ◌<◌, ◌≤◌, List, length, take, IfSome, IfNone};
+ghost use Rattle.std.specs.List.{prefix_len, position, list_all};
+ghost use Rattle.std.specs.Option.{option_map};
+ghost use Rattle.std.specs.Char.{is_ascii_digit};
+ghost use Rattle.term_forms.specs.Words.{colon, is_hex_digit, is_dotted, is_digits, is_hex_digits, is_based, is_long, IsLed};
+ghost use Rattle.term_forms.specs.Seen.{number_rest};
+ghost use Rattle.term_forms.specs.Reading.{led_of, digits_len, integer_len, bracketed_len};
+
+use dump_io::hex_u64;
+
+fn first_colon(text: &[u8]) -> Option<usize>
+    ensures { result ≡ position (λ c. c == colon) text.now }
+{
+    text.iter().position(|c| *c == b':')
+}
+
+// The number before the first colon, and what stands behind that colon.
+#[tactic(auto, unfolding(crate::specs::Reading::led_of))]
+fn read_led(text: &[u8]) -> Option<(u64, &[u8])>
+    ensures exact { option_map number_rest result ≡ led_of text.now }
+    ensures shorter { IfSome result (λ found. length found.1.now < length text.now) }
+{
+    let at = first_colon(text)?;
+    let number = hex_u64(&text[..at])?;
+    Some((number, &text[at + 1..]))
+}
+
+/// The address of a heap line and its form's text: a hex number of 1 to 16 digits, and what stands behind
+/// the first `:`. None where the text has no `:`, or something else than such a number before the first.
+pub fn heap_line(text: &[u8]) -> Option<(u64, &[u8])>
+    // What is found is a number, a colon and the rest.
+    ensures found { IfSome result (λ found. IsLed text.now found.0 found.1.now) }
+    // Nothing is found only where the text isn't one.
+    ensures none { IfNone result ((address : ℕ) (rest : List ℕ) → IsLed text.now address rest → ⊥) }
+    // The same, as a function of the text.
+    ensures exact { option_map number_rest result ≡ led_of text.now }
+    ensures shorter { IfSome result (λ found. length found.1.now < length text.now) }
+{
+    read_led(text)
+}
+
+fn digit_run(text: &[u8]) -> usize
+    ensures exact { result ≡ prefix_len is_ascii_digit text.now }
+    ensures within { result ≤ length text.now }
+{
+    text.iter().take_while(|c| c.is_ascii_digit()).count()
+}
+
+fn dotted_run(text: &[u8]) -> usize
+    ensures exact { result ≡ prefix_len is_dotted text.now }
+    ensures within { result ≤ length text.now }
+{
+    text.iter()
+        .take_while(|c| c.is_ascii_digit() || **c == b'.')
+        .count()
+}
+
+// How many hex digits begin the text, up to 16.
+pub(crate) fn hex_run(text: &[u8]) -> usize
+    ensures exact { result ≡ prefix_len is_hex_digit (take 16 text.now) }
+    ensures within { result ≤ length text.now }
+{
+    text.iter()
+        .take(16)
+        .take_while(|c| char::from(**c).is_digit(16))
+        .count()
+}
+
+#[tactic(auto, unfolding(crate::specs::Reading::digits_len))]
+fn digits_prefix(text: &[u8]) -> Option<usize>
+    ensures exact { result ≡ digits_len text.now }
+    ensures within { IfSome result (λ n. n ≤ length text.now) }
+{
+    let n = digit_run(text);
+    if n == 0 { None } else { Some(n) }
+}
+
+// How many bytes of the text's front are an integer.
+#[tactic(auto, unfolding(crate::specs::Reading::integer_len))]
+pub(crate) fn integer_prefix(text: &[u8]) -> Option<usize>
+    ensures exact { result ≡ integer_len text.now }
+    ensures within { IfSome result (λ n. n ≤ length text.now) }
+{
+    let (first, rest) = text.split_first()?;
+    if *first == b'-' {
+        Some(digits_prefix(rest)? + 1)
+    } else {
+        digits_prefix(text)
+    }
+}
+
+// How many bytes of the text's front are a number in angle brackets.
+#[tactic(auto, unfolding(crate::specs::Reading::bracketed_len))]
+pub(crate) fn bracketed_prefix(text: &[u8]) -> Option<usize>
+    ensures exact { result ≡ bracketed_len text.now }
+    ensures within { IfSome result (λ n. n ≤ length text.now) }
+{
+    let (first, rest) = text.split_first()?;
+    let n = dotted_run(rest);
+    if *first == b'<' && n > 0 && rest[n..].starts_with(b">") {
+        Some(n + 2)
+    } else {
+        None
+    }
+}
+
+fn all_digits(text: &[u8]) -> bool
+    ensures { result ≡ list_all is_ascii_digit text.now }
+{
+    text.iter().all(|c| c.is_ascii_digit())
+}
+
+fn all_hex_digits(text: &[u8]) -> bool
+    ensures { result ≡ list_all is_hex_digit text.now }
+{
+    text.iter().all(|c| char::from(*c).is_digit(16))
+}
+
+fn is_digits(text: &[u8]) -> bool
+    ensures { result ≡ is_digits text.now }
+{
+    !text.is_empty() && all_digits(text)
+}
+
+fn is_hex_digits(text: &[u8]) -> bool
+    ensures { result ≡ is_hex_digits text.now }
+{
+    !text.is_empty() && all_hex_digits(text)
+}
+
+fn is_based(text: &[u8]) -> bool
+    ensures { result ≡ is_based text.now }
+{
+    text.starts_with(b"16#") && is_hex_digits(&text[3..])
+}
+
+// Whether the text is a big integer, in decimal or behind `16#` in hex.
+pub(crate) fn is_long(text: &[u8]) -> bool
+    ensures { result ≡ is_long text.now }
+{
+    match text.split_first() {
+        None => false,
+        Some((first, rest)) => {
+            let digits = if *first == b'-' { rest } else { text };
+            is_digits(digits) || is_based(digits)
+        }
+    }
+}
