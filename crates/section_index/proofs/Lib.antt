@@ -7,3 +7,4 @@ pub mod Tiling
 pub mod Parts
 pub mod Counts
 pub mod Cutting
+pub mod TagExamples

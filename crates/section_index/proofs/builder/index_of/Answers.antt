@@ -1,4 +1,4 @@
-use Rattle.std.proofs.Common.{◌≡◌, ◌≤◌, ◌∙◌, length, true, sym, ap, arith, rules}
+use Rattle.std.proofs.Common.{◌≡◌, length, true, ap, arith, rules}
 use Rattle.std.specs.List.{starts_with}
 use Rattle.std.specs.Prelude.{nat_eq}
 use Rattle.section_index.specs.Opening.{signature}

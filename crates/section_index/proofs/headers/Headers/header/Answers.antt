@@ -19,7 +19,7 @@ pub part-requires-clause-within : goal.part-requires-clause-within
 part-requires-clause-within c =
     let heads = c.self.inside.heads.items in
     rw c.as_slice.ensures.value (subst (λ (h : Head). h.upto ≤ length c.self.inside.pool.items) (sym c.index-head.ensures)
-    (AreWithin-at _ heads c.args.i c.index-head.result.now c.self.invariant (inside c)).1)
+        (AreWithin-at _ heads c.args.i c.index-head.result.now c.self.invariant (inside c)).1)
 
 pub returns : goal.returns
 returns c =
