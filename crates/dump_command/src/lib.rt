@@ -1,13 +1,13 @@
-// A library with one function.
+//! The commands of edump: their words, their run from a device to two sinks, and the real devices.
 #![tactic(auto)]
 
-ghost use Rattle.std.specs.Prelude.{◌≡◌};
-ghost use Rattle.dump_command.specs.Echo.{echo_of};
+mod devices;
+mod runner;
+mod words;
 
-// The `ensures` clause is the contract: what `echo` returns is `echo_of` of its argument, a definition
-// in `specs/Echo.antt`, which a caller's clause can cite too.
-pub fn echo(x: usize) -> usize
-    ensures { result ≡ echo_of x }
-{
-    x
-}
+pub use devices::{FileDumps, StdSink};
+pub use runner::run;
+pub use words::{Cmd, read_words};
+
+#[cfg(test)]
+mod tests;

@@ -26,7 +26,7 @@ IsCut-within w v u front bytes more first cut =
       count = length front + cut.count;
       short = omega (arith, cut.short, length-append front (bytes ++ more), length-append bytes more);
       front = cut.front ∙ ap (λ z. grown z (take cut.count bytes)) first ∙ grown-grown w front (take cut.count bytes)
-      ∙ ap (λ l. grown w l) (ap (λ l. front ++ l) (sym (take-append-le cut.count bytes more (omega (arith, cut.short)))) ∙ sym (take-append-add front (bytes ++ more) cut.count));
+          ∙ ap (λ l. grown w l) (ap (λ l. front ++ l) (sym (take-append-le cut.count bytes more (omega (arith, cut.short)))) ∙ sym (take-append-add front (bytes ++ more) cut.count));
     }
 
 pub WritesAll-behind : {E : Type 0} (w v u : Option (List ℕ)) (front bytes : List ℕ) (r : Result (Unit {0}) E) → v ≡ grown w front → WritesAll v u bytes r

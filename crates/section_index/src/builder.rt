@@ -143,6 +143,7 @@ pub fn build<D: Dumps>(
     // Where the files are told, the answer is that for the bytes of this name.
     ensures answer { (files : Files) (bytes : List ℕ) → D.files dumps.old ≡ Some files → files name.now ≡ Some bytes
         → IsAnswerFor bytes limits.now result }
+    ensures absent { IsAbsent (D.files dumps.old) name.now → IsErrOf result OpenFault.Read }
     ensures over { IfOk result (IsBuiltOver (D.now dumps.new)) }
     ensures sized { IfOk result (λ index. index.size ≤ limits.now.dump) }
     ensures too_large { IfErr result (IsTooLargeFor (D.now dumps.new) limits.now) }

@@ -1,0 +1,28 @@
+-- The commands, by the words of the command line.
+use Rattle.std.specs.Prelude.{ℕ, List, [], ◌∷◌, map, Option, None, Some, codes, if◌then◌else◌}
+use Rattle.std.specs.Str.{bytes_eq}
+use Rattle.dump_command.specs.declared.words.Cmd.{Cmd}
+use Rattle.dump_command.specs.declared.words.Cmd.TheVariants.{Index}
+
+-- a command and what it is asked for
+pub data Command : Type 0 where
+  index : List ℕ → Command
+
+-- what a command is, where its words are lent
+abbrev pub shown : Cmd → Command
+shown (Index file) = index file.now
+
+-- a command of one word, which is the name of a file
+abbrev pub file_command : List ℕ → List ℕ → Option Command
+file_command name file = if bytes_eq name (codes "index") then Some (index file) else None
+
+-- the command of the words behind the program's name, or none
+abbrev pub command : List (List ℕ) → Option Command
+command [] = None
+command (name ∷ []) = None
+command (name ∷ file ∷ []) = file_command name file
+command (name ∷ file ∷ word ∷ words) = None
+
+-- the file that a command opens
+abbrev pub file_of : Command → List ℕ
+file_of (index file) = file

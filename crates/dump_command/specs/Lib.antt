@@ -1,0 +1,3 @@
+pub mod Command
+pub mod Devices
+pub mod Run

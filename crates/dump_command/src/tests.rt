@@ -1,0 +1,3 @@
+mod index;
+mod outcome;
+mod sample;

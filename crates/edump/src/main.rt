@@ -1,0 +1,63 @@
+//! `edump COMMAND [WORDS]`: reports on an Erlang crash dump.
+#![tactic(auto)]
+
+use dump_command::{FileDumps, StdSink, run};
+use dump_io::Limits;
+use std::alloc::AllocError;
+use std::io::{ErrorKind, Stderr, Stdout};
+use std::process::ExitCode;
+use std::env;
+
+const UNREAD: u8 = 4;
+const UNWRITTEN: u8 = 5;
+const NO_MEMORY: u8 = 6;
+
+// The words behind the program's name. A word that isn't UTF-8 makes no command, as no words do.
+fn words(rt: &HostRuntime) -> Result<Vec<String>, AllocError> {
+    let mut words = Vec::new(rt.alloc());
+    match env::args(rt) {
+        Ok(args) => {
+            for word in args.skip(1) {
+                words.push(word)?;
+            }
+        }
+        Err(error) => {
+            if error.kind() == ErrorKind::OutOfMemory {
+                return Err(AllocError);
+            }
+        }
+    }
+    Ok(words)
+}
+
+// Runs the words over the machine's files and streams. A failed flush is a failed write.
+fn status(rt: &HostRuntime) -> Result<u8, AllocError> {
+    let words = words(rt)?;
+    let mut out: StdSink<Stdout> = StdSink::new(rt.alloc(), rt.stdout())?;
+    let mut err: StdSink<Stderr> = StdSink::new(rt.alloc(), rt.stderr())?;
+    let mut dumps = FileDumps::new(rt);
+    let limits = Limits::usual();
+    let status = run(
+        rt.alloc(),
+        words.as_slice(),
+        &limits,
+        &mut dumps,
+        &mut out,
+        &mut err,
+    );
+    if out.flush().is_err() || err.flush().is_err() {
+        return Ok(UNWRITTEN);
+    }
+    Ok(status)
+}
+
+fn main(rt: HostRuntime) -> ExitCode {
+    let status = status(&rt).unwrap_or(NO_MEMORY);
+    let _ = match status {
+        UNREAD => eprintln!(rt; "fault: read"),
+        UNWRITTEN => eprintln!(rt; "fault: write"),
+        NO_MEMORY => eprintln!(rt; "fault: memory"),
+        _ => Ok(()),
+    };
+    ExitCode::from(status)
+}
