@@ -1,7 +1,8 @@
 //! The index of a dump: its sections in order, each with the place of its header and of its body.
 //!
 //! [`build`] opens a dump by its name and finds its sections, or says why the dump is refused. An
-//! [`Index`] has no part of a body; it keeps the offsets, and the texts of the headers in one pool.
+//! [`Index`] has no part of a body; it keeps the offsets, and the texts of the headers in one pool. Its
+//! sections are found by their tag and id, [`read_body`] reads the body of one, and [`Tags`] counts them.
 #![tactic(auto)]
 
 mod bodies;
