@@ -1,7 +1,6 @@
 -- The sections of a front of a dump.
-use Rattle.std.proofs.Common.{◌≡◌, ℕ, zero, suc, ◌+◌, ◌-◌, ◌<◌, ◌≤◌, ◌==◌, ltb, Bool, true, false, cond, ◌&&◌, List, [], ◌∷◌, ◌++◌, length, take, map, filter, count_by, nat_lt, if◌then◌else◌, refl, sym, ◌∙◌, ap, subst, length-append, slice_get, Some, None, ⊎_elim, zero-add, arith}
-use Rattle.std.specs.Prelude.{nat_eq, All}
-use Rattle.std.specs.List.{concat, starts_with}
+use Rattle.std.proofs.Common.{◌≡◌, ℕ, zero, suc, ◌+◌, ◌-◌, ◌<◌, ◌≤◌, ◌==◌, true, false, cond, List, [], ◌∷◌, length, take, map, filter, count_by, nat_lt, if◌then◌else◌, refl, sym, ◌∙◌, ap, subst, slice_get, ⊎_elim, zero-add, arith}
+use Rattle.std.specs.Prelude.{All}
 use Rattle.std.proofs.lemmas.Bool.{lt-ltb, le-ltb, cases_lt}
 use Rattle.std.proofs.lemmas.List.{take_all, length-take-le}
 use Rattle.std.proofs.lemmas.List.Sums.{sum_by-cons}

@@ -12,4 +12,5 @@ pub mod Named
 pub mod Parts
 pub mod Places
 pub mod Rising
+pub mod TagExamples
 pub mod Tiling

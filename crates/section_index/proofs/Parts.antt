@@ -1,5 +1,5 @@
 -- Where a section of a dump lies.
-use Rattle.std.proofs.Common.{◌≡◌, ℕ, zero, suc, ◌+◌, ◌<◌, ◌≤◌, List, [], ◌∷◌, length, slice_get, Some, None, refl, sym, ◌∙◌, ap, subst, arith}
+use Rattle.std.proofs.Common.{◌≡◌, ℕ, zero, suc, ◌<◌, ◌≤◌, List, [], ◌∷◌, slice_get, Some, subst, arith}
 use Rattle.section_index.specs.Sections.{Section}
 use Rattle.section_index.specs.Tiling.{Tile}
 

@@ -1,13 +1,13 @@
 -- The sections of a dump tile its bytes.
-use Rattle.std.proofs.Common.{◌≡◌, ℕ, suc, ◌+◌, ◌-◌, ◌<◌, ◌≤◌, ◌==◌, Bool, true, false, ◌&&◌, List, [], ◌∷◌, ◌++◌, length, take, map, filter, if◌then◌else◌, refl, sym, ◌∙◌, ap, subst, length-append, slice_get, Some, None, ⊎_elim, arith}
+use Rattle.std.proofs.Common.{◌≡◌, ℕ, suc, ◌+◌, ◌-◌, ◌<◌, ◌≤◌, Bool, true, false, ◌&&◌, List, [], ◌∷◌, length, take, map, filter, if◌then◌else◌, refl, sym, ◌∙◌, ap, subst, length-append, arith}
 use Rattle.std.specs.Prelude.{nat_eq, All}
 use Rattle.std.specs.List.{concat, starts_with, ends_with}
 use Rattle.std.proofs.lemmas.Bool.{and_parts, eqb-true}
 use Rattle.std.proofs.lemmas.List.Elements.{All-head, All-tail}
-use Rattle.dump_io.specs.Lines.{lf, cr, equals_sign, raw_lines, text_of, is_header, Header, headers, lines_from, header_of, Line}
+use Rattle.dump_io.specs.Lines.{lf, cr, equals_sign, raw_lines, is_header, Header, lines_from, header_of, Line}
 use Rattle.dump_io.proofs.LineLaws.{AreLines-raw}
 use Rattle.section_index.specs.Opening.{signature}
-use Rattle.section_index.specs.Sections.{Section, section, sections_of, next_at, sections}
+use Rattle.section_index.specs.Sections.{sections_of, sections}
 use Rattle.section_index.specs.Tiling.{Tile}
 
 abbrev pub line_at : ℕ → List ℕ → Line

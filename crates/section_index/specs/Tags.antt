@@ -6,7 +6,7 @@ use Rattle.std.specs.declared.hash.FoldHasher.{FoldHasher}
 use Rattle.std.specs.declared.hash.BuildHasherDefault.{BuildHasherDefault}
 use Rattle.indexmap.specs.IndexMap.{IndexMap}
 use Rattle.section_index.specs.Index.{Contents, sections_in}
-use Rattle.section_index.specs.Sections.{Section, tag_of}
+use Rattle.section_index.specs.Sections.{tag_of}
 
 -- each text once, in the order in which they first appear
 abbrev pub distinct : List (List ℕ) → List (List ℕ)

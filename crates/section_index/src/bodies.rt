@@ -1,6 +1,6 @@
 // The body of a section is read.
 ghost use Rattle.std.specs.Prelude.{◌≡◌, ◌+◌, ◌<◌, ◌≤◌, ◌⊎◌, length, IfOk, OnOk, IfErr, IsErrOf};
-ghost use Rattle.dump_io.specs.Counts.{Rose, HasCause, plus_capped};
+ghost use Rattle.dump_io.specs.Counts.{Rose, plus_capped};
 ghost use Rattle.dump_io.specs.Dumps.{IsOpen, size_of, Gives};
 ghost use Rattle.section_index.specs.Bodies.{section_at, body_length, IsBodyOf, IsCauseOf};
 ghost use Rattle.section_index.specs.Index.{IsBuiltOver};

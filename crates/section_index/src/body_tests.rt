@@ -1,5 +1,5 @@
-use crate::{BodyFault, Index, Tags, build, read_body};
-use dump_io::{DumpFile, Limits, MemDumps};
+use crate::{BodyFault, Tags, build, read_body};
+use dump_io::{DumpFile, Dumps, Limits, MemDumps};
 use std::alloc::{AllocError, Global};
 use std::test::Fail;
 
@@ -15,14 +15,23 @@ fn device(alloc: Global) -> Result<MemDumps, AllocError> {
     ))
 }
 
-fn opened(alloc: Global, dumps: &mut MemDumps) -> Result<Index, Fail> {
-    Ok(build(alloc, dumps, "V", &Limits::usual())?)
+fn body_of<D: Dumps>(
+    alloc: Global,
+    dumps: &mut D,
+    i: usize,
+    limits: &Limits,
+) -> Result<Result<Vec<u8>, BodyFault>, Fail> {
+    let index = build(alloc, dumps, "V", &Limits::usual())?;
+    if index.len() <= i {
+        return Err("no section".into());
+    }
+    Ok(read_body(alloc, dumps, &index, i, limits))
 }
 
 #[test]
 fn sections_are_found(rt: HostRuntime) -> Result<(), Fail> {
     let mut dumps = device(rt.alloc())?;
-    let index = opened(rt.alloc(), &mut dumps)?;
+    let index = build(rt.alloc(), &mut dumps, "V", &Limits::usual())?;
     let pid = b"<0.1.0>".as_slice();
     assert_eq!(rt; index.first(b"proc".as_slice(), Some(pid)), Some(1));
     assert_eq!(rt; index.first(b"proc".as_slice(), None), Some(2));
@@ -40,32 +49,45 @@ fn sections_are_found(rt: HostRuntime) -> Result<(), Fail> {
 #[test]
 fn tags_are_counted(rt: HostRuntime) -> Result<(), Fail> {
     let mut dumps = device(rt.alloc())?;
-    let index = opened(rt.alloc(), &mut dumps)?;
+    let index = build(rt.alloc(), &mut dumps, "V", &Limits::usual())?;
     let tags = Tags::count(rt.alloc(), &index)?;
     assert_eq!(rt; tags.len(), 4);
-    assert_eq!(rt; tags.at(0), (b"erl_crash_dump".as_slice(), 1));
-    assert_eq!(rt; tags.at(1), (b"proc".as_slice(), 3));
-    assert_eq!(rt; tags.at(2), (b"node".as_slice(), 2));
-    assert_eq!(rt; tags.at(3), (b"end".as_slice(), 1));
+    for (i, tag, count) in [
+        (0, "erl_crash_dump", 1),
+        (1, "proc", 3),
+        (2, "node", 2),
+        (3, "end", 1),
+    ] {
+        if tags.len() <= i {
+            return Err("no tag".into());
+        }
+        let (found, number) = tags.at(i);
+        assert_eq!(rt; found, tag.as_bytes());
+        assert_eq!(rt; number, count);
+    }
     Ok(())
 }
 
 #[test]
 fn bodies_are_read(rt: HostRuntime) -> Result<(), Fail> {
     let mut dumps = device(rt.alloc())?;
-    let index = opened(rt.alloc(), &mut dumps)?;
-    let before = dumps.taken();
     let usual = Limits::usual();
-    let body = read_body(rt.alloc(), &mut dumps, &index, 1, &usual)?;
+    let body = body_of(rt.alloc(), &mut dumps, 1, &usual)??;
     assert_eq!(rt; body.as_slice(), b"A: 1\n".as_slice());
-    assert_eq!(rt; dumps.taken(), before + 5);
-    let last = read_body(rt.alloc(), &mut dumps, &index, 6, &usual)?;
+    assert_eq!(rt; dumps.taken(), (DUMP.len() as u64).saturating_add(5));
+    let last = body_of(rt.alloc(), &mut dumps, 6, &usual)??;
     assert!(rt; last.is_empty());
+    Ok(())
+}
+
+#[test]
+fn a_body_above_the_limit_is_not_read(rt: HostRuntime) -> Result<(), Fail> {
+    let mut dumps = device(rt.alloc())?;
     let small = Limits::new(100, 100, 100, 100, 4, 100).ok_or("refused")?;
-    match read_body(rt.alloc(), &mut dumps, &index, 1, &small) {
+    match body_of(rt.alloc(), &mut dumps, 1, &small)? {
         Err(BodyFault::SectionTooLarge { at, len }) => assert_eq!(rt; (at, len), (31, 5)),
         _ => return Err("loaded".into()),
     }
-    assert_eq!(rt; dumps.taken(), before + 5);
+    assert_eq!(rt; dumps.taken(), DUMP.len() as u64);
     Ok(())
 }

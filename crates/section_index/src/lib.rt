@@ -2,7 +2,8 @@
 //!
 //! [`build`] opens a dump by its name, reads it once in pieces and finds its sections, or says why the dump
 //! is refused. An [`Index`] has no part of a body; it keeps the offsets, and the texts of the headers in one
-//! pool. [`read_body`] loads the body of one section, and [`Tags`] counts the sections by their tags.
+//! pool. Its sections are found by their tag and id, [`read_body`] reads the body of one, and [`Tags`] counts
+//! them.
 #![tactic(auto)]
 
 mod beginning;
@@ -27,3 +28,5 @@ pub use tags::Tags;
 
 #[cfg(test)]
 mod body_tests;
+#[cfg(test)]
+mod build_tests;

@@ -10,7 +10,8 @@ use line_source::{HeaderSink, HeaderStop};
 use std::alloc::Global;
 use std::marker::{Brand, Model, PhantomData};
 
-// The limits that a receiver keeps to, which no call changes.
+// Names the limits that a receiver keeps to. They stand in the receiver's type, so that they are known to be
+// the same after a call that was handed the receiver.
 pub(crate) trait Bounds {
     ghost use Rattle.dump_io.specs.Limits.{Numbers};
 

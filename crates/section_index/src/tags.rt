@@ -1,5 +1,5 @@
 // How many sections have each tag.
-ghost use Rattle.std.specs.Prelude.{◌≡◌, ◌+◌, ◌^◌, ◌<◌, ℕ, List, length, take, slice_get, Some, IfOk, OnOk};
+ghost use Rattle.std.specs.Prelude.{◌≡◌, ◌+◌, ◌^◌, ◌<◌, length, take, slice_get, Some, IfOk, OnOk};
 ghost use Rattle.section_index.specs.Tags.{tag_counts, tags_in, counts_of};
 
 use crate::index::Index;

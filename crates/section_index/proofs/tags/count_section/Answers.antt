@@ -1,4 +1,4 @@
-use Rattle.std.proofs.Common.{◌≡◌, ℕ, ◌+◌, List, length, sym, ◌∙◌, ap, Some, None, slice_get, take, map, arith}
+use Rattle.std.proofs.Common.{◌≡◌, ℕ, ◌+◌, List, sym, ◌∙◌, ap, Some, None, slice_get, take, map, arith}
 use Rattle.std.specs.Prelude.{option_map}
 use Rattle.std.specs.Map.{lookup}
 use Rattle.std.specs.Global.{Vec}
@@ -8,7 +8,7 @@ use Rattle.std.proofs.lemmas.List.{length-take}
 use Rattle.indexmap.specs.IndexMap.{insert_entry}
 use Rattle.section_index.specs.Index.{Contents, sections_in}
 use Rattle.section_index.specs.Sections.{Section, section, tag_of}
-use Rattle.section_index.specs.Tags.{tags_in, tag_counts, counts_of}
+use Rattle.section_index.specs.Tags.{tags_in}
 use Rattle.section_index.proofs.Counts.{shown, same_key, one_more, tag_counts-more, one_more-there, one_more-new, tag_counts-small}
 use Rattle.section_index.proofs.tags.count_section.Goals as goal
 
