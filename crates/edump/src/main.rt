@@ -4,12 +4,14 @@
 use dump_command::{FileDumps, StdSink, run};
 use dump_io::Limits;
 use std::alloc::AllocError;
+use std::env;
 use std::io::{ErrorKind, Stderr, Stdout};
 use std::process::ExitCode;
-use std::env;
 
 const UNREAD: u8 = 4;
+
 const UNWRITTEN: u8 = 5;
+
 const NO_MEMORY: u8 = 6;
 
 // The words behind the program's name. A word that isn't UTF-8 makes no command, as no words do.

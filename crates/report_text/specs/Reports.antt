@@ -52,7 +52,7 @@ text_or_dash text = unwrap_or text (codes "-")
 abbrev pub info_heading : List ℕ → ℕ → ℕ → Option (List ℕ) → List ℕ
 info_heading version size sections slogan =
     concat (codes "version " ∷ version ∷ newline ∷ codes "size " ∷ decimal size ∷ newline
-        ∷ codes "sections " ∷ decimal sections ∷ newline ∷ codes "slogan " ∷ text_or_dash slogan ∷ newline ∷ [])
+    ∷ codes "sections " ∷ decimal sections ∷ newline ∷ codes "slogan " ∷ text_or_dash slogan ∷ newline ∷ [])
 
 -- the report of `info` on a dump of this version, these headers and this size, with these counts of tags and
 -- this body of the first section
