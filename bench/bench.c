@@ -2,6 +2,7 @@
 // measure of a command.
 //
 //   bench write FILE BYTES SECTIONS   writes a dump of so many bytes and sections, heap lines of about 40 bytes
+//   bench heap FILE CELLS             writes the heap lines of so many list cells, 40 bytes each with their LF
 //   bench scan FILE                   counts the headers: reads of 64 KiB, memchr for `=`, the byte before
 //   bench measure OUT COMMAND WORDS.. runs a command, its output into the file OUT: seconds and peak memory
 #define _GNU_SOURCE
@@ -25,6 +26,14 @@ static int write_dump(const char *name, long bytes, long sections) {
             at += fprintf(f, "%012lX:lI%08ld|H%012lX\n", at, at % 100000000, at + 16);
     }
     fprintf(f, "=end\n");
+    return fclose(f) != 0;
+}
+
+static int write_heap(const char *name, long cells) {
+    FILE *f = fopen(name, "w");
+    if (!f) return 1;
+    for (long i = 1; i <= cells; i++)
+        fprintf(f, "%012lX:lI%010ld|H%012lX\n", i * 16, i, i * 16 + 16);
     return fclose(f) != 0;
 }
 
@@ -61,6 +70,7 @@ static int measure(const char *out, char **command) {
 
 int main(int count, char **words) {
     if (count == 5 && !strcmp(words[1], "write")) return write_dump(words[2], atol(words[3]), atol(words[4]));
+    if (count == 4 && !strcmp(words[1], "heap")) return write_heap(words[2], atol(words[3]));
     if (count == 3 && !strcmp(words[1], "scan")) return scan(words[2]);
     if (count > 3 && !strcmp(words[1], "measure")) return measure(words[2], words + 3);
     return 2;

@@ -45,7 +45,15 @@ fn sections_and_state_of_small_dumps(rt: HostRuntime) -> Result<(), Fail> {
         ),
     ];
     for (dump, out) in cases {
-        expect(&rt, rt.alloc(), &["index", "F"], dump, 0, out, "")?;
+        for cut in [0, 1, 2, 3, 7] {
+            let cuts = Hindrance {
+                cuts: &[cut],
+                ..NONE
+            };
+            let end = run_on(rt.alloc(), &["index", "F"], dump, &Limits::usual(), cuts)?;
+            assert_eq!(rt; end.status, 0);
+            assert_eq!(rt; end.out.written(), out.as_bytes());
+        }
     }
     Ok(())
 }

@@ -1,4 +1,4 @@
-use super::outcome::{expect, expect_refusal};
+use super::outcome::{NONE, expect, expect_refusal, run_on};
 use super::sample::SAMPLE;
 use dump_io::Limits;
 use std::test::Fail;

@@ -1,14 +1,15 @@
-use super::outcome::{Hindrance, NONE, expect, expect_refusal, run_on};
+use super::outcome::{Hindrance, NONE, expect_refusal, run_on};
 use super::sample::SAMPLE;
 use dump_io::Limits;
 use std::alloc::{AllocError, Global};
+use std::process::Abort;
 use std::test::Fail;
 
 const AN_END_BEFORE_A_MODULE: &[u8] = b"=erl_crash_dump:0.5\n=end\n=mod:x\n";
 
 #[test]
 fn limits_lowered(rt: HostRuntime) -> Result<(), Fail> {
-    let cases: [(&[u8], Option<Limits>, &str); 4] = [
+    let cases: [(&[u8], Option<Limits>, &str); 5] = [
         (
             SAMPLE.as_bytes(),
             Limits::new(936, 4096, 100, 1000, 1000, 100),
@@ -24,7 +25,12 @@ fn limits_lowered(rt: HostRuntime) -> Result<(), Fail> {
             Limits::new(1000, 4096, 100, 25, 1000, 100),
             "refused: headers too large at 25\n",
         ),
-        // Of the three at one place the length of the header is told first.
+        // Of three causes at one place the length of the header is told first, then the number of sections.
+        (
+            b"=erl_crash_dump:0.5\n=endendendendendendx",
+            Limits::new(1000, 19, 1, 19, 1000, 100),
+            "refused: header too long at 20\n",
+        ),
         (
             b"=erl_crash_dump:0.5\n=endendendendendend",
             Limits::new(1000, 19, 1, 19, 1000, 100),
@@ -51,24 +57,33 @@ fn long_line(
     Ok(dump)
 }
 
+const CUTS: [usize; 5] = [0, 1, 2, 3, 7];
+
+// Asserts how the report of `index` on a dump ends, where its reads are cut to each of these sizes.
+fn expect_index(
+    rt: &impl Abort,
+    alloc: Global,
+    dump: &[u8],
+    cuts: &[usize],
+    out: &[u8],
+) -> Result<(), AllocError> {
+    for cut in cuts {
+        let cuts = Hindrance {
+            cuts: &[*cut],
+            ..NONE
+        };
+        let end = run_on(alloc, &["index", "F"], dump, &Limits::usual(), cuts)?;
+        assert_eq!(rt; end.status, 0);
+        assert!(rt; end.out.written().ends_with(out));
+    }
+    Ok(())
+}
+
 #[test]
-fn long_lines(rt: HostRuntime) -> Result<(), Fail> {
-    // A header of the most bytes, and one of a byte more.
+fn headers_of_the_most_bytes(rt: HostRuntime) -> Result<(), Fail> {
     let longest = long_line(rt.alloc(), b"=", 4095, b"\n=end\n")?;
-    let end = run_on(
-        rt.alloc(),
-        &["index", "F"],
-        longest.as_slice(),
-        &Limits::usual(),
-        NONE,
-    )?;
-    assert_eq!(rt; end.status, 0);
-    assert!(rt;
-        end.out
-            .written()
-            .ends_with(b"xx\n4117 4122 4122 =end\nwhole\n")
-    );
-    assert_eq!(rt; end.out.written().len(), 28 + 13 + 4096 + 1 + 20 + 6);
+    let out = b"xx\n4117 4122 4122 =end\nwhole\n";
+    expect_index(&rt, rt.alloc(), longest.as_slice(), &CUTS, out)?;
     let longer = long_line(rt.alloc(), b"=", 4096, b"\n=end\n")?;
     let line = "refused: header too long at 20\n";
     expect_refusal(
@@ -79,42 +94,41 @@ fn long_lines(rt: HostRuntime) -> Result<(), Fail> {
         None,
         line,
     )?;
+    Ok(())
+}
 
-    // A line that is no header may be of any length.
-    let plain = long_line(rt.alloc(), b"", 10_000_000, b"\n=end\n")?;
-    let out = "0 20 10000021 =erl_crash_dump:0.5\n10000021 10000026 10000026 =end\nwhole\n";
-    expect(
-        &rt,
-        rt.alloc(),
-        &["index", "F"],
-        plain.as_slice(),
-        0,
-        out,
-        "",
-    )?;
-
-    // A header that begins with the second piece that is read, behind LF and behind CR LF.
-    let out = "0 20 65536 =erl_crash_dump:0.5\n65536 65541 65541 =end\nwhole\n";
+#[test]
+fn a_header_that_begins_with_the_second_piece(rt: HostRuntime) -> Result<(), Fail> {
+    let out = b"0 20 65536 =erl_crash_dump:0.5\n65536 65541 65541 =end\nwhole\n";
     let behind_lf = long_line(rt.alloc(), b"", 65_515, b"\n=end\n")?;
-    expect(
-        &rt,
-        rt.alloc(),
-        &["index", "F"],
-        behind_lf.as_slice(),
-        0,
-        out,
-        "",
-    )?;
+    expect_index(&rt, rt.alloc(), behind_lf.as_slice(), &CUTS, out)?;
     let behind_crlf = long_line(rt.alloc(), b"", 65_514, b"\r\n=end\n")?;
-    expect(
-        &rt,
-        rt.alloc(),
-        &["index", "F"],
-        behind_crlf.as_slice(),
-        0,
-        out,
-        "",
-    )?;
+    expect_index(&rt, rt.alloc(), behind_crlf.as_slice(), &CUTS, out)?;
+    Ok(())
+}
+
+// Asserts the report of `index` where a line that is no header has ten million bytes.
+fn expect_long_line(rt: &impl Abort, alloc: Global, cut: usize) -> Result<(), AllocError> {
+    let dump = long_line(alloc, b"", 10_000_000, b"\n=end\n")?;
+    let out = b"0 20 10000021 =erl_crash_dump:0.5\n10000021 10000026 10000026 =end\nwhole\n";
+    expect_index(rt, alloc, dump.as_slice(), &[cut], out)
+}
+
+#[test]
+fn a_long_line_in_whole_pieces(rt: HostRuntime) -> Result<(), Fail> {
+    Ok(expect_long_line(&rt, rt.alloc(), 0)?)
+}
+
+#[test]
+fn a_long_line_in_bytes(rt: HostRuntime) -> Result<(), Fail> {
+    Ok(expect_long_line(&rt, rt.alloc(), 1)?)
+}
+
+#[test]
+fn a_long_line_in_small_pieces(rt: HostRuntime) -> Result<(), Fail> {
+    for cut in [2, 3, 7] {
+        expect_long_line(&rt, rt.alloc(), cut)?;
+    }
     Ok(())
 }
 
