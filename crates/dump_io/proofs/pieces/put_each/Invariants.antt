@@ -1,7 +1,7 @@
 use Rattle.std.proofs.Common.{take}
 use Rattle.dump_io.specs.Pieces.{pieces_text}
 use Rattle.dump_io.specs.Sinks.{changed, HasPut}
-use Rattle.dump_io.proofs.pieces.put_pieces.Given as goal
+use Rattle.dump_io.proofs.pieces.put_each.Given as goal
 
 -- the pieces so far are written
 abbrev pub invariant-loop-piece : goal.invariant-loop-piece

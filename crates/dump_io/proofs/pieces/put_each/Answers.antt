@@ -1,7 +1,7 @@
 use Rattle.std.proofs.lemmas.Option.{slice_get-get_or}
 use Rattle.dump_io.specs.Pieces.{piece_text}
 use Rattle.dump_io.specs.Laws.Puts.{HasPut-none, HasPut-more, Puts-broken, Puts-all}
-use Rattle.dump_io.proofs.pieces.put_pieces.Goals as goal
+use Rattle.dump_io.proofs.pieces.put_each.Goals as goal
 
 pub loop-piece-init : goal.loop-piece-init
 loop-piece-init g c = HasPut-none
