@@ -12,8 +12,8 @@ use Rattle.std.proofs.Math.Seq.{take-append_seam, drop-append-add}
 use Rattle.std.proofs.Math.Nat.{pow-le-pow_right}
 use Rattle.std.proofs.lemmas.Int.Digits.{digits_value-lt}
 use Rattle.dump_io.specs.Numbers.{hex_number, is_numeral}
-use Rattle.term_forms.specs.Words.{colon, is_hex_digit, IsLed}
-use Rattle.term_forms.specs.Reading.{◌>>=◌, led_of}
+use Rattle.term_forms.specs.Words.{colon, is_hex_digit, IsLed, led_of}
+use Rattle.term_forms.specs.Inner.Chain.{◌>>=◌}
 use Rattle.term_forms.proofs.Steps.{bind_some, bind_from, guard_some, guard_from, guard_option}
 use Rattle.term_forms.proofs.Runs.{run_over, list_all_also}
 

@@ -14,9 +14,11 @@ pub mod Joins
 pub mod LedLines
 pub mod OfElements
 pub mod OfForms
+pub mod Parts
 pub mod PayloadBytes
 pub mod PieceTexts
 pub mod Pieces
+pub mod Placing
 pub mod PlainHex
 pub mod Ranges
 pub mod Runs

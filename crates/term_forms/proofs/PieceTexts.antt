@@ -2,9 +2,9 @@
 use Rattle.std.proofs.Common.{◌≡◌, ℕ, ◌+◌, ◌<◌, List, [], ◌∷◌, ◌++◌, length, drop, get_or, refl, sym, ◌∙◌, ap}
 use Rattle.std.proofs.lemmas.List.{append-nil, at_drop_more}
 use Rattle.term_forms.specs.Words.{comma}
+use Rattle.term_forms.specs.Inner.Pieces.{piece_text, pieces_text}
 use Rattle.term_forms.specs.Elements.{Element, plain_elem}
 use Rattle.term_forms.specs.Joined.{plain_joined}
-use Rattle.term_forms.specs.Pieces.{piece_text, pieces_text}
 use Rattle.term_forms.specs.declared.writing.Piece.{Piece}
 
 pieces_first : (p : Piece) (ps : List Piece) → pieces_text (p ∷ ps) ≡ piece_text p ++ pieces_text ps

@@ -1,8 +1,13 @@
 -- The words that elements and forms are made of.
-use Rattle.std.specs.Prelude.{◌≡◌, ℕ, ◌<◌, ◌==◌, Bool, false, ◌&&◌, ◌||◌, List, [], ◌∷◌, ◌++◌, length, drop, Some, nat_eq, nat_lt, IsTrue, if◌then◌else◌}
-use Rattle.std.specs.List.{list_all, starts_with}
+use Rattle.std.specs.Prelude.{◌≡◌, ℕ, ◌+◌, ◌<◌, ◌==◌, Bool, false, ◌&&◌, ◌||◌, List, [], ◌∷◌, ◌++◌, length, take, drop, Option, None, Some, option_and_then, nat_eq, nat_lt, IsTrue, if◌then◌else◌}
+use Rattle.std.specs.List.{list_all, starts_with, position_or_len}
 use Rattle.std.specs.Char.{digit_value, is_ascii_digit}
 use Rattle.dump_io.specs.Numbers.{hex_number}
+
+-- the byte that a text of one letter has
+abbrev pub letter : List ℕ → ℕ
+letter [] = 0
+letter (c ∷ text) = c
 
 abbrev pub comma : ℕ
 comma = 44
@@ -50,6 +55,13 @@ IsBracketed text =
 -- the text is a hex number n, a colon, and the rest
 abbrev pub IsLed : List ℕ → ℕ → List ℕ → Type 0
 IsLed text n rest = (hex : List ℕ) × (hex_number hex ≡ Some n) × (text ≡ hex ++ colon ∷ rest)
+
+-- the same as a function: the number that leads the text up to its first colon, and what stands behind that colon; the law
+-- `number_is_read` joins the two
+unfoldable pub led_of : List ℕ → Option (ℕ × List ℕ)
+led_of text =
+    let at = position_or_len (λ c. c == colon) text in
+    if nat_lt at (length text) then option_and_then (λ n. Some (n, drop (at + 1) text)) (hex_number (take at text)) else None
 
 -- one or more hex digits
 abbrev pub is_hex_digits : List ℕ → Bool

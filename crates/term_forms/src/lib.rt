@@ -13,21 +13,24 @@ mod enc;
 mod forms;
 mod laws;
 mod payloads;
+mod placed;
 pub mod reading;
 pub mod shapes;
 mod words;
 mod writing;
 
-pub use covering::cover_holds_range;
-pub use elems::Elems;
+pub use covering::{cover_holds_range, payload_part};
+pub use elems::{Elems, whole_elem};
 pub use enc::Enc;
 pub use laws::{
     form_is_read, front_is_longest, front_of_element, number_is_read, plain_spelling_of_elements,
-    plain_spelling_of_forms, unique_reading_of_elements, unique_reading_of_forms,
+    plain_spelling_of_forms, unique_reading_of_elements, unique_reading_of_forms, whole_is_read,
 };
 pub use payloads::{
     encoding_in_pieces, is_payload, payload, payload_bytes_are_read, payload_is_of_one,
 };
+pub use placed::{PlacedElems, placed_form};
+pub use shapes::PlacedElem;
 pub use words::heap_line;
 pub use writing::{put_elem, put_form};
 

@@ -4,9 +4,9 @@ ghost use Rattle.std.specs.Fmt.{digit_glyph};
 ghost use Rattle.term_forms.specs.Appends.{Appends};
 ghost use Rattle.term_forms.specs.Elements.{hex, plain_elem};
 ghost use Rattle.term_forms.specs.Words.{colon};
+ghost use Rattle.term_forms.specs.Inner.Pieces.{piece_text, pieces_text};
 ghost use Rattle.term_forms.specs.Forms.{plain_form};
 ghost use Rattle.term_forms.specs.Joined.{plain_joined};
-ghost use Rattle.term_forms.specs.Pieces.{piece_text, pieces_text};
 ghost use Rattle.term_forms.specs.Seen.{element};
 ghost use Rattle.term_forms.specs.SeenForms.{heap_form};
 

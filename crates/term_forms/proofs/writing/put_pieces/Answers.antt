@@ -1,6 +1,6 @@
 use Rattle.std.proofs.Common.{◌+◌, drop, refl, ap}
 use Rattle.std.proofs.lemmas.List.{drop_all}
-use Rattle.term_forms.specs.Pieces.{piece_text, pieces_text}
+use Rattle.term_forms.specs.Inner.Pieces.{piece_text, pieces_text}
 use Rattle.term_forms.proofs.Appending.{under_start, under_step, under_cut, under_done, cut_exit}
 use Rattle.term_forms.proofs.PieceTexts.{pieces_more}
 use Rattle.term_forms.proofs.writing.put_pieces.Goals as goal

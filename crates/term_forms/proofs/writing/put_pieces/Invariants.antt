@@ -1,5 +1,5 @@
 use Rattle.std.proofs.Common.{drop}
-use Rattle.term_forms.specs.Pieces.{pieces_text}
+use Rattle.term_forms.specs.Inner.Pieces.{pieces_text}
 use Rattle.term_forms.proofs.Appending.{IsUnder}
 use Rattle.term_forms.proofs.writing.put_pieces.Given as goal
 

@@ -6,7 +6,7 @@ use Rattle.term_forms.specs.Payload.{IsPayloadOf, chars_of, group_of}
 use Rattle.std.proofs.lemmas.Bool.Decides.{same_from_decides}
 use Rattle.term_forms.proofs.PayloadBytes.{payload_test-decides}
 use Rattle.term_forms.proofs.Pieces.{too_few, payload_of-front, payload_of-rest, payload_of-whole}
-use Rattle.term_forms.proofs.payloads.is_payload.Goals as goal
+use Rattle.term_forms.proofs.payloads.judge_payload.Goals as goal
 
 -- a piece is of whole groups
 whole : (enc : Enc) → 768 % group_of enc ≡ 0

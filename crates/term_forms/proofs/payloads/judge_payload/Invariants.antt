@@ -1,6 +1,6 @@
 use Rattle.std.proofs.Common.{◌≡◌, ◌-◌, ◌↔◌, length}
 use Rattle.term_forms.specs.Payload.{IsPayloadOf}
-use Rattle.term_forms.proofs.payloads.is_payload.Given as goal
+use Rattle.term_forms.proofs.payloads.judge_payload.Given as goal
 
 abbrev pub invariant-loop-left : goal.invariant-loop-left
 invariant-loop-left l =
