@@ -3,12 +3,13 @@ use Rattle.std.proofs.Common.{◌≡◌, ℕ, List, [], ◌∷◌, ◌++◌, len
 use Rattle.std.specs.Prelude.{IfSome, IfNone}
 use Rattle.std.specs.Option.{option_map}
 use Rattle.std.proofs.lemmas.Option.{same_Some}
+use Rattle.dump_io.specs.Numbers.{hexadecimal as hex}
 use Rattle.term_forms.specs.declared.enc.Enc.{Enc}
 use Rattle.term_forms.specs.declared.shapes.Elem.{Elem}
 use Rattle.term_forms.specs.declared.shapes.Form.{Form}
 use Rattle.term_forms.specs.Words.{colon, IsLed}
 use Rattle.term_forms.specs.ReadingForms.{form_of}
-use Rattle.term_forms.specs.Elements.{Element, IsElem, plain_elem, hex}
+use Rattle.term_forms.specs.Elements.{Element, IsElem, plain_elem}
 use Rattle.term_forms.specs.Joined.{IsJoined, plain_joined}
 use Rattle.term_forms.specs.Forms.{HeapForm, Cons, Tuple, Float, Long, Pid, Port, Ext, HeapBin, RefBin, SubBin, Flat, Hash, Node, IsForm, IsRange, plain_form}
 use Rattle.term_forms.specs.Reading.{whole_of}

@@ -1,7 +1,6 @@
 -- Elements of a dump's text: what a stack, a dictionary, a mailbox and a heap's forms hold.
-use Rattle.std.specs.Prelude.{◌≡◌, ◌⊎◌, ℕ, ◌≤◌, true, List, [], ◌∷◌, ◌++◌, length, take, Some, IsTrue, codes}
-use Rattle.std.specs.Fmt.{digits}
-use Rattle.dump_io.specs.Numbers.{hex_number}
+use Rattle.std.specs.Prelude.{◌≡◌, ◌⊎◌, ℕ, ◌≤◌, List, [], ◌∷◌, ◌++◌, length, take, Some, IsTrue, codes}
+use Rattle.dump_io.specs.Numbers.{hex_number, hexadecimal}
 use Rattle.term_forms.specs.Words.{comma, colon, bar, is_integer, IsBracketed, IsLed}
 
 -- an element without where it lies in memory
@@ -38,18 +37,14 @@ pub record IsFront (text : List ℕ) (e : Element) (n : ℕ) : Type 0 where
   pub spells : IsElem (take n text) e
   pub longest : (m : ℕ) (other : Element) → m ≤ length text → IsElem (take m text) other → m ≤ n
 
--- a number in upper-case hex, without leading zeros
-abbrev pub hex : ℕ → List ℕ
-hex n = digits 16 true n
-
 -- the plain spelling: numbers without leading zeros, ports as `p<..>`, and all that is kept as it is
 abbrev pub plain_elem : Element → List ℕ
 plain_elem Nil = codes "N"
 plain_elem (Small integer) = codes "I" ++ integer
-plain_elem (Atom bytes) = codes "A" ++ (hex (length bytes) ++ colon ∷ bytes)
+plain_elem (Atom bytes) = codes "A" ++ (hexadecimal (length bytes) ++ colon ∷ bytes)
 plain_elem (Pid pid) = codes "P" ++ pid
 plain_elem (Port port) = codes "p" ++ port
-plain_elem (Ref address) = codes "H" ++ hex address
+plain_elem (Ref address) = codes "H" ++ hexadecimal address
 
 -- the text is empty, or begins with one of the bytes that may stand behind an element
 abbrev pub EndsElement : List ℕ → Type 0

@@ -1,9 +1,9 @@
 -- The forms of a heap's cells.
 use Rattle.std.specs.Prelude.{◌≡◌, ◌⊎◌, ℕ, List, ◌∷◌, ◌++◌, length, Some, IsTrue, codes}
-use Rattle.dump_io.specs.Numbers.{hex_number}
+use Rattle.dump_io.specs.Numbers.{hex_number, hexadecimal}
 use Rattle.term_forms.specs.declared.enc.Enc.{Enc}
 use Rattle.term_forms.specs.Words.{colon, bar, is_long, IsBracketed, IsLed}
-use Rattle.term_forms.specs.Elements.{Element, IsElem, plain_elem, hex}
+use Rattle.term_forms.specs.Elements.{Element, IsElem, plain_elem}
 use Rattle.term_forms.specs.Joined.{IsJoined, plain_joined}
 use Rattle.term_forms.specs.Payload.{IsPayloadOf}
 
@@ -68,15 +68,15 @@ IsForm enc text (Node children) =
 -- the plain spelling: numbers without leading zeros, ports as `p<..>`, and all that is kept as it is
 abbrev pub plain_form : HeapForm → List ℕ
 plain_form (Cons head tail) = codes "l" ++ (plain_elem head ++ bar ∷ plain_elem tail)
-plain_form (Tuple elements) = codes "t" ++ (hex (length elements) ++ colon ∷ plain_joined elements)
-plain_form (Float bytes) = codes "F" ++ (hex (length bytes) ++ colon ∷ bytes)
+plain_form (Tuple elements) = codes "t" ++ (hexadecimal (length elements) ++ colon ∷ plain_joined elements)
+plain_form (Float bytes) = codes "F" ++ (hexadecimal (length bytes) ++ colon ∷ bytes)
 plain_form (Long number) = codes "B" ++ number
 plain_form (Pid pid) = codes "P" ++ pid
 plain_form (Port port) = codes "p" ++ port
-plain_form (Ext size chars) = codes "E" ++ (hex size ++ colon ∷ chars)
-plain_form (HeapBin size chars) = codes "Yh" ++ (hex size ++ colon ∷ chars)
-plain_form (RefBin address offset size) = codes "Yc" ++ (hex address ++ colon ∷ (hex offset ++ colon ∷ hex size))
-plain_form (SubBin address offset size) = codes "Ys" ++ (hex address ++ colon ∷ (hex offset ++ colon ∷ hex size))
-plain_form (Flat keys values) = codes "Mf" ++ (hex (length values) ++ colon ∷ (plain_elem keys ++ colon ∷ plain_joined values))
-plain_form (Hash size children) = codes "Mh" ++ (hex size ++ colon ∷ (hex (length children) ++ colon ∷ plain_joined children))
-plain_form (Node children) = codes "Mn" ++ (hex (length children) ++ colon ∷ plain_joined children)
+plain_form (Ext size chars) = codes "E" ++ (hexadecimal size ++ colon ∷ chars)
+plain_form (HeapBin size chars) = codes "Yh" ++ (hexadecimal size ++ colon ∷ chars)
+plain_form (RefBin address offset size) = codes "Yc" ++ (hexadecimal address ++ colon ∷ (hexadecimal offset ++ colon ∷ hexadecimal size))
+plain_form (SubBin address offset size) = codes "Ys" ++ (hexadecimal address ++ colon ∷ (hexadecimal offset ++ colon ∷ hexadecimal size))
+plain_form (Flat keys values) = codes "Mf" ++ (hexadecimal (length values) ++ colon ∷ (plain_elem keys ++ colon ∷ plain_joined values))
+plain_form (Hash size children) = codes "Mh" ++ (hexadecimal size ++ colon ∷ (hexadecimal (length children) ++ colon ∷ plain_joined children))
+plain_form (Node children) = codes "Mn" ++ (hexadecimal (length children) ++ colon ∷ plain_joined children)

@@ -5,5 +5,4 @@ pub mod FormParts
 pub mod Fronts
 pub mod Joins
 pub mod PayloadTest
-pub mod Pieces
 pub mod Placing

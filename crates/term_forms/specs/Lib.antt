@@ -1,4 +1,3 @@
-pub mod Appends
 pub mod Cover
 pub mod Elements
 pub mod Forms

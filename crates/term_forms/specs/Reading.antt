@@ -1,6 +1,7 @@
 -- The element that a text gives, as functions with which the definitions of the crates above compute. They say no more
--- than `Elements` does: the laws `front_is_longest` and `whole_is_read` join the two.
+-- than `Elements` does: the laws `front_is_longest` and `whole_is_read` join the two. `led_of` stands in `Words`.
 use Rattle.std.specs.Prelude.{ℕ, ◌==◌, List, [], ◌∷◌, length, codes, Option, None, Some, option_and_then, if◌then◌else◌}
+pub use Rattle.term_forms.specs.Words.{led_of}
 use Rattle.term_forms.specs.Words.{letter}
 use Rattle.term_forms.specs.Elements.{Element, Nil}
 use Rattle.term_forms.specs.Inner.Fronts.{small_front, atom_front, pid_front, port_front, ref_front}

@@ -1,8 +1,20 @@
 //! The elements and the heap forms of a crash dump's text, read and written, and the payloads of binaries, in both
 //! encodings.
 //!
+//! ```
+//! let (address, text) = heap_line(b"7F10:t2:A2:ok,H20")?; // 0x7F10, and the text of a form
+//! let (form, elements) = placed_form(text, Enc::Base64)?; // a tuple
+//! for found in elements {
+//!     // The atom `ok` at 3, and a reference to 0x20 at 8: what `elem(&text[found.at..])` reads again.
+//! }
+//! let mut first = [0; 3];
+//! if let Form::HeapBin(size, chars) = form(b"Yh5:aGVsbG8=", Enc::Base64)? {
+//!     payload_part(chars, Enc::Base64, size, 1, &mut first); // `ell`
+//! }
+//! ```
+//!
 //! The types `Elem`, `Form` and `Cover` stand in [`shapes`], and the functions `elem`, `form` and `cover`, which have
-//! their names, in [`reading`].
+//! their names, in [`reading`]. What the grammar is stands in `specs/Elements.antt` and `specs/Forms.antt`.
 #![tactic(auto)]
 
 mod covering;

@@ -1,19 +1,13 @@
 // The words that elements and forms are made of.
 ghost use Rattle.std.specs.Prelude.{◌≡◌, ℕ, ◌==◌, ◌<◌, ◌≤◌, List, length, take, IfSome, IfNone};
-ghost use Rattle.std.specs.List.{prefix_len, position, list_all};
+ghost use Rattle.std.specs.List.{prefix_len, list_all};
 ghost use Rattle.std.specs.Option.{option_map};
 ghost use Rattle.std.specs.Char.{is_ascii_digit};
-ghost use Rattle.term_forms.specs.Words.{colon, is_hex_digit, is_dotted, is_digits, is_hex_digits, is_based, is_long, IsLed, led_of};
+ghost use Rattle.term_forms.specs.Words.{is_hex_digit, is_dotted, is_digits, is_hex_digits, is_based, is_long, IsLed, led_of};
 ghost use Rattle.term_forms.specs.Inner.Fronts.{digits_len, integer_len, bracketed_len};
 ghost use Rattle.term_forms.specs.Seen.{number_rest};
 
-use dump_io::hex_u64;
-
-fn first_colon(text: &[u8]) -> Option<usize>
-    ensures { result ≡ position (λ c. c == colon) text.now }
-{
-    text.iter().position(|c| *c == b':')
-}
+use dump_io::{hex_u64, split_at_colon};
 
 // A hex number of 1 to 16 digits before the first colon, as an arity, a length or an address, and what stands behind
 // that colon.
@@ -22,9 +16,9 @@ pub(crate) fn split_number(text: &[u8]) -> Option<(u64, &[u8])>
     ensures exact { option_map number_rest result ≡ led_of text.now }
     ensures shorter { IfSome result (λ found. length found.1.now < length text.now) }
 {
-    let at = first_colon(text)?;
-    let number = hex_u64(&text[..at])?;
-    Some((number, &text[at + 1..]))
+    let (before, rest) = split_at_colon(text)?;
+    let number = hex_u64(before)?;
+    Some((number, rest))
 }
 
 /// The address of a heap line and its form's text: a hex number of 1 to 16 digits, and what stands behind

@@ -3,7 +3,7 @@ use Rattle.term_forms.specs.Forms.{IsForm, Cons, Tuple, Flat, Hash, Node}
 use Rattle.term_forms.specs.Places.{elements_of}
 use Rattle.term_forms.specs.Seen.{element}
 use Rattle.term_forms.specs.SeenForms.{heap_form}
-use Rattle.term_forms.specs.Inner.Placing.{placed_list, past_number}
+use Rattle.term_forms.specs.Inner.Placing.{past_number}
 use Rattle.term_forms.proofs.Placing.{elements_in, list_placed, tuple_placed, flat_placed, hash_placed, node_placed, placed_same, placed_none, no_elements}
 use Rattle.term_forms.proofs.placed.placed_elements.Goals as goal
 

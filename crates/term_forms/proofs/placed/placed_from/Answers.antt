@@ -1,4 +1,4 @@
-use Rattle.std.proofs.Common.{All, length, drop, ap, sym, subst}
+use Rattle.std.proofs.Common.{All, length, sym, subst}
 use Rattle.term_forms.specs.Places.{StandsAt}
 use Rattle.term_forms.specs.Inner.Placing.{placed_list}
 use Rattle.term_forms.proofs.Placing.{all_stand}
