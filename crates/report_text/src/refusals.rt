@@ -1,13 +1,11 @@
 // The lines that say why a dump is refused.
 ghost use Rattle.std.specs.Prelude.{[], ◌∷◌, codes, decimal};
 ghost use Rattle.std.specs.List.{concat};
-ghost use Rattle.dump_io.specs.Counts.{HasCause};
-ghost use Rattle.dump_io.specs.Sinks.{WritesAll};
+ghost use Rattle.dump_io.specs.Sinks.{changed, Puts};
 ghost use Rattle.report_text.specs.Reports.{newline};
 ghost use Rattle.report_text.specs.Refusals.{IsRefusal, IsRefusing, refusal_line};
 
-use crate::pieces::{Piece, put_pieces};
-use dump_io::{Failed, Sink, write_all};
+use dump_io::{Failed, Piece, Sink, put_pieces, write_all};
 use section_index::OpenFault;
 
 /// Why a command is refused.
@@ -22,8 +20,7 @@ pub enum Refusal {
 
 // Writes a line whose cause is a text and a number.
 fn put_numbered<K: Sink>(sink: &mut K, cause: &[u8], n: u64) -> Result<(), Failed>
-    ensures writes { WritesAll (K.written sink.old) (K.written sink.new) (concat (codes "refused: " ∷ cause.now ∷ decimal n ∷ newline ∷ [])) result }
-    ensures cause { HasCause (K.faults sink.old) (K.faults sink.new) result }
+    ensures { Puts (changed K.written K.faults sink.old sink.new) (concat (codes "refused: " ∷ cause.now ∷ decimal n ∷ newline ∷ [])) result }
 {
     put_pieces(
         sink,
@@ -38,8 +35,7 @@ fn put_numbered<K: Sink>(sink: &mut K, cause: &[u8], n: u64) -> Result<(), Faile
 
 fn put_open_fault<K: Sink>(sink: &mut K, fault: &OpenFault) -> Result<(), Failed>
     requires { IsRefusing fault.now }
-    ensures writes { WritesAll (K.written sink.old) (K.written sink.new) (refusal_line (Refusal.Open fault.now)) result }
-    ensures cause { HasCause (K.faults sink.old) (K.faults sink.new) result }
+    ensures { Puts (changed K.written K.faults sink.old sink.new) (refusal_line (Refusal.Open fault.now)) result }
 {
     match fault {
         OpenFault::Compressed => write_all(sink, b"refused: compressed\n"),
@@ -61,8 +57,7 @@ fn put_open_fault<K: Sink>(sink: &mut K, fault: &OpenFault) -> Result<(), Failed
 }
 
 fn put_too_large<K: Sink>(sink: &mut K, at: u64, len: u64) -> Result<(), Failed>
-    ensures writes { WritesAll (K.written sink.old) (K.written sink.new) (refusal_line (Refusal.SectionTooLarge at len)) result }
-    ensures cause { HasCause (K.faults sink.old) (K.faults sink.new) result }
+    ensures { Puts (changed K.written K.faults sink.old sink.new) (refusal_line (Refusal.SectionTooLarge at len)) result }
 {
     put_pieces(
         sink,
@@ -79,8 +74,7 @@ fn put_too_large<K: Sink>(sink: &mut K, at: u64, len: u64) -> Result<(), Failed>
 /// Writes the line `refused: ` with the cause. An `Open` fault is none of `Read` and `Memory`.
 pub fn put_refusal<K: Sink>(sink: &mut K, refusal: &Refusal) -> Result<(), Failed>
     requires { IsRefusal refusal.now }
-    ensures writes { WritesAll (K.written sink.old) (K.written sink.new) (refusal_line refusal.now) result }
-    ensures cause { HasCause (K.faults sink.old) (K.faults sink.new) result }
+    ensures { Puts (changed K.written K.faults sink.old sink.new) (refusal_line refusal.now) result }
 {
     match refusal {
         Refusal::Open(fault) => put_open_fault(sink, fault),
