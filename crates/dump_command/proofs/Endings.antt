@@ -3,23 +3,25 @@ use Rattle.std.proofs.Common.{◌≡◌, ◌≢◌, ◌⊎◌, ℕ, Bool, true, 
 use Rattle.std.specs.Prelude.{IfErr, IsSomeAnd}
 use Rattle.std.proofs.lemmas.Bool.{false≢true}
 use Rattle.std.proofs.lemmas.Bool.Decides.{eqb_tells}
-use Rattle.dump_io.specs.Dumps.{Files, Now, IsAbsent}
+use Rattle.dump_io.specs.Dumps.{Files, closed, IsAbsent, Use, DeviceFailed}
 use Rattle.dump_io.specs.Limits.{Numbers}
 use Rattle.report_text.specs.declared.refusals.Refusal.{Refusal}
 use Rattle.report_text.specs.Refusals.{refusal_line}
-use Rattle.dump_command.specs.Io.{Use, DeviceFailed, Change, SinkFailed, IsKept, Gained, GainedFront}
+use Rattle.section_index.specs.Index.{IsHeld}
+use Rattle.dump_io.specs.Sinks.{Change, SinkFailed, IsKept, Gained, GainedFront}
 use Rattle.dump_command.specs.Command.{Command, file_of}
 use Rattle.dump_command.specs.Report.{report, report_status, refusal}
-use Rattle.dump_command.specs.Run.{IsDumpOf, IsRunOf, IsUnwritten, IsReported, Holds, IsInputOf, IsUnread, IsUnreadFrom, IsMissing, IsMissingFrom, EndsTold, TakesAtMost, IsUnfinished, is_one_of}
+use Rattle.dump_command.specs.Run.{IsDumpOf, IsRunOf, IsUnwritten, IsReported, IsInputOf, IsUnread, IsUnreadFrom, IsMissing, IsMissingFrom, EndsTold, TakesAtMost, IsUnfinished, is_one_of}
 use Rattle.dump_command.specs.Inner.Loads.{IsRefused, IsDone, IsCutOff, Runs}
 use Rattle.dump_command.specs.Inner.Stops.{EndsAs, IsProper}
 use Rattle.dump_command.specs.declared.status.TheConstants.{DONE, REFUSED, FOUND, UNREAD, UNWRITTEN, NO_MEMORY}
 use Rattle.dump_command.specs.declared.stop.Stop.{Stop}
 use Rattle.dump_command.specs.declared.stop.Stop.TheVariants.{Refused, NotRead, NotWritten, NoMemory}
 
-absent-holds : (told_files : Option Files) (now : Now) (name bytes : List ℕ) → Holds told_files now name bytes → IsAbsent told_files name → ⊥
-absent-holds None now name bytes is gone = gone
-absent-holds (Some files) now name bytes is gone = let no : ⊥ = cc (sym gone ∙ is) in no
+-- the bytes of a file that is there
+held-there : (told_files : Option Files) (name bytes : List ℕ) → IsHeld told_files name bytes → IsAbsent told_files name → ⊥
+held-there None name bytes is gone = gone
+held-there (Some files) name bytes is gone = let no : ⊥ = cc (sym gone ∙ is) in no
 
 -- a number is one of a list: it is the first, or one of the others
 among : (m : ℕ) (ms : List ℕ) (n : ℕ) → is_one_of (m ∷ ms) n ≡ true → (n ≡ m) ⊎ (is_one_of ms n ≡ true)
@@ -112,8 +114,8 @@ refused-is cmd limits status device out err why refused kept taken (inr cut) =
 
 -- the device failed, or has no such file
 unread-is : (cmd : Command) (limits : Numbers) (device : Use) (out err : Change) → IsUnread device cmd → IsUnfinished cmd limits device out → IsKept err
-    → TakesAtMost cmd device → IsRunOf cmd limits UNREAD device out err
-unread-is cmd limits device out err cause left kept taken =
+    → (IsMissing device cmd → device.now_after ≡ closed) → TakesAtMost cmd device → IsRunOf cmd limits UNREAD device out err
+unread-is cmd limits device out err cause left kept shut taken =
     record {
       known = refl;
       done = λ e. absurd (let no : ⊥ = cc (e) in no);
@@ -125,7 +127,7 @@ unread-is cmd limits device out err cause left kept taken =
       out_kept = λ e. absurd (omega (arith, e));
       unfinished = λ _. left;
       err_kept = λ _. kept;
-      missing = λ _. refl;
+      missing = λ gone. (refl, shut gone);
       taken = taken;
     }
 
@@ -152,8 +154,8 @@ unwritten-is cmd limits device out err cut kept taken =
 
 -- there was no memory
 no_memory-is : (cmd : Command) (limits : Numbers) (device : Use) (out err : Change) → IsUnfinished cmd limits device out → IsKept err
-    → TakesAtMost cmd device → IsRunOf cmd limits NO_MEMORY device out err
-no_memory-is cmd limits device out err left kept taken =
+    → (IsMissing device cmd → device.now_after ≡ closed) → TakesAtMost cmd device → IsRunOf cmd limits NO_MEMORY device out err
+no_memory-is cmd limits device out err left kept shut taken =
     record {
       known = refl;
       done = λ e. absurd (let no : ⊥ = cc (e) in no);
@@ -165,7 +167,7 @@ no_memory-is cmd limits device out err left kept taken =
       out_kept = λ e. absurd (omega (arith, e));
       unfinished = λ _. left;
       err_kept = λ _. kept;
-      missing = λ _. refl;
+      missing = λ gone. (refl, shut gone);
       taken = taken;
     }
 
@@ -177,17 +179,19 @@ IsRunOf-ended cmd limits status device out err (Ok n) runs ends =
 IsRunOf-ended cmd limits status device out err (Err (Refused why)) runs ends =
     refused-is cmd limits status device out err why runs.left.0 runs.left.1 runs.taken ends
 IsRunOf-ended cmd limits status device out err (Err NotRead) runs ends =
-    subst (λ m. IsRunOf cmd limits m device out err) (sym ends.0) (unread-is cmd limits device out err runs.left.0 runs.left.1 ends.1 runs.taken)
+    subst (λ m. IsRunOf cmd limits m device out err) (sym ends.0) (unread-is cmd limits device out err runs.left.0 runs.left.1 ends.1 runs.gone runs.taken)
 IsRunOf-ended cmd limits status device out err (Err NotWritten) runs ends =
     subst (λ m. IsRunOf cmd limits m device out err) (sym ends.0) (unwritten-is cmd limits device out err runs.left ends.1 runs.taken)
 IsRunOf-ended cmd limits status device out err (Err NoMemory) runs ends =
-    subst (λ m. IsRunOf cmd limits m device out err) (sym ends.0) (no_memory-is cmd limits device out err runs.left ends.1 runs.taken)
+    subst (λ m. IsRunOf cmd limits m device out err) (sym ends.0) (no_memory-is cmd limits device out err runs.left ends.1 runs.gone runs.taken)
 
 -- a dump whose bytes are told was read where the device didn't fail
-there : (device : Use) (name : Option (List ℕ)) (bytes : List ℕ) → IsInputOf device name bytes → (DeviceFailed device → ⊥) → IsUnreadFrom device name → ⊥
-there device None bytes input well unread = unread
-there device (Some name) bytes is well (inl failed) = well failed
-there device (Some name) bytes is well (inr gone) = absent-holds device.files_before device.now_after name bytes is gone
+there : (device : Use) (name : Option (List ℕ)) (bytes : List ℕ) → IsInputOf device name bytes → (IsMissingFrom device name → device.now_after ≡ closed)
+    → (DeviceFailed device → ⊥) → IsUnreadFrom device name → ⊥
+there device None bytes input shut well unread = unread
+there device (Some name) bytes input shut well (inl failed) = well failed
+there device (Some name) bytes (inl held) shut well (inr gone) = held-there device.files_before name bytes held gone
+there device (Some name) bytes (inr opened) shut well (inr gone) = let no : ⊥ = cc (sym (shut gone) ∙ opened) in no
 
 -- where nothing is refused and nothing failed the whole report was written, or memory was wanting
 pub IsRunOf-complete : (cmd : Command) (limits : Numbers) (status : ℕ) (device : Use) (out err : Change) → IsRunOf cmd limits status device out err
@@ -202,7 +206,7 @@ IsRunOf-complete cmd limits status device out err run bytes dump accepted device
         | inr rest ↦ elim (among FOUND (UNREAD ∷ UNWRITTEN ∷ NO_MEMORY ∷ []) status rest) [
           | inl three ↦ inl (run.done (rw three refl) bytes dump).ends
           | inr rest ↦ elim (among UNREAD (UNWRITTEN ∷ NO_MEMORY ∷ []) status rest) [
-            | inl four ↦ absurd (there device (file_of cmd) bytes dump device_well (run.unread four))
+            | inl four ↦ absurd (there device (file_of cmd) bytes dump (λ gone. (run.missing gone).1) device_well (run.unread four))
             | inr rest ↦ elim (among UNWRITTEN (NO_MEMORY ∷ []) status rest) [
               | inl five ↦ absurd (elim (run.unwritten five) [ inl rose ↦ out_well rose | inr rose ↦ err_well rose ])
               | inr rest ↦ elim (among NO_MEMORY [] status rest) [ inl six ↦ inr six | inr none ↦ absurd (false≢true none) ]

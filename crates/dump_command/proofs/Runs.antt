@@ -1,7 +1,8 @@
 -- What a command leaves, by what it loaded and wrote.
 use Rattle.std.proofs.Common.{◌≡◌, ℕ, List, Result, Ok, Err, MatchResult, ◌∙◌, ap, subst, inl, inr}
 use Rattle.dump_io.specs.Limits.{Numbers}
-use Rattle.dump_command.specs.Io.{Use, Change, IsKept, GainsFront, Puts}
+use Rattle.dump_io.specs.Dumps.{Use}
+use Rattle.dump_io.specs.Sinks.{Change, IsKept, GainsFront, Puts}
 use Rattle.dump_io.specs.Sinks.{grown}
 use Rattle.dump_command.specs.Command.{Command}
 use Rattle.dump_command.specs.Run.{EndsTold}
@@ -14,10 +15,10 @@ use Rattle.dump_command.specs.declared.stop.Stop.TheVariants.{Refused, NotRead, 
 -- a command that stopped before its first write
 pub Runs-stopped : (cmd : Command) (limits : Numbers) (device : Use) (out : Change) (stop : Stop) → IsStopped cmd limits device stop → IsKept out
     → Runs cmd limits device out (Err stop)
-Runs-stopped cmd limits device out (Refused why) stopped kept = record { left = (stopped.cause, kept); taken = stopped.taken }
-Runs-stopped cmd limits device out NotRead stopped kept = record { left = (stopped.cause, kept); taken = stopped.taken }
+Runs-stopped cmd limits device out (Refused why) stopped kept = record { left = (stopped.cause, kept); gone = stopped.gone; taken = stopped.taken }
+Runs-stopped cmd limits device out NotRead stopped kept = record { left = (stopped.cause, kept); gone = stopped.gone; taken = stopped.taken }
 Runs-stopped cmd limits device out NotWritten stopped kept = absurd stopped.cause
-Runs-stopped cmd limits device out NoMemory stopped kept = record { left = kept; taken = stopped.taken }
+Runs-stopped cmd limits device out NoMemory stopped kept = record { left = kept; gone = stopped.gone; taken = stopped.taken }
 
 -- a command that wrote its report, or a front of it
 pub Runs-put : {E : Type 0} (cmd : Command) (limits : Numbers) (device : Use) (out : Change) (text : List ℕ) (status : ℕ) (written : Result (Unit {0}) E)
@@ -32,6 +33,7 @@ Runs-put cmd limits device out text status (Ok value) ready puts =
             let right = ready.told bytes dump in
             record { accepted = right.0; ends = right.2; written = puts.writes.whole ∙ ap (grown out.before) right.1 };
       };
+      gone = λ gone. absurd (ready.there gone);
       taken = ready.taken;
     }
 Runs-put cmd limits device out text status (Err fault) ready puts =
@@ -41,14 +43,14 @@ Runs-put cmd limits device out text status (Err fault) ready puts =
         failed = puts.failed;
         told = λ bytes dump. let right = ready.told bytes dump in (right.0, subst (GainsFront out.before out.after) right.1 puts.writes.front);
       };
+      gone = λ gone. absurd (ready.there gone);
       taken = ready.taken;
     }
 
 -- memory was wanting behind the load
 pub Runs-no_memory : (cmd : Command) (limits : Numbers) (device : Use) (out : Change) (text : List ℕ) (status : ℕ) → IsReady cmd limits device text status → IsKept out
     → Runs cmd limits device out (Err NoMemory)
-Runs-no_memory cmd limits device out text status ready kept = record { left = kept; taken = ready.taken }
-
+Runs-no_memory cmd limits device out text status ready kept = record { left = kept; gone = λ gone. absurd (ready.there gone); taken = ready.taken }
 
 -- the line that a run tells was written, or a front of it
 pub EndsTold-put : {E : Type 0} (status result : ℕ) (line : List ℕ) (err : Change) (written : Result (Unit {0}) E)

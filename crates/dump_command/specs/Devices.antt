@@ -2,6 +2,7 @@
 use Rattle.std.specs.Prelude.{ℕ, Bool, ◌^◌, ◌<◌, ◌-◌, min, Option, None, Some}
 use Rattle.std.proofs.Common.{lit<, arith}
 use Rattle.std.specs.declared.io.traits.Write.{Ghosts}
+use Rattle.dump_io.specs.Count.{number_in}
 use Rattle.dump_io.specs.Dumps.{Now, closed, sized, size_of}
 use Rattle.dump_command.specs.declared.file_dumps.OpenDump.{OpenDump}
 use Rattle.dump_command.specs.declared.file_dumps.FileDumps.{FileDumps}
@@ -20,14 +21,14 @@ abbrev pub now_of : FileDumps → Now
 now_of dumps = now_in dumps.«open»
 
 abbrev pub faults_of : FileDumps → ℕ
-faults_of dumps = dumps.faults
+faults_of dumps = number_in dumps.faults
 
 abbrev pub taken_of : FileDumps → ℕ
-taken_of dumps = min dumps.taken (2 ^ 64 - 1)
+taken_of dumps = number_in dumps.taken
 
 -- how often a stream failed
 abbrev pub count_of : {W : Type 0} {w : Ghosts W} → StdSink W w → ℕ
-count_of sink = sink.faults
+count_of sink = number_in sink.faults
 
 -- whether a stream failed, after which it gets nothing more
 abbrev pub is_broken_in : {W : Type 0} {w : Ghosts W} → StdSink W w → Bool

@@ -1,6 +1,5 @@
 pub mod Command
 pub mod Devices
 pub mod Inner
-pub mod Io
 pub mod Report
 pub mod Run

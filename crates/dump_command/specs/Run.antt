@@ -2,9 +2,10 @@
 use Rattle.std.specs.Prelude.{◌≡◌, ◌⊎◌, ℕ, ◌≤◌, List, [], ◌∷◌, Option, None, Some, IsSomeAnd, IsTrue, Bool, ◌==◌, codes}
 use Rattle.std.specs.List.{list_any}
 use Rattle.dump_io.specs.Counts.{plus_capped}
-use Rattle.dump_io.specs.Dumps.{Files, Now, told, IsAbsent}
+use Rattle.dump_io.specs.Dumps.{closed, IsAbsent, Use, DeviceFailed}
 use Rattle.dump_io.specs.Limits.{Numbers}
-use Rattle.dump_command.specs.Io.{Use, DeviceFailed, Change, SinkFailed, IsKept, Gained, GainedFront}
+use Rattle.dump_io.specs.Sinks.{Change, SinkFailed, IsKept, Gained, GainedFront}
+use Rattle.section_index.specs.Index.{IsFileOf}
 use Rattle.report_text.specs.declared.refusals.Refusal.{Refusal}
 use Rattle.report_text.specs.Refusals.{refusal_line}
 use Rattle.dump_command.specs.Command.{Command, file_of}
@@ -13,15 +14,6 @@ use Rattle.dump_command.specs.declared.status.TheConstants.{DONE, USAGE, REFUSED
 
 abbrev pub is_one_of : List ℕ → ℕ → Bool
 is_one_of statuses status = list_any (λ s. s == status) statuses
-
--- these are the bytes of the file of this name: where the device tells its files, that file's, and else those of
--- what is open after the run
-abbrev pub Holds : Option Files → Now → List ℕ → List ℕ → Type 0
-Holds None now name bytes = now ≡ told bytes
-Holds (Some files) now name bytes = files name ≡ Some bytes
-
-abbrev pub IsFileOf : Use → List ℕ → List ℕ → Type 0
-IsFileOf device name bytes = Holds device.files_before device.now_after name bytes
 
 -- these are the bytes of which a command reports: those of its file, and none where it has no file
 abbrev pub IsInputOf : Use → Option (List ℕ) → List ℕ → Type 0
@@ -86,8 +78,8 @@ pub record IsRunOf (cmd : Command) (limits : Numbers) (status : ℕ) (device : U
   pub out_kept : status ≡ REFUSED → IsKept out
   pub unfinished : IsTrue (is_one_of (UNREAD ∷ NO_MEMORY ∷ []) status) → IsUnfinished cmd limits device out
   pub err_kept : IsTrue (is_one_of (DONE ∷ FOUND ∷ UNREAD ∷ NO_MEMORY ∷ []) status) → IsKept err
-  -- without such a file there is no report and no refusal
-  pub missing : IsMissing device cmd → IsTrue (is_one_of (UNREAD ∷ NO_MEMORY ∷ []) status)
+  -- without such a file none is open in the end, and there is no report and no refusal
+  pub missing : IsMissing device cmd → IsTrue (is_one_of (UNREAD ∷ NO_MEMORY ∷ []) status) × (device.now_after ≡ closed)
   -- whatever the status, no more bytes are taken than the command is allowed
   pub taken : TakesAtMost cmd device
 

@@ -1,5 +1,6 @@
 // Each command: what it loads, and what it writes.
-ghost use Rattle.dump_command.specs.Io.{used, changed};
+ghost use Rattle.dump_io.specs.Dumps.{used};
+ghost use Rattle.dump_io.specs.Sinks.{changed};
 ghost use Rattle.dump_command.specs.Command.{shown};
 ghost use Rattle.dump_command.specs.Inner.Loads.{Runs};
 

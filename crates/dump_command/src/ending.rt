@@ -1,6 +1,6 @@
 // How the run of a command ends.
 ghost use Rattle.std.specs.Prelude.{◌≡◌, MatchResult, IfErr};
-ghost use Rattle.dump_command.specs.Io.{changed};
+ghost use Rattle.dump_io.specs.Sinks.{changed};
 ghost use Rattle.dump_command.specs.Run.{EndsTold, usage_line};
 ghost use Rattle.dump_command.specs.Inner.Stops.{EndsAs, IsProper, done_of};
 

@@ -1,6 +1,6 @@
 // A dump is opened for a command.
 ghost use Rattle.std.specs.Prelude.{MatchResult};
-ghost use Rattle.dump_command.specs.Io.{used};
+ghost use Rattle.dump_io.specs.Dumps.{used};
 ghost use Rattle.dump_command.specs.Inner.Opened.{HasOpened, IsUnopened};
 
 use crate::stop::Stop;

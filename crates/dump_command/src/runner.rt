@@ -2,7 +2,8 @@
 ghost use Rattle.std.specs.Prelude.{◌≡◌, ◌⊎◌, ℕ, List, map, None, Some};
 ghost use Rattle.std.specs.Option.{option_and_then};
 ghost use Rattle.std.specs.String.{string_bytes};
-ghost use Rattle.dump_command.specs.Io.{used, changed, DeviceFailed, SinkFailed};
+ghost use Rattle.dump_io.specs.Dumps.{used, DeviceFailed};
+ghost use Rattle.dump_io.specs.Sinks.{changed, SinkFailed};
 ghost use Rattle.dump_command.specs.Command.{Command, command, file_of};
 ghost use Rattle.dump_command.specs.Report.{refusal, report_status};
 ghost use Rattle.dump_command.specs.Run.{IsDumpOf, IsRunOf, IsUsage};

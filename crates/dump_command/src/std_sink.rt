@@ -1,9 +1,9 @@
 // The streams of the machine.
-ghost use Rattle.std.specs.Prelude.{◌≡◌, ◌≤◌, ◌<◌, true, false, length, None, is_err, vec_len, vec_capacity, IsErr, IfOk, OnOk, [], if◌then◌else◌};
-ghost use Rattle.dump_io.specs.Counts.{HasCause, Rose, plus_capped};
-ghost use Rattle.dump_io.specs.Sinks.{Writes};
+ghost use Rattle.std.specs.Prelude.{◌≡◌, ◌≤◌, ◌<◌, true, false, length, None, is_err, vec_len, vec_capacity, IsErr, IfOk, OnErr, OnOk, [], if◌then◌else◌};
+ghost use Rattle.dump_io.specs.Counts.{Rose, plus_capped};
+ghost use Rattle.dump_io.specs.Sinks.{changed, TakesSome};
 
-use dump_io::{Failed, Sink};
+use dump_io::{Count, Failed, Sink};
 use std::alloc::{AllocError, Global};
 use std::io::Write;
 
@@ -18,7 +18,7 @@ pub struct StdSink<W: Write + Drop> {
     stream: W,
     gathered: Vec<u8>,
     is_broken: bool,
-    faults: u64,
+    faults: Count,
     ghost within: { vec_len gathered ≤ 65536 },
     ghost room: { 65536 ≤ vec_capacity gathered },
 }
@@ -36,14 +36,15 @@ impl<W: Write + Drop> StdSink<W> {
             stream,
             gathered: Vec::with_capacity(alloc, GATHERED)?,
             is_broken: false,
-            faults: 0,
+            faults: Count::new(),
         })
     }
 
     /// Hands on what is gathered. `Failed` comes where the stream fails now or did before, and the count of
     /// faults rises then and only then.
     pub fn flush(&mut self) -> Result<(), Failed>
-        ensures cause { HasCause (count_of self.old) (count_of self.new) result }
+        ensures later { count_of self.old ≤ count_of self.new }
+        ensures failed { OnErr result (Rose (count_of self.old) (count_of self.new)) }
         ensures count { count_of self.new ≡ (if is_err result then plus_capped (count_of self.old) 1 else count_of self.old) }
         ensures broken { is_broken_in self.new ≡ is_err result }
         ensures failing { is_broken_in self.old ≡ true → IsErr result }
@@ -55,7 +56,7 @@ impl<W: Write + Drop> StdSink<W> {
             return Ok(());
         }
         self.is_broken = true;
-        self.faults = self.faults.saturating_add(1);
+        self.faults.rise();
         Err(Failed)
     }
 
@@ -77,8 +78,7 @@ impl<W: Write + Drop> Sink for StdSink<W> {
 
     fn write(&mut self, piece: &[u8]) -> Result<usize, Failed>
         requires { 0 < length piece.now }
-        ensures writes { Writes None None piece.now result }
-        ensures cause { HasCause (count_of self.old) (count_of self.new) result }
+        ensures takes { TakesSome (changed (λ _. None) count_of self.old self.new) piece.now result }
 
         ensures count { count_of self.new ≡ (if is_err result then plus_capped (count_of self.old) 1 else count_of self.old) }
         ensures broken { is_broken_in self.new ≡ is_err result }

@@ -3,7 +3,8 @@ use Rattle.std.specs.Prelude.{◌≡◌, ℕ, List, [], ◌∷◌, None, Some, R
 use Rattle.dump_io.specs.Limits.{Numbers}
 use Rattle.report_text.specs.declared.refusals.Refusal.{Refusal}
 use Rattle.report_text.specs.Refusals.{IsRefusal}
-use Rattle.dump_command.specs.Io.{Use, Change, SinkFailed, IsKept, GainedFront}
+use Rattle.dump_io.specs.Dumps.{closed, Use}
+use Rattle.dump_io.specs.Sinks.{Change, SinkFailed, IsKept, GainedFront}
 use Rattle.dump_command.specs.Command.{Command}
 use Rattle.dump_command.specs.Report.{report, report_status, finds, refusal}
 use Rattle.dump_command.specs.Run.{IsDumpOf, IsMissing, IsUnread, IsReported, IsUnfinished, TakesAtMost, is_one_of}
@@ -18,14 +19,15 @@ pub record IsRefused (cmd : Command) (limits : Numbers) (device : Use) (why : Re
   pub told : (bytes : List ℕ) → IsDumpOf device cmd bytes → refusal cmd bytes limits ≡ Some why
 
 -- why a command stopped before its first write
-abbrev pub IsCauseOf : Command → Numbers → Use → Stop → Type 0
-IsCauseOf cmd limits device (Refused why) = IsRefused cmd limits device why
-IsCauseOf cmd limits device NotRead = IsUnread device cmd
-IsCauseOf cmd limits device NotWritten = ⊥
-IsCauseOf cmd limits device NoMemory = Unit {0}
+abbrev pub IsStoppedFor : Command → Numbers → Use → Stop → Type 0
+IsStoppedFor cmd limits device (Refused why) = IsRefused cmd limits device why
+IsStoppedFor cmd limits device NotRead = IsUnread device cmd
+IsStoppedFor cmd limits device NotWritten = ⊥
+IsStoppedFor cmd limits device NoMemory = Unit {0}
 
 pub record IsStopped (cmd : Command) (limits : Numbers) (device : Use) (stop : Stop) : Type 0 where
-  pub cause : IsCauseOf cmd limits device stop
+  pub cause : IsStoppedFor cmd limits device stop
+  pub gone : IsMissing device cmd → device.now_after ≡ closed
   pub taken : TakesAtMost cmd device
 
 -- a command has loaded all: nothing is refused, this text is its report, and this its status
@@ -64,4 +66,5 @@ Leaves cmd limits device out (Err NoMemory) = IsUnfinished cmd limits device out
 -- a command ended: with its status, or with why its report isn't whole
 pub record Runs (cmd : Command) (limits : Numbers) (device : Use) (out : Change) (ended : Result ℕ Stop) : Type 0 where
   pub left : Leaves cmd limits device out ended
+  pub gone : IsMissing device cmd → device.now_after ≡ closed
   pub taken : TakesAtMost cmd device

@@ -6,7 +6,7 @@ use Rattle.section_index.specs.declared.opening.OpenFault.{OpenFault}
 use Rattle.section_index.specs.declared.opening.OpenFault.TheVariants as open_faults
 use Rattle.report_text.specs.declared.refusals.Refusal.TheVariants.{Open, SectionTooLarge}
 use Rattle.report_text.specs.Refusals.{IsRefusal, refusal_line}
-use Rattle.dump_command.specs.Io.{Change, IsKept}
+use Rattle.dump_io.specs.Sinks.{Change, IsKept}
 use Rattle.dump_command.specs.Run.{EndsTold}
 use Rattle.dump_command.specs.declared.status.TheConstants.{REFUSED, UNREAD, UNWRITTEN, NO_MEMORY}
 use Rattle.dump_command.specs.declared.stop.Stop.{Stop}

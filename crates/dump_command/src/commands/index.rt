@@ -1,5 +1,6 @@
 // `index`: the sections of a dump and its state.
-ghost use Rattle.dump_command.specs.Io.{used, changed};
+ghost use Rattle.dump_io.specs.Dumps.{used};
+ghost use Rattle.dump_io.specs.Sinks.{changed};
 ghost use Rattle.dump_command.specs.Command.{Command, index};
 ghost use Rattle.dump_command.specs.Inner.Loads.{Runs};
 

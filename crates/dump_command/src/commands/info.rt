@@ -1,5 +1,6 @@
 // `info`: version, size, counts, slogan, tags and state of a dump.
-ghost use Rattle.dump_command.specs.Io.{used, changed};
+ghost use Rattle.dump_io.specs.Dumps.{used};
+ghost use Rattle.dump_io.specs.Sinks.{changed};
 ghost use Rattle.dump_command.specs.Command.{info};
 ghost use Rattle.dump_command.specs.Inner.Loads.{Loads, Runs};
 ghost use Rattle.dump_command.specs.Inner.Info.{info_text};
@@ -19,12 +20,7 @@ struct Loaded {
     tags: Tags,
 }
 
-fn load<D: Dumps>(
-    alloc: Global,
-    file: &str,
-    limits: &Limits,
-    dumps: &mut D,
-) -> Result<Loaded, Stop>
+fn load<D: Dumps>(alloc: Global, file: &str, limits: &Limits, dumps: &mut D) -> Result<Loaded, Stop>
     ensures { Loads (info file.now) limits.now (used D.files D.now D.faults D.taken dumps.old dumps.new) info_text result }
 {
     let index = open(alloc, file, limits, dumps)?;
@@ -47,6 +43,10 @@ pub(crate) fn run_info<D: Dumps, K: Sink>(
     ensures { Runs (info file.now) limits.now (used D.files D.now D.faults D.taken dumps.old dumps.new) (changed K.written K.faults out.old out.new) result }
 {
     let loaded = load(alloc, file, limits, dumps)?;
-    let Loaded { index, first_body, tags } = &loaded;
+    let Loaded {
+        index,
+        first_body,
+        tags,
+    } = &loaded;
     done(put_info(out, index, tags, first_body.as_slice()))
 }

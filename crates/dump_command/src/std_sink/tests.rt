@@ -44,7 +44,7 @@ fn a_stream_gets_what_was_gathered_until_it_fails(rt: HostRuntime) -> Result<(),
     assert!(rt; sink.flush().is_err());
     assert!(rt; sink.write(b"9").is_err());
     assert_eq!(rt; sink.stream.taken.as_slice(), b"01234567".as_slice());
-    assert_eq!(rt; sink.faults, 3);
+    assert_eq!(rt; sink.faults.number(), 3);
     Ok(())
 }
 

@@ -35,24 +35,14 @@ fn expect(
 
 #[test]
 fn headers_of_the_most_bytes(rt: HostRuntime) -> Result<(), Fail> {
-    let longest = [
-        Bytes(FIRST),
-        Bytes(b"="),
-        Letters(4095),
-        Bytes(b"\n=end\n"),
-    ];
+    let longest = [Bytes(FIRST), Bytes(b"="), Letters(4095), Bytes(b"\n=end\n")];
     let out = [
         Bytes(b"0 20 20 =erl_crash_dump:0.5\n20 4117 4117 ="),
         Letters(4095),
         Bytes(b"\n4117 4122 4122 =end\nwhole\n"),
     ];
     expect(&rt, rt.alloc(), &INDEX, &longest, &out, &CUTS)?;
-    let longer = [
-        Bytes(FIRST),
-        Bytes(b"="),
-        Letters(4096),
-        Bytes(b"\n=end\n"),
-    ];
+    let longer = [Bytes(FIRST), Bytes(b"="), Letters(4096), Bytes(b"\n=end\n")];
     let refused = Case {
         status: 2,
         err: "refused: header too long at 20\n",
@@ -64,9 +54,7 @@ fn headers_of_the_most_bytes(rt: HostRuntime) -> Result<(), Fail> {
 
 #[test]
 fn a_header_that_begins_with_the_second_piece(rt: HostRuntime) -> Result<(), Fail> {
-    let out = [Bytes(
-        b"0 20 65536 =erl_crash_dump:0.5\n65536 65541 65541 =end\nwhole\n",
-    )];
+    let out = [Bytes(b"0 20 65536 =erl_crash_dump:0.5\n65536 65541 65541 =end\nwhole\n")];
     let behind_lf = [Bytes(FIRST), Letters(65_515), Bytes(b"\n=end\n")];
     expect(&rt, rt.alloc(), &INDEX, &behind_lf, &out, &CUTS)?;
     let behind_crlf = [Bytes(FIRST), Letters(65_514), Bytes(b"\r\n=end\n")];

@@ -1,4 +1,3 @@
-use Rattle.std.proofs.Common.{ap}
 use Rattle.std.proofs.lemmas.Result.{err_from_is_err_and}
 use Rattle.dump_command.proofs.Opened.{HasOpened-built, IsUnopened-built}
 use Rattle.dump_command.proofs.open.open.Goals as goal
@@ -7,10 +6,9 @@ pub returns-in_err-build : goal.returns-in_err-build
 returns-in_err-build g c =
     let p = err_from_is_err_and c.from_residual.result c.from_residual.ensures.1 in
     let built = c.in_err-build.ensures in
-    rw (p.1, p.2) (IsUnopened-built _ _ _ _ built.now built.taken_most built.answer built.told built.absent built.read)
+    rw (p.1, p.2) (IsUnopened-built _ _ _ _ built.device built.answer built.absent built.read)
 
 pub returns : goal.returns
 returns g c =
     let built = c.in_ok-build.ensures in
-    HasOpened-built _ _ _ _ built.same_files built.later built.now built.taken_most built.answer built.told
-    (λ gone. let no : ⊥ = cc (built.absent gone) in no) built.over
+    HasOpened-built _ _ _ _ built.device built.answer built.absent built.over

@@ -1,6 +1,9 @@
 use Rattle.dump_io.specs.Laws.Puts.{Puts-then, Puts-stopped}
 use Rattle.report_text.proofs.info_report.put_info.Goals as goal
 
+pub returns-in_err-put_heading : goal.returns-in_err-put_heading
+returns-in_err-put_heading g c = Puts-stopped _ c.from_residual.ensures.0 c.in_err-put_heading.ensures
+
 pub returns-in_err-put_tags : goal.returns-in_err-put_tags
 returns-in_err-put_tags g c =
     Puts-then c.in_ok-put_heading.ensures (Puts-stopped _ c.from_residual-in_err-put_tags.ensures.0 c.in_err-put_tags.ensures)

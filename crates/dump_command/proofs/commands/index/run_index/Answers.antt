@@ -3,7 +3,6 @@ use Rattle.std.proofs.lemmas.Result.{err_from_is_err_and}
 use Rattle.dump_io.specs.Lines.{headers}
 use Rattle.report_text.specs.Reports.{index_report}
 use Rattle.dump_command.specs.Command.{index}
-use Rattle.dump_command.specs.Io.{Puts-old}
 use Rattle.dump_command.proofs.Loads.{IsStopped-unopened, IsReady-opened}
 use Rattle.dump_command.proofs.Runs.{Runs-stopped, Runs-put}
 use Rattle.dump_command.proofs.commands.index.run_index.Goals as goal
@@ -19,4 +18,4 @@ returns g c =
     rw c.done.ensures (Runs-put (index c.args.file.now) _ _ _ _ _ _
     (IsReady-opened (index c.args.file.now) c.args.file.now _ _ built 0 _ refl c.in_ok-index.ensures (record { most = λ bytes all. omega arith })
     (λ bytes all. (refl, ap (λ hs. index_report hs built.size) all.of.headers ∙ ap (λ n. index_report (headers bytes) n) all.of.size, refl)))
-    (Puts-old _ _ _ _ _ _ c.put_index.ensures.writes c.put_index.ensures.cause))
+    c.put_index.ensures)

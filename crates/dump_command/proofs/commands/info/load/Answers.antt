@@ -1,5 +1,6 @@
-use Rattle.std.proofs.Common.{◌≡◌, ◌+◌, ◌<◌, ◌≤◌, [], Some, refl, sym, ap, subst, ◌∙◌, arith}
+use Rattle.std.proofs.Common.{[], refl, sym, ◌∙◌, arith}
 use Rattle.std.proofs.lemmas.Result.{err_from_is_err_and}
+use Rattle.dump_io.specs.Dumps.{used}
 use Rattle.section_index.specs.Bodies.{section_at, body_length}
 use Rattle.dump_command.specs.Command.{info}
 use Rattle.dump_command.proofs.Info.{info_text-report}
@@ -19,16 +20,10 @@ returns-in_err-first_body g c =
     let read = c.in_err-first_body.ensures in
     let cmd = info c.args.file.now in
     let index = c.in_ok-index.index in
-    let first = section_at index 0 in
-    let opened = HasOpened-read d.files d.now d.faults d.taken c.args.dumps.now c.open.new.dumps c.read_body.new.dumps _ _ index 0 (body_length first) c.in_ok-index.ensures (record {
-      same_files = read.same_files;
-      same_now = read.same_now;
-      later = read.later;
-      taken_least = read.taken_least;
-      taken_most = read.taken_most;
-    }) in
-    rw (p.1, p.2) (IsStopped-body cmd c.args.file.now _ _ index _ _ first _ refl opened (IsAllowed-bodies cmd _ _ index _ (λ bytes. refl) (omega arith)) c.in_ok-index.ensures.later read.fault
-    (λ bytes all large. too_large-index cmd _ bytes index all.of ∙ too_large-first _ first [] large))
+    let opened = HasOpened-read d.files d.now d.faults d.taken c.args.dumps.now c.open.new.dumps c.read_body.new.dumps _ _ index 0 _ c.in_ok-index.ensures read.reads in
+    rw (p.1, p.2) (IsStopped-body cmd c.args.file.now _ _ (used d.files d.now d.faults d.taken c.open.new.dumps c.read_body.new.dumps) index _ (section_at index 0) _ refl opened
+    (IsAllowed-bodies cmd _ _ index _ (λ bytes. refl) (omega arith)) read.fault (λ rose. omega (arith, rose, c.in_ok-index.ensures.later))
+    (λ bytes all large. too_large-index cmd _ bytes index all.of ∙ too_large-first _ (section_at index 0) [] large))
 
 pub returns-in_err-tags : goal.returns-in_err-tags
 returns-in_err-tags g c =
@@ -37,14 +32,7 @@ returns-in_err-tags g c =
     let read = c.in_ok-first_body.ensures in
     let cmd = info c.args.file.now in
     let index = c.in_ok-index.index in
-    let first = section_at index 0 in
-    let opened = HasOpened-read d.files d.now d.faults d.taken c.args.dumps.now c.open.new.dumps c.read_body.new.dumps _ _ index 0 (body_length first) c.in_ok-index.ensures (record {
-      same_files = read.same_files;
-      same_now = read.same_now;
-      later = read.later;
-      taken_least = read.taken_least;
-      taken_most = read.taken_most;
-    }) in
+    let opened = HasOpened-read d.files d.now d.faults d.taken c.args.dumps.now c.open.new.dumps c.read_body.new.dumps _ _ index 0 _ c.in_ok-index.ensures read.reads in
     rw (p.1, p.2) (IsStopped-no_memory cmd c.args.file.now _ _ index _ refl opened (IsAllowed-bodies cmd _ _ index _ (λ bytes. refl) (omega arith)))
 
 pub returns : goal.returns
@@ -53,17 +41,10 @@ returns g c =
     let read = c.in_ok-first_body.ensures in
     let cmd = info c.args.file.now in
     let index = c.in_ok-index.index in
-    let first = section_at index 0 in
-    let opened = HasOpened-read d.files d.now d.faults d.taken c.args.dumps.now c.open.new.dumps c.read_body.new.dumps _ _ index 0 (body_length first) c.in_ok-index.ensures (record {
-      same_files = read.same_files;
-      same_now = read.same_now;
-      later = read.later;
-      taken_least = read.taken_least;
-      taken_most = read.taken_most;
-    }) in
+    let opened = HasOpened-read d.files d.now d.faults d.taken c.args.dumps.now c.open.new.dumps c.read_body.new.dumps _ _ index 0 _ c.in_ok-index.ensures read.reads in
     IsReady-opened cmd c.args.file.now _ _ index _ _ refl opened (IsAllowed-bodies cmd _ _ index _ (λ bytes. refl) (omega arith))
     (λ bytes all. (
-      too_large-index cmd _ bytes index all.of ∙ too_large-rest _ first [] read.loaded,
-      info_text-report c.args.file.now bytes (d.now c.open.new.dumps) index c.in_ok-first_body.first_body.items c.in_ok-tags.tags all.of (sym read.same_now ∙ all.opened) read.body c.in_ok-tags.ensures,
+      too_large-index cmd _ bytes index all.of ∙ too_large-rest _ (section_at index 0) [] read.loaded,
+      info_text-report c.args.file.now bytes (d.now c.open.new.dumps) index c.in_ok-first_body.first_body.items c.in_ok-tags.tags all.of (sym read.reads.same_now ∙ all.opened) read.body c.in_ok-tags.ensures,
       refl,
     ))

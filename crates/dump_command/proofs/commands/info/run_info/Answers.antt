@@ -1,7 +1,6 @@
 use Rattle.std.proofs.Common.{refl, ap, ◌∙◌, arith}
 use Rattle.std.proofs.lemmas.Result.{err_from_is_err_and}
 use Rattle.dump_command.specs.Command.{info}
-use Rattle.dump_command.specs.Io.{Puts-old}
 use Rattle.dump_command.proofs.Runs.{Runs-stopped, Runs-put}
 use Rattle.dump_command.proofs.commands.info.run_info.Goals as goal
 
@@ -13,4 +12,4 @@ returns-in_err-loaded g c =
 pub returns : goal.returns
 returns g c =
     rw c.done.ensures (Runs-put (info c.args.file.now) _ _ _ _ _ _ c.in_ok-loaded.ensures
-    (rw c.as_slice.ensures.value at (Puts-old _ _ _ _ _ _ c.put_info.ensures.writes c.put_info.ensures.cause)))
+    (rw c.as_slice.ensures.value at c.put_info.ensures))
