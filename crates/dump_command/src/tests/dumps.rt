@@ -1,4 +1,10 @@
-// A dump with a section of each kind that is read.
+// The dumps of the tests.
+use std::alloc::{AllocError, Global};
+
+/// A small dump, of two sections.
+pub const SMALL: &str = "=erl_crash_dump:0.5\nSlogan: x\n=end\n";
+
+/// A dump with a section of each kind that is read.
 pub const SAMPLE: &str = "\
 =erl_crash_dump:0.5\n\
 Mon Jan  1 00:00:00 2024\n\
@@ -57,3 +63,24 @@ D4:AAAAAA==:N\n\
 5:aGVsbG8=\n\
 =end\n\
 ";
+
+/// A part of a text: bytes as they are, or so many letters `x`.
+#[derive(Clone, Copy)]
+pub enum Part<'a> {
+    Bytes(&'a [u8]),
+    Letters(usize),
+}
+
+/// The text of these parts.
+pub fn text_of(alloc: Global, parts: &[Part<'_>]) -> Result<Vec<u8>, AllocError> {
+    let mut text = Vec::new(alloc);
+    for part in parts {
+        match part {
+            Part::Bytes(bytes) => text.extend_from_slice(bytes)?,
+            Part::Letters(count) => {
+                text.extend_from_slice(vec![in alloc; b'x'; *count]?.as_slice())?;
+            }
+        }
+    }
+    Ok(text)
+}
