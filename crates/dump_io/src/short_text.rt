@@ -59,5 +59,10 @@ fn put(buffer: &mut [u8], from: usize, bytes: &[u8])
     requires { from + length bytes.now ≤ length buffer.old }
     ensures front { take (from + length bytes.now) buffer.new ≡ take from buffer.old ++ bytes.now }
 {
+    // Most pieces of a line are one byte, for which a copy costs more than the byte.
+    if let [byte] = bytes {
+        buffer[from] = *byte;
+        return;
+    }
     buffer[from..from + bytes.len()].copy_from_slice(bytes);
 }
