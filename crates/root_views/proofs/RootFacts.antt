@@ -1,13 +1,11 @@
 -- The roots of lines.
-use Rattle.std.proofs.Common.{◌≡◌, ℕ, ◌+◌, ◌<◌, ◌≤◌, Bool, true, false, List, [], ◌∷◌, length, map, filter, All, Option, Some, None, refl, sym, ◌∙◌, ap, subst, arith, if◌then◌else◌}
-use Rattle.std.specs.Prelude.{ltb}
-use Rattle.std.specs.List.{flat_map}
+use Rattle.std.proofs.Common.{◌≡◌, ℕ, ◌+◌, ◌<◌, true, List, [], ◌∷◌, length, map, filter, All, Option, Some, None, refl, subst, arith}
 use Rattle.std.proofs.lemmas.Bool.{ltb-true}
 use Rattle.std.proofs.lemmas.List.Concat.{flat_map_single}
 use Rattle.std.proofs.lemmas.List.Elements.{All-nil, All-cons}
-use Rattle.dump_io.specs.Colons.{has_colon, before_colon, after_colon}
 use Rattle.field_lines.specs.Lines.{TextLine, IsPart}
-use Rattle.root_views.specs.Roots.{Content, Unread, BodyRoot, has_text, stack_content, labelled, stack_root, dict_root, IsInside}
+use Rattle.term_forms.specs.Elements.{Element}
+use Rattle.root_views.specs.Roots.{Content, BodyRoot, has_text, labelled, stack_root, dict_root, message, token, IsInside}
 use Rattle.root_views.proofs.LineFacts.{roots_inside}
 
 -- ---- where they stand
@@ -34,18 +32,15 @@ dict_inside body ls parts =
     subst (All (IsInside body)) (flat_map_single dict_root (filter has_text ls))
     (roots_inside body (λ l. dict_root l ∷ []) (λ l part some. one_inside body l (dict_root l) refl part some) ls parts)
 
--- ---- a line of the stack
+-- ---- a line of the mailbox
 
-pub stack_read : (at : ℕ) (text : List ℕ) (c : Content) → has_colon text ≡ true → Some c ≡ stack_content (after_colon text)
-    → labelled at (before_colon text) (if has_colon text then stack_content (after_colon text) else None) ≡ record { at = at; label = before_colon text; content = c }
-stack_read at text c some found =
-    ap (λ b. labelled at (before_colon text) (if b then stack_content (after_colon text) else None)) some ∙ ap (labelled at (before_colon text)) (sym found)
+-- a message, and a token behind it that is there or not
+pub message_inside : (body : List ℕ) (l : TextLine) (c : Content) → IsPart body l → has_text l ≡ true → All (IsInside body) (message l.at c ∷ [])
+message_inside body l c part some = one_inside body l (message l.at c) refl part some
 
-pub stack_unread : (at : ℕ) (text : List ℕ) → has_colon text ≡ true → None ≡ stack_content (after_colon text)
-    → labelled at (before_colon text) (if has_colon text then stack_content (after_colon text) else None) ≡ record { at = at; label = []; content = Unread }
-stack_unread at text some found =
-    ap (λ b. labelled at (before_colon text) (if b then stack_content (after_colon text) else None)) some ∙ ap (labelled at (before_colon text)) (sym found)
-
-pub stack_plain : (at : ℕ) (text : List ℕ) → has_colon text ≡ false
-    → labelled at (before_colon text) (if has_colon text then stack_content (after_colon text) else None) ≡ record { at = at; label = []; content = Unread }
-stack_plain at text none = ap (λ b. labelled at (before_colon text) (if b then stack_content (after_colon text) else None)) none
+pub pair_inside : (body : List ℕ) (l : TextLine) (c : Content) (at : ℕ) (e : Element) → IsPart body l → has_text l ≡ true → at < l.at + length l.text
+    → All (IsInside body) (message l.at c ∷ token at e ∷ [])
+pair_inside body l c at e part some within =
+    let here : at < length body = omega (arith, within, part.within) in
+    All-cons (IsInside body) (message l.at c) (token at e ∷ []) (line_inside body l part some)
+    (All-cons (IsInside body) (token at e) [] here (All-nil (IsInside body)))

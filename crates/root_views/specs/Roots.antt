@@ -1,6 +1,6 @@
 -- The roots of a process: what its stack, its dictionary and its mailbox hold. Offsets are counted in bytes of the body,
 -- from 0.
-use Rattle.std.specs.Prelude.{◌≡◌, ℕ, ◌+◌, ◌<◌, ◌==◌, Bool, ◌&&◌, nat_eq, nat_lt, List, [], ◌∷◌, length, drop, map, filter, flat_map, count_by, codes, Option, None, Some, option_map, option_and_then, unwrap_or, if◌then◌else◌}
+use Rattle.std.specs.Prelude.{ℕ, ◌+◌, ◌<◌, Bool, ◌&&◌, nat_eq, nat_lt, List, [], ◌∷◌, length, drop, map, filter, flat_map, count_by, codes, Option, None, Some, option_map, option_and_then, unwrap_or, if◌then◌else◌}
 use Rattle.std.specs.List.{before_last, after_last, starts_with}
 use Rattle.std.specs.Option.{option_or, option_map_or}
 use Rattle.std.specs.Str.{bytes_eq}
@@ -8,7 +8,6 @@ use Rattle.dump_io.specs.Colons.{is_colon, has_colon, before_colon, after_colon}
 use Rattle.field_lines.specs.Lines.{TextLine, text_lines}
 use Rattle.term_forms.specs.Elements.{Element}
 use Rattle.term_forms.specs.Reading.{front, whole_of}
-use Rattle.term_forms.specs.Words.{letter}
 
 -- what a root is: an element, a word of the stack that is none, a message in the external format, or what isn't read
 pub data Content : Type 0 where

@@ -12,7 +12,7 @@ pub fn messages(body: &[u8]) -> u64
 {
     let mut lines = lines(body);
     let mut count = 0;
-    while next_text(&mut lines).is_some() {
+    while let Some(_line) = next_text(&mut lines) {
         count += 1;
     }
     count

@@ -1,5 +1,5 @@
 // The message of a mailbox's line, and its token.
-ghost use Rattle.std.specs.Prelude.{◌≡◌, ◌+◌, ◌<◌, ◌^◌, length};
+ghost use Rattle.std.specs.Prelude.{◌≡◌};
 ghost use Rattle.std.specs.Option.{option_map, option_copied};
 ghost use Rattle.field_lines.specs.Shown.{shown_line};
 ghost use Rattle.term_forms.specs.Seen.{element};
@@ -9,8 +9,8 @@ ghost use Rattle.root_views.specs.Inner.Lines.{IsSmall};
 ghost use Rattle.root_views.specs.Inner.Mails.{mail_list};
 
 use crate::roots::{Root, What};
+use crate::texts::split_at_last_colon;
 use field_lines::Line;
-use memchr::memrchr;
 use term_forms::reading::elem;
 use term_forms::shapes::Elem;
 use term_forms::whole_elem;
@@ -50,11 +50,11 @@ fn dist_mail<'a>(line: &Line<'a>) -> Option<Mail<'a>>
     if !line.text.starts_with(b"D") {
         return None;
     }
-    let colon = memrchr(b':', line.text)?;
-    let token = whole_elem(&line.text[colon + 1..])?;
+    let (dist, rest) = split_at_last_colon(line.text)?;
+    let token = whole_elem(rest)?;
     Some(Mail {
-        message: message_root(line.at, What::Dist(&line.text[..colon])),
-        token: Some(token_root(line.at + colon + 1, token)),
+        message: message_root(line.at, What::Dist(dist)),
+        token: Some(token_root(line.at + dist.len() + 1, token)),
     })
 }
 

@@ -1,12 +1,14 @@
-// The lines of a body that have a text.
-ghost use Rattle.std.specs.Prelude.{filter, All, IfSome};
+// The lines of a body that have a text, and a text with a colon.
+ghost use Rattle.std.specs.Prelude.{◌<◌, filter, length, All, IfSome};
 ghost use Rattle.std.specs.Iterator.{YieldsFirstBy};
 ghost use Rattle.field_lines.specs.Shown.{shown_line};
 ghost use Rattle.root_views.specs.Roots.{has_text};
 ghost use Rattle.root_views.specs.Inner.Lines.{IsSmall};
+ghost use Rattle.root_views.specs.Inner.Splits.{SplitsAtLast};
 
 use field_lines::Line;
 use field_lines::shapes::Lines;
+use memchr::memrchr;
 
 // The next line that has a text.
 pub(crate) fn next_text<'a>(lines: &mut Lines<'a>) -> Option<Line<'a>>
@@ -20,4 +22,13 @@ pub(crate) fn next_text<'a>(lines: &mut Lines<'a>) -> Option<Line<'a>>
         }
     }
     None
+}
+
+// What stands before a text's last `:` and what follows it.
+pub(crate) fn split_at_last_colon(text: &[u8]) -> Option<(&[u8], &[u8])>
+    ensures parts { SplitsAtLast text.now result }
+    ensures shorter { IfSome result (λ parts. length parts.0.now < length text.now) }
+{
+    let colon = memrchr(b':', text)?;
+    Some((&text[..colon], &text[colon + 1..]))
 }

@@ -1,5 +1,5 @@
 -- Lines whose places can be counted.
-use Rattle.std.specs.Prelude.{ℕ, ◌+◌, ◌<◌, ◌^◌, length}
+use Rattle.std.specs.Prelude.{◌+◌, ◌<◌, ◌^◌, length}
 use Rattle.field_lines.specs.Lines.{TextLine}
 
 -- a line of a body in memory ends below 2^63
