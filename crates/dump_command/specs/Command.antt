@@ -27,7 +27,7 @@ command (name ∷ []) = None
 command (name ∷ file ∷ []) = file_command name file
 command (name ∷ file ∷ word ∷ words) = None
 
--- the file that a command opens
-abbrev pub file_of : Command → List ℕ
-file_of (index file) = file
-file_of (info file) = file
+-- the name of the file that a command opens, where it opens one
+abbrev pub file_of : Command → Option (List ℕ)
+file_of (index file) = Some file
+file_of (info file) = Some file

@@ -6,7 +6,6 @@
 
 mod index_report;
 mod info_report;
-mod pieces;
 mod refusals;
 
 pub use index_report::put_index;
