@@ -12,7 +12,7 @@ use Rattle.dump_io.specs.Sinks.{Change, SinkFailed, IsKept, Gained, GainedFront}
 use Rattle.dump_command.specs.Command.{Command, file_of}
 use Rattle.dump_command.specs.Report.{report, report_status, refusal}
 use Rattle.dump_command.specs.Run.{IsDumpOf, IsRunOf, IsUnwritten, IsReported, IsInputOf, IsUnread, IsUnreadFrom, IsMissing, IsMissingFrom, EndsTold, TakesAtMost, IsUnfinished, is_one_of}
-use Rattle.dump_command.specs.Inner.Loads.{IsRefused, IsDone, IsCutOff, Runs}
+use Rattle.dump_command.specs.Inner.Loads.{IsRefused, IsDone, IsBrokenOff, Runs}
 use Rattle.dump_command.specs.Inner.Stops.{EndsAs, IsProper}
 use Rattle.dump_command.specs.declared.status.TheConstants.{DONE, REFUSED, FOUND, UNREAD, UNWRITTEN, NO_MEMORY}
 use Rattle.dump_command.specs.declared.stop.Stop.{Stop}
@@ -39,7 +39,7 @@ done-is cmd limits device out err all kept taken =
       refused = λ e. absurd (omega (arith, e));
       unread = λ e. absurd (omega (arith, e));
       unwritten = λ e. absurd (omega (arith, e));
-      cut = λ e. absurd (omega (arith, e));
+      front = λ e. absurd (omega (arith, e));
       out_kept = λ e. absurd (omega (arith, e));
       unfinished = λ e. absurd (let no : ⊥ = cc (e) in no);
       err_kept = λ _. kept;
@@ -57,7 +57,7 @@ found-is cmd limits device out err all kept taken =
       refused = λ e. absurd (omega (arith, e));
       unread = λ e. absurd (omega (arith, e));
       unwritten = λ e. absurd (omega (arith, e));
-      cut = λ e. absurd (omega (arith, e));
+      front = λ e. absurd (omega (arith, e));
       out_kept = λ e. absurd (omega (arith, e));
       unfinished = λ e. absurd (let no : ⊥ = cc (e) in no);
       err_kept = λ _. kept;
@@ -89,7 +89,7 @@ refused-is cmd limits status device out err why refused kept taken (inl line) =
       refused = λ _ bytes dump. subst (λ r. IsSomeAnd r (λ w. Gained err (refusal_line w))) (sym (refused.told bytes dump)) line.1;
       unread = λ e. absurd (omega (arith, e));
       unwritten = λ e. absurd (omega (arith, e));
-      cut = λ e. absurd (omega (arith, e));
+      front = λ e. absurd (omega (arith, e));
       out_kept = λ _. kept;
       unfinished = λ e. absurd (let no : ⊥ = cc (e) in no);
       err_kept = λ e. absurd (let no : ⊥ = cc (e) in no);
@@ -104,7 +104,7 @@ refused-is cmd limits status device out err why refused kept taken (inr cut) =
       refused = λ e. absurd (omega (arith, e));
       unread = λ e. absurd (omega (arith, e));
       unwritten = λ _. inr cut.2;
-      cut = λ _ bytes dump. subst (λ w. IsUnwritten cmd bytes w out err) (sym (refused.told bytes dump)) (cut.1, cut.2, kept);
+      front = λ _ bytes dump. subst (λ w. IsUnwritten cmd bytes w out err) (sym (refused.told bytes dump)) (cut.1, cut.2, kept);
       out_kept = λ e. absurd (omega (arith, e));
       unfinished = λ e. absurd (let no : ⊥ = cc (e) in no);
       err_kept = λ e. absurd (let no : ⊥ = cc (e) in no);
@@ -123,7 +123,7 @@ unread-is cmd limits device out err cause left kept shut taken =
       refused = λ e. absurd (omega (arith, e));
       unread = λ _. cause;
       unwritten = λ e. absurd (omega (arith, e));
-      cut = λ e. absurd (omega (arith, e));
+      front = λ e. absurd (omega (arith, e));
       out_kept = λ e. absurd (omega (arith, e));
       unfinished = λ _. left;
       err_kept = λ _. kept;
@@ -132,7 +132,7 @@ unread-is cmd limits device out err cause left kept shut taken =
     }
 
 -- a write of the report failed
-unwritten-is : (cmd : Command) (limits : Numbers) (device : Use) (out err : Change) → IsCutOff cmd limits device out → IsKept err
+unwritten-is : (cmd : Command) (limits : Numbers) (device : Use) (out err : Change) → IsBrokenOff cmd limits device out → IsKept err
     → TakesAtMost cmd device → IsRunOf cmd limits UNWRITTEN device out err
 unwritten-is cmd limits device out err cut kept taken =
     record {
@@ -142,7 +142,7 @@ unwritten-is cmd limits device out err cut kept taken =
       refused = λ e. absurd (omega (arith, e));
       unread = λ e. absurd (omega (arith, e));
       unwritten = λ _. inl cut.failed;
-      cut = λ _ bytes dump.
+      front = λ _ bytes dump.
           let front = cut.told bytes dump in
           subst (λ why. IsUnwritten cmd bytes why out err) (sym front.0) (front.1, cut.failed, kept);
       out_kept = λ e. absurd (omega (arith, e));
@@ -163,7 +163,7 @@ no_memory-is cmd limits device out err left kept shut taken =
       refused = λ e. absurd (omega (arith, e));
       unread = λ e. absurd (omega (arith, e));
       unwritten = λ e. absurd (omega (arith, e));
-      cut = λ e. absurd (omega (arith, e));
+      front = λ e. absurd (omega (arith, e));
       out_kept = λ e. absurd (omega (arith, e));
       unfinished = λ _. left;
       err_kept = λ _. kept;

@@ -152,6 +152,16 @@ pub too_large-rest : (limit : ℕ) (s : Section) (rest : List Section) → body_
 too_large-rest limit s rest small =
     ap (λ b. if b then Some (SectionTooLarge s.at (body_length s)) else too_large limit rest) (le-ltb limit (body_length s) small)
 
+-- of bodies in a row the first that is too large is refused
+pub too_large-append : (limit : ℕ) (xs ys : List Section) → too_large limit (xs ++ ys) ≡ option_or (too_large limit xs) (too_large limit ys)
+too_large-append limit [] ys = refl
+too_large-append limit (s ∷ xs) ys =
+    elim (nat_lt limit (body_length s)) as (λ b. (if b then Some (SectionTooLarge s.at (body_length s)) else too_large limit (xs ++ ys))
+        ≡ option_or (if b then Some (SectionTooLarge s.at (body_length s)) else too_large limit xs) (too_large limit ys)) [
+      | true ↦ refl
+      | false ↦ too_large-append limit xs ys
+    ]
+
 -- a body wasn't loaded, where no cause of a refusal stands before its length
 pub IsStopped-body : (cmd : Command) (name : List ℕ) (limits : Numbers) (device step : Use) (index : Contents) (more : ℕ) (s : Section) (fault : BodyFault) → file_of cmd ≡ Some name
     → HasOpened name limits device index more → IsAllowed cmd limits device index more

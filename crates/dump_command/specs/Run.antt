@@ -73,7 +73,7 @@ pub record IsRunOf (cmd : Command) (limits : Numbers) (status : ℕ) (device : U
   pub unread : status ≡ UNREAD → IsUnread device cmd
   -- 5: a sink failed, and a front of its text was written
   pub unwritten : status ≡ UNWRITTEN → SinkFailed out ⊎ SinkFailed err
-  pub cut : status ≡ UNWRITTEN → (bytes : List ℕ) → IsDumpOf device cmd bytes → IsUnwritten cmd bytes (refusal cmd bytes limits) out err
+  pub front : status ≡ UNWRITTEN → (bytes : List ℕ) → IsDumpOf device cmd bytes → IsUnwritten cmd bytes (refusal cmd bytes limits) out err
   -- `out` is untouched at 2, and at 4 and 6 where the command loads before it writes; `err` at 0, 3, 4 and 6
   pub out_kept : status ≡ REFUSED → IsKept out
   pub unfinished : IsTrue (is_one_of (UNREAD ∷ NO_MEMORY ∷ []) status) → IsUnfinished cmd limits device out

@@ -1,4 +1,14 @@
 //! The commands of edump: their words, their run from a device to two sinks, and the real devices.
+//!
+//! ```
+//! let mut dumps = FileDumps::new(&rt);
+//! let mut out = StdSink::new(rt.alloc(), rt.stdout())?;
+//! let mut err = StdSink::new(rt.alloc(), rt.stderr())?;
+//! let status = run(rt.alloc(), &words, &Limits::usual(), &mut dumps, &mut out, &mut err);
+//! ```
+//!
+//! A command loads what its report needs and then writes it. Why it ends without its whole report is a `Stop`,
+//! to which the faults of all layers come by `?`; [`run`] makes a status of [`status`] and a line of it.
 #![tactic(auto)]
 
 mod commands;

@@ -28,8 +28,7 @@ use std::alloc::Global;
 ///
 /// `out` is untouched at 1, 2, 4 and 6, and holds a proper front of the report at 5. The bytes of the dump are
 /// those of the file of the command's name, where `dumps` tells its files, or those that are open at the end,
-/// where it tells these. Where they are told and not refused, nothing failed and there was memory, the status
-/// is 0.
+/// where it tells these alone. Where they are told and not refused and nothing failed, the status is 0, or 6.
 pub fn run<D: Dumps, K: Sink, E: Sink>(
     alloc: Global,
     words: &[String],

@@ -51,7 +51,7 @@ pub record IsDone (cmd : Command) (limits : Numbers) (device : Use) (out : Chang
   pub told : (bytes : List ℕ) → IsDumpOf device cmd bytes → IsReported cmd limits status bytes out
 
 -- a write of the report failed
-pub record IsCutOff (cmd : Command) (limits : Numbers) (device : Use) (out : Change) : Type 0 where
+pub record IsBrokenOff (cmd : Command) (limits : Numbers) (device : Use) (out : Change) : Type 0 where
   pub there : IsMissing device cmd → ⊥
   pub failed : SinkFailed out
   pub told : (bytes : List ℕ) → IsDumpOf device cmd bytes → (refusal cmd bytes limits ≡ None) × GainedFront out (report cmd bytes)
@@ -60,7 +60,7 @@ abbrev pub Leaves : Command → Numbers → Use → Change → Result ℕ Stop �
 Leaves cmd limits device out (Ok status) = IsDone cmd limits device out status
 Leaves cmd limits device out (Err (Refused why)) = IsRefused cmd limits device why × IsKept out
 Leaves cmd limits device out (Err NotRead) = IsUnread device cmd × IsUnfinished cmd limits device out
-Leaves cmd limits device out (Err NotWritten) = IsCutOff cmd limits device out
+Leaves cmd limits device out (Err NotWritten) = IsBrokenOff cmd limits device out
 Leaves cmd limits device out (Err NoMemory) = IsUnfinished cmd limits device out
 
 -- a command ended: with its status, or with why its report isn't whole

@@ -24,23 +24,23 @@ pub const USUAL: Bounds = Bounds {
     dense: 100_000_000,
 };
 
-/// How a run is hindered: how its reads are cut, which calls of the device fail, and, of both sinks, how many
-/// bytes a write takes and which writes fail.
+/// How a run is hindered: to how many bytes its reads are cut, which call of the device fails, how many bytes a
+/// write to either sink takes, and which write to each of them fails. With 0 nothing is.
 #[derive(Clone, Copy)]
-pub struct Hindrance<'a> {
-    pub cuts: &'a [usize],
-    pub failing_calls: &'a [u64],
+pub struct Hindrance {
+    pub cut: usize,
+    pub failing_call: u64,
     pub step: usize,
-    pub failing_out: &'a [u64],
-    pub failing_err: &'a [u64],
+    pub failing_out: u64,
+    pub failing_err: u64,
 }
 
-pub const NONE: Hindrance<'static> = Hindrance {
-    cuts: &[],
-    failing_calls: &[],
+pub const NONE: Hindrance = Hindrance {
+    cut: 0,
+    failing_call: 0,
     step: 0,
-    failing_out: &[],
-    failing_err: &[],
+    failing_out: 0,
+    failing_err: 0,
 };
 
 #[derive(Drop)]
@@ -71,23 +71,31 @@ fn limits_of(bounds: &Bounds) -> Limits {
     limits.unwrap_or(Limits::usual())
 }
 
+fn cuts(alloc: Global, cut: usize) -> Result<Vec<usize>, AllocError> {
+    let mut cuts = Vec::new(alloc);
+    if cut > 0 {
+        cuts.push(cut)?;
+    }
+    Ok(cuts)
+}
+
 /// Runs the words where the file `F` has these bytes.
 pub fn run_on(
     alloc: Global,
     words: &[&str],
     dump: &[u8],
     bounds: &Bounds,
-    hindrance: Hindrance<'_>,
+    hindrance: Hindrance,
 ) -> Result<Outcome, AllocError> {
     let words = owned(alloc, words)?;
     let file = DumpFile::new(String::from_str(alloc, "F")?, Vec::from_slice(alloc, dump)?);
     let mut dumps = MemDumps::new(
         vec![in alloc; file]?,
-        Vec::from_slice(alloc, hindrance.cuts)?,
-        Vec::from_slice(alloc, hindrance.failing_calls)?,
+        cuts(alloc, hindrance.cut)?,
+        vec![in alloc; hindrance.failing_call]?,
     );
-    let failing_out = Vec::from_slice(alloc, hindrance.failing_out)?;
-    let failing_err = Vec::from_slice(alloc, hindrance.failing_err)?;
+    let failing_out = vec![in alloc; hindrance.failing_out]?;
+    let failing_err = vec![in alloc; hindrance.failing_err]?;
     let mut out = MemSink::new(alloc, hindrance.step, failing_out);
     let mut err = MemSink::new(alloc, hindrance.step, failing_err);
     let limits = limits_of(bounds);
@@ -146,10 +154,7 @@ pub fn check_bytes(
     cuts: &[usize],
 ) -> Result<(), AllocError> {
     for cut in cuts {
-        let hindrance = Hindrance {
-            cuts: if *cut == 0 { &[] } else { &[*cut] },
-            ..NONE
-        };
+        let hindrance = Hindrance { cut: *cut, ..NONE };
         let end = run_on(alloc, case.words, dump, &case.bounds, hindrance)?;
         assert_eq!(rt; end.status, case.status);
         assert_eq!(rt; end.out.written(), out);

@@ -9,8 +9,8 @@ fn a_missing_file_and_failing_reads(rt: HostRuntime) -> Result<(), Fail> {
     for call in 0..37 {
         let name = if call == 0 { "NONE" } else { "F" };
         let failing = Hindrance {
-            cuts: &[1],
-            failing_calls: &[call],
+            cut: 1,
+            failing_call: call,
             ..NONE
         };
         let end = run_on(
@@ -32,7 +32,7 @@ fn a_failing_write_at_each_place(rt: HostRuntime) -> Result<(), Fail> {
     for place in 0..49 {
         let failing = Hindrance {
             step: 1,
-            failing_out: &[place as u64 + 1],
+            failing_out: place as u64 + 1,
             ..NONE
         };
         let end = run_on(

@@ -40,17 +40,18 @@ fn words_that_are_no_command(rt: HostRuntime) -> Result<(), Fail> {
     Ok(())
 }
 
+const CUT_LINES: [(&[&str], u64, &str); 3] = [
+    (&[], 1, ""),
+    (&[], 7, "usage:"),
+    (&["index", "F"], 8, "refused"),
+];
+
 #[test]
 fn a_line_that_is_not_written(rt: HostRuntime) -> Result<(), Fail> {
-    let cases: [(&[&str], u64, &str); 3] = [
-        (&[], 1, ""),
-        (&[], 7, "usage:"),
-        (&["index", "F"], 8, "refused"),
-    ];
-    for (words, write, err) in cases {
+    for (words, failing_err, err) in CUT_LINES {
         let failing = Hindrance {
             step: 1,
-            failing_err: &[write],
+            failing_err,
             ..NONE
         };
         let end = run_on(rt.alloc(), words, b"", &USUAL, failing)?;
