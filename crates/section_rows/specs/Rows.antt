@@ -1,5 +1,5 @@
 -- What is kept of sections: a row for each, with its offset in the file and a cell for each column.
-use Rattle.std.specs.Prelude.{◌≡◌, ℕ, ◌+◌, ◌≤◌, List, [], length, map, slice_get, Option, Some, option_map, unwrap_or, IfSome, All}
+use Rattle.std.specs.Prelude.{◌≡◌, ℕ, ◌+◌, ◌≤◌, List, [], length, map, slice_get, Option, None, Some, option_map, unwrap_or, IfSome, All}
 use Rattle.std.specs.List.{between}
 use Rattle.field_lines.specs.Fields.{find_line, place_of, value_of}
 use Rattle.section_index.specs.Sections.{Section, tag_of, id_of}
@@ -60,6 +60,14 @@ pub record Table : Type 0 where
 -- the row at a place, and past the last one an empty row
 abbrev pub row_at : List Row → ℕ → Row
 row_at rows i = unwrap_or (slice_get rows i) (record { at = 0; cells = [] })
+
+-- the cell of a row in the column at a place, and none past the last one
+abbrev pub cell_at : Row → ℕ → Option Kept
+cell_at row c = unwrap_or (slice_get row.cells c) None
+
+-- the text of a cell
+abbrev pub text_in : Option Kept → Option (List ℕ)
+text_in cell = option_map (λ k. k.text) cell
 
 -- each row has a cell for each column
 abbrev pub AreEven : Table → Type 0
