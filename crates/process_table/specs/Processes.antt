@@ -1,5 +1,6 @@
 -- The process table of a dump.
 use Rattle.std.specs.Prelude.{◌≡◌, ℕ, ◌<◌, ◌≤◌, true, List, length, map, Option, Some, All, codes}
+use Rattle.dump_io.specs.Limits.{usual}
 use Rattle.section_index.specs.Bodies.{section_at}
 use Rattle.section_index.specs.Index.{Contents, sections_in}
 use Rattle.section_index.specs.Lookups.{is_named}
@@ -65,5 +66,5 @@ pub record IsBounded (p : Process) : Type 0 where
 
 -- there are no more processes than an index has sections, and each is bounded
 pub record AreBounded (table : ProcessTable) : Type 0 where
-  pub count : length table.processes ≤ 8000000
+  pub count : length table.processes ≤ usual.sections
   pub fields : All IsBounded table.processes

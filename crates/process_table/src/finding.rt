@@ -1,6 +1,7 @@
 // The first section of each process is found.
 ghost use Rattle.std.specs.Prelude.{◌≡◌, ◌+◌, ◌<◌, ◌≤◌, ◌^◌, length, take, slice_get, Some, OnOk, IfOk};
 ghost use Rattle.std.specs.Option.{option_copied};
+ghost use Rattle.dump_io.specs.Limits.{usual};
 ghost use Rattle.section_index.specs.Index.{sections_in};
 ghost use Rattle.section_index.specs.Bodies.{section_at};
 ghost use Rattle.process_table.specs.Records.{placed};
@@ -52,7 +53,7 @@ fn find_at(alloc: Global, found: &mut Found, index: &Index, i: usize) -> Result<
 // Finds the first section of each process of an index.
 pub(crate) fn find(alloc: Global, index: &Index) -> Result<Found, AllocError>
     ensures found { IfOk result (λ found. AreFound found (placed (sections_in index.now))) }
-    ensures count { IfOk result (λ found. length found.places.entries ≤ 8000000) }
+    ensures count { IfOk result (λ found. length found.places.entries ≤ usual.sections) }
 {
     let mut found = Found {
         places: IndexMap::new(alloc),

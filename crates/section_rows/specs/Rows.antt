@@ -1,6 +1,7 @@
 -- What is kept of sections: a row for each, with its offset in the file and a cell for each column.
 use Rattle.std.specs.Prelude.{◌≡◌, ℕ, ◌+◌, ◌≤◌, List, [], length, map, slice_get, Option, None, Some, option_map, unwrap_or, IfSome, All}
 use Rattle.std.specs.List.{between}
+use Rattle.dump_io.specs.Limits.{usual}
 use Rattle.field_lines.specs.Fields.{find_line, place_of, value_of}
 use Rattle.section_index.specs.Sections.{Section, tag_of, id_of}
 
@@ -75,9 +76,9 @@ AreEven table = All (λ row. length row.cells ≡ table.width) table.rows
 
 -- offsets are within the largest dump, and a text is no longer than the largest body
 pub record IsBounded (k : Kept) : Type 0 where
-  pub at : k.at ≤ 68719476736
-  pub value_at : k.value_at ≤ 68719476736
-  pub text : length k.text ≤ 536870912
+  pub at : k.at ≤ usual.dump
+  pub value_at : k.value_at ≤ usual.dump
+  pub text : length k.text ≤ usual.section
 
 abbrev pub IsBoundedCell : Option Kept → Type 0
 IsBoundedCell cell = IfSome cell IsBounded

@@ -6,6 +6,7 @@
 #![tactic(auto)]
 
 mod columns;
+mod loading;
 mod rows;
 mod store;
 

@@ -1,5 +1,6 @@
 -- Processes that are kept as a map of their places, and a table of their fields.
 use Rattle.std.specs.Prelude.{◌≡◌, ℕ, ◌≤◌, List, [], ◌∷◌, length}
+use Rattle.dump_io.specs.Limits.{usual}
 use Rattle.section_rows.specs.Rows.{Row, Table, cell_at}
 use Rattle.process_table.specs.Processes.{Process}
 use Rattle.process_table.specs.Inner.Finding.{Places}
@@ -25,4 +26,4 @@ all_joined (entry ∷ entries) (row ∷ rows) = joined entry row ∷ all_joined 
 pub record AreJoined (places : Places) (fields : Table) : Type 0 where
   pub rows : length fields.rows ≡ length places.entries
   pub width : fields.width ≡ 5
-  pub count : length places.entries ≤ 8000000
+  pub count : length places.entries ≤ usual.sections

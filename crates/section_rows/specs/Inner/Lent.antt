@@ -1,6 +1,7 @@
 -- A section as an index lends it.
 use Rattle.std.specs.Prelude.{◌≡◌, ◌≤◌}
 use Rattle.std.specs.Option.{option_copied}
+use Rattle.dump_io.specs.Limits.{usual}
 use Rattle.section_index.specs.declared.index.Section.{Section as LentSection}
 use Rattle.section_index.specs.Sections.{Section, section, tag_of, id_of}
 
@@ -13,4 +14,4 @@ pub record IsLent (s : LentSection) : Type 0 where
   pub id : option_copied s.id ≡ id_of s.text.now
   pub begins : s.at ≤ s.body
   pub ends : s.body ≤ s.end
-  pub bounded : s.end ≤ 68719476736
+  pub bounded : s.end ≤ usual.dump
