@@ -1,5 +1,5 @@
 -- Which sections of a dump are its processes.
-use Rattle.std.specs.Prelude.{ℕ, ◌-◌, Bool, ◌&&◌, not, List, [], ◌∷◌, length, filter, is_some, unwrap_or, codes}
+use Rattle.std.specs.Prelude.{ℕ, ◌-◌, Bool, ◌&&◌, not, List, [], ◌∷◌, length, map, filter, is_some, unwrap_or, codes}
 use Rattle.std.specs.List.{enumerate_from}
 use Rattle.std.specs.Str.{bytes_eq}
 use Rattle.section_index.specs.Lookups.{has_tag}
@@ -33,6 +33,9 @@ first_of_each (p ∷ rest) = p ∷ filter (λ other. not (has_same_pid p other))
 -- the records of the process table, in dump order: the first section of each process
 abbrev pub records : List Section → List Placed
 records sections = first_of_each (process_sections (placed sections))
+
+abbrev pub record_sections : List Section → List Section
+record_sections sections = map (λ r. r.1) (records sections)
 
 -- how many sections of processes were passed over
 abbrev pub repeated : List Section → ℕ

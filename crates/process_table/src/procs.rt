@@ -1,13 +1,23 @@
 // The process table.
-ghost use Rattle.std.specs.Prelude.{◌≡◌, ◌<◌, length, slice_get, Some, IfSome, position};
+ghost use Rattle.std.specs.Prelude.{◌≡◌, ℕ, List, ◌<◌, length, map, slice_get, None, Some, IfSome, IsSome, IfOk, OnOk, IfErr, All, position};
 ghost use Rattle.std.specs.Str.{bytes_eq};
-ghost use Rattle.process_table.specs.Processes.{AreBounded};
+ghost use Rattle.indexmap.specs.IndexMap.{values};
+ghost use Rattle.dump_io.specs.Dumps.{told, used, ReadsAtMost};
+ghost use Rattle.section_index.specs.Index.{IsBuiltOver, sections_in};
+ghost use Rattle.section_rows.specs.Loading.{bodies_length, first_large, AreRefused};
+ghost use Rattle.section_rows.specs.Rows.{rows_of};
+ghost use Rattle.process_table.specs.Records.{records, record_sections};
+ghost use Rattle.process_table.specs.Processes.{AreBounded, IsIn, IsOver, process_table};
 ghost use Rattle.process_table.specs.Shown.{shown_process};
-ghost use Rattle.process_table.specs.Inner.Finding.{named_places};
-ghost use Rattle.process_table.specs.Inner.Joined.{all_joined, AreJoined};
+ghost use Rattle.process_table.specs.Inner.Finding.{named_places, named_place, IsRecordOf};
+ghost use Rattle.process_table.specs.Inner.Joined.{all_joined, AreJoined, field_columns};
 
+use crate::finding::find;
+use dump_io::{Dumps, Limits};
 use indexmap::IndexMap;
-use section_rows::{Kept, SectionRows};
+use section_index::{BodyFault, Index};
+use section_rows::{Column, Kept, SectionRows};
+use std::alloc::{AllocError, Global};
 use std::marker::Model;
 
 /// A process of a dump. A field is `None` exactly where the section's body has no such line.
@@ -60,6 +70,13 @@ fn place_at(places: &IndexMap<Vec<u8>, usize>, i: usize) -> (&[u8], usize)
     (pid.as_slice(), *section)
 }
 
+// The places of the sections, in the order of the entries.
+fn sections_of(alloc: Global, places: &IndexMap<Vec<u8>, usize>) -> Result<Vec<usize>, AllocError>
+    ensures { IfOk result (λ sections. sections.items ≡ values places.now) }
+{
+    places.values().copied().collect(alloc)
+}
+
 // The process of the entry and the row at a place.
 fn joined_at<'a>(
     places: &'a IndexMap<Vec<u8>, usize>,
@@ -82,7 +99,75 @@ fn joined_at<'a>(
     }
 }
 
+// The fields of a process, in the order of the columns.
+const FIELDS: [Column<'static>; 5] = [
+    Column::Field(b"State"),
+    Column::Field(b"Name"),
+    Column::Field(b"Message queue length"),
+    Column::Field(b"Memory"),
+    Column::Field(b"Link list"),
+];
+
+// Loads the fields of the processes that were found.
+fn load_fields<D: Dumps>(
+    alloc: Global,
+    dumps: &mut D,
+    index: &Index,
+    places: &IndexMap<Vec<u8>, usize>,
+    limits: &Limits,
+) -> Result<SectionRows, BodyFault>
+    requires over { IsBuiltOver (D.now dumps.old) index.now }
+    requires found { named_places places.now ≡ map named_place (records (sections_in index.now)) }
+    requires records { All (IsRecordOf index.now) (records (sections_in index.now)) }
+    ensures reads { ReadsAtMost (used D.files D.now D.faults D.taken dumps.old dumps.new) (bodies_length (record_sections (sections_in index.now))) }
+    ensures rows { IfOk result (λ table. (bytes : List ℕ) → D.now dumps.old ≡ told bytes
+        → table.rows ≡ rows_of bytes field_columns (record_sections (sections_in index.now))) }
+    ensures width { IfOk result (λ table. table.width ≡ 5) }
+    ensures places { IfOk result (λ table. map (λ row. row.at) table.rows ≡ map (λ s. s.at) (record_sections (sections_in index.now))) }
+    ensures loaded { OnOk result (first_large limits.now.section (record_sections (sections_in index.now)) ≡ None) }
+    ensures fault { IfErr result (AreRefused (record_sections (sections_in index.now)) limits.now.section (used D.files D.now D.faults D.taken dumps.old dumps.new)) }
+    ensures unread { IsSome (first_large limits.now.section (record_sections (sections_in index.now))) → dumps.new ≡ dumps.old }
+{
+    let Ok(sections) = sections_of(alloc, places) else {
+        return Err(BodyFault::Memory);
+    };
+    SectionRows::load(alloc, dumps, index, &sections, &FIELDS, limits)
+}
+
 impl Procs {
+    /// Finds the processes of an index, and reads the bodies of their sections one after another. The index is
+    /// one that was built over the file that is open, and the file stays open.
+    ///
+    /// `SectionTooLarge` comes exactly where one of these bodies has more bytes than the limit on sections,
+    /// unless `Memory` comes; it names the first such section of the dump, and nothing is read then. `Read`
+    /// comes only where the device's count of faults rose; `Memory` may come wherever memory is taken. At most
+    /// as many bytes are read as the bodies have together, also where they aren't loaded.
+    pub fn load<D: Dumps>(
+        alloc: Global,
+        dumps: &mut D,
+        index: &Index,
+        limits: &Limits,
+    ) -> Result<Procs, BodyFault>
+        requires { IsBuiltOver (D.now dumps.old) index.now }
+        ensures reads { ReadsAtMost (used D.files D.now D.faults D.taken dumps.old dumps.new) (bodies_length (record_sections (sections_in index.now))) }
+        ensures table { IfOk result (λ procs. (bytes : List ℕ) → D.now dumps.old ≡ told bytes → procs ≡ process_table bytes) }
+        ensures over { IfOk result (IsOver index.now) }
+        ensures named { IfOk result (λ procs. All (IsIn index.now) procs.processes) }
+        ensures loaded { OnOk result (first_large limits.now.section (record_sections (sections_in index.now)) ≡ None) }
+        ensures fault { IfErr result (AreRefused (record_sections (sections_in index.now)) limits.now.section (used D.files D.now D.faults D.taken dumps.old dumps.new)) }
+        ensures unread { IsSome (first_large limits.now.section (record_sections (sections_in index.now))) → dumps.new ≡ dumps.old }
+    {
+        let Ok(found) = find(alloc, index) else {
+            return Err(BodyFault::Memory);
+        };
+        let fields = load_fields(alloc, dumps, index, &found.places, limits)?;
+        Ok(Procs {
+            places: found.places,
+            fields,
+            repeated: found.repeated,
+        })
+    }
+
     /// The number of processes.
     pub fn len(&self) -> usize
         ensures value { result ≡ length self.now.processes }

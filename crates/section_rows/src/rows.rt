@@ -1,5 +1,5 @@
 // What is kept of sections: a row for each.
-ghost use Rattle.std.specs.Prelude.{◌≡◌, ℕ, List, ◌<◌, length, map, slice_get, Some, None, All, IfOk, OnOk, IfErr, IsErrOf, IfSome};
+ghost use Rattle.std.specs.Prelude.{◌≡◌, ℕ, List, ◌<◌, length, map, slice_get, Some, None, All, IfOk, OnOk, IfErr, IsErrOf, IfSome, IsSome};
 ghost use Rattle.dump_io.specs.Dumps.{told, used, ReadsAtMost};
 ghost use Rattle.section_index.specs.Index.{IsBuiltOver};
 ghost use Rattle.section_rows.specs.Loading.{sections_at, bodies_length, first_large, large_fault, AreRefused};
@@ -58,7 +58,8 @@ impl SectionRows {
         ensures fault { IfErr result (AreRefused (sections_at index.now sections.now) limits.now.section (used D.files D.now D.faults D.taken dumps.old dumps.new)) }
 
         // A body that is too large is always refused as such, and the device plays no part.
-        ensures too_large { IfSome (large_fault limits.now.section (sections_at index.now sections.now)) (λ fault. IsErrOf result fault × (dumps.new ≡ dumps.old)) }
+        ensures too_large { IfSome (large_fault limits.now.section (sections_at index.now sections.now)) (IsErrOf result) }
+        ensures unread { IsSome (first_large limits.now.section (sections_at index.now sections.now)) → dumps.new ≡ dumps.old }
     {
         if let Some(fault) = large(index, sections, limits) {
             return Err(fault);

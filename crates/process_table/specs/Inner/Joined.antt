@@ -1,9 +1,13 @@
 -- Processes that are kept as a map of their places, and a table of their fields.
-use Rattle.std.specs.Prelude.{◌≡◌, ℕ, ◌≤◌, List, [], ◌∷◌, length}
+use Rattle.std.specs.Prelude.{◌≡◌, ℕ, ◌≤◌, List, [], ◌∷◌, length, codes}
 use Rattle.dump_io.specs.Limits.{usual}
-use Rattle.section_rows.specs.Rows.{Row, Table, cell_at}
+use Rattle.section_rows.specs.Rows.{Column, field, Row, Table, cell_at}
 use Rattle.process_table.specs.Processes.{Process}
 use Rattle.process_table.specs.Inner.Finding.{Places}
+
+-- the fields of a process, in the order of the cells
+abbrev pub field_columns : List Column
+field_columns = field (codes "State") ∷ field (codes "Name") ∷ field (codes "Message queue length") ∷ field (codes "Memory") ∷ field (codes "Link list") ∷ []
 
 -- the process of an entry and the row of its fields
 abbrev pub joined : List ℕ × ℕ → Row → Process
