@@ -157,7 +157,7 @@ pub too_large-append : (limit : ℕ) (xs ys : List Section) → too_large limit 
 too_large-append limit [] ys = refl
 too_large-append limit (s ∷ xs) ys =
     elim (nat_lt limit (body_length s)) as (λ b. (if b then Some (SectionTooLarge s.at (body_length s)) else too_large limit (xs ++ ys))
-        ≡ option_or (if b then Some (SectionTooLarge s.at (body_length s)) else too_large limit xs) (too_large limit ys)) [
+    ≡ option_or (if b then Some (SectionTooLarge s.at (body_length s)) else too_large limit xs) (too_large limit ys)) [
       | true ↦ refl
       | false ↦ too_large-append limit xs ys
     ]

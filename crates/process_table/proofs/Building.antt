@@ -1,0 +1,156 @@
+-- The process table is put together.
+use Rattle.std.proofs.Common.{◌≡◌, ℕ, ◌<◌, Bool, true, false, None, ◌&&◌, List, [], ◌∷◌, length, map, Option, Some, All, is_some, unwrap_or, refl, sym, ◌∙◌, ap, subst, arith}
+use Rattle.std.specs.Prelude.{codes}
+use Rattle.std.specs.Global.{Vec}
+use Rattle.std.specs.Option.{option_eq}
+use Rattle.std.specs.Str.{bytes_eq}
+use Rattle.std.proofs.lemmas.List.{length-map}
+use Rattle.std.proofs.lemmas.List.Elements.{All-nil, All-cons, All-head, All-tail}
+use Rattle.std.proofs.lemmas.Slice.Eq.{bytes_eq-Decides}
+use Rattle.dump_io.specs.Dumps.{Now, told}
+use Rattle.dump_io.specs.Lines.{headers}
+use Rattle.section_index.specs.Index.{Contents, sections_in, IsBuiltOver, IsIndexOf}
+use Rattle.section_index.specs.Lookups.{has_tag, is_named}
+use Rattle.section_index.specs.Sections.{Section, id_of, sections, sections_of}
+use Rattle.section_rows.specs.Loading.{sections_at}
+use Rattle.section_rows.specs.Rows.{Row, rows_of, body_of}
+use Rattle.process_table.specs.Records.{Placed, placed, is_process, pid_of, records, record_sections, repeated}
+use Rattle.process_table.specs.Processes.{Process, ProcessTable, process_in, process_table, IsIn, IsOver}
+use Rattle.process_table.specs.Inner.Finding.{named_places, named_place, AreFound, IsRecordOf}
+use Rattle.process_table.specs.declared.finding.Found.{Found}
+use Rattle.process_table.specs.Inner.Joined.{joined, all_joined, field_columns}
+use Rattle.process_table.proofs.Joining.{pids-all_joined}
+
+-- the sections at the places that the map keeps are those of the records
+pub sections_at-records : (index : Contents) (rs : List Placed) (entries : List (Vec ℕ × ℕ)) → map (λ (e : Vec ℕ × ℕ). (e.0.items, e.1)) entries ≡ map named_place rs
+    → All (IsRecordOf index) rs → sections_at index (map (λ (e : Vec ℕ × ℕ). e.1) entries) ≡ map (λ (r : Placed). r.1) rs
+sections_at-records index rs entries same all = ap (sections_at index) (places_of entries rs same) ∙ sections rs all
+  where
+    named : (rs : List Placed) → map (λ (e : List ℕ × ℕ). e.1) (map named_place rs) ≡ map (λ (r : Placed). r.0) rs
+    named [] = refl
+    named (r ∷ rs) = ap (λ l. r.0 ∷ l) (named rs)
+
+    kept : (entries : List (Vec ℕ × ℕ)) → map (λ (e : Vec ℕ × ℕ). e.1) entries ≡ map (λ (e : List ℕ × ℕ). e.1) (map (λ (e : Vec ℕ × ℕ). (e.0.items, e.1)) entries)
+    kept [] = refl
+    kept (e ∷ entries) = ap (λ l. e.1 ∷ l) (kept entries)
+
+    places_of : (entries : List (Vec ℕ × ℕ)) (rs : List Placed) → map (λ (e : Vec ℕ × ℕ). (e.0.items, e.1)) entries ≡ map named_place rs
+        → map (λ (e : Vec ℕ × ℕ). e.1) entries ≡ map (λ (r : Placed). r.0) rs
+    places_of entries rs same = kept entries ∙ ap (map (λ (e : List ℕ × ℕ). e.1)) same ∙ named rs
+
+    sections : (rs : List Placed) → All (IsRecordOf index) rs → sections_at index (map (λ (r : Placed). r.0) rs) ≡ map (λ (r : Placed). r.1) rs
+    sections [] all = refl
+    sections (r ∷ rs) all =
+        ap (λ s. s ∷ sections_at index (map (λ (p : Placed). p.0) rs)) (All-head (IsRecordOf index) r rs all).section
+        ∙ ap (λ l. r.1 ∷ l) (sections rs (All-tail (IsRecordOf index) r rs all))
+
+-- and these places are within the index
+pub places-within : (index : Contents) (rs : List Placed) (entries : List (Vec ℕ × ℕ)) → map (λ (e : Vec ℕ × ℕ). (e.0.items, e.1)) entries ≡ map named_place rs
+    → All (IsRecordOf index) rs → All (λ place. place < length index.headers) (map (λ (e : Vec ℕ × ℕ). e.1) entries)
+places-within index rs entries same all = subst (All (λ place. place < length index.headers)) (sym (places_named entries ∙ ap (map (λ (e : List ℕ × ℕ). e.1)) same)) (inside rs all)
+  where
+    places_named : (entries : List (Vec ℕ × ℕ)) → map (λ (e : Vec ℕ × ℕ). e.1) entries ≡ map (λ (e : List ℕ × ℕ). e.1) (map (λ (e : Vec ℕ × ℕ). (e.0.items, e.1)) entries)
+    places_named [] = refl
+    places_named (e ∷ entries) = ap (λ l. e.1 ∷ l) (places_named entries)
+
+    inside : (rs : List Placed) → All (IsRecordOf index) rs → All (λ place. place < length index.headers) (map (λ (e : List ℕ × ℕ). e.1) (map named_place rs))
+    inside [] all = All-nil (λ place. place < length index.headers)
+    inside (r ∷ rs) all =
+        All-cons (λ place. place < length index.headers) r.0 (map (λ (e : List ℕ × ℕ). e.1) (map named_place rs)) (All-head (IsRecordOf index) r rs all).place
+        (inside rs (All-tail (IsRecordOf index) r rs all))
+
+-- the processes of a dump whose bytes are told: places and rows are those of its records
+pub all_joined-records : (bytes : List ℕ) (rs : List Placed)
+    → all_joined (map named_place rs) (rows_of bytes field_columns (map (λ (r : Placed). r.1) rs)) ≡ map (λ (r : Placed). process_in r (body_of bytes r.1)) rs
+all_joined-records bytes [] = refl
+all_joined-records bytes (r ∷ rs) = ap (λ processes. process_in r (body_of bytes r.1) ∷ processes) (all_joined-records bytes rs)
+
+-- the places and the pids of processes are those of the entries
+pub sections-all_joined : (entries : List (List ℕ × ℕ)) (rows : List Row) → length rows ≡ length entries
+    → map (λ (p : Process). p.section) (all_joined entries rows) ≡ map (λ (e : List ℕ × ℕ). e.1) entries
+sections-all_joined [] rows same = refl
+sections-all_joined (entry ∷ entries) [] same = absurd (omega (arith, same))
+sections-all_joined (entry ∷ entries) (row ∷ rows) same = ap (λ l. entry.1 ∷ l) (sections-all_joined entries rows (omega (arith, same)))
+
+named_sections : (rs : List Placed) → map (λ (e : List ℕ × ℕ). e.1) (map named_place rs) ≡ map (λ (r : Placed). r.0) rs
+named_sections [] = refl
+named_sections (r ∷ rs) = ap (λ l. r.0 ∷ l) (named_sections rs)
+
+named_pids : (rs : List Placed) → map (λ (e : List ℕ × ℕ). e.0) (map named_place rs) ≡ map (λ (r : Placed). pid_of r.1) rs
+named_pids [] = refl
+named_pids (r ∷ rs) = ap (λ l. pid_of r.1 ∷ l) (named_pids rs)
+
+pub sections-records : (rs : List Placed) (rows : List Row) → length rows ≡ length rs
+    → map (λ (p : Process). p.section) (all_joined (map named_place rs) rows) ≡ map (λ (r : Placed). r.0) rs
+sections-records rs rows same = sections-all_joined (map named_place rs) rows (same ∙ sym (length-map rs named_place)) ∙ named_sections rs
+
+pub pids-records : (rs : List Placed) (rows : List Row) → length rows ≡ length rs
+    → map (λ (p : Process). p.pid) (all_joined (map named_place rs) rows) ≡ map (λ (r : Placed). pid_of r.1) rs
+pids-records rs rows same = pids-all_joined (map named_place rs) rows (same ∙ sym (length-map rs named_place)) ∙ named_pids rs
+
+-- a process's section has the tag and its pid
+named_own : (s : Section) → is_process s ≡ true → is_named (codes "proc") (Some (pid_of s)) s.text ≡ true
+named_own s own = by (has_tag (codes "proc") s.text) refl own
+  where
+    of_id : (id : Option (List ℕ)) → is_some id ≡ true → option_eq bytes_eq id (Some (unwrap_or id [])) ≡ true
+    of_id None some = cc
+    of_id (Some pid) some = (bytes_eq-Decides pid pid).1 refl
+
+    by : (b : Bool) → has_tag (codes "proc") s.text ≡ b → (has_tag (codes "proc") s.text && is_some (id_of s.text)) ≡ true → is_named (codes "proc") (Some (pid_of s)) s.text ≡ true
+    by false e both = let none = sym (ap (λ x. x && is_some (id_of s.text)) e) ∙ both in cc
+    by true e both =
+        ap (λ x. x && option_eq bytes_eq (id_of s.text) (Some (pid_of s))) e
+        ∙ of_id (id_of s.text) (sym (ap (λ x. x && is_some (id_of s.text)) e) ∙ both)
+
+pub All-named : (index : Contents) (rs : List Placed) (rows : List Row) → All (IsRecordOf index) rs → All (IsIn index) (all_joined (map named_place rs) rows)
+All-named index [] rows all = All-nil (IsIn index)
+All-named index (r ∷ rs) [] all = All-nil (IsIn index)
+All-named index (r ∷ rs) (row ∷ rows) all =
+    let own = All-head (IsRecordOf index) r rs all in
+    All-cons (IsIn index) (joined (named_place r) row) (all_joined (map named_place rs) rows)
+    (record {
+      place = own.place;
+      named = subst (λ (s : Section). is_named (codes "proc") (Some (pid_of r.1)) s.text ≡ true) (sym own.section) (named_own r.1 own.process);
+    })
+    (All-named index rs rows (All-tail (IsRecordOf index) r rs all))
+
+-- how many records and how many others were found
+pub count_of_records : (found : Found) (sections : List Section) → AreFound found (placed sections) → length found.places.entries ≡ length (records sections)
+count_of_records found sections are =
+    sym (length-map found.places.entries (λ (e : Vec ℕ × ℕ). (e.0.items, e.1))) ∙ ap length are.records ∙ length-map (records sections) named_place
+
+pub repeated_of : (found : Found) (sections : List Section) → AreFound found (placed sections) → found.repeated ≡ repeated sections
+repeated_of found sections are = omega (arith, are.all, count_of_records found sections are)
+
+-- the sections of an index over bytes that are told are those of the bytes
+pub sections_told : (now : Now) (index : Contents) (bytes : List ℕ) → IsBuiltOver now index → now ≡ told bytes → sections_in index ≡ sections bytes
+sections_told now index bytes over same =
+    let is : IsIndexOf bytes index = subst (λ (n : Now). IsBuiltOver n index) same over in
+    ap (λ hs. sections_of hs index.size) is.headers ∙ ap (λ n. sections_of (headers bytes) n) is.size
+
+-- a table that is put together of what was found among the sections of an index, and of the rows of the records
+module _ (index : Contents) (found : Found) (rows : List Row) (are : AreFound found (placed (sections_in index)))
+    (places : map (λ (row : Row). row.at) rows ≡ map (λ (s : Section). s.at) (record_sections (sections_in index))) where
+  pub count_of_rows : length rows ≡ length (records (sections_in index))
+  count_of_rows =
+      sym (length-map rows (λ (row : Row). row.at)) ∙ ap length places ∙ length-map (record_sections (sections_in index)) (λ (s : Section). s.at)
+      ∙ length-map (records (sections_in index)) (λ (r : Placed). r.1)
+
+  pub IsOver-built : IsOver index (let t : ProcessTable = record { processes = all_joined (named_places found.places) rows; repeated = found.repeated } in t)
+  IsOver-built = record {
+    sections = ap (λ l. map (λ (p : Process). p.section) (all_joined l rows)) are.records ∙ sections-records (records (sections_in index)) rows count_of_rows;
+    pids = ap (λ l. map (λ (p : Process). p.pid) (all_joined l rows)) are.records ∙ pids-records (records (sections_in index)) rows count_of_rows;
+    repeated = repeated_of found (sections_in index) are;
+  }
+
+  pub All-named-built : All (IsRecordOf index) (records (sections_in index)) → All (IsIn index) (all_joined (named_places found.places) rows)
+  All-named-built all = subst (λ l. All (IsIn index) (all_joined l rows)) (sym are.records) (All-named index (records (sections_in index)) rows all)
+
+  pub built_told : (bytes : List ℕ) → sections_in index ≡ sections bytes → rows ≡ rows_of bytes field_columns (record_sections (sections_in index))
+      → (let t : ProcessTable = record { processes = all_joined (named_places found.places) rows; repeated = found.repeated } in t) ≡ process_table bytes
+  built_told bytes same told_rows =
+      let processes : all_joined (named_places found.places) rows ≡ map (λ (r : Placed). process_in r (body_of bytes r.1)) (records (sections bytes)) =
+      ap (λ l. all_joined l rows) are.records ∙ ap (all_joined (map named_place (records (sections_in index)))) told_rows
+      ∙ all_joined-records bytes (records (sections_in index)) ∙ ap (λ l. map (λ (r : Placed). process_in r (body_of bytes r.1)) (records l)) same in
+      let others : found.repeated ≡ repeated (sections bytes) = repeated_of found (sections_in index) are ∙ ap repeated same in
+      λ i. record { processes = processes i; repeated = others i }

@@ -1,0 +1,99 @@
+-- Processes joined of places and rows.
+use Rattle.std.proofs.Common.{◌≡◌, ℕ, zero, suc, ◌+◌, List, [], ◌∷◌, length, map, slice_get, Option, Some, None, All, refl, sym, ◌∙◌, ap, subst, arith, inl, inr, unwrap_or, Bool, cond, not, position}
+use Rattle.std.specs.Prelude.{nat_lt}
+use Rattle.std.specs.List.{prefix_len, position_or_len}
+use Rattle.std.specs.Str.{bytes_eq}
+use Rattle.std.specs.Global.{Vec}
+use Rattle.indexmap.specs.IndexMap.{keys, index_of_by}
+use Rattle.std.proofs.lemmas.List.{length-map, get_or_past}
+use Rattle.std.proofs.lemmas.Option.{unwrap_or-slice_get, slice_get_cases}
+use Rattle.std.proofs.lemmas.List.Elements.{All-head, All-tail, All-nil, All-cons}
+use Rattle.section_rows.specs.Rows.{Kept, Row, row_at, cell_at, IsBoundedCell}
+use Rattle.process_table.specs.Processes.{Process, IsBounded}
+use Rattle.process_table.specs.Inner.Finding.{Places, named_places}
+use Rattle.process_table.specs.Inner.Joined.{joined, all_joined}
+
+pub length-named : (places : Places) → length (named_places places) ≡ length places.entries
+length-named places = length-map places.entries (λ entry. (entry.0.items, entry.1))
+
+pub length-all_joined : (entries : List (List ℕ × ℕ)) (rows : List Row) → length rows ≡ length entries → length (all_joined entries rows) ≡ length entries
+length-all_joined [] rows same = refl
+length-all_joined (entry ∷ entries) [] same = absurd (omega (arith, same))
+length-all_joined (entry ∷ entries) (row ∷ rows) same = ap suc (length-all_joined entries rows (omega (arith, same)))
+
+-- the process at a place
+pub all_joined-at : (entries : List (List ℕ × ℕ)) (rows : List Row) (i : ℕ) (entry : List ℕ × ℕ) → length rows ≡ length entries → slice_get entries i ≡ Some entry
+    → slice_get (all_joined entries rows) i ≡ Some (joined entry (row_at rows i))
+all_joined-at [] rows i entry same is = cc
+all_joined-at (first ∷ entries) [] i entry same is = absurd (omega (arith, same))
+all_joined-at (first ∷ entries) (row ∷ rows) zero entry same is = let here : first ≡ entry = cc in ap (λ e. Some (joined e row)) here
+all_joined-at (first ∷ entries) (row ∷ rows) (suc i) entry same is = all_joined-at entries rows i entry (omega (arith, same)) is
+
+-- the pids are those of the entries
+pub pids-all_joined : (entries : List (List ℕ × ℕ)) (rows : List Row) → length rows ≡ length entries
+    → map (λ (p : Process). p.pid) (all_joined entries rows) ≡ map (λ (e : List ℕ × ℕ). e.0) entries
+pids-all_joined [] rows same = refl
+pids-all_joined (entry ∷ entries) [] same = absurd (omega (arith, same))
+pids-all_joined (entry ∷ entries) (row ∷ rows) same = ap (λ pids. entry.0 ∷ pids) (pids-all_joined entries rows (omega (arith, same)))
+
+-- the cell that was read
+pub cell_at-read : (rows : List Row) (i c : ℕ) (cell : Option Kept) → slice_get (row_at rows i).cells c ≡ Some cell → cell_at (row_at rows i) c ≡ cell
+cell_at-read rows i c cell is = ap (λ (read : Option (Option Kept)). unwrap_or read None) is
+
+-- each cell of a bounded row is bounded, and one that isn't there too
+cell_at-bounded : (row : Row) (c : ℕ) → All IsBoundedCell row.cells → IsBoundedCell (cell_at row c)
+cell_at-bounded row c bounded =
+    subst IsBoundedCell (sym (unwrap_or-slice_get row.cells c None))
+    (elim (slice_get_cases row.cells c).1 [ inl found ↦ bounded c None found.1 | inr past ↦ subst IsBoundedCell (sym (get_or_past row.cells c None past.0)) tt ])
+
+joined-bounded : (entry : List ℕ × ℕ) (row : Row) → All IsBoundedCell row.cells → IsBounded (joined entry row)
+joined-bounded entry row bounded = record {
+  state = cell_at-bounded row 0 bounded;
+  name = cell_at-bounded row 1 bounded;
+  queue = cell_at-bounded row 2 bounded;
+  memory = cell_at-bounded row 3 bounded;
+  links = cell_at-bounded row 4 bounded;
+}
+
+pub all_joined-bounded : (entries : List (List ℕ × ℕ)) (rows : List Row) → All (λ (row : Row). All IsBoundedCell row.cells) rows → All IsBounded (all_joined entries rows)
+all_joined-bounded [] rows bounded = All-nil IsBounded
+all_joined-bounded (entry ∷ entries) [] bounded = All-nil IsBounded
+all_joined-bounded (entry ∷ entries) (row ∷ rows) bounded =
+    let inside : Row → Type 0 = λ (r : Row). All IsBoundedCell r.cells in
+    All-cons IsBounded (joined entry row) (all_joined entries rows) (joined-bounded entry row (All-head inside row rows bounded)) (all_joined-bounded entries rows (All-tail inside row rows bounded))
+
+prefix_len-map : {X Y : Type 0} (test : Y → Bool) (f : X → Y) (xs : List X) → prefix_len test (map f xs) ≡ prefix_len (λ x. test (f x)) xs
+prefix_len-map test f [] = refl
+prefix_len-map test f (x ∷ xs) = ap (λ n. cond (test (f x)) (1 + n) 0) (prefix_len-map test f xs)
+
+-- the first element whose image passes
+position-map : {X Y : Type 0} (test : Y → Bool) (f : X → Y) (xs : List X) → position test (map f xs) ≡ position (λ x. test (f x)) xs
+position-map test f xs =
+    ap (λ n. cond (nat_lt n (length (map f xs))) (Some n) None) (prefix_len-map (λ y. not (test y)) f xs)
+    ∙ ap (λ size. cond (nat_lt (position_or_len (λ x. test (f x)) xs) size) (Some (position_or_len (λ x. test (f x)) xs)) None) (length-map xs f)
+
+-- the place of a pid among the keys is that among the processes
+pub place_of_pid : (pid : List ℕ) (places : Places) (rows : List Row) → length rows ≡ length places.entries
+    → index_of_by (λ (key : Vec ℕ). bytes_eq pid key.items) places ≡ position (λ (p : Process). bytes_eq pid p.pid) (all_joined (named_places places) rows)
+place_of_pid pid places rows same =
+    let test = bytes_eq pid in
+    let named = named_places places in
+    sym (position-map test (λ (key : Vec ℕ). key.items) (keys places))
+    ∙ ap (position test) (same_pids places.entries)
+    ∙ ap (position test) (sym (pids-all_joined named rows (same ∙ sym (length-named places))))
+    ∙ position-map test (λ (p : Process). p.pid) (all_joined named rows)
+  where
+    same_pids : (entries : List (Vec ℕ × ℕ)) → map (λ (key : Vec ℕ). key.items) (map (λ (e : Vec ℕ × ℕ). e.0) entries)
+        ≡ map (λ (e : List ℕ × ℕ). e.0) (map (λ (e : Vec ℕ × ℕ). (e.0.items, e.1)) entries)
+    same_pids [] = refl
+    same_pids (entry ∷ entries) = ap (λ pids. entry.0.items ∷ pids) (same_pids entries)
+
+pub count_of : (places : Places) (rows : List Row) → length rows ≡ length places.entries → length (all_joined (named_places places) rows) ≡ length places.entries
+count_of places rows same = length-all_joined (named_places places) rows (same ∙ sym (length-named places)) ∙ length-named places
+
+-- a process by its cells
+pub joined-cells : (entry : List ℕ × ℕ) (row : Row) (state name queue memory links : Option Kept)
+    → cell_at row 0 ≡ state → cell_at row 1 ≡ name → cell_at row 2 ≡ queue → cell_at row 3 ≡ memory → cell_at row 4 ≡ links
+    → joined entry row ≡ (let p : Process = record { section = entry.1; pid = entry.0; state = state; name = name; queue = queue; memory = memory; links = links } in p)
+joined-cells entry row state name queue memory links a b c d e =
+    λ i. record { section = entry.1; pid = entry.0; state = a i; name = b i; queue = c i; memory = d i; links = e i }

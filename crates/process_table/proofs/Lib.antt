@@ -1,0 +1,5 @@
+pub mod Building
+pub mod Firsts
+pub mod Hearing
+pub mod Joining
+pub mod Placing

@@ -1,0 +1,33 @@
+-- Processes that are kept as a map of their places, and a table of their fields.
+use Rattle.std.specs.Prelude.{◌≡◌, ℕ, ◌≤◌, List, [], ◌∷◌, length, codes}
+use Rattle.dump_io.specs.Limits.{usual}
+use Rattle.section_rows.specs.Rows.{Column, field, Row, Table, cell_at}
+use Rattle.process_table.specs.Processes.{Process}
+use Rattle.process_table.specs.Inner.Finding.{Places}
+
+-- the fields of a process, in the order of the cells
+abbrev pub field_columns : List Column
+field_columns = field (codes "State") ∷ field (codes "Name") ∷ field (codes "Message queue length") ∷ field (codes "Memory") ∷ field (codes "Link list") ∷ []
+
+-- the process of an entry and the row of its fields
+abbrev pub joined : List ℕ × ℕ → Row → Process
+joined entry row = record {
+  section = entry.1;
+  pid = entry.0;
+  state = cell_at row 0;
+  name = cell_at row 1;
+  queue = cell_at row 2;
+  memory = cell_at row 3;
+  links = cell_at row 4;
+}
+
+abbrev pub all_joined : List (List ℕ × ℕ) → List Row → List Process
+all_joined [] rows = []
+all_joined (entry ∷ entries) [] = []
+all_joined (entry ∷ entries) (row ∷ rows) = joined entry row ∷ all_joined entries rows
+
+-- each process has a row, with a cell for each field
+pub record AreJoined (places : Places) (fields : Table) : Type 0 where
+  pub rows : length fields.rows ≡ length places.entries
+  pub width : fields.width ≡ 5
+  pub count : length places.entries ≤ usual.sections

@@ -1,0 +1,4 @@
+pub mod Inner
+pub mod Processes
+pub mod Records
+pub mod Shown

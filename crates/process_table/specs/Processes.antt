@@ -1,0 +1,70 @@
+-- The process table of a dump.
+use Rattle.std.specs.Prelude.{◌≡◌, ℕ, ◌<◌, ◌≤◌, true, List, length, map, Option, Some, All, codes}
+use Rattle.dump_io.specs.Limits.{usual}
+use Rattle.section_index.specs.Bodies.{section_at}
+use Rattle.section_index.specs.Index.{Contents, sections_in}
+use Rattle.section_index.specs.Lookups.{is_named}
+use Rattle.section_index.specs.Sections.{sections}
+use Rattle.section_rows.specs.Rows.{Kept, IsBoundedCell, body_of, field_kept}
+use Rattle.process_table.specs.Records.{Placed, records, repeated, pid_of}
+
+-- a process: the place of its section among those of the dump, from 0, its pid, and the first of each of these
+-- fields of the section's body, with offsets in the file
+pub record Process : Type 0 where
+  pub section : ℕ
+  pub pid : List ℕ
+  pub state : Option Kept
+  pub name : Option Kept
+  pub queue : Option Kept
+  pub memory : Option Kept
+  pub links : Option Kept
+
+-- the process of a section with this body
+abbrev pub process_in : Placed → List ℕ → Process
+process_in (place, s) body =
+    let field : List ℕ → Option Kept = field_kept s.body body in
+    record {
+      section = place;
+      pid = pid_of s;
+      state = field (codes "State");
+      name = field (codes "Name");
+      queue = field (codes "Message queue length");
+      memory = field (codes "Memory");
+      links = field (codes "Link list");
+    }
+
+-- the processes, and how many sections of processes were passed over because the pid stood before
+pub record ProcessTable : Type 0 where
+  pub processes : List Process
+  pub repeated : ℕ
+
+-- the process table of the bytes of a dump
+abbrev pub process_table : List ℕ → ProcessTable
+process_table bytes = record {
+  processes = map (λ p. process_in p (body_of bytes p.1)) (records (sections bytes));
+  repeated = repeated (sections bytes);
+}
+
+-- the processes are those of the index, whatever their fields
+pub record IsOver (index : Contents) (table : ProcessTable) : Type 0 where
+  pub sections : map (λ p. p.section) table.processes ≡ map (λ r. r.0) (records (sections_in index))
+  pub pids : map (λ p. p.pid) table.processes ≡ map (λ r. pid_of r.1) (records (sections_in index))
+  pub repeated : table.repeated ≡ repeated (sections_in index)
+
+-- the process names a section of the index whose tag is `proc` and whose id is the pid
+pub record IsIn (index : Contents) (process : Process) : Type 0 where
+  pub place : process.section < length index.headers
+  pub named : is_named (codes "proc") (Some process.pid) (section_at index process.section).text ≡ true
+
+-- the offsets of its fields are within the largest dump, and their texts no longer than the largest body
+pub record IsBounded (p : Process) : Type 0 where
+  pub state : IsBoundedCell p.state
+  pub name : IsBoundedCell p.name
+  pub queue : IsBoundedCell p.queue
+  pub memory : IsBoundedCell p.memory
+  pub links : IsBoundedCell p.links
+
+-- there are no more processes than an index has sections, and each is bounded
+pub record AreBounded (table : ProcessTable) : Type 0 where
+  pub count : length table.processes ≤ usual.sections
+  pub fields : All IsBounded table.processes

@@ -1,0 +1,42 @@
+-- Which sections of a dump are its processes.
+use Rattle.std.specs.Prelude.{ℕ, ◌-◌, Bool, ◌&&◌, not, List, [], ◌∷◌, length, map, filter, is_some, unwrap_or, codes}
+use Rattle.std.specs.List.{enumerate_from}
+use Rattle.std.specs.Str.{bytes_eq}
+use Rattle.section_index.specs.Lookups.{has_tag}
+use Rattle.section_index.specs.Sections.{Section, id_of}
+
+-- a section and its place among the sections of the dump, from 0
+abbrev pub Placed : Type 0
+Placed = ℕ × Section
+
+abbrev pub placed : List Section → List Placed
+placed sections = enumerate_from 0 sections
+
+-- the section of a process has the tag `proc` and an id, which is the pid
+abbrev pub is_process : Section → Bool
+is_process s = has_tag (codes "proc") s.text && is_some (id_of s.text)
+
+abbrev pub pid_of : Section → List ℕ
+pid_of s = unwrap_or (id_of s.text) []
+
+abbrev pub process_sections : List Placed → List Placed
+process_sections sections = filter (λ p. is_process p.1) sections
+
+abbrev pub has_same_pid : Placed → Placed → Bool
+has_same_pid p other = bytes_eq (pid_of p.1) (pid_of other.1)
+
+-- of the sections with one pid the first
+abbrev pub first_of_each : List Placed → List Placed
+first_of_each [] = []
+first_of_each (p ∷ rest) = p ∷ filter (λ other. not (has_same_pid p other)) (first_of_each rest)
+
+-- the records of the process table, in dump order: the first section of each process
+abbrev pub records : List Section → List Placed
+records sections = first_of_each (process_sections (placed sections))
+
+abbrev pub record_sections : List Section → List Section
+record_sections sections = map (λ r. r.1) (records sections)
+
+-- how many sections of processes were passed over
+abbrev pub repeated : List Section → ℕ
+repeated sections = length (process_sections (placed sections)) - length (records sections)

@@ -1,0 +1,201 @@
+// The process table.
+ghost use Rattle.std.specs.Prelude.{◌≡◌, ℕ, List, ◌<◌, length, map, slice_get, None, Some, IfSome, IsSome, IfOk, OnOk, IfErr, All, position};
+ghost use Rattle.std.specs.Str.{bytes_eq};
+ghost use Rattle.indexmap.specs.IndexMap.{values};
+ghost use Rattle.dump_io.specs.Dumps.{told, used, ReadsAtMost};
+ghost use Rattle.section_index.specs.Index.{IsBuiltOver, sections_in};
+ghost use Rattle.section_rows.specs.Loading.{bodies_length, first_large, AreRefused};
+ghost use Rattle.section_rows.specs.Rows.{rows_of};
+ghost use Rattle.process_table.specs.Records.{records, record_sections};
+ghost use Rattle.process_table.specs.Processes.{AreBounded, IsIn, IsOver, process_table};
+ghost use Rattle.process_table.specs.Shown.{shown_process};
+ghost use Rattle.process_table.specs.Inner.Finding.{named_places, named_place, IsRecordOf};
+ghost use Rattle.process_table.specs.Inner.Joined.{all_joined, AreJoined, field_columns};
+
+use crate::finding::find;
+use dump_io::{Dumps, Limits};
+use indexmap::IndexMap;
+use section_index::{BodyFault, Index};
+use section_rows::{Column, Kept, SectionRows};
+use std::alloc::{AllocError, Global};
+use std::marker::Model;
+
+/// A process of a dump. A field is `None` exactly where the section's body has no such line.
+#[derive(Clone, Copy, Debug)]
+pub struct Proc<'a> {
+    /// The place of the section among the sections of the index, from 0.
+    pub section: usize,
+    /// The id of the section.
+    pub pid: &'a [u8],
+    /// The field `State`.
+    pub state: Option<Kept<'a>>,
+    /// The field `Name`.
+    pub name: Option<Kept<'a>>,
+    /// The field `Message queue length`.
+    pub queue: Option<Kept<'a>>,
+    /// The field `Memory`.
+    pub memory: Option<Kept<'a>>,
+    /// The field `Link list`.
+    pub links: Option<Kept<'a>>,
+}
+
+/// The processes of a dump, in dump order. Of the sections with one pid the first counts.
+#[derive(Drop)]
+pub struct Procs {
+    places: IndexMap<Vec<u8>, usize>,
+    fields: SectionRows,
+    repeated: u64,
+}
+
+impl Model for Procs {
+    ghost use Rattle.process_table.specs.Processes.{ProcessTable};
+    ghost use Rattle.process_table.specs.Inner.Finding.{named_places};
+    ghost use Rattle.process_table.specs.Inner.Joined.{all_joined, AreJoined};
+
+    ghost Value = { ProcessTable };
+
+    ghost view = { λ t. record { processes = all_joined (named_places t.places) t.fields.rows; repeated = t.repeated } };
+
+    ghost invariant = { λ t. AreJoined t.places t.fields };
+}
+
+// The pid at a place, and the place of its section.
+fn place_at(places: &IndexMap<Vec<u8>, usize>, i: usize) -> (&[u8], usize)
+    requires { i < length places.now.entries }
+    ensures { slice_get (named_places places.now) i ≡ Some (result.0.now, result.1) }
+{
+    let Some((pid, section)) = places.get_index(i) else {
+        unreachable!()
+    };
+    (pid.as_slice(), *section)
+}
+
+// The places of the sections, in the order of the entries.
+fn sections_of(alloc: Global, places: &IndexMap<Vec<u8>, usize>) -> Result<Vec<usize>, AllocError>
+    ensures { IfOk result (λ sections. sections.items ≡ values places.now) }
+{
+    places.values().copied().collect(alloc)
+}
+
+// The process of the entry and the row at a place.
+fn joined_at<'a>(
+    places: &'a IndexMap<Vec<u8>, usize>,
+    fields: &'a SectionRows,
+    i: usize,
+) -> Proc<'a>
+    requires joined { AreJoined places.now fields.now }
+    requires place { i < length places.now.entries }
+    ensures { slice_get (all_joined (named_places places.now) fields.now.rows) i ≡ Some (shown_process result) }
+{
+    let (pid, section) = place_at(places, i);
+    Proc {
+        section,
+        pid,
+        state: fields.cell(i, 0),
+        name: fields.cell(i, 1),
+        queue: fields.cell(i, 2),
+        memory: fields.cell(i, 3),
+        links: fields.cell(i, 4),
+    }
+}
+
+// The fields of a process, in the order of the columns.
+const FIELDS: [Column<'static>; 5] = [
+    Column::Field(b"State"),
+    Column::Field(b"Name"),
+    Column::Field(b"Message queue length"),
+    Column::Field(b"Memory"),
+    Column::Field(b"Link list"),
+];
+
+// Loads the fields of the processes that were found.
+fn load_fields<D: Dumps>(
+    alloc: Global,
+    dumps: &mut D,
+    index: &Index,
+    places: &IndexMap<Vec<u8>, usize>,
+    limits: &Limits,
+) -> Result<SectionRows, BodyFault>
+    requires over { IsBuiltOver (D.now dumps.old) index.now }
+    requires found { named_places places.now ≡ map named_place (records (sections_in index.now)) }
+    requires records { All (IsRecordOf index.now) (records (sections_in index.now)) }
+    ensures reads { ReadsAtMost (used D.files D.now D.faults D.taken dumps.old dumps.new) (bodies_length (record_sections (sections_in index.now))) }
+    ensures rows { IfOk result (λ table. (bytes : List ℕ) → D.now dumps.old ≡ told bytes
+        → table.rows ≡ rows_of bytes field_columns (record_sections (sections_in index.now))) }
+    ensures width { IfOk result (λ table. table.width ≡ 5) }
+    ensures places { IfOk result (λ table. map (λ row. row.at) table.rows ≡ map (λ s. s.at) (record_sections (sections_in index.now))) }
+    ensures loaded { OnOk result (first_large limits.now.section (record_sections (sections_in index.now)) ≡ None) }
+    ensures fault { IfErr result (AreRefused (record_sections (sections_in index.now)) limits.now.section (used D.files D.now D.faults D.taken dumps.old dumps.new)) }
+    ensures unread { IsSome (first_large limits.now.section (record_sections (sections_in index.now))) → dumps.new ≡ dumps.old }
+{
+    let Ok(sections) = sections_of(alloc, places) else {
+        return Err(BodyFault::Memory);
+    };
+    SectionRows::load(alloc, dumps, index, &sections, &FIELDS, limits)
+}
+
+impl Procs {
+    /// Finds the processes of an index, and reads the bodies of their sections one after another. The index is
+    /// one that was built over the file that is open, and the file stays open.
+    ///
+    /// `SectionTooLarge` comes exactly where one of these bodies has more bytes than the limit on sections,
+    /// unless `Memory` comes; it names the first such section of the dump, and nothing is read then. `Read`
+    /// comes only where the device's count of faults rose; `Memory` may come wherever memory is taken. At most
+    /// as many bytes are read as the bodies have together, also where they aren't loaded.
+    pub fn load<D: Dumps>(
+        alloc: Global,
+        dumps: &mut D,
+        index: &Index,
+        limits: &Limits,
+    ) -> Result<Procs, BodyFault>
+        requires { IsBuiltOver (D.now dumps.old) index.now }
+        ensures reads { ReadsAtMost (used D.files D.now D.faults D.taken dumps.old dumps.new) (bodies_length (record_sections (sections_in index.now))) }
+        ensures table { IfOk result (λ procs. (bytes : List ℕ) → D.now dumps.old ≡ told bytes → procs ≡ process_table bytes) }
+        ensures over { IfOk result (IsOver index.now) }
+        ensures named { IfOk result (λ procs. All (IsIn index.now) procs.processes) }
+        ensures loaded { OnOk result (first_large limits.now.section (record_sections (sections_in index.now)) ≡ None) }
+        ensures fault { IfErr result (AreRefused (record_sections (sections_in index.now)) limits.now.section (used D.files D.now D.faults D.taken dumps.old dumps.new)) }
+        ensures unread { IsSome (first_large limits.now.section (record_sections (sections_in index.now))) → dumps.new ≡ dumps.old }
+    {
+        let Ok(found) = find(alloc, index) else {
+            return Err(BodyFault::Memory);
+        };
+        let fields = load_fields(alloc, dumps, index, &found.places, limits)?;
+        Ok(Procs {
+            places: found.places,
+            fields,
+            repeated: found.repeated,
+        })
+    }
+
+    /// The number of processes.
+    pub fn len(&self) -> usize
+        ensures value { result ≡ length self.now.processes }
+        ensures bounded { AreBounded self.now }
+    {
+        self.fields.len()
+    }
+
+    /// The process at a place, from 0.
+    pub fn at(&self, i: usize) -> Proc<'_>
+        requires { i < length self.now.processes }
+        ensures { slice_get self.now.processes i ≡ Some (shown_process result) }
+    {
+        joined_at(&self.places, &self.fields, i)
+    }
+
+    /// The place of the process with this pid. `None` comes exactly where there is none.
+    pub fn get(&self, pid: &[u8]) -> Option<usize>
+        ensures place { result ≡ position (λ process. bytes_eq pid.now process.pid) self.now.processes }
+        ensures within { IfSome result (λ i. i < length self.now.processes) }
+    {
+        self.places.get_index_of(pid)
+    }
+
+    /// How many sections of processes were passed over because their pid stood before.
+    pub fn repeated(&self) -> u64
+        ensures { result ≡ self.now.repeated }
+    {
+        self.repeated
+    }
+}

@@ -1,0 +1,72 @@
+-- Rows that are loaded one after another.
+use Rattle.std.proofs.Common.{◌≡◌, ℕ, ◌+◌, ◌<◌, ◌≤◌, List, [], ◌∷◌, ◌++◌, length, take, map, get_or, Bool, true, false, cond, Some, None, All, refl, sym, ◌∙◌, ap, subst, arith}
+use Rattle.std.proofs.lemmas.List.{map-append, map_more, take-map}
+use Rattle.std.specs.Prelude.{nat_lt, option_map}
+use Rattle.std.proofs.lemmas.Bool.{ltb-false}
+use Rattle.std.proofs.lemmas.List.Elements.{All-nil, All-cons}
+use Rattle.section_index.specs.declared.bodies.BodyFault.TheVariants.{SectionTooLarge}
+use Rattle.std.proofs.lemmas.List.Sums.{sum_by_push, sum_by-take-le}
+use Rattle.dump_io.specs.Dumps.{Now, told}
+use Rattle.section_index.specs.Bodies.{section_at, body_length, IsBodyOf}
+use Rattle.section_index.specs.Index.{Contents}
+use Rattle.section_index.specs.Sections.{Section}
+use Rattle.section_rows.specs.declared.store.Store.{Store}
+use Rattle.section_rows.specs.Rows.{Column, Row, row_of, rows_of, body_of}
+use Rattle.section_rows.specs.Loading.{sections_at, bodies_length, first_large, large_fault}
+use Rattle.section_rows.specs.Inner.Gains.{GainsRow, HoldsRows}
+use Rattle.section_rows.specs.Inner.Places.{AreWithin, rows_in}
+
+pub HoldsRows-none : (now : Now) (columns : List Column) (store : Store) → store.width ≡ length columns → AreWithin store → rows_in store ≡ [] → HoldsRows now columns [] store
+HoldsRows-none now columns store width within none = record {
+  width = width;
+  within = within;
+  rows = λ bytes same. none;
+  places = ap (map (λ (row : Row). row.at)) none;
+}
+
+-- the body of a section is told with what is open
+told_body : (now : Now) (s : Section) (body bytes : List ℕ) → IsBodyOf now s body → now ≡ told bytes → body ≡ body_of bytes s
+told_body now s body bytes is same = let told_is : IsBodyOf (told bytes) s body = subst (λ (n : Now). IsBodyOf n s body) same is in told_is
+
+pub HoldsRows-more : (now : Now) (columns : List Column) (sections : List Section) (s : Section) (before after : Store)
+    → HoldsRows now columns sections before → GainsRow now columns s before after → HoldsRows now columns (sections ++ s ∷ []) after
+HoldsRows-more now columns sections s before after holds gains = record {
+  width = gains.gained.width ∙ holds.width;
+  within = gains.gained.within;
+  rows = λ bytes same.
+      gains.gained.rows ∙ ap (λ rows. rows ++ row_of columns s gains.body ∷ []) (holds.rows bytes same)
+      ∙ ap (λ body. rows_of bytes columns sections ++ row_of columns s body ∷ []) (told_body now s gains.body bytes gains.is_body same)
+      ∙ sym (map-append (λ (t : Section). row_of columns t (body_of bytes t)) sections (s ∷ []));
+  places =
+      ap (map (λ (row : Row). row.at)) gains.gained.rows ∙ map-append (λ (row : Row). row.at) (rows_in before) (row_of columns s gains.body ∷ [])
+      ∙ ap (λ places. places ++ s.at ∷ []) holds.places ∙ sym (map-append (λ (t : Section). t.at) sections (s ∷ []));
+}
+
+-- one section more
+module _ (index : Contents) (places : List ℕ) (i d : ℕ) (inside : i < length places) where
+  pub sections-more : sections_at index (take (i + 1) places) ≡ sections_at index (take i places) ++ section_at index (get_or places i d) ∷ []
+  sections-more = map_more (section_at index) places i d inside
+
+  pub bodies-more : bodies_length (sections_at index (take (i + 1) places)) ≡ bodies_length (sections_at index (take i places)) + body_length (section_at index (get_or places i d))
+  bodies-more = ap bodies_length sections-more ∙ sum_by_push body_length (sections_at index (take i places)) (section_at index (get_or places i d))
+
+  -- its body is among all
+  pub bodies-upto : bodies_length (sections_at index (take i places)) + body_length (section_at index (get_or places i d)) ≤ bodies_length (sections_at index places)
+  bodies-upto =
+      omega (arith, bodies-more, ap bodies_length (take-map (section_at index) (i + 1) places), sum_by-take-le body_length (sections_at index places) (i + 1))
+
+-- where no section is refused, none is too large
+pub All-small : (index : Contents) (limit : ℕ) (places : List ℕ) → large_fault limit (sections_at index places) ≡ None → All (λ i. body_length (section_at index i) ≤ limit) places
+All-small index limit [] none = All-nil (λ i. body_length (section_at index i) ≤ limit)
+All-small index limit (i ∷ places) none = by (nat_lt limit (body_length (section_at index i))) refl (All-small index limit places)
+  where
+    of_rest : (b : Bool) → nat_lt limit (body_length (section_at index i)) ≡ b
+        → option_map (λ (s : Section). SectionTooLarge s.at (body_length s)) (cond b (Some (section_at index i)) (first_large limit (sections_at index places))) ≡ None
+    of_rest b e =
+        sym (ap (λ x. option_map (λ (s : Section). SectionTooLarge s.at (body_length s)) (cond x (Some (section_at index i)) (first_large limit (sections_at index places)))) e) ∙ none
+
+    by : (b : Bool) → nat_lt limit (body_length (section_at index i)) ≡ b
+        → (large_fault limit (sections_at index places) ≡ None → All (λ k. body_length (section_at index k) ≤ limit) places)
+        → All (λ k. body_length (section_at index k) ≤ limit) (i ∷ places)
+    by true e rest = let some = of_rest true e in cc
+    by false e rest = All-cons (λ k. body_length (section_at index k) ≤ limit) i places (ltb-false _ _ e) (rest (of_rest false e))

@@ -1,0 +1,14 @@
+use Rattle.std.proofs.Common.{map, sym, ◌∙◌, rules, refl}
+use Rattle.std.proofs.lemmas.List.{length-map}
+use Rattle.section_rows.specs.Shown.{shown_column}
+use Rattle.section_rows.specs.Rows.{cell_of}
+use Rattle.section_rows.specs.Inner.Lent.{shown_section}
+use Rattle.section_rows.proofs.Heads.{HasGained-push}
+use Rattle.section_rows.proofs.store.Store.push.Goals as goal
+
+pub returns : goal.returns
+returns c =
+    let columns = map shown_column c.args.columns.now in
+    let cells = cell_of (shown_section c.args.section.now) c.args.body.now in
+    HasGained-push c.args.self.now _ _ (map cells columns) refl (c.requires.width ∙ sym (length-map columns cells ∙ length-map c.args.columns.now shown_column))
+    c.in_ok-push_cells.ensures (search rules) (search rules) c.requires.within c.in_ok-push.ensures.items

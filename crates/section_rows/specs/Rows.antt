@@ -1,0 +1,87 @@
+-- What is kept of sections: a row for each, with its offset in the file and a cell for each column.
+use Rattle.std.specs.Prelude.{◌≡◌, ℕ, ◌+◌, ◌≤◌, List, [], length, map, slice_get, Option, None, Some, option_map, unwrap_or, IfSome, All}
+use Rattle.std.specs.List.{between}
+use Rattle.dump_io.specs.Limits.{usual}
+use Rattle.field_lines.specs.Fields.{find_line, place_of, value_of}
+use Rattle.section_index.specs.Sections.{Section, tag_of, id_of}
+
+-- a text of a section: the offsets in the file of its line and of the text itself, and the text
+pub record Kept : Type 0 where
+  pub at : ℕ
+  pub value_at : ℕ
+  pub text : List ℕ
+
+abbrev pub kept : ℕ → ℕ → List ℕ → Kept
+kept at value_at text = record { at = at; value_at = value_at; text = text }
+
+-- what a column shows of a section: its tag, its id, or the value of the first field with this key
+pub data Column : Type 0 where
+  tag : Column
+  id : Column
+  field : List ℕ → Column
+
+-- the tag stands behind the equals sign
+abbrev pub tag_kept : Section → Kept
+tag_kept s = kept s.at (s.at + 1) (tag_of s.text)
+
+-- the id stands behind the colon that follows the tag
+abbrev pub id_kept : Section → Option Kept
+id_kept s = option_map (kept s.at (s.at + length (tag_of s.text) + 2)) (id_of s.text)
+
+-- the first field with this key in a body that begins at this offset of the file
+abbrev pub field_kept : ℕ → List ℕ → List ℕ → Option Kept
+field_kept base body key = option_map (λ line. kept (base + line.at) (base + (place_of line).from) (value_of line.text)) (find_line body key)
+
+-- the cell of a column, for a section with this body
+abbrev pub cell_of : Section → List ℕ → Column → Option Kept
+cell_of s body tag = Some (tag_kept s)
+cell_of s body id = id_kept s
+cell_of s body (field key) = field_kept s.body body key
+
+pub record Row : Type 0 where
+  pub at : ℕ
+  pub cells : List (Option Kept)
+
+abbrev pub row_of : List Column → Section → List ℕ → Row
+row_of columns s body = record { at = s.at; cells = map (cell_of s body) columns }
+
+-- the body of a section of a dump with these bytes
+abbrev pub body_of : List ℕ → Section → List ℕ
+body_of bytes s = between s.body s.end bytes
+
+-- the rows of these sections of a dump
+abbrev pub rows_of : List ℕ → List Column → List Section → List Row
+rows_of bytes columns sections = map (λ s. row_of columns s (body_of bytes s)) sections
+
+-- rows, in a table of so many columns
+pub record Table : Type 0 where
+  pub width : ℕ
+  pub rows : List Row
+
+-- the row at a place, and past the last one an empty row
+abbrev pub row_at : List Row → ℕ → Row
+row_at rows i = unwrap_or (slice_get rows i) (record { at = 0; cells = [] })
+
+-- the cell of a row in the column at a place, and none past the last one
+abbrev pub cell_at : Row → ℕ → Option Kept
+cell_at row c = unwrap_or (slice_get row.cells c) None
+
+-- the text of a cell
+abbrev pub text_in : Option Kept → Option (List ℕ)
+text_in cell = option_map (λ k. k.text) cell
+
+-- each row has a cell for each column
+abbrev pub AreEven : Table → Type 0
+AreEven table = All (λ row. length row.cells ≡ table.width) table.rows
+
+-- offsets are within the largest dump, and a text is no longer than the largest body
+pub record IsBounded (k : Kept) : Type 0 where
+  pub at : k.at ≤ usual.dump
+  pub value_at : k.value_at ≤ usual.dump
+  pub text : length k.text ≤ usual.section
+
+abbrev pub IsBoundedCell : Option Kept → Type 0
+IsBoundedCell cell = IfSome cell IsBounded
+
+abbrev pub AreBounded : Table → Type 0
+AreBounded table = All (λ row. All IsBoundedCell row.cells) table.rows

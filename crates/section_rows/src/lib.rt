@@ -1,0 +1,14 @@
+//! What is kept of sections of a dump: for each its offset, and a cell for each column that is asked for,
+//! which is its tag, its id, or the value of the first field with a key in its body.
+//!
+//! [`SectionRows::load`] reads the bodies of the sections one after another, takes from each what the columns
+//! ask for, and lets it go.
+#![tactic(auto)]
+
+mod columns;
+mod loading;
+mod rows;
+mod store;
+
+pub use columns::{Column, Kept};
+pub use rows::SectionRows;

@@ -1,0 +1,94 @@
+// The bodies of sections are loaded one after another, and what the columns ask for is kept.
+ghost use Rattle.std.specs.Prelude.{◌≡◌, ℕ, List, ◌<◌, ◌≤◌, length, map, All, IfOk, OnOk, IfErr, IsSome, None};
+ghost use Rattle.dump_io.specs.Dumps.{told, used, ReadsAtMost};
+ghost use Rattle.section_index.specs.Bodies.{section_at, body_length};
+ghost use Rattle.section_index.specs.Index.{IsBuiltOver};
+ghost use Rattle.section_rows.specs.Loading.{sections_at, bodies_length, first_large, large_fault, AreRefused};
+ghost use Rattle.section_rows.specs.Rows.{rows_of};
+ghost use Rattle.section_rows.specs.Shown.{shown_column};
+ghost use Rattle.section_rows.specs.Inner.Gains.{GainsRow, HoldsRows, IsUnread};
+ghost use Rattle.section_rows.specs.Inner.Lent.{IsLent, shown_section};
+ghost use Rattle.section_rows.specs.Inner.Places.{AreWithin};
+
+use crate::columns::Column;
+use crate::store::Store;
+use dump_io::{Dumps, Limits};
+use section_index::{BodyFault, Index, Section, read_body};
+use std::alloc::Global;
+
+// The refusal of the first section whose body is too large.
+pub(crate) fn large(index: &Index, sections: &[usize], limits: &Limits) -> Option<BodyFault>
+    requires { All (λ i. i < length index.now.headers) sections.now }
+    ensures { result ≡ large_fault limits.now.section (sections_at index.now sections.now) }
+{
+    for i in sections {
+        let section = index.section(*i);
+        let len = section.end - section.body;
+        if len > u64::from(limits.section()) {
+            return Some(BodyFault::SectionTooLarge {
+                at: section.at,
+                len,
+            });
+        }
+    }
+    None
+}
+
+// The section at a place, which ends within the largest dump as the file does.
+fn lent(index: &Index, i: usize) -> Section<'_>
+    requires { i < length index.now.headers }
+    ensures section { shown_section result ≡ section_at index.now i }
+    ensures lent { IsLent result }
+{
+    let _size = index.size();
+    index.section(i)
+}
+
+// Loads the body of a section, puts its row behind the rows, and lets it go.
+fn load_row<D: Dumps>(
+    alloc: Global,
+    dumps: &mut D,
+    index: &Index,
+    i: usize,
+    columns: &[Column<'_>],
+    limits: &Limits,
+    store: &mut Store,
+) -> Result<(), BodyFault>
+    requires over { IsBuiltOver (D.now dumps.old) index.now }
+    requires place { i < length index.now.headers }
+    requires small { body_length (section_at index.now i) ≤ limits.now.section }
+    requires width { store.old.width ≡ length columns.now }
+    requires within { AreWithin store.old }
+    ensures reads { ReadsAtMost (used D.files D.now D.faults D.taken dumps.old dumps.new) (body_length (section_at index.now i)) }
+    ensures row { OnOk result (GainsRow (D.now dumps.old) (map shown_column columns.now) (section_at index.now i) store.old store.new) }
+    ensures fault { IfErr result (IsUnread (used D.files D.now D.faults D.taken dumps.old dumps.new)) }
+{
+    let section = lent(index, i);
+    let body = read_body(alloc, dumps, index, i, limits)?;
+    store
+        .push(&section, body.as_slice(), columns)
+        .map_err(|_| BodyFault::Memory)
+}
+
+// Loads the bodies of sections that are none of them too large, one after another.
+pub(crate) fn load_rows<D: Dumps>(
+    alloc: Global,
+    dumps: &mut D,
+    index: &Index,
+    sections: &[usize],
+    columns: &[Column<'_>],
+    limits: &Limits,
+) -> Result<Store, BodyFault>
+    requires over { IsBuiltOver (D.now dumps.old) index.now }
+    requires places { All (λ i. i < length index.now.headers) sections.now }
+    requires small { All (λ i. body_length (section_at index.now i) ≤ limits.now.section) sections.now }
+    ensures reads { ReadsAtMost (used D.files D.now D.faults D.taken dumps.old dumps.new) (bodies_length (sections_at index.now sections.now)) }
+    ensures rows { IfOk result (HoldsRows (D.now dumps.old) (map shown_column columns.now) (sections_at index.now sections.now)) }
+    ensures fault { IfErr result (IsUnread (used D.files D.now D.faults D.taken dumps.old dumps.new)) }
+{
+    let mut store = Store::new(alloc, columns.len());
+    for i in sections {
+        load_row(alloc, dumps, index, *i, columns, limits, &mut store)?;
+    }
+    Ok(store)
+}

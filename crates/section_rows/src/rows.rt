@@ -1,0 +1,104 @@
+// What is kept of sections: a row for each.
+ghost use Rattle.std.specs.Prelude.{◌≡◌, ℕ, List, ◌<◌, length, map, slice_get, Some, None, All, IfOk, OnOk, IfErr, IsErrOf, IfSome, IsSome};
+ghost use Rattle.dump_io.specs.Dumps.{told, used, ReadsAtMost};
+ghost use Rattle.section_index.specs.Index.{IsBuiltOver};
+ghost use Rattle.section_rows.specs.Loading.{sections_at, bodies_length, first_large, large_fault, AreRefused};
+ghost use Rattle.section_rows.specs.Rows.{row_at, rows_of, AreEven, AreBounded};
+ghost use Rattle.section_rows.specs.Shown.{shown_cell, shown_column};
+
+use crate::columns::{Column, Kept};
+use crate::loading::{large, load_rows};
+use crate::store::Store;
+use dump_io::{Dumps, Limits};
+use section_index::{BodyFault, Index};
+use std::alloc::Global;
+use std::marker::Model;
+
+/// What is kept of sections of a dump: a row for each, with its offset in the file and a cell for each column.
+#[derive(Drop)]
+pub struct SectionRows {
+    store: Store,
+}
+
+impl Model for SectionRows {
+    ghost use Rattle.section_rows.specs.Rows.{Table};
+    ghost use Rattle.section_rows.specs.Inner.Places.{rows_in, AreWithin};
+
+    ghost Value = { Table };
+
+    ghost view = { λ t. record { width = t.store.width; rows = rows_in t.store } };
+
+    ghost invariant = { λ t. AreWithin t.store };
+}
+
+impl SectionRows {
+    /// Loads the bodies of the sections at some places, from 0, one after another, and keeps of each what the
+    /// columns ask for. The index is one that was built over the file that is open, and the file stays open.
+    ///
+    /// `SectionTooLarge` comes exactly where a body has more bytes than the limit on sections; it names the
+    /// first such section of those at the places, and nothing is read then. `Read` comes only where the
+    /// device's count of faults rose; `Memory` may come wherever memory is taken. At most as many bytes are
+    /// read as the bodies have together, also where they aren't loaded.
+    pub fn load<D: Dumps>(
+        alloc: Global,
+        dumps: &mut D,
+        index: &Index,
+        sections: &[usize],
+        columns: &[Column<'_>],
+        limits: &Limits,
+    ) -> Result<SectionRows, BodyFault>
+        requires over { IsBuiltOver (D.now dumps.old) index.now }
+        requires places { All (λ i. i < length index.now.headers) sections.now }
+        ensures reads { ReadsAtMost (used D.files D.now D.faults D.taken dumps.old dumps.new) (bodies_length (sections_at index.now sections.now)) }
+        ensures rows { IfOk result (λ table. (bytes : List ℕ) → D.now dumps.old ≡ told bytes
+            → table.rows ≡ rows_of bytes (map shown_column columns.now) (sections_at index.now sections.now)) }
+        ensures width { IfOk result (λ table. table.width ≡ length columns.now) }
+        ensures places { IfOk result (λ table. map (λ row. row.at) table.rows ≡ map (λ s. s.at) (sections_at index.now sections.now)) }
+        ensures loaded { OnOk result (first_large limits.now.section (sections_at index.now sections.now) ≡ None) }
+        ensures fault { IfErr result (AreRefused (sections_at index.now sections.now) limits.now.section (used D.files D.now D.faults D.taken dumps.old dumps.new)) }
+
+        // A body that is too large is always refused as such, and the device plays no part.
+        ensures too_large { IfSome (large_fault limits.now.section (sections_at index.now sections.now)) (IsErrOf result) }
+        ensures unread { IsSome (first_large limits.now.section (sections_at index.now sections.now)) → dumps.new ≡ dumps.old }
+    {
+        if let Some(fault) = large(index, sections, limits) {
+            return Err(fault);
+        }
+        let store = load_rows(alloc, dumps, index, sections, columns, limits)?;
+        Ok(SectionRows { store })
+    }
+
+    /// The number of rows.
+    pub fn len(&self) -> usize
+        ensures value { result ≡ length self.now.rows }
+        ensures even { AreEven self.now }
+        ensures bounded { AreBounded self.now }
+    {
+        self.store.len()
+    }
+
+    /// The number of columns.
+    pub fn columns(&self) -> usize
+        ensures { result ≡ self.now.width }
+    {
+        self.store.width()
+    }
+
+    /// The offset in the file of the section at a place, from 0.
+    pub fn at(&self, i: usize) -> u64
+        requires { i < length self.now.rows }
+        ensures { result ≡ (row_at self.now.rows i).at }
+    {
+        self.store.at(i)
+    }
+
+    /// The cell of the row at a place in the column at a place, both from 0. `None` comes exactly where the
+    /// section has no such text.
+    pub fn cell(&self, i: usize, c: usize) -> Option<Kept<'_>>
+        requires row { i < length self.now.rows }
+        requires column { c < self.now.width }
+        ensures { slice_get (row_at self.now.rows i).cells c ≡ Some (shown_cell result) }
+    {
+        self.store.cell(i, c)
+    }
+}

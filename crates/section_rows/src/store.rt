@@ -1,0 +1,215 @@
+// Rows of cells, kept with their texts in one pool.
+ghost use Rattle.std.specs.Prelude.{◌≡◌, ◌+◌, ◌<◌, ◌≤◌, [], ◌∷◌, ◌^◌, length, map, All, Some, IfSome, OnOk, slice_get};
+ghost use Rattle.std.specs.Option.{option_copied};
+ghost use Rattle.section_rows.specs.Shown.{shown_kept, shown_cell, shown_column};
+ghost use Rattle.section_rows.specs.Rows.{IsBoundedCell, kept as kept_text, IsBounded, cell_of, row_of, row_at};
+ghost use Rattle.section_rows.specs.Inner.Lent.{IsLent, shown_section};
+ghost use Rattle.section_rows.specs.Inner.Places.{Gained, HasGained, AreWithin, rows_in, cell_in, cells_in, place_len, text_len};
+
+use crate::columns::{Column, Kept, cell};
+use section_index::Section;
+use std::alloc::{AllocError, Global};
+
+// The size of the largest dump, in bytes.
+const LARGEST_DUMP: u64 = 68_719_476_736;
+
+// The length of the largest body.
+const LARGEST_TEXT: usize = 536_870_912;
+
+// Where the text of a cell stands: the offsets of its line and of the text itself, counted from its section,
+// and the number of its bytes. A table has many cells, so that each has few bytes.
+#[derive(Clone, Copy)]
+pub(crate) struct Place {
+    at: u32,
+    value: u32,
+    len: u32,
+}
+
+// The offset of a row's section in the file, where the texts of its cells begin in the pool, and where the
+// places of its cells begin.
+#[derive(Clone, Copy)]
+pub(crate) struct Head {
+    at: u64,
+    texts: usize,
+    places: usize,
+}
+
+// Rows, each with a cell for each of so many columns.
+#[derive(Drop)]
+pub(crate) struct Store {
+    width: usize,
+    heads: Vec<Head>,
+    places: Vec<Option<Place>>,
+    pool: Vec<u8>,
+}
+
+// How far an offset lies behind another one, where that has room in 32 bits.
+fn distance(from: u64, at: u64) -> Option<u32>
+    ensures { IfSome result (λ behind. from + behind ≡ at) }
+{
+    u32::try_from(at.checked_sub(from)?).ok()
+}
+
+// The place of a text behind its section, where it has room. Each text of an index and of a loaded body has.
+fn place_of(base: u64, found: &Kept<'_>) -> Option<Place>
+    ensures shown { IfSome result (λ p. kept_text (base + p.at) (base + p.value) found.now.text.now ≡ shown_kept found.now) }
+    ensures len { IfSome result (λ p. p.len ≡ length found.now.text.now) }
+    ensures bounded { IfSome result (λ _. IsBounded (shown_kept found.now)) }
+{
+    let len = found.text.len();
+    if found.at > LARGEST_DUMP || found.value_at > LARGEST_DUMP || len > LARGEST_TEXT {
+        return None;
+    }
+    Some(Place {
+        at: distance(base, found.at)?,
+        value: distance(base, found.value_at)?,
+        len: len as u32,
+    })
+}
+
+// Puts a cell behind the places, and its text behind the pool.
+fn push_cell(
+    places: &mut Vec<Option<Place>>,
+    pool: &mut Vec<u8>,
+    base: u64,
+    cell: Option<Kept<'_>>,
+) -> Result<(), AllocError>
+    ensures { OnOk result (Gained base places.old.items places.new.items pool.old.items pool.new.items (shown_cell cell.entry ∷ [])) }
+{
+    let Some(found) = cell else {
+        places.push(None)?;
+        return Ok(());
+    };
+    let place = place_of(base, &found).ok_or(AllocError)?;
+    pool.extend_from_slice(found.text)?;
+    places.push(Some(place))?;
+    Ok(())
+}
+
+// Puts the cells of a section behind the places, one for each column.
+fn push_cells<'a>(
+    places: &mut Vec<Option<Place>>,
+    pool: &mut Vec<u8>,
+    section: &Section<'a>,
+    body: &'a [u8],
+    columns: &[Column<'_>],
+) -> Result<(), AllocError>
+    requires lent { IsLent section.now }
+    requires body { section.now.body + length body.now ≤ section.now.end }
+    ensures { OnOk result (Gained section.now.at places.old.items places.new.items pool.old.items pool.new.items
+        (map (cell_of (shown_section section.now) body.now) (map shown_column columns.now))) }
+{
+    for column in columns {
+        push_cell(places, pool, section.at, cell(section, body, column))?;
+    }
+    Ok(())
+}
+
+fn place_len(place: &Option<Place>) -> usize
+    ensures { result ≡ place_len place.now }
+{
+    place.map_or(0, |place| place.len as usize)
+}
+
+// How many bytes the texts of these cells have together.
+fn text_len(places: &[Option<Place>]) -> usize
+    requires { text_len places.now < 2 ^ 64 }
+    ensures { result ≡ text_len places.now }
+{
+    places.iter().map(|place| place_len(place)).sum()
+}
+
+// The cell whose text stands at the front of these bytes.
+fn kept<'a>(base: u64, place: Place, texts: &'a [u8]) -> Kept<'a>
+    requires within { place.len ≤ length texts.now }
+    requires bounded { IsBoundedCell (cell_in base texts.now (Some place)) }
+    ensures { Some (shown_kept result) ≡ cell_in base texts.now (Some place) }
+{
+    Kept {
+        at: base + u64::from(place.at),
+        value_at: base + u64::from(place.value),
+        text: &texts[..place.len as usize],
+    }
+}
+
+// The cell at a place among those whose texts stand at the front of these bytes.
+fn kept_at<'a>(base: u64, places: &[Option<Place>], texts: &'a [u8], c: usize) -> Option<Kept<'a>>
+    requires place { c < length places.now }
+    requires texts { text_len places.now ≤ length texts.now }
+    requires bounded { All IsBoundedCell (cells_in base texts.now places.now) }
+    ensures { slice_get (cells_in base texts.now places.now) c ≡ Some (shown_cell result) }
+{
+    let place = places[c]?;
+    let from = text_len(&places[..c]);
+    Some(kept(base, place, &texts[from..]))
+}
+
+impl Store {
+    pub fn new(alloc: Global, width: usize) -> Store
+        ensures width { result.width ≡ width }
+        ensures rows { rows_in result ≡ [] }
+        ensures within { AreWithin result }
+    {
+        Store {
+            width,
+            heads: Vec::new(alloc),
+            places: Vec::new(alloc),
+            pool: Vec::new(alloc),
+        }
+    }
+
+    // Puts the row of a section behind the rows.
+    pub fn push(
+        &mut self,
+        section: &Section<'_>,
+        body: &[u8],
+        columns: &[Column<'_>],
+    ) -> Result<(), AllocError>
+        requires lent { IsLent section.now }
+        requires body { section.now.body + length body.now ≤ section.now.end }
+        requires width { self.old.width ≡ length columns.now }
+        requires within { AreWithin self.old }
+        ensures { OnOk result (HasGained self.old self.new (row_of (map shown_column columns.now) (shown_section section.now) body.now)) }
+    {
+        let head = Head {
+            at: section.at,
+            texts: self.pool.len(),
+            places: self.places.len(),
+        };
+        push_cells(&mut self.places, &mut self.pool, section, body, columns)?;
+        self.heads.push(head)?;
+        Ok(())
+    }
+
+    pub fn len(&self) -> usize
+        ensures { result ≡ length (rows_in self.now) }
+    {
+        self.heads.len()
+    }
+
+    pub fn width(&self) -> usize
+        ensures { result ≡ self.now.width }
+    {
+        self.width
+    }
+
+    // The offset of the row at a place.
+    pub fn at(&self, i: usize) -> u64
+        requires { i < length (rows_in self.now) }
+        ensures { result ≡ (row_at (rows_in self.now) i).at }
+    {
+        self.heads[i].at
+    }
+
+    // The cell of the row at a place in the column at a place.
+    pub fn cell(&self, i: usize, c: usize) -> Option<Kept<'_>>
+        requires within { AreWithin self.now }
+        requires row { i < length (rows_in self.now) }
+        requires column { c < self.now.width }
+        ensures { slice_get (row_at (rows_in self.now) i).cells c ≡ Some (shown_cell result) }
+    {
+        let head = self.heads[i];
+        let places = &self.places[head.places..head.places + self.width];
+        kept_at(head.at, places, &self.pool[head.texts..], c)
+    }
+}
