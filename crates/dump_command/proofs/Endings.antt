@@ -1,5 +1,5 @@
 -- How a run ends, by what its command left.
-use Rattle.std.proofs.Common.{◌≡◌, ◌≢◌, ◌⊎◌, ℕ, Bool, true, false, ◌||◌, ◌<◌, ◌≤◌, List, [], ◌∷◌, Option, None, Some, Result, Ok, Err, IsTrue, MatchResult, refl, sym, ◌∙◌, ap, subst, inl, inr, arith}
+use Rattle.std.proofs.Common.{◌≡◌, ◌⊎◌, ℕ, true, ◌||◌, List, [], ◌∷◌, Option, None, Some, Result, Ok, Err, refl, sym, ◌∙◌, ap, subst, inl, inr, arith}
 use Rattle.std.specs.Prelude.{IfErr, IsSomeAnd}
 use Rattle.std.proofs.lemmas.Bool.{false≢true}
 use Rattle.std.proofs.lemmas.Bool.Decides.{eqb_tells}
@@ -8,10 +8,10 @@ use Rattle.dump_io.specs.Limits.{Numbers}
 use Rattle.report_text.specs.declared.refusals.Refusal.{Refusal}
 use Rattle.report_text.specs.Refusals.{refusal_line}
 use Rattle.section_index.specs.Index.{IsHeld}
-use Rattle.dump_io.specs.Sinks.{Change, SinkFailed, IsKept, Gained, GainedFront}
+use Rattle.dump_io.specs.Sinks.{Change, SinkFailed, IsKept, Gained}
 use Rattle.dump_command.specs.Command.{Command, file_of}
-use Rattle.dump_command.specs.Report.{report, report_status, refusal}
-use Rattle.dump_command.specs.Run.{IsDumpOf, IsRunOf, IsUnwritten, IsReported, IsInputOf, IsUnread, IsUnreadFrom, IsMissing, IsMissingFrom, EndsTold, TakesAtMost, IsUnfinished, is_one_of}
+use Rattle.dump_command.specs.Report.{report_status, refusal}
+use Rattle.dump_command.specs.Run.{IsDumpOf, IsRunOf, IsUnwritten, IsInputOf, IsUnread, IsUnreadFrom, IsMissing, IsMissingFrom, EndsTold, TakesAtMost, IsUnfinished, is_one_of}
 use Rattle.dump_command.specs.Inner.Loads.{IsRefused, IsDone, IsBrokenOff, Runs}
 use Rattle.dump_command.specs.Inner.Stops.{EndsAs, IsProper}
 use Rattle.dump_command.specs.declared.status.TheConstants.{DONE, REFUSED, FOUND, UNREAD, UNWRITTEN, NO_MEMORY}

@@ -1,13 +1,13 @@
 -- What the report of `info` is written of is what it says of the dump.
-use Rattle.std.proofs.Common.{◌≡◌, ◌⊎◌, ℕ, Bool, true, false, [], if◌then◌else◌, codes, inl, inr, List, length, Option, None, Some, refl, sym, ◌∙◌, ap, subst}
+use Rattle.std.proofs.Common.{◌≡◌, ◌⊎◌, ℕ, Bool, true, false, if◌then◌else◌, codes, inl, inr, List, length, None, Some, refl, sym, ◌∙◌, ap, subst}
 use Rattle.std.specs.Str.{bytes_eq}
 use Rattle.std.proofs.lemmas.Slice.Eq.{bytes_eq-Decides}
 use Rattle.dump_io.specs.Dumps.{Now, told}
 use Rattle.dump_io.specs.Lines.{headers}
 use Rattle.section_index.specs.Bodies.{section_at, IsBodyOf}
-use Rattle.section_index.specs.Index.{Contents, IsIndexOf, sections_in}
+use Rattle.section_index.specs.Index.{Contents, IsIndexOf}
 use Rattle.section_index.specs.Opening.{first_id, version_named}
-use Rattle.section_index.specs.Sections.{Section, sections}
+use Rattle.section_index.specs.Sections.{sections}
 use Rattle.section_index.specs.Tags.{tag_counts, tags_in}
 use Rattle.section_index.specs.declared.opening.Version.{Version}
 use Rattle.section_index.specs.declared.opening.Version.TheVariants.{V03, V04, V05}

@@ -1,9 +1,8 @@
 -- What a load gives, by what was opened and read.
-use Rattle.std.proofs.Common.{◌≡◌, ℕ, Bool, true, false, if◌then◌else◌, ◌+◌, ◌<◌, ◌≤◌, List, [], ◌∷◌, ◌++◌, length, Option, None, Some, IsTrue, refl, sym, ◌∙◌, ap, subst, inl, inr, arith}
+use Rattle.std.proofs.Common.{◌≡◌, ℕ, true, false, if◌then◌else◌, ◌<◌, ◌≤◌, List, [], ◌∷◌, ◌++◌, None, Some, refl, sym, ◌∙◌, ap, subst, inl, arith}
 use Rattle.std.specs.Option.{option_map, option_or, option_and}
 use Rattle.std.specs.Prelude.{nat_lt}
 use Rattle.std.proofs.lemmas.Bool.{lt-ltb, le-ltb}
-use Rattle.dump_io.specs.Counts.{plus_capped}
 use Rattle.dump_io.specs.Limits.{Numbers}
 use Rattle.dump_io.specs.Lines.{headers}
 use Rattle.section_index.specs.Bodies.{body_length, IsCauseOf}
@@ -15,7 +14,7 @@ use Rattle.section_index.specs.declared.bodies.BodyFault.TheVariants as body_fau
 use Rattle.report_text.specs.declared.refusals.Refusal.{Refusal}
 use Rattle.report_text.specs.declared.refusals.Refusal.TheVariants.{Open, SectionTooLarge}
 use Rattle.report_text.specs.Refusals.{IsRefusal}
-use Rattle.dump_io.specs.Dumps.{closed, IsAbsent, Use, DeviceFailed}
+use Rattle.dump_io.specs.Dumps.{Use, DeviceFailed}
 use Rattle.dump_command.specs.Command.{Command, file_of}
 use Rattle.dump_command.specs.Report.{report, report_status, refusal, refusal_opened, reread, bodies, bytes_in, too_large}
 use Rattle.dump_command.specs.Run.{IsDumpOf, IsInputOf, IsMissing, IsMissingFrom, IsUnreadFrom, TakesAtMost}

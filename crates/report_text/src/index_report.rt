@@ -1,5 +1,5 @@
 // The report of `index`.
-ghost use Rattle.std.specs.Prelude.{◌≡◌, ◌<◌, length};
+ghost use Rattle.std.specs.Prelude.{◌<◌};
 ghost use Rattle.std.specs.List.{flat_map};
 ghost use Rattle.dump_io.specs.Sinks.{changed, Puts};
 ghost use Rattle.section_index.specs.Index.{sections_in, state_of};

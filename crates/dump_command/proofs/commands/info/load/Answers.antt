@@ -1,7 +1,7 @@
 use Rattle.std.proofs.Common.{[], refl, sym, ◌∙◌, arith}
 use Rattle.std.proofs.lemmas.Result.{err_from_is_err_and}
 use Rattle.dump_io.specs.Dumps.{used}
-use Rattle.section_index.specs.Bodies.{section_at, body_length}
+use Rattle.section_index.specs.Bodies.{section_at}
 use Rattle.dump_command.specs.Command.{info}
 use Rattle.dump_command.proofs.Info.{info_text-report}
 use Rattle.dump_command.proofs.Opened.{HasOpened-read}
