@@ -3,3 +3,4 @@ pub mod Info
 pub mod Loads
 pub mod Opened
 pub mod Runs
+pub mod Places

@@ -1,5 +1,5 @@
 -- What a load gives, by what was opened and read.
-use Rattle.std.proofs.Common.{◌≡◌, ℕ, true, false, if◌then◌else◌, ◌<◌, ◌≤◌, List, [], ◌∷◌, ◌++◌, None, Some, refl, sym, ◌∙◌, ap, subst, inl, arith}
+use Rattle.std.proofs.Common.{◌≡◌, ℕ, true, false, if◌then◌else◌, ◌<◌, ◌≤◌, List, [], ◌∷◌, ◌++◌, Option, None, Some, refl, sym, ◌∙◌, ap, subst, inl, arith}
 use Rattle.std.specs.Option.{option_map, option_or, option_and}
 use Rattle.std.specs.Prelude.{nat_lt}
 use Rattle.std.proofs.lemmas.Bool.{lt-ltb, le-ltb}
@@ -11,6 +11,7 @@ use Rattle.section_index.specs.Opening.{opening}
 use Rattle.section_index.specs.Sections.{Section, sections, sections_of}
 use Rattle.section_index.specs.declared.bodies.BodyFault.{BodyFault}
 use Rattle.section_index.specs.declared.bodies.BodyFault.TheVariants as body_faults
+use Rattle.section_rows.specs.Loading.{first_large, AreRefused}
 use Rattle.report_text.specs.declared.refusals.Refusal.{Refusal}
 use Rattle.report_text.specs.declared.refusals.Refusal.TheVariants.{Open, SectionTooLarge}
 use Rattle.report_text.specs.Refusals.{IsRefusal}
@@ -142,21 +143,24 @@ pub too_large-index : (cmd : Command) (limit : ℕ) (bytes : List ℕ) (index : 
     → too_large limit (bodies cmd (sections bytes)) ≡ too_large limit (bodies cmd (sections_in index))
 too_large-index cmd limit bytes index of = ap (too_large limit) (sym (bodies-index cmd bytes index of))
 
+abbrev refused : Section → Refusal
+refused s = SectionTooLarge s.at (body_length s)
+
 -- a body that is longer than the limit is refused, and one that isn't is passed over
 pub too_large-first : (limit : ℕ) (s : Section) (rest : List Section) → limit < body_length s → too_large limit (s ∷ rest) ≡ Some (SectionTooLarge s.at (body_length s))
 too_large-first limit s rest large =
-    ap (λ b. if b then Some (SectionTooLarge s.at (body_length s)) else too_large limit rest) (lt-ltb limit (body_length s) large)
+    ap (λ b. option_map refused (if b then Some s else first_large limit rest)) (lt-ltb limit (body_length s) large)
 
 pub too_large-rest : (limit : ℕ) (s : Section) (rest : List Section) → body_length s ≤ limit → too_large limit (s ∷ rest) ≡ too_large limit rest
 too_large-rest limit s rest small =
-    ap (λ b. if b then Some (SectionTooLarge s.at (body_length s)) else too_large limit rest) (le-ltb limit (body_length s) small)
+    ap (λ b. option_map refused (if b then Some s else first_large limit rest)) (le-ltb limit (body_length s) small)
 
 -- of bodies in a row the first that is too large is refused
 pub too_large-append : (limit : ℕ) (xs ys : List Section) → too_large limit (xs ++ ys) ≡ option_or (too_large limit xs) (too_large limit ys)
 too_large-append limit [] ys = refl
 too_large-append limit (s ∷ xs) ys =
-    elim (nat_lt limit (body_length s)) as (λ b. (if b then Some (SectionTooLarge s.at (body_length s)) else too_large limit (xs ++ ys))
-    ≡ option_or (if b then Some (SectionTooLarge s.at (body_length s)) else too_large limit xs) (too_large limit ys)) [
+    elim (nat_lt limit (body_length s)) as (λ b. option_map refused (if b then Some s else first_large limit (xs ++ ys))
+    ≡ option_or (option_map refused (if b then Some s else first_large limit xs)) (too_large limit ys)) [
       | true ↦ refl
       | false ↦ too_large-append limit xs ys
     ]
@@ -174,6 +178,32 @@ IsStopped-body cmd name limits device step index more s body_faults.Memory named
 IsStopped-body cmd name limits device step index more s (body_faults.SectionTooLarge at len) named opened few cause later large =
     IsStopped-refused cmd name limits device index more (SectionTooLarge at len) named opened few tt
     (λ bytes all. large bytes all cause.2 ∙ ap (λ n. Some (SectionTooLarge n (body_length s))) (sym cause.0) ∙ ap (λ n. Some (SectionTooLarge at n)) (sym cause.1))
+
+-- no body is refused where none is too large
+pub none_refused : (limit : ℕ) (ss : List Section) → first_large limit ss ≡ None → too_large limit ss ≡ None
+none_refused limit ss none = ap (option_map refused) none
+
+-- the bodies of several sections weren't loaded, where no cause of a refusal stands before their lengths
+large-refused : (first : Option Section) (at len : ℕ) → option_map (λ s. body_faults.SectionTooLarge s.at (body_length s)) first ≡ Some (body_faults.SectionTooLarge at len)
+    → option_map refused first ≡ Some (SectionTooLarge at len)
+large-refused None at len is = absurd (let no : ⊥ = cc (is) in no)
+large-refused (Some s) at len is =
+    let same_at : s.at ≡ at = cc (is) in
+    let same_len : body_length s ≡ len = cc (is) in
+    ap (λ n. Some (SectionTooLarge n (body_length s))) same_at ∙ ap (λ n. Some (SectionTooLarge at n)) same_len
+
+pub IsStopped-bodies : (cmd : Command) (name : List ℕ) (limits : Numbers) (device step : Use) (index : Contents) (more : ℕ) (ss : List Section) (fault : BodyFault) → file_of cmd ≡ Some name
+    → HasOpened name limits device index more → IsAllowed cmd limits device index more
+    → AreRefused ss limits.section step fault → (DeviceFailed step → DeviceFailed device)
+    → ((bytes : List ℕ) → IsIndexed bytes limits index device.now_after → refusal_opened cmd bytes limits ≡ too_large limits.section ss)
+    → IsStopped cmd limits device (stop_of_body fault)
+IsStopped-bodies cmd name limits device step index more ss body_faults.Read named opened few cause later large =
+    IsStopped-unread cmd name limits device index more named opened few (later cause.0)
+IsStopped-bodies cmd name limits device step index more ss body_faults.Memory named opened few cause later large =
+    IsStopped-no_memory cmd name limits device index more named opened few
+IsStopped-bodies cmd name limits device step index more ss (body_faults.SectionTooLarge at len) named opened few cause later large =
+    IsStopped-refused cmd name limits device index more (SectionTooLarge at len) named opened few tt
+    (λ bytes all. large bytes all ∙ large-refused (first_large limits.section ss) at len cause)
 
 -- all was loaded
 pub IsReady-opened : (cmd : Command) (name : List ℕ) (limits : Numbers) (device : Use) (index : Contents) (more : ℕ) (text : List ℕ) → file_of cmd ≡ Some name

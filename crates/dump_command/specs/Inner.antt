@@ -1,3 +1,4 @@
+pub mod Fields
 -- What only private functions cite: how a command's run is put together.
 pub mod Info
 pub mod Stops

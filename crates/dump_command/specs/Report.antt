@@ -1,6 +1,6 @@
 -- What each command reports of the bytes of a dump, and why it is refused. A command without a file reports of
 -- no bytes.
-use Rattle.std.specs.Prelude.{ℕ, ◌+◌, List, [], ◌∷◌, map, length, slice_get, unwrap_or, Option, None, Some, Bool, false, nat_lt, if◌then◌else◌}
+use Rattle.std.specs.Prelude.{ℕ, ◌+◌, List, [], ◌∷◌, map, length, slice_get, unwrap_or, Option, None, Some, Bool, false, codes, find, is_some, if◌then◌else◌}
 use Rattle.std.specs.List.{between, sum_by}
 use Rattle.std.specs.Option.{option_map, option_or, option_and}
 use Rattle.dump_io.specs.Limits.{Numbers}
@@ -10,19 +10,42 @@ use Rattle.section_index.specs.Opening.{opening, first_id}
 use Rattle.section_index.specs.Sections.{Section, section, sections, tag_of}
 use Rattle.section_index.specs.Tags.{tag_counts}
 use Rattle.report_text.specs.declared.refusals.Refusal.{Refusal}
-use Rattle.report_text.specs.declared.refusals.Refusal.TheVariants.{Open, SectionTooLarge}
+use Rattle.report_text.specs.declared.refusals.Refusal.TheVariants.{Open, NoProcess, SectionTooLarge}
 use Rattle.report_text.specs.Reports.{index_report, info_report}
-use Rattle.dump_command.specs.Command.{Command, index, info, file_of}
+use Rattle.report_text.specs.Tables.{fields_report, procs_report, rows_report}
+use Rattle.process_table.specs.Processes.{process_table}
+use Rattle.process_table.specs.Records.{record_sections}
+use Rattle.section_index.specs.Lookups.{has_tag, is_named}
+use Rattle.section_rows.specs.Loading.{first_large}
+use Rattle.table_sections.specs.Tables.{listed, table_of}
+use Rattle.dump_command.specs.Command.{Command, index, info, procs, proc, memory, table, file_of}
 use Rattle.dump_command.specs.declared.status.TheConstants.{DONE}
 
 -- the first of these sections
 abbrev pub first_section : List Section → Section
 first_section sections = unwrap_or (slice_get sections 0) (section 0 0 0 [])
 
+-- the first section of the process with this pid, if there is one
+abbrev pub process_section : List ℕ → List Section → Option Section
+process_section pid sections = find (λ s. is_named (codes "proc") (Some pid) s.text) sections
+
+-- the first section on memory, if there is one
+abbrev pub memory_section : List Section → Option Section
+memory_section sections = find (λ s. has_tag (codes "memory") s.text) sections
+
+-- a section that is there
+abbrev pub one_of : Option Section → List Section
+one_of None = []
+one_of (Some s) = s ∷ []
+
 -- the bodies that a command loads, in the order in which they are judged and read
 abbrev pub bodies : Command → List Section → List Section
 bodies (index file) sections = []
 bodies (info file) sections = first_section sections ∷ []
+bodies (procs file) sections = record_sections sections
+bodies (proc file pid) sections = one_of (process_section pid sections)
+bodies (memory file) sections = one_of (memory_section sections)
+bodies (table kind file) sections = listed kind sections
 
 -- the bytes of a section's body
 abbrev pub body_of : List ℕ → Section → List ℕ
@@ -31,12 +54,21 @@ body_of bytes section = between section.body section.end bytes
 abbrev pub tags_of : List Section → List (List ℕ)
 tags_of sections = map (λ s. tag_of s.text) sections
 
+-- the fields of a section, and no rows where there is none
+abbrev pub fields_of : List ℕ → Option Section → List ℕ
+fields_of bytes None = fields_report 0 []
+fields_of bytes (Some s) = fields_report s.body (body_of bytes s)
+
 -- the report of a command on the bytes of a dump
 abbrev pub report : Command → List ℕ → List ℕ
 report (index file) bytes = index_report (headers bytes) (length bytes)
 report (info file) bytes =
     info_report (first_id bytes) (headers bytes) (length bytes) (tag_counts (tags_of (sections bytes)))
     (body_of bytes (first_section (sections bytes)))
+report (procs file) bytes = procs_report (process_table bytes)
+report (proc file pid) bytes = fields_of bytes (process_section pid (sections bytes))
+report (memory file) bytes = fields_of bytes (memory_section (sections bytes))
+report (table kind file) bytes = rows_report (table_of kind bytes)
 
 -- the status of a run that has written its whole report
 abbrev pub report_status : Command → List ℕ → ℕ
@@ -46,15 +78,19 @@ report_status cmd bytes = DONE
 abbrev pub finds : Command → Bool
 finds cmd = false
 
+-- a command is refused where its subject isn't there: no section is that of the process
+abbrev pub no_subject : Command → List Section → Option Refusal
+no_subject (proc file pid) sections = if is_some (process_section pid sections) then None else Some (NoProcess pid)
+no_subject cmd sections = None
+
 -- the refusal of the first of these bodies that is longer than the limit
 abbrev pub too_large : ℕ → List Section → Option Refusal
-too_large limit [] = None
-too_large limit (s ∷ sections) =
-    if nat_lt limit (body_length s) then Some (SectionTooLarge s.at (body_length s)) else too_large limit sections
+too_large limit sections = option_map (λ s. SectionTooLarge s.at (body_length s)) (first_large limit sections)
 
 -- why a command on the bytes of an accepted dump is refused: the first cause that holds
 abbrev pub refusal_opened : Command → List ℕ → Numbers → Option Refusal
-refusal_opened cmd bytes limits = too_large limits.section (bodies cmd (sections bytes))
+refusal_opened cmd bytes limits =
+    option_or (no_subject cmd (sections bytes)) (too_large limits.section (bodies cmd (sections bytes)))
 
 -- why a command on these bytes is refused under these limits, or none. A command without a file isn't refused
 abbrev pub refusal : Command → List ℕ → Numbers → Option Refusal

@@ -4,4 +4,5 @@ mod hindered;
 mod index;
 mod info;
 mod long_lines;
+mod tables;
 mod usage;

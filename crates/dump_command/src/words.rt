@@ -1,7 +1,7 @@
 // The words of the command line.
 ghost use Rattle.std.specs.Prelude.{◌≡◌, map, option_map};
 ghost use Rattle.std.specs.String.{string_bytes};
-ghost use Rattle.dump_command.specs.Command.{command, file_command, shown};
+ghost use Rattle.dump_command.specs.Command.{command, file_command, word_command, shown};
 
 /// A command with its words.
 #[derive(Clone, Copy, Debug, PartialEq, Eq)]
@@ -10,6 +10,20 @@ pub enum Cmd<'a> {
     Index { file: &'a str },
     /// `info FILE`: version, size, counts, slogan, tags and state of a dump.
     Info { file: &'a str },
+    /// `procs FILE`: the process table.
+    Procs { file: &'a str },
+    /// `proc FILE PID`: the fields of one process.
+    Proc { file: &'a str, pid: &'a str },
+    /// `memory FILE`: the fields of the first section on memory.
+    Memory { file: &'a str },
+    /// `ets FILE`: the ETS tables.
+    Ets { file: &'a str },
+    /// `ports FILE`: the ports.
+    Ports { file: &'a str },
+    /// `nodes FILE`: the nodes that this one knew.
+    Nodes { file: &'a str },
+    /// `mods FILE`: the modules.
+    Mods { file: &'a str },
 }
 
 /// The command of the words behind the program's name. `None` comes exactly where they are no command.
@@ -18,6 +32,7 @@ pub fn read_words(words: &[String]) -> Option<Cmd<'_>>
 {
     match words {
         [name, file] => file_command(name.as_str(), file.as_str()),
+        [name, file, word] => word_command(name.as_str(), file.as_str(), word.as_str()),
         _ => None,
     }
 }
@@ -28,6 +43,21 @@ fn file_command<'a>(name: &str, file: &'a str) -> Option<Cmd<'a>>
     match name {
         "index" => Some(Cmd::Index { file }),
         "info" => Some(Cmd::Info { file }),
+        "procs" => Some(Cmd::Procs { file }),
+        "memory" => Some(Cmd::Memory { file }),
+        "ets" => Some(Cmd::Ets { file }),
+        "ports" => Some(Cmd::Ports { file }),
+        "nodes" => Some(Cmd::Nodes { file }),
+        "mods" => Some(Cmd::Mods { file }),
+        _ => None,
+    }
+}
+
+fn word_command<'a>(name: &str, file: &'a str, word: &'a str) -> Option<Cmd<'a>>
+    ensures { option_map shown result ≡ word_command name.now file.now word.now }
+{
+    match name {
+        "proc" => Some(Cmd::Proc { file, pid: word }),
         _ => None,
     }
 }

@@ -4,7 +4,7 @@ use Rattle.std.specs.List.{concat}
 use Rattle.section_index.specs.declared.opening.OpenFault.{OpenFault}
 use Rattle.section_index.specs.declared.opening.OpenFault.TheVariants.{Compressed, NotADump, Version, TooLarge, HeaderTooLong, TooManySections, HeadersTooLarge, Read, Memory}
 use Rattle.report_text.specs.declared.refusals.Refusal.{Refusal}
-use Rattle.report_text.specs.declared.refusals.Refusal.TheVariants.{Open, SectionTooLarge}
+use Rattle.report_text.specs.declared.refusals.Refusal.TheVariants.{Open, NoProcess, SectionTooLarge}
 use Rattle.report_text.specs.Reports.{newline}
 
 -- what a dump that isn't opened is refused for, part by part
@@ -21,6 +21,7 @@ open_cause Memory = []
 
 abbrev pub cause_of : Refusal → List (List ℕ)
 cause_of (Open fault) = open_cause fault
+cause_of (NoProcess pid) = codes "no process " ∷ pid ∷ []
 cause_of (SectionTooLarge at len) = codes "section too large at " ∷ decimal at ∷ codes " length " ∷ decimal len ∷ []
 
 abbrev pub refusal_line : Refusal → List ℕ
@@ -34,4 +35,5 @@ IsRefusing fault = Unit {0}
 
 abbrev pub IsRefusal : Refusal → Type 0
 IsRefusal (Open fault) = IsRefusing fault
+IsRefusal (NoProcess pid) = Unit {0}
 IsRefusal (SectionTooLarge at len) = Unit {0}

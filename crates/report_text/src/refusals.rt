@@ -6,7 +6,7 @@ ghost use Rattle.dump_io.specs.Sinks.{changed, Puts};
 ghost use Rattle.report_text.specs.Reports.{newline};
 ghost use Rattle.report_text.specs.Refusals.{IsRefusal, IsRefusing, refusal_line};
 
-use dump_io::{Failed, Piece, Sink, put_pieces, write_all};
+use dump_io::{Failed, Piece, Sink, Text, put_pieces, write_all};
 use section_index::OpenFault;
 
 /// Why a command is refused.
@@ -14,6 +14,8 @@ use section_index::OpenFault;
 pub enum Refusal {
     /// The dump isn't opened.
     Open(OpenFault),
+    /// No section of a process has this id.
+    NoProcess(Text),
     /// A body that the command loads has more bytes than the limit on sections; `at` is the offset of its
     /// section in the file, and `len` the number of bytes.
     SectionTooLarge { at: u64, len: u64 },
@@ -80,6 +82,7 @@ pub fn put_refusal<K: Sink>(sink: &mut K, refusal: &Refusal) -> Result<(), Faile
 {
     match refusal {
         Refusal::Open(fault) => put_open_fault(sink, fault),
+        Refusal::NoProcess(pid) => put_cause(sink, b"no process ", Piece::Bytes(pid.bytes())),
         Refusal::SectionTooLarge { at, len } => put_too_large(sink, *at, *len),
     }
 }
