@@ -1,0 +1,4 @@
+pub mod FirstPlace
+pub mod OrderFacts
+pub mod RecordFacts
+pub mod TargetFacts

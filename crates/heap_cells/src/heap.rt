@@ -110,8 +110,9 @@ impl Heap {
         ensures element { IfSome (slice_get (elements_at self.now.cells (number ix)) n) (KeepsElement result) }
         ensures within { IsWithin (length self.now.cells) (kid_target result) }
     {
-        let cell = &self.cells[ix.number() as usize];
-        let slot = self.slots(ix)[n as usize];
+        let i = ix.number() as usize;
+        let cell = &self.cells[i];
+        let slot = slots_of(&self.cells, &self.slots, i)[n as usize];
         kid_of(&self.texts, slot, (cell.at + cell.len) as usize)
     }
 
@@ -133,6 +134,7 @@ impl Heap {
         requires { number ix < length self.now.cells }
         ensures targets { map slot_target result.now ≡ map (target self.now.cells) (elements_at self.now.cells (number ix)) }
         ensures within { All (λ slot. IsWithin (length self.now.cells) (slot_target slot)) result.now }
+        ensures few { length result.now ≤ 100000000 }
     {
         slots_of(&self.cells, &self.slots, ix.number() as usize)
     }
@@ -142,10 +144,13 @@ impl Heap {
         ensures seat { IsSeatOf self.now.cells addr result }
         ensures within { IsSeatWithin (length self.now.cells) result }
     {
-        match number_of(&self.order, &self.cells, addr) {
-            None => Seat::Missing,
-            Some(n) if self.cells[n as usize].kind.is_none() => Seat::Malformed(CellIx::new(n)),
-            Some(n) => Seat::Cell(CellIx::new(n)),
+        let Some(n) = number_of(&self.order, &self.cells, addr) else {
+            return Seat::Missing;
+        };
+        let ix = CellIx::new(n);
+        match self.cells[n as usize].kind {
+            None => Seat::Malformed(ix),
+            Some(_) => Seat::Cell(ix),
         }
     }
 }

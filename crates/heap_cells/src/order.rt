@@ -1,5 +1,6 @@
 // The numbers of cells by address.
-ghost use Rattle.std.specs.Prelude.{◌≡◌, ◌<◌, ◌≤◌, length};
+ghost use Rattle.std.specs.Prelude.{◌≡◌, ◌<◌, ◌≤◌, length, nat_lt, true, false};
+ghost use Rattle.std.specs.List.Sorted.{IsNonDecreasingBy, IsPartitionPoint};
 ghost use Rattle.heap_cells.specs.Inner.Records.{address_in, IsOrder, record_with};
 
 use crate::cells::CellRecord;
@@ -13,8 +14,12 @@ fn address_of(cells: &[CellRecord], n: u32) -> u64
     }
 }
 
-// How many of the numbers belong to cells with a lesser address.
-fn count_below(order: &[u32], cells: &[CellRecord], address: u64) -> usize {
+// How many of the numbers belong to cells with a lesser address: these come first.
+fn count_below(order: &[u32], cells: &[CellRecord], address: u64) -> usize
+    requires { IsNonDecreasingBy (address_in cells.now) order.now }
+    ensures within { result ≤ length order.now }
+    ensures point { IsPartitionPoint (λ n. nat_lt (address_in cells.now n) address ≡ true) (λ n. nat_lt (address_in cells.now n) address ≡ false) order.now result }
+{
     order.partition_point(|n| address_of(cells, *n) < address)
 }
 

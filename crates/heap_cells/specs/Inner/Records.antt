@@ -1,5 +1,5 @@
 -- What the records and the slots of a heap stand for. The text is that of both bodies, one behind the other.
-use Rattle.std.specs.Prelude.{◌≡◌, ℕ, ◌+◌, ◌*◌, ◌<◌, ◌≤◌, ◌==◌, List, [], ◌∷◌, ◌++◌, map, length, slice_get, slice_range, Option, None, Some, IsSome, Contains, position, nat_eq}
+use Rattle.std.specs.Prelude.{◌≡◌, ℕ, ◌+◌, ◌*◌, ◌<◌, ◌≤◌, ◌==◌, List, [], ◌∷◌, ◌++◌, map, length, slice_get, slice_range, Option, None, Some, IsSome, All, Contains, position, nat_eq}
 use Rattle.std.specs.Option.{option_map}
 use Rattle.std.specs.List.{flat_map, IsDistinct}
 use Rattle.std.specs.List.Sorted.{IsNonDecreasingBy}
@@ -10,7 +10,7 @@ use Rattle.term_forms.specs.ReadingForms.{form_of}
 use Rattle.heap_cells.specs.declared.cells.CellRecord.{CellRecord}
 use Rattle.heap_cells.specs.declared.cells.Slot.{Slot}
 use Rattle.heap_cells.specs.declared.cells.Slot.TheVariants as slot
-use Rattle.heap_cells.specs.Cells.{Cell, elements_in, kind_of, addresses, weight_of}
+use Rattle.heap_cells.specs.Cells.{Cell, elements_in, kind_of, addresses}
 use Rattle.heap_cells.specs.Targets.{target, slot_target}
 use Rattle.heap_cells.specs.Inner.Parts.{IsPart}
 
@@ -95,6 +95,7 @@ address_in records n = address_or 0 (slice_get records n)
 
 -- the numbers of all records, by address and then by number
 pub record IsOrder (records : List CellRecord) (order : List ℕ) : Type 0 where
+  pub within : All (λ n. n < length records) order
   pub complete : (n : ℕ) → n < length records → Contains order n
   pub sorted : IsNonDecreasingBy (λ n. rank (address_in records n) n) order
 
@@ -107,7 +108,7 @@ pub record IsArena (text : List ℕ) (seam : ℕ) (enc : Enc) (records : List Ce
   pub heap_size : seam ≤ 536870912
   pub size : length text ≤ seam + 536870912
   pub own_is : own ≤ length records
-  pub weight : weight_of (cells_in text enc records) ≤ 100000000
+  pub few : length records + length slots ≤ 100000000
   pub distinct : IsDistinct nat_eq (addresses (cells_in text enc records))
   pub slots_are : AreSlots text seam enc (cells_in text enc records) records slots
   pub order_is : IsOrder records order
