@@ -1,15 +1,21 @@
 -- Numbers of records in the order of their addresses.
-use Rattle.std.proofs.Common.{◌≡◌, ℕ, ◌+◌, ◌*◌, ◌<◌, ◌≤◌, ◌==◌, ◌⊎◌, inl, inr, Bool, true, false, ltb, List, length, get_or, Option, None, Some, sym, ◌∙◌, ap, subst, arith}
+use Rattle.std.proofs.Common.{◌≡◌, ℕ, ◌+◌, ◌*◌, ◌<◌, ◌≤◌, ◌==◌, ◌⊎◌, inl, inr, Bool, true, false, ltb, List, [], ◌∷◌, ◌++◌, length, get_or, map, Option, None, Some, refl, sym, ◌∙◌, ap, subst, arith, length-append, below_more}
 use Rattle.std.specs.Prelude.{slice_get}
-use Rattle.std.specs.List.Sorted.{IsNonDecreasingBy, IsPartitionPoint}
-use Rattle.std.proofs.lemmas.Bool.{cases_lt, false_from_ne_true, eq-eqb, eqb-true, ltb-true, ltb-false}
-use Rattle.std.proofs.lemmas.List.{get_or_default}
+use Rattle.std.specs.List.Sorted.{IsNonDecreasingBy, IsPartitionPoint, IsPermutation, IsSorted}
+use Rattle.std.specs.Ordering.{is_lt, ordering_then, nat_cmp}
+use Rattle.std.specs.Cmp.{nat_cmp_is}
+use Rattle.std.specs.declared.cmp.Ordering.TheVariants.{Less, Equal}
+use Rattle.std.proofs.lemmas.Map.Keys.{ge_from_not_lt}
+use Rattle.std.proofs.lemmas.List.Elements.{All-map}
+use Rattle.std.proofs.lemmas.Bool.{true≢false, cases_lt, cases_order, false_from_ne_true, eq-eqb, eqb-true, ltb-true, ltb-false}
+use Rattle.std.proofs.lemmas.List.{get_or_default, get_or_push, get_or_append_left, get_or-map, length-map}
+use Rattle.std.proofs.lemmas.List.Sorted.{All-permutation, Contains-permutation, IsNonDecreasingBy-from_all_adjacent}
 use Rattle.std.proofs.lemmas.Option.{slice_get-get_or}
 use Rattle.heap_cells.specs.declared.cells.CellRecord.{CellRecord}
-use Rattle.heap_cells.specs.Inner.Records.{address_or, address_in, rank, IsOrder, record_with}
+use Rattle.heap_cells.specs.Inner.Order.{address_or, address_in, rank, IsOrder, record_with, IsPairOf, ArePairs}
 use Rattle.heap_cells.proofs.FirstPlace.{position-at, position-none}
 
-lesser : (a b m n : ℕ) → m < 4294967296 → n < 4294967296 → rank a m ≤ rank b n → a ≤ b
+pub lesser : (a b m n : ℕ) → m < 4294967296 → n < 4294967296 → rank a m ≤ rank b n → a ≤ b
 lesser a b m n one other ranks = omega arith
 
 -- the numbers rise by address
@@ -98,3 +104,72 @@ other-there rs order address at n few is point inside read other =
         let behind : address ≤ address_in rs n =
         ltb-false _ _ (subst (λ k. ltb (address_in rs k) address ≡ false) (sym read) (point.1 at n (omega arith) inside)) in
         other (omega (arith, up, behind, same))
+
+-- ---- pairs of addresses and numbers
+
+pub pairs-more : (rs : List CellRecord) (pairs more : List (ℕ × ℕ)) (i : ℕ) → length pairs ≡ i → ((k : ℕ) (d : ℕ × ℕ) → k < i → get_or pairs k d ≡ (address_in rs k, k))
+    → more ≡ pairs ++ (address_in rs i, i) ∷ [] → (length more ≡ i + 1) × ((k : ℕ) (d : ℕ × ℕ) → k < i + 1 → get_or more k d ≡ (address_in rs k, k))
+pairs-more rs pairs more i count each is =
+    (ap length is ∙ length-append pairs ((address_in rs i, i) ∷ []) ∙ omega (arith, count),
+    λ k d inside. below_more (λ j. get_or more j d ≡ (address_in rs j, j)) i (before d) (ap (λ l. get_or l i d) is ∙ get_or_push pairs (address_in rs i, i) d i count) k inside)
+  where
+    before : (d : ℕ × ℕ) (j : ℕ) → j < i → get_or more j d ≡ (address_in rs j, j)
+    before d j inside = ap (λ l. get_or l j d) is ∙ get_or_append_left pairs ((address_in rs i, i) ∷ []) d j (omega (arith, inside, count)) ∙ each j d inside
+
+pub pairs-all : (rs : List CellRecord) (pairs : List (ℕ × ℕ)) (i : ℕ) → length pairs ≡ i → ((k : ℕ) (d : ℕ × ℕ) → k < i → get_or pairs k d ≡ (address_in rs k, k))
+    → i ≡ length rs → ArePairs rs pairs
+pairs-all rs pairs i count each all = record {
+  each = λ k d inside. subst (IsPairOf rs) (sym (each k d (omega (arith, inside, count)))) (pair k (omega (arith, inside, count, all)));
+  complete = λ n inside. (n, omega (arith, inside, count, all), each n (address_in rs n, n) (omega (arith, inside, all)));
+}
+  where
+    pair : (k : ℕ) → k < length rs → IsPairOf rs (address_in rs k, k)
+    pair k inside = record { within = inside; address = refl }
+
+-- ---- sorted pairs
+
+pub pairs-moved : (rs : List CellRecord) (pairs sorted : List (ℕ × ℕ)) → ArePairs rs pairs → IsPermutation pairs sorted → ArePairs rs sorted
+pairs-moved rs pairs sorted are moved = record {
+  each = All-permutation (IsPairOf rs) pairs sorted moved are.each;
+  complete = λ n inside. Contains-permutation pairs sorted (address_in rs n, n) moved (are.complete n inside);
+}
+
+-- a pair that isn't less than another one has no lesser rank
+not-less : (a m b n : ℕ) → m < 4294967296 → n < 4294967296 → is_lt (ordering_then (nat_cmp b a) (nat_cmp n m)) ≡ false → rank a m ≤ rank b n
+not-less a m b n one other stands = by-order (cases_order a b)
+  where
+    by-order : (a ≡ b) ⊎ ((a < b) ⊎ (b < a)) → rank a m ≤ rank b n
+    by-order (inl same) =
+        let equal : Equal ≡ nat_cmp b a = nat_cmp_is b a Equal (sym same) in
+        let up : m ≤ n = ge_from_not_lt n m (ap (λ o. is_lt (ordering_then o (nat_cmp n m))) equal ∙ stands) in
+        omega (arith, same, up)
+    by-order (inr (inl less)) = omega (arith, less, one)
+    by-order (inr (inr more)) =
+        let greater : Less ≡ nat_cmp b a = nat_cmp_is b a Less more in
+        absurd (true≢false (ap (λ o. is_lt (ordering_then o (nat_cmp n m))) greater ∙ stands))
+
+pub pairs-ranked : (rs : List CellRecord) (pairs : List (ℕ × ℕ)) → length rs < 4294967296 → ArePairs rs pairs → IsSorted (λ x y. ordering_then (nat_cmp x.0 y.0) (nat_cmp x.1 y.1)) pairs
+    → IsNonDecreasingBy (λ (p : ℕ × ℕ). rank p.0 p.1) pairs
+pairs-ranked rs pairs few are sorted =
+    IsNonDecreasingBy-from_all_adjacent (λ (p : ℕ × ℕ). rank p.0 p.1) pairs
+    (λ k d inside.
+        let one = (are.each k d (omega arith)).within in
+        let other = (are.each (k + 1) d inside).within in
+        not-less (get_or pairs k d).0 (get_or pairs k d).1 (get_or pairs (k + 1) d).0 (get_or pairs (k + 1) d).1 (omega (arith, one)) (omega (arith, other)) (sorted k d (omega arith) inside))
+
+-- the numbers of sorted pairs
+pub order-is : (rs : List CellRecord) (pairs : List (ℕ × ℕ)) (order : List ℕ) → ArePairs rs pairs → IsNonDecreasingBy (λ (p : ℕ × ℕ). rank p.0 p.1) pairs
+    → map (λ (p : ℕ × ℕ). p.1) pairs ≡ order → IsOrder rs order
+order-is rs pairs order are sorted is = subst (IsOrder rs) is (record {
+  within = All-map (λ n. n < length rs) (λ (p : ℕ × ℕ). p.1) pairs (λ k d inside. (are.each k d inside).within);
+  complete = λ n inside. let there = are.complete n inside in
+      (there.0, omega (arith, there.1, length-map pairs (λ (p : ℕ × ℕ). p.1)),
+      get_or-map (λ (p : ℕ × ℕ). p.1) pairs there.0 (address_in rs n, n) n there.1 ∙ ap (λ (p : ℕ × ℕ). p.1) there.2);
+  sorted = λ i j d up inside.
+      let within : j < length pairs = omega (arith, inside, length-map pairs (λ (p : ℕ × ℕ). p.1)) in
+      let i_is = get_or-map (λ (p : ℕ × ℕ). p.1) pairs i (0, 0) d (omega arith) in
+      let j_is = get_or-map (λ (p : ℕ × ℕ). p.1) pairs j (0, 0) d within in
+      let i_at = (are.each i (0, 0) (omega arith)).address in
+      let j_at = (are.each j (0, 0) within).address in
+      rw (i_is, j_is, i_at, j_at) (sorted i j (0, 0) up within);
+})

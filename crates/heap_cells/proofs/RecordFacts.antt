@@ -19,7 +19,8 @@ use Rattle.heap_cells.specs.declared.cells.Kid.TheVariants as kid
 use Rattle.heap_cells.specs.Cells.{Cell, elements_in, kind_of, cell_weight, weight_of}
 use Rattle.heap_cells.specs.HeapMap.{number_at, form_at, elements_at}
 use Rattle.heap_cells.specs.Targets.{target, slot_target, kid_target, KeepsElement}
-use Rattle.heap_cells.specs.Inner.Records.{cell_in, cells_in, elements_by, IsRecord, AreLaid, AreSlots, start_at, slots_at, element_at, spelled_by, IsReadable, Spells, record_with}
+use Rattle.heap_cells.specs.Inner.Order.{record_with}
+use Rattle.heap_cells.specs.Inner.Records.{cell_in, cells_in, elements_by, IsRecord, AreLaid, AreSlots, start_at, slots_at, element_at, spelled_by, IsReadable, Spells}
 
 -- ---- a record by its number
 

@@ -10,7 +10,7 @@ pub struct CellIx(u32);
 
 impl CellIx {
     pub(crate) fn new(n: u32) -> CellIx
-        ensures { number result ≡ n }
+        ensures { result ≡ record { 0 = n } }
     {
         CellIx(n)
     }

@@ -10,6 +10,7 @@ mod cells;
 mod faults;
 mod heap;
 mod order;
+mod resolving;
 mod texts;
 
 pub use cells::{CellIx, Kid, Kind, Seat, Slot, Why};

@@ -1,8 +1,7 @@
 -- What the records and the slots of a heap stand for. The text is that of both bodies, one behind the other.
-use Rattle.std.specs.Prelude.{◌≡◌, ℕ, ◌+◌, ◌*◌, ◌<◌, ◌≤◌, ◌==◌, List, [], ◌∷◌, ◌++◌, map, length, slice_get, slice_range, Option, None, Some, IsSome, All, Contains, position, nat_eq}
+use Rattle.std.specs.Prelude.{◌≡◌, ℕ, ◌+◌, ◌≤◌, List, [], ◌∷◌, map, length, slice_get, slice_range, Option, None, Some, IsSome, nat_eq}
 use Rattle.std.specs.Option.{option_map}
 use Rattle.std.specs.List.{flat_map, IsDistinct}
-use Rattle.std.specs.List.Sorted.{IsNonDecreasingBy}
 use Rattle.term_forms.specs.declared.enc.Enc.{Enc}
 use Rattle.term_forms.specs.Elements.{Element}
 use Rattle.term_forms.specs.Reading.{front}
@@ -12,6 +11,7 @@ use Rattle.heap_cells.specs.declared.cells.Slot.{Slot}
 use Rattle.heap_cells.specs.declared.cells.Slot.TheVariants as slot
 use Rattle.heap_cells.specs.Cells.{Cell, elements_in, kind_of, addresses}
 use Rattle.heap_cells.specs.Targets.{target, slot_target}
+use Rattle.heap_cells.specs.Inner.Order.{IsOrder}
 use Rattle.heap_cells.specs.Inner.Parts.{IsPart}
 
 abbrev pub cell_in : List ℕ → Enc → CellRecord → Cell
@@ -80,28 +80,6 @@ pub record AreSlots (text : List ℕ) (seam : ℕ) (enc : Enc) (known : List Cel
   pub targets : map slot_target slots ≡ map (target known) (flat_map (elements_by text enc) records)
   pub spelled : (i : ℕ) (r : CellRecord) → slice_get records i ≡ Some r
       → AllSpell text seam (r.at + r.len) (slots_at records slots i) (elements_by text enc r)
-
--- an address and a number as one number, which orders pairs by their address, and those with one address by their number
-abbrev pub rank : ℕ → ℕ → ℕ
-rank address number = address * 4294967296 + number
-
-abbrev pub address_or : ℕ → Option CellRecord → ℕ
-address_or other None = other
-address_or other (Some r) = r.address
-
--- the address of the record with a number, and past the last one 0
-abbrev pub address_in : List CellRecord → ℕ → ℕ
-address_in records n = address_or 0 (slice_get records n)
-
--- the numbers of all records, by address and then by number
-pub record IsOrder (records : List CellRecord) (order : List ℕ) : Type 0 where
-  pub within : All (λ n. n < length records) order
-  pub complete : (n : ℕ) → n < length records → Contains order n
-  pub sorted : IsNonDecreasingBy (λ n. rank (address_in records n) n) order
-
--- the number of the first record with an address
-abbrev pub record_with : List CellRecord → ℕ → Option ℕ
-record_with records address = position (λ r. r.address == address) records
 
 -- the whole of a heap
 pub record IsArena (text : List ℕ) (seam : ℕ) (enc : Enc) (records : List CellRecord) (slots : List Slot) (order : List ℕ) (own : ℕ) : Type 0 where

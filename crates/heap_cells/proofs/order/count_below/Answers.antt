@@ -1,6 +1,6 @@
 use Rattle.std.proofs.Common.{rules, ltb}
 use Rattle.std.proofs.lemmas.List.Sorted.{IsPartitionedBy-ltb, IsPartitionPoint-from_clause}
-use Rattle.heap_cells.specs.Inner.Records.{address_in}
+use Rattle.heap_cells.specs.Inner.Order.{address_in}
 use Rattle.heap_cells.proofs.order.count_below.Goals as goal
 
 pub returns-clause-point : goal.returns-clause-point

@@ -21,7 +21,7 @@ returns-then-address_of-address c =
 pub returns-else-address_of-address : goal.returns-else-address_of-address
 returns-else-address_of-address c =
     let found = c.in_ok-number.ensures.lookup in
-    let other : Rattle.heap_cells.specs.Inner.Records.address_in c.args.cells.now c.in_ok-number.field-0.now ≡ c.args.address → ⊥ =
+    let other : Rattle.heap_cells.specs.Inner.Order.address_in c.args.cells.now c.in_ok-number.field-0.now ≡ c.args.address → ⊥ =
     λ same. c.if-address_of-address.false (c.address_of.ensures ∙ same) in
     sym (other-there c.args.cells.now c.args.order.now c.args.address c.count_below-at.result c.in_ok-number.field-0.now c.requires.few c.requires.order
     c.count_below-at.ensures.point (omega (arith, found)) found.1 other)
