@@ -5,9 +5,10 @@ use Rattle.dump_io.specs.Dumps.{Now, told, Gives}
 use Rattle.dump_io.specs.Limits.{Numbers}
 use Rattle.line_source.specs.Scan.{Scan}
 use Rattle.section_index.specs.declared.opening.OpenFault.{OpenFault}
+use Rattle.section_index.specs.declared.opening.OpenFault.TheVariants.{TooLarge}
 use Rattle.section_index.specs.Opening.{signature}
-use Rattle.section_index.specs.Receiver.{Hearing}
-use Rattle.section_index.specs.Scanning.{HasHeard, IsHeaderFault, IsOfAHeader}
+use Rattle.section_index.specs.Inner.Receiver.{Hearing}
+use Rattle.section_index.specs.Inner.Scanning.{HasHeard, IsHeaderFault, IsOfAHeader}
 
 -- a scan has heard the first bytes of what is open, which begin as a dump
 pub record HasBegun (now : Now) (scan : Scan) (hearing : Hearing) : Type 0 where
@@ -17,6 +18,11 @@ pub record HasBegun (now : Now) (scan : Scan) (hearing : Hearing) : Type 0 where
   pub heard : HasHeard scan hearing bytes
 
 -- the refusal of a header, or want of memory; where the bytes of what is open are told, it is their refusal
-pub record IsRefusal (limits : Numbers) (now : Now) (fault : OpenFault) : Type 0 where
+pub record IsHeaderRefusal (limits : Numbers) (now : Now) (fault : OpenFault) : Type 0 where
   pub kind : IsOfAHeader fault
   pub refusal : (bytes : List ℕ) → now ≡ told bytes → IsHeaderFault limits bytes fault
+
+-- another refusal than that the dump is too large
+abbrev pub IsNotTooLarge : OpenFault → Type 0
+IsNotTooLarge (TooLarge size) = ⊥
+IsNotTooLarge fault = Unit {0}

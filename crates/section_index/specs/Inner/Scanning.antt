@@ -10,7 +10,7 @@ use Rattle.line_source.specs.declared.header_sink.HeaderStop.TheVariants.{TooMan
 use Rattle.section_index.specs.declared.opening.OpenFault.{OpenFault}
 use Rattle.section_index.specs.declared.opening.OpenFault.TheVariants.{HeaderTooLong, TooManySections, HeadersTooLarge, Memory}
 use Rattle.section_index.specs.Opening.{header_fault}
-use Rattle.section_index.specs.Receiver.{Hearing}
+use Rattle.section_index.specs.Inner.Receiver.{Hearing}
 
 -- the refusal that a receiver's refusal stands for
 abbrev pub stop_fault : HeaderStop → OpenFault
