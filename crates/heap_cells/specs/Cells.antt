@@ -6,7 +6,8 @@ use Rattle.field_lines.specs.Lines.{TextLine, text_lines}
 use Rattle.term_forms.specs.declared.enc.Enc.{Enc}
 use Rattle.term_forms.specs.Elements.{Element}
 use Rattle.term_forms.specs.Forms.{HeapForm, Cons, Tuple, Float, Long, Pid, Port, Ext, HeapBin, RefBin, SubBin, Flat, Hash, Node}
-use Rattle.term_forms.specs.Reading.{led_of}
+use Rattle.term_forms.specs.Places.{elements_of}
+use Rattle.term_forms.specs.Words.{led_of}
 use Rattle.term_forms.specs.ReadingForms.{form_of}
 use Rattle.heap_cells.specs.declared.cells.Kind.{Kind}
 use Rattle.heap_cells.specs.declared.cells.Kind.TheVariants as kind
@@ -42,23 +43,7 @@ cells_of enc heap literals = first_cells [] (line_cells enc heap ++ line_cells e
 abbrev pub own_count : Enc → List ℕ → ℕ
 own_count enc heap = length (first_cells [] (line_cells enc heap))
 
--- the elements of a form, in order; the keys element of a flat map is its first
-abbrev pub elements_of : HeapForm → List Element
-elements_of (Cons head tail) = head ∷ tail ∷ []
-elements_of (Tuple elements) = elements
-elements_of (Float bytes) = []
-elements_of (Long number) = []
-elements_of (Pid pid) = []
-elements_of (Port port) = []
-elements_of (Ext size chars) = []
-elements_of (HeapBin size chars) = []
-elements_of (RefBin address offset size) = []
-elements_of (SubBin address offset size) = []
-elements_of (Flat keys values) = keys ∷ values
-elements_of (Hash size children) = children
-elements_of (Node children) = children
-
--- a malformed cell has none
+-- the elements of a cell's form, in order; a malformed cell has none
 abbrev pub elements_in : Option HeapForm → List Element
 elements_in None = []
 elements_in (Some form) = elements_of form
