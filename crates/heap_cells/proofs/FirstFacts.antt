@@ -65,7 +65,7 @@ begins-first rs order k few is inside passes m less same =
         let one = number-at rs order (k - 1) is (omega arith) in
         let here = number-at rs order k is inside in
         let up = ranked rs order j (k - 1) m (get_or order (k - 1) 0) is (omega arith) (omega arith) stands
-            (get_or_default order (k - 1) (get_or order (k - 1) 0) 0 (omega arith)) in
+        (get_or_default order (k - 1) (get_or order (k - 1) 0) 0 (omega arith)) in
         let down = is.sorted (k - 1) k 0 (omega arith) inside in
         let a = lesser (address_in rs m) (address_in rs (get_or order (k - 1) 0)) m (get_or order (k - 1) 0) (omega (arith, less, here, few)) (omega (arith, one, few)) up in
         let b = lesser (address_in rs (get_or order (k - 1) 0)) (address_in rs (get_or order k 0)) (get_or order (k - 1) 0) (get_or order k 0) (omega (arith, one, few)) (omega (arith, here, few)) down in
@@ -141,6 +141,7 @@ marked-more rs order firsts more k few is inside marked passes set_is = subst (�
   where
     within : get_or order k 0 < length firsts
     within = let there = number-at rs order k is inside in omega (arith, there, marked.count)
+
     sound : (n : ℕ) → (n ≡ get_or order k 0) ⊎ (get_or firsts n false ≡ true) → IsFirst rs n
     sound n (inl same) = subst (IsFirst rs) (sym same) (begins-first rs order k few is inside passes)
     sound n (inr before) = marked.sound n before
@@ -172,21 +173,21 @@ no_record = record { address = 0; at = 0; len = 0; first = 0; kind = None }
 pub first-passes : (rs : List CellRecord) (n : ℕ) → n < length rs → IsFirst rs n → is_first rs n ≡ true
 first-passes rs n inside first =
     ap not (list_any_none (λ r. r.address == address_in rs n) (take n rs)
-        (λ k d within.
-            let before : k < n = omega (arith, within, length-take n rs) in
-            false_from_ne_true _ (λ same. first k before (sym (front-address rs n k d inside before) ∙ eqb-true _ _ same))))
+    (λ k d within.
+    let before : k < n = omega (arith, within, length-take n rs) in
+    false_from_ne_true _ (λ same. first k before (sym (front-address rs n k d inside before) ∙ eqb-true _ _ same))))
 
 pub passes-first : (rs : List CellRecord) (n : ℕ) → n < length rs → is_first rs n ≡ true → IsFirst rs n
 passes-first rs n inside passes m less same =
     true≢false (sym passes ∙ ap not (list_any_at (λ r. r.address == address_in rs n) (take n rs) m no_record (omega (arith, less, inside, length-take n rs))
-        (eq-eqb _ _ (front-address rs n m no_record inside less ∙ same))))
+    (eq-eqb _ _ (front-address rs n m no_record inside less ∙ same))))
 
 pub marked-all : (rs : List CellRecord) (order : List ℕ) (firsts : List Bool) → IsOrder rs order → AreMarked rs order firsts (length order) → AreFirsts rs firsts
 marked-all rs order firsts is marked = record {
   count = marked.count;
   each = λ n inside. same-bools (get_or firsts n false) (is_first rs n) (λ found. first-passes rs n inside (marked.sound n found))
       (λ passes.
-          let there = is.complete n inside in
-          let begun = begun-at rs order n there.0 is there.1 (get_or_default order there.0 0 n there.1 ∙ there.2) (passes-first rs n inside passes) in
-          subst (λ m. get_or firsts m false ≡ true) begun.stands (marked.begun begun.place begun.within begun.passes));
+      let there = is.complete n inside in
+      let begun = begun-at rs order n there.0 is there.1 (get_or_default order there.0 0 n there.1 ∙ there.2) (passes-first rs n inside passes) in
+      subst (λ m. get_or firsts m false ≡ true) begun.stands (marked.begun begun.place begun.within begun.passes));
 }

@@ -109,9 +109,10 @@ other-there rs order address at n few is point inside read other =
 
 pub pairs-more : (rs : List CellRecord) (pairs more : List (ℕ × ℕ)) (i : ℕ) → length pairs ≡ i → ((k : ℕ) (d : ℕ × ℕ) → k < i → get_or pairs k d ≡ (address_in rs k, k))
     → more ≡ pairs ++ (address_in rs i, i) ∷ [] → (length more ≡ i + 1) × ((k : ℕ) (d : ℕ × ℕ) → k < i + 1 → get_or more k d ≡ (address_in rs k, k))
-pairs-more rs pairs more i count each is =
-    (ap length is ∙ length-append pairs ((address_in rs i, i) ∷ []) ∙ omega (arith, count),
-    λ k d inside. below_more (λ j. get_or more j d ≡ (address_in rs j, j)) i (before d) (ap (λ l. get_or l i d) is ∙ get_or_push pairs (address_in rs i, i) d i count) k inside)
+pairs-more rs pairs more i count each is = (
+  ap length is ∙ length-append pairs ((address_in rs i, i) ∷ []) ∙ omega (arith, count),
+  λ k d inside. below_more (λ j. get_or more j d ≡ (address_in rs j, j)) i (before d) (ap (λ l. get_or l i d) is ∙ get_or_push pairs (address_in rs i, i) d i count) k inside,
+)
   where
     before : (d : ℕ × ℕ) (j : ℕ) → j < i → get_or more j d ≡ (address_in rs j, j)
     before d j inside = ap (λ l. get_or l j d) is ∙ get_or_append_left pairs ((address_in rs i, i) ∷ []) d j (omega (arith, inside, count)) ∙ each j d inside
@@ -153,18 +154,20 @@ pub pairs-ranked : (rs : List CellRecord) (pairs : List (ℕ × ℕ)) → length
 pairs-ranked rs pairs few are sorted =
     IsNonDecreasingBy-from_all_adjacent (λ (p : ℕ × ℕ). rank p.0 p.1) pairs
     (λ k d inside.
-        let one = (are.each k d (omega arith)).within in
-        let other = (are.each (k + 1) d inside).within in
-        not-less (get_or pairs k d).0 (get_or pairs k d).1 (get_or pairs (k + 1) d).0 (get_or pairs (k + 1) d).1 (omega (arith, one)) (omega (arith, other)) (sorted k d (omega arith) inside))
+    let one = (are.each k d (omega arith)).within in
+    let other = (are.each (k + 1) d inside).within in
+    not-less (get_or pairs k d).0 (get_or pairs k d).1 (get_or pairs (k + 1) d).0 (get_or pairs (k + 1) d).1 (omega (arith, one)) (omega (arith, other)) (sorted k d (omega arith) inside))
 
 -- the numbers of sorted pairs
 pub order-is : (rs : List CellRecord) (pairs : List (ℕ × ℕ)) (order : List ℕ) → ArePairs rs pairs → IsNonDecreasingBy (λ (p : ℕ × ℕ). rank p.0 p.1) pairs
     → map (λ (p : ℕ × ℕ). p.1) pairs ≡ order → IsOrder rs order
 order-is rs pairs order are sorted is = subst (IsOrder rs) is (record {
   within = All-map (λ n. n < length rs) (λ (p : ℕ × ℕ). p.1) pairs (λ k d inside. (are.each k d inside).within);
-  complete = λ n inside. let there = are.complete n inside in
-      (there.0, omega (arith, there.1, length-map pairs (λ (p : ℕ × ℕ). p.1)),
-      get_or-map (λ (p : ℕ × ℕ). p.1) pairs there.0 (address_in rs n, n) n there.1 ∙ ap (λ (p : ℕ × ℕ). p.1) there.2);
+  complete = λ n inside. let there = are.complete n inside in (
+    there.0,
+    omega (arith, there.1, length-map pairs (λ (p : ℕ × ℕ). p.1)),
+    get_or-map (λ (p : ℕ × ℕ). p.1) pairs there.0 (address_in rs n, n) n there.1 ∙ ap (λ (p : ℕ × ℕ). p.1) there.2,
+  );
   sorted = λ i j d up inside.
       let within : j < length pairs = omega (arith, inside, length-map pairs (λ (p : ℕ × ℕ). p.1)) in
       let i_is = get_or-map (λ (p : ℕ × ℕ). p.1) pairs i (0, 0) d (omega arith) in

@@ -90,18 +90,23 @@ resolving-more rs olds slots references k d now inside before is = record {
   where
     i : ℕ
     i = (get_or references k (0, 0)).1
+
     within : i < length slots
     within = omega (arith, inside, before.count)
+
     now-is : now ≡ settled rs (get_or olds i d)
     now-is = is ∙ again rs (get_or slots i d) (get_or olds i d) (before.each i d inside)
+
     here : (j : ℕ) (e : Slot) → j ≡ i → get_or (set slots i now) j e ≡ settled rs (get_or olds j e)
     here j e same =
         get_or-set_at slots i j now e same within ∙ now-is ∙ ap (settled rs) (get_or_default olds i d e inside) ∙ ap (λ n. settled rs (get_or olds n e)) (sym same)
+
     each : (j : ℕ) (e : Slot) → j < length olds → ((eqb j i ≡ true) × (j ≡ i)) ⊎ ((eqb j i ≡ false) × (j ≡ i → ⊥))
         → (get_or (set slots i now) j e ≡ get_or olds j e) ⊎ (get_or (set slots i now) j e ≡ settled rs (get_or olds j e))
     each j e listed (inl same) = inr (here j e same.1)
     each j e listed (inr other) =
         let was = get_or-set_other slots i j now e other.1 in rw was (before.each j e listed)
+
     over : (j : ℕ) (e : Slot) → j < k → ((eqb (get_or references j (0, 0)).1 i ≡ true) × ((get_or references j (0, 0)).1 ≡ i)) ⊎ ((eqb (get_or references j (0, 0)).1 i ≡ false) × ((get_or references j (0, 0)).1 ≡ i → ⊥))
         → get_or (set slots i now) (get_or references j (0, 0)).1 e ≡ settled rs (get_or olds (get_or references j (0, 0)).1 e)
     over j e earlier (inl same) = here (get_or references j (0, 0)).1 e same.1
@@ -116,7 +121,7 @@ pub resolving-all : (rs : List CellRecord) (olds slots : List Slot) (references 
 resolving-all rs olds slots references k are all resolving =
     same_lists slots (map (settled rs) olds) (resolving.count ∙ sym (length-map olds (settled rs)))
     (λ j d inside. let listed : j < length olds = omega (arith, inside, resolving.count) in
-        at j d listed (get_or olds j d) refl ∙ sym (get_or-map (settled rs) olds j d d listed))
+    at j d listed (get_or olds j d) refl ∙ sym (get_or-map (settled rs) olds j d d listed))
   where
     at : (j : ℕ) (d : Slot) → j < length olds → (s : Slot) → get_or olds j d ≡ s → get_or slots j d ≡ settled rs (get_or olds j d)
     at j d listed (slot.Imm place) is = either _ _ _ (rw is refl) (resolving.each j d listed)

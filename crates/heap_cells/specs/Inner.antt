@@ -1,3 +1,4 @@
+pub mod Gathering
 pub mod Order
 pub mod Parts
 pub mod Records

@@ -11,6 +11,13 @@ use crate::texts::{Texts, part};
 use term_forms::reading::elem;
 use term_forms::shapes::Elem;
 
+// The records of cells, and the slots of their elements. The slots of a record begin where those of the one before it end.
+#[derive(Drop)]
+pub(crate) struct Arena {
+    pub cells: Vec<CellRecord>,
+    pub slots: Vec<Slot>,
+}
+
 fn start_at(cells: &[CellRecord], i: usize, total: usize) -> usize
     ensures { result ≡ start_at cells.now i total }
 {
@@ -29,16 +36,16 @@ fn between(slots: &[Slot], from: usize, upto: usize) -> &[Slot]
 }
 
 // The slots of a record.
-pub(crate) fn slots_of<'a>(cells: &[CellRecord], slots: &'a [Slot], i: usize) -> &'a [Slot]
-    requires ordered { start_at cells.now i (length slots.now) ≤ start_at cells.now (i + 1) (length slots.now) }
-    requires within { start_at cells.now (i + 1) (length slots.now) ≤ length slots.now }
-    requires place { i < length cells.now }
-    ensures { result.now ≡ slots_at cells.now slots.now i }
+pub(crate) fn slots_of(arena: &Arena, i: usize) -> &[Slot]
+    requires ordered { start_at arena.now.cells.items i (length arena.now.slots.items) ≤ start_at arena.now.cells.items (i + 1) (length arena.now.slots.items) }
+    requires within { start_at arena.now.cells.items (i + 1) (length arena.now.slots.items) ≤ length arena.now.slots.items }
+    requires place { i < length arena.now.cells.items }
+    ensures { result.now ≡ slots_at arena.now.cells.items arena.now.slots.items i }
 {
-    let total = slots.len();
-    let from = start_at(cells, i, total);
-    let upto = start_at(cells, i + 1, total);
-    between(slots, from, upto)
+    let total = arena.slots.len();
+    let from = start_at(&arena.cells, i, total);
+    let upto = start_at(&arena.cells, i + 1, total);
+    between(&arena.slots, from, upto)
 }
 
 // The element that a part of the text begins with.

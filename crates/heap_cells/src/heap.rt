@@ -6,8 +6,8 @@ ghost use Rattle.heap_cells.specs.Cells.{kind_of};
 ghost use Rattle.heap_cells.specs.HeapMap.{IsBounded, address_at, form_at, elements_at, IsSpelled};
 ghost use Rattle.heap_cells.specs.Targets.{number, target, slot_target, kid_target, KeepsElement, IsSeatOf, IsSeatWithin, IsWithin};
 
-use crate::arena::{kid_of, slots_of};
-use crate::cells::{CellIx, CellRecord, Kid, Kind, Seat, Slot};
+use crate::arena::{Arena, kid_of, slots_of};
+use crate::cells::{CellIx, Kid, Kind, Seat, Slot};
 use crate::order::number_of;
 use crate::texts::{Texts, part};
 use std::marker::Model;
@@ -19,9 +19,7 @@ use term_forms::shapes::Form;
 #[derive(Drop)]
 pub struct Heap {
     texts: Texts,
-    enc: Enc,
-    cells: Vec<CellRecord>,
-    slots: Vec<Slot>,
+    arena: Arena,
     order: Vec<u32>,
     own: u32,
 }
@@ -35,14 +33,14 @@ impl Model for Heap {
     ghost Value = { HeapMap };
 
     ghost view = { λ h. record {
-      cells = cells_in (text_of h.texts) h.enc h.cells.items;
+      cells = cells_in (text_of h.texts) h.texts.enc h.arena.cells.items;
       own = h.own;
-      enc = h.enc;
+      enc = h.texts.enc;
       heap_size = length h.texts.heap.items;
       literals_size = length h.texts.literals.items;
     } };
 
-    ghost invariant = { λ h. IsArena (text_of h.texts) (seam_of h.texts) h.enc h.cells.items h.slots.items h.order.items h.own };
+    ghost invariant = { λ h. IsArena (text_of h.texts) (seam_of h.texts) h.texts.enc h.arena.cells.items h.arena.slots.items h.order.items h.own };
 }
 
 impl Heap {
@@ -51,7 +49,7 @@ impl Heap {
         ensures value { result ≡ length self.now.cells }
         ensures bounded { IsBounded self.now }
     {
-        self.cells.len() as u32
+        self.arena.cells.len() as u32
     }
 
     /// How many of the cells come from the process's own heap. They are the first ones.
@@ -66,7 +64,7 @@ impl Heap {
     pub fn enc(&self) -> Enc
         ensures { result ≡ self.now.enc }
     {
-        self.enc
+        self.texts.enc
     }
 
     /// The cell with a number.
@@ -82,7 +80,7 @@ impl Heap {
         requires { number ix < length self.now.cells }
         ensures { Some result ≡ address_at self.now.cells (number ix) }
     {
-        self.cells[ix.number() as usize].address
+        self.arena.cells[ix.number() as usize].address
     }
 
     /// The kind of a cell's form. `None` comes exactly where the cell is malformed.
@@ -90,7 +88,7 @@ impl Heap {
         requires { number ix < length self.now.cells }
         ensures { result ≡ option_map kind_of (form_at self.now.cells (number ix)) }
     {
-        self.cells[ix.number() as usize].kind
+        self.arena.cells[ix.number() as usize].kind
     }
 
     /// The number of the elements of a cell's form; a malformed cell has none. The keys element of a flat map is its
@@ -111,8 +109,8 @@ impl Heap {
         ensures within { IsWithin (length self.now.cells) (kid_target result) }
     {
         let i = ix.number() as usize;
-        let cell = &self.cells[i];
-        let slot = slots_of(&self.cells, &self.slots, i)[n as usize];
+        let cell = &self.arena.cells[i];
+        let slot = slots_of(&self.arena, i)[n as usize];
         kid_of(&self.texts, slot, (cell.at + cell.len) as usize)
     }
 
@@ -122,10 +120,10 @@ impl Heap {
         ensures form { option_map heap_form result ≡ form_at self.now.cells (number ix) }
         ensures spelled { IfSome result (λ form. IsSpelled self.now.enc (heap_form form)) }
     {
-        let cell = &self.cells[ix.number() as usize];
+        let cell = &self.arena.cells[ix.number() as usize];
         form(
             part(&self.texts, cell.at as usize, (cell.at + cell.len) as usize),
-            self.enc,
+            self.texts.enc,
         )
     }
 
@@ -136,7 +134,7 @@ impl Heap {
         ensures within { All (λ slot. IsWithin (length self.now.cells) (slot_target slot)) result.now }
         ensures few { length result.now ≤ 100000000 }
     {
-        slots_of(&self.cells, &self.slots, ix.number() as usize)
+        slots_of(&self.arena, ix.number() as usize)
     }
 
     /// What an address leads to.
@@ -144,11 +142,11 @@ impl Heap {
         ensures seat { IsSeatOf self.now.cells addr result }
         ensures within { IsSeatWithin (length self.now.cells) result }
     {
-        let Some(n) = number_of(&self.order, &self.cells, addr) else {
+        let Some(n) = number_of(&self.order, &self.arena.cells, addr) else {
             return Seat::Missing;
         };
         let ix = CellIx::new(n);
-        match self.cells[n as usize].kind {
+        match self.arena.cells[n as usize].kind {
             None => Seat::Malformed(ix),
             Some(_) => Seat::Cell(ix),
         }

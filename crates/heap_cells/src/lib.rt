@@ -8,6 +8,7 @@
 mod arena;
 mod cells;
 mod faults;
+mod gathering;
 mod heap;
 mod order;
 mod resolving;

@@ -46,12 +46,7 @@ fn references_of(alloc: Global, slots: &[Slot]) -> Result<Vec<(u64, u32)>, Alloc
     Ok(references)
 }
 
-fn resolve_each(
-    slots: &mut [Slot],
-    references: &[(u64, u32)],
-    order: &[u32],
-    cells: &[CellRecord],
-)
+fn resolve_each(slots: &mut [Slot], references: &[(u64, u32)], order: &[u32], cells: &[CellRecord])
     requires references { AreReferences slots.old references.now }
     requires few { length cells.now < 4294967296 }
     requires order { IsOrder cells.now order.now }

@@ -3,12 +3,15 @@ ghost use Rattle.std.specs.Prelude.{◌≡◌, ◌+◌, ◌<◌, ◌≤◌, leng
 ghost use Rattle.heap_cells.specs.Inner.Parts.{IsPart};
 ghost use Rattle.heap_cells.specs.Inner.Texts.{text_of, seam_of};
 
-// The body of the process's own heap and that of the literals, as they were read. A place in them is counted through both:
-// that of a byte of the literals is behind all of the heap's.
+use term_forms::Enc;
+
+// The body of the process's own heap and that of the literals, as they were read, and how their payloads are written. A
+// place in them is counted through both bodies: that of a byte of the literals is behind all of the heap's.
 #[derive(Drop)]
 pub(crate) struct Texts {
     pub heap: Vec<u8>,
     pub literals: Vec<u8>,
+    pub enc: Enc,
 }
 
 fn slice(bytes: &[u8], from: usize, upto: usize) -> &[u8]

@@ -118,6 +118,8 @@ fn placed_elements<'a>(text: &'a [u8], enc: Enc, form: &Form<'a>) -> PlacedElems
 /// with the place of its spelling in the text: what [`elem`](crate::reading::elem) reads of the text from there on is
 /// that element. The keys element of a flat map comes before its values. None where the text spells no form.
 pub fn placed_form(text: &[u8], enc: Enc) -> Option<(Form<'_>, PlacedElems<'_>)>
+    // What is found is a form that the text spells.
+    ensures found { IfSome result (λ found. IsForm enc text.now (heap_form found.0)) }
     ensures form { option_map (λ found. heap_form found.0) result ≡ form_of enc text.now }
     // They are the elements of the form.
     ensures elements { IfSome result (λ found. map (λ p. p.element) found.1 ≡ elements_of (heap_form found.0)) }

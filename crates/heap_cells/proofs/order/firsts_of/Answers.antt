@@ -25,10 +25,10 @@ index_mut-requires c =
 pub loop-place-preserved : goal.loop-place-preserved
 loop-place-preserved c =
     elim c.if-begins_address.branch [
-      then-begins_address w ↦ marked-more c.args.cells.now c.args.order.now c.loop-place.firsts.items c.if-begins_address.firsts.items c.loop-place.place
-        c.requires.few c.requires.order (omega arith) c.loop-place.invariant (sym c.begins_address.ensures ∙ w.if-begins_address.true) (ap (λ (v : Vec Bool Global). v.items) w.firsts-is)
-    | else-begins_address w ↦ subst (λ l. AreMarked c.args.cells.now c.args.order.now l (c.loop-place.place + 1)) (sym (ap (λ (v : Vec Bool Global). v.items) w.firsts-is))
-        (marked-same c.args.cells.now c.args.order.now c.loop-place.firsts.items c.loop-place.place c.loop-place.invariant (sym c.begins_address.ensures ∙ w.if-begins_address.false))
+      | then-begins_address w ↦ marked-more c.args.cells.now c.args.order.now c.loop-place.firsts.items c.if-begins_address.firsts.items c.loop-place.place
+          c.requires.few c.requires.order (omega arith) c.loop-place.invariant (sym c.begins_address.ensures ∙ w.if-begins_address.true) (ap (λ (v : Vec Bool Global). v.items) w.firsts-is)
+      | else-begins_address w ↦ subst (λ l. AreMarked c.args.cells.now c.args.order.now l (c.loop-place.place + 1)) (sym (ap (λ (v : Vec Bool Global). v.items) w.firsts-is))
+          (marked-same c.args.cells.now c.args.order.now c.loop-place.firsts.items c.loop-place.place c.loop-place.invariant (sym c.begins_address.ensures ∙ w.if-begins_address.false))
     ]
 
 pub returns : goal.returns

@@ -14,19 +14,19 @@ use Rattle.heap_cells.proofs.TargetFacts.{number_at-within}
 use Rattle.heap_cells.proofs.heap.Heap.at.Goals as goal
 
 -- the number of the cell with the address
-numbered : (h : Inside) (map : HeapMap) (cells : List CellRecord) (address : ℕ) (found result : Option ℕ) → the_view h ≡ map → cells ≡ h.cells.items
+numbered : (h : Inside) (map : HeapMap) (cells : List CellRecord) (address : ℕ) (found result : Option ℕ) → the_view h ≡ map → cells ≡ h.arena.cells.items
     → result ≡ record_with cells address → result ≡ found → number_at map.cells address ≡ found
 numbered h map cells address found result view same is was =
     let here : record_with cells address ≡ number_at map.cells address =
-    ap (λ l. record_with l address) same ∙ number-at (text_of h.texts) h.enc h.cells.items map.cells address (ap (λ (m : HeapMap). m.cells) view) in
+    ap (λ l. record_with l address) same ∙ number-at (text_of h.texts) h.texts.enc h.arena.cells.items map.cells address (ap (λ (m : HeapMap). m.cells) view) in
     sym here ∙ sym is ∙ was
 
-kind : (h : Inside) (map : HeapMap) (n : ℕ) (r : CellRecord) → the_invariant h → the_view h ≡ map → n < length map.cells → r ≡ get_or h.cells.items n r
+kind : (h : Inside) (map : HeapMap) (n : ℕ) (r : CellRecord) → the_invariant h → the_view h ≡ map → n < length map.cells → r ≡ get_or h.arena.cells.items n r
     → r.kind ≡ option_map kind_of (form_at map.cells n)
 kind h map n r holds view inside is =
     let cells = ap (λ (m : HeapMap). m.cells) view in
-    let read = read-from (text_of h.texts) (seam_of h.texts) h.enc h.cells.items map.cells (length h.slots.items) n n r holds.slots_are.laid cells refl inside is in
-    read.is_record.kind ∙ ap (option_map kind_of) (form-of (text_of h.texts) h.enc h.cells.items map.cells n r cells read.stands)
+    let read = read-from (text_of h.texts) (seam_of h.texts) h.texts.enc h.arena.cells.items map.cells (length h.arena.slots.items) n n r holds.slots_are.laid cells refl inside is in
+    read.is_record.kind ∙ ap (option_map kind_of) (form-of (text_of h.texts) h.texts.enc h.arena.cells.items map.cells n r cells read.stands)
 
 pub number_of-requires-clause-few : goal.number_of-requires-clause-few
 number_of-requires-clause-few c = let few = c.self.invariant.few in omega (arith, few, ap length c.deref-2.ensures.value)

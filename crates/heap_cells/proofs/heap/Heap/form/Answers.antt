@@ -15,7 +15,7 @@ use Rattle.heap_cells.proofs.heap.Heap.form.Goals as goal
 pub overflow_add-cell : goal.overflow_add-cell
 overflow_add-cell c =
     let h = c.self.inside in
-    let read = read-from (text_of h.texts) (seam_of h.texts) h.enc h.cells.items c.args.self.now.cells _ (number c.args.ix) c.number.result c.index-cell.result.now
+    let read = read-from (text_of h.texts) (seam_of h.texts) h.texts.enc h.arena.cells.items c.args.self.now.cells _ (number c.args.ix) c.number.result c.index-cell.result.now
     c.self.invariant.slots_are.laid (ap (λ (map : HeapMap). map.cells) c.self.view_is) c.number.ensures c.requires c.index-cell.ensures in
     let within = read.is_record.part.within in
     let heap = c.self.invariant.heap_size in
@@ -25,7 +25,7 @@ overflow_add-cell c =
 pub part-requires : goal.part-requires
 part-requires c =
     let h = c.self.inside in
-    let read = read-from (text_of h.texts) (seam_of h.texts) h.enc h.cells.items c.args.self.now.cells _ (number c.args.ix) c.number.result c.index-cell.result.now
+    let read = read-from (text_of h.texts) (seam_of h.texts) h.texts.enc h.arena.cells.items c.args.self.now.cells _ (number c.args.ix) c.number.result c.index-cell.result.now
     c.self.invariant.slots_are.laid (ap (λ (map : HeapMap). map.cells) c.self.view_is) c.number.ensures c.requires c.index-cell.ensures in
     read.is_record.part
 
@@ -33,10 +33,10 @@ pub returns-clause-form : goal.returns-clause-form
 returns-clause-form c =
     let h = c.self.inside in
     let cells = ap (λ (map : HeapMap). map.cells) c.self.view_is in
-    let read = read-from (text_of h.texts) (seam_of h.texts) h.enc h.cells.items c.args.self.now.cells _ (number c.args.ix) c.number.result c.index-cell.result.now
+    let read = read-from (text_of h.texts) (seam_of h.texts) h.texts.enc h.arena.cells.items c.args.self.now.cells _ (number c.args.ix) c.number.result c.index-cell.result.now
     c.self.invariant.slots_are.laid cells c.number.ensures c.requires c.index-cell.ensures in
-    c.form.ensures.exact ∙ ap (form_of h.enc) c.part.ensures
-    ∙ form-of (text_of h.texts) h.enc h.cells.items c.args.self.now.cells (number c.args.ix) c.index-cell.result.now cells read.stands
+    c.form.ensures.exact ∙ ap (form_of h.texts.enc) c.part.ensures
+    ∙ form-of (text_of h.texts) h.texts.enc h.arena.cells.items c.args.self.now.cells (number c.args.ix) c.index-cell.result.now cells read.stands
 
 pub returns-clause-spelled : goal.returns-clause-spelled
 returns-clause-spelled c =

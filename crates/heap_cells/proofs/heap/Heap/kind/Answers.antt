@@ -13,6 +13,6 @@ returns c =
     let text = text_of h.texts in
     let cells = ap (λ (map : HeapMap). map.cells) c.self.view_is in
     let i = number c.args.ix in
-    let read = read-from text (seam_of h.texts) h.enc h.cells.items c.args.self.now.cells _ i c.number.result c.index.result.now
+    let read = read-from text (seam_of h.texts) h.texts.enc h.arena.cells.items c.args.self.now.cells _ i c.number.result c.index.result.now
     c.self.invariant.slots_are.laid cells c.number.ensures c.requires c.index.ensures in
-    read.is_record.kind ∙ ap (option_map kind_of) (form-of text h.enc h.cells.items c.args.self.now.cells i c.index.result.now cells read.stands)
+    read.is_record.kind ∙ ap (option_map kind_of) (form-of text h.texts.enc h.arena.cells.items c.args.self.now.cells i c.index.result.now cells read.stands)

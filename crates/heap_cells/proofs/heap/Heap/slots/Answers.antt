@@ -7,24 +7,24 @@ use Rattle.heap_cells.proofs.RecordFacts.{IsSlotsOf, slots-of, slots_at-few}
 use Rattle.heap_cells.proofs.TargetFacts.{slots-within}
 use Rattle.heap_cells.proofs.heap.Heap.slots.Goals as goal
 
-facts : (c : goal.After-number) → IsSlotsOf c.self.inside.cells.items c.self.inside.slots.items c.args.self.now.cells (number c.args.ix)
+facts : (c : goal.After-number) → IsSlotsOf c.self.inside.arena.cells.items c.self.inside.arena.slots.items c.args.self.now.cells (number c.args.ix)
 facts c =
     let h = c.self.inside in
-    slots-of (text_of h.texts) (seam_of h.texts) h.enc h.cells.items h.slots.items c.args.self.now.cells (number c.args.ix)
+    slots-of (text_of h.texts) (seam_of h.texts) h.texts.enc h.arena.cells.items h.arena.slots.items c.args.self.now.cells (number c.args.ix)
     c.self.invariant.slots_are (ap (λ (map : HeapMap). map.cells) c.self.view_is) c.requires
 
 pub slots_of-requires-clause-ordered : goal.slots_of-requires-clause-ordered
-slots_of-requires-clause-ordered c = rw (c.deref.ensures.value, c.deref-2.ensures.value, c.number.ensures) (facts c).ordered
+slots_of-requires-clause-ordered c = rw c.number.ensures (facts c).ordered
 
 pub slots_of-requires-clause-within : goal.slots_of-requires-clause-within
-slots_of-requires-clause-within c = rw (c.deref.ensures.value, c.deref-2.ensures.value, c.number.ensures) (facts c).within
+slots_of-requires-clause-within c = rw c.number.ensures (facts c).within
 
 pub returns-clause-targets : goal.returns-clause-targets
 returns-clause-targets c =
     let h = c.self.inside in
-    let facts = slots-of (text_of h.texts) (seam_of h.texts) h.enc h.cells.items h.slots.items c.args.self.now.cells (number c.args.ix)
+    let facts = slots-of (text_of h.texts) (seam_of h.texts) h.texts.enc h.arena.cells.items h.arena.slots.items c.args.self.now.cells (number c.args.ix)
     c.self.invariant.slots_are (ap (λ (map : HeapMap). map.cells) c.self.view_is) c.requires in
-    rw (c.slots_of.ensures, c.deref.ensures.value, c.deref-2.ensures.value, c.number.ensures) facts.targets
+    rw (c.slots_of.ensures, c.number.ensures) facts.targets
 
 pub returns-clause-within : goal.returns-clause-within
 returns-clause-within c =
@@ -33,8 +33,8 @@ returns-clause-within c =
 pub returns-clause-few : goal.returns-clause-few
 returns-clause-few c =
     let h = c.self.inside in
-    let facts = slots-of (text_of h.texts) (seam_of h.texts) h.enc h.cells.items h.slots.items c.args.self.now.cells (number c.args.ix)
+    let facts = slots-of (text_of h.texts) (seam_of h.texts) h.texts.enc h.arena.cells.items h.arena.slots.items c.args.self.now.cells (number c.args.ix)
     c.self.invariant.slots_are (ap (λ (map : HeapMap). map.cells) c.self.view_is) c.requires in
     let few = c.self.invariant.few in
-    let within : length (slots_at h.cells.items h.slots.items (number c.args.ix)) ≤ length h.slots.items = slots_at-few h.cells.items h.slots.items (number c.args.ix) facts.within in
-    rw (c.slots_of.ensures, c.deref.ensures.value, c.deref-2.ensures.value, c.number.ensures) (omega (arith, few, within))
+    let within : length (slots_at h.arena.cells.items h.arena.slots.items (number c.args.ix)) ≤ length h.arena.slots.items = slots_at-few h.arena.cells.items h.arena.slots.items (number c.args.ix) facts.within in
+    rw (c.slots_of.ensures, c.number.ensures) (omega (arith, few, within))
