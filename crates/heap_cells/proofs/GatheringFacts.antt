@@ -2,8 +2,10 @@
 use Rattle.std.proofs.Common.{◌≡◌, ℕ, zero, suc, ◌+◌, ◌-◌, ◌<◌, ◌≤◌, List, [], ◌∷◌, ◌++◌, length, take, drop, map, get_or, Option, None, Some, Result, Ok, Err, refl, sym, ◌∙◌, ap, subst, arith, length-append, append_assoc, inl, inr}
 use Rattle.std.specs.Prelude.{codes, ◌⊎◌, slice_get, slice_range, All, IfSome, OnOk}
 use Rattle.std.specs.Option.{option_map}
-use Rattle.std.specs.List.{flat_map}
-use Rattle.std.proofs.lemmas.List.{drop-drop, drop-take, length-take, length-map, map-append}
+use Rattle.std.specs.List.{filter_map, cons_option}
+use Rattle.std.proofs.Math.Seq.{drop-append_seam}
+use Rattle.field_lines.specs.Lines.{TextLine, IsPart as IsLinePart}
+use Rattle.std.proofs.lemmas.List.{drop-drop, drop-take, length-take, length-map, map-append, take-take}
 use Rattle.std.proofs.lemmas.List.Sums.{sum_by-cons}
 use Rattle.std.proofs.lemmas.Option.{slice_get-map, slice_get_within, get_or_from_slice_get}
 use Rattle.term_forms.specs.declared.enc.Enc.{Enc}
@@ -16,14 +18,14 @@ use Rattle.term_forms.specs.Reading.{front}
 use Rattle.term_forms.specs.ReadingForms.{form_of}
 use Rattle.term_forms.specs.SeenForms.{heap_form}
 use Rattle.term_forms.specs.declared.shapes.Form.{Form}
-use Rattle.term_forms.specs.Words.{comma, colon, bar, IsLed}
+use Rattle.term_forms.specs.Words.{comma, colon, bar, IsLed, led_of}
 use Rattle.heap_cells.specs.declared.arena.Arena.{Arena}
 use Rattle.heap_cells.specs.declared.cells.CellRecord.{CellRecord}
 use Rattle.heap_cells.specs.declared.cells.Slot.{Slot}
 use Rattle.heap_cells.specs.declared.gathering.Gathering.{Gathering}
-use Rattle.heap_cells.specs.Cells.{Cell, spelled_cell, elements_in, kind_of, cell_weight, weight_of}
+use Rattle.heap_cells.specs.Cells.{Cell, spelled_cell, cell_of, elements_in, kind_of, cell_weight, weight_of}
 use Rattle.heap_cells.specs.Targets.{target, slot_target}
-use Rattle.heap_cells.specs.Inner.Gathering.{slot_with, slot_for, form_found, slots_found, AreSmall, new_record, IsGathered, Leads}
+use Rattle.heap_cells.specs.Inner.Gathering.{slot_with, slot_for, form_found, slots_found, AreSmall, new_record, IsLineAt, IsBodyAt, IsGathered, Leads}
 use Rattle.heap_cells.specs.Inner.Parts.{IsPart}
 use Rattle.heap_cells.specs.Inner.Records.{cell_in, cells_in, elements_by, IsRecord, AreSlots, Spells, AllSpell, element_at}
 use Rattle.heap_cells.proofs.PushingFacts.{AreSlots-push}
@@ -247,3 +249,65 @@ found-weight text seam enc address from upto found is = ap (λ f. 1 + length (el
 -- and it is at most that of its text
 pub part-few : (text : List ℕ) (from upto : ℕ) → length (slice_range text from upto) ≤ upto - from
 part-few text from upto = omega (arith, length-take (upto - from) (drop from text))
+
+-- ---- a line
+
+-- what stands behind the colon of a line stands at the line's end
+pub behind-colon : (text : List ℕ) (at : ℕ) (line : List ℕ) (address : ℕ) (spelled : List ℕ) → slice_range text at (at + length line) ≡ line → IsLed line address spelled
+    → slice_range text (at + length line - length spelled) (at + length line) ≡ spelled
+behind-colon text at line address spelled stands led =
+    let hex = led.0 in
+    let n = length hex + 1 in
+    let lens : length line ≡ length hex + suc (length spelled) = ap length led.2 ∙ length-append hex (colon ∷ spelled) in
+    let size : at + length line - (at + length line - length spelled) ≡ length spelled = omega (arith, lens) in
+    let from : at + length line - length spelled ≡ at + n = omega (arith, lens) in
+    let whole : take (length line) (drop at text) ≡ line = ap (λ k. take k (drop at text)) (omega arith) ∙ stands in
+    let split : n + length spelled ≡ length line = omega (arith, lens) in
+    let ends : drop n line ≡ spelled =
+    ap (drop n) led.2 ∙ ap (λ l. drop n l) (sym (append_assoc hex (colon ∷ []) spelled))
+    ∙ ap (λ k. drop k ((hex ++ colon ∷ []) ++ spelled)) (sym (length-append hex (colon ∷ []))) ∙ drop-append_seam (hex ++ colon ∷ []) spelled in
+    ap (λ k. take k (drop (at + length line - length spelled) text)) size
+    ∙ ap (λ k. take (length spelled) (drop k text)) from
+    ∙ ap (take (length spelled)) (sym (drop-drop n at text))
+    ∙ sym (drop-take n (length spelled) (drop at text))
+    ∙ ap (λ k. drop n (take k (drop at text))) split
+    ∙ ap (drop n) whole
+    ∙ ends
+
+-- the cells of a heap line and of the lines behind it
+pub line-cells : (enc : Enc) (line : TextLine) (address : ℕ) (spelled : List ℕ) (rest : List TextLine) → Some (address, spelled) ≡ led_of line.text
+    → filter_map (cell_of enc) (line ∷ rest) ≡ spelled_cell enc (address, spelled) ∷ filter_map (cell_of enc) rest
+line-cells enc line address spelled rest led = ap (λ o. cons_option (option_map (spelled_cell enc) o) (filter_map (cell_of enc) rest)) (sym led)
+
+-- and of another line
+pub no-line : (enc : Enc) (line : TextLine) (rest : List TextLine) → None ≡ led_of line.text → filter_map (cell_of enc) (line ∷ rest) ≡ filter_map (cell_of enc) rest
+no-line enc line rest none = ap (λ o. cons_option (option_map (spelled_cell enc) o) (filter_map (cell_of enc) rest)) (sym none)
+
+-- ---- a line of a body
+
+slice-slice : (text : List ℕ) (base n from upto : ℕ) → from ≤ upto → upto ≤ n
+    → slice_range (slice_range text base (base + n)) from upto ≡ slice_range text (base + from) (base + upto)
+slice-slice text base n from upto ordered within =
+    let whole : base + n - base ≡ from + (n - from) = omega arith in
+    let size : base + upto - (base + from) ≡ upto - from = omega arith in
+    ap (λ k. take (upto - from) (drop from (take k (drop base text)))) whole
+    ∙ ap (take (upto - from)) (drop-take from (n - from) (drop base text))
+    ∙ take-take (upto - from) (n - from) (drop from (drop base text)) (omega arith)
+    ∙ ap (take (upto - from)) (drop-drop from base text)
+    ∙ ap (λ k. take k (drop (base + from) text)) (sym size)
+
+pub line-at : (text : List ℕ) (seam base : ℕ) (body : List ℕ) (line : TextLine) → IsBodyAt text seam base body → IsLinePart body line → IsLineAt text seam base line
+line-at text seam base body line stands part = record {
+  part = let whole = stands.part in let within = part.within in
+      record { ordered = omega arith; within = omega (arith, whole.within, within); one_body = λ before. let one = whole.one_body (omega (arith, before)) in omega (arith, one, within) };
+  stands =
+      let end : base + line.at + length line.text ≡ base + (line.at + length line.text) = omega arith in
+      ap (slice_range text (base + line.at)) end
+      ∙ sym (slice-slice text base (length body) line.at (line.at + length line.text) (omega arith) part.within)
+      ∙ ap (λ l. slice_range l line.at (line.at + length line.text)) stands.stands
+      ∙ part.stands;
+}
+
+-- its text is no longer than the body
+pub line-few : (body : List ℕ) (line : TextLine) → IsLinePart body line → length line.text ≤ length body
+line-few body line part = let within = part.within in omega (arith, within)

@@ -1,13 +1,14 @@
 // The heap lines of the bodies are gathered one by one.
 ghost use Rattle.std.specs.Prelude.{◌≡◌, ◌+◌, ◌*◌, ◌^◌, ◌<◌, ◌≤◌, ◌-◌, ◌∷◌, ◌++◌, [], ℕ, List, map, length, slice_range, All, OnOk, IfOk};
 ghost use Rattle.std.specs.Option.{option_map};
+ghost use Rattle.std.specs.List.{filter_map};
 ghost use Rattle.field_lines.specs.Lines.{TextLine};
 ghost use Rattle.field_lines.specs.Shown.{shown_line};
 ghost use Rattle.term_forms.specs.Places.{elements_of};
 ghost use Rattle.term_forms.specs.SeenForms.{heap_form};
 ghost use Rattle.term_forms.specs.SeenPlaces.{placed};
 ghost use Rattle.heap_cells.specs.Cells.{Cell, spelled_cell, cell_of, elements_in, kind_of, line_cells};
-ghost use Rattle.heap_cells.specs.Inner.Gathering.{slot_for, form_found, slots_found, new_record, AreSmall, IsLineAt, IsGathered, Leads};
+ghost use Rattle.heap_cells.specs.Inner.Gathering.{slot_for, form_found, slots_found, new_record, AreSmall, IsLineAt, IsBodyAt, IsGathered, Leads};
 ghost use Rattle.heap_cells.specs.Inner.Parts.{IsPart};
 ghost use Rattle.heap_cells.specs.Inner.Texts.{text_of, seam_of};
 
@@ -170,4 +171,56 @@ fn gather_cell(
         return Ok(());
     }
     push_cell(&mut g.arena, address, from, upto, found)
+}
+
+// The cell of a line, where the line is a heap line.
+fn gather_line(
+    texts: &Texts,
+    base: usize,
+    line: &Line<'_>,
+    g: &mut Gathering,
+) -> Result<(), AllocError>
+    requires line { IsLineAt (text_of texts.now) (seam_of texts.now) base (shown_line line.now) }
+    requires small { length (text_of texts.now) ≤ 1073741824 }
+    requires limit { g.old.dense ≤ 100000000 }
+    requires room { g.old.weight + length line.now.text.now < 2 ^ 64 }
+    requires gathered { IsGathered (text_of texts.now) (seam_of texts.now) texts.now.enc g.old }
+    ensures limit { g.new.dense ≡ g.old.dense }
+    ensures weight { g.new.weight ≤ g.old.weight + length line.now.text.now }
+    ensures gathered { OnOk result (IsGathered (text_of texts.now) (seam_of texts.now) texts.now.enc g.new) }
+    ensures leads { OnOk result ((rest : List TextLine) (more all : List Cell)
+        → Leads (text_of texts.now) texts.now.enc g.old (filter_map (cell_of texts.now.enc) (shown_line line.now ∷ rest) ++ more) all
+        → Leads (text_of texts.now) texts.now.enc g.new (filter_map (cell_of texts.now.enc) rest ++ more) all) }
+{
+    let Some((address, spelled)) = heap_line(line.text) else {
+        return Ok(());
+    };
+    let upto = base + line.at + line.text.len();
+    gather_cell(texts, address, upto - spelled.len(), upto, g)
+}
+
+// The cells of all lines of a body that stands at a place of the text.
+pub(crate) fn gather_lines(
+    texts: &Texts,
+    base: usize,
+    body: &[u8],
+    g: &mut Gathering,
+) -> Result<(), AllocError>
+    requires body { IsBodyAt (text_of texts.now) (seam_of texts.now) base body.now }
+    requires small { length (text_of texts.now) ≤ 1073741824 }
+    requires few { length body.now ≤ 536870912 }
+    requires limit { g.old.dense ≤ 100000000 }
+    requires room { g.old.weight ≤ 2 ^ 62 }
+    requires gathered { IsGathered (text_of texts.now) (seam_of texts.now) texts.now.enc g.old }
+    ensures limit { g.new.dense ≡ g.old.dense }
+    ensures weight { g.new.weight ≤ g.old.weight + 2 ^ 58 }
+    ensures gathered { OnOk result (IsGathered (text_of texts.now) (seam_of texts.now) texts.now.enc g.new) }
+    ensures leads { OnOk result ((rest all : List Cell)
+        → Leads (text_of texts.now) texts.now.enc g.old (line_cells texts.now.enc body.now ++ rest) all
+        → Leads (text_of texts.now) texts.now.enc g.new rest all) }
+{
+    for line in lines(body) {
+        gather_line(texts, base, &line, g)?;
+    }
+    Ok(())
 }

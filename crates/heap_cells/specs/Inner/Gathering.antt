@@ -51,6 +51,11 @@ pub record IsLineAt (text : List ℕ) (seam base : ℕ) (line : TextLine) : Type
   pub part : IsPart seam (length text) (base + line.at) (base + line.at + length line.text)
   pub stands : slice_range text (base + line.at) (base + line.at + length line.text) ≡ line.text
 
+-- a body stands at this place
+pub record IsBodyAt (text : List ℕ) (seam base : ℕ) (body : List ℕ) : Type 0 where
+  pub part : IsPart seam (length text) base (base + length body)
+  pub stands : slice_range text base (base + length body) ≡ body
+
 -- what is kept are records and their slots, with no reference resolved
 pub record IsGathered (text : List ℕ) (seam : ℕ) (enc : Enc) (g : Gathering) : Type 0 where
   pub slots_are : AreSlots text seam enc [] g.arena.cells.items g.arena.slots.items
