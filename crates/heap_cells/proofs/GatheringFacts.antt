@@ -195,10 +195,10 @@ slots-more text seam enc address from upto found old new is are cells slots =
     let ordered = is.part.ordered in
     let end : upto ≡ from + (upto - from) = omega (arith, ordered) in
     rw (cells, slots) (AreSlots-push text seam enc [] old.cells.items old.slots.items (slots_found from found) r are
-        (record { first = refl; part = subst (IsPart seam (length text) from) end is.part; kind = ap (option_map kind_of) form })
-        (found-targets from found is.elements ∙ ap (λ f. map (target []) (elements_in f)) form)
-        (subst (λ n. AllSpell text seam n (slots_found from found) (elements_by text enc r)) end
-            (subst (AllSpell text seam upto (slots_found from found)) (ap elements_in form) (found-spell text seam from upto found is.part is.elements is.places))))
+    (record { first = refl; part = subst (IsPart seam (length text) from) end is.part; kind = ap (option_map kind_of) form })
+    (found-targets from found is.elements ∙ ap (λ f. map (target []) (elements_in f)) form)
+    (subst (λ n. AllSpell text seam n (slots_found from found) (elements_by text enc r)) end
+    (subst (AllSpell text seam upto (slots_found from found)) (ap elements_in form) (found-spell text seam from upto found is.part is.elements is.places))))
 
 pub slots-found-count : (from : ℕ) (found : Found) → IfSome found (λ f. map (λ (p : Placed). p.element) f.1 ≡ elements_of (heap_form f.0))
     → length (slots_found from found) ≡ length (elements_in (form_found found))

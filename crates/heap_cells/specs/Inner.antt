@@ -1,4 +1,5 @@
 pub mod Gathering
+pub mod Keeping
 pub mod Order
 pub mod Parts
 pub mod Records

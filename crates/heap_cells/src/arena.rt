@@ -1,5 +1,5 @@
 // Reading the records and the slots of a heap.
-ghost use Rattle.std.specs.Prelude.{◌≡◌, ◌+◌, ◌<◌, ◌≤◌, length, slice_range, IfSome, IsSome, Some};
+ghost use Rattle.std.specs.Prelude.{◌≡◌, ◌+◌, ◌<◌, ◌≤◌, [], length, slice_range, IfSome, IsSome, Some};
 ghost use Rattle.heap_cells.specs.Targets.{slot_target, kid_target, KeepsElement};
 ghost use Rattle.heap_cells.specs.Inner.Records.{start_at, slots_at, element_at, spelled_by, IsReadable};
 ghost use Rattle.heap_cells.specs.Inner.Parts.{IsPart};
@@ -8,6 +8,7 @@ ghost use Rattle.term_forms.specs.Seen.{element};
 
 use crate::cells::{CellRecord, Kid, Slot};
 use crate::texts::{Texts, part};
+use std::alloc::Global;
 use term_forms::reading::elem;
 use term_forms::shapes::Elem;
 
@@ -16,6 +17,18 @@ use term_forms::shapes::Elem;
 pub(crate) struct Arena {
     pub cells: Vec<CellRecord>,
     pub slots: Vec<Slot>,
+}
+
+impl Arena {
+    pub fn new(alloc: Global) -> Arena
+        ensures cells { result.cells.items ≡ [] }
+        ensures slots { result.slots.items ≡ [] }
+    {
+        Arena {
+            cells: Vec::new(alloc),
+            slots: Vec::new(alloc),
+        }
+    }
 }
 
 fn start_at(cells: &[CellRecord], i: usize, total: usize) -> usize

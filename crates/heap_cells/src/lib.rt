@@ -10,6 +10,7 @@ mod cells;
 mod faults;
 mod gathering;
 mod heap;
+mod keeping;
 mod order;
 mod resolving;
 mod texts;

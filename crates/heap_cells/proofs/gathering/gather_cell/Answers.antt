@@ -25,13 +25,13 @@ weight-few texts from upto weight part found is forms counts =
 pub overflow_add-g : goal.overflow_add-g
 overflow_add-g c =
     let most = weight-few c.args.texts.now c.args.from c.args.upto c.found_weight.result c.part.result.now c.placed_form-found.result c.part.ensures
-        c.placed_form-found.ensures.found c.found_weight.ensures in
+    c.placed_form-found.ensures.found c.found_weight.ensures in
     omega (arith, most, c.requires.room)
 
 pub returns-then-g-from-clause-weight : goal.returns-then-g-from-clause-weight
 returns-then-g-from-clause-weight c =
     let most = weight-few c.args.texts.now c.args.from c.args.upto c.found_weight.result c.part.result.now c.placed_form-found.result c.part.ensures
-        c.placed_form-found.ensures.found c.found_weight.ensures in
+    c.placed_form-found.ensures.found c.found_weight.ensures in
     omega (arith, most)
 
 pub push_cell-requires-clause-places : goal.push_cell-requires-clause-places
@@ -45,7 +45,7 @@ push_cell-requires-clause-places c =
 pub returns-clause-weight : goal.returns-clause-weight
 returns-clause-weight c =
     let most = weight-few c.args.texts.now c.args.from c.args.upto c.found_weight.result c.part.result.now c.placed_form-found.result c.part.ensures
-        c.placed_form-found.ensures.found c.found_weight.ensures in
+    c.placed_form-found.ensures.found c.found_weight.ensures in
     omega (arith, most)
 
 pub returns-clause-gathered : goal.returns-clause-gathered
@@ -54,15 +54,23 @@ returns-clause-gathered c =
     let text = text_of texts in
     let found = c.placed_form-found.result in
     let is = found-is text (seam_of texts) texts.enc c.args.from c.args.upto c.part.result.now found c.requires.part c.part.ensures c.placed_form-found.ensures.form
-        c.placed_form-found.ensures.elements c.placed_form-found.ensures.places in
+    c.placed_form-found.ensures.elements c.placed_form-found.ensures.places in
     let old = c.args.g.now.arena in
     let new = c.push_cell.new.arena in
     OnOk-both c.push_cell.result c.push_cell.ensures.cells c.push_cell.ensures.slots
     (λ cells slots. record {
-        slots_are = slots-more text (seam_of texts) texts.enc c.args.address c.args.from c.args.upto found old new is c.requires.gathered.slots_are cells slots;
-        few = let few = c.requires.gathered.few in
-            omega (arith, few, ap length cells, ap length slots, slots-found-count c.args.from found c.placed_form-found.ensures.elements, c.found_weight.ensures,
-                length-append {A = CellRecord}, length-append {A = Slot});
+      slots_are = slots-more text (seam_of texts) texts.enc c.args.address c.args.from c.args.upto found old new is c.requires.gathered.slots_are cells slots;
+      few = let few = c.requires.gathered.few in
+          omega (
+            arith,
+            few,
+            ap length cells,
+            ap length slots,
+            slots-found-count c.args.from found c.placed_form-found.ensures.elements,
+            c.found_weight.ensures,
+            length-append {A = CellRecord},
+            length-append {A = Slot},
+          );
     })
 
 pub returns-clause-leads : goal.returns-clause-leads
@@ -71,11 +79,11 @@ returns-clause-leads c =
     let text = text_of texts in
     let found = c.placed_form-found.result in
     let is = found-is text (seam_of texts) texts.enc c.args.from c.args.upto c.part.result.now found c.requires.part c.part.ensures c.placed_form-found.ensures.form
-        c.placed_form-found.ensures.elements c.placed_form-found.ensures.places in
+    c.placed_form-found.ensures.elements c.placed_form-found.ensures.places in
     let weight = c.found_weight.ensures ∙ found-weight text (seam_of texts) texts.enc c.args.address c.args.from c.args.upto found is in
     let new : Gathering = record { arena = c.push_cell.new.arena; weight = c.args.g.now.weight + c.found_weight.result; dense = c.args.g.now.dense } in
     IfOk-weaker c.push_cell.result _ _
     (λ u cells rest all. leads-kept text texts.enc c.args.g.now new (spelled_cell texts.enc (c.args.address, slice_range text c.args.from c.args.upto)) rest all
-        (ap (λ n. c.args.g.now.weight + n) weight) refl
-        (cells-more text (seam_of texts) texts.enc c.args.address c.args.from c.args.upto found c.args.g.now.arena c.push_cell.new.arena is cells))
+    (ap (λ n. c.args.g.now.weight + n) weight) refl
+    (cells-more text (seam_of texts) texts.enc c.args.address c.args.from c.args.upto found c.args.g.now.arena c.push_cell.new.arena is cells))
     c.push_cell.ensures.cells

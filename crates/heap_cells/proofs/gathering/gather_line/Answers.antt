@@ -18,10 +18,10 @@ returns-clause-leads c =
     let stands = behind-colon text (c.args.base + c.args.line.now.at) line.text c.in-Some.address spelled c.requires.line.stands c.in-Some.ensures.found in
     IfOk-weaker c.gather_cell.result _ _
     (λ u leads rest more all before.
-        let cells : filter_map (cell_of texts.enc) (line ∷ rest)
-            ≡ spelled_cell texts.enc (c.in-Some.address, slice_range text (c.args.base + c.args.line.now.at + length line.text - length spelled) (c.args.base + c.args.line.now.at + length line.text))
-            ∷ filter_map (cell_of texts.enc) rest =
-        line-cells texts.enc line c.in-Some.address spelled rest c.in-Some.ensures.exact
-        ∙ ap (λ l. spelled_cell texts.enc (c.in-Some.address, l) ∷ filter_map (cell_of texts.enc) rest) (sym stands) in
-        leads (filter_map (cell_of texts.enc) rest ++ more) all (subst (λ (l : List Cell). Leads text texts.enc c.args.g.now (l ++ more) all) cells before))
+    let cells : filter_map (cell_of texts.enc) (line ∷ rest)
+    ≡ spelled_cell texts.enc (c.in-Some.address, slice_range text (c.args.base + c.args.line.now.at + length line.text - length spelled) (c.args.base + c.args.line.now.at + length line.text))
+    ∷ filter_map (cell_of texts.enc) rest =
+    line-cells texts.enc line c.in-Some.address spelled rest c.in-Some.ensures.exact
+    ∙ ap (λ l. spelled_cell texts.enc (c.in-Some.address, l) ∷ filter_map (cell_of texts.enc) rest) (sym stands) in
+    leads (filter_map (cell_of texts.enc) rest ++ more) all (subst (λ (l : List Cell). Leads text texts.enc c.args.g.now (l ++ more) all) cells before))
     c.gather_cell.ensures.leads
