@@ -23,13 +23,15 @@ use Rattle.heap_cells.specs.declared.arena.Arena.{Arena}
 use Rattle.heap_cells.specs.declared.cells.CellRecord.{CellRecord}
 use Rattle.heap_cells.specs.declared.cells.Slot.{Slot}
 use Rattle.heap_cells.specs.declared.gathering.Gathering.{Gathering}
-use Rattle.heap_cells.specs.Cells.{Cell, spelled_cell, cell_of, elements_in, kind_of, cell_weight, weight_of}
+use Rattle.heap_cells.specs.Cells.{Cell, spelled_cell, cell_of, line_cells, elements_in, kind_of, cell_weight, weight_of}
 use Rattle.heap_cells.specs.Targets.{target, slot_target}
-use Rattle.heap_cells.specs.Inner.Gathering.{slot_with, slot_for, form_found, slots_found, AreSmall, new_record, IsLineAt, IsBodyAt, IsGathered, Leads}
+use Rattle.heap_cells.specs.Inner.Gathering.{slot_with, slot_for, form_found, slots_found, AreSmall, new_record, IsLineAt, IsBodyAt, IsGathered, Leads, AreAll}
 use Rattle.heap_cells.specs.Inner.Parts.{IsPart}
 use Rattle.heap_cells.specs.Inner.Records.{cell_in, cells_in, elements_by, IsRecord, AreSlots, Spells, AllSpell, element_at}
 use Rattle.heap_cells.proofs.PushingFacts.{AreSlots-push}
-use Rattle.heap_cells.proofs.RecordFacts.{has-at}
+use Rattle.heap_cells.specs.declared.texts.Texts.{Texts}
+use Rattle.heap_cells.specs.Inner.Texts.{text_of, seam_of}
+use Rattle.heap_cells.proofs.RecordFacts.{append-none, has-at}
 
 pub OnOk-both : {A B C T E : Type 0} (r : Result T E) → OnOk r A → OnOk r B → (A → B → C) → OnOk r C
 OnOk-both (Ok x) a b f = f a b
@@ -311,3 +313,33 @@ line-at text seam base body line stands part = record {
 -- its text is no longer than the body
 pub line-few : (body : List ℕ) (line : TextLine) → IsLinePart body line → length line.text ≤ length body
 line-few body line part = let within = part.within in omega (arith, within)
+
+-- ---- both bodies
+
+pub leads-begin : (text : List ℕ) (enc : Enc) (g : Gathering) (all : List Cell) → g.weight ≡ 0 → g.arena.cells.items ≡ [] → Leads text enc g all all
+leads-begin text enc g all none cells = record {
+  weight = ap (λ n. n + weight_of all) none ∙ omega arith;
+  kept = λ few. ap (λ l. cells_in text enc l ++ all) cells;
+}
+
+pub gathered-begin : (text : List ℕ) (seam : ℕ) (enc : Enc) (g : Gathering) → g.arena.cells.items ≡ [] → g.arena.slots.items ≡ [] → IsGathered text seam enc g
+gathered-begin text seam enc g cells slots = record {
+  slots_are = rw (cells, slots) (record { laid = refl; targets = refl; spelled = λ i r is. cc });
+  few = rw (cells, slots) (omega arith);
+}
+
+pub all-gathered : (texts : Texts) (first last : Gathering) (own : ℕ) → first.dense ≡ last.dense → IsGathered (text_of texts) (seam_of texts) texts.enc last
+    → Leads (text_of texts) texts.enc first (line_cells texts.enc texts.literals.items) (line_cells texts.enc texts.heap.items ++ line_cells texts.enc texts.literals.items)
+    → Leads (text_of texts) texts.enc last [] (line_cells texts.enc texts.heap.items ++ line_cells texts.enc texts.literals.items) → own ≡ length first.arena.cells.items
+    → AreAll texts last own
+all-gathered texts first last own same gathered before after own_is = record {
+  gathered = gathered;
+  weight_is = omega (arith, after.weight);
+  cells_are = λ few. sym (append-none (cells_in (text_of texts) texts.enc last.arena.cells.items)) ∙ after.kept few;
+  own_is = λ few.
+      let heap = line_cells texts.enc texts.heap.items in
+      let literals = line_cells texts.enc texts.literals.items in
+      let kept = before.kept (omega (arith, few, before.weight, after.weight, same)) in
+      omega (arith, own_is, ap length kept, length-append (cells_in (text_of texts) texts.enc first.arena.cells.items) literals, length-append heap literals,
+          length-map first.arena.cells.items (cell_in (text_of texts) texts.enc));
+}

@@ -8,7 +8,7 @@ ghost use Rattle.term_forms.specs.Places.{elements_of};
 ghost use Rattle.term_forms.specs.SeenForms.{heap_form};
 ghost use Rattle.term_forms.specs.SeenPlaces.{placed};
 ghost use Rattle.heap_cells.specs.Cells.{Cell, spelled_cell, cell_of, elements_in, kind_of, line_cells};
-ghost use Rattle.heap_cells.specs.Inner.Gathering.{slot_for, form_found, slots_found, new_record, AreSmall, IsLineAt, IsBodyAt, IsGathered, Leads};
+ghost use Rattle.heap_cells.specs.Inner.Gathering.{slot_for, form_found, slots_found, new_record, AreSmall, IsLineAt, IsBodyAt, IsGathered, Leads, AreAll};
 ghost use Rattle.heap_cells.specs.Inner.Parts.{IsPart};
 ghost use Rattle.heap_cells.specs.Inner.Texts.{text_of, seam_of};
 
@@ -17,7 +17,7 @@ use crate::cells::{CellRecord, Kind, Slot};
 use crate::texts::{Texts, part};
 use field_lines::Line;
 use field_lines::reading::lines;
-use std::alloc::AllocError;
+use std::alloc::{AllocError, Global};
 use term_forms::shapes::{Elem, Form};
 use term_forms::{PlacedElem, PlacedElems, heap_line, placed_form};
 
@@ -223,4 +223,27 @@ pub(crate) fn gather_lines(
         gather_line(texts, base, &line, g)?;
     }
     Ok(())
+}
+
+// The heap lines of both bodies, and how many cells are those of the process's own heap.
+pub(crate) fn gather_all(
+    alloc: Global,
+    texts: &Texts,
+    dense: u32,
+) -> Result<(Gathering, usize), AllocError>
+    requires heap { length texts.now.heap.items ≤ 536870912 }
+    requires literals { length texts.now.literals.items ≤ 536870912 }
+    requires limit { dense ≤ 100000000 }
+    ensures limit { IfOk result (λ found. found.0.dense ≡ dense) }
+    ensures all { IfOk result (λ found. AreAll texts.now found.0 found.1) }
+{
+    let mut g = Gathering {
+        arena: Arena::new(alloc),
+        weight: 0,
+        dense,
+    };
+    gather_lines(texts, 0, &texts.heap, &mut g)?;
+    let own = g.arena.cells.len();
+    gather_lines(texts, texts.heap.len(), &texts.literals, &mut g)?;
+    Ok((g, own))
 }

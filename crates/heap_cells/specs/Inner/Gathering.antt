@@ -12,8 +12,10 @@ use Rattle.heap_cells.specs.declared.cells.CellRecord.{CellRecord}
 use Rattle.heap_cells.specs.declared.cells.Slot.{Slot}
 use Rattle.heap_cells.specs.declared.cells.Slot.TheVariants as slot
 use Rattle.heap_cells.specs.declared.gathering.Gathering.{Gathering}
-use Rattle.heap_cells.specs.Cells.{Cell, kind_of, weight_of}
+use Rattle.heap_cells.specs.Cells.{Cell, kind_of, weight_of, weight, line_cells}
 use Rattle.heap_cells.specs.Inner.Parts.{IsPart}
+use Rattle.heap_cells.specs.declared.texts.Texts.{Texts}
+use Rattle.heap_cells.specs.Inner.Texts.{text_of, seam_of}
 use Rattle.heap_cells.specs.Inner.Records.{cells_in, AreSlots}
 
 -- the slot of an element before references are resolved, where the text of its form begins at a place
@@ -66,3 +68,12 @@ pub record Leads (text : List ℕ) (enc : Enc) (g : Gathering) (rest all : List 
   pub weight : g.weight + weight_of rest ≡ weight_of all
   -- where there are no more lines and elements than the limit, the records of all are kept
   pub kept : g.weight ≤ g.dense → cells_in text enc g.arena.cells.items ++ rest ≡ all
+
+-- what is gathered of both bodies, and how many of the cells are those of the first
+pub record AreAll (texts : Texts) (g : Gathering) (own : ℕ) : Type 0 where
+  pub gathered : IsGathered (text_of texts) (seam_of texts) texts.enc g
+  pub weight_is : g.weight ≡ weight texts.enc texts.heap.items texts.literals.items
+  -- where there are no more lines and elements than the limit, all are kept
+  pub cells_are : g.weight ≤ g.dense
+      → cells_in (text_of texts) texts.enc g.arena.cells.items ≡ line_cells texts.enc texts.heap.items ++ line_cells texts.enc texts.literals.items
+  pub own_is : g.weight ≤ g.dense → own ≡ length (line_cells texts.enc texts.heap.items)
