@@ -1,6 +1,7 @@
 pub mod FirstFacts
 pub mod FirstPlace
 pub mod GatheringFacts
+pub mod HeapFacts
 pub mod KeepingFacts
 pub mod OrderFacts
 pub mod PushingFacts

@@ -2,7 +2,9 @@
 use Rattle.std.specs.Prelude.{◌≡◌, ℕ, ◌<◌, ◌≤◌, List, [], Option, None, Some, Result, Ok, Err, codes, position, slice_get, nat_lt, if◌then◌else◌}
 use Rattle.std.specs.Option.{option_and_then, option_or}
 use Rattle.std.specs.List.{between}
-use Rattle.dump_io.specs.Counts.{Rose}
+use Rattle.dump_io.specs.Dumps.{Use, DeviceFailed}
+use Rattle.section_index.specs.declared.bodies.BodyFault.{BodyFault}
+use Rattle.section_index.specs.declared.bodies.BodyFault.TheVariants as body
 use Rattle.section_index.specs.Bodies.{body_length}
 use Rattle.section_index.specs.Index.{Contents, sections_in}
 use Rattle.section_index.specs.Sections.{Section}
@@ -43,6 +45,12 @@ abbrev pub body_in : List ℕ → Option Section → List ℕ
 body_in dump None = []
 body_in dump (Some section) = between section.body section.end dump
 
+-- the fault of a body as one of the heap
+abbrev pub heap_fault_of : BodyFault → HeapFault
+heap_fault_of (body.SectionTooLarge at len) = SectionTooLarge at len
+heap_fault_of body.Read = Read
+heap_fault_of body.Memory = Memory
+
 -- the refusal of a section whose body has more bytes than the limit
 abbrev pub too_large : ℕ → Option Section → Option HeapFault
 too_large limit None = None
@@ -66,10 +74,16 @@ IsAnswerFor enc heap literals dense (Err (SectionTooLarge at len)) = Unit {0}
 IsAnswerFor enc heap literals dense (Err Read) = Unit {0}
 IsAnswerFor enc heap literals dense (Err Memory) = Unit {0}
 
--- why a heap isn't loaded: a body is too large, the heap is too dense, or the count of faults rose; memory may lack at any
--- time
-abbrev pub IsCauseOf : Option HeapFault → ℕ → ℕ → ℕ → HeapFault → Type 0
-IsCauseOf refused dense before now (SectionTooLarge at len) = refused ≡ Some (SectionTooLarge at len)
-IsCauseOf refused dense before now (TooDense count) = dense < count
-IsCauseOf refused dense before now Read = Rose before now
-IsCauseOf refused dense before now Memory = Unit {0}
+-- why a heap isn't loaded: a body is too large, the heap is too dense, or the device failed; memory may lack at any time
+abbrev pub IsCauseOf : Option HeapFault → ℕ → Use → HeapFault → Type 0
+IsCauseOf refused dense device (SectionTooLarge at len) = refused ≡ Some (SectionTooLarge at len)
+IsCauseOf refused dense device (TooDense count) = dense < count
+IsCauseOf refused dense device Read = DeviceFailed device
+IsCauseOf refused dense device Memory = Unit {0}
+
+-- too many lines and elements, or no memory
+abbrev pub IsOfTheTexts : HeapFault → Type 0
+IsOfTheTexts (SectionTooLarge at len) = ⊥
+IsOfTheTexts (TooDense count) = Unit {0}
+IsOfTheTexts Read = ⊥
+IsOfTheTexts Memory = Unit {0}

@@ -1,4 +1,8 @@
 // Why a heap isn't loaded.
+ghost use Rattle.std.specs.Prelude.{◌≡◌};
+
+use section_index::BodyFault;
+use std::alloc::AllocError;
 use thiserror::Error;
 
 /// Why a heap isn't loaded.
@@ -17,4 +21,28 @@ pub enum HeapFault {
     /// There was no memory for the heap.
     #[error("out of memory")]
     Memory,
+}
+
+impl From<AllocError> for HeapFault {
+    ghost use Rattle.heap_cells.specs.declared.faults.HeapFault.TheVariants.{Memory};
+
+    ghost from_gives = { λ _ fault. fault ≡ Memory };
+
+    fn from(_: AllocError) -> HeapFault {
+        HeapFault::Memory
+    }
+}
+
+impl From<BodyFault> for HeapFault {
+    ghost use Rattle.heap_cells.specs.Loading.{heap_fault_of};
+
+    ghost from_gives = { λ body fault. fault ≡ heap_fault_of body };
+
+    fn from(fault: BodyFault) -> HeapFault {
+        match fault {
+            BodyFault::SectionTooLarge { at, len } => HeapFault::SectionTooLarge { at, len },
+            BodyFault::Read => HeapFault::Read,
+            BodyFault::Memory => HeapFault::Memory,
+        }
+    }
 }

@@ -1,15 +1,21 @@
 // The heap of a process by address.
-ghost use Rattle.std.specs.Prelude.{◌≡◌, ◌+◌, ◌<◌, ◌≤◌, ◌++◌, map, length, slice_get, slice_range, Some, IfSome, All};
+ghost use Rattle.std.specs.Prelude.{◌≡◌, ◌+◌, ◌<◌, ◌≤◌, ◌++◌, map, length, slice_get, slice_range, Some, IfSome, IfOk, IfErr, All};
 ghost use Rattle.std.specs.Option.{option_map};
 ghost use Rattle.term_forms.specs.SeenForms.{heap_form};
 ghost use Rattle.heap_cells.specs.Cells.{kind_of};
 ghost use Rattle.heap_cells.specs.HeapMap.{IsBounded, address_at, form_at, elements_at, IsSpelled};
+ghost use Rattle.heap_cells.specs.Loading.{IsAnswerFor, IsOfTheTexts};
 ghost use Rattle.heap_cells.specs.Targets.{number, target, slot_target, kid_target, KeepsElement, IsSeatOf, IsSeatWithin, IsWithin};
 
 use crate::arena::{Arena, kid_of, slots_of};
 use crate::cells::{CellIx, Kid, Kind, Seat, Slot};
+use crate::faults::HeapFault;
+use crate::gathering::gather_all;
+use crate::keeping::{Indexed, index_cells};
 use crate::order::number_of;
+use crate::resolving::resolve;
 use crate::texts::{Texts, part};
+use std::alloc::Global;
 use std::marker::Model;
 use term_forms::Enc;
 use term_forms::reading::form;
@@ -44,6 +50,35 @@ impl Model for Heap {
 }
 
 impl Heap {
+    // The heap with these bodies.
+    pub(crate) fn new(alloc: Global, texts: Texts, dense: u32) -> Result<Heap, HeapFault>
+        requires heap { length texts.heap.items ≤ 536870912 }
+        requires literals { length texts.literals.items ≤ 536870912 }
+        requires limit { dense ≤ 100000000 }
+        ensures answer { IsAnswerFor texts.enc texts.heap.items texts.literals.items dense result }
+        ensures enc { IfOk result (λ heap. heap.enc ≡ texts.enc) }
+        ensures fault { IfErr result IsOfTheTexts }
+    {
+        let (gathering, own) = gather_all(alloc, &texts, dense)?;
+        if gathering.weight > u64::from(dense) {
+            return Err(HeapFault::TooDense {
+                count: gathering.weight,
+            });
+        }
+        let Indexed {
+            mut arena,
+            order,
+            own,
+        } = index_cells(alloc, gathering.arena, own)?;
+        resolve(alloc, &mut arena.slots, &order, &arena.cells)?;
+        Ok(Heap {
+            texts,
+            arena,
+            order,
+            own,
+        })
+    }
+
     /// The number of cells.
     pub fn cells(&self) -> u32
         ensures value { result ≡ length self.now.cells }
