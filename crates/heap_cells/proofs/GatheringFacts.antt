@@ -340,6 +340,12 @@ all-gathered texts first last own same gathered before after own_is = record {
       let heap = line_cells texts.enc texts.heap.items in
       let literals = line_cells texts.enc texts.literals.items in
       let kept = before.kept (omega (arith, few, before.weight, after.weight, same)) in
-      omega (arith, own_is, ap length kept, length-append (cells_in (text_of texts) texts.enc first.arena.cells.items) literals, length-append heap literals,
-          length-map first.arena.cells.items (cell_in (text_of texts) texts.enc));
+      omega (
+        arith,
+        own_is,
+        ap length kept,
+        length-append (cells_in (text_of texts) texts.enc first.arena.cells.items) literals,
+        length-append heap literals,
+        length-map first.arena.cells.items (cell_in (text_of texts) texts.enc),
+      );
 }

@@ -1,11 +1,11 @@
 -- What is said of the loading of a heap.
-use Rattle.std.specs.Prelude.{◌≡◌, ℕ, ◌<◌, ◌≤◌, List, [], Option, None, Some, Result, Ok, Err, codes, position, slice_get, nat_lt, if◌then◌else◌}
-use Rattle.std.specs.Option.{option_and_then, option_or}
+use Rattle.std.specs.Prelude.{◌≡◌, ℕ, ◌<◌, ◌≤◌, List, [], Option, None, Some, Result, Ok, Err, codes, position, nat_lt, if◌then◌else◌}
+use Rattle.std.specs.Option.{option_or}
 use Rattle.std.specs.List.{between}
-use Rattle.dump_io.specs.Dumps.{Use, DeviceFailed}
+use Rattle.dump_io.specs.Dumps.{Now, closed, told, sized, Use, DeviceFailed}
 use Rattle.section_index.specs.declared.bodies.BodyFault.{BodyFault}
 use Rattle.section_index.specs.declared.bodies.BodyFault.TheVariants as body
-use Rattle.section_index.specs.Bodies.{body_length}
+use Rattle.section_index.specs.Bodies.{body_length, section_at}
 use Rattle.section_index.specs.Index.{Contents, sections_in}
 use Rattle.section_index.specs.Sections.{Section}
 use Rattle.section_index.specs.Lookups.{is_named, has_tag}
@@ -25,7 +25,8 @@ enc_of V04 = Hex
 enc_of V05 = Base64
 
 abbrev pub section_in : Contents → Option ℕ → Option Section
-section_in index place = option_and_then (slice_get (sections_in index)) place
+section_in index None = None
+section_in index (Some i) = Some (section_at index i)
 
 -- the first `proc_heap` section of a pid
 abbrev pub heap_section : Contents → List ℕ → Option Section
@@ -44,6 +45,12 @@ body_size (Some section) = body_length section
 abbrev pub body_in : List ℕ → Option Section → List ℕ
 body_in dump None = []
 body_in dump (Some section) = between section.body section.end dump
+
+-- these are the bytes of the body, where the bytes of what is open are told
+abbrev pub IsBodyIn : Now → Option Section → List ℕ → Type 0
+IsBodyIn closed section bytes = ⊥
+IsBodyIn (told dump) section bytes = bytes ≡ body_in dump section
+IsBodyIn (sized size) section bytes = Unit {0}
 
 -- the fault of a body as one of the heap
 abbrev pub heap_fault_of : BodyFault → HeapFault
@@ -87,3 +94,15 @@ IsOfTheTexts (SectionTooLarge at len) = ⊥
 IsOfTheTexts (TooDense count) = Unit {0}
 IsOfTheTexts Read = ⊥
 IsOfTheTexts Memory = Unit {0}
+
+-- the device failed, or there is no memory
+abbrev pub IsReadFault : Use → HeapFault → Type 0
+IsReadFault device (SectionTooLarge at len) = ⊥
+IsReadFault device (TooDense count) = ⊥
+IsReadFault device Read = DeviceFailed device
+IsReadFault device Memory = Unit {0}
+
+-- a refusal as an answer
+abbrev pub refused : Option HeapFault → Result (Unit {0}) HeapFault
+refused None = Ok tt
+refused (Some fault) = Err fault

@@ -1,10 +1,13 @@
 // The heap of a process by address.
-ghost use Rattle.std.specs.Prelude.{◌≡◌, ◌+◌, ◌<◌, ◌≤◌, ◌++◌, map, length, slice_get, slice_range, Some, IfSome, IfOk, IfErr, All};
+ghost use Rattle.std.specs.Prelude.{◌≡◌, ◌+◌, ◌<◌, ◌≤◌, ℕ, List, map, length, slice_get, None, Some, IfSome, IsSome, IfOk, OnOk, IfErr, IsErrOf, All};
 ghost use Rattle.std.specs.Option.{option_map};
 ghost use Rattle.term_forms.specs.SeenForms.{heap_form};
 ghost use Rattle.heap_cells.specs.Cells.{kind_of};
 ghost use Rattle.heap_cells.specs.HeapMap.{IsBounded, address_at, form_at, elements_at, IsSpelled};
-ghost use Rattle.heap_cells.specs.Loading.{IsAnswerFor, IsOfTheTexts};
+ghost use Rattle.dump_io.specs.Dumps.{ReadsAtMost, used, told};
+ghost use Rattle.section_index.specs.Index.{IsBuiltOver};
+ghost use Rattle.heap_cells.specs.declared.faults.HeapFault.{HeapFault};
+ghost use Rattle.heap_cells.specs.Loading.{enc_of, heap_section, literals_section, body_size, body_in, section_fault, IsAnswerFor, IsCauseOf, IsOfTheTexts};
 ghost use Rattle.heap_cells.specs.Targets.{number, target, slot_target, kid_target, KeepsElement, IsSeatOf, IsSeatWithin, IsWithin};
 
 use crate::arena::{Arena, kid_of, slots_of};
@@ -12,9 +15,12 @@ use crate::cells::{CellIx, Kid, Kind, Seat, Slot};
 use crate::faults::HeapFault;
 use crate::gathering::gather_all;
 use crate::keeping::{Indexed, index_cells};
+use crate::loading::{judge_size, read_texts};
 use crate::order::number_of;
 use crate::resolving::resolve;
 use crate::texts::{Texts, part};
+use dump_io::{Dumps, Limits};
+use section_index::Index;
 use std::alloc::Global;
 use std::marker::Model;
 use term_forms::Enc;
@@ -50,6 +56,49 @@ impl Model for Heap {
 }
 
 impl Heap {
+    /// Reads the heap of a process and the literals: the first `proc_heap` section with the pid as its id, and the first
+    /// `literals` section. A section that isn't there is empty. The index is one that was built over the file that is
+    /// open, and the file stays open.
+    ///
+    /// A heap line is a line with a `:` and a hex number of 1 to 16 digits before the first one: the address of a cell,
+    /// whose form is spelled by what follows the `:`. A cell is malformed where that spells no form. Other lines are passed
+    /// over, and so are heap lines whose address an earlier one has; the lines of the heap stand before the literals.
+    ///
+    /// The refusals come in this order: `SectionTooLarge` exactly where a body has more bytes than the limit on sections,
+    /// the heap's before that of the literals, and nothing is read then; `Read`, only where the device's count of faults
+    /// rose; and `TooDense` exactly where all heap lines and the elements of their forms, those passed over included, are
+    /// more than the limit. `Memory` may come at any growth. Whatever the answer, at most as many bytes are read as the two
+    /// bodies have.
+    pub fn load<D: Dumps>(
+        alloc: Global,
+        dumps: &mut D,
+        index: &Index,
+        pid: &[u8],
+        limits: &Limits,
+    ) -> Result<Heap, HeapFault>
+        requires over { IsBuiltOver (D.now dumps.old) index.now }
+        ensures reads { ReadsAtMost (used D.files D.now D.faults D.taken dumps.old dumps.new)
+            (body_size (heap_section index.now pid.now) + body_size (literals_section index.now)) }
+
+        // Where the bytes are told, the heap is that of the two bodies, or they are too dense.
+        ensures answer { (dump : List ℕ) → D.now dumps.old ≡ told dump
+            → IsAnswerFor (enc_of index.now.version) (body_in dump (heap_section index.now pid.now)) (body_in dump (literals_section index.now)) limits.now.dense result }
+        ensures enc { IfOk result (λ heap. heap.enc ≡ enc_of index.now.version) }
+        ensures fault { IfErr result (IsCauseOf (section_fault limits.now.section index.now pid.now) limits.now.dense (used D.files D.now D.faults D.taken dumps.old dumps.new)) }
+
+        // A body that is too large is always refused as such, and the device plays no part.
+        ensures loaded { OnOk result (section_fault limits.now.section index.now pid.now ≡ None) }
+        ensures too_large { (fault : HeapFault) → section_fault limits.now.section index.now pid.now ≡ Some fault → IsErrOf result fault }
+        ensures unread { IsSome (section_fault limits.now.section index.now pid.now) → dumps.new ≡ dumps.old }
+    {
+        let heap = index.first(b"proc_heap", Some(pid));
+        let literals = index.first_tag(b"literals");
+        judge_size(index, heap, limits)?;
+        judge_size(index, literals, limits)?;
+        let texts = read_texts(alloc, dumps, index, heap, literals, limits)?;
+        Heap::new(alloc, texts, limits.dense())
+    }
+
     // The heap with these bodies.
     pub(crate) fn new(alloc: Global, texts: Texts, dense: u32) -> Result<Heap, HeapFault>
         requires heap { length texts.heap.items ≤ 536870912 }

@@ -11,6 +11,7 @@ mod faults;
 mod gathering;
 mod heap;
 mod keeping;
+mod loading;
 mod order;
 mod resolving;
 mod texts;

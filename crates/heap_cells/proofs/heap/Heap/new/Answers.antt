@@ -57,6 +57,7 @@ returns-clause-answer c =
     let own = c.in_ok-gathering.own in
     let found = c.in_ok-arena.field-0 in
     let is_whole = whole texts g own c.args.dense c.from.result c.in_ok-gathering.ensures.all c.in_ok-gathering.ensures.limit c.from.ensures c.if-gathering-from.false c.requires.limit in
-    let indexed = c.in_ok-arena.ensures (text_of texts) (seam_of texts) texts.enc c.in_ok-gathering.ensures.all.gathered.slots_are in
-    (record { cells = cells-indexed texts g own found is_whole indexed; own = own-indexed texts g own found is_whole indexed },
-    omega (arith, c.in_ok-gathering.ensures.all.weight_is, c.if-gathering-from.false, c.from.ensures))
+    let indexed = c.in_ok-arena.ensures (text_of texts) (seam_of texts) texts.enc c.in_ok-gathering.ensures.all.gathered.slots_are in (
+      record { cells = cells-indexed texts g own found is_whole indexed; own = own-indexed texts g own found is_whole indexed },
+      omega (arith, c.in_ok-gathering.ensures.all.weight_is, c.if-gathering-from.false, c.from.ensures),
+    )
