@@ -1,0 +1,4 @@
+mod Examples
+pub mod FirstNodes
+pub mod Levels
+pub mod Suiting

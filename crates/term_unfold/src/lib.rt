@@ -1,0 +1,10 @@
+//! What a term of a heap unfolds to: its first bad address, and its text, within a budget of nodes.
+#![tactic(auto)]
+
+mod laws;
+mod node;
+mod verdict;
+
+pub use laws::{text_is_of_first_nodes, unfolding_is_finite};
+pub use node::NodeKind;
+pub use verdict::Verdict;
