@@ -3,5 +3,5 @@ pub mod Examples
 pub mod Files
 pub mod Fill
 pub mod Grown
-pub mod LineLaws
 pub mod Numerals
+pub mod Splits

@@ -1,9 +1,10 @@
 -- A device that holds one file.
-use Rattle.std.specs.Prelude.{ℕ, ◌-◌, ◌^◌, ◌<◌, Bool, true, false, min, None, Some, if◌then◌else◌}
+use Rattle.std.specs.Prelude.{ℕ, ◌^◌, ◌<◌, Bool, true, false, None, Some, if◌then◌else◌}
 use Rattle.std.specs.Str.{bytes_eq}
 use Rattle.std.proofs.Common.{lit<}
 use Rattle.dump_io.specs.declared.file.DumpFile.{DumpFile}
 use Rattle.dump_io.specs.declared.held_dump.HeldDump.{HeldDump}
+use Rattle.dump_io.specs.Count.{number_in}
 use Rattle.dump_io.specs.File.{name_of, bytes_of}
 use Rattle.dump_io.specs.Dumps.{Files, Now, closed, told, size_of}
 
@@ -25,4 +26,4 @@ abbrev pub now_of : HeldDump → Now
 now_of device = now_where device.is_open device.file
 
 abbrev pub taken_of : HeldDump → ℕ
-taken_of device = min device.taken (2 ^ 64 - 1)
+taken_of device = number_in device.taken

@@ -1,10 +1,15 @@
+pub mod Atoms
+pub mod Colons
+pub mod Count
 pub mod Counts
 pub mod Dumps
 pub mod File
 pub mod HeldDump
+pub mod Laws
 pub mod Limits
 pub mod Lines
 pub mod MemDumps
 pub mod MemSink
 pub mod Numbers
+pub mod Pieces
 pub mod Sinks

@@ -27,16 +27,16 @@ usual = record {
 
 -- each number is at most the usual one, and a header may have a byte
 pub record AreAllowed (n : Numbers) : Type 0 where
-  pub dump : n.dump ≤ 68719476736
-  pub header : n.header ≤ 4096
+  pub dump : n.dump ≤ usual.dump
+  pub header : n.header ≤ usual.header
   pub some_header : 1 ≤ n.header
-  pub sections : n.sections ≤ 8000000
-  pub pool : n.pool ≤ 268435456
-  pub section : n.section ≤ 536870912
-  pub dense : n.dense ≤ 100000000
+  pub sections : n.sections ≤ usual.sections
+  pub pool : n.pool ≤ usual.pool
+  pub section : n.section ≤ usual.section
+  pub dense : n.dense ≤ usual.dense
 
 -- the same as a test
 abbrev pub are_allowed : Numbers → Bool
 are_allowed n =
-    nat_le n.dump 68719476736 && nat_le n.header 4096 && nat_le 1 n.header && nat_le n.sections 8000000
-    && nat_le n.pool 268435456 && nat_le n.section 536870912 && nat_le n.dense 100000000
+    nat_le n.dump usual.dump && nat_le n.header usual.header && nat_le 1 n.header && nat_le n.sections usual.sections
+    && nat_le n.pool usual.pool && nat_le n.section usual.section && nat_le n.dense usual.dense

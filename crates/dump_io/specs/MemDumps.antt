@@ -1,10 +1,11 @@
 -- A device whose files are in memory.
-use Rattle.std.specs.Prelude.{ℕ, ◌^◌, ◌<◌, ◌-◌, ◌%◌, ◌==◌, Bool, List, [], ◌∷◌, Option, None, Some, length, min, max, slice_get, slice_index, if◌then◌else◌}
+use Rattle.std.specs.Prelude.{ℕ, ◌^◌, ◌<◌, ◌%◌, ◌==◌, Bool, List, [], ◌∷◌, Option, None, Some, length, min, max, slice_get, slice_index, if◌then◌else◌}
 use Rattle.std.specs.List.{list_any}
 use Rattle.std.specs.Str.{bytes_eq}
 use Rattle.std.proofs.Common.{lit<}
 use Rattle.dump_io.specs.declared.file.DumpFile.{DumpFile}
 use Rattle.dump_io.specs.declared.mem_dumps.MemDumps.{MemDumps}
+use Rattle.dump_io.specs.Count.{number_in}
 use Rattle.dump_io.specs.File.{name_of, bytes_of}
 use Rattle.dump_io.specs.Dumps.{Files, Now, closed, told, size_of}
 
@@ -41,16 +42,16 @@ now_of device = now_at device.files.items device.place
 
 -- how many calls were made, and how many reads that didn't fail
 abbrev pub calls_of : MemDumps → ℕ
-calls_of device = device.calls
+calls_of device = number_in device.calls
 
 abbrev pub reads_of : MemDumps → ℕ
-reads_of device = device.reads
+reads_of device = number_in device.reads
 
 abbrev pub faults_of : MemDumps → ℕ
-faults_of device = device.faults
+faults_of device = number_in device.faults
 
 abbrev pub taken_of : MemDumps → ℕ
-taken_of device = min device.taken (2 ^ 64 - 1)
+taken_of device = number_in device.taken
 
 -- the numbers of the calls that fail, and the most bytes that a read gives, in turn
 abbrev pub fails_of : MemDumps → List ℕ

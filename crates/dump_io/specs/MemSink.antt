@@ -1,6 +1,7 @@
 -- A sink in memory.
 use Rattle.std.specs.Prelude.{ℕ, ◌==◌, Bool, List, min, if◌then◌else◌}
 use Rattle.std.specs.List.{list_any}
+use Rattle.dump_io.specs.Count.{number_in}
 use Rattle.dump_io.specs.declared.mem_sink.MemSink.{MemSink}
 
 abbrev pub written_of : MemSink → List ℕ
@@ -16,14 +17,14 @@ fails_of sink = sink.fails.items
 
 -- how many writes were made
 abbrev pub writes_of : MemSink → ℕ
-writes_of sink = sink.writes
+writes_of sink = number_in sink.writes
 
 -- how many writes found no memory
 abbrev pub lacked_of : MemSink → ℕ
-lacked_of sink = sink.lacked
+lacked_of sink = number_in sink.lacked
 
 abbrev pub faults_of : MemSink → ℕ
-faults_of sink = sink.faults
+faults_of sink = number_in sink.faults
 
 -- whether the last write was one of those that fail
 abbrev pub is_failing : MemSink → Bool

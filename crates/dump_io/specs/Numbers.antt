@@ -1,5 +1,6 @@
 -- The numbers of a dump's text: digits alone, of which a sign or a space is none. Leading zeros are taken.
-use Rattle.std.specs.Prelude.{ℕ, ◌^◌, Bool, ◌&&◌, List, length, Option, None, Some, nat_le, nat_lt, if◌then◌else◌}
+use Rattle.std.specs.Prelude.{ℕ, ◌^◌, ◌/◌, ◌%◌, Bool, true, ◌&&◌, List, [], ◌∷◌, length, Option, None, Some, nat_le, nat_lt, if◌then◌else◌}
+use Rattle.std.specs.Fmt.{digit_glyph, digits}
 use Rattle.std.specs.List.{list_all}
 use Rattle.std.specs.Char.{digit_value}
 use Rattle.std.specs.Str.Parse.{digits_value}
@@ -21,3 +22,11 @@ hex_number text = number_of 16 16 text
 -- decimal: 1 to 20 digits of `0`-`9`, with a value below 2^64
 abbrev pub dec_number : List ℕ → Option ℕ
 dec_number text = number_of 10 20 text
+
+-- a number is written in upper-case hex without leading zeros; std's `decimal` is the same in decimal
+abbrev pub hexadecimal : ℕ → List ℕ
+hexadecimal n = digits 16 true n
+
+-- a byte as two upper-case hex digits
+abbrev pub hex_byte : ℕ → List ℕ
+hex_byte c = digit_glyph true (c / 16) ∷ digit_glyph true (c % 16) ∷ []

@@ -1,7 +1,6 @@
 // A device that holds dumps.
-ghost use Rattle.std.specs.Prelude.{◌≡◌, ◌⊎◌, ℕ, ◌<◌, ◌≤◌, ◌^◌, length, Option, Some, codes, OnErr, IfOk, OnOk, MatchResult};
-ghost use Rattle.dump_io.specs.Counts.{Rose, HasCause, plus_capped};
-ghost use Rattle.dump_io.specs.Dumps.{Files, Now, closed, IsOpen, size_of, IsNamed, IsAbsent, Reads};
+ghost use Rattle.std.specs.Prelude.{ℕ, ◌<◌, ◌^◌, length, Option, codes, Some};
+ghost use Rattle.dump_io.specs.Dumps.{Files, Now, size_of, used, Opens, ReadsSome};
 
 use std::error::Error;
 use std::fmt;
@@ -39,13 +38,7 @@ pub trait Dumps {
     /// `Failed` comes only where `faults` rose, or where the files are told and none has that name.
     /// No file is open then.
     fn open_dump(&mut self, name: &str) -> Result<u64, Failed>
-        ensures same_files { files self.new ≡ files self.old }
-        ensures same_taken { taken self.new ≡ taken self.old }
-        ensures later { faults self.old ≤ faults self.new }
-        ensures opened { IfOk result (λ size. IsOpen (now self.new) × (size_of (now self.new) ≡ size)) }
-        ensures named { OnOk result (IsNamed (files self.old) name.now (now self.new)) }
-        ensures failed { OnErr result (now self.new ≡ closed) }
-        ensures cause { OnErr result (Rose (faults self.old) (faults self.new) ⊎ IsAbsent (files self.old) name.now) };
+        ensures { Opens (used files now faults taken self.old self.new) name.now result };
 
     /// Gives bytes of the open file from the offset `at` on, as many as it likes but at least one, and
     /// says how many. The places of `into` behind them may hold anything.
@@ -54,11 +47,7 @@ pub trait Dumps {
     fn read_at(&mut self, at: u64, into: &mut [u8]) -> Result<usize, Failed>
         requires inside { at < size_of (now self.old) }
         requires room { 0 < length into.old }
-        ensures same_files { files self.new ≡ files self.old }
-        ensures same_now { now self.new ≡ now self.old }
-        ensures cause { HasCause (faults self.old) (faults self.new) result }
-        ensures read { IfOk result (Reads (now self.old) at into.new) }
-        ensures taken { MatchResult result (λ n. taken self.new ≡ plus_capped (taken self.old) n) (λ _. taken self.new ≡ taken self.old) };
+        ensures { ReadsSome (used files now faults taken self.old self.new) at into.new result };
 
     /// A size is a number of 64 bits.
     ghost small_size: { (d : Self) → size_of (now d) < 2 ^ 64 };

@@ -1,10 +1,10 @@
 // A device that holds one file, which never fails.
-ghost use Rattle.std.specs.Prelude.{◌≡◌, ◌⊎◌, ℕ, ◌-◌, ◌<◌, ◌≤◌, length, Some, min, MatchResult, OnErr, OnOk, IfOk};
-ghost use Rattle.dump_io.specs.Counts.{Rose, HasCause, plus_capped};
-ghost use Rattle.dump_io.specs.Dumps.{closed, size_of, IsOpen, IsNamed, IsAbsent, Reads};
+ghost use Rattle.std.specs.Prelude.{◌≡◌, ◌-◌, ◌<◌, length, Some, min, IfOk};
+ghost use Rattle.dump_io.specs.Count.{number_in-small};
+ghost use Rattle.dump_io.specs.Dumps.{closed, size_of, used, ReadsSome};
 ghost use Rattle.dump_io.specs.HeldDump.{files_of, file_of, now_of, taken_of, now_where-small};
-ghost use Rattle.std.proofs.Common.{rules};
 
+use crate::count::Count;
 use crate::dumps::{Dumps, Failed};
 use crate::file::DumpFile;
 
@@ -14,7 +14,7 @@ use crate::file::DumpFile;
 pub struct HeldDump {
     file: DumpFile,
     is_open: bool,
-    taken: u64,
+    taken: Count,
 }
 
 impl HeldDump {
@@ -27,7 +27,7 @@ impl HeldDump {
         HeldDump {
             file,
             is_open: false,
-            taken: 0,
+            taken: Count::new(),
         }
     }
 }
@@ -43,7 +43,7 @@ impl Dumps for HeldDump {
 
     ghost small_size = { λ d. now_where-small d.is_open d.file };
 
-    ghost small_taken = { λ d. Prim.search rules };
+    ghost small_taken = { λ d. number_in-small d.taken };
 
     fn open_dump(&mut self, name: &str) -> Result<u64, Failed> {
         self.is_open = self.file.name.as_str() == name;
@@ -56,18 +56,14 @@ impl Dumps for HeldDump {
     fn read_at(&mut self, at: u64, into: &mut [u8]) -> Result<usize, Failed>
         requires inside { at < size_of (now_of self.old) }
         requires room { 0 < length into.old }
-        ensures same_files { Some (files_of (file_of self.new)) ≡ Some (files_of (file_of self.old)) }
-        ensures same_now { now_of self.new ≡ now_of self.old }
-        ensures cause { HasCause 0 0 result }
-        ensures read { IfOk result (Reads (now_of self.old) at into.new) }
-        ensures taken { MatchResult result (λ n. taken_of self.new ≡ plus_capped (taken_of self.old) n) (λ _. taken_of self.new ≡ taken_of self.old) }
+        ensures reads { ReadsSome (used (λ d. Some (files_of (file_of d))) now_of (λ _. 0) taken_of self.old self.new) at into.new result }
 
         ensures uncut { IfOk result (λ n. n ≡ min (size_of (now_of self.old) - at) (length into.old)) }
     {
         let rest = &self.file.bytes.as_slice()[at as usize..];
         let n = rest.len().min(into.len());
         into[..n].copy_from_slice(&rest[..n]);
-        self.taken = self.taken.saturating_add(n as u64);
+        self.taken.add(n as u64);
         Ok(n)
     }
 }

@@ -1,10 +1,33 @@
-// The law of lines.
-ghost use Rattle.std.specs.Prelude.{◌≡◌, ℕ, List};
-ghost use Rattle.dump_io.specs.Lines.{AreLines, raw_lines};
+// Lines: their texts, and their law.
+ghost use Rattle.std.specs.Prelude.{◌≡◌, ◌<◌, ◌++◌, ◌∷◌, [], ℕ, List, length};
+ghost use Rattle.dump_io.specs.Lines.{AreLines, HasLfLast, IsEnded, raw_lines, lf, text_of};
+
+/// The text of the line that these bytes and an LF make: the bytes without one CR at their end.
+pub fn text_before_lf(line: &[u8]) -> &[u8]
+    ensures { result.now ≡ text_of (line.now ++ lf ∷ []) }
+{
+    match line {
+        [text @ .., b'\r'] => text,
+        _ => line,
+    }
+}
+
+/// The text of a raw line: without its LF, and without one CR directly before that LF.
+pub fn line_text(raw: &[u8]) -> &[u8]
+    ensures { result.now ≡ text_of raw.now }
+{
+    if let Some(text) = raw.strip_suffix(b"\r\n") {
+        return text;
+    }
+    raw.strip_suffix(b"\n").unwrap_or(raw)
+}
 
 /// A law, and no work: the lines of any bytes are the one list by the rule of lines. Together the lines
 /// are the bytes, none is empty, LF stands only at the end of a line, and only the last line may lack it.
-pub fn lines_are_one(bytes: &[u8])
-    ensures divides { AreLines bytes.now (raw_lines bytes.now) }
-    ensures only { (lines : List (List ℕ)) → AreLines bytes.now lines → lines ≡ raw_lines bytes.now }
+/// So a line with its LF in front of any bytes is the first of their lines, and a line alone is its own.
+pub fn lines_are_one()
+    ensures divides { (bytes : List ℕ) → AreLines bytes (raw_lines bytes) }
+    ensures only { (bytes : List ℕ) (lines : List (List ℕ)) → AreLines bytes lines → lines ≡ raw_lines bytes }
+    ensures first { (line more : List ℕ) → 0 < length line → HasLfLast line → IsEnded line → raw_lines (line ++ more) ≡ line ∷ raw_lines more }
+    ensures alone { (line : List ℕ) → 0 < length line → HasLfLast line → raw_lines line ≡ line ∷ [] }
 {}

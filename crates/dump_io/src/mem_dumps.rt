@@ -1,10 +1,11 @@
 // A device whose files are in memory, which can cut its reads and fail.
-ghost use Rattle.std.specs.Prelude.{◌≡◌, ◌⊎◌, ℕ, ◌-◌, ◌^◌, ◌<◌, ◌≤◌, List, length, None, Some, min, is_err, is_ok, MatchOption, MatchResult, OnErr, OnOk, IfOk, if◌then◌else◌};
-ghost use Rattle.dump_io.specs.Counts.{Rose, HasCause, plus_capped};
-ghost use Rattle.dump_io.specs.Dumps.{closed, told, size_of, IsOpen, IsNamed, IsAbsent, Reads};
+ghost use Rattle.std.specs.Prelude.{◌≡◌, ℕ, ◌-◌, ◌<◌, ◌≤◌, List, length, None, Some, min, is_err, is_ok, MatchOption, IfOk, if◌then◌else◌};
+ghost use Rattle.dump_io.specs.Count.{number_in-small};
+ghost use Rattle.dump_io.specs.Counts.{plus_capped};
+ghost use Rattle.dump_io.specs.Dumps.{closed, told, size_of, used, Opens, ReadsSome};
 ghost use Rattle.dump_io.specs.MemDumps.{find_file, now_at, now_at-small, cut_at, files_of, now_of, calls_of, reads_of, faults_of, taken_of, fails_of, cuts_of, is_failing, opened};
-ghost use Rattle.std.proofs.Common.{rules};
 
+use crate::count::Count;
 use crate::dumps::{Dumps, Failed};
 use crate::file::DumpFile;
 
@@ -19,10 +20,10 @@ pub struct MemDumps {
     cuts: Vec<usize>,
     fails: Vec<u64>,
     place: Option<usize>,
-    calls: u64,
-    reads: u64,
-    faults: u64,
-    taken: u64,
+    calls: Count,
+    reads: Count,
+    faults: Count,
+    taken: Count,
 }
 
 impl MemDumps {
@@ -42,10 +43,10 @@ impl MemDumps {
             cuts,
             fails,
             place: None,
-            calls: 0,
-            reads: 0,
-            faults: 0,
-            taken: 0,
+            calls: Count::new(),
+            reads: Count::new(),
+            faults: Count::new(),
+            taken: Count::new(),
         }
     }
 
@@ -53,7 +54,7 @@ impl MemDumps {
     pub fn taken(&self) -> u64
         ensures { result ≡ taken_of self.now }
     {
-        self.taken
+        self.taken.number()
     }
 }
 
@@ -105,28 +106,22 @@ impl Dumps for MemDumps {
 
     ghost small_size = { λ m. now_at-small m.files.items m.place };
 
-    ghost small_taken = { λ m. Prim.search rules };
+    ghost small_taken = { λ m. number_in-small m.taken };
 
     fn open_dump(&mut self, name: &str) -> Result<u64, Failed>
-        ensures same_files { Some (files_of self.new) ≡ Some (files_of self.old) }
-        ensures same_taken { taken_of self.new ≡ taken_of self.old }
-        ensures later { faults_of self.old ≤ faults_of self.new }
-        ensures opened { IfOk result (λ size. IsOpen (now_of self.new) × (size_of (now_of self.new) ≡ size)) }
-        ensures named { OnOk result (IsNamed (Some (files_of self.old)) name.now (now_of self.new)) }
-        ensures failed { OnErr result (now_of self.new ≡ closed) }
-        ensures cause { OnErr result (Rose (faults_of self.old) (faults_of self.new) ⊎ IsAbsent (Some (files_of self.old)) name.now) }
+        ensures opens { Opens (used (λ m. Some (files_of m)) now_of faults_of taken_of self.old self.new) name.now result }
 
         ensures number { calls_of self.new ≡ plus_capped (calls_of self.old) 1 }
         ensures reads { reads_of self.new ≡ reads_of self.old }
         ensures cuts { cuts_of self.new ≡ cuts_of self.old }
         ensures fails { fails_of self.new ≡ fails_of self.old }
         ensures count { faults_of self.new ≡ (if is_failing self.new then plus_capped (faults_of self.old) 1 else faults_of self.old) }
-        ensures opens { now_of self.new ≡ (if is_failing self.new then closed else opened (files_of self.old name.now)) }
+        ensures now { now_of self.new ≡ (if is_failing self.new then closed else opened (files_of self.old name.now)) }
     {
         self.place = None;
-        self.calls = self.calls.saturating_add(1);
-        if self.fails.contains(&self.calls) {
-            self.faults = self.faults.saturating_add(1);
+        self.calls.rise();
+        if self.fails.contains(&self.calls.number()) {
+            self.faults.rise();
             return Err(Failed);
         }
         self.place = place_of(&self.files, name);
@@ -139,11 +134,7 @@ impl Dumps for MemDumps {
     fn read_at(&mut self, at: u64, into: &mut [u8]) -> Result<usize, Failed>
         requires inside { at < size_of (now_of self.old) }
         requires room { 0 < length into.old }
-        ensures same_files { Some (files_of self.new) ≡ Some (files_of self.old) }
-        ensures same_now { now_of self.new ≡ now_of self.old }
-        ensures cause { HasCause (faults_of self.old) (faults_of self.new) result }
-        ensures read { IfOk result (Reads (now_of self.old) at into.new) }
-        ensures taken { MatchResult result (λ n. taken_of self.new ≡ plus_capped (taken_of self.old) n) (λ _. taken_of self.new ≡ taken_of self.old) }
+        ensures reads_some { ReadsSome (used (λ m. Some (files_of m)) now_of faults_of taken_of self.old self.new) at into.new result }
 
         ensures number { calls_of self.new ≡ plus_capped (calls_of self.old) 1 }
         ensures reads { reads_of self.new ≡ (if is_ok result then plus_capped (reads_of self.old) 1 else reads_of self.old) }
@@ -153,19 +144,19 @@ impl Dumps for MemDumps {
         ensures failing { is_err result ≡ is_failing self.new }
         ensures cut { IfOk result (λ n. n ≡ cut_at (cuts_of self.old) (reads_of self.old) (min (size_of (now_of self.old) - at) (length into.old))) }
     {
-        self.calls = self.calls.saturating_add(1);
-        if self.fails.contains(&self.calls) {
-            self.faults = self.faults.saturating_add(1);
+        self.calls.rise();
+        if self.fails.contains(&self.calls.number()) {
+            self.faults.rise();
             return Err(Failed);
         }
         let Some(bytes) = bytes_at(&self.files, self.place) else {
             unreachable!()
         };
         let rest = &bytes[at as usize..];
-        let n = cut(&self.cuts, self.reads, rest.len().min(into.len()));
+        let n = cut(&self.cuts, self.reads.number(), rest.len().min(into.len()));
         into[..n].copy_from_slice(&rest[..n]);
-        self.reads = self.reads.saturating_add(1);
-        self.taken = self.taken.saturating_add(n as u64);
+        self.reads.rise();
+        self.taken.add(n as u64);
         Ok(n)
     }
 }

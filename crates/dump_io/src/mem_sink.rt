@@ -1,9 +1,10 @@
 // A sink in memory, which can take small steps and fail.
-ghost use Rattle.std.specs.Prelude.{◌≡◌, ◌⊎◌, ℕ, ◌<◌, ◌≤◌, true, [], length, Some, is_err, IsErr, IfOk, if◌then◌else◌, ◌||◌, nat_lt};
-ghost use Rattle.dump_io.specs.Counts.{Rose, HasCause, plus_capped};
-ghost use Rattle.dump_io.specs.Sinks.{Writes};
+ghost use Rattle.std.specs.Prelude.{◌≡◌, ◌<◌, true, [], length, Some, is_err, not, IsErr, IfOk, ◌&&◌, if◌then◌else◌};
+ghost use Rattle.dump_io.specs.Counts.{plus_capped};
+ghost use Rattle.dump_io.specs.Sinks.{changed, TakesSome};
 ghost use Rattle.dump_io.specs.MemSink.{written_of, step_of, fails_of, writes_of, lacked_of, faults_of, is_failing, taken_by};
 
+use crate::count::Count;
 use crate::dumps::Failed;
 use crate::sink::Sink;
 use std::alloc::Global;
@@ -18,9 +19,9 @@ pub struct MemSink {
     bytes: Vec<u8>,
     step: usize,
     fails: Vec<u64>,
-    writes: u64,
-    lacked: u64,
-    faults: u64,
+    writes: Count,
+    lacked: Count,
+    faults: Count,
 }
 
 impl MemSink {
@@ -37,9 +38,9 @@ impl MemSink {
             bytes: Vec::new(alloc),
             step,
             fails,
-            writes: 0,
-            lacked: 0,
-            faults: 0,
+            writes: Count::new(),
+            lacked: Count::new(),
+            faults: Count::new(),
         }
     }
 
@@ -54,17 +55,7 @@ impl MemSink {
     pub fn lacked(&self) -> u64
         ensures { result ≡ lacked_of self.now }
     {
-        self.lacked
-    }
-
-    fn fail(&mut self) -> Failed
-        ensures count { self.new.faults ≡ plus_capped self.old.faults 1 }
-        ensures later { self.old.faults ≤ self.new.faults }
-        ensures rose { Rose self.old.faults self.new.faults }
-        ensures same { self.new ≡ record self.old { faults = self.new.faults } }
-    {
-        self.faults = self.faults.saturating_add(1);
-        Failed
+        self.lacked.number()
     }
 }
 
@@ -75,22 +66,20 @@ impl Sink for MemSink {
 
     fn write(&mut self, piece: &[u8]) -> Result<usize, Failed>
         requires { 0 < length piece.now }
-        ensures writes { Writes (Some (written_of self.old)) (Some (written_of self.new)) piece.now result }
-        ensures cause { HasCause (faults_of self.old) (faults_of self.new) result }
+        ensures some { TakesSome (changed (λ m. Some (written_of m)) faults_of self.old self.new) piece.now result }
 
         ensures number { writes_of self.new ≡ plus_capped (writes_of self.old) 1 }
         ensures step { step_of self.new ≡ step_of self.old }
         ensures fails { fails_of self.new ≡ fails_of self.old }
-        ensures lacked { lacked_of self.old ≤ lacked_of self.new }
-        ensures told { IsErr result → (is_failing self.new ≡ true) ⊎ Rose (lacked_of self.old) (lacked_of self.new) }
         ensures failing { is_failing self.new ≡ true → IsErr result }
-        ensures lacking { lacked_of self.old < lacked_of self.new → IsErr result }
+        ensures lacked { lacked_of self.new ≡ (if is_err result && not (is_failing self.new) then plus_capped (lacked_of self.old) 1 else lacked_of self.old) }
         ensures count { faults_of self.new ≡ (if is_err result then plus_capped (faults_of self.old) 1 else faults_of self.old) }
         ensures takes { IfOk result (λ n. n ≡ taken_by (step_of self.old) (length piece.now)) }
     {
-        self.writes = self.writes.saturating_add(1);
-        if self.fails.contains(&self.writes) {
-            return Err(self.fail());
+        self.writes.rise();
+        if self.fails.contains(&self.writes.number()) {
+            self.faults.rise();
+            return Err(Failed);
         }
         let n = if self.step == 0 {
             piece.len()
@@ -98,8 +87,9 @@ impl Sink for MemSink {
             self.step.min(piece.len())
         };
         if self.bytes.extend_from_slice(&piece[..n]).is_err() {
-            self.lacked = self.lacked.saturating_add(1);
-            return Err(self.fail());
+            self.lacked.rise();
+            self.faults.rise();
+            return Err(Failed);
         }
         Ok(n)
     }

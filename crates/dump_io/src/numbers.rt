@@ -1,11 +1,9 @@
-// The numbers that a dump's text has, and those that a report writes.
-ghost use Rattle.std.specs.Prelude.{◌≡◌, ◌⊎◌, ℕ, ◌+◌, ◌*◌, true, ◌<◌, ◌≤◌, ◌^◌, length, drop, decimal, Option, None, Some};
+// The numbers that a dump's text has, and decimal numbers in a report.
+ghost use Rattle.std.specs.Prelude.{◌≡◌, ◌+◌, ◌*◌, ◌<◌, ◌≤◌, ◌^◌, decimal};
 ghost use Rattle.std.specs.Option.{SomeIff};
-ghost use Rattle.std.specs.Fmt.{digit_glyph, digits};
 ghost use Rattle.std.specs.Char.{digit_value};
-ghost use Rattle.dump_io.specs.Counts.{HasCause};
 ghost use Rattle.dump_io.specs.Numbers.{number_of, hex_number, dec_number};
-ghost use Rattle.dump_io.specs.Sinks.{WritesAll};
+ghost use Rattle.dump_io.specs.Sinks.{changed, Puts};
 
 use crate::dumps::Failed;
 use crate::sink::{Sink, write_all};
@@ -56,49 +54,8 @@ pub fn hex_u64(text: &[u8]) -> Option<u64>
 
 /// Writes a number in decimal, without leading zeros. `Failed` comes and leaves what it does at [`write_all`].
 pub fn put_dec<K: Sink>(sink: &mut K, n: u64) -> Result<(), Failed>
-    ensures writes { WritesAll (K.written sink.old) (K.written sink.new) (decimal n) result }
-    ensures cause { HasCause (K.faults sink.old) (K.faults sink.new) result }
+    ensures { Puts (changed K.written K.faults sink.old sink.new) (decimal n) result }
 {
     let mut buffer = Buffer::new();
     write_all(sink, buffer.format(n).as_bytes())
-}
-
-fn hex_digit(d: u64) -> u8
-    requires { d < 16 }
-    ensures { result ≡ digit_glyph true d }
-{
-    if d < 10 {
-        b'0' + d as u8
-    } else {
-        b'A' - 10 + d as u8
-    }
-}
-
-// Puts the digits at the end of the buffer, and says where they begin.
-fn put_digits(n: u64, buffer: &mut [u8]) -> usize
-    requires { length buffer.old ≡ 16 }
-    ensures within { result ≤ 16 }
-    ensures text { drop result buffer.new ≡ digits 16 true n }
-{
-    let mut rest = n;
-    let mut at = 16;
-    while at > 0 {
-        at -= 1;
-        buffer[at] = hex_digit(rest % 16);
-        rest /= 16;
-        if rest == 0 {
-            return at;
-        }
-    }
-    unreachable!()
-}
-
-/// Writes a number in upper-case hex, without leading zeros. `Failed` comes and leaves what it does at [`write_all`].
-pub fn put_hex<K: Sink>(sink: &mut K, n: u64) -> Result<(), Failed>
-    ensures writes { WritesAll (K.written sink.old) (K.written sink.new) (digits 16 true n) result }
-    ensures cause { HasCause (K.faults sink.old) (K.faults sink.new) result }
-{
-    let mut buffer = [0; 16];
-    let at = put_digits(n, &mut buffer);
-    write_all(sink, &buffer[at..])
 }

@@ -1,7 +1,7 @@
 // Whole reads.
 ghost use Rattle.std.specs.Prelude.{◌≡◌, ◌+◌, ◌≤◌, length, OnOk, OnErr};
-ghost use Rattle.dump_io.specs.Counts.{HasCause, plus_capped};
-ghost use Rattle.dump_io.specs.Dumps.{size_of, IsOpen, Gives};
+ghost use Rattle.dump_io.specs.Counts.{plus_capped};
+ghost use Rattle.dump_io.specs.Dumps.{size_of, IsOpen, Gives, used, DeviceFailed, ReadsAtMost};
 
 use crate::dumps::{Dumps, Failed};
 
@@ -11,13 +11,10 @@ use crate::dumps::{Dumps, Failed};
 pub fn read_full<D: Dumps>(dumps: &mut D, at: u64, into: &mut [u8]) -> Result<(), Failed>
     requires open { IsOpen (D.now dumps.old) }
     requires inside { at + length into.old ≤ size_of (D.now dumps.old) }
-    ensures same_files { D.files dumps.new ≡ D.files dumps.old }
-    ensures same_now { D.now dumps.new ≡ D.now dumps.old }
-    ensures cause { HasCause (D.faults dumps.old) (D.faults dumps.new) result }
+    ensures reads { ReadsAtMost (used D.files D.now D.faults D.taken dumps.old dumps.new) (length into.old) }
+    ensures failed { OnErr result (DeviceFailed (used D.files D.now D.faults D.taken dumps.old dumps.new)) }
     ensures filled { OnOk result (Gives (D.now dumps.old) at into.new) }
     ensures taken { OnOk result (D.taken dumps.new ≡ plus_capped (D.taken dumps.old) (length into.old)) }
-    ensures taken_least { D.taken dumps.old ≤ D.taken dumps.new }
-    ensures taken_most { D.taken dumps.new ≤ plus_capped (D.taken dumps.old) (length into.old) }
 {
     let mut done = 0;
     while done < into.len() {

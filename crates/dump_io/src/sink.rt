@@ -1,7 +1,6 @@
 // What takes the bytes of a report.
 ghost use Rattle.std.specs.Prelude.{◌≡◌, ℕ, ◌<◌, List, length, Option};
-ghost use Rattle.dump_io.specs.Counts.{HasCause};
-ghost use Rattle.dump_io.specs.Sinks.{Writes, WritesAll};
+ghost use Rattle.dump_io.specs.Sinks.{changed, Puts, TakesSome};
 
 use crate::dumps::Failed;
 
@@ -18,8 +17,7 @@ pub trait Sink {
     /// `Failed` comes only where `faults` rose, and nothing was taken then.
     fn write(&mut self, piece: &[u8]) -> Result<usize, Failed>
         requires { 0 < length piece.now }
-        ensures writes { Writes (written self.old) (written self.new) piece.now result }
-        ensures cause { HasCause (faults self.old) (faults self.new) result };
+        ensures { TakesSome (changed written faults self.old self.new) piece.now result };
 }
 
 /// Writes all the bytes, by as many writes as the sink wants.
@@ -27,8 +25,7 @@ pub trait Sink {
 /// `Failed` comes only where the sink's count of faults rose; a proper front of the bytes was written
 /// then. No bytes are written without a call.
 pub fn write_all<K: Sink>(sink: &mut K, bytes: &[u8]) -> Result<(), Failed>
-    ensures writes { WritesAll (K.written sink.old) (K.written sink.new) bytes.now result }
-    ensures cause { HasCause (K.faults sink.old) (K.faults sink.new) result }
+    ensures puts { Puts (changed K.written K.faults sink.old sink.new) bytes.now result }
     ensures no_call { length bytes.now ≡ 0 → sink.new ≡ sink.old }
 {
     let mut done = 0;

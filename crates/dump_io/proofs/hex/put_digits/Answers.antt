@@ -1,7 +1,7 @@
 use Rattle.std.proofs.Common.{◌-◌, ◌/◌, ◌≤◌, ◌∷◌, length, drop, sym, ◌∙◌, ap, rules, arith}
 use Rattle.std.proofs.lemmas.List.{drop_all}
 use Rattle.dump_io.proofs.Digits.{text_of, text_of-all, text_of-step, text_of-last, drop-put, sixteenth}
-use Rattle.dump_io.proofs.numbers.put_digits.Goals as goal
+use Rattle.dump_io.proofs.hex.put_digits.Goals as goal
 
 pub loop-at-init : goal.loop-at-init
 loop-at-init c = (

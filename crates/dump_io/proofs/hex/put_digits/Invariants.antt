@@ -1,7 +1,7 @@
 use Rattle.std.proofs.Common.{◌≡◌, ◌^◌, ◌<◌, ◌≤◌, true, drop}
 use Rattle.std.specs.Fmt.{digits}
 use Rattle.dump_io.proofs.Digits.{text_of}
-use Rattle.dump_io.proofs.numbers.put_digits.Given as goal
+use Rattle.dump_io.proofs.hex.put_digits.Given as goal
 
 abbrev pub invariant-loop-at : goal.invariant-loop-at
 invariant-loop-at l =

@@ -1,0 +1,40 @@
+-- How an atom is written in a report.
+use Rattle.std.specs.Prelude.{ℕ, ◌==◌, Bool, false, ◌&&◌, ◌||◌, List, [], ◌∷◌, ◌++◌, codes, slice_get, nat_le, nat_lt, if◌then◌else◌}
+use Rattle.std.specs.List.{list_all, flat_map}
+use Rattle.std.specs.Option.{option_map_or}
+use Rattle.dump_io.specs.Numbers.{hex_byte}
+
+-- whether a byte is one of `a`-`z`
+abbrev pub is_small_letter : ℕ → Bool
+is_small_letter c = nat_le 97 c && nat_le c 122
+
+-- whether a byte is one of `a`-`z`, `A`-`Z`, `0`-`9`, `_` and `@`
+abbrev pub is_atom_byte : ℕ → Bool
+is_atom_byte c = is_small_letter c || (nat_le 65 c && nat_le c 90) || (nat_le 48 c && nat_le c 57) || c == 95 || c == 64
+
+-- whether an atom stands as it is: it begins with a small letter, and all its bytes are such
+abbrev pub is_bare : List ℕ → Bool
+is_bare name = option_map_or is_small_letter (slice_get name 0) false && list_all is_atom_byte name
+
+abbrev pub quote : ℕ
+quote = 39
+
+abbrev pub backslash : ℕ
+backslash = 92
+
+-- whether a byte is below 20 hex, or 7F
+abbrev pub is_control : ℕ → Bool
+is_control c = nat_lt c 32 || c == 127
+
+-- a byte between quotes: `'` and `\` behind a `\`, a control byte as `\x` and two hex digits, each other as it is
+abbrev pub quoted_byte : ℕ → List ℕ
+quoted_byte c =
+    if c == quote || c == backslash then backslash ∷ c ∷ []
+    else (if is_control c then codes "\\x" ++ hex_byte c else c ∷ [])
+
+abbrev pub quoted_text : List ℕ → List ℕ
+quoted_text name = quote ∷ [] ++ (flat_map quoted_byte name ++ quote ∷ [])
+
+-- the text of an atom: its bytes as they are, or quoted
+abbrev pub atom_text : List ℕ → List ℕ
+atom_text name = if is_bare name then name else quoted_text name

@@ -1,0 +1,26 @@
+-- A text with a colon has a part before its first colon and a part behind it.
+use Rattle.std.specs.Prelude.{◌≡◌, ℕ, ◌==◌, Bool, true, false, List, Option, None, Some}
+use Rattle.std.specs.List.{list_any, before_first, after_first}
+use denote.Ref.{Bor}
+
+abbrev pub colon : ℕ
+colon = 58
+
+abbrev pub is_colon : ℕ → Bool
+is_colon c = c == colon
+
+abbrev pub has_colon : List ℕ → Bool
+has_colon text = list_any is_colon text
+
+-- what stands before the first colon, or the whole text where there is none
+abbrev pub before_colon : List ℕ → List ℕ
+before_colon text = before_first is_colon text
+
+-- what follows the first colon
+abbrev pub after_colon : List ℕ → List ℕ
+after_colon text = after_first is_colon text
+
+-- the parts before and behind the first colon, or none where the text has no colon
+abbrev pub SplitsAtColon : List ℕ → Option (Bor (List ℕ) × Bor (List ℕ)) → Type 0
+SplitsAtColon text None = (has_colon text ≡ false) × (before_colon text ≡ text)
+SplitsAtColon text (Some parts) = (has_colon text ≡ true) × (parts.0.now ≡ before_colon text) × (parts.1.now ≡ after_colon text)

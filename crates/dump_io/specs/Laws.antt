@@ -1,0 +1,4 @@
+-- Laws of the definitions, each with its proof, for the proofs of callers.
+pub mod Lines
+pub mod Puts
+pub mod Reads
