@@ -1,12 +1,20 @@
 -- The maps of a heap: what the keys of a flat map are, and what the children of a hash map are. The ancestors play no part here.
-use Rattle.std.specs.Prelude.{ℕ, ◌==◌, List, [], ◌∷◌, length, Option, None, Some, if◌then◌else◌}
+use Rattle.std.specs.Prelude.{ℕ, ◌==◌, List, [], ◌∷◌, length, Option, None, Some, slice_index_or, if◌then◌else◌}
 use Rattle.term_forms.specs.Elements.{Element, Nil, Small, Atom, Pid, Port, Ref}
 use Rattle.term_forms.specs.Forms.{HeapForm, Cons, Tuple, Flat, Hash, Node}
-use Rattle.std.specs.Option.{option_map}
+use Rattle.std.specs.Option.{option_map, unwrap_or}
 use Rattle.heap_cells.specs.Cells.{Cell}
-use Rattle.heap_cells.specs.HeapMap.{number_at, form_at}
+use Rattle.heap_cells.specs.HeapMap.{number_at, address_at, form_at, elements_at}
 use Rattle.heap_cells.specs.declared.cells.Why.{Why}
 use Rattle.heap_cells.specs.declared.cells.Why.TheVariants.{Missing, Malformed}
+
+-- the address of the cell with a number
+abbrev pub address_of : List Cell → ℕ → ℕ
+address_of heap n = unwrap_or (address_at heap n) 0
+
+-- the element at a place from 0 of the form of the cell with a number
+abbrev pub element_at : List Cell → ℕ → ℕ → Element
+element_at heap n place = slice_index_or (elements_at heap n) place Nil
 
 -- the form of the cell that has the address; that cell's form is none where it is malformed
 abbrev pub form_with : List Cell → ℕ → Option (Option HeapForm)
@@ -40,6 +48,14 @@ element_keys heap map size element = bad_keys map Malformed
 abbrev pub keys_of_map : List Cell → ℕ → Element → List Element → Keys
 keys_of_map heap map keys [] = no_keys
 keys_of_map heap map keys (value ∷ values) = element_keys heap map (length (value ∷ values)) keys
+
+-- the keys of the cell with a number, where it is a flat map
+abbrev pub form_keys : List Cell → ℕ → Option HeapForm → Keys
+form_keys heap map (Some (Flat keys values)) = keys_of_map heap map keys values
+form_keys heap map form = no_keys
+
+abbrev pub keys_of_cell : List Cell → ℕ → Keys
+keys_of_cell heap n = form_keys heap (address_of heap n) (form_at heap n)
 
 -- A child of a hash map or of one of its inner nodes.
 pub data Member : Type 0 where

@@ -1,8 +1,12 @@
 //! What a term of a heap unfolds to: its first bad address, and its text, within a budget of nodes.
 #![tactic(auto)]
 
+mod children;
+mod judging;
 mod laws;
 mod node;
+mod openings;
+mod path;
 mod verdict;
 
 pub use laws::{text_is_of_first_nodes, unfolding_is_finite};
