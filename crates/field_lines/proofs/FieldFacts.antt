@@ -1,40 +1,30 @@
 -- A field by the place of its colon, and the place of a value.
-use Rattle.std.proofs.Common.{◌≡◌, ℕ, ◌+◌, ◌-◌, ◌<◌, ◌≤◌, ◌==◌, true, false, List, [], ◌∷◌, length, take, drop, None, Some, if◌then◌else◌, refl, sym, ◌∙◌, ap, subst, length-drop, drop_of_length-le, ⊎_elim, arith}
+use Rattle.std.proofs.Common.{◌≡◌, ℕ, ◌+◌, ◌-◌, ◌≤◌, ◌==◌, Bool, true, false, List, [], ◌∷◌, length, take, drop, Option, None, Some, if◌then◌else◌, refl, sym, ◌∙◌, ap, subst, length-drop, drop_of_length-le, ⊎_elim, arith}
 use Rattle.std.specs.Prelude.{unwrap_or, find, cond, slice_range}
-use Rattle.std.specs.List.{list_any, before_first, position_or_len}
-use Rattle.std.proofs.lemmas.Bool.{cases_lt, false_from_ne_true}
+use Rattle.std.specs.List.{position_or_len}
+use Rattle.std.proofs.lemmas.Bool.{cases_lt}
 use Rattle.std.proofs.lemmas.List.{drop-drop, drop-take}
-use Rattle.std.proofs.lemmas.List.Elements.{All-from_get_or}
-use Rattle.std.proofs.lemmas.List.Folds.{list_any_none, list_any_at}
-use Rattle.std.proofs.lemmas.List.Sums.{position_or_len_is}
 use Rattle.std.proofs.Math.Seq.{drop-length}
-use Rattle.memchr.specs.Find.{Passes, is_byte, Nowhere}
-use Rattle.field_lines.specs.Fields.{is_colon, Field, field_of, space, without_space, key_of, value_of, has_key, place_of}
+use Rattle.dump_io.specs.Colons.{is_colon, has_colon}
+use Rattle.field_lines.specs.Fields.{Field, field_of, space, without_space, key_of, value_of, has_key, place_of}
 use Rattle.field_lines.specs.Lines.{TextLine, IsPart}
 use Rattle.field_lines.specs.declared.shapes.FieldAt.{FieldAt}
 
--- no colon, no field
-pub field_of-none : (text : List ℕ) → Nowhere (Passes (is_byte 58) text) 0 (length text) → field_of text ≡ None
-field_of-none text none =
-    let e : list_any is_colon text ≡ false = list_any_none is_colon text (All-from_get_or (λ c. is_colon c ≡ false) text 0 (λ i l. false_from_ne_true _ (none i (omega arith) l))) in
-    ap (λ b. if b then Some (record { key = before_first is_colon text; value = value_of text }) else None) e
+-- the field of a text that has a colon, or that has none
+abbrev pub field_if : List ℕ → Bool → Option Field
+field_if text has = if has then Some (record { key = key_of text; value = value_of text }) else None
 
--- a colon at this place and none before it
-pub field_of-at : (text value : List ℕ) (k : ℕ) → k < length text → Nowhere (Passes (is_byte 58) text) 0 k → Passes (is_byte 58) text k
-    → value ≡ without_space (drop (k + 1) text) → Some (record { key = take k text; value = value }) ≡ field_of text
-field_of-at text value k fits none here e =
-    let place : position_or_len is_colon text ≡ k = position_or_len_is is_colon text k 0 (omega arith) (λ i l. false_from_ne_true _ (none i (omega arith) l)) (λ _. here) in
-    let some : list_any is_colon text ≡ true = list_any_at is_colon text k 0 fits here in
-    let key : before_first is_colon text ≡ take k text = ap (λ n. take n text) place in
-    let rest : value_of text ≡ value = ap (λ n. without_space (drop (n + 1) text)) place ∙ sym e in
-    sym (ap (λ b. if b then Some (record { key = key_of text; value = value_of text }) else None) some
-    ∙ ap (λ l. Some (record { key = l; value = value_of text })) key
-    ∙ ap (λ l. Some (record { key = take k text; value = l })) rest)
+pub field_of-parts : (text key value : List ℕ) → has_colon text ≡ true → key ≡ key_of text → value ≡ value_of text
+    → Some (record { key = key; value = value }) ≡ field_of text
+field_of-parts text key value has first rest =
+    ap (λ l. Some (record { key = l; value = value })) first
+    ∙ ap (λ l. Some (record { key = key_of text; value = l })) rest
+    ∙ sym (ap (field_if text) has)
 
 -- the value of a field that was found
 pub field_of-value : (text : List ℕ) (field : Field) → Some field ≡ field_of text → field.value ≡ value_of text
 field_of-value text field =
-    elim (list_any is_colon text) as (λ b. Some field ≡ (if b then Some (record { key = key_of text; value = value_of text }) else None) → field.value ≡ value_of text) [
+    elim (has_colon text) as (λ b. Some field ≡ (if b then Some (record { key = key_of text; value = value_of text }) else None) → field.value ≡ value_of text) [
       | true ↦ λ e. ap (λ o. (unwrap_or o field).value) e
       | false ↦ λ e. absurd (cc e)
     ]

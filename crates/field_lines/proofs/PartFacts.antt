@@ -6,7 +6,7 @@ use Rattle.std.proofs.lemmas.List.{length-take-le, take-append-le}
 use Rattle.std.proofs.lemmas.List.Elements.{All-nil, All-cons}
 use Rattle.std.proofs.Math.Seq.{take-length, drop-append_seam}
 use Rattle.dump_io.specs.Lines.{lf, cr, lines_after, raw_lines, text_of, lines_from}
-use Rattle.dump_io.proofs.LineLaws.{AreLines-raw}
+use Rattle.dump_io.specs.Laws.Lines.{AreLines-raw}
 use Rattle.field_lines.specs.Lines.{text_line, text_lines, IsPart}
 
 -- ---- no more lines than bytes

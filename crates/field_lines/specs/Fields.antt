@@ -1,38 +1,37 @@
 -- The fields of a body: its lines with a colon.
 use Rattle.std.specs.Prelude.{ℕ, ◌+◌, ◌-◌, ◌==◌, Bool, ◌&&◌, List, [], ◌∷◌, length, Option, None, Some, find, option_map, if◌then◌else◌}
-use Rattle.std.specs.List.{list_any, before_first, after_first}
 use Rattle.std.specs.Str.{bytes_eq}
+use Rattle.dump_io.specs.Colons.{has_colon, before_colon, after_colon}
 use Rattle.field_lines.specs.declared.shapes.FieldAt.{FieldAt}
 use Rattle.field_lines.specs.Lines.{TextLine, text_lines}
-
-abbrev pub is_colon : ℕ → Bool
-is_colon c = c == 58
 
 abbrev pub space : ℕ
 space = 32
 
+-- bytes without one space at their beginning
 abbrev pub without_space : List ℕ → List ℕ
 without_space [] = []
 without_space (c ∷ bytes) = if c == space then bytes else c ∷ bytes
 
 -- a key is what stands before the first colon, and a value what follows it, less one space directly after it
 abbrev pub key_of : List ℕ → List ℕ
-key_of text = before_first is_colon text
+key_of text = before_colon text
 
 abbrev pub value_of : List ℕ → List ℕ
-value_of text = without_space (after_first is_colon text)
+value_of text = without_space (after_colon text)
 
+-- the key and the value of a line
 pub record Field : Type 0 where
   pub key : List ℕ
   pub value : List ℕ
 
 -- the field of a text, where the text has a colon
 abbrev pub field_of : List ℕ → Option Field
-field_of text = if list_any is_colon text then Some (record { key = key_of text; value = value_of text }) else None
+field_of text = if has_colon text then Some (record { key = key_of text; value = value_of text }) else None
 
 -- whether the line is a field with this key
 abbrev pub has_key : List ℕ → TextLine → Bool
-has_key key line = list_any is_colon line.text && bytes_eq (key_of line.text) key
+has_key key line = has_colon line.text && bytes_eq (key_of line.text) key
 
 -- the first field line with this key
 abbrev pub find_line : List ℕ → List ℕ → Option TextLine

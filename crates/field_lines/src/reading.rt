@@ -5,7 +5,7 @@ ghost use Rattle.field_lines.specs.Fields.{field_of, find_field, find_value, has
 ghost use Rattle.field_lines.specs.Shown.{shown_field, shown_line};
 
 use crate::shapes::{FieldAt, Line, Lines};
-use memchr::memchr;
+use dump_io::split_at_colon;
 
 /// The lines of a body, in order. Each ends behind its LF, and a last line without LF is one too.
 pub fn lines(body: &[u8]) -> Lines<'_>
@@ -16,6 +16,7 @@ pub fn lines(body: &[u8]) -> Lines<'_>
     Lines::new(body)
 }
 
+// The bytes without one space at their beginning.
 fn value(bytes: &[u8]) -> &[u8]
     ensures { result.now ≡ without_space bytes.now }
 {
@@ -30,8 +31,8 @@ fn value(bytes: &[u8]) -> &[u8]
 pub fn field(text: &[u8]) -> Option<(&[u8], &[u8])>
     ensures { shown_field result ≡ field_of text.now }
 {
-    let colon = memchr(b':', text)?;
-    Some((&text[..colon], value(&text[colon + 1..])))
+    let (key, rest) = split_at_colon(text)?;
+    Some((key, value(rest)))
 }
 
 // The place of the line's field, where it has this key.

@@ -1,10 +1,11 @@
 // A line, the lines that are still to come, and the place of a field.
 ghost use Rattle.std.specs.Prelude.{◌≡◌, ◌+◌, ◌<◌, ◌≤◌, ◌∷◌, length, take, drop, All};
 ghost use Rattle.std.specs.Iterator.{YieldsFirstBy, item_count};
-ghost use Rattle.dump_io.specs.Lines.{raw_lines, text_of};
+ghost use Rattle.dump_io.specs.Lines.{raw_lines};
 ghost use Rattle.field_lines.specs.Lines.{text_lines, IsPart};
 ghost use Rattle.field_lines.specs.Shown.{shown_line};
 
+use dump_io::line_text;
 use memchr::memchr;
 use std::marker::Model;
 
@@ -67,15 +68,6 @@ fn line_len(bytes: &[u8]) -> usize
     }
 }
 
-fn text(raw: &[u8]) -> &[u8]
-    ensures { result.now ≡ text_of raw.now }
-{
-    if let Some(text) = raw.strip_suffix(b"\r\n") {
-        return text;
-    }
-    raw.strip_suffix(b"\n").unwrap_or(raw)
-}
-
 impl<'a> Iterator for Lines<'a> {
     type Item = Line<'a>;
 
@@ -91,7 +83,7 @@ impl<'a> Iterator for Lines<'a> {
         let len = line_len(rest);
         let line = Line {
             at: self.at,
-            text: text(&rest[..len]),
+            text: line_text(&rest[..len]),
         };
         self.at += len;
         Some(line)

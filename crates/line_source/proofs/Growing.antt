@@ -1,9 +1,9 @@
 -- What more bytes bring to a stream begins behind what the stream has.
-use Rattle.std.proofs.Common.{◌≡◌, ℕ, ◌+◌, ◌-◌, ◌<◌, ◌≤◌, Bool, true, false, List, [], ◌∷◌, ◌++◌, length, Some, suc, refl, sym, ◌∙◌, ap, subst, length-append, arith, if◌then◌else◌, ◌==◌}
+use Rattle.std.proofs.Common.{◌≡◌, ℕ, ◌+◌, ◌-◌, ◌<◌, ◌≤◌, Bool, true, false, List, [], ◌∷◌, ◌++◌, length, Some, suc, sym, ◌∙◌, ap, subst, length-append, arith, if◌then◌else◌, ◌==◌}
 use Rattle.std.specs.Prelude.{All, slice_get}
 use Rattle.std.proofs.lemmas.List.Elements.{All-nil, All-cons, All-head, All-append, All-weaker}
 use Rattle.dump_io.specs.Lines.{Header}
-use Rattle.line_source.specs.Streams.{LastLine, ended, plain, header, last_line, ended_headers, open_headers, new_headers, too_long}
+use Rattle.line_source.specs.Streams.{LastLine, ended, plain, header, last_line, ended_headers, open_headers, new_headers}
 use Rattle.line_source.specs.Feeding.{first_too_long}
 use Rattle.line_source.specs.Growth.{TooLongGrows}
 use Rattle.line_source.proofs.Walk.{step, long_at, last_by, heard_by, long_by, last_line-walk, ended_headers-walk, too_long-walk}

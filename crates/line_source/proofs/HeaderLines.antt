@@ -8,8 +8,9 @@ use Rattle.memchr.specs.Find.{Nowhere, Passes, is_byte}
 use Rattle.dump_io.specs.Lines.{lf, text_of, Header}
 use Rattle.line_source.specs.Streams.{LastLine, ended, plain, header, new_headers, headers_before, too_long}
 use Rattle.line_source.specs.Scan.{Scan, StandsFor}
-use Rattle.line_source.specs.Receiver.{Refusal}
-use Rattle.line_source.specs.Feeding.{header_bytes, is_header_line, EndsTooLong, EndsRefused}
+use Rattle.line_source.specs.declared.header_sink.RefusedHeader.{RefusedHeader}
+use Rattle.line_source.specs.Inner.Ends.{EndsTooLong, EndsRefused}
+use Rattle.line_source.specs.Inner.LastLine.{header_bytes, is_header_line}
 use Rattle.line_source.proofs.Walk.{last_by, heard_by, long_by, last_by-append, heard_by-append, long_by-append}
 use Rattle.line_source.proofs.Pieces.{Lies, held, heard_by-lies, long_by-from, filter-none}
 use Rattle.line_source.proofs.Stretches.{lacks_lf, last_by-header, heard_by-header, long_by-header, passes}
@@ -82,17 +83,17 @@ EndsTooLong-here scan s t x more before after stands line within low lacks over 
     }
 
 -- a header that is refused
-pub EndsRefused-here : (scan : Scan) (s t x more : List ℕ) (before after : List Header) (stop : Option Refusal) (refusal : Refusal) → StandsFor scan s → scan.last ≡ header t
+pub EndsRefused-here : (scan : Scan) (s t x more : List ℕ) (before after : List Header) (stop : Option RefusedHeader) (refused : RefusedHeader) → StandsFor scan s → scan.last ≡ header t
     → length t ≤ scan.offset → lacks_lf x ≡ true → length t + length x ≤ scan.limit → after ≡ before
-    → stop ≡ Some refusal → refusal.at ≡ scan.offset + length x - length (t ++ x) → refusal.size ≡ length (text_of ((t ++ x) ++ lf ∷ []))
+    → stop ≡ Some refused → refused.at ≡ scan.offset + length x - length (t ++ x) → refused.size ≡ length (text_of ((t ++ x) ++ lf ∷ []))
     → EndsRefused scan.limit s (x ++ lf ∷ more) before after stop
-EndsRefused-here scan s t x more before after stop refusal stands line low lacks fits same kept at size =
+EndsRefused-here scan s t x more before after stop refused stands line low lacks fits same kept at size =
     let p = x ++ lf ∷ more in
     let next = scan.offset + length x + 1 in
     let longs : too_long scan.limit (s ++ p) ≡ long_by scan.limit next ended more =
     too_long-walked scan s p stands ∙ ap (λ l. long_by scan.limit scan.offset l p) line ∙ long_by-line scan.limit scan.offset t x more low lacks fits in
     record {
-      refusal = refusal;
+      refused = refused;
       kept = kept;
       among = record {
         heard = [];
@@ -103,8 +104,8 @@ EndsRefused-here scan s t x more before after stop refusal stands line low lacks
         at = at;
         size = size;
       };
-      short = All-same (λ at. refusal.at < at) (too_long scan.limit (s ++ p)) (long_by scan.limit next ended more) longs
-          (All-weaker (λ at. next - 0 ≤ at) (λ at. refusal.at < at) (λ long le. omega (arith, at, le))
+      short = All-same (λ at. refused.at < at) (too_long scan.limit (s ++ p)) (long_by scan.limit next ended more) longs
+          (All-weaker (λ at. next - 0 ≤ at) (λ at. refused.at < at) (λ long le. omega (arith, at, le))
           (long_by scan.limit next ended more) (long_by-from scan.limit next ended more (omega arith)));
     }
 

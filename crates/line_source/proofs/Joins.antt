@@ -6,10 +6,12 @@ use Rattle.std.proofs.lemmas.List.{take_rest, take-append-drop, take-take, drop-
 use Rattle.std.proofs.lemmas.List.Elements.{All-weaker, All-same, All-head, filter-append}
 use Rattle.dump_io.specs.Lines.{Header}
 use Rattle.line_source.specs.Streams.{last_line, new_headers, headers_before, too_long}
-use Rattle.line_source.specs.Receiver.{Refusal}
+use Rattle.line_source.specs.declared.header_sink.RefusedHeader.{RefusedHeader}
 use Rattle.line_source.specs.declared.scan_fault.ScanFault.{ScanFault}
 use Rattle.line_source.specs.declared.scan_fault.ScanFault.TheVariants.{HeaderTooLong, Stop}
-use Rattle.line_source.specs.Feeding.{first_too_long, refusal_value, EndsTooLong, EndsRefused, Ends}
+use Rattle.line_source.specs.Feeding.{first_too_long}
+use Rattle.line_source.specs.Inner.Ends.{EndsTooLong, EndsRefused, Ends}
+use Rattle.line_source.specs.Receiver.{stop_value}
 use Rattle.line_source.proofs.Walk.{last_by, heard_by, long_by}
 use Rattle.line_source.proofs.Pieces.{Lies, held, held-line, last_line-append, too_long-append, heard_by-lies, long_by-from, filter-all, new_headers-walk, new_headers-append}
 
@@ -68,11 +70,11 @@ EndsTooLong-later limit s a b before middle after at short heard ends = record {
       ∙ ap (headers_before at) (sym (new_headers-append s a b)));
 }
 
-EndsRefused-later : (limit : ℕ) (s a b : List ℕ) (before middle after : List Header) (stop : Option Refusal)
+EndsRefused-later : (limit : ℕ) (s a b : List ℕ) (before middle after : List Header) (stop : Option RefusedHeader)
     → middle ≡ before ++ new_headers s a → EndsRefused limit (s ++ a) b middle after stop → EndsRefused limit s (a ++ b) before after stop
 EndsRefused-later limit s a b before middle after stop heard ends =
     let among = ends.among in record {
-      refusal = ends.refusal;
+      refused = ends.refused;
       kept = ends.kept;
       among = record {
         heard = new_headers s a ++ among.heard;
@@ -83,10 +85,10 @@ EndsRefused-later limit s a b before middle after stop heard ends =
         at = among.at;
         size = among.size;
       };
-      short = All-same (λ at. ends.refusal.at < at) (too_long limit (s ++ (a ++ b))) (too_long limit ((s ++ a) ++ b)) (ap (too_long limit) (sym (append_assoc s a b))) ends.short;
+      short = All-same (λ at. ends.refused.at < at) (too_long limit (s ++ (a ++ b))) (too_long limit ((s ++ a) ++ b)) (ap (too_long limit) (sym (append_assoc s a b))) ends.short;
     }
 
-pub Ends-later : (limit : ℕ) (s a b : List ℕ) (before middle after : List Header) (stop : Option Refusal) (fault : ScanFault) → too_long limit (s ++ a) ≡ []
+pub Ends-later : (limit : ℕ) (s a b : List ℕ) (before middle after : List Header) (stop : Option RefusedHeader) (fault : ScanFault) → too_long limit (s ++ a) ≡ []
     → middle ≡ before ++ new_headers s a → Ends limit (s ++ a) b middle after stop fault → Ends limit s (a ++ b) before after stop fault
 Ends-later limit s a b before middle after stop (HeaderTooLong at) short heard ends = EndsTooLong-later limit s a b before middle after at short heard ends
 Ends-later limit s a b before middle after stop (Stop value) short heard ends = EndsRefused-later limit s a b before middle after stop heard ends
@@ -94,6 +96,6 @@ Ends-later limit s a b before middle after stop (Stop value) short heard ends = 
 pub new_headers-none : (s : List ℕ) → new_headers s [] ≡ []
 new_headers-none s = new_headers-walk s []
 
-pub refusal-none : (stop : Option Refusal) → refusal_value stop ≡ None → stop ≡ None
-refusal-none None is = refl
-refusal-none (Some refusal) is = cc
+pub refused-none : (stop : Option RefusedHeader) → stop_value stop ≡ None → stop ≡ None
+refused-none None is = refl
+refused-none (Some refused) is = cc

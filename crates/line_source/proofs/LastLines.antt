@@ -8,8 +8,9 @@ use Rattle.std.proofs.lemmas.List.{length_push, drop-drop}
 use Rattle.dump_io.specs.Lines.{lf, cr, equals_sign, raw_lines, Line, lines_from, text_of, is_header, Header, header_of, headers}
 use Rattle.line_source.specs.Streams.{has_lf, begins_with_equals, LastLine, ended, plain, header, last_line, ended_headers, open_headers}
 use Rattle.line_source.specs.Scan.{Scan, StandsFor}
-use Rattle.line_source.specs.Receiver.{Refusal}
-use Rattle.line_source.specs.Feeding.{header_bytes, is_header_line, StopsAmong}
+use Rattle.line_source.specs.declared.header_sink.RefusedHeader.{RefusedHeader}
+use Rattle.line_source.specs.Feeding.{StopsAmong}
+use Rattle.line_source.specs.Inner.LastLine.{header_bytes, is_header_line}
 use Rattle.line_source.proofs.Walk.{step, last_by, IsOpen, IsOpen-nil, IsOpen-push, has_lf-push, lines_behind, open_kind, step-lf, raw_lines-ends, raw_lines-last, push-first, open_kind-push, begins-head, and-true, and-false, ended_of, ended_of-cons, ended_of-none, line_at, last_line-walk}
 
 -- a line that ends with CR and LF ends with LF
@@ -170,11 +171,11 @@ pub open_headers-other : (scan : Scan) (s : List ℕ) → StandsFor scan s → i
 open_headers-other scan s stands is = open_headers-of scan s stands ∙ open_by-other scan.offset scan.last is
 
 -- that header is refused
-pub StopsAmong-last : (scan : Scan) (s : List ℕ) (before after : List Header) (kept refusal : Refusal) → StandsFor scan s → is_header_line scan.last ≡ true → after ≡ before
-    → Some kept ≡ Some refusal → kept.at ≡ scan.offset - length (header_bytes scan.last) → kept.size ≡ length (header_bytes scan.last)
-    → StopsAmong before after refusal (open_headers s)
-StopsAmong-last scan s before after kept refusal stands is same stop at size =
-    let one : kept ≡ refusal = cc in
+pub StopsAmong-last : (scan : Scan) (s : List ℕ) (before after : List Header) (kept refused : RefusedHeader) → StandsFor scan s → is_header_line scan.last ≡ true → after ≡ before
+    → Some kept ≡ Some refused → kept.at ≡ scan.offset - length (header_bytes scan.last) → kept.size ≡ length (header_bytes scan.last)
+    → StopsAmong before after refused (open_headers s)
+StopsAmong-last scan s before after kept refused stands is same stop at size =
+    let one : kept ≡ refused = cc in
     record {
       heard = [];
       next = record { at = scan.offset - length (header_bytes scan.last); body = scan.offset; text = header_bytes scan.last };

@@ -7,4 +7,3 @@ pub mod Scans
 pub mod StartPlaces
 pub mod Stretches
 pub mod Walk
-pub mod Wholes

@@ -5,7 +5,7 @@ use Rattle.std.proofs.lemmas.List.{take_more}
 use Rattle.memchr.specs.Find.{Nowhere}
 use Rattle.dump_io.specs.Lines.{lf, equals_sign}
 use Rattle.line_source.specs.Streams.{ended, plain, header, last_line, new_headers, too_long}
-use Rattle.line_source.specs.Starts.{begins_line, BeginsHeader}
+use Rattle.line_source.specs.Inner.Starts.{begins_line, BeginsHeader}
 use Rattle.line_source.specs.Scan.{Scan, StandsFor}
 use Rattle.line_source.proofs.Walk.{last_by, heard_by, long_by, last_by-append, heard_by-append, long_by-append}
 use Rattle.line_source.proofs.Pieces.{last_line-append, too_long-append, new_headers-walk}

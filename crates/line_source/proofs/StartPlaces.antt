@@ -4,7 +4,7 @@ use Rattle.std.proofs.lemmas.Bool.{cases_lt, eq-eqb, eqb-true, both_ways}
 use Rattle.std.proofs.lemmas.List.{get_or-drop, take_rest}
 use Rattle.memchr.specs.Find.{Nowhere, Passes, is_byte}
 use Rattle.dump_io.specs.Lines.{equals_sign}
-use Rattle.line_source.specs.Starts.{begins_line, BeginsHeader}
+use Rattle.line_source.specs.Inner.Starts.{begins_line, BeginsHeader}
 
 -- no equals sign stands in the m bytes from place `from` on
 pub Nowhere-more : (begun : Bool) (bytes : List ℕ) (from m : ℕ) → Nowhere (BeginsHeader begun bytes) 0 from

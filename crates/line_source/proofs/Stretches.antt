@@ -6,7 +6,7 @@ use Rattle.std.proofs.lemmas.List.{length_push, get_or-take, length-take-le}
 use Rattle.memchr.specs.Find.{Nowhere}
 use Rattle.dump_io.specs.Lines.{lf, equals_sign}
 use Rattle.line_source.specs.Streams.{LastLine, ended, plain, header}
-use Rattle.line_source.specs.Starts.{begins_line, BeginsHeader}
+use Rattle.line_source.specs.Inner.Starts.{begins_line, BeginsHeader}
 use Rattle.line_source.proofs.Walk.{step, heard_at, long_at, last_by, heard_by, long_by}
 
 -- a last line that is no header's

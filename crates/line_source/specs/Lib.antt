@@ -1,7 +1,6 @@
 pub mod Feeding
 pub mod Growth
+pub mod Inner
 pub mod Receiver
 pub mod Scan
-pub mod Starts
-pub mod State
 pub mod Streams

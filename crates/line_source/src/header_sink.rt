@@ -1,7 +1,8 @@
 // What hears the headers of a stream.
-ghost use Rattle.std.specs.Prelude.{◌≡◌, ℕ, List, Option, None, length};
+ghost use Rattle.std.specs.Prelude.{◌≡◌, List, Option, None};
 ghost use Rattle.dump_io.specs.Lines.{Header};
-ghost use Rattle.line_source.specs.Receiver.{Refusal, Hears};
+ghost use Rattle.line_source.specs.declared.header_sink.RefusedHeader.{RefusedHeader};
+ghost use Rattle.line_source.specs.Receiver.{Hears};
 
 /// Why a header was refused. `at` is the offset at which its line begins, in bytes from 0.
 #[derive(Clone, Copy, Debug, PartialEq, Eq)]
@@ -14,13 +15,24 @@ pub enum HeaderStop {
     Memory,
 }
 
+/// A header that was refused.
+#[derive(Clone, Copy, Debug, PartialEq, Eq)]
+pub struct RefusedHeader {
+    /// Why it was refused.
+    pub value: HeaderStop,
+    /// The offset at which its line begins.
+    pub at: u64,
+    /// How many bytes its text has.
+    pub size: usize,
+}
+
 /// What hears headers, one after another, until it refuses one.
 pub trait HeaderSink {
     /// The headers that were heard, in order.
     ghost heard: { Self → List Header };
 
-    /// The refusal, once there is one.
-    ghost stop: { Self → Option Refusal };
+    /// The header that was refused, once there is one.
+    ghost stop: { Self → Option RefusedHeader };
 
     /// Hears a header: the offset at which its line begins, the offset at which that line ends, behind its
     /// LF if it has one, and its text, without the LF and one CR before it. Offsets count bytes from 0.

@@ -3,6 +3,7 @@ ghost use Rattle.std.specs.Prelude.{◌≡◌, ◌+◌, ◌≤◌, List, [], ◌
 
 use std::marker::Model;
 
+/// The most bytes of a header's line that a scan keeps.
 pub const MOST: usize = 4_096;
 
 /// The bytes of a header's line that have come, at most 4,096.
@@ -14,12 +15,13 @@ pub struct KeptLine {
 
 impl Model for KeptLine {
     ghost use Rattle.std.specs.Prelude.{ℕ, ◌≤◌, List, take};
+    ghost use Rattle.line_source.specs.declared.kept_line.TheConstants.{MOST};
 
     ghost Value = { List ℕ };
 
     ghost view = { λ line. take line.len line.bytes };
 
-    ghost invariant = { λ line. line.len ≤ 4096 };
+    ghost invariant = { λ line. line.len ≤ MOST };
 }
 
 impl KeptLine {
@@ -36,7 +38,7 @@ impl KeptLine {
     /// How many bytes there are.
     pub fn len(&self) -> usize
         ensures count { result ≡ length self.now }
-        ensures most { result ≤ 4096 }
+        ensures most { result ≤ MOST }
     {
         self.len
     }
@@ -58,7 +60,7 @@ impl KeptLine {
 
     /// Puts more bytes behind those that have come.
     pub fn extend(&mut self, more: &[u8])
-        requires { length self.old + length more.now ≤ 4096 }
+        requires { length self.old + length more.now ≤ MOST }
         ensures { self.new ≡ self.old ++ more.now }
     {
         put(&mut self.bytes, self.len, more);

@@ -17,7 +17,7 @@ mod line_scan;
 mod scan_fault;
 mod starts;
 
-pub use header_sink::{HeaderSink, HeaderStop};
+pub use header_sink::{HeaderSink, HeaderStop, RefusedHeader};
 pub use laws::streams_grow;
 pub use line_scan::LineScan;
 pub use scan_fault::ScanFault;

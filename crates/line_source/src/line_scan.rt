@@ -3,13 +3,18 @@ ghost use Rattle.std.specs.Prelude.{◌≡◌, ◌+◌, ◌-◌, ◌<◌, ◌≤
 ghost use Rattle.dump_io.specs.Lines.{Header, headers, lf, equals_sign, text_of};
 ghost use Rattle.line_source.specs.Streams.{LastLine, ended, plain, header, last_line, too_long, ended_headers, new_headers, open_headers, headers_before};
 ghost use Rattle.line_source.specs.Scan.{Scan, StandsFor};
-ghost use Rattle.line_source.specs.Receiver.{Refusal, Hears};
-ghost use Rattle.line_source.specs.Feeding.{first_too_long, header_bytes, is_header_line, refusal_value, stop_of, IsStop, StopsAmong, Ends, IsCutShort, IsRefused};
+ghost use Rattle.line_source.specs.declared.header_sink.RefusedHeader.{RefusedHeader};
+ghost use Rattle.line_source.specs.Receiver.{Hears};
+ghost use Rattle.line_source.specs.Feeding.{first_too_long, stop_of, IsStop, StopsAmong};
+ghost use Rattle.line_source.specs.Inner.Ends.{Ends};
+ghost use Rattle.line_source.specs.Inner.LastLine.{header_bytes, is_header_line};
+ghost use Rattle.line_source.specs.Receiver.{stop_value};
 
 use crate::header_sink::{HeaderSink, HeaderStop};
-use crate::kept_line::KeptLine;
+use crate::kept_line::{KeptLine, MOST};
 use crate::scan_fault::ScanFault;
-use crate::starts::{header_start, text_before_lf};
+use crate::starts::header_start;
+use dump_io::text_before_lf;
 use memchr::memchr;
 use std::marker::Model;
 
@@ -42,10 +47,11 @@ pub struct LineScan {
 impl Model for LineScan {
     ghost use Rattle.std.specs.Prelude.{ℕ, ◌≤◌, length};
     ghost use Rattle.line_source.specs.Scan.{Scan};
+    ghost use Rattle.line_source.specs.declared.kept_line.TheConstants.{MOST};
 
     ghost Value = { Scan };
 
-    ghost use Rattle.line_source.specs.State.{last_in};
+    ghost use Rattle.line_source.specs.Inner.State.{last_in};
 
     ghost view = { λ scan. record {
       limit = scan.limit;
@@ -56,7 +62,7 @@ impl Model for LineScan {
 
     ghost invariant = { λ scan.
         (1 ≤ scan.limit)
-        × (scan.limit ≤ 4096)
+        × (scan.limit ≤ MOST)
         × (length scan.kept ≤ scan.limit)
         × (length scan.kept ≤ scan.offset) };
 }
@@ -66,7 +72,7 @@ impl LineScan {
     /// its LF. It takes no memory.
     pub fn new(limit: u16) -> LineScan
         requires some { 1 ≤ limit }
-        requires most { limit ≤ 4096 }
+        requires most { limit ≤ MOST }
         ensures stands { StandsFor result [] }
         ensures limit { result.limit ≡ limit }
         ensures spent { result.spent ≡ false }
@@ -101,7 +107,7 @@ impl LineScan {
         ensures limit { self.new.limit ≡ self.old.limit }
         ensures offset { OnOk result (self.new.offset ≡ self.old.offset + length piece.now) }
         ensures spent { self.new.spent ≡ is_err result }
-        ensures stop { refusal_value (H.stop into.new) ≡ stop_of result }
+        ensures stop { stop_value (H.stop into.new) ≡ stop_of result }
         ensures open { OnOk result (H.stop into.new ≡ None) }
         ensures stands { OnOk result ((stream : List ℕ) → StandsFor self.old stream
             → StandsFor self.new (stream ++ piece.now)) }
@@ -115,23 +121,11 @@ impl LineScan {
             → (at : ℕ) → IsErrOf result (ScanFault.HeaderTooLong at)
             → H.heard into.new ≡ H.heard into.old ++ headers_before at (new_headers stream piece.now) }
         ensures refused { (stream : List ℕ) → StandsFor self.old stream
-            → (refusal : Refusal) → H.stop into.new ≡ Some refusal
-            → StopsAmong (H.heard into.old) (H.heard into.new) refusal (new_headers stream piece.now) }
+            → (refused : RefusedHeader) → H.stop into.new ≡ Some refused
+            → StopsAmong (H.heard into.old) (H.heard into.new) refused (new_headers stream piece.now) }
         ensures refused_is_short { (stream : List ℕ) → StandsFor self.old stream
-            → (refusal : Refusal) → H.stop into.new ≡ Some refusal
-            → All (λ at. refusal.at < at) (too_long self.old.limit (stream ++ piece.now)) }
-        // The same of the whole stream, however it goes on, where all its headers so far were heard.
-        ensures all_heard { OnOk result ((stream : List ℕ) → StandsFor self.old stream
-            → H.heard into.old ≡ ended_headers stream
-            → H.heard into.new ≡ ended_headers (stream ++ piece.now)) }
-        ensures cut_short { (stream rest : List ℕ) → StandsFor self.old stream
-            → H.heard into.old ≡ ended_headers stream
-            → (at : ℕ) → IsErrOf result (ScanFault.HeaderTooLong at)
-            → IsCutShort self.old.limit (stream ++ piece.now ++ rest) (H.heard into.new) at }
-        ensures refused_of_all { (stream rest : List ℕ) → StandsFor self.old stream
-            → H.heard into.old ≡ ended_headers stream
-            → (refusal : Refusal) → H.stop into.new ≡ Some refusal
-            → IsRefused self.old.limit (stream ++ piece.now ++ rest) (H.heard into.new) refusal }
+            → (refused : RefusedHeader) → H.stop into.new ≡ Some refused
+            → All (λ at. refused.at < at) (too_long self.old.limit (stream ++ piece.now)) }
     {
         let result = self.take_all(piece, into);
         self.spent = result.is_err();
@@ -145,23 +139,14 @@ impl LineScan {
         requires fresh { self.old.spent ≡ false }
         requires open { H.stop into.old ≡ None }
         ensures spent { self.new.spent ≡ true }
-        ensures stop { refusal_value (H.stop into.new) ≡ stop_of result }
+        ensures stop { stop_value (H.stop into.new) ≡ stop_of result }
         ensures only_stop { IfErr result IsStop }
         ensures heard { OnOk result ((stream : List ℕ) → StandsFor self.old stream
             → H.heard into.new ≡ H.heard into.old ++ open_headers stream) }
         ensures unheard { OnErr result (H.heard into.new ≡ H.heard into.old) }
         ensures refused { (stream : List ℕ) → StandsFor self.old stream
-            → (refusal : Refusal) → H.stop into.new ≡ Some refusal
-            → StopsAmong (H.heard into.old) (H.heard into.new) refusal (open_headers stream) }
-        // The same of the whole stream, where all its headers so far were heard.
-        ensures all_heard { OnOk result ((stream : List ℕ) → StandsFor self.old stream
-            → H.heard into.old ≡ ended_headers stream → H.heard into.new ≡ headers stream) }
-        ensures none_too_long { (stream : List ℕ) → StandsFor self.old stream
-            → too_long self.old.limit stream ≡ [] }
-        ensures refused_of_all { (stream : List ℕ) → StandsFor self.old stream
-            → H.heard into.old ≡ ended_headers stream
-            → (refusal : Refusal) → H.stop into.new ≡ Some refusal
-            → IsRefused self.old.limit stream (H.heard into.new) refusal }
+            → (refused : RefusedHeader) → H.stop into.new ≡ Some refused
+            → StopsAmong (H.heard into.old) (H.heard into.new) refused (open_headers stream) }
     {
         let result = self.hear_last(into);
         self.spent = true;
@@ -171,14 +156,14 @@ impl LineScan {
     // Lets the receiver hear the last header where its line lacks its LF.
     fn hear_last<H: HeaderSink>(&self, into: &mut H) -> Result<(), ScanFault>
         requires open { H.stop into.old ≡ None }
-        ensures stop { refusal_value (H.stop into.new) ≡ stop_of result }
+        ensures stop { stop_value (H.stop into.new) ≡ stop_of result }
         ensures only_stop { IfErr result IsStop }
         ensures heard { OnOk result ((stream : List ℕ) → StandsFor self.now stream
             → H.heard into.new ≡ H.heard into.old ++ open_headers stream) }
         ensures unheard { OnErr result (H.heard into.new ≡ H.heard into.old) }
         ensures refused { (stream : List ℕ) → StandsFor self.now stream
-            → (refusal : Refusal) → H.stop into.new ≡ Some refusal
-            → StopsAmong (H.heard into.old) (H.heard into.new) refusal (open_headers stream) }
+            → (refused : RefusedHeader) → H.stop into.new ≡ Some refused
+            → StopsAmong (H.heard into.old) (H.heard into.new) refused (open_headers stream) }
     {
         if self.in_header() {
             self.hear_open(into)?;
@@ -326,7 +311,7 @@ impl LineScan {
         ensures within { IfOk result (λ n. (1 ≤ n) × (n ≤ length rest.now)) }
         ensures offset { IfOk result (λ n. self.new.offset ≡ self.old.offset + n) }
         ensures limit { self.new.limit ≡ self.old.limit }
-        ensures stop { refusal_value (H.stop into.new) ≡ stop_of result }
+        ensures stop { stop_value (H.stop into.new) ≡ stop_of result }
         ensures stands { IfOk result (λ n. (stream : List ℕ) → StandsFor self.old stream
             → StandsFor self.new (stream ++ take n rest.now)) }
         ensures heard { IfOk result (λ n. (stream : List ℕ) → StandsFor self.old stream
@@ -363,7 +348,7 @@ impl LineScan {
         ensures within { IfOk result (λ n. (1 ≤ n) × (n ≤ length rest.now)) }
         ensures offset { IfOk result (λ n. self.new.offset ≡ self.old.offset + n) }
         ensures limit { self.new.limit ≡ self.old.limit }
-        ensures stop { refusal_value (H.stop into.new) ≡ stop_of result }
+        ensures stop { stop_value (H.stop into.new) ≡ stop_of result }
         ensures stands { IfOk result (λ n. (stream : List ℕ) → StandsFor self.old stream
             → StandsFor self.new (stream ++ take n rest.now)) }
         ensures heard { IfOk result (λ n. (stream : List ℕ) → StandsFor self.old stream
@@ -385,7 +370,7 @@ impl LineScan {
         requires open { H.stop into.old ≡ None }
         ensures offset { OnOk result (self.new.offset ≡ self.old.offset + length piece.now) }
         ensures limit { self.new.limit ≡ self.old.limit }
-        ensures stop { refusal_value (H.stop into.new) ≡ stop_of result }
+        ensures stop { stop_value (H.stop into.new) ≡ stop_of result }
         ensures stands { OnOk result ((stream : List ℕ) → StandsFor self.old stream
             → StandsFor self.new (stream ++ piece.now)) }
         ensures heard { OnOk result ((stream : List ℕ) → StandsFor self.old stream

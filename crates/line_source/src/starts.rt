@@ -1,8 +1,7 @@
 // Where headers begin within a part of the stream.
-ghost use Rattle.std.specs.Prelude.{◌≡◌, ◌<◌, ◌++◌, ◌∷◌, [], length};
+ghost use Rattle.std.specs.Prelude.{◌≡◌, ◌<◌, length};
 ghost use Rattle.memchr.specs.Find.{IsFirst};
-ghost use Rattle.dump_io.specs.Lines.{lf, text_of};
-ghost use Rattle.line_source.specs.Starts.{begins_line, BeginsHeader};
+ghost use Rattle.line_source.specs.Inner.Starts.{begins_line, BeginsHeader};
 
 use memchr::memchr;
 
@@ -31,14 +30,4 @@ pub fn header_start(bytes: &[u8], begun: bool) -> Option<usize>
         from = at + 1;
     }
     None
-}
-
-// The text of the line that these bytes and an LF make.
-pub fn text_before_lf(line: &[u8]) -> &[u8]
-    ensures { result.now ≡ text_of (line.now ++ lf ∷ []) }
-{
-    match line {
-        [text @ .., b'\r'] => text,
-        _ => line,
-    }
 }

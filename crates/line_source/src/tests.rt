@@ -1,8 +1,7 @@
 ghost use Rattle.std.specs.Prelude.{◌≡◌, ◌<◌, ◌≤◌, ◌^◌, ◌+◌, ◌++◌, ◌∷◌, [], false, None, OnOk, OnErr, length, map};
-ghost use Rattle.std.specs.Option.{option_map};
 ghost use Rattle.dump_io.specs.Lines.{Header};
 
-use crate::{HeaderSink, HeaderStop, LineScan, ScanFault};
+use crate::{HeaderSink, HeaderStop, LineScan, RefusedHeader, ScanFault};
 use std::alloc::Global;
 use std::test::Fail;
 
@@ -13,20 +12,13 @@ struct Heard {
     text: Vec<u8>,
 }
 
-#[derive(Drop)]
-struct Refused {
-    value: HeaderStop,
-    at: u64,
-    size: usize,
-}
-
 // Keeps the headers that it hears, at most `most`.
 #[derive(Drop)]
 struct Listener {
     alloc: Global,
     most: usize,
     headers: Vec<Heard>,
-    refused: Option<Refused>,
+    refused: Option<RefusedHeader>,
 }
 
 impl Listener {
@@ -65,12 +57,12 @@ impl Listener {
 impl HeaderSink for Listener {
     ghost heard = { λ l. map (λ h. record { at = h.at; body = h.body; text = h.text.items }) l.headers.items };
 
-    ghost stop = { λ l. option_map (λ r. record { value = r.value; at = r.at; size = r.size }) l.refused };
+    ghost stop = { λ l. l.refused };
 
     fn header(&mut self, at: u64, body: u64, text: &[u8]) -> Result<(), HeaderStop> {
         let result = self.keep(at, body, text);
         if let Err(value) = result {
-            self.refused = Some(Refused {
+            self.refused = Some(RefusedHeader {
                 value,
                 at,
                 size: text.len(),

@@ -1,5 +1,5 @@
 -- What the answer tells of the bytes of a dump.
-use Rattle.std.proofs.Common.{◌≡◌, ℕ, ◌-◌, ◌≤◌, true, List, [], ◌∷◌, ◌++◌, length, take, drop, min, Option, None, Some, Ok, Err, Result, refl, sym, ◌∙◌, ap, subst, arith, if◌then◌else◌, ◌⊎◌, ⊎_elim}
+use Rattle.std.proofs.Common.{◌≡◌, ℕ, ◌-◌, ◌≤◌, true, List, [], ◌∷◌, ◌++◌, length, take, drop, min, Option, None, Some, Ok, Err, Result, refl, sym, ◌∙◌, ap, subst, arith, if◌then◌else◌, ◌⊎◌, ⊎_elim, inl, inr}
 use Rattle.std.specs.List.{starts_with}
 use Rattle.std.specs.Option.{option_or}
 use Rattle.std.specs.Prelude.{nat_eq, IfErr}
@@ -12,10 +12,12 @@ use Rattle.section_index.specs.declared.opening.OpenFault.{OpenFault}
 use Rattle.section_index.specs.declared.opening.OpenFault.TheVariants.{Compressed, NotADump, Version as UnknownVersion, TooLarge, HeaderTooLong, TooManySections, HeadersTooLarge, Read, Memory}
 use Rattle.section_index.specs.declared.opening.Version.{Version}
 use Rattle.section_index.specs.Opening.{signature, header_fault, opening}
-use Rattle.section_index.specs.Beginning.{IsAllOrLong, fault_of, IsAccepted, IsJudged, IsOfTheBytes}
-use Rattle.section_index.specs.Scanning.{IsHeaderFault}
-use Rattle.section_index.specs.Index.{Contents, IsIndexOf, IsAnswerFor, IsBuiltOver, IsClosedOrNamed, IsSmall, IsTooLargeFor}
-use Rattle.section_index.specs.Reading.{IsRefusal}
+use Rattle.section_index.specs.Inner.Beginning.{IsAllOrLong, BeginsAs, IsJudged, IsOfTheBeginning}
+use Rattle.section_index.specs.Opening.{fault_of}
+use Rattle.section_index.specs.Inner.Scanning.{IsHeaderFault}
+use Rattle.section_index.specs.Index.{Contents, IsIndexOf, IsAnswerFor, IsBuiltOver, IsClosedOrNamed, IsHeld, IsTooLargeFor}
+use Rattle.section_index.specs.Inner.Reading.{IsNotTooLarge}
+use Rattle.section_index.specs.Inner.Reading.{IsHeaderRefusal}
 use Rattle.section_index.proofs.Grown.{Gives-whole}
 
 -- the first piece is all, or long
@@ -42,7 +44,7 @@ answer-judged bytes limits (HeaderTooLong at) small is = opening-small bytes lim
 answer-judged bytes limits (TooManySections at) small is = opening-small bytes limits small ∙ is
 answer-judged bytes limits (HeadersTooLarge at) small is = opening-small bytes limits small ∙ is
 
-pub answer-header : (bytes : List ℕ) (limits : Numbers) (version : Version) (fault : OpenFault) → length bytes ≤ limits.dump → IsAccepted limits bytes version
+pub answer-header : (bytes : List ℕ) (limits : Numbers) (version : Version) (fault : OpenFault) → length bytes ≤ limits.dump → BeginsAs limits bytes version
     → IsHeaderFault limits bytes fault → IsAnswerFor bytes limits (Err fault)
 answer-header bytes limits version Read small accepted is = tt
 answer-header bytes limits version Memory small accepted is = tt
@@ -55,7 +57,7 @@ answer-header bytes limits version (TooManySections at) small accepted is = open
 answer-header bytes limits version (HeadersTooLarge at) small accepted is = opening-small bytes limits small ∙ accepted.fault ∙ is
 
 pub answer-index : (bytes : List ℕ) (limits : Numbers) (version : Version) (heard : List Header) (size : ℕ) → length bytes ≡ size → length bytes ≤ limits.dump
-    → IsAccepted limits bytes version → heard ≡ headers bytes → header_fault bytes limits ≡ None
+    → BeginsAs limits bytes version → heard ≡ headers bytes → header_fault bytes limits ≡ None
     → IsAnswerFor bytes limits (Ok (record { headers = heard; size = size; version = version }))
 answer-index bytes limits version heard size whole small accepted all none = (
   opening-small bytes limits small ∙ accepted.fault ∙ none,
@@ -106,7 +108,7 @@ pub signed-first : (first : List ℕ) (limits : Numbers) (version : Version) →
 signed-first first limits version judged = subst (λ b. starts_with nat_eq b signature ≡ true) (append-nil first) (judged [] (λ lt. refl)).signed
 
 -- a refusal by the bytes isn't that the dump is too large
-pub small-by-bytes : (fault : OpenFault) → IsOfTheBytes fault → IsSmall fault
+pub small-by-bytes : (fault : OpenFault) → IsOfTheBeginning fault → IsNotTooLarge fault
 small-by-bytes Compressed of = tt
 small-by-bytes NotADump of = tt
 small-by-bytes (UnknownVersion text) of = tt
@@ -118,15 +120,15 @@ small-by-bytes Read of = tt
 small-by-bytes Memory of = tt
 
 -- a fault of the rest of the file
-pub answer-rest : (bytes : List ℕ) (limits bounds : Numbers) (version : Version) (now : Now) (fault : OpenFault) → length bytes ≤ limits.dump → IsAccepted limits bytes version
-    → limits ≡ bounds → now ≡ told bytes → (fault ≡ Read) ⊎ IsRefusal bounds now fault → IsAnswerFor bytes limits (Err fault)
+pub answer-rest : (bytes : List ℕ) (limits bounds : Numbers) (version : Version) (now : Now) (fault : OpenFault) → length bytes ≤ limits.dump → BeginsAs limits bytes version
+    → limits ≡ bounds → now ≡ told bytes → (fault ≡ Read) ⊎ IsHeaderRefusal bounds now fault → IsAnswerFor bytes limits (Err fault)
 answer-rest bytes limits bounds version now fault small accepted same is why =
     ⊎_elim
     (λ read. subst (λ f. IsAnswerFor bytes limits (Err f)) (sym read) tt)
     (λ refused. answer-header bytes limits version fault small accepted (subst (λ l. IsHeaderFault l bytes fault) (sym same) (refused.refusal bytes is)))
     why
 
-pub too_large-of-small : (now : Now) (limits : Numbers) (fault : OpenFault) → IsSmall fault → IsTooLargeFor now limits fault
+pub too_large-of-small : (now : Now) (limits : Numbers) (fault : OpenFault) → IsNotTooLarge fault → IsTooLargeFor now limits fault
 too_large-of-small now limits Compressed small = tt
 too_large-of-small now limits NotADump small = tt
 too_large-of-small now limits (UnknownVersion text) small = tt
@@ -137,19 +139,18 @@ too_large-of-small now limits (HeadersTooLarge at) small = tt
 too_large-of-small now limits Read small = tt
 too_large-of-small now limits Memory small = tt
 
-pub none-too_large : (now : Now) (limits : Numbers) (answer : Result Contents OpenFault) → IfErr answer IsSmall → IfErr answer (IsTooLargeFor now limits)
+pub none-too_large : (now : Now) (limits : Numbers) (answer : Result Contents OpenFault) → IfErr answer IsNotTooLarge → IfErr answer (IsTooLargeFor now limits)
 none-too_large now limits (Ok index) small = small
 none-too_large now limits (Err fault) small = too_large-of-small now limits fault small
 
--- the open file of a name that is told
-pub told-by-name : (files : Option Files) (name : List ℕ) (now : Now) (named : Files) (bytes : List ℕ) → IsNamed files name now → files ≡ Some named → named name ≡ Some bytes
-    → now ≡ told bytes
-told-by-name None name now named bytes open' is has = cc
-told-by-name (Some files) name now named bytes open' is has =
-    let same : files ≡ named = cc in
-    let found : Some open'.0 ≡ Some bytes = sym open'.1 ∙ ap (λ f. f name) same ∙ has in
-    let one : open'.0 ≡ bytes = cc in
-    open'.2 ∙ ap told one
+-- the open file, where its bytes are told by its name or as what is open
+pub told-file : (files : Option Files) (name : List ℕ) (now : Now) (bytes : List ℕ) → IsNamed files name now → IsHeld files name bytes ⊎ (now ≡ told bytes) → now ≡ told bytes
+told-file files name now bytes named (inr is) = is
+told-file None name now bytes named (inl held) = absurd held
+told-file (Some files) name now bytes named (inl held) =
+    let found : Some named.0 ≡ Some bytes = sym named.1 ∙ held in
+    let one : named.0 ≡ bytes = cc in
+    named.2 ∙ ap told one
 
 -- the file that was opened by its name is the one that is open
 pub IsClosedOrNamed-named : (files : Option Files) (name : List ℕ) (now : Now) → IsNamed files name now → IsClosedOrNamed files name now

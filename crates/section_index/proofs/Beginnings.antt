@@ -14,7 +14,8 @@ use Rattle.section_index.specs.declared.opening.OpenFault.{OpenFault}
 use Rattle.section_index.specs.declared.opening.OpenFault.TheVariants.{Compressed, NotADump, Version as UnknownVersion, TooLarge, HeaderTooLong, TooManySections, HeadersTooLarge, Read, Memory}
 use Rattle.section_index.specs.declared.opening.Version.{Version}
 use Rattle.section_index.specs.Opening.{signature, gzip_mark, first_in, first_line, first_id, version_fault, version_named, unsigned, other_version, header_fault}
-use Rattle.section_index.specs.Beginning.{IsAllOrLong, id_in, IsVersionOf, fault_of, IsJudged}
+use Rattle.section_index.specs.Inner.Beginning.{IsAllOrLong, id_in, IsVersionOf, IsJudged}
+use Rattle.section_index.specs.Opening.{fault_of}
 use Rattle.section_index.proofs.Causes.{fault-long}
 
 -- the first bytes tell whether all begin so

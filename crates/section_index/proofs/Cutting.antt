@@ -6,7 +6,7 @@ use Rattle.std.proofs.lemmas.List.{take_all, length-take-le}
 use Rattle.std.proofs.lemmas.List.Sums.{sum_by-cons}
 use Rattle.std.proofs.lemmas.List.Elements.{All-head, All-tail}
 use Rattle.dump_io.specs.Lines.{lf, raw_lines, lines_after, is_header, Header, headers, lines_from, header_of, Line}
-use Rattle.dump_io.proofs.LineLaws.{AreLines-raw}
+use Rattle.dump_io.specs.Laws.Lines.{AreLines-raw}
 use Rattle.section_index.specs.Cuts.{AreCut}
 use Rattle.section_index.specs.Sections.{Section, section, sections_of, next_at, sections}
 use Rattle.section_index.proofs.Tiling.{line_at, headers_in, is_header-first}

@@ -1,4 +1,4 @@
--- A fault of the scan on the first bytes of a dump is the refusal of the whole dump.
+-- A fault of the scan on the first bytes of a dump is the refused of the whole dump.
 use Rattle.std.proofs.Common.{◌≡◌, ℕ, ◌+◌, ◌<◌, ◌≤◌, List, [], ◌∷◌, ◌++◌, length, Option, None, Some, refl, sym, ◌∙◌, ap, subst, append_assoc}
 use Rattle.std.specs.Prelude.{All, slice_get}
 use Rattle.std.proofs.lemmas.List.Elements.{All-nil, All-head, All-append, All-same}
@@ -8,14 +8,15 @@ use Rattle.line_source.specs.declared.header_sink.HeaderStop.{HeaderStop}
 use Rattle.line_source.specs.declared.header_sink.HeaderStop.TheVariants.{TooMany, PoolFull, Memory as NoMemory}
 use Rattle.line_source.specs.declared.scan_fault.ScanFault.{ScanFault}
 use Rattle.line_source.specs.declared.scan_fault.ScanFault.TheVariants.{HeaderTooLong as LineTooLong, Stop}
-use Rattle.line_source.specs.Receiver.{Refusal}
+use Rattle.line_source.specs.declared.header_sink.RefusedHeader.{RefusedHeader}
 use Rattle.line_source.specs.Streams.{ended_headers, open_headers, new_headers, headers_before, too_long}
-use Rattle.line_source.specs.Feeding.{first_too_long, refusal_value, IsStop, StopsAmong}
+use Rattle.line_source.specs.Feeding.{first_too_long, IsStop, StopsAmong}
+use Rattle.line_source.specs.Receiver.{stop_value}
 use Rattle.line_source.specs.Growth.{TooLongGrows}
 use Rattle.section_index.specs.declared.opening.OpenFault.TheVariants.{HeaderTooLong, TooManySections, HeadersTooLarge}
 use Rattle.section_index.specs.Opening.{text_bytes, header_fault}
-use Rattle.section_index.specs.Receiver.{Hearing, IsCause, IsStated, KeepsTo}
-use Rattle.section_index.specs.Scanning.{stop_fault, open_fault_of, IsHeaderFault}
+use Rattle.section_index.specs.Inner.Receiver.{Hearing, IsStopCause, HasItsCause, KeepsTo}
+use Rattle.section_index.specs.Inner.Scanning.{stop_fault, open_fault_of, IsHeaderFault}
 use Rattle.section_index.proofs.Rising.{AreRising, rising-left, rising-right, headers-rising, headers_from, headers_from-at, cut-at, All-right}
 use Rattle.section_index.proofs.Causes.{fault-long, fault-surplus, fault-large, fault-none}
 
@@ -42,7 +43,7 @@ first-front (y ∷ xs) ys x is = is
 
 -- a header was refused, behind those that were heard
 refused-here : (limits : Numbers) (bytes : List ℕ) (front more : List Header) (next : Header) (value : HeaderStop) (at size : ℕ) → headers bytes ≡ front ++ next ∷ more
-    → text_bytes front ≤ limits.pool → IsCause limits front value at size → at ≡ next.at → size ≡ length next.text
+    → text_bytes front ≤ limits.pool → IsStopCause limits front value at size → at ≡ next.at → size ≡ length next.text
     → All (λ long. next.at < long) (too_long limits.header bytes) → IsHeaderFault limits bytes (stop_fault value)
 refused-here limits bytes front more next (TooMany place) at size all room cause same long_as longs =
     fault-surplus bytes limits front more next all cause.1 room longs ∙ ap (λ k. Some (TooManySections k)) (sym same ∙ sym cause.0)
@@ -51,10 +52,10 @@ refused-here limits bytes front more next (PoolFull place) at size all room caus
     ∙ ap (λ k. Some (HeadersTooLarge k)) (sym same ∙ sym cause.0)
 refused-here limits bytes front more next NoMemory at size all room cause same long_as longs = tt
 
--- the receiver's refusal has its cause
-stated : (limits : Numbers) (hearing : Hearing) (refusal : Refusal) → KeepsTo limits hearing → hearing.stop ≡ Some refusal
-    → IsCause limits hearing.heard refusal.value refusal.at refusal.size
-stated limits hearing refusal keeps stop = let is = keeps.stated in subst (IsStated limits hearing.heard) stop is
+-- the receiver's refused has its cause
+stated : (limits : Numbers) (hearing : Hearing) (refused : RefusedHeader) → KeepsTo limits hearing → hearing.stop ≡ Some refused
+    → IsStopCause limits hearing.heard refused.value refused.at refused.size
+stated limits hearing refused keeps stop = let is = keeps.stated in subst (HasItsCause limits hearing.heard) stop is
 
 long-case : (limits : Numbers) (bytes piece more : List ℕ) (before after : Hearing) (at : ℕ) → Grows → before.heard ≡ ended_headers bytes → KeepsTo limits after
     → first_too_long limits.header (bytes ++ piece) ≡ Some at → after.heard ≡ before.heard ++ headers_before at (new_headers bytes piece)
@@ -80,11 +81,11 @@ long-case limits bytes piece more before after at grows heard keeps first grown 
     (All-append (λ h. at ≤ h.at) (headers_from at new) rest (headers_from-at at new) (grows.behind limits.header at stream more first))
     (ap (λ ls. slice_get ls 0) more_longs.all ∙ first-front (too_long limits.header stream) more_longs.later at first)
 
-stop-case : (limits : Numbers) (bytes piece more : List ℕ) (before after : Hearing) (refusal : Refusal) → Grows → before.heard ≡ ended_headers bytes → KeepsTo limits after
-    → after.stop ≡ Some refusal → StopsAmong before.heard after.heard refusal (new_headers bytes piece)
-    → All (λ at. refusal.at < at) (too_long limits.header (bytes ++ piece))
-    → IsHeaderFault limits ((bytes ++ piece) ++ more) (stop_fault refusal.value)
-stop-case limits bytes piece more before after refusal grows heard keeps stop among short =
+stop-case : (limits : Numbers) (bytes piece more : List ℕ) (before after : Hearing) (refused : RefusedHeader) → Grows → before.heard ≡ ended_headers bytes → KeepsTo limits after
+    → after.stop ≡ Some refused → StopsAmong before.heard after.heard refused (new_headers bytes piece)
+    → All (λ at. refused.at < at) (too_long limits.header (bytes ++ piece))
+    → IsHeaderFault limits ((bytes ++ piece) ++ more) (stop_fault refused.value)
+stop-case limits bytes piece more before after refused grows heard keeps stop among short =
     let stream = bytes ++ piece in
     let all = stream ++ more in
     let old = ended_headers bytes in
@@ -105,54 +106,54 @@ stop-case limits bytes piece more before after refusal grows heard keeps stop am
     All-same (λ at. next.at < at) (too_long limits.header all) (too_long limits.header stream ++ more_longs.later) more_longs.all
     (All-append (λ at. next.at < at) (too_long limits.header stream) more_longs.later
     (subst (λ k. All (λ at. k < at) (too_long limits.header stream)) among.at short) behind) in
-    refused-here limits all front (among.more ++ rest) next refusal.value refusal.at refusal.size whole
+    refused-here limits all front (among.more ++ rest) next refused.value refused.at refused.size whole
     (subst (λ hs. text_bytes hs ≤ limits.pool) same keeps.pool)
-    (subst (λ hs. IsCause limits hs refusal.value refusal.at refusal.size) same (stated limits after refusal keeps stop))
+    (subst (λ hs. IsStopCause limits hs refused.value refused.at refused.size) same (stated limits after refused keeps stop))
     among.at among.size longs
 
--- a refusal that has a value is there
-refusal-some : (stop : Option Refusal) (value : HeaderStop) → refusal_value stop ≡ Some value → (refusal : Refusal) × (stop ≡ Some refusal) × (refusal.value ≡ value)
-refusal-some None value is = cc
-refusal-some (Some refusal) value is = (refusal, refl, cc)
+-- a refused that has a value is there
+refused-some : (stop : Option RefusedHeader) (value : HeaderStop) → stop_value stop ≡ Some value → (refused : RefusedHeader) × (stop ≡ Some refused) × (refused.value ≡ value)
+refused-some None value is = cc
+refused-some (Some refused) value is = (refused, refl, cc)
 
 pub feed-refused : (limits : Numbers) (bytes piece more : List ℕ) (before after : Hearing) (fault : ScanFault) → Grows → before.heard ≡ ended_headers bytes → KeepsTo limits after
     → ((at : ℕ) → fault ≡ LineTooLong at → first_too_long limits.header (bytes ++ piece) ≡ Some at)
     → ((at : ℕ) → fault ≡ LineTooLong at → after.heard ≡ before.heard ++ headers_before at (new_headers bytes piece))
-    → ((value : HeaderStop) → fault ≡ Stop value → refusal_value after.stop ≡ Some value)
-    → ((refusal : Refusal) → after.stop ≡ Some refusal → StopsAmong before.heard after.heard refusal (new_headers bytes piece))
-    → ((refusal : Refusal) → after.stop ≡ Some refusal → All (λ at. refusal.at < at) (too_long limits.header (bytes ++ piece)))
+    → ((value : HeaderStop) → fault ≡ Stop value → stop_value after.stop ≡ Some value)
+    → ((refused : RefusedHeader) → after.stop ≡ Some refused → StopsAmong before.heard after.heard refused (new_headers bytes piece))
+    → ((refused : RefusedHeader) → after.stop ≡ Some refused → All (λ at. refused.at < at) (too_long limits.header (bytes ++ piece)))
     → IsHeaderFault limits ((bytes ++ piece) ++ more) (open_fault_of fault)
 feed-refused limits bytes piece more before after (LineTooLong at) grows heard keeps first grown stop among short =
     long-case limits bytes piece more before after at grows heard keeps (first at refl) (grown at refl)
 feed-refused limits bytes piece more before after (Stop value) grows heard keeps first grown stop among short =
-    let some = refusal-some after.stop value (stop value refl) in
+    let some = refused-some after.stop value (stop value refl) in
     subst (λ v. IsHeaderFault limits ((bytes ++ piece) ++ more) (stop_fault v)) some.2
     (stop-case limits bytes piece more before after some.0 grows heard keeps some.1 (among some.0 some.1) (short some.0 some.1))
 
 -- at the end of the stream
-stop-last : (limits : Numbers) (bytes : List ℕ) (before after : Hearing) (refusal : Refusal) → Grows → before.heard ≡ ended_headers bytes → KeepsTo limits after
-    → after.stop ≡ Some refusal → StopsAmong before.heard after.heard refusal (open_headers bytes) → too_long limits.header bytes ≡ []
-    → IsHeaderFault limits bytes (stop_fault refusal.value)
-stop-last limits bytes before after refusal grows heard keeps stop among short =
+stop-last : (limits : Numbers) (bytes : List ℕ) (before after : Hearing) (refused : RefusedHeader) → Grows → before.heard ≡ ended_headers bytes → KeepsTo limits after
+    → after.stop ≡ Some refused → StopsAmong before.heard after.heard refused (open_headers bytes) → too_long limits.header bytes ≡ []
+    → IsHeaderFault limits bytes (stop_fault refused.value)
+stop-last limits bytes before after refused grows heard keeps stop among short =
     let old = ended_headers bytes in
     let next = among.next in
     let front = old ++ among.heard in
     let same : after.heard ≡ front = among.grown ∙ ap (λ hs. hs ++ among.heard) heard in
     let whole : headers bytes ≡ front ++ next ∷ among.more =
     grows.split bytes ∙ ap (λ hs. old ++ hs) among.parts ∙ sym (append_assoc old among.heard (next ∷ among.more)) in
-    refused-here limits bytes front among.more next refusal.value refusal.at refusal.size whole
+    refused-here limits bytes front among.more next refused.value refused.at refused.size whole
     (subst (λ hs. text_bytes hs ≤ limits.pool) same keeps.pool)
-    (subst (λ hs. IsCause limits hs refusal.value refusal.at refusal.size) same (stated limits after refusal keeps stop))
+    (subst (λ hs. IsStopCause limits hs refused.value refused.at refused.size) same (stated limits after refused keeps stop))
     among.at among.size (All-same (λ at. next.at < at) (too_long limits.header bytes) [] short (All-nil (λ at. next.at < at)))
 
 pub finish-refused : (limits : Numbers) (bytes : List ℕ) (before after : Hearing) (fault : ScanFault) → Grows → before.heard ≡ ended_headers bytes → KeepsTo limits after
     → IsStop fault
-    → ((value : HeaderStop) → fault ≡ Stop value → refusal_value after.stop ≡ Some value)
-    → ((refusal : Refusal) → after.stop ≡ Some refusal → StopsAmong before.heard after.heard refusal (open_headers bytes))
+    → ((value : HeaderStop) → fault ≡ Stop value → stop_value after.stop ≡ Some value)
+    → ((refused : RefusedHeader) → after.stop ≡ Some refused → StopsAmong before.heard after.heard refused (open_headers bytes))
     → too_long limits.header bytes ≡ [] → IsHeaderFault limits bytes (open_fault_of fault)
 finish-refused limits bytes before after (LineTooLong at) grows heard keeps only stop among short = absurd only
 finish-refused limits bytes before after (Stop value) grows heard keeps only stop among short =
-    let some = refusal-some after.stop value (stop value refl) in
+    let some = refused-some after.stop value (stop value refl) in
     subst (λ v. IsHeaderFault limits bytes (stop_fault v)) some.2
     (stop-last limits bytes before after some.0 grows heard keeps some.1 (among some.0 some.1) short)
 

@@ -1,17 +1,16 @@
 -- The bytes of what is open that were read, piece by piece.
-use Rattle.std.proofs.Common.{◌≡◌, ℕ, ◌+◌, ◌-◌, ◌≤◌, true, List, [], ◌∷◌, ◌++◌, length, take, drop, refl, sym, ◌∙◌, ap, subst, arith, length-append}
+use Rattle.std.proofs.Common.{◌≡◌, ℕ, ◌+◌, true, List, [], ◌∷◌, ◌++◌, length, take, drop, refl, sym, ◌∙◌, ap, subst, arith, length-append}
 use Rattle.std.specs.List.{starts_with}
 use Rattle.std.specs.Prelude.{nat_eq}
 use Rattle.std.specs.Cmp.Lexicographic.{pointwise}
 use Rattle.std.proofs.lemmas.Bool.{and_parts, and_from, false≢true}
 use Rattle.std.proofs.lemmas.List.{take-append-drop, drop-take}
 use Rattle.std.proofs.lemmas.Grind.{common_steps}
-use Rattle.dump_io.specs.Counts.{plus_capped}
 use Rattle.dump_io.specs.Limits.{Numbers}
 use Rattle.dump_io.specs.Dumps.{Now, closed, told, sized, Gives}
 use Rattle.section_index.specs.declared.opening.OpenFault.{OpenFault}
-use Rattle.section_index.specs.Scanning.{IsHeaderFault, IsOfAHeader}
-use Rattle.section_index.specs.Reading.{IsRefusal}
+use Rattle.section_index.specs.Inner.Scanning.{IsHeaderFault, IsOfAHeader}
+use Rattle.section_index.specs.Inner.Reading.{IsHeaderRefusal}
 
 take-two : {X : Type 0} (m n : ℕ) (l : List X) → take (m + n) l ≡ take m l ++ take n (drop m l)
 take-two m n l =
@@ -47,15 +46,10 @@ pub starts_with-append : (bytes more start : List ℕ) → starts_with nat_eq by
 starts_with-append bytes more start is = pointwise-append start bytes more is
 
 -- the refusal of a header of the first bytes
-pub IsRefusal-first : (limits : Numbers) (now : Now) (bytes : List ℕ) (fault : OpenFault) → Gives now 0 bytes → IsOfAHeader fault
-    → ((more : List ℕ) → IsHeaderFault limits (bytes ++ more) fault) → IsRefusal limits now fault
-IsRefusal-first limits now bytes fault first kind refused = record {
+pub IsHeaderRefusal-first : (limits : Numbers) (now : Now) (bytes : List ℕ) (fault : OpenFault) → Gives now 0 bytes → IsOfAHeader fault
+    → ((more : List ℕ) → IsHeaderFault limits (bytes ++ more) fault) → IsHeaderRefusal limits now fault
+IsHeaderRefusal-first limits now bytes fault first kind refused = record {
   kind = kind;
   refusal = λ all is.
       subst (λ b. IsHeaderFault limits b fault) (sym (Gives-whole bytes all (subst (λ n. Gives n 0 bytes) is first))) (refused (drop (length bytes) all));
 }
-
--- a count that was raised once more
-pub taken-next : (before middle after from at count : ℕ) → from ≤ at → middle ≤ plus_capped before (at - from) → after ≡ plus_capped middle count
-    → after ≤ plus_capped before (at + count - from)
-taken-next before middle after from at count low most next = omega (arith, low, most, next)

@@ -5,7 +5,7 @@ use Rattle.std.proofs.lemmas.List.{drop-append-le, take-append-le, drop_at, take
 use Rattle.std.proofs.lemmas.Option.{slice_get-map, slice_get-get_or}
 use Rattle.dump_io.specs.Lines.{Header}
 use Rattle.section_index.specs.declared.headers.Head.{Head}
-use Rattle.section_index.specs.Headers.{header_in, headers_in, AreWithin}
+use Rattle.section_index.specs.Inner.Headers.{header_in, headers_in, AreWithin}
 
 between-grown : (pool text : List ℕ) (from upto : ℕ) → from ≤ upto → upto ≤ length pool → between from upto (pool ++ text) ≡ between from upto pool
 between-grown pool text from upto ordered within =

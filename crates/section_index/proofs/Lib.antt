@@ -8,7 +8,6 @@ pub mod FirstLine
 pub mod FirstPlace
 pub mod Grown
 pub mod Kept
-pub mod Named
 pub mod Parts
 pub mod Places
 pub mod Rising

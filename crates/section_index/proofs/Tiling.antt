@@ -5,7 +5,7 @@ use Rattle.std.specs.List.{concat, starts_with, ends_with}
 use Rattle.std.proofs.lemmas.Bool.{and_parts, eqb-true}
 use Rattle.std.proofs.lemmas.List.Elements.{All-head, All-tail}
 use Rattle.dump_io.specs.Lines.{lf, cr, equals_sign, raw_lines, is_header, Header, lines_from, header_of, Line}
-use Rattle.dump_io.proofs.LineLaws.{AreLines-raw}
+use Rattle.dump_io.specs.Laws.Lines.{AreLines-raw}
 use Rattle.section_index.specs.Opening.{signature}
 use Rattle.section_index.specs.Sections.{sections_of, sections}
 use Rattle.section_index.specs.Tiling.{Tile}

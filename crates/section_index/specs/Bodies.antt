@@ -1,8 +1,7 @@
 -- The body of a section, and why it isn't loaded.
 use Rattle.std.specs.Prelude.{◌≡◌, ℕ, ◌-◌, ◌<◌, List, [], slice_get, unwrap_or}
 use Rattle.std.specs.List.{between}
-use Rattle.dump_io.specs.Counts.{Rose}
-use Rattle.dump_io.specs.Dumps.{Now, closed, told, sized}
+use Rattle.dump_io.specs.Dumps.{Now, closed, told, sized, Use, DeviceFailed}
 use Rattle.section_index.specs.declared.bodies.BodyFault.{BodyFault}
 use Rattle.section_index.specs.declared.bodies.BodyFault.TheVariants.{SectionTooLarge, Read, Memory}
 use Rattle.section_index.specs.Index.{Contents, sections_in}
@@ -22,9 +21,9 @@ IsBodyOf closed section bytes = ⊥
 IsBodyOf (told dump) section bytes = bytes ≡ between section.body section.end dump
 IsBodyOf (sized size) section bytes = Unit {0}
 
--- why a body isn't loaded: it is longer than the limit, or the count of faults rose; memory may lack at any time
-abbrev pub IsCauseOf : Section → ℕ → ℕ → ℕ → BodyFault → Type 0
-IsCauseOf section limit before now (SectionTooLarge at len) =
+-- why a body isn't loaded: it is longer than the limit, or the device failed; memory may lack at any time
+abbrev pub IsCauseOf : Section → ℕ → Use → BodyFault → Type 0
+IsCauseOf section limit device (SectionTooLarge at len) =
     (at ≡ section.at) × (len ≡ body_length section) × (limit < body_length section)
-IsCauseOf section limit before now Read = Rose before now
-IsCauseOf section limit before now Memory = Unit {0}
+IsCauseOf section limit device Read = DeviceFailed device
+IsCauseOf section limit device Memory = Unit {0}

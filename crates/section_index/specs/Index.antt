@@ -1,15 +1,16 @@
 -- What an index says of a dump.
-use Rattle.std.specs.Prelude.{◌≡◌, ℕ, ◌+◌, ◌-◌, ◌<◌, ◌≤◌, List, [], ◌∷◌, length, None, Some, Result, Ok, Err, codes, if◌then◌else◌, Option}
+use Rattle.std.specs.Prelude.{◌≡◌, ◌⊎◌, ℕ, ◌+◌, ◌-◌, ◌<◌, ◌≤◌, List, [], ◌∷◌, length, None, Some, Result, Ok, Err, codes, if◌then◌else◌, Option}
 use Rattle.std.specs.Str.{bytes_eq}
-use Rattle.dump_io.specs.Dumps.{IsNamed, Files, Now, closed, told, sized, size_of}
-use Rattle.dump_io.specs.Limits.{Numbers}
+use Rattle.dump_io.specs.Counts.{plus_capped}
+use Rattle.dump_io.specs.Dumps.{IsNamed, Files, Now, closed, told, sized, size_of, Use}
+use Rattle.dump_io.specs.Limits.{Numbers, usual}
 use Rattle.dump_io.specs.Lines.{Header, headers}
 use Rattle.section_index.specs.declared.index.State.{State}
 use Rattle.section_index.specs.declared.index.State.TheVariants.{Whole, TruncatedIn}
 use Rattle.section_index.specs.declared.opening.OpenFault.{OpenFault}
 use Rattle.section_index.specs.declared.opening.OpenFault.TheVariants.{TooLarge, Read, Memory}
 use Rattle.section_index.specs.declared.opening.Version.{Version}
-use Rattle.section_index.specs.Opening.{opening, first_id, version_named}
+use Rattle.section_index.specs.Opening.{IsAccepted, IsRefusedFor, first_id, version_named}
 use Rattle.section_index.specs.Sections.{Section, sections_of, tag_of}
 use Rattle.section_index.specs.Tiling.{Tile}
 
@@ -23,11 +24,12 @@ pub record Contents : Type 0 where
 abbrev pub sections_in : Contents → List Section
 sections_in index = sections_of index.headers index.size
 
--- there are from 1 to 8,000,000 sections, no dump is larger than 64 GiB, and the sections tile the whole dump
+-- there is a section, there are no more sections and bytes than the usual limits allow, and the sections tile
+-- the whole dump
 pub record AreBounded (index : Contents) : Type 0 where
   pub some : 1 ≤ length index.headers
-  pub sections : length index.headers ≤ 8000000
-  pub size : index.size ≤ 68719476736
+  pub sections : length index.headers ≤ usual.sections
+  pub size : index.size ≤ usual.dump
   pub tiled : Tile 0 index.size (sections_in index)
 
 abbrev pub last_text : List Header → List ℕ
@@ -52,10 +54,10 @@ pub record IsIndexOf (bytes : List ℕ) (index : Contents) : Type 0 where
 
 -- what an answer about these bytes tells: the index of an accepted dump, or why it is refused
 abbrev pub IsAnswerFor : List ℕ → Numbers → Result Contents OpenFault → Type 0
-IsAnswerFor bytes limits (Ok index) = (opening bytes limits ≡ None) × IsIndexOf bytes index
+IsAnswerFor bytes limits (Ok index) = IsAccepted bytes limits × IsIndexOf bytes index
 IsAnswerFor bytes limits (Err Read) = Unit {0}
 IsAnswerFor bytes limits (Err Memory) = Unit {0}
-IsAnswerFor bytes limits (Err fault) = opening bytes limits ≡ Some fault
+IsAnswerFor bytes limits (Err fault) = IsRefusedFor bytes limits fault
 
 -- the index is that of what is open; where its bytes aren't told the sizes are equal
 abbrev pub IsBuiltOver : Now → Contents → Type 0
@@ -68,12 +70,26 @@ abbrev pub IsTooLargeFor : Now → Numbers → OpenFault → Type 0
 IsTooLargeFor now limits (TooLarge size) = (size ≡ size_of now) × (limits.dump < size)
 IsTooLargeFor now limits fault = Unit {0}
 
--- another refusal than that the dump is too large
-abbrev pub IsSmall : OpenFault → Type 0
-IsSmall (TooLarge size) = ⊥
-IsSmall fault = Unit {0}
-
 -- what is open is nothing, or the file of this name where files are told
 abbrev pub IsClosedOrNamed : Option Files → List ℕ → Now → Type 0
 IsClosedOrNamed files name closed = Unit {0}
 IsClosedOrNamed files name now = IsNamed files name now
+
+-- what a call does that opens the file of a name and reads it once: the files stay, nothing is open or that file
+-- is, the count of faults doesn't fall, and at most as many bytes are taken as the file has
+pub record ReadsFile (device : Use) (name : List ℕ) : Type 0 where
+  pub same_files : device.files_after ≡ device.files_before
+  pub now : IsClosedOrNamed device.files_before name device.now_after
+  pub later : device.faults_before ≤ device.faults_after
+  pub taken_least : device.taken_before ≤ device.taken_after
+  pub taken_most : device.taken_after ≤ plus_capped device.taken_before (size_of device.now_after)
+
+-- the files are told, and these are the bytes of the one of this name
+abbrev pub IsHeld : Option Files → List ℕ → List ℕ → Type 0
+IsHeld None name bytes = ⊥
+IsHeld (Some files) name bytes = files name ≡ Some bytes
+
+-- these are the bytes of the file that was opened by its name: the device tells them by the name, or as what is
+-- open after the call
+abbrev pub IsFileOf : Use → List ℕ → List ℕ → Type 0
+IsFileOf device name bytes = IsHeld device.files_before name bytes ⊎ (device.now_after ≡ told bytes)

@@ -1,14 +1,9 @@
-pub mod Beginning
 pub mod Bodies
 pub mod Cuts
-pub mod Headers
 pub mod Index
+pub mod Inner
 pub mod Lookups
 pub mod Opening
-pub mod Reading
-pub mod Receiver
-pub mod Refused
-pub mod Scanning
 pub mod Sections
 pub mod Tags
 pub mod Tiling

@@ -1,10 +1,8 @@
 -- What a section is looked up by.
 use Rattle.std.specs.Prelude.{ℕ, Bool, ◌&&◌, nat_eq, List, Option, Some}
-use Rattle.std.specs.Option.{option_eq, option_and_then, option_copied}
+use Rattle.std.specs.Option.{option_eq, option_and_then}
 use Rattle.std.specs.Str.{bytes_eq}
 use Rattle.dump_io.specs.Numbers.{hex_number}
-use Rattle.section_index.specs.declared.lookups.Wanted.{Wanted}
-use Rattle.section_index.specs.declared.lookups.Wanted.TheVariants.{Named, Tagged, Hex}
 use Rattle.section_index.specs.Sections.{tag_of, id_of}
 
 -- whether a header's text has this tag, with or without an id
@@ -18,8 +16,3 @@ is_named tag id text = has_tag tag text && option_eq bytes_eq (id_of text) id
 -- whether it has this tag and an id that writes this number in hex
 abbrev pub has_hex : List ℕ → ℕ → List ℕ → Bool
 has_hex tag n text = has_tag tag text && option_eq nat_eq (option_and_then hex_number (id_of text)) (Some n)
-
-abbrev pub is_wanted : Wanted → List ℕ → Bool
-is_wanted (Named tag id) text = is_named tag.now (option_copied id) text
-is_wanted (Tagged tag) text = has_tag tag.now text
-is_wanted (Hex tag n) text = has_hex tag.now n text

@@ -1,5 +1,5 @@
 -- Which dumps are accepted, and what is told of those that aren't.
-use Rattle.std.specs.Prelude.{ℕ, List, [], ◌∷◌, length, filter, slice_get, Option, None, Some, unwrap_or, codes, nat_lt, nat_le, nat_eq, if◌then◌else◌}
+use Rattle.std.specs.Prelude.{◌≡◌, ℕ, List, [], ◌∷◌, length, filter, slice_get, Option, None, Some, unwrap_or, codes, nat_lt, nat_le, nat_eq, if◌then◌else◌}
 use Rattle.std.specs.List.{starts_with, sum_by}
 use Rattle.std.specs.Option.{option_map, option_or}
 use Rattle.std.specs.Str.{bytes_eq}
@@ -19,7 +19,7 @@ signature = codes "=erl_crash_dump:"
 
 -- and what gzip wrote begins so
 abbrev pub gzip_mark : List ℕ
-gzip_mark = 31 ∷ 139 ∷ []
+gzip_mark = 0x1F ∷ 0x8B ∷ []
 
 -- the version of this name
 abbrev pub version_named : List ℕ → Option Version
@@ -102,11 +102,18 @@ abbrev pub header_fault : List ℕ → Numbers → Option OpenFault
 header_fault bytes limits =
     earlier (long_header bytes limits) (earlier (surplus_header (headers bytes) limits) (large_headers (headers bytes) limits))
 
+-- why bytes that aren't too many are refused: for their beginning, or else for a header
+abbrev pub fault_of : List ℕ → Numbers → Option OpenFault
+fault_of bytes limits =
+    option_or (compressed bytes) (option_or (unsigned bytes) (option_or (other_version bytes limits) (header_fault bytes limits)))
+
 -- why the bytes of a dump are refused under these limits: the first cause that holds, or none
 abbrev pub opening : List ℕ → Numbers → Option OpenFault
-opening bytes limits =
-    option_or (too_large bytes limits)
-    (option_or (compressed bytes)
-    (option_or (unsigned bytes)
-    (option_or (other_version bytes limits)
-    (header_fault bytes limits))))
+opening bytes limits = option_or (too_large bytes limits) (fault_of bytes limits)
+
+-- the bytes are accepted, or refused for this cause
+abbrev pub IsAccepted : List ℕ → Numbers → Type 0
+IsAccepted bytes limits = opening bytes limits ≡ None
+
+abbrev pub IsRefusedFor : List ℕ → Numbers → OpenFault → Type 0
+IsRefusedFor bytes limits fault = opening bytes limits ≡ Some fault

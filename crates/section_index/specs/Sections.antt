@@ -1,10 +1,7 @@
 -- The sections of a dump: each header with the bytes up to the next one.
-use Rattle.std.specs.Prelude.{ℕ, ◌+◌, ◌==◌, Bool, List, [], ◌∷◌, length, drop, slice_get, Option, None, Some, if◌then◌else◌}
-use Rattle.std.specs.List.{list_any, before_first, after_first}
+use Rattle.std.specs.Prelude.{ℕ, ◌+◌, List, [], ◌∷◌, length, drop, slice_get, Option, None, Some, if◌then◌else◌}
+use Rattle.dump_io.specs.Colons.{has_colon, before_colon, after_colon}
 use Rattle.dump_io.specs.Lines.{Header, headers}
-
-abbrev pub is_colon : ℕ → Bool
-is_colon c = c == 58
 
 -- a header's text behind its equals sign
 abbrev pub name_of : List ℕ → List ℕ
@@ -12,11 +9,11 @@ name_of text = drop 1 text
 
 -- the tag stands between the equals sign and the first colon, or the end of the text
 abbrev pub tag_of : List ℕ → List ℕ
-tag_of text = before_first is_colon (name_of text)
+tag_of text = before_colon (name_of text)
 
 -- the id follows that colon, and without one there is no id
 abbrev pub id_of : List ℕ → Option (List ℕ)
-id_of text = if list_any is_colon (name_of text) then Some (after_first is_colon (name_of text)) else None
+id_of text = if has_colon (name_of text) then Some (after_colon (name_of text)) else None
 
 -- a section: where its header begins, where its body begins and ends, and its header's text
 pub record Section : Type 0 where

@@ -1,14 +1,15 @@
 // How a dump begins.
 ghost use Rattle.std.specs.Prelude.{◌≡◌, ◌<◌, ◌≤◌, ◌++◌, ◌∷◌, ℕ, List, [], Option, None, Some, length, IfErr, MatchOption};
 ghost use Rattle.std.specs.List.{position};
-ghost use Rattle.dump_io.specs.Lines.{lf, text_of};
+ghost use Rattle.dump_io.specs.Limits.{usual};
+ghost use Rattle.dump_io.specs.Lines.{text_of};
 ghost use Rattle.line_source.specs.Streams.{length_before_lf};
 ghost use Rattle.section_index.specs.Opening.{first_line};
-ghost use Rattle.section_index.specs.Beginning.{is_lf, IsVersionOf, IsJudged, IsAllOrLong, IsOfTheBytes};
+ghost use Rattle.section_index.specs.Inner.Beginning.{is_lf, IsVersionOf, IsJudged, IsAllOrLong, IsOfTheBeginning};
 
 use crate::header_text::tag_and_id;
 use crate::opening::{OpenFault, Version, version_of};
-use dump_io::{Limits, Text};
+use dump_io::{Limits, Text, text_before_lf};
 use std::alloc::Global;
 
 const SIGNATURE: &[u8] = b"=erl_crash_dump:";
@@ -22,19 +23,9 @@ fn first_lf(bytes: &[u8]) -> Option<usize>
     bytes.iter().position(|c| *c == b'\n')
 }
 
-// The text of the line that these bytes and an LF make.
-fn text_before_lf(line: &[u8]) -> &[u8]
-    ensures { result.now ≡ text_of (line.now ++ lf ∷ []) }
-{
-    match line {
-        [text @ .., b'\r'] => text,
-        _ => line,
-    }
-}
-
 // The text of the first line, where that has at most `limit` bytes before its LF or the end.
 fn first_text(first: &[u8], limit: usize) -> Option<&[u8]>
-    requires { limit ≤ 4096 }
+    requires { limit ≤ usual.header }
     ensures { (more : List ℕ) → IsAllOrLong first.now more → let line = first_line (first.now ++ more) in
         MatchOption result (limit < length_before_lf line) (λ text. (length_before_lf line ≤ limit) × (text.now ≡ text_of line)) }
 {
@@ -69,7 +60,7 @@ pub(crate) fn judge_beginning(
     limits: &Limits,
 ) -> Result<Version, OpenFault>
     ensures judged { (more : List ℕ) → IsAllOrLong first.now more → IsJudged limits.now (first.now ++ more) result }
-    ensures fault { IfErr result IsOfTheBytes }
+    ensures fault { IfErr result IsOfTheBeginning }
 {
     if first.starts_with(GZIP_MARK) {
         return Err(OpenFault::Compressed);

@@ -1,7 +1,6 @@
 // The body of a section is read.
 ghost use Rattle.std.specs.Prelude.{◌≡◌, ◌+◌, ◌<◌, ◌≤◌, ◌⊎◌, length, IfOk, OnOk, IfErr, IsErrOf};
-ghost use Rattle.dump_io.specs.Counts.{Rose, plus_capped};
-ghost use Rattle.dump_io.specs.Dumps.{IsOpen, size_of, Gives};
+ghost use Rattle.dump_io.specs.Dumps.{IsOpen, size_of, Gives, used, DeviceFailed, ReadsAtMost};
 ghost use Rattle.section_index.specs.Bodies.{section_at, body_length, IsBodyOf, IsCauseOf};
 ghost use Rattle.section_index.specs.Index.{IsBuiltOver};
 
@@ -34,14 +33,10 @@ fn read_part<D: Dumps>(
 ) -> Result<Vec<u8>, BodyFault>
     requires open { IsOpen (D.now dumps.old) }
     requires inside { at + len ≤ size_of (D.now dumps.old) }
-    ensures same_files { D.files dumps.new ≡ D.files dumps.old }
-    ensures same_now { D.now dumps.new ≡ D.now dumps.old }
-    ensures later { D.faults dumps.old ≤ D.faults dumps.new }
-    ensures taken_least { D.taken dumps.old ≤ D.taken dumps.new }
-    ensures taken_most { D.taken dumps.new ≤ plus_capped (D.taken dumps.old) len }
+    ensures reads { ReadsAtMost (used D.files D.now D.faults D.taken dumps.old dumps.new) len }
     ensures bytes { IfOk result (λ bytes. Gives (D.now dumps.old) at bytes.items) }
     ensures length { IfOk result (λ bytes. length bytes.items ≡ len) }
-    ensures fault { IfErr result (λ fault. (fault ≡ BodyFault.Memory) ⊎ ((fault ≡ BodyFault.Read) × Rose (D.faults dumps.old) (D.faults dumps.new))) }
+    ensures fault { IfErr result (λ fault. (fault ≡ BodyFault.Memory) ⊎ ((fault ≡ BodyFault.Read) × DeviceFailed (used D.files D.now D.faults D.taken dumps.old dumps.new))) }
 {
     let Ok(mut bytes) = vec![in alloc; 0u8; len] else {
         return Err(BodyFault::Memory);
@@ -67,15 +62,11 @@ pub fn read_body<D: Dumps>(
 ) -> Result<Vec<u8>, BodyFault>
     requires over { IsBuiltOver (D.now dumps.old) index.now }
     requires place { i < length index.now.headers }
-    ensures same_files { D.files dumps.new ≡ D.files dumps.old }
-    ensures same_now { D.now dumps.new ≡ D.now dumps.old }
-    ensures later { D.faults dumps.old ≤ D.faults dumps.new }
-    ensures taken_least { D.taken dumps.old ≤ D.taken dumps.new }
-    ensures taken_most { D.taken dumps.new ≤ plus_capped (D.taken dumps.old) (body_length (section_at index.now i)) }
+    ensures reads { ReadsAtMost (used D.files D.now D.faults D.taken dumps.old dumps.new) (body_length (section_at index.now i)) }
     ensures body { IfOk result (λ body. IsBodyOf (D.now dumps.old) (section_at index.now i) body.items) }
     ensures length { IfOk result (λ body. length body.items ≡ body_length (section_at index.now i)) }
     ensures loaded { OnOk result (body_length (section_at index.now i) ≤ limits.now.section) }
-    ensures fault { IfErr result (IsCauseOf (section_at index.now i) limits.now.section (D.faults dumps.old) (D.faults dumps.new)) }
+    ensures fault { IfErr result (IsCauseOf (section_at index.now i) limits.now.section (used D.files D.now D.faults D.taken dumps.old dumps.new)) }
 
     // A body that is too large is always refused as such, and the device plays no part.
     ensures too_large { let section = section_at index.now i in limits.now.section < body_length section

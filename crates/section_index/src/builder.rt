@@ -1,9 +1,10 @@
 // The index of a dump is built in one pass over its bytes.
-ghost use Rattle.std.specs.Prelude.{◌≡◌, ◌⊎◌, ◌+◌, ◌-◌, ◌<◌, ◌≤◌, ℕ, List, length, take, min, false, Some, None, OnOk, IfOk, IfErr, IsErrOf};
-ghost use Rattle.dump_io.specs.Counts.{Rose, HasCause, plus_capped};
-ghost use Rattle.dump_io.specs.Dumps.{Files, Now, told, IsOpen, size_of, IsAbsent, Gives};
-ghost use Rattle.section_index.specs.Index.{IsAnswerFor, IsClosedOrNamed, IsBuiltOver, IsTooLargeFor, IsSmall};
-ghost use Rattle.section_index.specs.Reading.{HasBegun, IsRefusal};
+ghost use Rattle.std.specs.Prelude.{◌≡◌, ◌⊎◌, ◌+◌, ◌-◌, ◌<◌, ◌≤◌, ℕ, List, length, take, min, false, Some, None, OnOk, OnErr, IfOk, IfErr, IsErrOf};
+ghost use Rattle.dump_io.specs.Counts.{plus_capped};
+ghost use Rattle.dump_io.specs.Dumps.{told, IsOpen, size_of, IsAbsent, Gives, used, DeviceFailed, ReadsAtMost};
+ghost use Rattle.section_index.specs.Index.{IsAnswerFor, IsBuiltOver, IsFileOf, IsTooLargeFor, ReadsFile};
+ghost use Rattle.section_index.specs.Inner.Reading.{IsNotTooLarge};
+ghost use Rattle.section_index.specs.Inner.Reading.{HasBegun, IsHeaderRefusal};
 
 use crate::beginning::judge_beginning;
 use crate::index::Index;
@@ -20,7 +21,7 @@ const PIECE: usize = 65_536;
 
 // A buffer for a piece.
 fn make_buffer(alloc: Global) -> Result<Vec<u8>, AllocError>
-    ensures { IfOk result (λ buffer. length buffer.items ≡ 65536) }
+    ensures { IfOk result (λ buffer. length buffer.items ≡ PIECE) }
 {
     vec![in alloc; 0u8; PIECE]
 }
@@ -35,14 +36,11 @@ fn read_piece<D: Dumps>(
     requires open { IsOpen (D.now dumps.old) }
     requires size { size_of (D.now dumps.old) ≡ size }
     requires inside { at ≤ size }
-    ensures same_files { D.files dumps.new ≡ D.files dumps.old }
-    ensures same_now { D.now dumps.new ≡ D.now dumps.old }
-    ensures cause { HasCause (D.faults dumps.old) (D.faults dumps.new) result }
+    ensures reads { ReadsAtMost (used D.files D.now D.faults D.taken dumps.old dumps.new) (min (length buffer.old) (size - at)) }
+    ensures failed { OnErr result (DeviceFailed (used D.files D.now D.faults D.taken dumps.old dumps.new)) }
     ensures count { IfOk result (λ count. count ≡ min (length buffer.old) (size - at)) }
     ensures piece { IfOk result (λ count. Gives (D.now dumps.old) at (take count buffer.new)) }
     ensures taken { IfOk result (λ count. D.taken dumps.new ≡ plus_capped (D.taken dumps.old) count) }
-    ensures taken_least { D.taken dumps.old ≤ D.taken dumps.new }
-    ensures taken_most { D.taken dumps.new ≤ plus_capped (D.taken dumps.old) (size - at) }
 {
     let count = buffer.len().min((size - at) as usize);
     read_full(dumps, at, &mut buffer[..count])?;
@@ -67,18 +65,14 @@ fn feed_rest<B: Bounds, D: Dumps>(
     requires offset { scan.old.offset ≡ from }
     requires silent { receiver.old.stop ≡ None }
     requires begun { HasBegun (D.now dumps.old) scan.old receiver.old }
-    ensures same_files { D.files dumps.new ≡ D.files dumps.old }
-    ensures same_now { D.now dumps.new ≡ D.now dumps.old }
-    ensures later { D.faults dumps.old ≤ D.faults dumps.new }
-    ensures taken_least { D.taken dumps.old ≤ D.taken dumps.new }
-    ensures taken_most { D.taken dumps.new ≤ plus_capped (D.taken dumps.old) (size - from) }
+    ensures reads { ReadsAtMost (used D.files D.now D.faults D.taken dumps.old dumps.new) (size - from) }
     ensures fresh { OnOk result (scan.new.spent ≡ false) }
     ensures limit { scan.new.limit ≡ scan.old.limit }
     ensures offset { OnOk result (scan.new.offset ≡ size) }
     ensures silent { OnOk result (receiver.new.stop ≡ None) }
     ensures begun { OnOk result (HasBegun (D.now dumps.old) scan.new receiver.new) }
-    ensures fault { IfErr result (λ fault. (fault ≡ OpenFault.Read) ⊎ IsRefusal B.limits (D.now dumps.old) fault) }
-    ensures read { IsErrOf result OpenFault.Read → Rose (D.faults dumps.old) (D.faults dumps.new) }
+    ensures fault { IfErr result (λ fault. (fault ≡ OpenFault.Read) ⊎ IsHeaderRefusal B.limits (D.now dumps.old) fault) }
+    ensures read { IsErrOf result OpenFault.Read → DeviceFailed (used D.files D.now D.faults D.taken dumps.old dumps.new) }
 {
     let mut at = from;
     while at < size {
@@ -103,18 +97,14 @@ fn index_of<B: Bounds, D: Dumps>(
     requires size { size_of (D.now dumps.old) ≡ size }
     requires small { size ≤ limits.now.dump }
     requires limits { limits.now ≡ B.limits }
-    requires room { length buffer.old ≡ 65536 }
-    ensures same_files { D.files dumps.new ≡ D.files dumps.old }
-    ensures same_now { D.now dumps.new ≡ D.now dumps.old }
-    ensures later { D.faults dumps.old ≤ D.faults dumps.new }
-    ensures taken_least { D.taken dumps.old ≤ D.taken dumps.new }
-    ensures taken_most { D.taken dumps.new ≤ plus_capped (D.taken dumps.old) size }
+    requires room { length buffer.old ≡ PIECE }
+    ensures reads { ReadsAtMost (used D.files D.now D.faults D.taken dumps.old dumps.new) size }
     ensures answer { (bytes : List ℕ) → D.now dumps.old ≡ told bytes → IsAnswerFor bytes limits.now result }
     ensures over { IfOk result (IsBuiltOver (D.now dumps.old)) }
     ensures sized { IfOk result (λ index. index.size ≤ limits.now.dump) }
     ensures sections { IfOk result (λ index. length index.headers ≤ limits.now.sections) }
-    ensures fault { IfErr result IsSmall }
-    ensures read { IsErrOf result OpenFault.Read → Rose (D.faults dumps.old) (D.faults dumps.new) }
+    ensures fault { IfErr result IsNotTooLarge }
+    ensures read { IsErrOf result OpenFault.Read → DeviceFailed (used D.files D.now D.faults D.taken dumps.old dumps.new) }
 {
     let Ok(count) = read_piece(dumps, 0, size, buffer) else {
         return Err(OpenFault::Read);
@@ -144,24 +134,14 @@ pub fn build<D: Dumps>(
     name: &str,
     limits: &Limits,
 ) -> Result<Index, OpenFault>
-    ensures same_files { D.files dumps.new ≡ D.files dumps.old }
-    ensures now { IsClosedOrNamed (D.files dumps.old) name.now (D.now dumps.new) }
-    ensures later { D.faults dumps.old ≤ D.faults dumps.new }
-    ensures taken_least { D.taken dumps.old ≤ D.taken dumps.new }
-    ensures taken_most { D.taken dumps.new ≤ plus_capped (D.taken dumps.old) (size_of (D.now dumps.new)) }
-
-    // Where the files are told, the answer is that for the bytes of this name.
-    ensures answer { (files : Files) (bytes : List ℕ) → D.files dumps.old ≡ Some files → files name.now ≡ Some bytes
-        → IsAnswerFor bytes limits.now result }
-
-    // So it is where the bytes alone are told.
-    ensures told { (bytes : List ℕ) → D.now dumps.new ≡ told bytes → IsAnswerFor bytes limits.now result }
+    ensures device { ReadsFile (used D.files D.now D.faults D.taken dumps.old dumps.new) name.now }
+    ensures answer { (bytes : List ℕ) → IsFileOf (used D.files D.now D.faults D.taken dumps.old dumps.new) name.now bytes → IsAnswerFor bytes limits.now result }
     ensures absent { IsAbsent (D.files dumps.old) name.now → IsErrOf result OpenFault.Read }
     ensures over { IfOk result (IsBuiltOver (D.now dumps.new)) }
     ensures sized { IfOk result (λ index. index.size ≤ limits.now.dump) }
     ensures sections { IfOk result (λ index. length index.headers ≤ limits.now.sections) }
     ensures too_large { IfErr result (IsTooLargeFor (D.now dumps.new) limits.now) }
-    ensures read { IsErrOf result OpenFault.Read → Rose (D.faults dumps.old) (D.faults dumps.new) ⊎ IsAbsent (D.files dumps.old) name.now }
+    ensures read { IsErrOf result OpenFault.Read → DeviceFailed (used D.files D.now D.faults D.taken dumps.old dumps.new) ⊎ IsAbsent (D.files dumps.old) name.now }
 {
     let Ok(size) = dumps.open_dump(name) else {
         return Err(OpenFault::Read);

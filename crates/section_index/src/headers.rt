@@ -2,7 +2,7 @@
 ghost use Rattle.std.specs.Prelude.{◌≡◌, ◌<◌, ◌≤◌, ◌+◌, ◌^◌, List, [], ◌∷◌, ◌++◌, length, slice_get, Option, None, Some, OnOk, OnErr, IfErr};
 ghost use Rattle.std.specs.List.{between};
 ghost use Rattle.dump_io.specs.Lines.{Header};
-ghost use Rattle.section_index.specs.Headers.{headers_in, AreWithin};
+ghost use Rattle.section_index.specs.Inner.Headers.{headers_in, AreWithin};
 
 use std::alloc::{AllocError, Global};
 use std::marker::Model;
@@ -58,7 +58,7 @@ pub(crate) struct Headers {
 impl Model for Headers {
     ghost use Rattle.std.specs.Prelude.{List, length};
     ghost use Rattle.dump_io.specs.Lines.{Header};
-    ghost use Rattle.section_index.specs.Headers.{headers_in, AreWithin};
+    ghost use Rattle.section_index.specs.Inner.Headers.{headers_in, AreWithin};
 
     ghost Value = { List Header };
 

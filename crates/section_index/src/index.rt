@@ -1,6 +1,8 @@
 // The index of a dump.
 ghost use Rattle.std.specs.Prelude.{◌≡◌, ◌<◌, ◌≤◌, length, slice_get, Some};
 ghost use Rattle.std.specs.Option.{option_copied};
+ghost use Rattle.dump_io.specs.Limits.{usual};
+ghost use Rattle.section_index.specs.Bodies.{section_at};
 ghost use Rattle.section_index.specs.Index.{Contents, AreBounded, sections_in, state_of, IsLastPlace};
 ghost use Rattle.section_index.specs.Sections.{section, sections_of, end_at, tag_of, id_of};
 ghost use Rattle.section_index.specs.Tiling.{Tile};
@@ -69,8 +71,8 @@ impl Model for Index {
 impl Index {
     pub(crate) fn new(headers: Headers, size: u64, version: Version) -> Index
         requires some { 1 ≤ length headers }
-        requires sections { length headers ≤ 8000000 }
-        requires size { size ≤ 68719476736 }
+        requires sections { length headers ≤ usual.sections }
+        requires size { size ≤ usual.dump }
         requires tiled { Tile 0 size (sections_of headers size) }
         ensures { result ≡ record { headers = headers; size = size; version = version } }
     {
@@ -124,6 +126,7 @@ impl Index {
     pub fn section(&self, i: usize) -> Section<'_>
         requires { i < length self.now.headers }
         ensures place { slice_get (sections_in self.now) i ≡ Some (section result.at result.body result.end result.text.now) }
+        ensures at_place { section_at self.now i ≡ section result.at result.body result.end result.text.now }
         ensures tag { result.tag.now ≡ tag_of result.text.now }
         ensures id { option_copied result.id ≡ id_of result.text.now }
         ensures begins { result.at < result.body }

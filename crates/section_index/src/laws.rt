@@ -1,5 +1,5 @@
 // The laws of sections.
-ghost use Rattle.std.specs.Prelude.{◌≡◌, ℕ, true, length, take, nat_eq};
+ghost use Rattle.std.specs.Prelude.{◌≡◌, ℕ, List, true, length, take, nat_eq};
 ghost use Rattle.std.specs.List.{starts_with};
 ghost use Rattle.section_index.specs.Cuts.{AreCut};
 ghost use Rattle.section_index.specs.Opening.{signature};
@@ -8,11 +8,11 @@ ghost use Rattle.section_index.specs.Tiling.{Tile};
 
 /// A law, and no work: a dump that breaks off has the sections of the whole dump that begin within what is
 /// left. All but the last are as in the whole dump, and the last begins at the same offset.
-pub fn a_cut_keeps_sections(bytes: &[u8])
-    ensures { (n : ℕ) → let front = take n bytes.now in AreCut (sections front) (sections bytes.now) (length front) }
+pub fn a_cut_keeps_sections()
+    ensures { (bytes : List ℕ) (n : ℕ) → let front = take n bytes in AreCut (sections front) (sections bytes) (length front) }
 {}
 
 /// A law, and no work: the sections of what begins as a dump tile it, from its first byte to its last.
-pub fn sections_tile_a_dump(bytes: &[u8])
-    ensures { starts_with nat_eq bytes.now signature ≡ true → Tile 0 (length bytes.now) (sections bytes.now) }
+pub fn sections_tile_a_dump()
+    ensures { (bytes : List ℕ) → starts_with nat_eq bytes signature ≡ true → Tile 0 (length bytes) (sections bytes) }
 {}

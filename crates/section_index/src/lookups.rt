@@ -3,7 +3,8 @@ ghost use Rattle.std.specs.Prelude.{◌≡◌, ◌<◌, length, IfSome, position
 ghost use Rattle.std.specs.Option.{option_copied, option_and_then};
 ghost use Rattle.section_index.specs.Index.{sections_in};
 ghost use Rattle.dump_io.specs.Numbers.{hex_number};
-ghost use Rattle.section_index.specs.Lookups.{has_tag, is_named, has_hex, is_wanted};
+ghost use Rattle.section_index.specs.Lookups.{has_tag, is_named, has_hex};
+ghost use Rattle.section_index.specs.Inner.Wanted.{is_wanted};
 
 use crate::header_text::tag_and_id;
 use crate::index::Index;

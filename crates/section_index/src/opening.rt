@@ -53,7 +53,7 @@ pub enum OpenFault {
 }
 
 impl From<ScanFault> for OpenFault {
-    ghost use Rattle.section_index.specs.Scanning.{open_fault_of};
+    ghost use Rattle.section_index.specs.Inner.Scanning.{open_fault_of};
 
     ghost from_gives = { λ fault open'. open' ≡ open_fault_of fault };
 

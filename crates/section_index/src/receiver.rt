@@ -2,11 +2,11 @@
 ghost use Rattle.std.specs.Prelude.{◌≡◌, [], None, ◌++◌, ◌∷◌, OnOk, OnErr, IsErrOf, IfErr};
 ghost use Rattle.dump_io.specs.Lines.{Header};
 ghost use Rattle.line_source.specs.Receiver.{Hears};
-ghost use Rattle.section_index.specs.Receiver.{IsCause, KeepsTo};
+ghost use Rattle.section_index.specs.Inner.Receiver.{IsStopCause, KeepsTo};
 
 use crate::headers::Headers;
 use dump_io::Limits;
-use line_source::{HeaderSink, HeaderStop};
+use line_source::{HeaderSink, HeaderStop, RefusedHeader};
 use std::alloc::Global;
 use std::marker::{Brand, Model, PhantomData};
 
@@ -24,14 +24,6 @@ impl Bounds for Brand {
     ghost limits = { usual };
 }
 
-// A header that was refused: why, the offset at which its line begins, and the bytes of its text.
-#[derive(Clone, Copy)]
-pub(crate) struct Refused {
-    value: HeaderStop,
-    at: u64,
-    size: usize,
-}
-
 // Keeps the headers that it hears, and the first that it refuses.
 #[derive(Drop)]
 pub(crate) struct Receiver<B: Bounds> {
@@ -39,24 +31,23 @@ pub(crate) struct Receiver<B: Bounds> {
     text_bytes: usize,
     sections: usize,
     pool: usize,
-    refused: Option<Refused>,
+    refused: Option<RefusedHeader>,
     of: PhantomData<B>,
 }
 
 impl<B: Bounds> Model for Receiver<B> {
     ghost use Rattle.std.specs.Prelude.{◌≡◌};
     ghost use Rattle.section_index.specs.Opening.{text_bytes as bytes_of_texts};
-    ghost use Rattle.section_index.specs.Receiver.{Hearing, KeepsTo};
-    ghost use Rattle.section_index.specs.Refused.{stop_in};
+    ghost use Rattle.section_index.specs.Inner.Receiver.{Hearing, KeepsTo};
 
     ghost Value = { Hearing };
 
-    ghost view = { λ r. record { heard = r.headers; stop = stop_in r.refused } };
+    ghost view = { λ r. record { heard = r.headers; stop = r.refused } };
 
     ghost invariant = { λ r. (r.sections ≡ B.limits.sections)
         × (r.pool ≡ B.limits.pool)
         × (r.text_bytes ≡ bytes_of_texts r.headers)
-        × KeepsTo B.limits (record { heard = r.headers; stop = stop_in r.refused }) };
+        × KeepsTo B.limits (record { heard = r.headers; stop = r.refused }) };
 }
 
 impl<B: Bounds> HeaderSink for Receiver<B> {
@@ -96,11 +87,11 @@ impl<B: Bounds> Receiver<B> {
 
     // Refuses a header for this cause, which the caller has seen.
     fn refuse(&mut self, value: HeaderStop, at: u64, size: usize) -> Result<(), HeaderStop>
-        requires { IsCause B.limits self.old.heard value at size }
+        requires { IsStopCause B.limits self.old.heard value at size }
         ensures heard { self.new.heard ≡ self.old.heard }
         ensures refused { (result ≡ Err value) × (self.new.stop ≡ Some (record { value = value; at = at; size = size })) }
     {
-        self.refused = Some(Refused { value, at, size });
+        self.refused = Some(RefusedHeader { value, at, size });
         Err(value)
     }
 

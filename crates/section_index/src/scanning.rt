@@ -2,7 +2,7 @@
 ghost use Rattle.std.specs.Prelude.{◌≡◌, ◌+◌, ◌<◌, ◌≤◌, ◌^◌, ◌++◌, ℕ, List, false, None, length, OnOk, IfOk, IfErr};
 ghost use Rattle.dump_io.specs.Lines.{headers};
 ghost use Rattle.section_index.specs.Opening.{header_fault};
-ghost use Rattle.section_index.specs.Scanning.{HasHeard, IsHeaderFault, IsOfAHeader};
+ghost use Rattle.section_index.specs.Inner.Scanning.{HasHeard, IsHeaderFault, IsOfAHeader};
 
 use crate::headers::Headers;
 use crate::opening::OpenFault;

@@ -1,6 +1,6 @@
 use Rattle.std.proofs.Common.{◌≤◌, ◌-◌, length}
 use Rattle.memchr.specs.Find.{Nowhere}
-use Rattle.line_source.specs.Starts.{BeginsHeader}
+use Rattle.line_source.specs.Inner.Starts.{BeginsHeader}
 use Rattle.line_source.proofs.starts.header_start.Given as goal
 
 abbrev pub invariant-loop-found : goal.invariant-loop-found

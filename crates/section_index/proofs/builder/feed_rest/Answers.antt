@@ -2,8 +2,9 @@ use Rattle.std.proofs.Common.{◌≡◌, ◌-◌, ◌≤◌, ◌++◌, length, t
 use Rattle.std.proofs.lemmas.Result.{err_from_is_err_and}
 use Rattle.std.proofs.lemmas.List.{length-take-le}
 use Rattle.dump_io.specs.Dumps.{Gives}
+use Rattle.dump_io.specs.Laws.Reads.{ReadsAtMost-both}
 use Rattle.section_index.specs.Opening.{signature}
-use Rattle.section_index.proofs.Grown.{Gives-next, starts_with-append, IsRefusal-first, taken-next}
+use Rattle.section_index.proofs.Grown.{Gives-next, starts_with-append, IsHeaderRefusal-first}
 use Rattle.section_index.proofs.builder.feed_rest.Goals as goal
 
 pub returns-in_err-feed_piece-clause-fault : goal.returns-in_err-feed_piece-clause-fault
@@ -17,8 +18,8 @@ returns-in_err-feed_piece-clause-fault g c =
     let fed = c.in_err-feed_piece.ensures in
     let next : Gives now 0 (begun.bytes ++ piece) =
     Gives-next now begun.bytes piece c.loop-at.at (sym all.offset ∙ begun.heard.stands.offset) begun.first
-    (subst (λ n. Gives n c.loop-at.at piece) all.same_now read.piece) in
-    rw (p.1, p.2) (inr (IsRefusal-first g.B.Bounds.limits now (begun.bytes ++ piece) c.in_err-feed_piece.field-0.0 next fed.fault
+    (subst (λ n. Gives n c.loop-at.at piece) all.reads.same_now read.piece) in
+    rw (p.1, p.2) (inr (IsHeaderRefusal-first g.B.Bounds.limits now (begun.bytes ++ piece) c.in_err-feed_piece.field-0.0 next fed.fault
     (λ more. fed.refused begun.bytes more begun.heard)))
 
 pub loop-at-preserved : goal.loop-at-preserved
@@ -36,11 +37,7 @@ loop-at-preserved g c =
     record {
       from = omega (arith, all.from);
       inside = omega (arith, all.inside, upto);
-      same_files = read.same_files ∙ all.same_files;
-      same_now = read.same_now ∙ all.same_now;
-      later = omega (arith, all.later, read.cause.later);
-      taken_least = omega (arith, all.taken_least, read.taken_least);
-      taken_most = taken-next (d.taken c.args.dumps.now) (d.taken c.loop-at.dumps) (d.taken c.read_piece.new.dumps) c.args.from c.loop-at.at count all.from all.taken_most read.taken;
+      reads = ReadsAtMost-both all.reads read.reads (omega (arith, read.count, all.from));
       fresh = fed.fresh;
       limit = fed.limit ∙ all.limit;
       offset = fed.offset ∙ omega (arith, all.offset, size);
@@ -48,7 +45,7 @@ loop-at-preserved g c =
       begun = record {
         bytes = begun.bytes ++ piece;
         first = Gives-next now begun.bytes piece c.loop-at.at (sym all.offset ∙ begun.heard.stands.offset) begun.first
-            (subst (λ n. Gives n c.loop-at.at piece) all.same_now read.piece);
+            (subst (λ n. Gives n c.loop-at.at piece) all.reads.same_now read.piece);
         signed = starts_with-append begun.bytes piece signature begun.signed;
         heard = fed.heard begun.bytes begun.heard;
       };

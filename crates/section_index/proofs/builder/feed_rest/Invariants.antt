@@ -1,6 +1,6 @@
 use Rattle.std.proofs.Common.{◌≡◌, ◌-◌, ◌≤◌, false, None}
-use Rattle.dump_io.specs.Counts.{plus_capped}
-use Rattle.section_index.specs.Reading.{HasBegun}
+use Rattle.dump_io.specs.Dumps.{used, ReadsAtMost}
+use Rattle.section_index.specs.Inner.Reading.{HasBegun}
 use Rattle.section_index.proofs.builder.feed_rest.Given as goal
 
 abbrev pub invariant-loop-at : goal.invariant-loop-at
@@ -9,11 +9,7 @@ invariant-loop-at g l =
     record {
       from : l.from ≤ l.at;
       inside : l.at ≤ l.size;
-      same_files : d.files l.dumps ≡ d.files l.initial.dumps;
-      same_now : d.now l.dumps ≡ d.now l.initial.dumps;
-      later : d.faults l.initial.dumps ≤ d.faults l.dumps;
-      taken_least : d.taken l.initial.dumps ≤ d.taken l.dumps;
-      taken_most : d.taken l.dumps ≤ plus_capped (d.taken l.initial.dumps) (l.at - l.from);
+      reads : ReadsAtMost (used d.files d.now d.faults d.taken l.initial.dumps l.dumps) (l.at - l.from);
       fresh : l.scan.spent ≡ false;
       limit : l.scan.limit ≡ l.initial.scan.limit;
       offset : l.scan.offset ≡ l.at;

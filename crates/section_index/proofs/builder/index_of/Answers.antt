@@ -1,8 +1,8 @@
 use Rattle.std.proofs.Common.{◌≡◌, ◌++◌, [], length, take, Ok, Err, sym, ◌∙◌, ap, subst, arith}
 use Rattle.std.proofs.lemmas.Result.{err_from_is_err_and}
 use Rattle.dump_io.specs.Dumps.{Gives}
-use Rattle.section_index.specs.Beginning.{IsOfTheBytes}
-use Rattle.section_index.specs.Scanning.{HasHeard, IsHeaderFault}
+use Rattle.section_index.specs.Inner.Beginning.{IsOfTheBeginning}
+use Rattle.section_index.specs.Inner.Scanning.{HasHeard, IsHeaderFault}
 use Rattle.dump_io.specs.Lines.{headers}
 use Rattle.section_index.specs.Opening.{header_fault}
 use Rattle.section_index.specs.declared.opening.OpenFault.TheVariants.{Read}
@@ -34,7 +34,7 @@ returns-in_err-version-clause-fault g c =
 pub returns-in_err-version-clause-read : goal.returns-in_err-version-clause-read
 returns-in_err-version-clause-read g c =
     let p = err_from_is_err_and c.from_residual.result c.from_residual.ensures.1 in
-    rw (p.1, p.2) (λ is. let same : c.in_err-version.field-0.0 ≡ Read = cc in absurd (subst IsOfTheBytes same c.in_err-version.ensures.fault))
+    rw (p.1, p.2) (λ is. let same : c.in_err-version.field-0.0 ≡ Read = cc in absurd (subst IsOfTheBeginning same c.in_err-version.ensures.fault))
 
 pub returns-in_err-feed_piece-clause-answer : goal.returns-in_err-feed_piece-clause-answer
 returns-in_err-feed_piece-clause-answer g c bytes is =
@@ -59,7 +59,7 @@ feed_rest-requires-clause-begun g c =
     let begun : HasHeard c.new-scan.result c.new-receiver.result [] = record { stands = c.new-scan.ensures.stands; heard = ap (λ h. h.heard) c.new-receiver.ensures } in
     record {
       bytes = first;
-      first = subst (λ n. Gives n 0 first) (sym read.same_now) read.piece;
+      first = subst (λ n. Gives n 0 first) (sym read.reads.same_now) read.piece;
       signed = signed-first first c.args.limits.now c.in_ok-version.version c.in_ok-version.ensures.judged;
       heard = c.in_ok-feed_piece.ensures.heard [] begun;
     }
@@ -76,7 +76,7 @@ returns-in_err-feed_rest-clause-answer g c bytes is =
     let fault = c.in_err-feed_rest.field-0.0 in
     rw (p.1, p.2) (answer-rest bytes limits g.B.Bounds.limits c.in_ok-version.version (g.D.Dumps.now c.read_piece.new.dumps) fault (omega (arith, c.requires.small, piece.size'))
     (judged-whole bytes first c.args.size limits (Ok c.in_ok-version.version) piece c.in_ok-version.ensures.judged)
-    c.requires.limits (read.same_now ∙ is) c.in_err-feed_rest.ensures.fault)
+    c.requires.limits (read.reads.same_now ∙ is) c.in_err-feed_rest.ensures.fault)
 
 pub returns-in_err-headers-clause-answer : goal.returns-in_err-headers-clause-answer
 returns-in_err-headers-clause-answer g c bytes is =
@@ -91,7 +91,7 @@ returns-in_err-headers-clause-answer g c bytes is =
     let begun = c.in_ok-feed_rest.ensures.begun in
     let all : begun.bytes ≡ bytes =
     Gives-all begun.bytes bytes (omega (arith, begun.heard.stands.offset, c.in_ok-feed_rest.ensures.offset, piece.size'))
-    (subst (λ n. Gives n 0 begun.bytes) (read.same_now ∙ is) begun.first) in
+    (subst (λ n. Gives n 0 begun.bytes) (read.reads.same_now ∙ is) begun.first) in
     rw (p.1, p.2) (answer-header bytes limits c.in_ok-version.version fault (omega (arith, c.requires.small, piece.size'))
     (judged-whole bytes first c.args.size limits (Ok c.in_ok-version.version) piece c.in_ok-version.ensures.judged)
     (subst (λ b. IsHeaderFault limits b fault) all
@@ -121,7 +121,7 @@ returns-clause-answer g c bytes is =
     let begun = c.in_ok-feed_rest.ensures.begun in
     let all : begun.bytes ≡ bytes =
     Gives-all begun.bytes bytes (omega (arith, begun.heard.stands.offset, c.in_ok-feed_rest.ensures.offset, piece.size'))
-    (subst (λ n. Gives n 0 begun.bytes) (read.same_now ∙ is) begun.first) in
+    (subst (λ n. Gives n 0 begun.bytes) (read.reads.same_now ∙ is) begun.first) in
     let heard = c.in_ok-headers.ensures.heard begun.bytes begun.heard in
     rw c.new.ensures (answer-index bytes limits c.in_ok-version.version c.in_ok-headers.headers c.args.size piece.size' (omega (arith, c.requires.small, piece.size'))
     (judged-whole bytes first c.args.size limits (Ok c.in_ok-version.version) piece c.in_ok-version.ensures.judged)

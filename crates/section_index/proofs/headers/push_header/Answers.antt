@@ -1,5 +1,5 @@
 use Rattle.std.proofs.Common.{◌≡◌, length, ap, rules, arith, length-append}
-use Rattle.section_index.specs.Headers.{headers_in}
+use Rattle.section_index.specs.Inner.Headers.{headers_in}
 use Rattle.section_index.proofs.Kept.{headers_in-grown, headers_in-push, AreWithin-more, AreWithin-push}
 use Rattle.section_index.proofs.headers.push_header.Goals as goal
 

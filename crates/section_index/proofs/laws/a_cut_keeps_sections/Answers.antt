@@ -2,4 +2,4 @@ use Rattle.section_index.proofs.Cutting.{sections_cut}
 use Rattle.section_index.proofs.laws.a_cut_keeps_sections.Goals as goal
 
 pub returns : goal.returns
-returns c = sections_cut c.args.bytes.now
+returns c = sections_cut

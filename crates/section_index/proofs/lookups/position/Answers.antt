@@ -1,6 +1,6 @@
 use Rattle.std.proofs.Common.{[], sym, ◌∙◌, arith}
 use Rattle.section_index.specs.Index.{sections_in}
-use Rattle.section_index.specs.Lookups.{is_wanted}
+use Rattle.section_index.specs.Inner.Wanted.{is_wanted}
 use Rattle.section_index.specs.Sections.{Section, section}
 use Rattle.section_index.proofs.FirstPlace.{NoneBelow-more, position-found, position-none}
 use Rattle.section_index.proofs.lookups.position.Goals as goal

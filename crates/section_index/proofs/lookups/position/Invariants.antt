@@ -1,6 +1,6 @@
 use Rattle.std.proofs.Common.{[]}
 use Rattle.section_index.specs.Index.{sections_in}
-use Rattle.section_index.specs.Lookups.{is_wanted}
+use Rattle.section_index.specs.Inner.Wanted.{is_wanted}
 use Rattle.section_index.specs.Sections.{section}
 use Rattle.section_index.proofs.FirstPlace.{NoneBelow}
 use Rattle.section_index.proofs.lookups.position.Given as goal

@@ -3,9 +3,9 @@ use Rattle.line_source.proofs.LastLines.{open_headers-header, open_headers-other
 use Rattle.line_source.proofs.line_scan.LineScan.hear_last.Goals as goal
 
 pub returns-in_err-hear_open-clause-refused : goal.returns-in_err-hear_open-clause-refused
-returns-in_err-hear_open-clause-refused g c stream stands refusal stop =
+returns-in_err-hear_open-clause-refused g c stream stands kept stop =
     let refused = c.in_err-hear_open.ensures in
-    StopsAmong-last c.args.self.now stream _ _ _ refusal stands (sym c.in_header.ensures ∙ c.if-in_header.true) refused.0 (sym refused.1 ∙ stop) refl refl
+    StopsAmong-last c.args.self.now stream _ _ _ kept stands (sym c.in_header.ensures ∙ c.if-in_header.true) refused.0 (sym refused.1 ∙ stop) refl refl
 
 pub returns-in_ok-hear_open-clause-heard : goal.returns-in_ok-hear_open-clause-heard
 returns-in_ok-hear_open-clause-heard g c stream stands =

@@ -2,9 +2,9 @@ use Rattle.std.proofs.Common.{◌+◌, ◌-◌, ◌≤◌, ◌++◌, length, tak
 use Rattle.std.proofs.lemmas.Result.{err_from_is_err_and}
 use Rattle.line_source.specs.Streams.{new_headers, too_long}
 use Rattle.line_source.specs.Scan.{StandsFor}
-use Rattle.line_source.specs.Feeding.{Ends}
+use Rattle.line_source.specs.Inner.Ends.{Ends}
 use Rattle.line_source.proofs.Pieces.{new_headers-append}
-use Rattle.line_source.proofs.Joins.{two_parts, both_parts, Ends-later, new_headers-none, refusal-none}
+use Rattle.line_source.proofs.Joins.{two_parts, both_parts, Ends-later, new_headers-none, refused-none}
 use Rattle.line_source.proofs.StartPlaces.{length-rest}
 use Rattle.line_source.proofs.line_scan.LineScan.take_all.Goals as goal
 
@@ -55,7 +55,7 @@ loop-done-preserved g c =
       within = omega (arith, inside, all.within);
       limit = some.limit ∙ all.limit;
       offset = some.offset ∙ ap (λ k. k + n) all.offset ∙ omega arith;
-      open' = refusal-none (sink.stop c.take_some.new.into) some.stop;
+      open' = refused-none (sink.stop c.take_some.new.into) some.stop;
       stands = λ stream stands.
           subst (λ bytes. StandsFor c.take_some.new.self (stream ++ bytes)) (two_parts piece done n)
           (subst (λ bytes. StandsFor c.take_some.new.self bytes) (append_assoc stream (take done piece) part)

@@ -4,7 +4,8 @@ use Rattle.std.proofs.lemmas.List.{take_all, append-nil, take-append-drop}
 use Rattle.dump_io.specs.Lines.{lf, text_of}
 use Rattle.line_source.specs.Streams.{new_headers}
 use Rattle.line_source.specs.Scan.{StandsFor}
-use Rattle.line_source.specs.Feeding.{header_bytes, EndsTooLong, EndsRefused}
+use Rattle.line_source.specs.Inner.Ends.{EndsTooLong, EndsRefused}
+use Rattle.line_source.specs.Inner.LastLine.{header_bytes}
 use Rattle.line_source.proofs.Stretches.{lacks_lf}
 use Rattle.line_source.proofs.HeaderLines.{lacks-before, header-known, EndsTooLong-here, EndsRefused-here, around-lf, up-to-lf, new_headers-line, new_headers-longer, kept-offset, kept-bytes, StandsFor-kept, StandsFor-heard, heard-kept}
 use Rattle.line_source.proofs.line_scan.LineScan.take_header.Goals as goal

@@ -3,7 +3,7 @@ use Rattle.std.specs.List.{slice_get}
 use Rattle.std.proofs.lemmas.List.{length-map}
 use Rattle.dump_io.specs.Lines.{Header}
 use Rattle.section_index.specs.declared.headers.Head.{Head}
-use Rattle.section_index.specs.Headers.{header_in}
+use Rattle.section_index.specs.Inner.Headers.{header_in}
 use Rattle.section_index.proofs.Kept.{headers_in-at, AreWithin-at}
 use Rattle.section_index.proofs.headers.Headers.header.Goals as goal
 

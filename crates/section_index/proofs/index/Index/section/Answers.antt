@@ -1,4 +1,5 @@
-use Rattle.std.proofs.Common.{◌≡◌, ◌<◌, ◌≤◌, sym, ◌∙◌, ap, Some, subst}
+use Rattle.std.proofs.Common.{◌≡◌, ◌<◌, ◌≤◌, sym, ◌∙◌, ap, Some, [], subst}
+use Rattle.std.specs.Prelude.{unwrap_or}
 use Rattle.std.specs.List.{slice_get}
 use Rattle.section_index.specs.Sections.{section, sections_of}
 use Rattle.section_index.specs.Index.{Contents, sections_in}
@@ -27,3 +28,8 @@ returns-clause-ends c = (tile c).1
 
 pub returns-clause-within : goal.returns-clause-within
 returns-clause-within c = subst (λ (index : Contents). c.end_of-end.result ≤ index.size) c.self.view_is (tile c).2
+
+pub returns-clause-at_place : goal.returns-clause-at_place
+returns-clause-at_place c =
+    ap (λ index. unwrap_or (slice_get (sections_in index) c.args.i) (section 0 0 0 [])) (sym c.self.view_is)
+    ∙ ap (λ found. unwrap_or found (section 0 0 0 [])) (place c)

@@ -1,0 +1,6 @@
+pub mod FirstFacts
+pub mod FirstPlace
+pub mod OrderFacts
+pub mod RecordFacts
+pub mod ResolvingFacts
+pub mod TargetFacts

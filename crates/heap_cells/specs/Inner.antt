@@ -1,0 +1,5 @@
+pub mod Order
+pub mod Parts
+pub mod Records
+pub mod Resolving
+pub mod Texts

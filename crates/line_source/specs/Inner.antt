@@ -1,0 +1,5 @@
+-- What only private functions cite.
+pub mod Ends
+pub mod LastLine
+pub mod Starts
+pub mod State

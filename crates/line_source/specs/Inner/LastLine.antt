@@ -1,0 +1,14 @@
+-- What the last line of the stream has in bytes.
+use Rattle.std.specs.Prelude.{ℕ, Bool, true, false, List, []}
+use Rattle.line_source.specs.Streams.{LastLine, ended, plain, header}
+
+-- the bytes of a header line that have come
+abbrev pub header_bytes : LastLine → List ℕ
+header_bytes ended = []
+header_bytes plain = []
+header_bytes (header bytes) = bytes
+
+abbrev pub is_header_line : LastLine → Bool
+is_header_line ended = false
+is_header_line plain = false
+is_header_line (header bytes) = true

@@ -1,0 +1,7 @@
+-- What only private functions cite.
+pub mod Beginning
+pub mod Headers
+pub mod Reading
+pub mod Receiver
+pub mod Scanning
+pub mod Wanted
