@@ -3,3 +3,5 @@ pub mod Coming
 pub mod Entries
 pub mod Kids
 pub mod Openings
+pub mod Rest
+pub mod Steps

@@ -108,15 +108,15 @@ abbrev mutual
   node_text leaf (Branch kinds.Inner children) m = shown [] m
   node_text leaf (Branch kinds.Pair children) m = shown [] m
 
-  -- a list from its head on
+  -- a list from its head on; each list cell has a head and a tail
   pub head_text : (Value → List ℕ) → Trees → ℕ → Shown
-  head_text leaf none m = shown (codes "]") m
+  head_text leaf none m = shown [] m
   head_text leaf (more head rest) zero = shown (codes "...]") 0
   head_text leaf (more head rest) (suc m) = node_text leaf head m then tail_text leaf rest
 
   -- a list from its tail on
   pub tail_text : (Value → List ℕ) → Trees → ℕ → Shown
-  tail_text leaf none m = shown (codes "]") m
+  tail_text leaf none m = shown [] m
   tail_text leaf (more tail rest) zero = shown (codes "|...]") 0
   tail_text leaf (more (Leaf value) rest) (suc m) = leaf_tail (is_nil value) (leaf value) m
   tail_text leaf (more (Branch kinds.Cons children) rest) (suc m) = led (codes ",") (head_text leaf children m)

@@ -7,11 +7,13 @@ use Rattle.heap_cells.specs.HeapMap.{HeapMap, form_at}
 use Rattle.heap_cells.specs.Targets.{number, target, Target}
 use Rattle.map_nodes.specs.Rules.{address_of}
 use Rattle.term_unfold.specs.declared.node.NodeKind.{NodeKind}
+use Rattle.term_unfold.specs.declared.node.NodeKind.TheVariants as kinds
 use Rattle.term_unfold.specs.declared.openings.Opened.{Opened}
 use Rattle.term_unfold.specs.declared.openings.Opened.TheVariants as opened
 use Rattle.term_unfold.specs.Inner.Entries.{Entered, numbers_of, path_of, is_item, IsLine}
 use Rattle.term_unfold.specs.Inner.Kids.{kids_of}
 use Rattle.term_unfold.specs.Rules.{Child, Term, Item, Opening, leaf, bad, node, opening}
+use Rattle.term_unfold.specs.Text.{is_nil}
 use Rattle.term_unfold.specs.Trees.{Immediate, OfCell}
 
 abbrev pub element_of : Child → Element
@@ -21,6 +23,26 @@ element_of (Item parent element) = element
 abbrev pub is_item_child : Child → Bool
 is_item_child (Term element) = false
 is_item_child (Item parent element) = true
+
+-- whether a child is the leaf that ends a list
+abbrev pub is_nil_term : Child → Bool
+is_nil_term (Term element) = is_nil (Immediate element)
+is_nil_term (Item parent element) = false
+
+-- whether a list goes on
+abbrev pub is_list_kind : NodeKind → Bool
+is_list_kind kinds.Cons = true
+is_list_kind kinds.Tuple = false
+is_list_kind kinds.Flat = false
+is_list_kind kinds.Hash = false
+is_list_kind kinds.Inner = false
+is_list_kind kinds.Pair = false
+
+abbrev pub is_list : Opened → Bool
+is_list opened.Immediate = false
+is_list (opened.Leaf ix) = false
+is_list (opened.Bad address why) = false
+is_list (opened.Node ix kind) = is_list_kind kind
 
 -- a cell that is a leaf
 pub record IsLeafAt (heap : List Cell) (path : List ℕ) (child : Child) (n : ℕ) : Type 0 where

@@ -1,8 +1,8 @@
 -- What the open cells of a walk still have to write.
-use Rattle.std.specs.Prelude.{ℕ, zero, suc, Bool, true, false, not, if◌then◌else◌, List, [], ◌∷◌, ◌++◌, codes, Option, None, Some}
+use Rattle.std.specs.Prelude.{◌≡◌, ◌⊎◌, ℕ, zero, suc, ◌+◌, ◌<◌, ◌≤◌, length, drop, slice_get, Bool, true, false, not, if◌then◌else◌, List, [], ◌∷◌, ◌++◌, codes, Option, None, Some}
 use Rattle.term_forms.specs.Forms.{HeapForm}
 use Rattle.heap_cells.specs.Cells.{Cell}
-use Rattle.heap_cells.specs.HeapMap.{form_at}
+use Rattle.heap_cells.specs.HeapMap.{HeapMap, form_at}
 use Rattle.heap_cells.specs.Targets.{number}
 use Rattle.map_nodes.specs.Rules.{address_of}
 use Rattle.term_unfold.specs.declared.children.Child.{Child as Kid}
@@ -13,8 +13,9 @@ use Rattle.term_unfold.specs.declared.openings.Opened.TheVariants as opened
 use Rattle.term_unfold.specs.declared.path.Entry.{Entry}
 use Rattle.term_unfold.specs.declared.turns.Turn.{Turn}
 use Rattle.term_unfold.specs.Inner.Coming.{left_of}
-use Rattle.term_unfold.specs.Inner.Entries.{came_of, is_item, path_of}
-use Rattle.term_unfold.specs.Inner.Openings.{element_of}
+use Rattle.term_unfold.specs.Inner.Entries.{Entered, came_of, is_item, path_of}
+use Rattle.term_unfold.specs.Inner.Openings.{element_of, Opens}
+use Rattle.term_unfold.specs.Inner.Kids.{kids_of, child_shown, IsKid}
 use Rattle.term_unfold.specs.Rules.{Child}
 use Rattle.term_unfold.specs.Text.{Shown, shown, Stand, Cut, At, Listed, listed, closed, bad_text, node_text, head_text, tail_text, elements_text, keys_text, values_text, items_text, item_text, pair_text, value_text}
 use Rattle.term_unfold.specs.Trees.{Value, Immediate, OfCell, Trees, none, more}
@@ -114,3 +115,29 @@ own_text leaf heap child (opened.Node ix kind) = bracket kind
 -- what is written at a child: something in front, and its own text or not
 abbrev pub turn_text : (Value → List ℕ) → List Cell → Child → Turn → List ℕ
 turn_text leaf heap child turn = turn.front.now ++ (if turn.own then own_text leaf heap child turn.opened else [])
+
+-- a leaf's cell is one of the heap
+abbrev pub LeafWithin : List Cell → Opened → Type 0
+LeafWithin heap opened.Immediate = Unit {0}
+LeafWithin heap (opened.Leaf ix) = number ix < length heap
+LeafWithin heap (opened.Bad address why) = Unit {0}
+LeafWithin heap (opened.Node ix kind) = Unit {0}
+
+-- a hash map, or an inner node of one
+abbrev pub HasItems : NodeKind → Type 0
+HasItems kind = (kind ≡ kinds.Hash) ⊎ (kind ≡ kinds.Inner)
+
+-- the innermost cell has come to a child, and what was found there
+pub record AtChild (heap : HeapMap) (path : Entered) (entry : Entry) (child : Kid) (found : Opened) : Type 0 where
+  pub top : path.entries ≡ entry ∷ drop 1 path.entries
+  pub few : length path.entries ≤ length heap.cells
+  pub next_few : entry.next < 200000000
+  pub at : slice_get (kids_of heap.cells entry.kind (number entry.cell)) entry.next ≡ Some (child_shown heap.cells child)
+  pub kid : IsKid heap.cells child
+  pub opens : Opens heap path (child_shown heap.cells child) found
+
+-- with one node more to write, the open cells write what the turn says, and then what is open behind it writes
+pub record IsTurn (heap : List Cell) (before after : List Entry) (child : Child) (turn : Turn) : Type 0 where
+  pub text : (leaf : Value → List ℕ) (m : ℕ) → rest leaf heap before (suc m) ≡ turn_text leaf heap child turn ++ rest leaf heap after m
+  pub more : length after ≤ length before + 1
+  pub cell : LeafWithin heap turn.opened
