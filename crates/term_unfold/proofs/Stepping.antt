@@ -93,7 +93,7 @@ step-key leaf heap e es child m is key has =
     ∙ run-led (comma e.came) (s then values_text leaf ts) (rest leaf heap es)
     ∙ ap (λ l. comma e.came ++ l) (run-then s (values_text leaf ts) (rest leaf heap es)
     ∙ run-at s (λ n. run (values_text leaf ts n) (rest leaf heap es)) (rest leaf heap (next_of true e ∷ es))
-      (sym (term-at leaf heap (next_of true e) es true s.left kinds.Flat is refl ∙ ap (λ b. run (flat_rest leaf b true ts s.left) (rest leaf heap es)) (is_value-next e.next false key))))
+    (sym (term-at leaf heap (next_of true e) es true s.left kinds.Flat is refl ∙ ap (λ b. run (flat_rest leaf b true ts s.left) (rest leaf heap es)) (is_value-next e.next false key))))
 
 pub step-value : (leaf : Value → List ℕ) (heap : List Cell) (e : Entry) (es : List Entry) (child : Child) (m : ℕ) → e.kind ≡ kinds.Flat → is_value e.next ≡ true → HasChild heap e child
     → rest leaf heap (e ∷ es) (suc m) ≡ codes "=>" ++ to_show leaf heap (next_of true e ∷ es) child m
@@ -106,7 +106,7 @@ step-value leaf heap e es child m is value has =
     ∙ run-led (codes "=>") (s then keys_text leaf true ts) (rest leaf heap es)
     ∙ ap (λ l. codes "=>" ++ l) (run-then s (keys_text leaf true ts) (rest leaf heap es)
     ∙ run-at s (λ n. run (keys_text leaf true ts n) (rest leaf heap es)) (rest leaf heap (next_of true e ∷ es))
-      (sym (term-at leaf heap (next_of true e) es true s.left kinds.Flat is refl ∙ ap (λ b. run (flat_rest leaf b true ts s.left) (rest leaf heap es)) (is_value-next e.next true value))))
+    (sym (term-at leaf heap (next_of true e) es true s.left kinds.Flat is refl ∙ ap (λ b. run (flat_rest leaf b true ts s.left) (rest leaf heap es)) (is_value-next e.next true value))))
 
 list-later : (leaf : Value → List ℕ) (n : ℕ) (ts : Trees) (m : ℕ) → list_rest leaf false (suc n) ts m ≡ tail_text leaf ts m
 list-later leaf n none m = refl
@@ -123,8 +123,8 @@ step-head leaf heap e es child m is at has =
     ∙ ap (λ n. run (list_rest leaf e.came n (more t ts) (suc m)) (rest leaf heap es)) at
     ∙ run-then s (tail_text leaf ts) (rest leaf heap es)
     ∙ run-at s (λ n. run (tail_text leaf ts n) (rest leaf heap es)) (rest leaf heap (next_of false e ∷ es))
-      (sym (term-at leaf heap (next_of false e) es false s.left kinds.Cons is refl ∙ ap (λ n. run (list_rest leaf false n ts s.left) (rest leaf heap es)) next
-      ∙ ap (λ x. run x (rest leaf heap es)) (list-later leaf 0 ts s.left)))
+    (sym (term-at leaf heap (next_of false e) es false s.left kinds.Cons is refl ∙ ap (λ n. run (list_rest leaf false n ts s.left) (rest leaf heap es)) next
+    ∙ ap (λ x. run x (rest leaf heap es)) (list-later leaf 0 ts s.left)))
 
 -- behind a tail a list has no child
 
@@ -286,7 +286,7 @@ step-pair_key leaf heap e es child m is at has =
     ∙ append_assoc (comma e.came) (s.text ++ value.text) (resume leaf heap es value.stand)
     ∙ ap (λ l. comma e.came ++ l) (append_assoc s.text value.text (resume leaf heap es value.stand)
     ∙ ap (λ l. s.text ++ l) (sym (item-at leaf heap (next_of true e) es true s.left kinds.Pair is refl ∙ ap (λ n. run_items (pair_rest leaf true n ts s.left) (resume leaf heap es)) next
-      ∙ ap (λ x. run_items x (resume leaf heap es)) (pair-later leaf true 0 ts s.left))))
+    ∙ ap (λ x. run_items x (resume leaf heap es)) (pair-later leaf true 0 ts s.left))))
 
 pub step-pair_value : (leaf : Value → List ℕ) (heap : List Cell) (e : Entry) (es : List Entry) (child : Child) (n m : ℕ) → e.kind ≡ kinds.Pair → e.next ≡ suc n → HasChild heap e child
     → rest leaf heap (e ∷ es) (suc m) ≡ codes "=>" ++ to_show leaf heap (next_of true e ∷ es) child m
@@ -298,8 +298,8 @@ step-pair_value leaf heap e es child n m is at has =
     ∙ ap (λ k. run_items (pair_rest leaf e.came k (more t ts) (suc m)) (resume leaf heap es)) at
     ∙ append_assoc (codes "=>") s.text (resume leaf heap es (At true s.left))
     ∙ ap (λ l. codes "=>" ++ (s.text ++ l)) (sym (item-at leaf heap (next_of true e) es true s.left kinds.Pair is refl
-      ∙ ap (λ l. run_items (pair_rest leaf true (e.next + 1) l s.left) (resume leaf heap es)) (value-last heap true e es n is at)
-      ∙ ap (λ x. run_items x (resume leaf heap es)) (pair-none leaf true (e.next + 1) s.left)))
+    ∙ ap (λ l. run_items (pair_rest leaf true (e.next + 1) l s.left) (resume leaf heap es)) (value-last heap true e es n is at)
+    ∙ ap (λ x. run_items x (resume leaf heap es)) (pair-none leaf true (e.next + 1) s.left)))
 
 -- items: a map ends behind them, and an inner node hands on where they stand
 

@@ -38,9 +38,9 @@ IsPart-next w v u whole later last first second =
     }
 
 -- the whole, behind a part of it that was written
-pub Puts-part : {T E F : Type 0} (w v u : Option (List ℕ)) (f g h : ℕ) (whole later : List ℕ) (r : Result T E) → f ≤ g → IsPart w v whole later → Puts {E = E} (change v u g h) later r → Puts (change w u f h) whole r
-Puts-part {T} {E} {F} w v u f g h whole later r le part puts =
-    let done : Puts {T = Unit {0}} {E = F} (change w v f g) part.part (Ok tt) = record { later = le; writes = record { whole = part.wrote; front = tt }; failed = tt } in
+pub Puts-part : {T E : Type 0} (w v u : Option (List ℕ)) (f g h : ℕ) (whole later : List ℕ) (r : Result T E) → f ≤ g → IsPart w v whole later → Puts {E = E} (change v u g h) later r → Puts (change w u f h) whole r
+Puts-part {T} {E} w v u f g h whole later r le part puts =
+    let done : Puts {T = Unit {0}} {E = E} (change w v f g) part.part (Ok tt) = record { later = le; writes = record { whole = part.wrote; front = tt }; failed = tt } in
     subst (λ l. Puts (change w u f h) l r) (sym part.splits) (Puts-then done puts)
 
 -- a step that failed

@@ -88,7 +88,12 @@ fn put_preview<K: Sink>(sink: &mut K, size: u64, preview: Option<&[u8]>) -> Resu
 }
 
 // Writes a word, the size of a binary, and its preview.
-fn put_sized<K: Sink>(sink: &mut K, word: &[u8], size: u64, preview: Option<&[u8]>) -> Result<(), Failed>
+fn put_sized<K: Sink>(
+    sink: &mut K,
+    word: &[u8],
+    size: u64,
+    preview: Option<&[u8]>,
+) -> Result<(), Failed>
     ensures { Puts (changed K.written K.faults sink.old sink.new) (sized_text word.now size (option_map (λ bytes. bytes.now) preview.entry)) result }
 {
     put_pieces(
@@ -100,7 +105,13 @@ fn put_sized<K: Sink>(sink: &mut K, word: &[u8], size: u64, preview: Option<&[u8
 }
 
 // Writes a cell that has its own payload.
-fn put_payload<K: Sink>(sink: &mut K, word: &[u8], enc: Enc, size: u64, chars: &[u8]) -> Result<(), Failed>
+fn put_payload<K: Sink>(
+    sink: &mut K,
+    word: &[u8],
+    enc: Enc,
+    size: u64,
+    chars: &[u8],
+) -> Result<(), Failed>
     requires { IsPayloadOf enc chars.now size }
     ensures { Puts (changed K.written K.faults sink.old sink.new) (sized_text word.now size (own_preview enc size chars.now)) result }
 {

@@ -180,25 +180,26 @@ fn put_root<K: Sink>(
     }
 }
 
-// Visits a root, behind which so many nodes remain.
+// Visits a root, within a budget of nodes.
 fn print_root<K: Sink>(
     heap: &Heap,
     previews: &Previews,
     path: &mut Path,
     root: &Elem<'_>,
-    left: u32,
+    budget: u32,
     sink: &mut K,
 ) -> Result<u32, Failed>
     requires serves { Serves heap.now path.old.cells }
     requires empty { path.old.entries ≡ [] }
+    requires budget { 0 < budget }
     ensures cells { path.new.cells ≡ path.old.cells }
     ensures step { Steps (changed K.written K.faults sink.old sink.new)
-        (show (leaf_text heap.now.enc previews.now) (unfolding_of heap.now.cells (element root.now)) (left + 1))
+        (show (leaf_text heap.now.enc previews.now) (unfolding_of heap.now.cells (element root.now)) budget)
         (rest (leaf_text heap.now.enc previews.now) heap.now.cells path.new.entries) result }
 {
     let opened = open_root(heap, path, root);
     enter(path, opened, false);
-    counted(put_root(sink, heap, previews, root, opened), left)
+    counted(put_root(sink, heap, previews, root, opened), budget - 1)
 }
 
 /// Writes the whole text of a root, over as many nodes as the budget says.
@@ -217,7 +218,7 @@ pub(crate) fn print_all<K: Sink>(
     ensures puts { Puts (changed K.written K.faults sink.old sink.new)
         (show (leaf_text heap.now.enc previews.now) (unfolding_of heap.now.cells (element root.now)) budget) result }
 {
-    let mut left = print_root(heap, previews, path, root, budget - 1, sink)?;
+    let mut left = print_root(heap, previews, path, root, budget, sink)?;
     while let Some(entry) = path.top() {
         left = step(heap, previews, path, entry, left, sink)?;
     }

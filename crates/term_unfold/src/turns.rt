@@ -75,13 +75,7 @@ pub(crate) fn close(path: &mut Path, entry: Entry) -> &'static [u8]
 {
     path.pop();
     match entry.kind {
-        NodeKind::Cons => {
-            if entry.came {
-                b"]"
-            } else {
-                b""
-            }
-        }
+        NodeKind::Cons => { if entry.came { b"]" } else { b"" } }
         NodeKind::Tuple => b"}",
         NodeKind::Flat => b"}",
         NodeKind::Hash => b"}",
@@ -107,13 +101,7 @@ pub(crate) fn cut(path: &mut Path, entry: Entry) -> &'static [u8]
 {
     leave_node(path);
     match entry.kind {
-        NodeKind::Cons => {
-            if entry.next == 0 {
-                b"...]"
-            } else {
-                b"|...]"
-            }
-        }
+        NodeKind::Cons => { if entry.next == 0 { b"...]" } else { b"|...]" } }
         NodeKind::Tuple => cut_text(entry.came),
         NodeKind::Flat => {
             if entry.next % 2 == 0 {

@@ -77,4 +77,3 @@ returns-else-entry-eq0-3-clause-text c = λ leaf heap child has.
     let left = ap (λ (p : Entered). p.entries) c.leave_node.ensures ∙ ap outside c.requires.top in
     ap (λ es. rest leaf heap es 0) c.requires.top ∙ cut-pair_value leaf heap c.args.entry es child (c.args.entry.next - 1) c.in-Pair.is (omega (arith, c.if-entry-eq0-3.false)) has
     ∙ ap (λ es. codes "=>...}" ++ rest leaf heap es 0) (sym (left ∙ outside-item c.args.entry es kinds.Pair c.in-Pair.is refl))
-

@@ -31,4 +31,3 @@ returns-clause-turn c =
     let at = c.requires.at in
     IsTurn-own heap before c.advance.new.path.entries child _ e (codes "=>") true at.top at.few (map-term heap e child c.requires.kind at.at) at.opens.found_is refl refl (ap (λ (p : Entered). p.entries) c.advance.ensures)
     (λ leaf m. step-value leaf heap e es child m c.requires.kind (odd-value e.next (omega (arith, c.if-entry-eq0.false))) at.at)
-

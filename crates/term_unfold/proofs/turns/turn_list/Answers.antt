@@ -20,4 +20,3 @@ returns-clause-turn c =
     let at = c.requires.at in
     IsTurn-own heap before c.advance.new.path.entries child _ e (codes "") false at.top at.few (cons-term heap e child c.requires.kind at.at) at.opens.found_is refl refl (ap (λ (p : Entered). p.entries) c.advance.ensures)
     (λ leaf m. step-head leaf heap e es child m c.requires.kind (omega (arith, c.if-entry-gt0.false)) at.at)
-

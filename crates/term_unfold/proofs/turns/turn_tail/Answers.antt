@@ -21,7 +21,7 @@ returns-then-is_nil_child-clause-turn c =
     let now = ap (λ (p : Entered). p.entries) c.pop.ensures in
     IsTurn-none heap before c.pop.new.self.entries child _ e (codes "]") at.top at.opens.found_is refl refl (popped-more before c.pop.new.self.entries now)
     (λ leaf m. step-nil leaf heap e es child (e.next - 1) m c.requires.kind (omega (arith, c.requires.next)) at.at (few-top heap before e at.top at.few) (sym c.is_nil_child.ensures ∙ c.if-is_nil_child.true)
-      ∙ ap (λ es. codes "]" ++ rest leaf heap es m) (sym now))
+    ∙ ap (λ es. codes "]" ++ rest leaf heap es m) (sym now))
 
 pub returns-then-is_list-clause-turn : goal.returns-then-is_list-clause-turn
 returns-then-is_list-clause-turn c =
@@ -34,8 +34,8 @@ returns-then-is_list-clause-turn c =
     let now = ap (λ (p : Entered). p.entries) c.advance.ensures in
     IsTurn-none heap before c.advance.new.path.entries child _ e (codes ",") at.top at.opens.found_is refl refl (advanced-few c.args.opened false false before c.advance.new.path.entries now)
     (λ leaf m. step-cons leaf heap e es child c.args.opened (e.next - 1) m c.requires.kind (omega (arith, c.requires.next)) at.at (few-top heap before e at.top at.few)
-      (opens-top heap before e child c.args.opened at.top at.opens.found_is) (sym c.is_list.ensures ∙ c.if-is_list.true)
-      ∙ ap (λ es. codes "," ++ rest leaf heap es m) (sym (advanced-top c.args.opened false false before c.advance.new.path.entries e at.top now)))
+    (opens-top heap before e child c.args.opened at.top at.opens.found_is) (sym c.is_list.ensures ∙ c.if-is_list.true)
+    ∙ ap (λ es. codes "," ++ rest leaf heap es m) (sym (advanced-top c.args.opened false false before c.advance.new.path.entries e at.top now)))
 
 pub returns-clause-turn : goal.returns-clause-turn
 returns-clause-turn c =
@@ -47,5 +47,4 @@ returns-clause-turn c =
     let at = c.requires.at in
     IsTurn-own heap before c.advance-2.new.path.entries child _ e (codes "|") true at.top at.few (cons-term heap e child c.requires.kind at.at) at.opens.found_is refl refl (ap (λ (p : Entered). p.entries) c.advance-2.ensures)
     (λ leaf m. step-tail leaf heap e es child c.args.opened (e.next - 1) m c.requires.kind (omega (arith, c.requires.next)) at.at (few-top heap before e at.top at.few)
-      (cons-term heap e child c.requires.kind at.at) (opens-top heap before e child c.args.opened at.top at.opens.found_is) (sym c.is_nil_child.ensures ∙ c.if-is_nil_child.false) (sym c.is_list.ensures ∙ c.if-is_list.false))
-
+    (cons-term heap e child c.requires.kind at.at) (opens-top heap before e child c.args.opened at.top at.opens.found_is) (sym c.is_nil_child.ensures ∙ c.if-is_nil_child.false) (sym c.is_list.ensures ∙ c.if-is_list.false))

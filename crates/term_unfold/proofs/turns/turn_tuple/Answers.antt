@@ -20,4 +20,3 @@ returns-clause-turn c =
     let at = c.requires.at in
     IsTurn-own heap before c.advance.new.path.entries child _ e (comma e.came) true at.top at.few (tuple-term heap e child c.requires.kind at.at) at.opens.found_is c.comma_text.ensures refl (ap (λ (p : Entered). p.entries) c.advance.ensures)
     (λ leaf m. step-tuple leaf heap e es child m c.requires.kind at.at)
-
