@@ -1,5 +1,5 @@
 -- Worked rows of the definitions, computed.
-use Rattle.std.proofs.Common.{◌≡◌, ℕ, zero, List, [], ◌∷◌, ◌++◌, Some, refl}
+use Rattle.std.proofs.Common.{◌≡◌, ℕ, true, false, List, [], ◌∷◌, ◌++◌, Some, refl}
 use Rattle.std.specs.Prelude.{codes, decimal}
 use Rattle.std.specs.Fmt.{digits}
 use Rattle.term_forms.specs.Elements.{Element, Nil, Small, Atom, Pid, Port, Ref}
@@ -10,7 +10,10 @@ use Rattle.term_unfold.specs.declared.node.NodeKind.TheVariants as kinds
 use Rattle.term_unfold.specs.declared.verdict.Verdict.{Verdict}
 use Rattle.term_unfold.specs.declared.verdict.Verdict.TheVariants.{Clean, Bad}
 use Rattle.term_unfold.specs.Trees.{Value, Immediate, OfCell, verdict}
+use Rattle.term_forms.specs.declared.enc.Enc.TheVariants.{Hex}
+use Rattle.term_unfold.specs.Leaves.{leaf_text}
 use Rattle.term_unfold.specs.Text.{show}
+use Rattle.term_unfold.specs.Walks.{answer}
 use Rattle.term_unfold.specs.Unfolding.{unfold_by, unfolded, unfolding_of}
 
 abbrev at : ℕ → HeapForm → Cell
@@ -274,3 +277,36 @@ node-term = refl
 hash-hash : hashed (Hash 1 []) ≡ Bad 32 Malformed
 unfolding unfolded unfold_by
 hash-hash = refl
+
+-- the texts of leaves, and whole answers, where no bytes of a binary are known
+
+abbrev written : List Cell → List ℕ
+written heap = show (leaf_text Hex []) (unfolding_of heap (Ref 16)) 10
+
+atoms : written (at 16 (Tuple (Atom (codes "ok") ∷ Atom (codes "Hello") ∷ Atom (codes "a'b") ∷ Atom [] ∷ [])) ∷ []) ≡ codes "{ok,'Hello','a\\'b',''}"
+unfolding unfolded unfold_by digits
+atoms = refl
+
+numbers : written (at 16 (Tuple (Ref 32 ∷ Ref 48 ∷ [])) ∷ at 32 (Long (codes "-16#FF")) ∷ at 48 (Float (codes "1.50")) ∷ []) ≡ codes "{-16#FF,1.50}"
+unfolding unfolded unfold_by digits
+numbers = refl
+
+ports : written (at 16 (Tuple (Pid (codes "<0.5.0>") ∷ Port (codes "<0.6>") ∷ [])) ∷ []) ≡ codes "{<0.5.0>,#Port<0.6>}"
+unfolding unfolded unfold_by digits
+ports = refl
+
+binary : written (at 16 (RefBin 2304 0 40) ∷ []) ≡ codes "#Bin<40:?>"
+unfolding unfolded unfold_by digits
+binary = refl
+
+previewed : show (leaf_text Hex ((16, Some (104 ∷ 101 ∷ [])) ∷ [])) (unfolding_of (at 16 (RefBin 2304 0 2) ∷ []) (Ref 16)) 10 ≡ codes "#Bin<2:6865>"
+unfolding unfolded unfold_by digits
+previewed = refl
+
+unmarked : answer Hex [] ring (Ref 16) 3 false ≡ codes "! onpath 10"
+unfolding unfolded unfold_by digits
+unmarked = refl
+
+marked : answer Hex [] ring (Ref 16) 3 true ≡ codes "[1|!onpath:10]"
+unfolding unfolded unfold_by digits
+marked = refl
