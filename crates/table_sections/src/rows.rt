@@ -1,9 +1,18 @@
 // The rows of a table.
-ghost use Rattle.std.specs.Prelude.{◌≡◌, ◌<◌, length};
+ghost use Rattle.std.specs.Prelude.{◌≡◌, ℕ, List, ◌<◌, length, None, IfOk, OnOk, IfErr, IsSome};
 ghost use Rattle.std.specs.Option.{option_copied};
+ghost use Rattle.dump_io.specs.Dumps.{told, used, ReadsAtMost};
+ghost use Rattle.section_index.specs.Index.{IsBuiltOver, sections_in};
+ghost use Rattle.section_rows.specs.Loading.{bodies_length, first_large, AreRefused};
 ghost use Rattle.section_rows.specs.Rows.{row_at, cell_at, text_in, AreEven};
+ghost use Rattle.table_sections.specs.Tables.{listed, table_of, IsOver};
 
+use crate::kinds::{TableKind, columns};
+use crate::places::places;
+use dump_io::{Dumps, Limits};
+use section_index::{BodyFault, Index};
 use section_rows::SectionRows;
+use std::alloc::Global;
 use std::marker::Model;
 
 /// The rows of a table, a row for each of its sections, in dump order.
@@ -21,6 +30,35 @@ impl Model for Rows {
 }
 
 impl Rows {
+    /// Finds the sections of a table, and reads their bodies one after another. The index is one that was built
+    /// over the file that is open, and the file stays open.
+    ///
+    /// `SectionTooLarge` comes exactly where one of these bodies has more bytes than the limit on sections,
+    /// unless `Memory` comes; it names the first such section of the dump, and nothing is read then. `Read`
+    /// comes only where the device's count of faults rose; `Memory` may come wherever memory is taken. At most
+    /// as many bytes are read as the bodies have together, also where they aren't loaded.
+    pub fn load<D: Dumps>(
+        alloc: Global,
+        dumps: &mut D,
+        index: &Index,
+        kind: TableKind,
+        limits: &Limits,
+    ) -> Result<Rows, BodyFault>
+        requires { IsBuiltOver (D.now dumps.old) index.now }
+        ensures reads { ReadsAtMost (used D.files D.now D.faults D.taken dumps.old dumps.new) (bodies_length (listed kind (sections_in index.now))) }
+        ensures table { IfOk result (λ rows. (bytes : List ℕ) → D.now dumps.old ≡ told bytes → rows ≡ table_of kind bytes) }
+        ensures over { IfOk result (IsOver kind index.now) }
+        ensures loaded { OnOk result (first_large limits.now.section (listed kind (sections_in index.now)) ≡ None) }
+        ensures fault { IfErr result (AreRefused (listed kind (sections_in index.now)) limits.now.section (used D.files D.now D.faults D.taken dumps.old dumps.new)) }
+        ensures unread { IsSome (first_large limits.now.section (listed kind (sections_in index.now))) → dumps.new ≡ dumps.old }
+    {
+        let Ok(places) = places(alloc, index, kind) else {
+            return Err(BodyFault::Memory);
+        };
+        let rows = SectionRows::load(alloc, dumps, index, &places, columns(kind), limits)?;
+        Ok(Rows { rows })
+    }
+
     /// The number of rows.
     pub fn len(&self) -> usize
         ensures value { result ≡ length self.now.rows }
