@@ -1,4 +1,5 @@
 pub mod Building
+mod Examples
 pub mod Firsts
 pub mod Hearing
 pub mod Joining

@@ -9,3 +9,6 @@ mod procs;
 
 pub use procs::{Proc, Procs};
 pub use section_rows::Kept;
+
+#[cfg(test)]
+mod tests;

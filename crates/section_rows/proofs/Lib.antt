@@ -1,3 +1,4 @@
 pub mod Cells
+mod Examples
 pub mod Heads
 pub mod Loaded

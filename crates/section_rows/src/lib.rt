@@ -12,3 +12,6 @@ mod store;
 
 pub use columns::{Column, Kept};
 pub use rows::SectionRows;
+
+#[cfg(test)]
+mod tests;

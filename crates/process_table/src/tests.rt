@@ -1,0 +1,74 @@
+use crate::{Kept, Procs};
+use dump_io::{DumpFile, Failed, Limits, MemDumps, MemSink, Sink, put_dec, write_all};
+use section_index::{BodyFault, build};
+use std::alloc::{AllocError, Global};
+use std::test::Fail;
+
+const DUMP: &[u8] =
+    b"=erl_crash_dump:0.5\n=proc:<0.1.0>\nName: a\nState: b\nLink list: []\n=proc\n=proc:<0.1.0>\nName: c\n=proc:<0.2.0>\nMemory: 9\nMessage queue length:\n=end";
+
+fn device(alloc: Global, fails: &[u64]) -> Result<MemDumps, AllocError> {
+    let file = DumpFile::new(String::from_str(alloc, "V")?, Vec::from_slice(alloc, DUMP)?);
+    Ok(MemDumps::new(
+        vec![in alloc; file]?,
+        Vec::new(alloc),
+        Vec::from_slice(alloc, fails)?,
+    ))
+}
+
+fn print_field<K: Sink>(sink: &mut K, field: Option<Kept<'_>>) -> Result<(), Failed> {
+    let Some(kept) = field else {
+        return write_all(sink, b" -");
+    };
+    write_all(sink, b" ")?;
+    put_dec(sink, kept.at)?;
+    write_all(sink, b":")?;
+    put_dec(sink, kept.value_at)?;
+    write_all(sink, b":")?;
+    write_all(sink, kept.text)
+}
+
+// Writes a line for each process.
+fn print<K: Sink>(sink: &mut K, procs: &Procs) -> Result<(), Failed> {
+    for i in 0..procs.len() {
+        let process = procs.at(i);
+        put_dec(sink, process.section as u64)?;
+        write_all(sink, b" ")?;
+        write_all(sink, process.pid)?;
+        print_field(sink, process.state)?;
+        print_field(sink, process.name)?;
+        print_field(sink, process.queue)?;
+        print_field(sink, process.memory)?;
+        print_field(sink, process.links)?;
+        write_all(sink, b"\n")?;
+    }
+    put_dec(sink, procs.repeated())
+}
+
+#[test]
+fn processes_are_loaded(rt: HostRuntime) -> Result<(), Fail> {
+    let mut dumps = device(rt.alloc(), &[])?;
+    let usual = Limits::usual();
+    let index = build(rt.alloc(), &mut dumps, "V", &usual)?;
+    let procs = Procs::load(rt.alloc(), &mut dumps, &index, &usual)?;
+    let mut sink = MemSink::new(rt.alloc(), 0, Vec::new(rt.alloc()));
+    print(&mut sink, &procs).map_err(|_| "a write failed")?;
+    assert_eq!(rt;
+        sink.written(),
+        b"1 <0.1.0> 42:49:b 34:40:a - - 51:62:[]\n4 <0.2.0> - - 117:138: 107:115:9 -\n1".as_slice()
+    );
+    assert_eq!(rt; procs.get(b"<0.2.0>".as_slice()), Some(1));
+    assert_eq!(rt; procs.get(b"<0.2".as_slice()), None);
+    Ok(())
+}
+
+#[test]
+fn a_body_that_is_not_read_is_a_fault(rt: HostRuntime) -> Result<(), Fail> {
+    let mut dumps = device(rt.alloc(), &[4])?;
+    let usual = Limits::usual();
+    let index = build(rt.alloc(), &mut dumps, "V", &usual)?;
+    match Procs::load(rt.alloc(), &mut dumps, &index, &usual) {
+        Err(BodyFault::Read) => Ok(()),
+        _ => Err("no fault".into()),
+    }
+}

@@ -1,0 +1,85 @@
+use crate::{Column, Kept, SectionRows};
+use dump_io::{DumpFile, Dumps, Failed, Limits, MemDumps, MemSink, Sink, put_dec, write_all};
+use section_index::{BodyFault, build};
+use std::alloc::{AllocError, Global};
+use std::test::Fail;
+
+const DUMP: &[u8] =
+    b"=erl_crash_dump:0.5\nA: 0\n=node:b:1\nA:  x\nB: 2\n=ets\nB:\nA\n=node:c\nA: y\nA: z";
+
+fn device(alloc: Global) -> Result<MemDumps, AllocError> {
+    let file = DumpFile::new(String::from_str(alloc, "V")?, Vec::from_slice(alloc, DUMP)?);
+    Ok(MemDumps::new(
+        vec![in alloc; file]?,
+        Vec::from_slice(alloc, &[3])?,
+        Vec::new(alloc),
+    ))
+}
+
+// The rows of the sections behind the first one.
+fn rows_of<D: Dumps>(
+    alloc: Global,
+    dumps: &mut D,
+    limits: &Limits,
+) -> Result<Result<SectionRows, BodyFault>, Fail> {
+    let index = build(alloc, dumps, "V", &Limits::usual())?;
+    if index.len() < 4 {
+        return Err("no section".into());
+    }
+    let columns = [
+        Column::Tag,
+        Column::Id,
+        Column::Field(b"A"),
+        Column::Field(b"B"),
+    ];
+    Ok(SectionRows::load(alloc, dumps, &index, &[1, 2, 3], &columns, limits))
+}
+
+// Writes a line for each row, with the offsets and the text of each cell.
+fn print<K: Sink>(sink: &mut K, rows: &SectionRows) -> Result<(), Failed> {
+    for i in 0..rows.len() {
+        put_dec(sink, rows.at(i))?;
+        for c in 0..rows.columns() {
+            match rows.cell(i, c) {
+                Some(kept) => print_cell(sink, &kept)?,
+                None => write_all(sink, b" -")?,
+            }
+        }
+        write_all(sink, b"\n")?;
+    }
+    Ok(())
+}
+
+fn print_cell<K: Sink>(sink: &mut K, kept: &Kept<'_>) -> Result<(), Failed> {
+    write_all(sink, b" ")?;
+    put_dec(sink, kept.at)?;
+    write_all(sink, b":")?;
+    put_dec(sink, kept.value_at)?;
+    write_all(sink, b":")?;
+    write_all(sink, kept.text)
+}
+
+#[test]
+fn rows_are_loaded(rt: HostRuntime) -> Result<(), Fail> {
+    let mut dumps = device(rt.alloc())?;
+    let rows = rows_of(rt.alloc(), &mut dumps, &Limits::usual())??;
+    let mut sink = MemSink::new(rt.alloc(), 0, Vec::new(rt.alloc()));
+    print(&mut sink, &rows).map_err(|_| "a write failed")?;
+    assert_eq!(rt;
+        sink.written(),
+        b"25 25:26:node 25:31:b:1 35:38: x 41:44:2\n46 46:47:ets - - 51:53:\n56 56:57:node 56:62:c 64:67:y -\n".as_slice()
+    );
+    Ok(())
+}
+
+#[test]
+fn a_body_that_is_too_large_is_refused_before_a_read(rt: HostRuntime) -> Result<(), Fail> {
+    let mut dumps = device(rt.alloc())?;
+    let small = Limits::new(100, 100, 100, 100, 8, 100).ok_or("refused")?;
+    match rows_of(rt.alloc(), &mut dumps, &small)? {
+        Err(BodyFault::SectionTooLarge { at, len }) => assert_eq!(rt; (at, len), (25, 11)),
+        _ => return Err("loaded".into()),
+    }
+    assert_eq!(rt; dumps.taken(), DUMP.len() as u64);
+    Ok(())
+}
