@@ -4,7 +4,8 @@
 //   bench write FILE BYTES SECTIONS   writes a dump of so many bytes and sections, heap lines of about 40 bytes
 //   bench heap FILE CELLS             writes the heap lines of so many list cells, 40 bytes each with their LF
 //   bench scan FILE                   counts the headers: reads of 64 KiB, memchr for `=`, the byte before
-//   bench measure OUT COMMAND WORDS.. runs a command, its output into the file OUT: seconds and peak memory
+//   bench measure OUT COMMAND WORDS.. runs a command, its output into the file OUT, and prints the seconds that it
+//                                     took and the most memory that it had, in KiB
 #define _GNU_SOURCE
 #include <fcntl.h>
 #include <stdio.h>
@@ -62,9 +63,7 @@ static int measure(const char *out, char **command) {
     struct rusage use;
     wait4(child, &status, 0, &use);
     clock_gettime(CLOCK_MONOTONIC, &upto);
-    printf("%.3f s wall, %.3f s user, %ld KiB at most\n",
-           (upto.tv_sec - from.tv_sec) + (upto.tv_nsec - from.tv_nsec) / 1e9,
-           use.ru_utime.tv_sec + use.ru_utime.tv_usec / 1e6, use.ru_maxrss);
+    printf("%.3f %ld\n", (upto.tv_sec - from.tv_sec) + (upto.tv_nsec - from.tv_nsec) / 1e9, use.ru_maxrss);
     return status != 0;
 }
 

@@ -1,25 +1,66 @@
 #!/bin/sh
-# Times `edump index` and `edump info` on a dump of 1 GiB with 500,000 sections, warm, beside a C loop and
-# grep, and the reading of a heap of a million list cells through `heap_line` and `form`, each three times.
-# grep's output goes into a file, since grep stops at the first match where it is thrown away. The script
-# writes its files into a folder of its own and removes them afterwards.
+# Times `edump index` and `edump info` on a dump of 1 GiB, once with 500,000 and once with 900,000 sections, warm,
+# beside a C loop and grep, and then the reading of a heap of a million list cells through `heap_line` and `form`.
+# Each command runs in turn for a number of rounds; the script prints its median in seconds, how many times that of
+# the C loop this is, and the most memory that it had.
+#
+#   bench/run.sh [ROUNDS]
+#
+# grep's output goes into a file, since grep stops at the first match where it is thrown away. The script writes its
+# files into a folder of its own, which needs 1.2 GB, and removes them afterwards.
+rounds=${1:-20}
 here=$(CDPATH= cd -- "$(dirname -- "$0")" && pwd) || exit 1
 folder=$(mktemp -d) || exit 1
 trap 'rm -rf "$folder"' EXIT
 cc -O2 -o "$folder/bench" "$here/bench.c" || exit 1
 bench="$folder/bench"
 dump="$folder/dump"
-heap="$folder/heap"
-"$bench" write "$dump" 1073741824 500000 || exit 1
-"$bench" heap "$heap" 1000000 || exit 1
+edump="$here/../crates/edump/out/edump"
+heap_bench="$here/../crates/heap_bench/out/heap_bench"
 (cd "$here/../crates/heap_bench" && rt run -- data/small.heap) >"$folder/build.log" 2>&1 || exit 1
-"$here/../edump" index "$dump" >"$folder/index" || exit 1
-tail -n 1 "$folder/index"
-for round in 1 2 3; do
-    echo "edump index:     $("$bench" measure /dev/null "$here/../crates/edump/out/edump" index "$dump")"
-    echo "edump info:      $("$bench" measure /dev/null "$here/../crates/edump/out/edump" info "$dump")"
-    echo "C loop:          $("$bench" measure /dev/null "$bench" scan "$dump")"
-    echo "grep -ab '^=':   $("$bench" measure "$folder/grep" env LC_ALL=C grep -ab '^=' "$dump")"
-    echo "a million cells: $("$bench" measure "$folder/count" "$here/../crates/heap_bench/out/heap_bench" "$heap")"
+
+# One round of a command: the name of its times, the file for its output, and the command.
+round() {
+    times="$folder/$1.times"
+    out=$2
+    shift 2
+    "$bench" measure "$out" "$@" >>"$times" || exit 1
+}
+
+# The median of the seconds under this name.
+median() {
+    sort -n "$folder/$1.times" | awk '{ s[NR] = $1 } END { printf "%.3f", (s[int((NR + 1) / 2)] + s[int(NR / 2) + 1]) / 2 }'
+}
+
+# The most memory under this name, in MB.
+memory() {
+    awk '$2 > most { most = $2 } END { printf "%.0f", most * 1024 / 1000000 }' "$folder/$1.times"
+}
+
+tell() {
+    awk -v name="$2" -v took="$(median "$1")" -v loop="$(median loop)" -v most="$(memory "$1")" \
+        'BEGIN { printf "%-14s %s s  %.2f times the C loop  %s MB\n", name, took, took / loop, most }'
+}
+
+for sections in 500000 900000; do
+    rm -f "$folder"/*.times
+    "$bench" write "$dump" 1073741824 "$sections" || exit 1
+    "$here/../edump" index "$dump" >"$folder/index" || exit 1
+    echo "a dump of 1 GiB with $sections sections, $rounds rounds:"
+    for _ in $(seq "$rounds"); do
+        round index /dev/null "$edump" index "$dump"
+        round info /dev/null "$edump" info "$dump"
+        round loop /dev/null "$bench" scan "$dump"
+        round grep "$folder/grep" env LC_ALL=C grep -ab '^=' "$dump"
+    done
+    tell index "edump index"
+    tell info "edump info"
+    tell loop "the C loop"
+    tell grep "grep -ab '^='"
 done
-cat "$folder/count"
+rm -f "$dump"
+"$bench" heap "$folder/heap" 1000000 || exit 1
+for _ in $(seq "$rounds"); do
+    round cells "$folder/count" "$heap_bench" "$folder/heap"
+done
+echo "a heap of a million list cells: $(median cells) s, $(cat "$folder/count")"

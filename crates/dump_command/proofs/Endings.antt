@@ -1,207 +1,231 @@
--- The endings of a run.
-use Rattle.std.proofs.Common.{◌≡◌, ◌≢◌, ◌⊎◌, ℕ, Bool, true, false, ◌||◌, ◌<◌, ◌≤◌, List, [], ◌∷◌, Option, None, Some, Result, Ok, Err, IsTrue, MatchResult, refl, sym, ◌∙◌, ap, subst, inl, inr, arith}
-use Rattle.std.specs.Prelude.{IsSomeAnd, OnErr, IsErrOf, option_map}
+-- How a run ends, by what its command left.
+use Rattle.std.proofs.Common.{◌≡◌, ◌⊎◌, ℕ, true, ◌||◌, List, [], ◌∷◌, Option, None, Some, Result, Ok, Err, refl, sym, ◌∙◌, ap, subst, inl, inr, arith}
+use Rattle.std.specs.Prelude.{IfErr, IsSomeAnd}
 use Rattle.std.proofs.lemmas.Bool.{false≢true}
 use Rattle.std.proofs.lemmas.Bool.Decides.{eqb_tells}
-use Rattle.dump_io.specs.Counts.{Rose, HasCause, plus_capped}
-use Rattle.dump_io.specs.Dumps.{Files, IsAbsent}
+use Rattle.dump_io.specs.Dumps.{Files, closed, IsAbsent, Use, DeviceFailed}
 use Rattle.dump_io.specs.Limits.{Numbers}
-use Rattle.dump_io.specs.Sinks.{grown, IsCut, WritesAll}
 use Rattle.report_text.specs.declared.refusals.Refusal.{Refusal}
-use Rattle.report_text.specs.declared.refusals.Refusal.TheVariants.{Open, SectionTooLarge}
-use Rattle.section_index.specs.declared.opening.OpenFault.{OpenFault}
-use Rattle.section_index.specs.declared.opening.OpenFault.TheVariants.{Read, Memory}
-use Rattle.section_index.specs.declared.bodies.BodyFault.{BodyFault}
-use Rattle.section_index.specs.declared.bodies.BodyFault.TheVariants as body_faults
-use Rattle.section_index.specs.Bodies.{body_length, IsCauseOf}
-use Rattle.section_index.specs.Sections.{Section}
-use Rattle.section_index.specs.Opening.{opening}
-use Rattle.section_index.specs.Index.{Contents, IsAnswerFor}
 use Rattle.report_text.specs.Refusals.{refusal_line}
+use Rattle.section_index.specs.Index.{IsHeld}
+use Rattle.dump_io.specs.Sinks.{Change, SinkFailed, IsKept, Gained}
 use Rattle.dump_command.specs.Command.{Command, file_of}
-use Rattle.dump_command.specs.Run.{report, refusal, Change, Device, IsDumpOf, IsUnwritten, IsRunOf, IsKept, Gained, IsCutOff, EndsUnopened, EndsUnloaded, allowance, is_one_of, HasFailed}
+use Rattle.dump_command.specs.Report.{report_status, refusal}
+use Rattle.dump_command.specs.Run.{IsDumpOf, IsRunOf, IsUnwritten, IsInputOf, IsUnread, IsUnreadFrom, IsMissing, IsMissingFrom, EndsTold, TakesAtMost, IsUnfinished, is_one_of}
+use Rattle.dump_command.specs.Inner.Loads.{IsRefused, IsDone, IsBrokenOff, Runs}
+use Rattle.dump_command.specs.Inner.Stops.{EndsAs, IsProper}
+use Rattle.dump_command.specs.declared.status.TheConstants.{DONE, REFUSED, FOUND, UNREAD, UNWRITTEN, NO_MEMORY}
+use Rattle.dump_command.specs.declared.stop.Stop.{Stop}
+use Rattle.dump_command.specs.declared.stop.Stop.TheVariants.{Refused, NotRead, NotWritten, NoMemory}
 
--- no more bytes are taken than the command is allowed
-abbrev pub TakesAtMost : Command → Device → Type 0
-TakesAtMost cmd device =
-    (bytes : List ℕ) → IsDumpOf device cmd bytes → device.taken_after ≤ plus_capped device.taken_before (allowance cmd bytes)
+-- the bytes of a file that is there
+held-there : (told_files : Option Files) (name bytes : List ℕ) → IsHeld told_files name bytes → IsAbsent told_files name → ⊥
+held-there None name bytes is gone = gone
+held-there (Some files) name bytes is gone = let no : ⊥ = cc (sym gone ∙ is) in no
 
--- a report was written, or a part of it
-pub IsRunOf-written : {E : Type 0} (cmd : Command) (limits : Numbers) (status : ℕ) (device : Device) (out err : Change) (text : List ℕ) (r : Result (Unit {0}) E)
-    → MatchResult r (λ _. status ≡ 0) (λ _. status ≡ 5) → WritesAll out.before out.after text r → HasCause out.faults_before out.faults_after r → IsKept err
-    → ((bytes : List ℕ) → IsDumpOf device cmd bytes → (refusal cmd bytes limits ≡ None) × (text ≡ report cmd bytes))
-    → (IsAbsent device.files (file_of cmd) → ⊥) → TakesAtMost cmd device → IsRunOf cmd limits status device out err
-IsRunOf-written cmd limits status device out err text (Ok done) is wrote cause kept told there bound =
-    subst (λ n. IsRunOf cmd limits n device out err) (sym is) (record {
-      known = refl;
-      done = λ _ bytes dump. ((told bytes dump).0, wrote ∙ ap (grown out.before) (told bytes dump).1);
-      refused = λ e. absurd (omega (arith, e));
-      unread = λ e. absurd (omega (arith, e));
-      unwritten = λ e. absurd (omega (arith, e));
-      cut = λ e. absurd (omega (arith, e));
-      out_kept = λ e. absurd (let no : ⊥ = cc (e) in no);
-      err_kept = λ _. kept;
-      absent = λ gone. absurd (there gone);
-      taken = bound;
-    })
-IsRunOf-written cmd limits status device out err text (Err failed) is cut cause kept told there bound =
-    subst (λ n. IsRunOf cmd limits n device out err) (sym is) (record {
-      known = refl;
-      done = λ e. absurd (omega (arith, e));
-      refused = λ e. absurd (omega (arith, e));
-      unread = λ e. absurd (omega (arith, e));
-      unwritten = λ _. inl cause.failed;
-      cut = λ _ bytes dump.
-          subst (λ why. IsUnwritten cmd bytes why out err) (sym (told bytes dump).0)
-          (subst (IsCut out.before out.after) (told bytes dump).1 cut, cause.failed, kept);
-      out_kept = λ e. absurd (let no : ⊥ = cc (e) in no);
-      err_kept = λ e. absurd (let no : ⊥ = cc (e) in no);
-      absent = λ gone. absurd (there gone);
-      taken = bound;
-    })
-
--- the line of a refusal was written, or a part of it
-IsRunOf-refused : (cmd : Command) (limits : Numbers) (status : ℕ) (device : Device) (out err : Change) (why : Refusal)
-    → ((status ≡ 2) × Gained err (refusal_line why)) ⊎ ((status ≡ 5) × IsCutOff err (refusal_line why) × HasFailed err) → IsKept out
-    → ((bytes : List ℕ) → IsDumpOf device cmd bytes → refusal cmd bytes limits ≡ Some why)
-    → (IsAbsent device.files (file_of cmd) → ⊥) → TakesAtMost cmd device → IsRunOf cmd limits status device out err
-IsRunOf-refused cmd limits status device out err why (inl wrote) kept told there bound =
-    subst (λ n. IsRunOf cmd limits n device out err) (sym wrote.0) (record {
-      known = refl;
-      done = λ e. absurd (omega (arith, e));
-      refused = λ _ bytes dump. subst (λ r. IsSomeAnd r (λ w. Gained err (refusal_line w))) (sym (told bytes dump)) wrote.1;
-      unread = λ e. absurd (omega (arith, e));
-      unwritten = λ e. absurd (omega (arith, e));
-      cut = λ e. absurd (omega (arith, e));
-      out_kept = λ _. kept;
-      err_kept = λ e. absurd (let no : ⊥ = cc (e) in no);
-      absent = λ gone. absurd (there gone);
-      taken = bound;
-    })
-IsRunOf-refused cmd limits status device out err why (inr cut) kept told there bound =
-    subst (λ n. IsRunOf cmd limits n device out err) (sym cut.0) (record {
-      known = refl;
-      done = λ e. absurd (omega (arith, e));
-      refused = λ e. absurd (omega (arith, e));
-      unread = λ e. absurd (omega (arith, e));
-      unwritten = λ _. inr cut.2;
-      cut = λ _ bytes dump. subst (λ w. IsUnwritten cmd bytes w out err) (sym (told bytes dump)) (cut.1, cut.2, kept);
-      out_kept = λ e. absurd (let no : ⊥ = cc (e) in no);
-      err_kept = λ e. absurd (let no : ⊥ = cc (e) in no);
-      absent = λ gone. absurd (there gone);
-      taken = bound;
-    })
-
--- nothing was written: the device failed, or memory was wanting
-IsRunOf-unread : (cmd : Command) (limits : Numbers) (status : ℕ) (device : Device) (out err : Change) → status ≡ 4 → IsKept err → IsKept out
-    → Rose device.faults_before device.faults_after ⊎ IsAbsent device.files (file_of cmd) → TakesAtMost cmd device → IsRunOf cmd limits status device out err
-IsRunOf-unread cmd limits status device out err is err_kept out_kept cause bound =
-    subst (λ n. IsRunOf cmd limits n device out err) (sym is) (record {
-      known = refl;
-      done = λ e. absurd (omega (arith, e));
-      refused = λ e. absurd (omega (arith, e));
-      unread = λ _. cause;
-      unwritten = λ e. absurd (omega (arith, e));
-      cut = λ e. absurd (omega (arith, e));
-      out_kept = λ _. out_kept;
-      err_kept = λ _. err_kept;
-      absent = λ _. refl;
-      taken = bound;
-    })
-
-pub IsRunOf-no_memory : (cmd : Command) (limits : Numbers) (status : ℕ) (device : Device) (out err : Change) → status ≡ 6 → IsKept err → IsKept out
-    → TakesAtMost cmd device → IsRunOf cmd limits status device out err
-IsRunOf-no_memory cmd limits status device out err is err_kept out_kept bound =
-    subst (λ n. IsRunOf cmd limits n device out err) (sym is) (record {
-      known = refl;
-      done = λ e. absurd (omega (arith, e));
-      refused = λ e. absurd (omega (arith, e));
-      unread = λ e. absurd (omega (arith, e));
-      unwritten = λ e. absurd (omega (arith, e));
-      cut = λ e. absurd (omega (arith, e));
-      out_kept = λ _. out_kept;
-      err_kept = λ _. err_kept;
-      absent = λ _. refl;
-      taken = bound;
-    })
-
--- the dump isn't opened: why, in the words of the command
-pub IsRunOf-unopened : (cmd : Command) (limits : Numbers) (status : ℕ) (device : Device) (out err : Change) (fault : OpenFault)
-    → EndsUnopened fault status err → IsKept out
-    → ((bytes : List ℕ) → IsDumpOf device cmd bytes → IsAnswerFor bytes limits (Err fault))
-    → (IsErrOf {T = Contents} (Err fault) Read → Rose device.faults_before device.faults_after ⊎ IsAbsent device.files (file_of cmd))
-    → (IsAbsent device.files (file_of cmd) → IsErrOf {T = Contents} (Err fault) Read)
-    → ((bytes : List ℕ) (why : OpenFault) → opening bytes limits ≡ Some why → refusal cmd bytes limits ≡ Some (Open why))
-    → TakesAtMost cmd device → IsRunOf cmd limits status device out err
-IsRunOf-unopened cmd limits status device out err Read ends kept told cause absent by_opening bound =
-    IsRunOf-unread cmd limits status device out err ends.0 ends.1 kept (cause refl) bound
-IsRunOf-unopened cmd limits status device out err Memory ends kept told cause absent by_opening bound =
-    IsRunOf-no_memory cmd limits status device out err ends.0 ends.1 kept bound
-IsRunOf-unopened cmd limits status device out err fault ends kept told cause absent by_opening bound =
-    IsRunOf-refused cmd limits status device out err (Open fault) ends kept
-    (λ bytes dump. by_opening bytes fault (told bytes dump))
-    (λ gone. let no : ⊥ = cc (absent gone) in no) bound
-
--- a body isn't loaded
-pub IsRunOf-unloaded : (cmd : Command) (limits : Numbers) (status : ℕ) (device : Device) (out err : Change) (fault : BodyFault) (s : Section) (between : ℕ)
-    → EndsUnloaded fault status err → IsKept out → IsCauseOf s limits.section between device.faults_after fault → device.faults_before ≤ between
-    → ((bytes : List ℕ) → IsDumpOf device cmd bytes → limits.section < body_length s → refusal cmd bytes limits ≡ Some (SectionTooLarge s.at (body_length s)))
-    → (IsAbsent device.files (file_of cmd) → ⊥) → TakesAtMost cmd device → IsRunOf cmd limits status device out err
-IsRunOf-unloaded cmd limits status device out err body_faults.Read s between ends kept cause later told there bound =
-    IsRunOf-unread cmd limits status device out err ends.0 ends.1 kept (inl (omega (arith, cause, later))) bound
-IsRunOf-unloaded cmd limits status device out err body_faults.Memory s between ends kept cause later told there bound =
-    IsRunOf-no_memory cmd limits status device out err ends.0 ends.1 kept bound
-IsRunOf-unloaded cmd limits status device out err (body_faults.SectionTooLarge at len) s between ends kept cause later told there bound =
-    IsRunOf-refused cmd limits status device out err (SectionTooLarge at len) ends kept
-    (λ bytes dump. told bytes dump cause.2 ∙ ap (λ n. Some (SectionTooLarge n (body_length s))) (sym cause.0) ∙ ap (λ n. Some (SectionTooLarge at n)) (sym cause.1))
-    there bound
-
--- the line of a refusal, as it was written
-pub line_written : {E : Type 0} (status : ℕ) (err : Change) (line : List ℕ) (r : Result (Unit {0}) E)
-    → MatchResult r (λ _. status ≡ 2) (λ _. status ≡ 5) → WritesAll err.before err.after line r → HasCause err.faults_before err.faults_after r
-    → ((status ≡ 2) × Gained err line) ⊎ ((status ≡ 5) × IsCutOff err line × HasFailed err)
-line_written status err line (Ok done) is wrote cause = inl (is, wrote)
-line_written status err line (Err failed) is cut cause = inr (is, cut, cause.failed)
-
-pub EndsUnopened-refused : (fault : OpenFault) (status : ℕ) (err : Change) → fault ≢ Read → fault ≢ Memory
-    → ((status ≡ 2) × Gained err (refusal_line (Open fault))) ⊎ ((status ≡ 5) × IsCutOff err (refusal_line (Open fault)) × HasFailed err)
-    → EndsUnopened fault status err
-EndsUnopened-refused Read status err read memory ends = absurd (read refl)
-EndsUnopened-refused Memory status err read memory ends = absurd (memory refl)
-EndsUnopened-refused fault status err read memory ends = ends
-
+-- a number is one of a list: it is the first, or one of the others
 among : (m : ℕ) (ms : List ℕ) (n : ℕ) → is_one_of (m ∷ ms) n ≡ true → (n ≡ m) ⊎ (is_one_of ms n ≡ true)
 among m ms n is =
     elim (eqb_tells m n) [ inl p ↦ inl (sym p.1) | inr p ↦ inr (sym (ap (λ b. b || is_one_of ms n) p.0) ∙ is) ]
 
-pub there : (told : Option Files) (name : List ℕ) (files : Files) (bytes : List ℕ) → told ≡ Some files → files name ≡ Some bytes → IsAbsent told name → ⊥
-there None name files bytes is named gone = gone
-there (Some own) name files bytes is named gone =
-    let same : own ≡ files = cc in
-    let no : ⊥ = cc (sym gone ∙ ap (λ f. f name) same ∙ named) in no
+-- the whole report was written
+done-is : (cmd : Command) (limits : Numbers) (device : Use) (out err : Change) → IsDone cmd limits device out DONE → IsKept err
+    → TakesAtMost cmd device → IsRunOf cmd limits DONE device out err
+done-is cmd limits device out err all kept taken =
+    record {
+      known = refl;
+      done = λ _. all.told;
+      found = all.found;
+      refused = λ e. absurd (omega (arith, e));
+      unread = λ e. absurd (omega (arith, e));
+      unwritten = λ e. absurd (omega (arith, e));
+      front = λ e. absurd (omega (arith, e));
+      out_kept = λ e. absurd (omega (arith, e));
+      unfinished = λ e. absurd (let no : ⊥ = cc (e) in no);
+      err_kept = λ _. kept;
+      missing = λ gone. absurd (all.there gone);
+      taken = taken;
+    }
 
--- where nothing failed a dump that is there and accepted is reported, or memory was wanting
-pub IsRunOf-complete : (cmd : Command) (limits : Numbers) (status : ℕ) (device : Device) (out err : Change) → IsRunOf cmd limits status device out err
+found-is : (cmd : Command) (limits : Numbers) (device : Use) (out err : Change) → IsDone cmd limits device out FOUND → IsKept err
+    → TakesAtMost cmd device → IsRunOf cmd limits FOUND device out err
+found-is cmd limits device out err all kept taken =
+    record {
+      known = refl;
+      done = λ _. all.told;
+      found = all.found;
+      refused = λ e. absurd (omega (arith, e));
+      unread = λ e. absurd (omega (arith, e));
+      unwritten = λ e. absurd (omega (arith, e));
+      front = λ e. absurd (omega (arith, e));
+      out_kept = λ e. absurd (omega (arith, e));
+      unfinished = λ e. absurd (let no : ⊥ = cc (e) in no);
+      err_kept = λ _. kept;
+      missing = λ gone. absurd (all.there gone);
+      taken = taken;
+    }
+
+written-is : (cmd : Command) (limits : Numbers) (status : ℕ) (device : Use) (out err : Change) → IsDone cmd limits device out status → IsKept err
+    → TakesAtMost cmd device → IsRunOf cmd limits status device out err
+written-is cmd limits status device out err all kept taken =
+    elim (among DONE (FOUND ∷ []) status all.whole) [
+      | inl is ↦ subst (λ n. IsRunOf cmd limits n device out err) (sym is)
+          (done-is cmd limits device out err (subst (IsDone cmd limits device out) is all) kept taken)
+      | inr rest ↦ elim (among FOUND [] status rest) [
+        | inl is ↦ subst (λ n. IsRunOf cmd limits n device out err) (sym is)
+            (found-is cmd limits device out err (subst (IsDone cmd limits device out) is all) kept taken)
+        | inr none ↦ absurd (false≢true none)
+      ]
+    ]
+
+-- the line of a refusal was written, or a front of it
+refused-is : (cmd : Command) (limits : Numbers) (status : ℕ) (device : Use) (out err : Change) (why : Refusal) → IsRefused cmd limits device why → IsKept out
+    → TakesAtMost cmd device → EndsTold REFUSED (refusal_line why) status err → IsRunOf cmd limits status device out err
+refused-is cmd limits status device out err why refused kept taken (inl line) =
+    subst (λ n. IsRunOf cmd limits n device out err) (sym line.0) (record {
+      known = refl;
+      done = λ e. absurd (let no : ⊥ = cc (e) in no);
+      found = λ e. absurd (omega (arith, e));
+      refused = λ _ bytes dump. subst (λ r. IsSomeAnd r (λ w. Gained err (refusal_line w))) (sym (refused.told bytes dump)) line.1;
+      unread = λ e. absurd (omega (arith, e));
+      unwritten = λ e. absurd (omega (arith, e));
+      front = λ e. absurd (omega (arith, e));
+      out_kept = λ _. kept;
+      unfinished = λ e. absurd (let no : ⊥ = cc (e) in no);
+      err_kept = λ e. absurd (let no : ⊥ = cc (e) in no);
+      missing = λ gone. absurd (refused.there gone);
+      taken = taken;
+    })
+refused-is cmd limits status device out err why refused kept taken (inr cut) =
+    subst (λ n. IsRunOf cmd limits n device out err) (sym cut.0) (record {
+      known = refl;
+      done = λ e. absurd (let no : ⊥ = cc (e) in no);
+      found = λ e. absurd (omega (arith, e));
+      refused = λ e. absurd (omega (arith, e));
+      unread = λ e. absurd (omega (arith, e));
+      unwritten = λ _. inr cut.2;
+      front = λ _ bytes dump. subst (λ w. IsUnwritten cmd bytes w out err) (sym (refused.told bytes dump)) (cut.1, cut.2, kept);
+      out_kept = λ e. absurd (omega (arith, e));
+      unfinished = λ e. absurd (let no : ⊥ = cc (e) in no);
+      err_kept = λ e. absurd (let no : ⊥ = cc (e) in no);
+      missing = λ gone. absurd (refused.there gone);
+      taken = taken;
+    })
+
+-- the device failed, or has no such file
+unread-is : (cmd : Command) (limits : Numbers) (device : Use) (out err : Change) → IsUnread device cmd → IsUnfinished cmd limits device out → IsKept err
+    → (IsMissing device cmd → device.now_after ≡ closed) → TakesAtMost cmd device → IsRunOf cmd limits UNREAD device out err
+unread-is cmd limits device out err cause left kept shut taken =
+    record {
+      known = refl;
+      done = λ e. absurd (let no : ⊥ = cc (e) in no);
+      found = λ e. absurd (omega (arith, e));
+      refused = λ e. absurd (omega (arith, e));
+      unread = λ _. cause;
+      unwritten = λ e. absurd (omega (arith, e));
+      front = λ e. absurd (omega (arith, e));
+      out_kept = λ e. absurd (omega (arith, e));
+      unfinished = λ _. left;
+      err_kept = λ _. kept;
+      missing = λ gone. (refl, shut gone);
+      taken = taken;
+    }
+
+-- a write of the report failed
+unwritten-is : (cmd : Command) (limits : Numbers) (device : Use) (out err : Change) → IsBrokenOff cmd limits device out → IsKept err
+    → TakesAtMost cmd device → IsRunOf cmd limits UNWRITTEN device out err
+unwritten-is cmd limits device out err cut kept taken =
+    record {
+      known = refl;
+      done = λ e. absurd (let no : ⊥ = cc (e) in no);
+      found = λ e. absurd (omega (arith, e));
+      refused = λ e. absurd (omega (arith, e));
+      unread = λ e. absurd (omega (arith, e));
+      unwritten = λ _. inl cut.failed;
+      front = λ _ bytes dump.
+          let front = cut.told bytes dump in
+          subst (λ why. IsUnwritten cmd bytes why out err) (sym front.0) (front.1, cut.failed, kept);
+      out_kept = λ e. absurd (omega (arith, e));
+      unfinished = λ e. absurd (let no : ⊥ = cc (e) in no);
+      err_kept = λ e. absurd (let no : ⊥ = cc (e) in no);
+      missing = λ gone. absurd (cut.there gone);
+      taken = taken;
+    }
+
+-- there was no memory
+no_memory-is : (cmd : Command) (limits : Numbers) (device : Use) (out err : Change) → IsUnfinished cmd limits device out → IsKept err
+    → (IsMissing device cmd → device.now_after ≡ closed) → TakesAtMost cmd device → IsRunOf cmd limits NO_MEMORY device out err
+no_memory-is cmd limits device out err left kept shut taken =
+    record {
+      known = refl;
+      done = λ e. absurd (let no : ⊥ = cc (e) in no);
+      found = λ e. absurd (omega (arith, e));
+      refused = λ e. absurd (omega (arith, e));
+      unread = λ e. absurd (omega (arith, e));
+      unwritten = λ e. absurd (omega (arith, e));
+      front = λ e. absurd (omega (arith, e));
+      out_kept = λ e. absurd (omega (arith, e));
+      unfinished = λ _. left;
+      err_kept = λ _. kept;
+      missing = λ gone. (refl, shut gone);
+      taken = taken;
+    }
+
+-- what a command left and how its run ended are a run of the command
+pub IsRunOf-ended : (cmd : Command) (limits : Numbers) (status : ℕ) (device : Use) (out err : Change) (ended : Result ℕ Stop) → Runs cmd limits device out ended
+    → EndsAs ended status err → IsRunOf cmd limits status device out err
+IsRunOf-ended cmd limits status device out err (Ok n) runs ends =
+    subst (λ m. IsRunOf cmd limits m device out err) (sym ends.0) (written-is cmd limits n device out err runs.left ends.1 runs.taken)
+IsRunOf-ended cmd limits status device out err (Err (Refused why)) runs ends =
+    refused-is cmd limits status device out err why runs.left.0 runs.left.1 runs.taken ends
+IsRunOf-ended cmd limits status device out err (Err NotRead) runs ends =
+    subst (λ m. IsRunOf cmd limits m device out err) (sym ends.0) (unread-is cmd limits device out err runs.left.0 runs.left.1 ends.1 runs.gone runs.taken)
+IsRunOf-ended cmd limits status device out err (Err NotWritten) runs ends =
+    subst (λ m. IsRunOf cmd limits m device out err) (sym ends.0) (unwritten-is cmd limits device out err runs.left ends.1 runs.taken)
+IsRunOf-ended cmd limits status device out err (Err NoMemory) runs ends =
+    subst (λ m. IsRunOf cmd limits m device out err) (sym ends.0) (no_memory-is cmd limits device out err runs.left ends.1 runs.gone runs.taken)
+
+-- a dump whose bytes are told was read where the device didn't fail
+there : (device : Use) (name : Option (List ℕ)) (bytes : List ℕ) → IsInputOf device name bytes → (IsMissingFrom device name → device.now_after ≡ closed)
+    → (DeviceFailed device → ⊥) → IsUnreadFrom device name → ⊥
+there device None bytes input shut well unread = unread
+there device (Some name) bytes input shut well (inl failed) = well failed
+there device (Some name) bytes (inl held) shut well (inr gone) = held-there device.files_before name bytes held gone
+there device (Some name) bytes (inr opened) shut well (inr gone) = let no : ⊥ = cc (sym (shut gone) ∙ opened) in no
+
+-- where nothing is refused and nothing failed the whole report was written, or memory was wanting
+pub IsRunOf-complete : (cmd : Command) (limits : Numbers) (status : ℕ) (device : Use) (out err : Change) → IsRunOf cmd limits status device out err
     → (bytes : List ℕ) → IsDumpOf device cmd bytes → refusal cmd bytes limits ≡ None
-    → (Rose device.faults_before device.faults_after → ⊥) → (HasFailed out → ⊥) → (HasFailed err → ⊥) → (status ≡ 0) ⊎ (status ≡ 6)
-IsRunOf-complete cmd limits status device out err run bytes dump open_to device_well out_well err_well =
-    elim (among 0 (2 ∷ 4 ∷ 5 ∷ 6 ∷ []) status run.known) [
-      | inl zero_is ↦ inl zero_is
-      | inr rest ↦ elim (among 2 (4 ∷ 5 ∷ 6 ∷ []) status rest) [
+    → (DeviceFailed device → ⊥) → (SinkFailed out → ⊥) → (SinkFailed err → ⊥) → (status ≡ report_status cmd bytes) ⊎ (status ≡ NO_MEMORY)
+IsRunOf-complete cmd limits status device out err run bytes dump accepted device_well out_well err_well =
+    elim (among DONE (REFUSED ∷ FOUND ∷ UNREAD ∷ UNWRITTEN ∷ NO_MEMORY ∷ []) status run.known) [
+      | inl zero_is ↦ inl (run.done (rw zero_is refl) bytes dump).ends
+      | inr rest ↦ elim (among REFUSED (FOUND ∷ UNREAD ∷ UNWRITTEN ∷ NO_MEMORY ∷ []) status rest) [
         | inl two ↦ absurd (let no : IsSomeAnd None (λ (why : Refusal). Gained err (refusal_line why)) =
-            subst (λ r. IsSomeAnd r (λ why. Gained err (refusal_line why))) open_to (run.refused two bytes dump) in no)
-        | inr rest ↦ elim (among 4 (5 ∷ 6 ∷ []) status rest) [
-          | inl four ↦ absurd (elim (run.unread four) [ inl rose ↦ device_well rose | inr gone ↦ there device.files (file_of cmd) dump.files bytes dump.told dump.named gone ])
-          | inr rest ↦ elim (among 5 (6 ∷ []) status rest) [
-            | inl five ↦ absurd (elim (run.unwritten five) [ inl rose ↦ out_well rose | inr rose ↦ err_well rose ])
-            | inr rest ↦ elim (among 6 [] status rest) [ inl six ↦ inr six | inr none ↦ absurd (false≢true none) ]
+            subst (λ r. IsSomeAnd r (λ why. Gained err (refusal_line why))) accepted (run.refused two bytes dump) in no)
+        | inr rest ↦ elim (among FOUND (UNREAD ∷ UNWRITTEN ∷ NO_MEMORY ∷ []) status rest) [
+          | inl three ↦ inl (run.done (rw three refl) bytes dump).ends
+          | inr rest ↦ elim (among UNREAD (UNWRITTEN ∷ NO_MEMORY ∷ []) status rest) [
+            | inl four ↦ absurd (there device (file_of cmd) bytes dump (λ gone. (run.missing gone).1) device_well (run.unread four))
+            | inr rest ↦ elim (among UNWRITTEN (NO_MEMORY ∷ []) status rest) [
+              | inl five ↦ absurd (elim (run.unwritten five) [ inl rose ↦ out_well rose | inr rose ↦ err_well rose ])
+              | inr rest ↦ elim (among NO_MEMORY [] status rest) [ inl six ↦ inr six | inr none ↦ absurd (false≢true none) ]
+            ]
           ]
         ]
       ]
     ]
 
+-- a refusal that is handed on has a line
+pub IsProper-ended : (cmd : Command) (limits : Numbers) (device : Use) (out : Change) (ended : Result ℕ Stop) → Runs cmd limits device out ended → IfErr ended IsProper
+IsProper-ended cmd limits device out (Ok status) runs = tt
+IsProper-ended cmd limits device out (Err (Refused why)) runs = runs.left.0.proper
+IsProper-ended cmd limits device out (Err NotRead) runs = tt
+IsProper-ended cmd limits device out (Err NotWritten) runs = tt
+IsProper-ended cmd limits device out (Err NoMemory) runs = tt
+
 -- the command is the one of the words
-pub IsRunOf-same : (words : Option Command) (mine cmd : Command) (limits : Numbers) (status : ℕ) (device : Device) (out err : Change)
+pub IsRunOf-same : (words : Option Command) (mine cmd : Command) (limits : Numbers) (status : ℕ) (device : Use) (out err : Change)
     → words ≡ Some mine → words ≡ Some cmd → IsRunOf mine limits status device out err → IsRunOf cmd limits status device out err
 IsRunOf-same words mine cmd limits status device out err first second run =
     let same : mine ≡ cmd = cc in subst (λ k. IsRunOf k limits status device out err) same run

@@ -1,2 +1,5 @@
-pub mod Dumps
 pub mod Endings
+pub mod Info
+pub mod Loads
+pub mod Opened
+pub mod Runs

@@ -1,5 +1,5 @@
 -- The commands, by the words of the command line.
-use Rattle.std.specs.Prelude.{ℕ, List, [], ◌∷◌, map, Option, None, Some, codes, if◌then◌else◌}
+use Rattle.std.specs.Prelude.{ℕ, List, [], ◌∷◌, Option, None, Some, codes, if◌then◌else◌}
 use Rattle.std.specs.Str.{bytes_eq}
 use Rattle.dump_command.specs.declared.words.Cmd.{Cmd}
 use Rattle.dump_command.specs.declared.words.Cmd.TheVariants.{Index, Info}
@@ -27,7 +27,7 @@ command (name ∷ []) = None
 command (name ∷ file ∷ []) = file_command name file
 command (name ∷ file ∷ word ∷ words) = None
 
--- the file that a command opens
-abbrev pub file_of : Command → List ℕ
-file_of (index file) = file
-file_of (info file) = file
+-- the name of the file that a command opens, where it opens one
+abbrev pub file_of : Command → Option (List ℕ)
+file_of (index file) = Some file
+file_of (info file) = Some file

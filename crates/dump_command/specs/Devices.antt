@@ -1,13 +1,38 @@
--- What a real file shows of itself: its size alone.
-use Rattle.std.specs.Prelude.{ℕ, ◌^◌, ◌<◌, ◌-◌, min, Option, None, Some}
+-- What the real devices show of themselves: the size of what is open, and their counts.
+use Rattle.std.specs.Prelude.{ℕ, Bool, ◌^◌, ◌<◌, ◌-◌, min, Option, None, Some}
 use Rattle.std.proofs.Common.{lit<, arith}
+use Rattle.std.specs.declared.io.traits.Write.{Ghosts}
+use Rattle.dump_io.specs.Count.{number_in}
 use Rattle.dump_io.specs.Dumps.{Now, closed, sized, size_of}
-use Rattle.dump_command.specs.declared.devices.OpenDump.{OpenDump}
+use Rattle.dump_command.specs.declared.file_dumps.OpenDump.{OpenDump}
+use Rattle.dump_command.specs.declared.file_dumps.FileDumps.{FileDumps}
+use Rattle.dump_command.specs.declared.std_sink.StdSink.{StdSink}
 
-abbrev pub now_of : Option OpenDump → Now
-now_of None = closed
-now_of (Some dump) = sized (min dump.size (2 ^ 64 - 1))
+-- of a file of the machine the size alone is told
+abbrev pub now_in : Option OpenDump → Now
+now_in None = closed
+now_in (Some dump) = sized (min dump.size (2 ^ 64 - 1))
 
-pub now_of-small : (dump : Option OpenDump) → size_of (now_of dump) < 2 ^ 64
-now_of-small None = lit< tt
-now_of-small (Some dump) = omega arith
+pub now_in-small : (dump : Option OpenDump) → size_of (now_in dump) < 2 ^ 64
+now_in-small None = lit< tt
+now_in-small (Some dump) = omega arith
+
+abbrev pub now_of : FileDumps → Now
+now_of dumps = now_in dumps.«open»
+
+abbrev pub faults_of : FileDumps → ℕ
+faults_of dumps = number_in dumps.faults
+
+abbrev pub taken_of : FileDumps → ℕ
+taken_of dumps = number_in dumps.taken
+
+-- how often a stream failed
+abbrev pub count_of : {W : Type 0} {w : Ghosts W} → StdSink W w → ℕ
+count_of sink = number_in sink.faults
+
+-- whether a stream failed, after which it gets nothing more
+abbrev pub is_broken_in : {W : Type 0} {w : Ghosts W} → StdSink W w → Bool
+is_broken_in sink = sink.is_broken
+
+abbrev pub stream_of : {W : Type 0} {w : Ghosts W} → StdSink W w → W
+stream_of sink = sink.stream

@@ -1,3 +1,5 @@
 pub mod Command
 pub mod Devices
+pub mod Inner
+pub mod Report
 pub mod Run

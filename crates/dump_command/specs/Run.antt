@@ -1,157 +1,97 @@
--- What a run writes, and with which status it ends.
-use Rattle.std.specs.Prelude.{◌≡◌, ◌⊎◌, ℕ, ◌+◌, ◌≤◌, List, map, slice_get, unwrap_or, nat_lt, if◌then◌else◌, ◌∷◌, [], ◌++◌, length, Option, None, Some, option_map, IsSome, IsSomeAnd, IsTrue, Bool, ◌==◌, codes}
-use Rattle.std.specs.List.{list_any, between}
-use Rattle.dump_io.specs.Counts.{Rose, plus_capped}
-use Rattle.dump_io.specs.Dumps.{Files, IsAbsent}
+-- What a run leaves, by the status with which it ends.
+use Rattle.std.specs.Prelude.{◌≡◌, ◌⊎◌, ℕ, ◌≤◌, List, [], ◌∷◌, Option, None, Some, IsSomeAnd, IsTrue, Bool, ◌==◌, codes}
+use Rattle.std.specs.List.{list_any}
+use Rattle.dump_io.specs.Counts.{plus_capped}
+use Rattle.dump_io.specs.Dumps.{closed, IsAbsent, Use, DeviceFailed}
 use Rattle.dump_io.specs.Limits.{Numbers}
-use Rattle.dump_io.specs.Lines.{headers}
-use Rattle.dump_io.specs.Sinks.{grown, IsCut}
-use Rattle.section_index.specs.declared.opening.OpenFault.{OpenFault}
-use Rattle.section_index.specs.declared.opening.OpenFault.TheVariants.{Read, Memory}
-use Rattle.section_index.specs.declared.bodies.BodyFault.{BodyFault}
-use Rattle.section_index.specs.declared.bodies.BodyFault.TheVariants as body_faults
-use Rattle.section_index.specs.Bodies.{body_length}
-use Rattle.section_index.specs.Opening.{opening, first_id}
-use Rattle.section_index.specs.Sections.{Section, section, sections, tag_of}
-use Rattle.section_index.specs.Tags.{tag_counts}
+use Rattle.dump_io.specs.Sinks.{Change, SinkFailed, IsKept, Gained, GainedFront}
+use Rattle.section_index.specs.Index.{IsFileOf}
 use Rattle.report_text.specs.declared.refusals.Refusal.{Refusal}
-use Rattle.report_text.specs.declared.refusals.Refusal.TheVariants.{Open, SectionTooLarge}
 use Rattle.report_text.specs.Refusals.{refusal_line}
-use Rattle.report_text.specs.Reports.{index_report, info_report}
-use Rattle.dump_command.specs.Command.{Command, index, info, file_of}
-
--- the first section of a dump
-abbrev pub first_section : List ℕ → Section
-first_section bytes = unwrap_or (slice_get (sections bytes) 0) (section 0 0 0 [])
-
-abbrev pub body_of : List ℕ → Section → List ℕ
-body_of bytes section = between section.body section.end bytes
-
-abbrev pub tags_of : List ℕ → List (List ℕ)
-tags_of bytes = map (λ s. tag_of s.text) (sections bytes)
-
--- the report of a command on the bytes of a dump
-abbrev pub report : Command → List ℕ → List ℕ
-report (index file) bytes = index_report (headers bytes) (length bytes)
-report (info file) bytes =
-    info_report (first_id bytes) (headers bytes) (length bytes) (tag_counts (tags_of bytes)) (body_of bytes (first_section bytes))
-
-abbrev pub first_of : Option Refusal → Option Refusal → Option Refusal
-first_of None next = next
-first_of (Some why) next = Some why
-
--- the refusal of a body that is longer than the limit
-abbrev pub too_large : Section → ℕ → Option Refusal
-too_large section limit = if nat_lt limit (body_length section) then Some (SectionTooLarge section.at (body_length section)) else None
-
--- why a command on these bytes is refused under these limits, or none: the first cause that holds
-abbrev pub refusal : Command → List ℕ → Numbers → Option Refusal
-refusal (index file) bytes limits = option_map Open (opening bytes limits)
-refusal (info file) bytes limits = first_of (option_map Open (opening bytes limits)) (too_large (first_section bytes) limits.section)
-
--- the most bytes that a command takes from the device: the dump once, and the bodies that it loads
-abbrev pub allowance : Command → List ℕ → ℕ
-allowance (index file) bytes = length bytes
-allowance (info file) bytes = length bytes + body_length (first_section bytes)
-
-abbrev pub usage_line : List ℕ
-usage_line = codes "usage: edump COMMAND [WORDS]\n"
-
--- what a run did to a sink: what was written before and after, and the counts of faults
-pub record Change : Type 0 where
-  pub before : Option (List ℕ)
-  pub after : Option (List ℕ)
-  pub faults_before : ℕ
-  pub faults_after : ℕ
-
-abbrev pub change : Option (List ℕ) → Option (List ℕ) → ℕ → ℕ → Change
-change before after faults_before faults_after =
-    record { before = before; after = after; faults_before = faults_before; faults_after = faults_after }
-
-abbrev pub IsKept : Change → Type 0
-IsKept sink = sink.after ≡ sink.before
-
--- the sink got this text and nothing else
-abbrev pub Gained : Change → List ℕ → Type 0
-Gained sink text = sink.after ≡ grown sink.before text
-
--- the sink got a part of this text, but not all of it
-abbrev pub IsCutOff : Change → List ℕ → Type 0
-IsCutOff sink text = IsCut sink.before sink.after text
-
-abbrev pub HasFailed : Change → Type 0
-HasFailed sink = Rose sink.faults_before sink.faults_after
-
--- the device: its files, where they are told, and its counts of faults and of bytes given, before and after
-pub record Device : Type 0 where
-  pub files : Option Files
-  pub faults_before : ℕ
-  pub faults_after : ℕ
-  pub taken_before : ℕ
-  pub taken_after : ℕ
-
-abbrev pub device : Option Files → ℕ → ℕ → ℕ → ℕ → Device
-device files faults_before faults_after taken_before taken_after =
-    record {
-      files = files;
-      faults_before = faults_before;
-      faults_after = faults_after;
-      taken_before = taken_before;
-      taken_after = taken_after;
-    }
-
--- these are the bytes of the command's file, where the device tells its files
-pub record IsDumpOf (device : Device) (cmd : Command) (bytes : List ℕ) : Type 0 where
-  pub files : Files
-  pub told : device.files ≡ Some files
-  pub named : files (file_of cmd) ≡ Some bytes
-
--- a write failed: of the report, or of the line of the refusal where there is one
-abbrev pub IsUnwritten : Command → List ℕ → Option Refusal → Change → Change → Type 0
-IsUnwritten cmd bytes None out err = IsCutOff out (report cmd bytes) × HasFailed out × IsKept err
-IsUnwritten cmd bytes (Some why) out err = IsCutOff err (refusal_line why) × HasFailed err × IsKept out
+use Rattle.dump_command.specs.Command.{Command, file_of}
+use Rattle.dump_command.specs.Report.{report, report_status, finds, refusal, allowance}
+use Rattle.dump_command.specs.declared.status.TheConstants.{DONE, USAGE, REFUSED, FOUND, UNREAD, UNWRITTEN, NO_MEMORY}
 
 abbrev pub is_one_of : List ℕ → ℕ → Bool
 is_one_of statuses status = list_any (λ s. s == status) statuses
 
+-- these are the bytes of which a command reports: those of its file, and none where it has no file
+abbrev pub IsInputOf : Use → Option (List ℕ) → List ℕ → Type 0
+IsInputOf device None bytes = bytes ≡ []
+IsInputOf device (Some name) bytes = IsFileOf device name bytes
+
+abbrev pub IsDumpOf : Use → Command → List ℕ → Type 0
+IsDumpOf device cmd bytes = IsInputOf device (file_of cmd) bytes
+
+-- the files are told, and none has the name of the file that is to be opened
+abbrev pub IsMissingFrom : Use → Option (List ℕ) → Type 0
+IsMissingFrom device None = ⊥
+IsMissingFrom device (Some name) = IsAbsent device.files_before name
+
+abbrev pub IsMissing : Use → Command → Type 0
+IsMissing device cmd = IsMissingFrom device (file_of cmd)
+
+-- the dump wasn't read: the device failed, or has no such file
+abbrev pub IsUnreadFrom : Use → Option (List ℕ) → Type 0
+IsUnreadFrom device None = ⊥
+IsUnreadFrom device (Some name) = DeviceFailed device ⊎ IsAbsent device.files_before name
+
+abbrev pub IsUnread : Use → Command → Type 0
+IsUnread device cmd = IsUnreadFrom device (file_of cmd)
+
+-- no more bytes are taken than the command is allowed
+abbrev pub TakesAtMost : Command → Use → Type 0
+TakesAtMost cmd device =
+    (bytes : List ℕ) → IsDumpOf device cmd bytes → device.taken_after ≤ plus_capped device.taken_before (allowance cmd bytes)
+
+-- the command isn't refused, its whole report was written, and the status is that of the report
+pub record IsReported (cmd : Command) (limits : Numbers) (status : ℕ) (bytes : List ℕ) (out : Change) : Type 0 where
+  pub accepted : refusal cmd bytes limits ≡ None
+  pub ends : status ≡ report_status cmd bytes
+  pub written : Gained out (report cmd bytes)
+
+-- a write failed: of the report, or of the line of the refusal where there is one
+abbrev pub IsUnwritten : Command → List ℕ → Option Refusal → Change → Change → Type 0
+IsUnwritten cmd bytes None out err = GainedFront out (report cmd bytes) × SinkFailed out × IsKept err
+IsUnwritten cmd bytes (Some why) out err = GainedFront err (refusal_line why) × SinkFailed err × IsKept out
+
+-- what `out` holds where the dump wasn't read to its end or memory was wanting: nothing new, since each command
+-- loads all that its report needs before it writes
+abbrev pub IsUnfinished : Command → Numbers → Use → Change → Type 0
+IsUnfinished cmd limits device out = IsKept out
+
 -- what a run of a command leaves, by its status
-pub record IsRunOf (cmd : Command) (limits : Numbers) (status : ℕ) (device : Device) (out err : Change) : Type 0 where
+pub record IsRunOf (cmd : Command) (limits : Numbers) (status : ℕ) (device : Use) (out err : Change) : Type 0 where
   -- no other status comes
-  pub known : IsTrue (is_one_of (0 ∷ 2 ∷ 4 ∷ 5 ∷ 6 ∷ []) status)
-  -- 0: the command isn't refused, and the whole report was written
-  pub done : status ≡ 0 → (bytes : List ℕ) → IsDumpOf device cmd bytes → (refusal cmd bytes limits ≡ None) × Gained out (report cmd bytes)
+  pub known : IsTrue (is_one_of (DONE ∷ REFUSED ∷ FOUND ∷ UNREAD ∷ UNWRITTEN ∷ NO_MEMORY ∷ []) status)
+  -- 0, or 3 with a finding: the whole report was written
+  pub done : IsTrue (is_one_of (DONE ∷ FOUND ∷ []) status) → (bytes : List ℕ) → IsDumpOf device cmd bytes → IsReported cmd limits status bytes out
+  pub found : status ≡ FOUND → IsTrue (finds cmd)
   -- 2: the command is refused, and the line that says why was written
-  pub refused : status ≡ 2 → (bytes : List ℕ) → IsDumpOf device cmd bytes → IsSomeAnd (refusal cmd bytes limits) (λ why. Gained err (refusal_line why))
+  pub refused : status ≡ REFUSED → (bytes : List ℕ) → IsDumpOf device cmd bytes → IsSomeAnd (refusal cmd bytes limits) (λ why. Gained err (refusal_line why))
   -- 4: the device failed, or tells its files and has none of that name
-  pub unread : status ≡ 4 → Rose device.faults_before device.faults_after ⊎ IsAbsent device.files (file_of cmd)
-  -- 5: a sink failed, and a part of its text was written
-  pub unwritten : status ≡ 5 → HasFailed out ⊎ HasFailed err
-  pub cut : status ≡ 5 → (bytes : List ℕ) → IsDumpOf device cmd bytes → IsUnwritten cmd bytes (refusal cmd bytes limits) out err
-  -- `out` is untouched at 2, 4 and 6, and `err` at 0, 4 and 6
-  pub out_kept : IsTrue (is_one_of (2 ∷ 4 ∷ 6 ∷ []) status) → IsKept out
-  pub err_kept : IsTrue (is_one_of (0 ∷ 4 ∷ 6 ∷ []) status) → IsKept err
-  -- without such a file there is no report and no refusal
-  pub absent : IsAbsent device.files (file_of cmd) → IsTrue (is_one_of (4 ∷ 6 ∷ []) status)
+  pub unread : status ≡ UNREAD → IsUnread device cmd
+  -- 5: a sink failed, and a front of its text was written
+  pub unwritten : status ≡ UNWRITTEN → SinkFailed out ⊎ SinkFailed err
+  pub front : status ≡ UNWRITTEN → (bytes : List ℕ) → IsDumpOf device cmd bytes → IsUnwritten cmd bytes (refusal cmd bytes limits) out err
+  -- `out` is untouched at 2, and at 4 and 6 where the command loads before it writes; `err` at 0, 3, 4 and 6
+  pub out_kept : status ≡ REFUSED → IsKept out
+  pub unfinished : IsTrue (is_one_of (UNREAD ∷ NO_MEMORY ∷ []) status) → IsUnfinished cmd limits device out
+  pub err_kept : IsTrue (is_one_of (DONE ∷ FOUND ∷ UNREAD ∷ NO_MEMORY ∷ []) status) → IsKept err
+  -- without such a file none is open in the end, and there is no report and no refusal
+  pub missing : IsMissing device cmd → IsTrue (is_one_of (UNREAD ∷ NO_MEMORY ∷ []) status) × (device.now_after ≡ closed)
   -- whatever the status, no more bytes are taken than the command is allowed
-  pub taken : (bytes : List ℕ) → IsDumpOf device cmd bytes → device.taken_after ≤ plus_capped device.taken_before (allowance cmd bytes)
+  pub taken : TakesAtMost cmd device
 
--- what a run leaves whose words are no command: the usage line, or a part of it where `err` failed
+abbrev pub usage_line : List ℕ
+usage_line = codes "usage: edump COMMAND [WORDS]\n"
+
+-- a line was written and the run ends with this status, or a front of the line where `err` failed
+abbrev pub EndsTold : ℕ → List ℕ → ℕ → Change → Type 0
+EndsTold status line result err =
+    ((result ≡ status) × Gained err line) ⊎ ((result ≡ UNWRITTEN) × GainedFront err line × SinkFailed err)
+
+-- what a run leaves whose words are no command
 pub record IsUsage (status : ℕ) (out err : Change) : Type 0 where
-  pub ending : ((status ≡ 1) × Gained err usage_line) ⊎ ((status ≡ 5) × IsCutOff err usage_line × HasFailed err)
+  pub ending : EndsTold USAGE usage_line status err
   pub out_kept : IsKept out
-
--- what is left where a dump isn't opened: the line of the refusal or a part of it, and nothing where the
--- device failed or memory was wanting
-abbrev pub EndsUnopened : OpenFault → ℕ → Change → Type 0
-EndsUnopened Read status err = (status ≡ 4) × IsKept err
-EndsUnopened Memory status err = (status ≡ 6) × IsKept err
-EndsUnopened fault status err =
-    ((status ≡ 2) × Gained err (refusal_line (Open fault))) ⊎ ((status ≡ 5) × IsCutOff err (refusal_line (Open fault)) × HasFailed err)
-
--- what is left where a body isn't loaded, likewise
-abbrev pub EndsUnloaded : BodyFault → ℕ → Change → Type 0
-EndsUnloaded body_faults.Read status err = (status ≡ 4) × IsKept err
-EndsUnloaded body_faults.Memory status err = (status ≡ 6) × IsKept err
-EndsUnloaded (body_faults.SectionTooLarge at len) status err =
-    ((status ≡ 2) × Gained err (refusal_line (SectionTooLarge at len)))
-    ⊎ ((status ≡ 5) × IsCutOff err (refusal_line (SectionTooLarge at len)) × HasFailed err)

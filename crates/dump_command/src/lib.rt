@@ -1,12 +1,29 @@
 //! The commands of edump: their words, their run from a device to two sinks, and the real devices.
+//!
+//! ```
+//! let mut dumps = FileDumps::new(&rt);
+//! let mut out = StdSink::new(rt.alloc(), rt.stdout())?;
+//! let mut err = StdSink::new(rt.alloc(), rt.stderr())?;
+//! let status = run(rt.alloc(), &words, &Limits::usual(), &mut dumps, &mut out, &mut err);
+//! ```
+//!
+//! A command loads what its report needs and then writes it. Why it ends without its whole report is a `Stop`,
+//! to which the faults of all layers come by `?`; [`run`] makes a status of [`status`] and a line of it.
 #![tactic(auto)]
 
-mod devices;
+mod commands;
+mod ending;
+mod file_dumps;
+mod open;
 mod runner;
+pub mod status;
+mod std_sink;
+mod stop;
 mod words;
 
-pub use devices::{FileDumps, StdSink};
+pub use file_dumps::FileDumps;
 pub use runner::run;
+pub use std_sink::StdSink;
 pub use words::{Cmd, read_words};
 
 #[cfg(test)]

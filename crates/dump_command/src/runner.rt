@@ -1,137 +1,19 @@
-// A command is run from a device to two sinks.
-ghost use Rattle.std.specs.Prelude.{◌≡◌, ◌≤◌, ◌⊎◌, MatchResult, ℕ, List, map, None, Some};
+// The run of the words of a command line.
+ghost use Rattle.std.specs.Prelude.{◌≡◌, ◌⊎◌, ℕ, List, map, None, Some};
+ghost use Rattle.std.specs.Option.{option_and_then};
 ghost use Rattle.std.specs.String.{string_bytes};
-ghost use Rattle.dump_io.specs.Counts.{Rose};
-ghost use Rattle.dump_io.specs.Sinks.{grown, IsCut};
-ghost use Rattle.dump_command.specs.Command.{Command, command, index, info, shown};
-ghost use Rattle.dump_command.specs.Run.{EndsUnloaded, EndsUnopened, IsDumpOf, IsRunOf, IsUsage, usage_line, change, device, refusal};
+ghost use Rattle.dump_io.specs.Dumps.{used, DeviceFailed};
+ghost use Rattle.dump_io.specs.Sinks.{changed, SinkFailed};
+ghost use Rattle.dump_command.specs.Command.{Command, command, file_of};
+ghost use Rattle.dump_command.specs.Report.{refusal, report_status};
+ghost use Rattle.dump_command.specs.Run.{IsDumpOf, IsRunOf, IsUsage};
 
-use crate::words::{Cmd, read_words};
-use dump_io::{Dumps, Failed, Limits, Sink, write_all};
-use report_text::{Refusal, put_index, put_info, put_refusal};
-use section_index::{BodyFault, OpenFault, Tags, build, read_body};
+use crate::commands::run_command;
+use crate::ending::{end, put_usage};
+use crate::status::NO_MEMORY;
+use crate::words::read_words;
+use dump_io::{Dumps, Limits, Sink};
 use std::alloc::Global;
-
-const DONE: u8 = 0;
-
-const USAGE: u8 = 1;
-
-const REFUSED: u8 = 2;
-
-const UNREAD: u8 = 4;
-
-const UNWRITTEN: u8 = 5;
-
-const NO_MEMORY: u8 = 6;
-
-// The status after a text was written: this one, or that of a failed write.
-fn status_of(written: Result<(), Failed>, status: u8) -> u8
-    ensures { MatchResult written (λ _. result ≡ status) (λ _. result ≡ UNWRITTEN) }
-{
-    match written {
-        Ok(()) => status,
-        Err(_) => UNWRITTEN,
-    }
-}
-
-fn put_usage<E: Sink>(err: &mut E) -> u8
-    ensures { ((result ≡ 1) × (E.written err.new ≡ grown (E.written err.old) usage_line))
-        ⊎ ((result ≡ 5) × IsCut (E.written err.old) (E.written err.new) usage_line × Rose (E.faults err.old) (E.faults err.new)) }
-{
-    status_of(write_all(err, b"usage: edump COMMAND [WORDS]\n"), USAGE)
-}
-
-// The ending of a run whose dump isn't opened.
-fn put_unopened<E: Sink>(err: &mut E, fault: OpenFault) -> u8
-    ensures { EndsUnopened fault result (change (E.written err.old) (E.written err.new) (E.faults err.old) (E.faults err.new)) }
-{
-    match fault {
-        OpenFault::Read => UNREAD,
-        OpenFault::Memory => NO_MEMORY,
-        fault => status_of(put_refusal(err, &Refusal::Open(fault)), REFUSED),
-    }
-}
-
-fn run_index<D: Dumps, K: Sink, E: Sink>(
-    alloc: Global,
-    file: &str,
-    limits: &Limits,
-    dumps: &mut D,
-    out: &mut K,
-    err: &mut E,
-) -> u8
-    ensures { IsRunOf (index file.now) limits.now result
-        (device (D.files dumps.old) (D.faults dumps.old) (D.faults dumps.new) (D.taken dumps.old) (D.taken dumps.new))
-        (change (K.written out.old) (K.written out.new) (K.faults out.old) (K.faults out.new))
-        (change (E.written err.old) (E.written err.new) (E.faults err.old) (E.faults err.new)) }
-{
-    match build(alloc, dumps, file, limits) {
-        Ok(index) => status_of(put_index(out, &index), DONE),
-        Err(fault) => put_unopened(err, fault),
-    }
-}
-
-// The ending of a run in which a body isn't loaded.
-fn put_unloaded<E: Sink>(err: &mut E, fault: BodyFault) -> u8
-    ensures { EndsUnloaded fault result (change (E.written err.old) (E.written err.new) (E.faults err.old) (E.faults err.new)) }
-{
-    match fault {
-        BodyFault::Read => UNREAD,
-        BodyFault::Memory => NO_MEMORY,
-        BodyFault::SectionTooLarge { at, len } => {
-            status_of(
-                put_refusal(err, &Refusal::SectionTooLarge { at, len }),
-                REFUSED,
-            )
-        }
-    }
-}
-
-fn run_info<D: Dumps, K: Sink, E: Sink>(
-    alloc: Global,
-    file: &str,
-    limits: &Limits,
-    dumps: &mut D,
-    out: &mut K,
-    err: &mut E,
-) -> u8
-    ensures { IsRunOf (info file.now) limits.now result
-        (device (D.files dumps.old) (D.faults dumps.old) (D.faults dumps.new) (D.taken dumps.old) (D.taken dumps.new))
-        (change (K.written out.old) (K.written out.new) (K.faults out.old) (K.faults out.new))
-        (change (E.written err.old) (E.written err.new) (E.faults err.old) (E.faults err.new)) }
-{
-    let index = match build(alloc, dumps, file, limits) {
-        Ok(index) => index,
-        Err(fault) => return put_unopened(err, fault),
-    };
-    let first_body = match read_body(alloc, dumps, &index, 0, limits) {
-        Ok(body) => body,
-        Err(fault) => return put_unloaded(err, fault),
-    };
-    let Ok(tags) = Tags::count(alloc, &index) else {
-        return NO_MEMORY;
-    };
-    status_of(put_info(out, &index, &tags, first_body.as_slice()), DONE)
-}
-
-fn run_command<D: Dumps, K: Sink, E: Sink>(
-    alloc: Global,
-    cmd: &Cmd<'_>,
-    limits: &Limits,
-    dumps: &mut D,
-    out: &mut K,
-    err: &mut E,
-) -> u8
-    ensures { IsRunOf (shown cmd.now) limits.now result
-        (device (D.files dumps.old) (D.faults dumps.old) (D.faults dumps.new) (D.taken dumps.old) (D.taken dumps.new))
-        (change (K.written out.old) (K.written out.new) (K.faults out.old) (K.faults out.new))
-        (change (E.written err.old) (E.written err.new) (E.faults err.old) (E.faults err.new)) }
-{
-    match cmd {
-        Cmd::Index { file } => run_index(alloc, file, limits, dumps, out, err),
-        Cmd::Info { file } => run_info(alloc, file, limits, dumps, out, err),
-    }
-}
 
 /// Runs the command of the words behind the program's name, and answers its status.
 ///
@@ -144,7 +26,9 @@ fn run_command<D: Dumps, K: Sink, E: Sink>(
 /// | 5 | only where the count of faults of `out` or of `err` rose |
 /// | 6 | want of memory, which may come at any growth |
 ///
-/// `out` is untouched at 1, 2, 4 and 6, and holds a proper front of the report at 5.
+/// `out` is untouched at 1, 2, 4 and 6, and holds a proper front of the report at 5. The bytes of the dump are
+/// those of the file of the command's name, where `dumps` tells its files, or those that are open at the end,
+/// where it tells these alone. Where they are told and not refused and nothing failed, the status is 0, or 6.
 pub fn run<D: Dumps, K: Sink, E: Sink>(
     alloc: Global,
     words: &[String],
@@ -154,26 +38,28 @@ pub fn run<D: Dumps, K: Sink, E: Sink>(
     err: &mut E,
 ) -> u8
     // What is left where the words are no command.
-    ensures usage { command (map string_bytes words.now) ≡ None → IsUsage result
-        (change (K.written out.old) (K.written out.new) (K.faults out.old) (K.faults out.new))
-        (change (E.written err.old) (E.written err.new) (E.faults err.old) (E.faults err.new)) }
-    ensures idle { command (map string_bytes words.now) ≡ None → dumps.new ≡ dumps.old }
+    ensures usage { command (map string_bytes words.now) ≡ None
+        → IsUsage result (changed K.written K.faults out.old out.new) (changed E.written E.faults err.old err.new) }
+
+    // Where they are none, or one that opens no file, the device plays no part.
+    ensures idle { option_and_then file_of (command (map string_bytes words.now)) ≡ None → dumps.new ≡ dumps.old }
 
     // What is left where they are one.
     ensures ends { (cmd : Command) → command (map string_bytes words.now) ≡ Some cmd → IsRunOf cmd limits.now result
-        (device (D.files dumps.old) (D.faults dumps.old) (D.faults dumps.new) (D.taken dumps.old) (D.taken dumps.new))
-        (change (K.written out.old) (K.written out.new) (K.faults out.old) (K.faults out.new))
-        (change (E.written err.old) (E.written err.new) (E.faults err.old) (E.faults err.new)) }
+        (used D.files D.now D.faults D.taken dumps.old dumps.new) (changed K.written K.faults out.old out.new) (changed E.written E.faults err.old err.new) }
 
-    // A dump that is there and accepted is reported, where nothing failed and there was memory.
+    // Where nothing is refused and nothing failed the whole report was written, or memory was wanting.
     ensures complete { (cmd : Command) (bytes : List ℕ) → command (map string_bytes words.now) ≡ Some cmd
-        → IsDumpOf (device (D.files dumps.old) (D.faults dumps.old) (D.faults dumps.new) (D.taken dumps.old) (D.taken dumps.new)) cmd bytes
-        → refusal cmd bytes limits.now ≡ None
-        → ¬ Rose (D.faults dumps.old) (D.faults dumps.new) → ¬ Rose (K.faults out.old) (K.faults out.new)
-        → ¬ Rose (E.faults err.old) (E.faults err.new) → (result ≡ 0) ⊎ (result ≡ 6) }
+        → IsDumpOf (used D.files D.now D.faults D.taken dumps.old dumps.new) cmd bytes → refusal cmd bytes limits.now ≡ None
+        → ¬ DeviceFailed (used D.files D.now D.faults D.taken dumps.old dumps.new)
+        → ¬ SinkFailed (changed K.written K.faults out.old out.new) → ¬ SinkFailed (changed E.written E.faults err.old err.new)
+        → (result ≡ report_status cmd bytes) ⊎ (result ≡ NO_MEMORY) }
 {
     match read_words(words) {
         None => put_usage(err),
-        Some(cmd) => run_command(alloc, &cmd, limits, dumps, out, err),
+        Some(cmd) => {
+            let ended = run_command(alloc, &cmd, limits, dumps, out);
+            end(ended, err)
+        }
     }
 }

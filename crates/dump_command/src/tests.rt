@@ -1,5 +1,7 @@
+mod cases;
+mod dumps;
+mod hindered;
 mod index;
 mod info;
-mod limits;
-mod outcome;
-mod sample;
+mod long_lines;
+mod usage;

@@ -1,31 +1,10 @@
 -- A buffer is filled by one read after another.
-use Rattle.std.proofs.Common.{◌≡◌, ℕ, ◌+◌, ◌≤◌, List, ◌++◌, length, take, drop, sym, ◌∙◌, ap, subst, arith, length-append}
-use Rattle.std.proofs.lemmas.List.{take-append-drop, drop-take, length-take-le, drop-drop, take-append-le}
+use Rattle.std.proofs.Common.{◌≡◌, ℕ, ◌+◌, ◌≤◌, List, ◌++◌, length, take, sym, ◌∙◌, ap, subst}
+use Rattle.std.proofs.lemmas.List.{length-take-le, take-append-le}
 use Rattle.std.proofs.Math.Seq.{take-append-add}
-use Rattle.std.proofs.lemmas.Grind.{common_steps}
 use borrow.Rule.Slice.PartMut.{put_mid, post_of}
-use Rattle.dump_io.specs.Dumps.{Now, closed, told, sized, Gives}
-
--- a front in two parts
-pub take-two : {X : Type 0} (m n : ℕ) (l : List X) → take (m + n) l ≡ take m l ++ take n (drop m l)
-take-two m n l =
-    sym (take-append-drop m (take (m + n) l))
-    ∙ ap (λ f. f ++ drop m (take (m + n) l)) (let e : take m (take (m + n) l) ≡ take m l = grind (arith, common_steps) in e)
-    ∙ ap (λ r. take m l ++ r) (drop-take m n l)
-
--- what one read gave, and then the next
-pub Gives-append : (now : Now) (at : ℕ) (xs ys : List ℕ) → Gives now at xs → Gives now (at + length xs) ys → Gives now at (xs ++ ys)
-Gives-append closed at xs ys first second = first
-Gives-append (sized n) at xs ys first second = tt
-Gives-append (told all) at xs ys first second =
-    let k = length xs in
-    let e : take (length (xs ++ ys)) (drop at all) ≡ xs ++ ys =
-    ap (λ m. take m (drop at all)) (length-append xs ys)
-    ∙ take-two k (length ys) (drop at all)
-    ∙ ap (λ f. f ++ take (length ys) (drop k (drop at all))) (sym first)
-    ∙ ap (λ r. xs ++ take (length ys) r) (drop-drop k at all)
-    ∙ ap (λ r. xs ++ r) (sym second) in
-    sym e
+use Rattle.dump_io.specs.Dumps.{Now, Gives}
+use Rattle.dump_io.specs.Laws.Reads.{Gives-append}
 
 -- a buffer's front grows by what a read put behind it
 pub take-filled : (d n k : ℕ) (xs ys : List ℕ) → d ≤ length xs → n ≤ length ys → take (d + n) (put_mid d k xs ys) ≡ take d xs ++ take n ys

@@ -1,16 +1,9 @@
 -- Writes one after another.
-use Rattle.std.proofs.Common.{◌≡◌, ℕ, ◌+◌, ◌-◌, List, [], ◌++◌, length, take, drop, Option, None, Some, refl, sym, ◌∙◌, ap, append_assoc, append-nil, arith}
+use Rattle.std.proofs.Common.{◌≡◌, ℕ, ◌+◌, ◌-◌, List, length, take, drop, Option, sym, ◌∙◌, ap, arith}
 use Rattle.std.proofs.lemmas.Grind.{common_steps}
 use Rattle.dump_io.specs.Sinks.{grown}
-use Rattle.dump_io.proofs.Fill.{take-two}
-
-pub grown-grown : (w : Option (List ℕ)) (xs ys : List ℕ) → grown (grown w xs) ys ≡ grown w (xs ++ ys)
-grown-grown None xs ys = refl
-grown-grown (Some zs) xs ys = ap Some (append_assoc zs xs ys)
-
-pub grown-nil : (w : Option (List ℕ)) → grown w [] ≡ w
-grown-nil None = refl
-grown-nil (Some zs) = ap Some (append-nil zs)
+use Rattle.dump_io.specs.Laws.Puts.{grown-grown}
+use Rattle.dump_io.specs.Laws.Reads.{take-two}
 
 -- a slice to the end
 pub rest-of : (bytes : List ℕ) (d : ℕ) → take (length bytes - d) (drop d bytes) ≡ drop d bytes

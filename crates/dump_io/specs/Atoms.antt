@@ -16,6 +16,7 @@ is_atom_byte c = is_small_letter c || (nat_le 65 c && nat_le c 90) || (nat_le 48
 abbrev pub is_bare : List ℕ → Bool
 is_bare name = option_map_or is_small_letter (slice_get name 0) false && list_all is_atom_byte name
 
+-- the bytes `'` and `\`
 abbrev pub quote : ℕ
 quote = 39
 
@@ -32,6 +33,7 @@ quoted_byte c =
     if c == quote || c == backslash then backslash ∷ c ∷ []
     else (if is_control c then codes "\\x" ++ hex_byte c else c ∷ [])
 
+-- an atom between quotes
 abbrev pub quoted_text : List ℕ → List ℕ
 quoted_text name = quote ∷ [] ++ (flat_map quoted_byte name ++ quote ∷ [])
 

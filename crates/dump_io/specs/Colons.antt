@@ -3,12 +3,14 @@ use Rattle.std.specs.Prelude.{◌≡◌, ℕ, ◌==◌, Bool, true, false, List,
 use Rattle.std.specs.List.{list_any, before_first, after_first}
 use denote.Ref.{Bor}
 
+-- the byte `:`
 abbrev pub colon : ℕ
 colon = 58
 
 abbrev pub is_colon : ℕ → Bool
 is_colon c = c == colon
 
+-- whether the text has a colon
 abbrev pub has_colon : List ℕ → Bool
 has_colon text = list_any is_colon text
 

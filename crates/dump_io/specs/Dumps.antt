@@ -59,6 +59,7 @@ pub record Use : Type 0 where
   pub taken_before : ℕ
   pub taken_after : ℕ
 
+-- a use by its eight parts
 abbrev pub device : Option Files → Option Files → Now → Now → ℕ → ℕ → ℕ → ℕ → Use
 device files_before files_after now_before now_after faults_before faults_after taken_before taken_after =
     record {

@@ -3,6 +3,7 @@ use Rattle.std.specs.Prelude.{ℕ, List}
 use Rattle.std.specs.String.{string_bytes}
 use Rattle.dump_io.specs.declared.file.DumpFile.{DumpFile}
 
+-- a file's name, and its bytes
 abbrev pub name_of : DumpFile → List ℕ
 name_of file = string_bytes file.name
 

@@ -8,17 +8,21 @@ use Rattle.dump_io.specs.Count.{number_in}
 use Rattle.dump_io.specs.File.{name_of, bytes_of}
 use Rattle.dump_io.specs.Dumps.{Files, Now, closed, told, size_of}
 
+-- the one file, by its name
 abbrev pub files_of : DumpFile → Files
 files_of file name = if bytes_eq (name_of file) name then Some (bytes_of file) else None
 
+-- what is open, where the file is open or not
 abbrev pub now_where : Bool → DumpFile → Now
 now_where false file = closed
 now_where true file = told (bytes_of file)
 
+-- a file's size is a number of 64 bits
 pub now_where-small : (is_open : Bool) (file : DumpFile) → size_of (now_where is_open file) < 2 ^ 64
 now_where-small false file = lit< tt
 now_where-small true file = file.fits
 
+-- what a device of this kind shows: its file, what is open, and how many bytes it has given
 abbrev pub file_of : HeldDump → DumpFile
 file_of device = device.file
 

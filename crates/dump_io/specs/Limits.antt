@@ -1,6 +1,7 @@
 -- The limits within which a dump is read.
 use Rattle.std.specs.Prelude.{ℕ, ◌≤◌, Bool, ◌&&◌, nat_le}
 
+-- the six limits, and what each of them counts
 pub record Numbers : Type 0 where
   -- bytes of the file
   pub dump : ℕ
@@ -15,6 +16,7 @@ pub record Numbers : Type 0 where
   -- heap lines and elements of one loaded heap
   pub dense : ℕ
 
+-- the usual limits
 abbrev pub usual : Numbers
 usual = record {
   dump = 68719476736;

@@ -2,6 +2,7 @@
 use Rattle.std.specs.Prelude.{◌≡◌, ◌≢◌, ℕ, ◌+◌, ◌-◌, ◌<◌, ◌==◌, Bool, List, [], ◌∷◌, length, take, map, filter, nat_eq, slice_index, All, if◌then◌else◌}
 use Rattle.std.specs.List.{concat, starts_with, ends_with}
 
+-- the bytes that lines and headers are told by: LF, CR and `=`
 abbrev pub lf : ℕ
 lf = 10
 
@@ -48,10 +49,12 @@ pub record Line : Type 0 where
   pub at : ℕ
   pub raw : List ℕ
 
+-- raw lines that begin at this offset, each with its own
 abbrev pub lines_from : ℕ → List (List ℕ) → List Line
 lines_from at [] = []
 lines_from at (raw ∷ raws) = record { at = at; raw = raw } ∷ lines_from (at + length raw) raws
 
+-- the lines of the bytes
 abbrev pub lines : List ℕ → List Line
 lines bytes = lines_from 0 (raw_lines bytes)
 
@@ -65,6 +68,7 @@ pub record Header : Type 0 where
   pub body : ℕ
   pub text : List ℕ
 
+-- the header that a line is: its text, and where its raw line begins and ends
 abbrev pub header_of : Line → Header
 header_of line = record { at = line.at; body = line.at + length line.raw; text = text_of line.raw }
 

@@ -37,6 +37,7 @@ now_at-small files (Some i) = now_in-small (slice_get files i)
 abbrev pub files_of : MemDumps → Files
 files_of device = find_file device.files.items
 
+-- what is open
 abbrev pub now_of : MemDumps → Now
 now_of device = now_at device.files.items device.place
 
@@ -47,6 +48,7 @@ calls_of device = number_in device.calls
 abbrev pub reads_of : MemDumps → ℕ
 reads_of device = number_in device.reads
 
+-- how often it has failed, and how many bytes it has given
 abbrev pub faults_of : MemDumps → ℕ
 faults_of device = number_in device.faults
 

@@ -4,6 +4,7 @@ use Rattle.std.specs.List.{list_any}
 use Rattle.dump_io.specs.Count.{number_in}
 use Rattle.dump_io.specs.declared.mem_sink.MemSink.{MemSink}
 
+-- what was written
 abbrev pub written_of : MemSink → List ℕ
 written_of sink = sink.bytes.items
 
@@ -23,6 +24,7 @@ writes_of sink = number_in sink.writes
 abbrev pub lacked_of : MemSink → ℕ
 lacked_of sink = number_in sink.lacked
 
+-- how often the sink has failed
 abbrev pub faults_of : MemSink → ℕ
 faults_of sink = number_in sink.faults
 

@@ -31,6 +31,7 @@ mod mem_sink;
 mod numbers;
 mod pieces;
 mod read;
+mod short_text;
 mod sink;
 mod text;
 

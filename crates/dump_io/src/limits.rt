@@ -1,5 +1,5 @@
 // The limits within which a dump is read.
-ghost use Rattle.std.specs.Prelude.{◌≡◌, ◌≤◌, Option, None, Some, if◌then◌else◌};
+ghost use Rattle.std.specs.Prelude.{◌≡◌, Option, None, Some, if◌then◌else◌};
 ghost use Rattle.dump_io.specs.Limits.{Numbers, AreAllowed, are_allowed, usual};
 
 use std::marker::Model;

@@ -1,12 +1,15 @@
 // A line is written from pieces.
-ghost use Rattle.std.specs.Prelude.{◌≡◌};
+ghost use Rattle.std.specs.Prelude.{◌≡◌, [], ◌++◌, if◌then◌else◌};
+ghost use Rattle.std.specs.Bool.{OnTrue};
 ghost use Rattle.dump_io.specs.Pieces.{piece_text, pieces_text};
 ghost use Rattle.dump_io.specs.Sinks.{changed, Puts};
 
 use crate::dumps::Failed;
-use crate::hex::put_hex;
+use crate::hex::{HexText, put_hex};
 use crate::numbers::put_dec;
+use crate::short_text::ShortText;
 use crate::sink::{Sink, write_all};
+use itoa::Buffer;
 
 /// A piece of a line: bytes as they are, a number in decimal, or a number in upper-case hex.
 #[derive(Clone, Copy)]
@@ -29,12 +32,49 @@ fn put_piece<K: Sink>(sink: &mut K, piece: &Piece<'_>) -> Result<(), Failed>
     }
 }
 
-/// Writes the pieces one after another. `Failed` comes and leaves what it does at [`write_all`].
-pub fn put_pieces<K: Sink>(sink: &mut K, pieces: &[Piece<'_>]) -> Result<(), Failed>
+// Writes each piece by itself.
+fn put_each<K: Sink>(sink: &mut K, pieces: &[Piece<'_>]) -> Result<(), Failed>
     ensures { Puts (changed K.written K.faults sink.old sink.new) (pieces_text pieces.now) result }
 {
     for piece in pieces {
         put_piece(sink, piece)?;
     }
     Ok(())
+}
+
+// Puts a piece behind a short text, and says whether it had room.
+fn push_piece(text: &mut ShortText, piece: &Piece<'_>) -> bool
+    ensures { text.new ≡ (if result then text.old ++ piece_text piece.now else text.old) }
+{
+    match piece {
+        Piece::Bytes(bytes) => text.push(bytes),
+        Piece::Dec(n) => text.push(Buffer::new().format(*n).as_bytes()),
+        Piece::Hex(n) => text.push(HexText::new(*n).bytes()),
+    }
+}
+
+// Puts the pieces into a short text, and says whether they had room.
+fn gather(text: &mut ShortText, pieces: &[Piece<'_>]) -> bool
+    requires { text.old ≡ [] }
+    ensures { OnTrue result (text.new ≡ pieces_text pieces.now) }
+{
+    for piece in pieces {
+        if !push_piece(text, piece) {
+            return false;
+        }
+    }
+    true
+}
+
+/// Writes the pieces one after another, and a short line of them in one write. `Failed` comes and leaves what
+/// it does at [`write_all`].
+pub fn put_pieces<K: Sink>(sink: &mut K, pieces: &[Piece<'_>]) -> Result<(), Failed>
+    ensures { Puts (changed K.written K.faults sink.old sink.new) (pieces_text pieces.now) result }
+{
+    let mut text = ShortText::new();
+    if gather(&mut text, pieces) {
+        write_all(sink, text.bytes())
+    } else {
+        put_each(sink, pieces)
+    }
 }

@@ -1,18 +1,13 @@
 //! `edump COMMAND [WORDS]`: reports on an Erlang crash dump.
 #![tactic(auto)]
 
+use dump_command::status::{NO_MEMORY, UNREAD, UNWRITTEN};
 use dump_command::{FileDumps, StdSink, run};
 use dump_io::Limits;
 use std::alloc::AllocError;
 use std::env;
 use std::io::{ErrorKind, Stderr, Stdout};
 use std::process::ExitCode;
-
-const UNREAD: u8 = 4;
-
-const UNWRITTEN: u8 = 5;
-
-const NO_MEMORY: u8 = 6;
 
 // The words behind the program's name. A word that isn't UTF-8 makes no command, as no words do.
 fn words(rt: &HostRuntime) -> Result<Vec<String>, AllocError> {
@@ -47,10 +42,11 @@ fn status(rt: &HostRuntime) -> Result<u8, AllocError> {
         &mut out,
         &mut err,
     );
-    if out.flush().is_err() || err.flush().is_err() {
-        return Ok(UNWRITTEN);
+    let flushed = (out.flush(), err.flush());
+    match flushed {
+        (Ok(()), Ok(())) => Ok(status),
+        _ => Ok(UNWRITTEN),
     }
-    Ok(status)
 }
 
 fn main(rt: HostRuntime) -> ExitCode {

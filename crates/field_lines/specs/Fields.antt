@@ -5,6 +5,7 @@ use Rattle.dump_io.specs.Colons.{has_colon, before_colon, after_colon}
 use Rattle.field_lines.specs.declared.shapes.FieldAt.{FieldAt}
 use Rattle.field_lines.specs.Lines.{TextLine, text_lines}
 
+-- the byte of a space
 abbrev pub space : ℕ
 space = 32
 

@@ -7,6 +7,7 @@ pub record TextLine : Type 0 where
   pub at : ℕ
   pub text : List ℕ
 
+-- a line without its LF, and without one CR directly before that
 abbrev pub text_line : Line → TextLine
 text_line line = record { at = line.at; text = text_of line.raw }
 

@@ -1,8 +1,8 @@
 // A line, the lines that are still to come, and the place of a field.
-ghost use Rattle.std.specs.Prelude.{◌≡◌, ◌+◌, ◌<◌, ◌≤◌, ◌∷◌, length, take, drop, All};
+ghost use Rattle.std.specs.Prelude.{◌≡◌, ◌+◌, ◌<◌, ◌≤◌, ◌∷◌, length, take, drop};
 ghost use Rattle.std.specs.Iterator.{YieldsFirstBy, item_count};
 ghost use Rattle.dump_io.specs.Lines.{raw_lines};
-ghost use Rattle.field_lines.specs.Lines.{text_lines, IsPart};
+ghost use Rattle.field_lines.specs.Lines.{text_lines};
 ghost use Rattle.field_lines.specs.Shown.{shown_line};
 
 use dump_io::line_text;

@@ -17,6 +17,7 @@ stop_of (Ok done) = None
 stop_of (Err (HeaderTooLong at)) = None
 stop_of (Err (Stop value)) = Some value
 
+-- the receiver's refusal, and not that a line is too long
 abbrev pub IsStop : ScanFault → Type 0
 IsStop (HeaderTooLong at) = ⊥
 IsStop (Stop value) = Unit {0}

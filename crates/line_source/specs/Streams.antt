@@ -46,8 +46,10 @@ pub data LastLine : Type 0 where
   plain : LastLine
   header : List ℕ → LastLine
 
+-- which of these a raw line is
 abbrev pub kind_of : List ℕ → LastLine
 kind_of raw = if has_lf raw then ended else (if begins_with_equals raw then header raw else plain)
 
+-- the last raw line of the bytes
 abbrev pub last_line : List ℕ → LastLine
 last_line bytes = fold (λ _ raw. kind_of raw) ended (raw_lines bytes)

@@ -5,6 +5,13 @@
 //! last header whose line has none. What was heard then is the list `headers` of the whole stream, whatever
 //! the pieces were.
 //!
+//! ```text
+//! let mut scan = LineScan::new(4_096);
+//! scan.feed(b"=proc:<0.1.0>\nState: Wai", &mut receiver)?; // hears the header at 0
+//! scan.feed(b"ting\n=end", &mut receiver)?;
+//! scan.finish(&mut receiver)?; // hears `=end`
+//! ```
+//!
 //! The scan ends early where a line that begins with `=` is longer than its limit, and where the receiver
 //! refuses a header. It looks for `=` and tests the byte before, so that the lines between the headers
 //! cost no more than reading them. Nothing here takes memory.

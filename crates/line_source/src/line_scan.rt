@@ -1,7 +1,7 @@
 // Headers from a stream that comes in pieces.
 ghost use Rattle.std.specs.Prelude.{◌≡◌, ◌+◌, ◌-◌, ◌<◌, ◌≤◌, ◌^◌, ◌++◌, ◌∷◌, [], ℕ, true, false, is_err, length, take, List, None, Some, Ok, Err, OnOk, OnErr, IfOk, IfErr, IsErrOf, All, ◌↔◌, slice_index, ◌==◌, if◌then◌else◌};
-ghost use Rattle.dump_io.specs.Lines.{Header, headers, lf, equals_sign, text_of};
-ghost use Rattle.line_source.specs.Streams.{LastLine, ended, plain, header, last_line, too_long, ended_headers, new_headers, open_headers, headers_before};
+ghost use Rattle.dump_io.specs.Lines.{Header, lf, equals_sign, text_of};
+ghost use Rattle.line_source.specs.Streams.{ended, plain, header, too_long, new_headers, open_headers, headers_before};
 ghost use Rattle.line_source.specs.Scan.{Scan, StandsFor};
 ghost use Rattle.line_source.specs.declared.header_sink.RefusedHeader.{RefusedHeader};
 ghost use Rattle.line_source.specs.Receiver.{Hears};

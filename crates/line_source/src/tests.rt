@@ -1,4 +1,4 @@
-ghost use Rattle.std.specs.Prelude.{◌≡◌, ◌<◌, ◌≤◌, ◌^◌, ◌+◌, ◌++◌, ◌∷◌, [], false, None, OnOk, OnErr, length, map};
+ghost use Rattle.std.specs.Prelude.{◌≡◌, ◌<◌, ◌++◌, ◌∷◌, [], false, None, OnOk, OnErr, length, map};
 ghost use Rattle.dump_io.specs.Lines.{Header};
 
 use crate::{HeaderSink, HeaderStop, LineScan, RefusedHeader, ScanFault};

@@ -1,19 +1,16 @@
 // The report of `index`.
-ghost use Rattle.std.specs.Prelude.{◌≡◌, ◌<◌, length};
+ghost use Rattle.std.specs.Prelude.{◌<◌};
 ghost use Rattle.std.specs.List.{flat_map};
-ghost use Rattle.dump_io.specs.Counts.{HasCause};
-ghost use Rattle.dump_io.specs.Sinks.{WritesAll};
+ghost use Rattle.dump_io.specs.Sinks.{changed, Puts};
 ghost use Rattle.section_index.specs.Index.{sections_in, state_of};
 ghost use Rattle.section_index.specs.Sections.{section};
 ghost use Rattle.report_text.specs.Reports.{section_line, state_line, index_report};
 
-use crate::pieces::{Piece, put_pieces};
-use dump_io::{Failed, Sink, write_all};
+use dump_io::{Failed, Piece, Sink, put_pieces, write_all};
 use section_index::{Index, Section, State};
 
 fn put_section<K: Sink>(sink: &mut K, s: &Section<'_>) -> Result<(), Failed>
-    ensures writes { WritesAll (K.written sink.old) (K.written sink.new) (section_line (section s.now.at s.now.body s.now.end s.now.text.now)) result }
-    ensures cause { HasCause (K.faults sink.old) (K.faults sink.new) result }
+    ensures { Puts (changed K.written K.faults sink.old sink.new) (section_line (section s.now.at s.now.body s.now.end s.now.text.now)) result }
 {
     let space = Piece::Bytes(b" ");
     put_pieces(
@@ -33,8 +30,7 @@ fn put_section<K: Sink>(sink: &mut K, s: &Section<'_>) -> Result<(), Failed>
 
 // Writes whether the dump is whole, or in which section it breaks off.
 pub(crate) fn put_state<K: Sink>(sink: &mut K, index: &Index) -> Result<(), Failed>
-    ensures writes { WritesAll (K.written sink.old) (K.written sink.new) (state_line (sections_in index.now) (state_of index.now.headers)) result }
-    ensures cause { HasCause (K.faults sink.old) (K.faults sink.new) result }
+    ensures { Puts (changed K.written K.faults sink.old sink.new) (state_line (sections_in index.now) (state_of index.now.headers)) result }
 {
     match index.state() {
         State::Whole => write_all(sink, b"whole\n"),
@@ -55,8 +51,7 @@ pub(crate) fn put_state<K: Sink>(sink: &mut K, index: &Index) -> Result<(), Fail
 }
 
 fn put_sections<K: Sink>(sink: &mut K, index: &Index) -> Result<(), Failed>
-    ensures writes { WritesAll (K.written sink.old) (K.written sink.new) (flat_map section_line (sections_in index.now)) result }
-    ensures cause { HasCause (K.faults sink.old) (K.faults sink.new) result }
+    ensures { Puts (changed K.written K.faults sink.old sink.new) (flat_map section_line (sections_in index.now)) result }
 {
     for i in 0..index.len() {
         put_section(sink, &index.section(i))?;
@@ -68,8 +63,7 @@ fn put_sections<K: Sink>(sink: &mut K, index: &Index) -> Result<(), Failed>
 /// and at which it ends, and its header's text. Then comes the line of the state: `whole`, or `truncated`
 /// with the offset and the text of the section in which the dump breaks off.
 pub fn put_index<K: Sink>(sink: &mut K, index: &Index) -> Result<(), Failed>
-    ensures writes { WritesAll (K.written sink.old) (K.written sink.new) (index_report index.now.headers index.now.size) result }
-    ensures cause { HasCause (K.faults sink.old) (K.faults sink.new) result }
+    ensures { Puts (changed K.written K.faults sink.old sink.new) (index_report index.now.headers index.now.size) result }
 {
     put_sections(sink, index)?;
     put_state(sink, index)

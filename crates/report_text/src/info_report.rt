@@ -1,14 +1,12 @@
 // The report of `info`.
 ghost use Rattle.std.specs.Prelude.{◌≡◌, length, codes};
 ghost use Rattle.std.specs.List.{flat_map};
-ghost use Rattle.dump_io.specs.Counts.{HasCause};
-ghost use Rattle.dump_io.specs.Sinks.{WritesAll};
+ghost use Rattle.dump_io.specs.Sinks.{changed, Puts};
 ghost use Rattle.field_lines.specs.Fields.{find_value};
 ghost use Rattle.report_text.specs.Reports.{version_text, text_or_dash, tag_line, info_heading, info_report};
 
 use crate::index_report::put_state;
-use crate::pieces::{Piece, put_pieces};
-use dump_io::{Failed, Sink};
+use dump_io::{Failed, Piece, Sink, put_pieces};
 use field_lines::find;
 use section_index::{Index, Tags, Version};
 
@@ -33,9 +31,8 @@ fn slogan_of(first_body: &[u8]) -> &[u8]
 }
 
 fn put_heading<K: Sink>(sink: &mut K, index: &Index, first_body: &[u8]) -> Result<(), Failed>
-    ensures writes { WritesAll (K.written sink.old) (K.written sink.new)
+    ensures { Puts (changed K.written K.faults sink.old sink.new)
         (info_heading (version_text index.now.version) index.now.size (length index.now.headers) (find_value first_body.now (codes "Slogan"))) result }
-    ensures cause { HasCause (K.faults sink.old) (K.faults sink.new) result }
 {
     let newline = Piece::Bytes(b"\n");
     put_pieces(
@@ -58,8 +55,7 @@ fn put_heading<K: Sink>(sink: &mut K, index: &Index, first_body: &[u8]) -> Resul
 }
 
 fn put_tag<K: Sink>(sink: &mut K, tag: &[u8], count: u64) -> Result<(), Failed>
-    ensures writes { WritesAll (K.written sink.old) (K.written sink.new) (tag_line (tag.now, count)) result }
-    ensures cause { HasCause (K.faults sink.old) (K.faults sink.new) result }
+    ensures { Puts (changed K.written K.faults sink.old sink.new) (tag_line (tag.now, count)) result }
 {
     put_pieces(
         sink,
@@ -74,8 +70,7 @@ fn put_tag<K: Sink>(sink: &mut K, tag: &[u8], count: u64) -> Result<(), Failed>
 }
 
 fn put_tags<K: Sink>(sink: &mut K, tags: &Tags) -> Result<(), Failed>
-    ensures writes { WritesAll (K.written sink.old) (K.written sink.new) (flat_map tag_line tags.now) result }
-    ensures cause { HasCause (K.faults sink.old) (K.faults sink.new) result }
+    ensures { Puts (changed K.written K.faults sink.old sink.new) (flat_map tag_line tags.now) result }
 {
     for i in 0..tags.len() {
         let (tag, count) = tags.at(i);
@@ -94,9 +89,8 @@ pub fn put_info<K: Sink>(
     tags: &Tags,
     first_body: &[u8],
 ) -> Result<(), Failed>
-    ensures writes { WritesAll (K.written sink.old) (K.written sink.new)
+    ensures { Puts (changed K.written K.faults sink.old sink.new)
         (info_report (version_text index.now.version) index.now.headers index.now.size tags.now first_body.now) result }
-    ensures cause { HasCause (K.faults sink.old) (K.faults sink.new) result }
 {
     put_heading(sink, index, first_body)?;
     put_tags(sink, tags)?;

@@ -1,12 +1,16 @@
 //! The texts of the reports and of the refusals.
 //!
+//! ```
+//! let index = build(rt.alloc(), &mut dumps, "erl_crash.dump", &limits)?;
+//! put_index(&mut out, &index)?;
+//! ```
+//!
 //! Each call writes one report, or one line on a refusal, to a sink. It takes no memory. `Failed` comes
 //! only where the sink's count of faults rose, and a proper front of the text was written then.
 #![tactic(auto)]
 
 mod index_report;
 mod info_report;
-mod pieces;
 mod refusals;
 
 pub use index_report::put_index;

@@ -1,13 +1,12 @@
 // The lines that say why a dump is refused.
-ghost use Rattle.std.specs.Prelude.{[], ◌∷◌, codes, decimal};
+ghost use Rattle.std.specs.Prelude.{[], ◌∷◌, codes};
 ghost use Rattle.std.specs.List.{concat};
-ghost use Rattle.dump_io.specs.Counts.{HasCause};
-ghost use Rattle.dump_io.specs.Sinks.{WritesAll};
+ghost use Rattle.dump_io.specs.Pieces.{piece_text};
+ghost use Rattle.dump_io.specs.Sinks.{changed, Puts};
 ghost use Rattle.report_text.specs.Reports.{newline};
 ghost use Rattle.report_text.specs.Refusals.{IsRefusal, IsRefusing, refusal_line};
 
-use crate::pieces::{Piece, put_pieces};
-use dump_io::{Failed, Sink, write_all};
+use dump_io::{Failed, Piece, Sink, put_pieces, write_all};
 use section_index::OpenFault;
 
 /// Why a command is refused.
@@ -20,17 +19,16 @@ pub enum Refusal {
     SectionTooLarge { at: u64, len: u64 },
 }
 
-// Writes a line whose cause is a text and a number.
-fn put_numbered<K: Sink>(sink: &mut K, cause: &[u8], n: u64) -> Result<(), Failed>
-    ensures writes { WritesAll (K.written sink.old) (K.written sink.new) (concat (codes "refused: " ∷ cause.now ∷ decimal n ∷ newline ∷ [])) result }
-    ensures cause { HasCause (K.faults sink.old) (K.faults sink.new) result }
+// Writes a line whose cause is a text and a piece behind it.
+fn put_cause<'x, K: Sink>(sink: &mut K, cause: &'x [u8], what: Piece<'x>) -> Result<(), Failed>
+    ensures { Puts (changed K.written K.faults sink.old sink.new) (concat (codes "refused: " ∷ cause.now ∷ piece_text what.entry ∷ newline ∷ [])) result }
 {
     put_pieces(
         sink,
         &[
             Piece::Bytes(b"refused: "),
             Piece::Bytes(cause),
-            Piece::Dec(n),
+            what,
             Piece::Bytes(b"\n"),
         ],
     )
@@ -38,31 +36,30 @@ fn put_numbered<K: Sink>(sink: &mut K, cause: &[u8], n: u64) -> Result<(), Faile
 
 fn put_open_fault<K: Sink>(sink: &mut K, fault: &OpenFault) -> Result<(), Failed>
     requires { IsRefusing fault.now }
-    ensures writes { WritesAll (K.written sink.old) (K.written sink.new) (refusal_line (Refusal.Open fault.now)) result }
-    ensures cause { HasCause (K.faults sink.old) (K.faults sink.new) result }
+    ensures { Puts (changed K.written K.faults sink.old sink.new) (refusal_line (Refusal.Open fault.now)) result }
 {
     match fault {
         OpenFault::Compressed => write_all(sink, b"refused: compressed\n"),
         OpenFault::NotADump => write_all(sink, b"refused: not a dump\n"),
-        OpenFault::Version { text } => put_pieces(
+        OpenFault::Version { text } => put_cause(sink, b"version ", Piece::Bytes(text.bytes())),
+        OpenFault::TooLarge { size } => put_cause(sink, b"dump too large ", Piece::Dec(*size)),
+        OpenFault::HeaderTooLong { at } => put_cause(sink, b"header too long at ", Piece::Dec(*at)),
+        OpenFault::TooManySections { at } => put_cause(
             sink,
-            &[
-                Piece::Bytes(b"refused: version "),
-                Piece::Bytes(text.bytes()),
-                Piece::Bytes(b"\n"),
-            ],
+            b"too many sections at ",
+            Piece::Dec(*at),
         ),
-        OpenFault::TooLarge { size } => put_numbered(sink, b"dump too large ", *size),
-        OpenFault::HeaderTooLong { at } => put_numbered(sink, b"header too long at ", *at),
-        OpenFault::TooManySections { at } => put_numbered(sink, b"too many sections at ", *at),
-        OpenFault::HeadersTooLarge { at } => put_numbered(sink, b"headers too large at ", *at),
+        OpenFault::HeadersTooLarge { at } => put_cause(
+            sink,
+            b"headers too large at ",
+            Piece::Dec(*at),
+        ),
         OpenFault::Read | OpenFault::Memory => unreachable!(),
     }
 }
 
 fn put_too_large<K: Sink>(sink: &mut K, at: u64, len: u64) -> Result<(), Failed>
-    ensures writes { WritesAll (K.written sink.old) (K.written sink.new) (refusal_line (Refusal.SectionTooLarge at len)) result }
-    ensures cause { HasCause (K.faults sink.old) (K.faults sink.new) result }
+    ensures { Puts (changed K.written K.faults sink.old sink.new) (refusal_line (Refusal.SectionTooLarge at len)) result }
 {
     put_pieces(
         sink,
@@ -79,8 +76,7 @@ fn put_too_large<K: Sink>(sink: &mut K, at: u64, len: u64) -> Result<(), Failed>
 /// Writes the line `refused: ` with the cause. An `Open` fault is none of `Read` and `Memory`.
 pub fn put_refusal<K: Sink>(sink: &mut K, refusal: &Refusal) -> Result<(), Failed>
     requires { IsRefusal refusal.now }
-    ensures writes { WritesAll (K.written sink.old) (K.written sink.new) (refusal_line refusal.now) result }
-    ensures cause { HasCause (K.faults sink.old) (K.faults sink.new) result }
+    ensures { Puts (changed K.written K.faults sink.old sink.new) (refusal_line refusal.now) result }
 {
     match refusal {
         Refusal::Open(fault) => put_open_fault(sink, fault),

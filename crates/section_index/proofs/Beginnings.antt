@@ -1,13 +1,13 @@
 -- How a dump begins, by its first bytes.
-use Rattle.std.proofs.Common.{◌≡◌, ℕ, suc, ◌+◌, ◌-◌, ◌<◌, ◌≤◌, Bool, true, false, cond, List, [], ◌∷◌, ◌++◌, length, take, map, filter, Some, None, Ok, Err, Result, eqb, if◌then◌else◌, refl, sym, ◌∙◌, ap, subst, arith, append-nil, nat_lt}
-use Rattle.std.specs.List.{starts_with, ends_with}
+use Rattle.std.proofs.Common.{◌≡◌, ℕ, ◌+◌, ◌<◌, ◌≤◌, Bool, true, false, cond, List, [], ◌∷◌, ◌++◌, length, map, filter, Some, None, Ok, Err, Result, eqb, if◌then◌else◌, refl, sym, ◌∙◌, ap, subst, arith, append-nil, nat_lt}
+use Rattle.std.specs.List.{starts_with}
 use Rattle.std.specs.Option.{option_or}
 use Rattle.std.specs.Prelude.{nat_eq, slice_get}
 use Rattle.std.specs.Cmp.Lexicographic.{pointwise}
 use Rattle.std.proofs.lemmas.Bool.{and_parts, eqb-true, lt-ltb, le-ltb, ltb-true, ltb-false}
 use Rattle.std.proofs.lemmas.List.{take-append-le}
 use Rattle.dump_io.specs.Limits.{Numbers}
-use Rattle.dump_io.specs.Lines.{lf, cr, equals_sign, raw_lines, lines_after, text_of, is_header, Header, headers, lines_from, header_of, Line}
+use Rattle.dump_io.specs.Lines.{raw_lines, lines_after, text_of, is_header, Header, headers, lines_from, header_of, Line}
 use Rattle.line_source.specs.Streams.{is_too_long, length_before_lf}
 use Rattle.line_source.specs.Feeding.{first_too_long}
 use Rattle.section_index.specs.declared.opening.OpenFault.{OpenFault}
@@ -17,6 +17,7 @@ use Rattle.section_index.specs.Opening.{signature, gzip_mark, first_in, first_li
 use Rattle.section_index.specs.Inner.Beginning.{IsAllOrLong, id_in, IsVersionOf, IsJudged}
 use Rattle.section_index.specs.Opening.{fault_of}
 use Rattle.section_index.proofs.Causes.{fault-long}
+use Rattle.section_index.proofs.Tiling.{is_header-first}
 
 -- the first bytes tell whether all begin so
 starts-if : (q : Bool) (first more start : List ℕ) → nat_lt (length first) 65536 ≡ q → length start ≤ 65536 → IsAllOrLong first more
@@ -34,28 +35,6 @@ raw_lines-equals bytes =
     elim (raw_lines bytes) as (λ lines. (line : List ℕ) × (rest : List (List ℕ)) × (lines_after 61 lines ≡ (61 ∷ line) ∷ rest))
     [ [] ↦ ([], [], refl) | line ∷ rest ↦ (line, rest, refl) ]
 
-chosen : (a b : Bool) (m n : ℕ) (bytes : List ℕ)
-    → starts_with nat_eq (if a then take (suc m) (61 ∷ bytes) else (if b then take (suc n) (61 ∷ bytes) else 61 ∷ bytes)) (equals_sign ∷ []) ≡ true
-chosen true b m n bytes = refl
-chosen false true m n bytes = refl
-chosen false false m n bytes = refl
-
--- its text begins with the equals sign too
-is_header-equals : (line : List ℕ) → is_header (61 ∷ line) ≡ true
-is_header-equals [] = refl
-is_header-equals (c ∷ []) =
-    elim (ends_with nat_eq (61 ∷ c ∷ []) (lf ∷ [])) as (λ b. starts_with nat_eq (if b then 61 ∷ [] else 61 ∷ c ∷ []) (equals_sign ∷ []) ≡ true)
-    [ true ↦ refl | false ↦ refl ]
-is_header-equals (c ∷ d ∷ line) =
-    let raw : List ℕ = 61 ∷ c ∷ d ∷ line in
-    let two : length raw - 2 ≡ suc (length line) = omega arith in
-    let one : length raw - 1 ≡ suc (suc (length line)) = omega arith in
-    let crlf : Bool = ends_with nat_eq raw (cr ∷ lf ∷ []) in
-    let ends : Bool = ends_with nat_eq raw (lf ∷ []) in
-    ap (λ n. starts_with nat_eq (if crlf then take n raw else (if ends then take (length raw - 1) raw else raw)) (equals_sign ∷ [])) two
-    ∙ ap (λ n. starts_with nat_eq (if crlf then take (suc (length line)) raw else (if ends then take n raw else raw)) (equals_sign ∷ [])) one
-    ∙ chosen crlf ends (length line) (suc (length line)) (c ∷ d ∷ line)
-
 abbrev line_at : List ℕ → Line
 line_at raw = record { at = 0; raw = raw }
 
@@ -72,7 +51,7 @@ headers-some (c ∷ bytes) is =
     let same : 61 ≡ c = eqb-true 61 c (and_parts (eqb 61 c) _ is).0 in
     let split = raw_lines-equals bytes in
     let raw : List ℕ = 61 ∷ split.0 in
-    let first = headers-first raw split.1 (is_header-equals split.0) in
+    let first = headers-first raw split.1 (is_header-first 61 split.0) in
     let all : headers (61 ∷ bytes) ≡ header_of (line_at raw) ∷ first.0 =
     ap (λ lines. map header_of (filter (λ l. is_header l.raw) (lines_from 0 lines))) split.2 ∙ first.1 in
     subst (λ d. 1 ≤ length (headers (d ∷ bytes))) same (omega (arith, ap length all))

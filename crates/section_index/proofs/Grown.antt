@@ -1,34 +1,22 @@
 -- The bytes of what is open that were read, piece by piece.
-use Rattle.std.proofs.Common.{◌≡◌, ℕ, ◌+◌, true, List, [], ◌∷◌, ◌++◌, length, take, drop, refl, sym, ◌∙◌, ap, subst, arith, length-append}
+use Rattle.std.proofs.Common.{◌≡◌, ℕ, ◌+◌, true, List, [], ◌∷◌, ◌++◌, length, take, drop, refl, sym, ◌∙◌, ap, subst, arith}
 use Rattle.std.specs.List.{starts_with}
 use Rattle.std.specs.Prelude.{nat_eq}
 use Rattle.std.specs.Cmp.Lexicographic.{pointwise}
 use Rattle.std.proofs.lemmas.Bool.{and_parts, and_from, false≢true}
-use Rattle.std.proofs.lemmas.List.{take-append-drop, drop-take}
-use Rattle.std.proofs.lemmas.Grind.{common_steps}
+use Rattle.std.proofs.lemmas.List.{take-append-drop}
 use Rattle.dump_io.specs.Limits.{Numbers}
-use Rattle.dump_io.specs.Dumps.{Now, closed, told, sized, Gives}
+use Rattle.dump_io.specs.Dumps.{Now, told, Gives}
+use Rattle.dump_io.specs.Laws.Reads.{Gives-append}
 use Rattle.section_index.specs.declared.opening.OpenFault.{OpenFault}
 use Rattle.section_index.specs.Inner.Scanning.{IsHeaderFault, IsOfAHeader}
 use Rattle.section_index.specs.Inner.Reading.{IsHeaderRefusal}
 
-take-two : {X : Type 0} (m n : ℕ) (l : List X) → take (m + n) l ≡ take m l ++ take n (drop m l)
-take-two m n l =
-    sym (take-append-drop m (take (m + n) l))
-    ∙ ap (λ f. f ++ drop m (take (m + n) l)) (let e : take m (take (m + n) l) ≡ take m l = grind (arith, common_steps) in e)
-    ∙ ap (λ r. take m l ++ r) (drop-take m n l)
-
 -- the first bytes, and the next
 pub Gives-next : (now : Now) (bytes piece : List ℕ) (at : ℕ) → at ≡ length bytes → Gives now 0 bytes → Gives now at piece → Gives now 0 (bytes ++ piece)
-Gives-next closed bytes piece at place first second = first
-Gives-next (sized size) bytes piece at place first second = tt
-Gives-next (told all) bytes piece at place first second =
-    let e : take (length (bytes ++ piece)) all ≡ bytes ++ piece =
-    ap (λ n. take n all) (length-append bytes piece) ∙ take-two (length bytes) (length piece) all
-    ∙ ap (λ r. r ++ take (length piece) (drop (length bytes) all)) (sym first)
-    ∙ ap (λ n. bytes ++ take (length piece) (drop n all)) (sym place)
-    ∙ ap (λ r. bytes ++ r) (sym second) in
-    sym e
+Gives-next now bytes piece at place first second =
+    let behind : at ≡ 0 + length bytes = omega (arith, place) in
+    Gives-append now 0 bytes piece first (subst (λ n. Gives now n piece) behind second)
 
 -- the whole is its first bytes and the rest
 pub Gives-whole : (bytes all : List ℕ) → Gives (told all) 0 bytes → all ≡ bytes ++ drop (length bytes) all

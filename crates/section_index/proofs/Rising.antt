@@ -1,27 +1,15 @@
 -- The headers of a dump begin one behind another.
-use Rattle.std.proofs.Common.{◌≡◌, ℕ, ◌+◌, ◌<◌, ◌≤◌, Bool, true, false, not, cond, List, [], ◌∷◌, ◌++◌, length, map, refl, sym, ◌∙◌, ap, arith, ◌==◌, nat_lt, if◌then◌else◌}
+use Rattle.std.proofs.Common.{◌≡◌, ℕ, ◌+◌, ◌<◌, ◌≤◌, Bool, true, false, not, cond, List, [], ◌∷◌, ◌++◌, length, map, refl, sym, ◌∙◌, ap, arith, nat_lt}
 use Rattle.std.specs.Prelude.{All, filter}
 use Rattle.std.proofs.lemmas.Bool.{cond-true, cond-false, le-ltb, ltb-false}
 use Rattle.std.proofs.lemmas.List.Elements.{All-nil, All-cons, All-head, All-tail, All-weaker}
-use Rattle.dump_io.specs.Lines.{lf, lines_after, raw_lines, Line, lines_from, is_header, Header, header_of, headers}
+use Rattle.dump_io.specs.Lines.{raw_lines, Line, lines_from, is_header, Header, header_of, headers}
+use Rattle.dump_io.specs.Laws.Lines.{AreLines-raw}
 use Rattle.line_source.specs.Streams.{headers_before}
 
 abbrev pub AreRising : List Header → Type 0
 AreRising [] = Unit {0}
 AreRising (h ∷ hs) = All (λ x. h.at < x.at) hs × AreRising hs
-
--- no raw line is empty
-after-some : (c : ℕ) (ls : List (List ℕ)) → All (λ raw. 0 < length raw) ls → All (λ raw. 0 < length raw) (lines_after c ls)
-after-some c [] all = All-cons (λ raw. 0 < length raw) (c ∷ []) [] (omega arith) all
-after-some c (l ∷ ls) all = All-cons (λ raw. 0 < length raw) (c ∷ l) ls (omega arith) (All-tail (λ raw. 0 < length raw) l ls all)
-
-some-if : (q : Bool) (c : ℕ) (ls : List (List ℕ)) → All (λ raw. 0 < length raw) ls → All (λ raw. 0 < length raw) (if q then (c ∷ []) ∷ ls else lines_after c ls)
-some-if true c ls all = All-cons (λ raw. 0 < length raw) (c ∷ []) ls (omega arith) all
-some-if false c ls all = after-some c ls all
-
-raw_lines-some : (bytes : List ℕ) → All (λ raw. 0 < length raw) (raw_lines bytes)
-raw_lines-some [] = All-nil (λ raw. 0 < length raw)
-raw_lines-some (c ∷ bytes) = some-if (c == lf) c (raw_lines bytes) (raw_lines-some bytes)
 
 abbrev headers_of : ℕ → List (List ℕ) → List Header
 headers_of n raws = map header_of (filter (λ line. is_header line.raw) (lines_from n raws))
@@ -51,7 +39,7 @@ headers_of-rising n (raw ∷ raws) some =
     (headers_of-rising (n + length raw) raws (All-tail (λ raw. 0 < length raw) raw raws some))
 
 pub headers-rising : (bytes : List ℕ) → AreRising (headers bytes)
-headers-rising bytes = headers_of-rising 0 (raw_lines bytes) (raw_lines-some bytes)
+headers-rising bytes = headers_of-rising 0 (raw_lines bytes) (AreLines-raw bytes).some
 
 -- parts of a rising list
 All-left : {X : Type 0} (P : X → Type 0) (xs ys : List X) → All P (xs ++ ys) → All P xs

@@ -32,6 +32,7 @@ pub record AreBounded (index : Contents) : Type 0 where
   pub size : index.size ≤ usual.dump
   pub tiled : Tile 0 index.size (sections_in index)
 
+-- the text of the last header
 abbrev pub last_text : List Header → List ℕ
 last_text [] = []
 last_text (header ∷ []) = header.text

@@ -27,6 +27,7 @@ version_named id =
     if bytes_eq id (codes "0.3") then Some V03
     else (if bytes_eq id (codes "0.4") then Some V04 else (if bytes_eq id (codes "0.5") then Some V05 else None))
 
+-- the first of some lines
 abbrev pub first_in : List (List ℕ) → List ℕ
 first_in [] = []
 first_in (raw ∷ raws) = raw
@@ -48,9 +49,11 @@ version_fault id (Some version) = None
 abbrev pub too_large : List ℕ → Numbers → Option OpenFault
 too_large bytes limits = if nat_lt limits.dump (length bytes) then Some (TooLarge (length bytes)) else None
 
+-- the bytes begin as gzip writes
 abbrev pub compressed : List ℕ → Option OpenFault
 compressed bytes = if starts_with nat_eq bytes gzip_mark then Some Compressed else None
 
+-- the bytes don't begin as a dump
 abbrev pub unsigned : List ℕ → Option OpenFault
 unsigned bytes = if starts_with nat_eq bytes signature then None else Some NotADump
 

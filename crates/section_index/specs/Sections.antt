@@ -22,6 +22,7 @@ pub record Section : Type 0 where
   pub end : ℕ
   pub text : List ℕ
 
+-- a section by its four parts
 abbrev pub section : ℕ → ℕ → ℕ → List ℕ → Section
 section at body end text = record { at = at; body = body; end = end; text = text }
 

@@ -1,5 +1,5 @@
 // How a dump begins.
-ghost use Rattle.std.specs.Prelude.{◌≡◌, ◌<◌, ◌≤◌, ◌++◌, ◌∷◌, ℕ, List, [], Option, None, Some, length, IfErr, MatchOption};
+ghost use Rattle.std.specs.Prelude.{◌≡◌, ◌<◌, ◌≤◌, ◌++◌, ℕ, List, Option, None, Some, IfErr, MatchOption};
 ghost use Rattle.std.specs.List.{position};
 ghost use Rattle.dump_io.specs.Limits.{usual};
 ghost use Rattle.dump_io.specs.Lines.{text_of};

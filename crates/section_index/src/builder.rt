@@ -1,5 +1,5 @@
 // The index of a dump is built in one pass over its bytes.
-ghost use Rattle.std.specs.Prelude.{◌≡◌, ◌⊎◌, ◌+◌, ◌-◌, ◌<◌, ◌≤◌, ℕ, List, length, take, min, false, Some, None, OnOk, OnErr, IfOk, IfErr, IsErrOf};
+ghost use Rattle.std.specs.Prelude.{◌≡◌, ◌⊎◌, ◌-◌, ◌<◌, ◌≤◌, ℕ, List, length, take, min, false, None, OnOk, OnErr, IfOk, IfErr, IsErrOf};
 ghost use Rattle.dump_io.specs.Counts.{plus_capped};
 ghost use Rattle.dump_io.specs.Dumps.{told, IsOpen, size_of, IsAbsent, Gives, used, DeviceFailed, ReadsAtMost};
 ghost use Rattle.section_index.specs.Index.{IsAnswerFor, IsBuiltOver, IsFileOf, IsTooLargeFor, ReadsFile};

@@ -1,5 +1,5 @@
 // The headers of a dump, kept with their texts in one pool.
-ghost use Rattle.std.specs.Prelude.{◌≡◌, ◌<◌, ◌≤◌, ◌+◌, ◌^◌, List, [], ◌∷◌, ◌++◌, length, slice_get, Option, None, Some, OnOk, OnErr, IfErr};
+ghost use Rattle.std.specs.Prelude.{◌≡◌, ◌<◌, ◌≤◌, List, [], ◌∷◌, ◌++◌, length, slice_get, Some, OnOk, OnErr};
 ghost use Rattle.std.specs.List.{between};
 ghost use Rattle.dump_io.specs.Lines.{Header};
 ghost use Rattle.section_index.specs.Inner.Headers.{headers_in, AreWithin};

@@ -4,6 +4,16 @@
 //! is refused. An [`Index`] has no part of a body; it keeps the offsets, and the texts of the headers in one
 //! pool. Its sections are found by their tag and id, [`read_body`] reads the body of one, and [`Tags`] counts
 //! them.
+//!
+//! ```text
+//! let index = build(alloc, &mut dumps, "erl_crash.dump", &limits)?;
+//! for i in 0..index.len() {
+//!     let section = index.section(i); // its offsets, its tag and its id
+//! }
+//! if let Some(i) = index.first_tag(b"memory") {
+//!     let body = read_body(alloc, &mut dumps, &index, i, &limits)?;
+//! }
+//! ```
 #![tactic(auto)]
 
 mod beginning;

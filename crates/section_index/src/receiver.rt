@@ -1,7 +1,5 @@
 // What keeps the headers of a dump, within the limits.
-ghost use Rattle.std.specs.Prelude.{◌≡◌, [], None, ◌++◌, ◌∷◌, OnOk, OnErr, IsErrOf, IfErr};
-ghost use Rattle.dump_io.specs.Lines.{Header};
-ghost use Rattle.line_source.specs.Receiver.{Hears};
+ghost use Rattle.std.specs.Prelude.{◌≡◌, [], None};
 ghost use Rattle.section_index.specs.Inner.Receiver.{IsStopCause, KeepsTo};
 
 use crate::headers::Headers;

@@ -6,13 +6,17 @@ use Rattle.std.proofs.lemmas.Option.{same_Some, some_pair_parts}
 use Rattle.std.proofs.lemmas.List.{drop_at}
 use Rattle.dump_io.specs.Numbers.{hex_number}
 use Rattle.term_forms.specs.declared.enc.Enc.{Enc}
-use Rattle.term_forms.specs.Words.{comma, IsBracketed, IsLed}
+use Rattle.term_forms.specs.Words.{comma, IsBracketed, IsLed, led_of}
+use Rattle.term_forms.specs.Payload.{IsPayloadOf}
+use Rattle.term_forms.specs.Reading.{front, whole_of}
+use Rattle.term_forms.specs.Inner.Chain.{◌>>=◌}
+use Rattle.term_forms.specs.Inner.Fronts.{bracketed_len}
+use Rattle.term_forms.specs.Inner.Joins.{behind, until_of, joined_of}
+use Rattle.term_forms.specs.Inner.FormParts.{counted_of, bracketed_of, payload_of, range_of}
+use Rattle.term_forms.specs.Inner.PayloadTest.{payload_test}
 use Rattle.term_forms.specs.Elements.{Element, IsElem, EndsElement}
 use Rattle.term_forms.specs.Joined.{IsJoined}
 use Rattle.term_forms.specs.Forms.{IsRange}
-use Rattle.term_forms.specs.Payload.{IsPayloadOf, payload_test}
-use Rattle.term_forms.specs.Reading.{◌>>=◌, led_of, bracketed_len, front, whole_of, behind, until_of, joined_of}
-use Rattle.term_forms.specs.ReadingForms.{counted_of, bracketed_of, payload_of, range_of}
 use Rattle.term_forms.proofs.Steps.{bind_some, bind_from, guard_some, guard_from}
 use Rattle.term_forms.proofs.Hexes.{led_full, led_sound}
 use Rattle.term_forms.proofs.WordTexts.{bracketed_full, bracketed_sound}

@@ -1,19 +1,20 @@
 -- Hex numbers, and what stands behind one and a colon.
-use Rattle.std.proofs.Common.{◌≡◌, ℕ, ◌+◌, ◌<◌, ◌≤◌, ◌^◌, ◌==◌, Bool, true, not, ◌&&◌, List, [], ◌∷◌, ◌++◌, length, take, drop, get_or, Some, None, ◌∙◌, ap, subst, arith, if◌then◌else◌}
+use Rattle.std.proofs.Common.{◌≡◌, ℕ, ◌+◌, ◌<◌, ◌≤◌, ◌^◌, Bool, true, false, cond, suc, not, ◌&&◌, ◌||◌, List, [], ◌∷◌, ◌++◌, length, take, drop, get_or, Some, None, refl, ◌∙◌, ap, subst, arith, if◌then◌else◌}
 use Rattle.std.specs.Prelude.{nat_lt, nat_le}
 use Rattle.std.specs.List.{list_all, prefix_len, position_or_len}
 use Rattle.std.specs.Char.{digit_value}
 use Rattle.std.specs.Str.Parse.{digits_value, AllDigits}
 use Rattle.std.proofs.lemmas.Bool.{and_parts, and_from, ltb-true, leb-true, eqb-true, lt-ltb, le-leb, not-false, not_from_false, false≢true, false_from_ne_true}
-use Rattle.std.proofs.lemmas.List.{length-append}
+use Rattle.std.proofs.lemmas.List.{length-drop}
 use Rattle.std.proofs.lemmas.List.Sums.{prefix_len_stops, split_at_first}
 use Rattle.std.proofs.lemmas.Option.{some_pair_parts}
 use Rattle.std.proofs.Math.Seq.{take-append_seam, drop-append-add}
 use Rattle.std.proofs.Math.Nat.{pow-le-pow_right}
 use Rattle.std.proofs.lemmas.Int.Digits.{digits_value-lt}
+use Rattle.dump_io.specs.Colons.{is_colon, has_colon, before_colon, after_colon}
 use Rattle.dump_io.specs.Numbers.{hex_number, is_numeral}
-use Rattle.term_forms.specs.Words.{colon, is_hex_digit, IsLed}
-use Rattle.term_forms.specs.Reading.{◌>>=◌, led_of}
+use Rattle.term_forms.specs.Words.{colon, is_hex_digit, IsLed, led_of}
+use Rattle.term_forms.specs.Inner.Chain.{◌>>=◌}
 use Rattle.term_forms.proofs.Steps.{bind_some, bind_from, guard_some, guard_from, guard_option}
 use Rattle.term_forms.proofs.Runs.{run_over, list_all_also}
 
@@ -61,21 +62,43 @@ hex_from text some few digits =
     let is : is_numeral 16 16 text ≡ true = and_from (nat_le 1 (length text) && nat_le (length text) 16 && list_all is_hex_digit text) (nat_lt (digits_value 16 text) (2 ^ 64)) inner (lt-ltb (digits_value 16 text) (2 ^ 64) small) in
     ap (λ b. if b then Some (digits_value 16 text) else None) is
 
-abbrev is_colon : ℕ → Bool
-is_colon c = c == colon
-
 -- no hex digit is a colon
 no_colon : (c : ℕ) → is_hex_digit c ≡ true → not (is_colon c) ≡ true
 no_colon c h = not_from_false (is_colon c) (false_from_ne_true (is_colon c) (λ e.
     false≢true (subst (λ d. is_hex_digit d ≡ true) (eqb-true c colon e) h)))
 
+-- ---- the first colon
+
+or_true : (b : Bool) → (b || true) ≡ true
+or_true true = refl
+or_true false = refl
+
+has_colon-at : (hex rest : List ℕ) → has_colon (hex ++ colon ∷ rest) ≡ true
+has_colon-at [] rest = refl
+has_colon-at (c ∷ hex) rest = ap (λ b. is_colon c || b) (has_colon-at hex rest) ∙ or_true (is_colon c)
+
+-- where a colon is, the first one is in the text
+pub colon_within : (text : List ℕ) → has_colon text ≡ true → position_or_len is_colon text < length text
+colon_within [] h = cc
+colon_within (c ∷ text) h = of (is_colon c) refl h (colon_within text)
+  where
+    of : (b : Bool) → is_colon c ≡ b → (b || has_colon text) ≡ true → (has_colon text ≡ true → position_or_len is_colon text < length text)
+        → cond (not b) (1 + position_or_len is_colon text) 0 < suc (length text)
+    of true e h rest = omega arith
+    of false e h rest = let within = rest h in omega (arith, within)
+
+pub after_colon-shorter : (text : List ℕ) → has_colon text ≡ true → length (after_colon text) < length text
+after_colon-shorter text h =
+    let within = colon_within text h in
+    omega (arith, within, length-drop (position_or_len is_colon text + 1) text)
+
 -- a text is read by where its first colon stands
-led_at : (text : List ℕ) (at : ℕ) → position_or_len is_colon text ≡ at → at < length text
+led_at : (text : List ℕ) (at : ℕ) → has_colon text ≡ true → position_or_len is_colon text ≡ at
     → led_of text ≡ (hex_number (take at text) >>= λ n. Some (n, drop (at + 1) text))
 unfolding led_of
-led_at text at e inside =
-    ap (λ k. if nat_lt k (length text) then (hex_number (take k text) >>= λ n. Some (n, drop (k + 1) text)) else None) e
-    ∙ guard_from (nat_lt at (length text)) (hex_number (take at text) >>= λ n. Some (n, drop (at + 1) text)) (lt-ltb at (length text) inside)
+led_at text at some e =
+    guard_from (has_colon text) (hex_number (before_colon text) >>= λ n. Some (n, after_colon text)) some
+    ∙ ap (λ k. hex_number (take k text) >>= λ n. Some (n, drop (k + 1) text)) e
 
 colon_after : (hex rest : List ℕ) → list_all is_hex_digit hex ≡ true → position_or_len is_colon (hex ++ colon ∷ rest) ≡ length hex
 colon_after hex rest digits =
@@ -89,9 +112,8 @@ led_full text n rest led =
     let hex = led.0 in
     let whole = hex ++ colon ∷ rest in
     let is : IsHex hex n = hex_parts hex n led.1 in
-    let inside : length hex < length whole = omega (arith, length-append hex (colon ∷ rest)) in
     let number : hex_number (take (length hex) whole) ≡ Some n = ap hex_number (take-append_seam hex (colon ∷ rest)) ∙ led.1 in
-    ap led_of led.2 ∙ led_at whole (length hex) (colon_after hex rest is.digits) inside
+    ap led_of led.2 ∙ led_at whole (length hex) (has_colon-at hex rest) (colon_after hex rest is.digits)
     ∙ bind_from (hex_number (take (length hex) whole)) (λ n. Some (n, drop (length hex + 1) whole)) n (n, rest) number
     (ap (λ r. Some (n, r)) (drop-append-add hex (colon ∷ rest) 1))
 
@@ -101,9 +123,9 @@ unfolding led_of
 led_sound text n rest h =
     let at = position_or_len is_colon text in
     let o = hex_number (take at text) >>= λ n. Some (n, drop (at + 1) text) in
-    let inside = guard_option (nat_lt at (length text)) o (n, rest) h in
+    let inside = guard_option (has_colon text) o (n, rest) h in
     let found = bind_some (hex_number (take at text)) (λ n. Some (n, drop (at + 1) text)) (n, rest) inside.1 in
-    let here : at < length text = ltb-true at (length text) inside.0 in
+    let here : at < length text = colon_within text inside.0 in
     let pair : (found.0 ≡ n) × (drop (at + 1) text ≡ rest) = some_pair_parts found.0 n (drop (at + 1) text) rest found.2 in
     let stop : get_or text at 0 ≡ colon = eqb-true (get_or text at 0) colon (not-false (is_colon (get_or text at 0)) (prefix_len_stops (λ c. not (is_colon c)) text 0 here)) in
     let split : text ≡ take at text ++ (get_or text at 0 ∷ drop (at + 1) text) = split_at_first is_colon text 0 here in (

@@ -1,10 +1,14 @@
 -- Elements joined by commas, as they are read.
-use Rattle.std.proofs.Common.{◌≡◌, ℕ, zero, suc, ◌-◌, ◌<◌, ◌==◌, true, List, [], ◌∷◌, length, Option, Some, None, refl, sym, ◌∙◌, ap, arith}
+use Rattle.std.proofs.Common.{◌≡◌, ℕ, zero, suc, ◌-◌, ◌<◌, ◌≤◌, ◌==◌, true, List, [], ◌∷◌, length, Option, Some, None, refl, sym, ◌∙◌, ap, arith}
 use Rattle.std.specs.Option.{is_some, unwrap_or}
 use Rattle.term_forms.specs.Words.{comma}
+use Rattle.term_forms.specs.Reading.{front, whole_of}
+use Rattle.term_forms.specs.Inner.Chain.{◌>>=◌}
+use Rattle.term_forms.specs.Inner.Joins.{until_of, joined_of, joined_list, with_first}
 use Rattle.term_forms.specs.Elements.{Element}
-use Rattle.term_forms.specs.Reading.{◌>>=◌, whole_of, until_of, joined_of, joined_list, with_first}
+use Rattle.std.proofs.lemmas.List.{length-append}
 use Rattle.term_forms.proofs.Steps.{bind_some}
+use Rattle.term_forms.proofs.FormParts.{until_sound}
 
 -- the one element of a list is the whole text
 pub joined_one : (text : List ℕ) → joined_of 1 text ≡ (whole_of text >>= λ e. Some (e ∷ []))
@@ -80,3 +84,36 @@ joined_list_first count left text e rest split h = ap (λ o. unwrap_or o []) spl
     of : (o : Option (List Element)) → is_some (o >>= λ es. Some (e ∷ es)) ≡ true → unwrap_or (o >>= λ es. Some (e ∷ es)) [] ≡ e ∷ unwrap_or o []
     of None h = cc
     of (Some es) h = refl
+
+-- ---- there are no more elements than bytes
+
+whole_some : (text : List ℕ) (e : Element) → whole_of text ≡ Some e → 0 < length text
+unfolding whole_of front
+whole_some [] e h = cc
+whole_some (c ∷ text) e h = omega arith
+
+until_shorter : (stop : ℕ) (text : List ℕ) (e : Element) (rest : List ℕ) → until_of stop text ≡ Some (e, rest) → length rest < length text
+until_shorter stop text e rest h =
+    let is = until_sound stop text e rest h in
+    omega (arith, ap length is.1, length-append is.0 (stop ∷ rest))
+
+joined_within : (count : ℕ) (text : List ℕ) (es : List Element) → joined_of count text ≡ Some es → count ≤ length text
+unfolding joined_of
+joined_within zero text es h = omega arith
+joined_within (suc zero) text es h =
+    let found = bind_some (whole_of text) (λ e. Some (e ∷ [])) es h in
+    let some = whole_some text found.0 found.1 in
+    omega (arith, some)
+joined_within (suc (suc n)) text es h =
+    let first = bind_some (until_of comma text) (λ found. joined_of (suc n) found.1 >>= λ es. Some (found.0 ∷ es)) es h in
+    let others = bind_some (joined_of (suc n) first.0.1) (λ es. Some (first.0.0 ∷ es)) es first.2 in
+    let fewer = joined_within (suc n) first.0.1 others.0 others.1 in
+    let shorter = until_shorter comma text first.0.0 first.0.1 first.1 in
+    omega (arith, fewer, shorter)
+
+pub joined_few : (count : ℕ) (text : List ℕ) → is_some (joined_of count text) ≡ true → count ≤ length text
+joined_few count text h = of (joined_of count text) refl h
+  where
+    of : (o : Option (List Element)) → joined_of count text ≡ o → is_some o ≡ true → count ≤ length text
+    of None e h = cc
+    of (Some es) e h = joined_within count text es e

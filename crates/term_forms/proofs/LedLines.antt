@@ -3,8 +3,7 @@ use Rattle.std.proofs.Common.{◌≡◌, ℕ, List, Option, Some, None, sym}
 use Rattle.std.specs.Borrow.{Bor}
 use Rattle.std.specs.Prelude.{IfSome, IfNone}
 use Rattle.std.specs.Option.{option_map}
-use Rattle.term_forms.specs.Words.{IsLed}
-use Rattle.term_forms.specs.Reading.{led_of}
+use Rattle.term_forms.specs.Words.{IsLed, led_of}
 use Rattle.term_forms.specs.Seen.{number_rest}
 use Rattle.term_forms.proofs.Hexes.{led_full, led_sound}
 

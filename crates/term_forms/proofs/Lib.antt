@@ -1,4 +1,3 @@
-pub mod Appending
 pub mod Base64Payload
 pub mod Encodings
 pub mod FormParts
@@ -8,15 +7,16 @@ pub mod Fronts
 pub mod FrontsTaken
 pub mod HexDigits
 pub mod HexPayload
-pub mod HexSteps
 pub mod Hexes
 pub mod Joins
 pub mod LedLines
 pub mod OfElements
 pub mod OfForms
+pub mod Parts
 pub mod PayloadBytes
-pub mod PieceTexts
+pub mod Joining
 pub mod Pieces
+pub mod Placing
 pub mod PlainHex
 pub mod Ranges
 pub mod Runs

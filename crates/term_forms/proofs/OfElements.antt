@@ -4,9 +4,10 @@ use Rattle.std.specs.Prelude.{IfSome, IfNone}
 use Rattle.std.specs.Option.{option_map}
 use Rattle.std.proofs.lemmas.List.{length-take-le, take-append-drop, append-nil}
 use Rattle.std.proofs.lemmas.Option.{some_pair_parts}
+use Rattle.dump_io.specs.Numbers.{hexadecimal as hex}
 use Rattle.term_forms.specs.Words.{colon, IsLed}
-use Rattle.term_forms.specs.Elements.{Element, Nil, Small, Atom, Pid, Port, Ref, IsElem, IsFront, EndsElement, plain_elem, hex}
 use Rattle.term_forms.specs.Reading.{front}
+use Rattle.term_forms.specs.Elements.{Element, Nil, Small, Atom, Pid, Port, Ref, IsElem, IsFront, EndsElement, plain_elem}
 use Rattle.term_forms.specs.Seen.{element, element_len}
 use Rattle.term_forms.specs.declared.shapes.Elem.{Elem}
 use Rattle.term_forms.proofs.Hexes.{hex_parts}

@@ -3,17 +3,22 @@ use Rattle.std.proofs.Common.{◌≡◌, ℕ, List, [], ◌∷◌, ◌++◌, len
 use Rattle.std.specs.Prelude.{IfSome, IfNone}
 use Rattle.std.specs.Option.{option_map}
 use Rattle.std.proofs.lemmas.Option.{same_Some}
+use Rattle.dump_io.specs.Numbers.{hexadecimal as hex}
 use Rattle.term_forms.specs.declared.enc.Enc.{Enc}
+use Rattle.term_forms.specs.declared.shapes.Elem.{Elem}
 use Rattle.term_forms.specs.declared.shapes.Form.{Form}
 use Rattle.term_forms.specs.Words.{colon, IsLed}
-use Rattle.term_forms.specs.Elements.{Element, plain_elem, hex}
+use Rattle.term_forms.specs.ReadingForms.{form_of}
+use Rattle.term_forms.specs.Elements.{Element, IsElem, plain_elem}
 use Rattle.term_forms.specs.Joined.{IsJoined, plain_joined}
 use Rattle.term_forms.specs.Forms.{HeapForm, Cons, Tuple, Float, Long, Pid, Port, Ext, HeapBin, RefBin, SubBin, Flat, Hash, Node, IsForm, IsRange, plain_form}
-use Rattle.term_forms.specs.ReadingForms.{form_of}
+use Rattle.term_forms.specs.Reading.{whole_of}
+use Rattle.term_forms.specs.Seen.{element}
 use Rattle.term_forms.specs.SeenForms.{heap_form}
 use Rattle.term_forms.proofs.Hexes.{hex_parts}
 use Rattle.term_forms.proofs.PlainHex.{hex_plain}
 use Rattle.term_forms.proofs.OfElements.{plain_is}
+use Rattle.term_forms.proofs.FormParts.{whole_full, whole_sound}
 use Rattle.term_forms.proofs.FormsRead.{form_full}
 use Rattle.term_forms.proofs.FormsTaken.{form_sound}
 
@@ -86,3 +91,23 @@ found_form enc text (Some f) h = form_sound enc text (heap_form f) (sym h)
 pub no_form : (enc : Enc) (text : List ℕ) (result : Option Form) → option_map heap_form result ≡ form_of enc text → IfNone result ((f : HeapForm) → IsForm enc text f → ⊥)
 no_form enc text None h = form_none enc text (sym h)
 no_form enc text (Some f) h = tt
+
+-- ---- the element that is the whole text
+
+pub whole_none : (text : List ℕ) → whole_of text ≡ None → (e : Element) → IsElem text e → ⊥
+whole_none text h e is = let found : whole_of text ≡ Some e = whole_full text e is in cc
+
+pub whole_none_from : (text : List ℕ) → ((e : Element) → IsElem text e → ⊥) → whole_of text ≡ None
+whole_none_from text none = of (whole_of text) refl
+  where
+    of : (o : Option Element) → whole_of text ≡ o → whole_of text ≡ None
+    of None e = e
+    of (Some found) e = absurd (none found (whole_sound text found e))
+
+pub found_whole : (text : List ℕ) (result : Option Elem) → option_map element result ≡ whole_of text → IfSome result (λ e. IsElem text (element e))
+found_whole text None h = tt
+found_whole text (Some e) h = whole_sound text (element e) (sym h)
+
+pub no_whole : (text : List ℕ) (result : Option Elem) → option_map element result ≡ whole_of text → IfNone result ((e : Element) → IsElem text e → ⊥)
+no_whole text None h = whole_none text (sym h)
+no_whole text (Some e) h = tt

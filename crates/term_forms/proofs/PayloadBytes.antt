@@ -13,7 +13,10 @@ use Rattle.base64.specs.GeneralPurpose.{decode_of, decoded_of, encode_of, IsByte
 use Rattle.base64.proofs.EngineFacts.{decode_of-encode_of}
 use Rattle.term_forms.specs.declared.enc.Enc.{Enc}
 use Rattle.term_forms.specs.declared.enc.Enc.TheVariants.{Hex, Base64}
-use Rattle.term_forms.specs.Payload.{IsPayload, IsPayloadOf, base64_of, base64_decoded, decoded, encoding, in_one_case, writes, payload_bytes, payload_test}
+use Rattle.term_forms.specs.Payload.{IsPayload, IsPayloadOf, base64_of, encoding, in_one_case}
+use Rattle.term_forms.specs.ReadingPayloads.{payload_bytes}
+use Rattle.term_forms.specs.Inner.Decoding.{base64_decoded, decoded, writes}
+use Rattle.term_forms.specs.Inner.PayloadTest.{payload_test}
 use Rattle.term_forms.proofs.Encodings.{length-payload}
 use Rattle.term_forms.proofs.HexDigits.{decode-upper}
 

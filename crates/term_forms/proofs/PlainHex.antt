@@ -8,9 +8,8 @@ use Rattle.std.specs.Str.Parse.{AllDigits}
 use Rattle.std.proofs.lemmas.Bool.{and_from, lt-ltb, ne_eqb, cases_eq}
 use Rattle.std.proofs.lemmas.Fmt.{digits_is_IsNumeral}
 use Rattle.std.proofs.lemmas.Grind.{common_steps}
-use Rattle.dump_io.specs.Numbers.{hex_number}
+use Rattle.dump_io.specs.Numbers.{hex_number, hexadecimal as hex}
 use Rattle.term_forms.specs.Words.{is_hex_digit}
-use Rattle.term_forms.specs.Elements.{hex}
 use Rattle.term_forms.proofs.Hexes.{hex_from}
 
 -- the digits of a number before those that stand already, at most k of them

@@ -1,7 +1,6 @@
 -- Elements of a dump's text: what a stack, a dictionary, a mailbox and a heap's forms hold.
-use Rattle.std.specs.Prelude.{◌≡◌, ◌⊎◌, ℕ, ◌≤◌, true, List, [], ◌∷◌, ◌++◌, length, take, Some, IsTrue}
-use Rattle.std.specs.Fmt.{digits}
-use Rattle.dump_io.specs.Numbers.{hex_number}
+use Rattle.std.specs.Prelude.{◌≡◌, ◌⊎◌, ℕ, ◌≤◌, List, [], ◌∷◌, ◌++◌, length, take, Some, IsTrue, codes}
+use Rattle.dump_io.specs.Numbers.{hex_number, hexadecimal}
 use Rattle.term_forms.specs.Words.{comma, colon, bar, is_integer, IsBracketed, IsLed}
 
 -- an element without where it lies in memory
@@ -13,24 +12,24 @@ pub data Element : Type 0 where
   Port : List ℕ → Element
   Ref : ℕ → Element
 
--- `#Port`
+-- what may stand behind the tag of a port
 abbrev pub port_word : List ℕ
-port_word = 35 ∷ 80 ∷ 111 ∷ 114 ∷ 116 ∷ []
+port_word = codes "#Port"
 
 -- the texts that spell an element
 abbrev pub IsElem : List ℕ → Element → Type 0
 -- `N` is the empty list
-IsElem text Nil = text ≡ 78 ∷ []
+IsElem text Nil = text ≡ codes "N"
 -- `I`, an optional minus, digits
-IsElem text (Small integer) = (text ≡ 73 ∷ integer) × IsTrue (is_integer integer)
+IsElem text (Small integer) = (text ≡ codes "I" ++ integer) × IsTrue (is_integer integer)
 -- `A`, a hex length, `:`, exactly so many bytes
-IsElem text (Atom bytes) = (led : List ℕ) × (text ≡ 65 ∷ led) × IsLed led (length bytes) bytes
+IsElem text (Atom bytes) = (led : List ℕ) × (text ≡ codes "A" ++ led) × IsLed led (length bytes) bytes
 -- `P<`, one or more of `0` to `9` and `.`, `>`
-IsElem text (Pid pid) = (text ≡ 80 ∷ pid) × IsBracketed pid
+IsElem text (Pid pid) = (text ≡ codes "P" ++ pid) × IsBracketed pid
 -- the same behind `p` or `p#Port`
-IsElem text (Port port) = ((text ≡ 112 ∷ port) ⊎ (text ≡ 112 ∷ (port_word ++ port))) × IsBracketed port
+IsElem text (Port port) = ((text ≡ codes "p" ++ port) ⊎ (text ≡ codes "p#Port" ++ port)) × IsBracketed port
 -- `H`, a hex address
-IsElem text (Ref address) = (hex : List ℕ) × (text ≡ 72 ∷ hex) × (hex_number hex ≡ Some address)
+IsElem text (Ref address) = (hex : List ℕ) × (text ≡ codes "H" ++ hex) × (hex_number hex ≡ Some address)
 
 -- the first n bytes of the text are the longest prefix of it that spells an element, which is e
 pub record IsFront (text : List ℕ) (e : Element) (n : ℕ) : Type 0 where
@@ -38,18 +37,14 @@ pub record IsFront (text : List ℕ) (e : Element) (n : ℕ) : Type 0 where
   pub spells : IsElem (take n text) e
   pub longest : (m : ℕ) (other : Element) → m ≤ length text → IsElem (take m text) other → m ≤ n
 
--- a number in upper-case hex, without leading zeros
-abbrev pub hex : ℕ → List ℕ
-hex n = digits 16 true n
-
 -- the plain spelling: numbers without leading zeros, ports as `p<..>`, and all that is kept as it is
 abbrev pub plain_elem : Element → List ℕ
-plain_elem Nil = 78 ∷ []
-plain_elem (Small integer) = 73 ∷ integer
-plain_elem (Atom bytes) = 65 ∷ (hex (length bytes) ++ colon ∷ bytes)
-plain_elem (Pid pid) = 80 ∷ pid
-plain_elem (Port port) = 112 ∷ port
-plain_elem (Ref address) = 72 ∷ hex address
+plain_elem Nil = codes "N"
+plain_elem (Small integer) = codes "I" ++ integer
+plain_elem (Atom bytes) = codes "A" ++ (hexadecimal (length bytes) ++ colon ∷ bytes)
+plain_elem (Pid pid) = codes "P" ++ pid
+plain_elem (Port port) = codes "p" ++ port
+plain_elem (Ref address) = codes "H" ++ hexadecimal address
 
 -- the text is empty, or begins with one of the bytes that may stand behind an element
 abbrev pub EndsElement : List ℕ → Type 0

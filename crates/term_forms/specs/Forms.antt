@@ -1,9 +1,9 @@
 -- The forms of a heap's cells.
-use Rattle.std.specs.Prelude.{◌≡◌, ◌⊎◌, ℕ, List, ◌∷◌, ◌++◌, length, Some, IsTrue}
-use Rattle.dump_io.specs.Numbers.{hex_number}
+use Rattle.std.specs.Prelude.{◌≡◌, ◌⊎◌, ℕ, List, ◌∷◌, ◌++◌, length, Some, IsTrue, codes}
+use Rattle.dump_io.specs.Numbers.{hex_number, hexadecimal}
 use Rattle.term_forms.specs.declared.enc.Enc.{Enc}
 use Rattle.term_forms.specs.Words.{colon, bar, is_long, IsBracketed, IsLed}
-use Rattle.term_forms.specs.Elements.{Element, IsElem, plain_elem, hex, port_word}
+use Rattle.term_forms.specs.Elements.{Element, IsElem, plain_elem}
 use Rattle.term_forms.specs.Joined.{IsJoined, plain_joined}
 use Rattle.term_forms.specs.Payload.{IsPayloadOf}
 
@@ -32,51 +32,51 @@ IsRange text address offset size =
 abbrev pub IsForm : Enc → List ℕ → HeapForm → Type 0
 -- `l`, an element, `|`, an element
 IsForm enc text (Cons head tail) =
-    (first : List ℕ) × (rest : List ℕ) × (text ≡ 108 ∷ (first ++ bar ∷ rest)) × IsElem first head × IsElem rest tail
+    (first : List ℕ) × (rest : List ℕ) × (text ≡ codes "l" ++ (first ++ bar ∷ rest)) × IsElem first head × IsElem rest tail
 -- `t`, a hex arity, `:`, so many elements joined by `,`
 IsForm enc text (Tuple elements) =
-    (led : List ℕ) × (rest : List ℕ) × (text ≡ 116 ∷ led) × IsLed led (length elements) rest × IsJoined rest elements
+    (led : List ℕ) × (rest : List ℕ) × (text ≡ codes "t" ++ led) × IsLed led (length elements) rest × IsJoined rest elements
 -- `F`, a hex length, `:`, exactly so many bytes
-IsForm enc text (Float bytes) = (led : List ℕ) × (text ≡ 70 ∷ led) × IsLed led (length bytes) bytes
+IsForm enc text (Float bytes) = (led : List ℕ) × (text ≡ codes "F" ++ led) × IsLed led (length bytes) bytes
 -- `B`, an optional minus, and digits or `16#` and hex digits
-IsForm enc text (Long number) = (text ≡ 66 ∷ number) × IsTrue (is_long number)
+IsForm enc text (Long number) = (text ≡ codes "B" ++ number) × IsTrue (is_long number)
 -- `P<`, one or more of `0` to `9` and `.`, `>`
-IsForm enc text (Pid pid) = (text ≡ 80 ∷ pid) × IsBracketed pid
+IsForm enc text (Pid pid) = (text ≡ codes "P" ++ pid) × IsBracketed pid
 -- the same behind `p` or `p#Port`
-IsForm enc text (Port port) = ((text ≡ 112 ∷ port) ⊎ (text ≡ 112 ∷ (port_word ++ port))) × IsBracketed port
+IsForm enc text (Port port) = ((text ≡ codes "p" ++ port) ⊎ (text ≡ codes "p#Port" ++ port)) × IsBracketed port
 -- `E`, a hex length, `:`, the payload of so many bytes
-IsForm enc text (Ext size chars) = (led : List ℕ) × (text ≡ 69 ∷ led) × IsLed led size chars × IsPayloadOf enc chars size
+IsForm enc text (Ext size chars) = (led : List ℕ) × (text ≡ codes "E" ++ led) × IsLed led size chars × IsPayloadOf enc chars size
 -- `Yh`, a hex length, `:`, the payload of so many bytes
 IsForm enc text (HeapBin size chars) =
-    (led : List ℕ) × (text ≡ 89 ∷ 104 ∷ led) × IsLed led size chars × IsPayloadOf enc chars size
+    (led : List ℕ) × (text ≡ codes "Yh" ++ led) × IsLed led size chars × IsPayloadOf enc chars size
 -- `Yc`, a hex address, `:`, a hex offset, `:`, a hex size
-IsForm enc text (RefBin address offset size) = (range : List ℕ) × (text ≡ 89 ∷ 99 ∷ range) × IsRange range address offset size
+IsForm enc text (RefBin address offset size) = (range : List ℕ) × (text ≡ codes "Yc" ++ range) × IsRange range address offset size
 -- the same behind `Ys`
-IsForm enc text (SubBin address offset size) = (range : List ℕ) × (text ≡ 89 ∷ 115 ∷ range) × IsRange range address offset size
+IsForm enc text (SubBin address offset size) = (range : List ℕ) × (text ≡ codes "Ys" ++ range) × IsRange range address offset size
 -- `Mf`, a hex size, `:`, the keys element, `:`, so many values joined by `,`
 IsForm enc text (Flat keys values) =
-    (led : List ℕ) × (first : List ℕ) × (rest : List ℕ) × (text ≡ 77 ∷ 102 ∷ led)
+    (led : List ℕ) × (first : List ℕ) × (rest : List ℕ) × (text ≡ codes "Mf" ++ led)
     × IsLed led (length values) (first ++ colon ∷ rest) × IsElem first keys × IsJoined rest values
 -- `Mh`, a hex size, `:`, a hex count, `:`, so many children joined by `,`
 IsForm enc text (Hash size children) =
-    (led : List ℕ) × (counted : List ℕ) × (rest : List ℕ) × (text ≡ 77 ∷ 104 ∷ led)
+    (led : List ℕ) × (counted : List ℕ) × (rest : List ℕ) × (text ≡ codes "Mh" ++ led)
     × IsLed led size counted × IsLed counted (length children) rest × IsJoined rest children
 -- `Mn`, a hex count, `:`, so many children joined by `,`
 IsForm enc text (Node children) =
-    (led : List ℕ) × (rest : List ℕ) × (text ≡ 77 ∷ 110 ∷ led) × IsLed led (length children) rest × IsJoined rest children
+    (led : List ℕ) × (rest : List ℕ) × (text ≡ codes "Mn" ++ led) × IsLed led (length children) rest × IsJoined rest children
 
 -- the plain spelling: numbers without leading zeros, ports as `p<..>`, and all that is kept as it is
 abbrev pub plain_form : HeapForm → List ℕ
-plain_form (Cons head tail) = 108 ∷ (plain_elem head ++ bar ∷ plain_elem tail)
-plain_form (Tuple elements) = 116 ∷ (hex (length elements) ++ colon ∷ plain_joined elements)
-plain_form (Float bytes) = 70 ∷ (hex (length bytes) ++ colon ∷ bytes)
-plain_form (Long number) = 66 ∷ number
-plain_form (Pid pid) = 80 ∷ pid
-plain_form (Port port) = 112 ∷ port
-plain_form (Ext size chars) = 69 ∷ (hex size ++ colon ∷ chars)
-plain_form (HeapBin size chars) = 89 ∷ 104 ∷ (hex size ++ colon ∷ chars)
-plain_form (RefBin address offset size) = 89 ∷ 99 ∷ (hex address ++ colon ∷ (hex offset ++ colon ∷ hex size))
-plain_form (SubBin address offset size) = 89 ∷ 115 ∷ (hex address ++ colon ∷ (hex offset ++ colon ∷ hex size))
-plain_form (Flat keys values) = 77 ∷ 102 ∷ (hex (length values) ++ colon ∷ (plain_elem keys ++ colon ∷ plain_joined values))
-plain_form (Hash size children) = 77 ∷ 104 ∷ (hex size ++ colon ∷ (hex (length children) ++ colon ∷ plain_joined children))
-plain_form (Node children) = 77 ∷ 110 ∷ (hex (length children) ++ colon ∷ plain_joined children)
+plain_form (Cons head tail) = codes "l" ++ (plain_elem head ++ bar ∷ plain_elem tail)
+plain_form (Tuple elements) = codes "t" ++ (hexadecimal (length elements) ++ colon ∷ plain_joined elements)
+plain_form (Float bytes) = codes "F" ++ (hexadecimal (length bytes) ++ colon ∷ bytes)
+plain_form (Long number) = codes "B" ++ number
+plain_form (Pid pid) = codes "P" ++ pid
+plain_form (Port port) = codes "p" ++ port
+plain_form (Ext size chars) = codes "E" ++ (hexadecimal size ++ colon ∷ chars)
+plain_form (HeapBin size chars) = codes "Yh" ++ (hexadecimal size ++ colon ∷ chars)
+plain_form (RefBin address offset size) = codes "Yc" ++ (hexadecimal address ++ colon ∷ (hexadecimal offset ++ colon ∷ hexadecimal size))
+plain_form (SubBin address offset size) = codes "Ys" ++ (hexadecimal address ++ colon ∷ (hexadecimal offset ++ colon ∷ hexadecimal size))
+plain_form (Flat keys values) = codes "Mf" ++ (hexadecimal (length values) ++ colon ∷ (plain_elem keys ++ colon ∷ plain_joined values))
+plain_form (Hash size children) = codes "Mh" ++ (hexadecimal size ++ colon ∷ (hexadecimal (length children) ++ colon ∷ plain_joined children))
+plain_form (Node children) = codes "Mn" ++ (hexadecimal (length children) ++ colon ∷ plain_joined children)

@@ -1,12 +1,14 @@
-pub mod Appends
 pub mod Cover
 pub mod Elements
 pub mod Forms
+pub mod Inner
 pub mod Joined
 pub mod Payload
-pub mod Pieces
+pub mod Places
 pub mod Reading
 pub mod ReadingForms
+pub mod ReadingPayloads
 pub mod Seen
 pub mod SeenForms
+pub mod SeenPlaces
 pub mod Words

@@ -1,12 +1,9 @@
 -- Payloads: the characters that write the bytes of a binary.
-use Rattle.std.specs.Prelude.{◌≡◌, ℕ, ◌+◌, ◌*◌, ◌/◌, ◌==◌, nat_lt, Bool, false, ◌&&◌, List, length, Option, Some, None, option_and_then, if◌then◌else◌}
-use Rattle.std.specs.List.{list_all}
-use Rattle.std.specs.Option.{option_map_or}
-use Rattle.std.specs.Result.{result_ok}
-use Rattle.std.specs.Str.{str_to_ascii_uppercase, bytes_eq}
-use Rattle.hex.specs.Hex.{encode_upper, decode_of}
+use Rattle.std.specs.Prelude.{◌≡◌, ℕ, ◌+◌, ◌*◌, ◌/◌, List, length}
+use Rattle.std.specs.Str.{str_to_ascii_uppercase}
+use Rattle.hex.specs.Hex.{encode_upper}
 use Rattle.base64.specs.Engines.{standard}
-use Rattle.base64.specs.GeneralPurpose.{encode_of, decoded_of, IsBytes}
+use Rattle.base64.specs.GeneralPurpose.{encode_of, IsBytes}
 use Rattle.term_forms.specs.declared.enc.Enc.{Enc}
 use Rattle.term_forms.specs.declared.enc.Enc.TheVariants.{Hex, Base64}
 
@@ -44,27 +41,3 @@ group_of Base64 = 3
 abbrev pub chars_of : Enc → ℕ → ℕ
 chars_of Hex size = 2 * size
 chars_of Base64 size = 4 * ((size + 2) / 3)
-
--- ---- the same as functions
-
--- the bytes that base64 characters decode to, if any
-unfoldable pub base64_decoded : List ℕ → Option (List ℕ)
-base64_decoded chars = decoded_of standard chars
-
--- the bytes that the characters decode to, if any
-abbrev pub decoded : Enc → List ℕ → Option (List ℕ)
-decoded Hex chars = result_ok (decode_of chars)
-decoded Base64 chars = base64_decoded chars
-
--- whether the characters are the payload of these bytes
-abbrev pub writes : Enc → List ℕ → List ℕ → Bool
-writes enc chars bytes = list_all (λ b. nat_lt b 256) bytes && bytes_eq (in_one_case enc chars) (encoding enc bytes)
-
--- the bytes of which the characters are the payload, if any
-unfoldable pub payload_bytes : Enc → List ℕ → Option (List ℕ)
-payload_bytes enc chars =
-    option_and_then (λ bytes. if writes enc chars bytes then Some bytes else None) (decoded enc chars)
-
--- whether the characters are the payload of so many bytes
-unfoldable pub payload_test : Enc → ℕ → List ℕ → Bool
-payload_test enc size chars = option_map_or (λ bytes. length bytes == size) (payload_bytes enc chars) false

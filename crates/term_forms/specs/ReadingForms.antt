@@ -1,73 +1,22 @@
--- The form that a text spells, as a function of the text; the law `form_is_read` says that it is the form that
--- `Forms` describes. Each part is given what stands behind the first byte
--- or the first two.
-use Rattle.std.specs.Prelude.{ℕ, ◌==◌, List, [], ◌∷◌, length, drop, Option, None, Some, nat_eq, if◌then◌else◌}
-use Rattle.std.specs.List.{starts_with}
-use Rattle.dump_io.specs.Numbers.{hex_number}
+-- The form that a text gives, as a function with which the definitions of the crates above compute. It says no more than
+-- `Forms` does: the law `form_is_read` joins the two.
+use Rattle.std.specs.Prelude.{ℕ, ◌==◌, List, [], ◌∷◌, codes, Option, None, Some, if◌then◌else◌}
 use Rattle.term_forms.specs.declared.enc.Enc.{Enc}
-use Rattle.term_forms.specs.Words.{colon, bar, is_long}
-use Rattle.term_forms.specs.Elements.{Element, port_word}
-use Rattle.term_forms.specs.Forms.{HeapForm, Cons, Tuple, Float, Long, Pid, Port, Ext, HeapBin, RefBin, SubBin, Flat, Hash, Node}
-use Rattle.term_forms.specs.Payload.{payload_test}
-use Rattle.term_forms.specs.Reading.{◌>>=◌, led_of, bracketed_len, whole_of, until_of, joined_of}
-
-unfoldable pub cons_of : List ℕ → Option HeapForm
-cons_of text = until_of bar text >>= λ head. whole_of head.1 >>= λ tail. Some (Cons head.0 tail)
-
--- a number, and so many elements
-unfoldable pub counted_of : List ℕ → Option (List Element)
-counted_of text = led_of text >>= λ led. joined_of led.0 led.1
-
-unfoldable pub float_of : List ℕ → Option HeapForm
-float_of text = led_of text >>= λ led. if length led.1 == led.0 then Some (Float led.1) else None
-
--- the whole text, where it is a bracketed number
-unfoldable pub bracketed_of : List ℕ → Option (List ℕ)
-bracketed_of text = bracketed_len text >>= λ n. if n == length text then Some text else None
-
-unfoldable pub port_of : List ℕ → Option HeapForm
-port_of text = bracketed_of (drop (if starts_with nat_eq text port_word then 5 else 0) text) >>= λ port. Some (Port port)
-
--- a length, and the characters of so many bytes
-unfoldable pub payload_of : Enc → List ℕ → Option (ℕ × List ℕ)
-payload_of enc text = led_of text >>= λ led. if payload_test enc led.0 led.1 then Some led else None
-
--- an address, an offset and a size
-unfoldable pub range_of : List ℕ → Option (ℕ × ℕ × ℕ)
-range_of text =
-    led_of text >>= λ address. led_of address.1 >>= λ offset. hex_number offset.1 >>= λ size. Some (address.0, offset.0, size)
-
-unfoldable pub binary_of : Enc → List ℕ → Option HeapForm
-binary_of enc [] = None
-binary_of enc (c ∷ text) =
-    if c == 104 then (payload_of enc text >>= λ bin. Some (HeapBin bin.0 bin.1))
-    else (if c == 99 then (range_of text >>= λ range. Some (RefBin range.0 range.1 range.2))
-    else (if c == 115 then (range_of text >>= λ range. Some (SubBin range.0 range.1 range.2)) else None))
-
-unfoldable pub flat_of : List ℕ → Option HeapForm
-flat_of text =
-    led_of text >>= λ led. until_of colon led.1 >>= λ keys. joined_of led.0 keys.1 >>= λ values. Some (Flat keys.0 values)
-
-unfoldable pub hash_of : List ℕ → Option HeapForm
-hash_of text = led_of text >>= λ led. counted_of led.1 >>= λ children. Some (Hash led.0 children)
-
-unfoldable pub map_of : List ℕ → Option HeapForm
-map_of [] = None
-map_of (c ∷ text) =
-    if c == 102 then flat_of text
-    else (if c == 104 then hash_of text
-    else (if c == 110 then (counted_of text >>= λ children. Some (Node children)) else None))
+use Rattle.term_forms.specs.Words.{is_long, letter}
+use Rattle.term_forms.specs.Forms.{HeapForm, Tuple, Long, Pid, Ext}
+use Rattle.term_forms.specs.Inner.Chain.{◌>>=◌}
+use Rattle.term_forms.specs.Inner.FormParts.{cons_of, counted_of, float_of, bracketed_of, port_of, payload_of, binary_of, map_of}
 
 -- the form that the whole text spells
 unfoldable pub form_of : Enc → List ℕ → Option HeapForm
 form_of enc [] = None
 form_of enc (c ∷ text) =
-    if c == 108 then cons_of text
-    else (if c == 116 then (counted_of text >>= λ elements. Some (Tuple elements))
-    else (if c == 70 then float_of text
-    else (if c == 66 then (if is_long text then Some (Long text) else None)
-    else (if c == 80 then (bracketed_of text >>= λ pid. Some (Pid pid))
-    else (if c == 112 then port_of text
-    else (if c == 69 then (payload_of enc text >>= λ ext. Some (Ext ext.0 ext.1))
-    else (if c == 89 then binary_of enc text
-    else (if c == 77 then map_of text else None))))))))
+    if c == letter (codes "l") then cons_of text
+    else (if c == letter (codes "t") then (counted_of text >>= λ elements. Some (Tuple elements))
+    else (if c == letter (codes "F") then float_of text
+    else (if c == letter (codes "B") then (if is_long text then Some (Long text) else None)
+    else (if c == letter (codes "P") then (bracketed_of text >>= λ pid. Some (Pid pid))
+    else (if c == letter (codes "p") then port_of text
+    else (if c == letter (codes "E") then (payload_of enc text >>= λ ext. Some (Ext ext.0 ext.1))
+    else (if c == letter (codes "Y") then binary_of enc text
+    else (if c == letter (codes "M") then map_of text else None))))))))

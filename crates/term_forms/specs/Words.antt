@@ -1,8 +1,15 @@
 -- The words that elements and forms are made of.
-use Rattle.std.specs.Prelude.{◌≡◌, ℕ, ◌<◌, ◌==◌, Bool, false, ◌&&◌, ◌||◌, List, [], ◌∷◌, ◌++◌, length, drop, Some, nat_eq, nat_lt, IsTrue, if◌then◌else◌}
+use Rattle.std.specs.Prelude.{◌≡◌, ℕ, ◌<◌, ◌==◌, Bool, false, ◌&&◌, ◌||◌, List, [], ◌∷◌, ◌++◌, length, drop, Option, None, Some, option_and_then, nat_eq, nat_lt, IsTrue, if◌then◌else◌}
 use Rattle.std.specs.List.{list_all, starts_with}
 use Rattle.std.specs.Char.{digit_value, is_ascii_digit}
+use Rattle.dump_io.specs.Colons.{has_colon, before_colon, after_colon}
 use Rattle.dump_io.specs.Numbers.{hex_number}
+pub use Rattle.dump_io.specs.Colons.{colon}
+
+-- the byte that a text of one letter has
+abbrev pub letter : List ℕ → ℕ
+letter [] = 0
+letter (c ∷ text) = c
 
 abbrev pub comma : ℕ
 comma = 44
@@ -12,9 +19,6 @@ minus = 45
 
 abbrev pub dot : ℕ
 dot = 46
-
-abbrev pub colon : ℕ
-colon = 58
 
 abbrev pub less : ℕ
 less = 60
@@ -50,6 +54,11 @@ IsBracketed text =
 -- the text is a hex number n, a colon, and the rest
 abbrev pub IsLed : List ℕ → ℕ → List ℕ → Type 0
 IsLed text n rest = (hex : List ℕ) × (hex_number hex ≡ Some n) × (text ≡ hex ++ colon ∷ rest)
+
+-- the same as a function: the number before the first colon and what follows that colon, where the text has a colon and
+-- such a number stands before it; the law `number_is_read` joins the two
+unfoldable pub led_of : List ℕ → Option (ℕ × List ℕ)
+led_of text = if has_colon text then option_and_then (λ n. Some (n, after_colon text)) (hex_number (before_colon text)) else None
 
 -- one or more hex digits
 abbrev pub is_hex_digits : List ℕ → Bool

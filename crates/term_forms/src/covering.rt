@@ -1,14 +1,16 @@
 // Which characters of a payload write a range of its bytes.
-ghost use Rattle.std.specs.Prelude.{◌≡◌, ℕ, ◌+◌, ◌^◌, ◌≤◌, List, length};
+ghost use Rattle.std.specs.Prelude.{◌≡◌, ◌↔◌, ℕ, ◌+◌, ◌^◌, ◌<◌, ◌≤◌, List, length, take, drop, option_map, IsTrue, Some};
 ghost use Rattle.term_forms.specs.Cover.{hex_cover, base64_cover, cover_of, IsCovered};
-ghost use Rattle.term_forms.specs.Payload.{IsPayload};
+ghost use Rattle.term_forms.specs.Payload.{IsPayload, IsPayloadOf};
+ghost use Rattle.term_forms.specs.ReadingPayloads.{payload_bytes};
 
 use crate::covers::Cover;
 use crate::enc::Enc;
+use crate::payloads::payload;
 
 fn hex_cover(from: u64, count: u32) -> Cover
     requires few { count ≤ 32 }
-    requires small { from ≤ 2 ^ 60 }
+    requires small { from < 2 ^ 63 }
     ensures { result ≡ hex_cover from count }
 {
     Cover {
@@ -22,7 +24,7 @@ fn hex_cover(from: u64, count: u32) -> Cover
 fn base64_cover(size: u64, from: u64, count: u32) -> Cover
     requires few { count ≤ 32 }
     requires within { from + count ≤ size }
-    requires small { from ≤ 2 ^ 60 }
+    requires small { from < 2 ^ 63 }
     ensures { result ≡ base64_cover size from count }
 {
     let start = from / 3;
@@ -35,13 +37,11 @@ fn base64_cover(size: u64, from: u64, count: u32) -> Cover
     }
 }
 
-/// The characters that write the `count` bytes from the place `from` on, of a payload of `size` bytes. They are whole
-/// groups, so some of the bytes that they write may come before the range or after it. All four numbers are 0 where
-/// `count` is 0.
-pub fn cover(enc: Enc, size: u64, from: u64, count: u32) -> Cover
+// What `cover` gives, at each place that a payload in memory can have.
+fn range_cover(enc: Enc, size: u64, from: u64, count: u32) -> Cover
     requires few { count ≤ 32 }
     requires within { from + count ≤ size }
-    requires small { from ≤ 2 ^ 60 }
+    requires small { from < 2 ^ 63 }
     ensures value { result ≡ cover_of enc size from count }
     ensures holds { result.skip + count ≤ result.bytes }
     ensures bytes { result.bytes ≤ count + 4 }
@@ -61,6 +61,25 @@ pub fn cover(enc: Enc, size: u64, from: u64, count: u32) -> Cover
     }
 }
 
+/// The characters that write the `count` bytes from the place `from` on, of a payload of `size` bytes. They are whole
+/// groups, so some of the bytes that they write may come before the range or after it. All four numbers are 0 where
+/// `count` is 0.
+///
+/// A preview shows 32 bytes at most, so `count` is at most 32: then the characters are at most 64, and the bytes that
+/// they write at most 36, so that a buffer of fixed size takes them. `from` is at most 2^60, far behind the end of the
+/// largest dump, so that no place of a character overflows: there are two of them for a byte.
+pub fn cover(enc: Enc, size: u64, from: u64, count: u32) -> Cover
+    requires few { count ≤ 32 }
+    requires within { from + count ≤ size }
+    requires small { from ≤ 2 ^ 60 }
+    ensures value { result ≡ cover_of enc size from count }
+    ensures holds { result.skip + count ≤ result.bytes }
+    ensures bytes { result.bytes ≤ count + 4 }
+    ensures chars { result.chars ≤ 64 }
+{
+    range_cover(enc, size, from, count)
+}
+
 /// The law of what a cover is for: of a payload, its characters alone are the payload of some bytes, and these hold the
 /// bytes of the range.
 pub fn cover_holds_range(enc: Enc)
@@ -68,6 +87,54 @@ pub fn cover_holds_range(enc: Enc)
         → IsPayload enc chars bytes → from + count ≤ length bytes
         → IsCovered enc (cover_of enc (length bytes) from count) chars bytes from count }
 {}
+
+fn part(text: &[u8], from: usize, count: usize) -> &[u8]
+    requires { from + count ≤ length text.now }
+    ensures { result.now ≡ take count (drop from text.now) }
+{
+    &text[from..][..count]
+}
+
+// No slice of bytes has 2^63 of them.
+fn byte_count(text: &[u8]) -> usize
+    ensures count { result ≡ length text.now }
+    ensures few { result < 2 ^ 63 }
+{
+    text.len()
+}
+
+// Whether the characters of the cover are read, which then stand for the bytes of the cover.
+fn read_cover(chars: &[u8], enc: Enc, cover: &Cover, into: &mut [u8]) -> bool
+    requires within { cover.now.first + cover.now.chars ≤ length chars.now }
+    ensures found { IsTrue result ↔ IsPayloadOf enc (take cover.now.chars (drop cover.now.first chars.now)) (length into.old) }
+    ensures bytes { IsTrue result → IsPayload enc (take cover.now.chars (drop cover.now.first chars.now)) into.new }
+{
+    payload(
+        part(chars, cover.first as usize, cover.chars as usize),
+        enc,
+        into,
+    )
+}
+
+/// Reads the bytes of a payload from the place `from` on, as many as `into` has, from the characters that cover them
+/// alone. The characters are the whole payload of `size` bytes, as those of a heap's binary or external term are.
+pub fn payload_part(chars: &[u8], enc: Enc, size: u64, from: u64, into: &mut [u8])
+    requires whole { IsPayloadOf enc chars.now size }
+    requires few { length into.old ≤ 32 }
+    requires within { from + length into.old ≤ size }
+    // Whatever bytes the characters are the payload of, these are those of the range.
+    ensures part { (bytes : List ℕ) → IsPayload enc chars.now bytes → into.new ≡ take (length into.old) (drop from bytes) }
+    // The same, as the function with which definitions compute.
+    ensures exact { option_map (λ bytes. take (length into.old) (drop from bytes)) (payload_bytes enc chars.now) ≡ Some into.new }
+{
+    let _few = byte_count(chars);
+    let cover = range_cover(enc, size, from, into.len() as u32);
+    let mut buffer = [0; 36];
+    let read = &mut buffer[..cover.bytes as usize];
+    if read_cover(chars, enc, &cover, read) {
+        into.copy_from_slice(part(read, cover.skip as usize, into.len()));
+    }
+}
 
 #[cfg(test)]
 mod tests;

@@ -2,14 +2,15 @@
 ghost use Rattle.std.specs.Prelude.{◌≡◌, ℕ, ◌+◌, ◌≤◌, ◌∷◌, length, take, IfSome, IfNone};
 ghost use Rattle.std.specs.Option.{option_map};
 ghost use Rattle.term_forms.specs.Elements.{Element, IsElem, IsFront};
-ghost use Rattle.term_forms.specs.Reading.{front, small_front, atom_front, pid_front, port_front, ref_front};
+ghost use Rattle.term_forms.specs.Reading.{front};
+ghost use Rattle.term_forms.specs.Inner.Fronts.{small_front, atom_front, pid_front, port_front, ref_front};
 ghost use Rattle.term_forms.specs.Seen.{element, element_len};
 
 use crate::shapes::Elem;
-use crate::words::{bracketed_prefix, heap_line, hex_run, integer_prefix};
+use crate::words::{bracketed_prefix, hex_run, integer_prefix, split_number};
 use dump_io::hex_u64;
 
-#[tactic(auto, unfolding(crate::specs::Reading::small_front))]
+#[tactic(auto, unfolding(crate::specs::Inner::Fronts::small_front))]
 fn small(text: &[u8]) -> Option<(Elem<'_>, usize)>
     ensures exact { option_map element_len result ≡ small_front text.now }
     ensures within { IfSome result (λ found. found.1 ≤ length text.now + 1) }
@@ -18,12 +19,12 @@ fn small(text: &[u8]) -> Option<(Elem<'_>, usize)>
     Some((Elem::Small(&text[..n]), n + 1))
 }
 
-#[tactic(auto, unfolding(crate::specs::Reading::atom_front))]
+#[tactic(auto, unfolding(crate::specs::Inner::Fronts::atom_front))]
 fn atom(text: &[u8]) -> Option<(Elem<'_>, usize)>
     ensures exact { option_map element_len result ≡ atom_front text.now }
     ensures within { IfSome result (λ found. found.1 ≤ length text.now + 1) }
 {
-    let (len, rest) = heap_line(text)?;
+    let (len, rest) = split_number(text)?;
     if len > rest.len() as u64 {
         return None;
     }
@@ -31,7 +32,7 @@ fn atom(text: &[u8]) -> Option<(Elem<'_>, usize)>
     Some((Elem::Atom(&rest[..len]), text.len() - rest.len() + len + 1))
 }
 
-#[tactic(auto, unfolding(crate::specs::Reading::pid_front))]
+#[tactic(auto, unfolding(crate::specs::Inner::Fronts::pid_front))]
 fn pid(text: &[u8]) -> Option<(Elem<'_>, usize)>
     ensures exact { option_map element_len result ≡ pid_front text.now }
     ensures within { IfSome result (λ found. found.1 ≤ length text.now + 1) }
@@ -40,7 +41,7 @@ fn pid(text: &[u8]) -> Option<(Elem<'_>, usize)>
     Some((Elem::Pid(&text[..n]), n + 1))
 }
 
-#[tactic(auto, unfolding(crate::specs::Reading::port_front))]
+#[tactic(auto, unfolding(crate::specs::Inner::Fronts::port_front))]
 fn port(text: &[u8]) -> Option<(Elem<'_>, usize)>
     ensures exact { option_map element_len result ≡ port_front text.now }
     ensures within { IfSome result (λ found. found.1 ≤ length text.now + 1) }
@@ -51,7 +52,7 @@ fn port(text: &[u8]) -> Option<(Elem<'_>, usize)>
     Some((Elem::Port(&number[..n]), skip + n + 1))
 }
 
-#[tactic(auto, unfolding(crate::specs::Reading::ref_front))]
+#[tactic(auto, unfolding(crate::specs::Inner::Fronts::ref_front))]
 fn reference(text: &[u8]) -> Option<(Elem<'_>, usize)>
     ensures exact { option_map element_len result ≡ ref_front text.now }
     ensures within { IfSome result (λ found. found.1 ≤ length text.now + 1) }
@@ -93,7 +94,7 @@ pub fn elem(text: &[u8]) -> Option<(Elem<'_>, usize)>
     ensures found { IfSome result (λ found. IsFront text.now (element found.0) found.1) }
     // Nothing is found only where no prefix spells one.
     ensures none { IfNone result ((n : ℕ) (e : Element) → IsElem (take n text.now) e → ⊥) }
-    // The same, as a function of the text.
+    // The same, as the function with which definitions compute.
     ensures exact { option_map element_len result ≡ front text.now }
     ensures within { IfSome result (λ found. found.1 ≤ length text.now) }
 {

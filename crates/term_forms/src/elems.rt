@@ -1,25 +1,37 @@
 // Elements joined by commas.
-ghost use Rattle.std.specs.Prelude.{◌≡◌, ℕ, ◌-◌, ◌<◌, List, [], ◌∷◌, length, is_some, IsTrue, Some};
+ghost use Rattle.std.specs.Prelude.{◌≡◌, ◌-◌, ◌<◌, List, [], ◌^◌, length, is_some, IsTrue, Some, IfSome, IfNone};
 ghost use Rattle.std.specs.Option.{option_map, option_copied};
 ghost use Rattle.std.specs.Iterator.{YieldsFirstBy, item_count};
-ghost use Rattle.term_forms.specs.Elements.{Element};
-ghost use Rattle.term_forms.specs.Reading.{whole_of, until_of, behind, joined_of, joined_list, with_first};
+ghost use Rattle.term_forms.specs.Elements.{Element, IsElem};
+ghost use Rattle.term_forms.specs.Reading.{whole_of};
+ghost use Rattle.term_forms.specs.Inner.Joins.{until_of, behind, joined_of, joined_list, with_first};
 ghost use Rattle.term_forms.specs.Seen.{element, element_rest};
 
 use crate::elements::elem;
 use crate::shapes::Elem;
 use std::marker::Model;
 
-// The element that is the whole text.
 #[tactic(auto, unfolding(crate::specs::Reading::whole_of))]
-pub(crate) fn whole_elem(text: &[u8]) -> Option<Elem<'_>>
+pub(crate) fn read_whole(text: &[u8]) -> Option<Elem<'_>>
     ensures { option_map element result ≡ whole_of text.now }
 {
     let (e, len) = elem(text)?;
     if len == text.len() { Some(e) } else { None }
 }
 
-#[tactic(auto, unfolding(crate::specs::Reading::behind))]
+/// The element that the whole text spells. None where it spells none.
+pub fn whole_elem(text: &[u8]) -> Option<Elem<'_>>
+    // What is found is an element that the text spells.
+    ensures found { IfSome result (λ e. IsElem text.now (element e)) }
+    // Nothing is found only where the text spells no element.
+    ensures none { IfNone result ((e : Element) → IsElem text.now e → ⊥) }
+    // The same, as the function with which definitions compute.
+    ensures exact { option_map element result ≡ whole_of text.now }
+{
+    read_whole(text)
+}
+
+#[tactic(auto, unfolding(crate::specs::Inner::Joins::behind))]
 fn behind(stop: u8, text: &[u8]) -> Option<&[u8]>
     ensures { option_copied result ≡ behind stop text.now }
 {
@@ -28,7 +40,7 @@ fn behind(stop: u8, text: &[u8]) -> Option<&[u8]>
 }
 
 // The element that begins the text, and what stands behind the byte that follows it.
-#[tactic(auto, unfolding(crate::specs::Reading::until_of))]
+#[tactic(auto, unfolding(crate::specs::Inner::Joins::until_of))]
 pub(crate) fn elem_until(text: &[u8], stop: u8) -> Option<(Elem<'_>, &[u8])>
     ensures { option_map element_rest result ≡ until_of stop text.now }
 {
@@ -49,7 +61,7 @@ fn split_elem(count: u64, text: &[u8]) -> Option<(Elem<'_>, &[u8])>
     ensures { joined_of count text.now ≡ with_first (count - 1) (option_map element_rest result) }
 {
     if count == 1 {
-        let e = whole_elem(text)?;
+        let e = read_whole(text)?;
         Some((e, end_of(text)))
     } else {
         elem_until(text, b',')
@@ -99,9 +111,10 @@ impl<'a> Elems<'a> {
         }
     }
 
-    /// How many elements are left.
+    /// How many elements are left. They are fewer than the bytes that a text can have.
     pub fn left(&self) -> u64
-        ensures { result ≡ length self.now }
+        ensures count { result ≡ length self.now }
+        ensures few { result < 2 ^ 63 }
     {
         self.left
     }

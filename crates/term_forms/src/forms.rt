@@ -2,40 +2,41 @@
 ghost use Rattle.std.specs.Prelude.{◌≡◌, IfSome, IfNone};
 ghost use Rattle.std.specs.Option.{option_map, option_copied};
 ghost use Rattle.term_forms.specs.Forms.{HeapForm, IsForm};
-ghost use Rattle.term_forms.specs.ReadingForms.{cons_of, counted_of, float_of, bracketed_of, port_of, payload_of, range_of, binary_of, flat_of, hash_of, map_of, form_of};
+ghost use Rattle.term_forms.specs.ReadingForms.{form_of};
+ghost use Rattle.term_forms.specs.Inner.FormParts.{cons_of, counted_of, float_of, bracketed_of, port_of, payload_of, range_of, binary_of, flat_of, hash_of, map_of};
 ghost use Rattle.term_forms.specs.Seen.{number_rest};
 ghost use Rattle.term_forms.specs.SeenForms.{heap_form};
 
-use crate::elems::{Elems, elem_until, whole_elem};
+use crate::elems::{Elems, elem_until, read_whole};
 use crate::enc::Enc;
-use crate::payloads::is_payload;
+use crate::payloads::judge_payload;
 use crate::shapes::Form;
-use crate::words::{bracketed_prefix, heap_line, is_long};
+use crate::words::{bracketed_prefix, is_long, split_number};
 use dump_io::hex_u64;
 
-#[tactic(auto, unfolding(crate::specs::ReadingForms::cons_of))]
+#[tactic(auto, unfolding(crate::specs::Inner::FormParts::cons_of))]
 fn list(text: &[u8]) -> Option<Form<'_>>
     ensures { option_map heap_form result ≡ cons_of text.now }
 {
     let (head, rest) = elem_until(text, b'|')?;
-    let tail = whole_elem(rest)?;
+    let tail = read_whole(rest)?;
     Some(Form::List(head, tail))
 }
 
 // A number, and so many elements.
-#[tactic(auto, unfolding(crate::specs::ReadingForms::counted_of))]
+#[tactic(auto, unfolding(crate::specs::Inner::FormParts::counted_of))]
 fn counted(text: &[u8]) -> Option<Elems<'_>>
     ensures { result ≡ counted_of text.now }
 {
-    let (count, rest) = heap_line(text)?;
+    let (count, rest) = split_number(text)?;
     Elems::new(count, rest)
 }
 
-#[tactic(auto, unfolding(crate::specs::ReadingForms::float_of))]
+#[tactic(auto, unfolding(crate::specs::Inner::FormParts::float_of))]
 fn float(text: &[u8]) -> Option<Form<'_>>
     ensures { option_map heap_form result ≡ float_of text.now }
 {
-    let (len, bytes) = heap_line(text)?;
+    let (len, bytes) = split_number(text)?;
     if bytes.len() as u64 == len {
         Some(Form::Float(bytes))
     } else {
@@ -44,7 +45,7 @@ fn float(text: &[u8]) -> Option<Form<'_>>
 }
 
 // The whole text, where it is a bracketed number.
-#[tactic(auto, unfolding(crate::specs::ReadingForms::bracketed_of))]
+#[tactic(auto, unfolding(crate::specs::Inner::FormParts::bracketed_of))]
 fn bracketed(text: &[u8]) -> Option<&[u8]>
     ensures { option_copied result ≡ bracketed_of text.now }
 {
@@ -52,7 +53,7 @@ fn bracketed(text: &[u8]) -> Option<&[u8]>
     if n == text.len() { Some(text) } else { None }
 }
 
-#[tactic(auto, unfolding(crate::specs::ReadingForms::port_of))]
+#[tactic(auto, unfolding(crate::specs::Inner::FormParts::port_of))]
 fn port(text: &[u8]) -> Option<Form<'_>>
     ensures { option_map heap_form result ≡ port_of text.now }
 {
@@ -62,12 +63,12 @@ fn port(text: &[u8]) -> Option<Form<'_>>
 }
 
 // A length, and the characters of so many bytes.
-#[tactic(auto, unfolding(crate::specs::ReadingForms::payload_of))]
+#[tactic(auto, unfolding(crate::specs::Inner::FormParts::payload_of))]
 fn sized(text: &[u8], enc: Enc) -> Option<(u64, &[u8])>
     ensures { option_map number_rest result ≡ payload_of enc text.now }
 {
-    let (size, chars) = heap_line(text)?;
-    if is_payload(chars, enc, size) {
+    let (size, chars) = split_number(text)?;
+    if judge_payload(chars, enc, size) {
         Some((size, chars))
     } else {
         None
@@ -75,17 +76,17 @@ fn sized(text: &[u8], enc: Enc) -> Option<(u64, &[u8])>
 }
 
 // An address, an offset and a size.
-#[tactic(auto, unfolding(crate::specs::ReadingForms::range_of))]
+#[tactic(auto, unfolding(crate::specs::Inner::FormParts::range_of))]
 fn range(text: &[u8]) -> Option<(u64, u64, u64)>
     ensures { result ≡ range_of text.now }
 {
-    let (address, rest) = heap_line(text)?;
-    let (offset, rest) = heap_line(rest)?;
+    let (address, rest) = split_number(text)?;
+    let (offset, rest) = split_number(rest)?;
     let size = hex_u64(rest)?;
     Some((address, offset, size))
 }
 
-#[tactic(auto, unfolding(crate::specs::ReadingForms::binary_of))]
+#[tactic(auto, unfolding(crate::specs::Inner::FormParts::binary_of))]
 fn binary(text: &[u8], enc: Enc) -> Option<Form<'_>>
     ensures { option_map heap_form result ≡ binary_of enc text.now }
 {
@@ -107,26 +108,26 @@ fn binary(text: &[u8], enc: Enc) -> Option<Form<'_>>
     }
 }
 
-#[tactic(auto, unfolding(crate::specs::ReadingForms::flat_of))]
+#[tactic(auto, unfolding(crate::specs::Inner::FormParts::flat_of))]
 fn flat(text: &[u8]) -> Option<Form<'_>>
     ensures { option_map heap_form result ≡ flat_of text.now }
 {
-    let (size, rest) = heap_line(text)?;
+    let (size, rest) = split_number(text)?;
     let (keys, rest) = elem_until(rest, b':')?;
     let values = Elems::new(size, rest)?;
     Some(Form::Flat(keys, values))
 }
 
-#[tactic(auto, unfolding(crate::specs::ReadingForms::hash_of))]
+#[tactic(auto, unfolding(crate::specs::Inner::FormParts::hash_of))]
 fn hash(text: &[u8]) -> Option<Form<'_>>
     ensures { option_map heap_form result ≡ hash_of text.now }
 {
-    let (size, rest) = heap_line(text)?;
+    let (size, rest) = split_number(text)?;
     let children = counted(rest)?;
     Some(Form::Hash(size, children))
 }
 
-#[tactic(auto, unfolding(crate::specs::ReadingForms::map_of))]
+#[tactic(auto, unfolding(crate::specs::Inner::FormParts::map_of))]
 fn map(text: &[u8]) -> Option<Form<'_>>
     ensures { option_map heap_form result ≡ map_of text.now }
 {
@@ -176,7 +177,7 @@ pub fn form(text: &[u8], enc: Enc) -> Option<Form<'_>>
     ensures found { IfSome result (λ f. IsForm enc text.now (heap_form f)) }
     // Nothing is found only where the text spells no form.
     ensures none { IfNone result ((f : HeapForm) → IsForm enc text.now f → ⊥) }
-    // The same, as a function of the text.
+    // The same, as the function with which definitions compute.
     ensures exact { option_map heap_form result ≡ form_of enc text.now }
 {
     read_form(text, enc)

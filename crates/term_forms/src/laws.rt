@@ -2,9 +2,9 @@
 ghost use Rattle.std.specs.Prelude.{◌≡◌, ◌↔◌, ℕ, List, ◌++◌, length, take, None, Some};
 ghost use Rattle.term_forms.specs.Elements.{Element, IsElem, IsFront, EndsElement, plain_elem};
 ghost use Rattle.term_forms.specs.Forms.{HeapForm, IsForm, plain_form};
-ghost use Rattle.term_forms.specs.Reading.{led_of, front};
+ghost use Rattle.term_forms.specs.Words.{led_of, IsLed};
+ghost use Rattle.term_forms.specs.Reading.{front, whole_of};
 ghost use Rattle.term_forms.specs.ReadingForms.{form_of};
-ghost use Rattle.term_forms.specs.Words.{IsLed};
 
 use crate::enc::Enc;
 
@@ -29,6 +29,12 @@ pub fn front_of_element()
 pub fn front_is_longest()
     ensures found { (text : List ℕ) (e : Element) (n : ℕ) → (front text ≡ Some (e, n)) ↔ IsFront text e n }
     ensures none { (text : List ℕ) → (front text ≡ None) ↔ ((n : ℕ) (e : Element) → IsElem (take n text) e → ⊥) }
+{}
+
+/// What `whole_of` computes is the element that the whole text spells.
+pub fn whole_is_read()
+    ensures found { (text : List ℕ) (e : Element) → (whole_of text ≡ Some e) ↔ IsElem text e }
+    ensures none { (text : List ℕ) → (whole_of text ≡ None) ↔ ((e : Element) → IsElem text e → ⊥) }
 {}
 
 /// Under one encoding a text spells one form at most.

@@ -1,8 +1,20 @@
 //! The elements and the heap forms of a crash dump's text, read and written, and the payloads of binaries, in both
 //! encodings.
 //!
+//! ```
+//! let (address, text) = heap_line(b"7F10:t2:A2:ok,H20")?; // 0x7F10, and the text of a form
+//! let (form, elements) = placed_form(text, Enc::Base64)?; // a tuple
+//! for found in elements {
+//!     // The atom `ok` at 3, and a reference to 0x20 at 8: what `elem(&text[found.at..])` reads again.
+//! }
+//! let mut first = [0; 3];
+//! if let Form::HeapBin(size, chars) = form(b"Yh5:aGVsbG8=", Enc::Base64)? {
+//!     payload_part(chars, Enc::Base64, size, 1, &mut first); // `ell`
+//! }
+//! ```
+//!
 //! The types `Elem`, `Form` and `Cover` stand in [`shapes`], and the functions `elem`, `form` and `cover`, which have
-//! their names, in [`reading`].
+//! their names, in [`reading`]. What the grammar is stands in `specs/Elements.antt` and `specs/Forms.antt`.
 #![tactic(auto)]
 
 mod covering;
@@ -13,21 +25,24 @@ mod enc;
 mod forms;
 mod laws;
 mod payloads;
+mod placed;
 pub mod reading;
 pub mod shapes;
 mod words;
 mod writing;
 
-pub use covering::cover_holds_range;
-pub use elems::Elems;
+pub use covering::{cover_holds_range, payload_part};
+pub use elems::{Elems, whole_elem};
 pub use enc::Enc;
 pub use laws::{
     form_is_read, front_is_longest, front_of_element, number_is_read, plain_spelling_of_elements,
-    plain_spelling_of_forms, unique_reading_of_elements, unique_reading_of_forms,
+    plain_spelling_of_forms, unique_reading_of_elements, unique_reading_of_forms, whole_is_read,
 };
 pub use payloads::{
     encoding_in_pieces, is_payload, payload, payload_bytes_are_read, payload_is_of_one,
 };
+pub use placed::{PlacedElems, placed_form};
+pub use shapes::PlacedElem;
 pub use words::heap_line;
 pub use writing::{put_elem, put_form};
 

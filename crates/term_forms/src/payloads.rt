@@ -1,6 +1,8 @@
 // The payloads of binaries: the characters that write their bytes.
 ghost use Rattle.std.specs.Prelude.{◌≡◌, ◌↔◌, ℕ, ◌%◌, List, ◌++◌, length, IsTrue};
-ghost use Rattle.term_forms.specs.Payload.{IsPayload, IsPayloadOf, encoding, chars_of, group_of, payload_bytes, payload_test};
+ghost use Rattle.term_forms.specs.Payload.{IsPayload, IsPayloadOf, encoding, chars_of, group_of};
+ghost use Rattle.term_forms.specs.ReadingPayloads.{payload_bytes};
+ghost use Rattle.term_forms.specs.Inner.PayloadTest.{payload_test};
 
 use crate::enc::Enc;
 use base64::engine::general_purpose::STANDARD;
@@ -47,8 +49,7 @@ fn piece_chars(enc: Enc) -> usize
     }
 }
 
-/// Whether the characters are the payload of exactly `size` bytes.
-pub fn is_payload(chars: &[u8], enc: Enc, size: u64) -> bool
+pub(crate) fn judge_payload(chars: &[u8], enc: Enc, size: u64) -> bool
     ensures found { IsTrue result ↔ IsPayloadOf enc chars.now size }
     ensures test { result ≡ payload_test enc size chars.now }
 {
@@ -69,6 +70,13 @@ pub fn is_payload(chars: &[u8], enc: Enc, size: u64) -> bool
     payload(rest, enc, &mut buffer[..left as usize])
 }
 
+/// Whether the characters are the payload of exactly `size` bytes.
+pub fn is_payload(chars: &[u8], enc: Enc, size: u64) -> bool
+    ensures { IsTrue result ↔ IsPayloadOf enc chars.now size }
+{
+    judge_payload(chars, enc, size)
+}
+
 /// The law by which a payload is read in pieces: the encoding of bytes is the encoding of a front of whole groups,
 /// followed by the encoding of the rest. In hex a group is one byte, and in base64 three.
 pub fn encoding_in_pieces(enc: Enc)
@@ -85,12 +93,9 @@ pub fn payload_is_of_one(enc: Enc)
         → IsPayload enc chars bytes → length chars ≡ chars_of enc (length bytes) }
 {}
 
-/// The law of the two definitions that compute: `payload_bytes` gives the bytes of a payload and nothing else, and
-/// `payload_test` tells a payload of so many bytes.
+/// What `payload_bytes` computes is the bytes of a payload, and nothing where the characters are none.
 pub fn payload_bytes_are_read(enc: Enc)
-    ensures bytes { (chars bytes : List ℕ) → (payload_bytes enc chars ≡ Some bytes) ↔ IsPayload enc chars bytes }
-    ensures test { (chars : List ℕ) (size : ℕ)
-        → IsTrue (payload_test enc size chars) ↔ IsPayloadOf enc chars size }
+    ensures { (chars bytes : List ℕ) → (payload_bytes enc chars ≡ Some bytes) ↔ IsPayload enc chars bytes }
 {}
 
 #[cfg(test)]

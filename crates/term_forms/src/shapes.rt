@@ -50,3 +50,12 @@ pub enum Form<'a> {
     /// An inner node of a hash map: its children.
     Node(Elems<'a>),
 }
+
+/// An element of a form, and where its spelling begins.
+#[derive(Clone, Copy, Debug, PartialEq, Eq)]
+pub struct PlacedElem<'a> {
+    /// The number of bytes before the spelling in the form's text.
+    pub at: usize,
+    /// The element.
+    pub elem: Elem<'a>,
+}

@@ -1,6 +1,6 @@
 use crate::reading::{elem, form};
-use crate::shapes::Elem;
-use crate::{Enc, heap_line, put_elem, put_form};
+use crate::shapes::{Elem, PlacedElem};
+use crate::{Enc, heap_line, placed_form, put_elem, put_form, whole_elem};
 use std::alloc::Global;
 use std::process::Abort;
 use std::test::Fail;
@@ -61,6 +61,62 @@ fn elements_are_read_and_written(rt: HostRuntime) -> Result<(), Fail> {
     ] {
         assert_eq!(rt; elem(text), None);
     }
+    Ok(())
+}
+
+#[test]
+fn whole_texts_are_elements(rt: HostRuntime) {
+    assert_eq!(rt; whole_elem(b"A2:ok"), Some(Elem::Atom(b"ok")));
+    for text in [b"".as_slice(), b"A2:okN", b"N ", b"H00000000000000020"] {
+        assert_eq!(rt; whole_elem(text), None);
+    }
+}
+
+// The elements of the form that the text spells, each with its place.
+fn stand(rt: &impl Abort, text: &[u8], expected: &[PlacedElem<'_>]) -> Result<(), Fail> {
+    let (_, mut elements) = placed_form(text, Enc::Base64).ok_or("no form")?;
+    for found in expected {
+        assert_eq!(rt; elements.next(), Some(*found));
+    }
+    assert_eq!(rt; elements.next(), None);
+    Ok(())
+}
+
+fn at(at: usize, elem: Elem<'_>) -> PlacedElem<'_> {
+    PlacedElem { at, elem }
+}
+
+#[test]
+fn elements_have_places(rt: HostRuntime) -> Result<(), Fail> {
+    stand(
+        &rt,
+        b"lA3:a|b|H0a",
+        &[at(1, Elem::Atom(b"a|b")), at(8, Elem::Ref(10))],
+    )?;
+    stand(
+        &rt,
+        b"t003:p#Port<0.1>,N,I-1",
+        &[
+            at(5, Elem::Port(b"<0.1>")),
+            at(17, Elem::Nil),
+            at(19, Elem::Small(b"-1")),
+        ],
+    )?;
+    stand(
+        &rt,
+        b"Mf1:H20:A3:a,b",
+        &[at(4, Elem::Ref(32)), at(8, Elem::Atom(b"a,b"))],
+    )?;
+    stand(&rt, b"Mf0:N:", &[at(4, Elem::Nil)])?;
+    stand(
+        &rt,
+        b"Mh3:2:H1,H2",
+        &[at(6, Elem::Ref(1)), at(9, Elem::Ref(2))],
+    )?;
+    stand(&rt, b"Mn01:H5", &[at(5, Elem::Ref(5))])?;
+    stand(&rt, b"t0:", &[])?;
+    stand(&rt, b"Yc0a:01:2", &[])?;
+    assert!(rt; placed_form(b"t2:I1", Enc::Hex).is_none());
     Ok(())
 }
 

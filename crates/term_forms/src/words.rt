@@ -1,29 +1,24 @@
 // The words that elements and forms are made of.
 ghost use Rattle.std.specs.Prelude.{◌≡◌, ℕ, ◌==◌, ◌<◌, ◌≤◌, List, length, take, IfSome, IfNone};
-ghost use Rattle.std.specs.List.{prefix_len, position, list_all};
+ghost use Rattle.std.specs.List.{prefix_len, list_all};
 ghost use Rattle.std.specs.Option.{option_map};
 ghost use Rattle.std.specs.Char.{is_ascii_digit};
-ghost use Rattle.term_forms.specs.Words.{colon, is_hex_digit, is_dotted, is_digits, is_hex_digits, is_based, is_long, IsLed};
+ghost use Rattle.term_forms.specs.Words.{is_hex_digit, is_dotted, is_digits, is_hex_digits, is_based, is_long, IsLed, led_of};
+ghost use Rattle.term_forms.specs.Inner.Fronts.{digits_len, integer_len, bracketed_len};
 ghost use Rattle.term_forms.specs.Seen.{number_rest};
-ghost use Rattle.term_forms.specs.Reading.{led_of, digits_len, integer_len, bracketed_len};
 
-use dump_io::hex_u64;
+use dump_io::{hex_u64, split_at_colon};
 
-fn first_colon(text: &[u8]) -> Option<usize>
-    ensures { result ≡ position (λ c. c == colon) text.now }
-{
-    text.iter().position(|c| *c == b':')
-}
-
-// The number before the first colon, and what stands behind that colon.
-#[tactic(auto, unfolding(crate::specs::Reading::led_of))]
-fn read_led(text: &[u8]) -> Option<(u64, &[u8])>
+// A hex number of 1 to 16 digits before the first colon, as an arity, a length or an address, and what stands behind
+// that colon.
+#[tactic(auto, unfolding(crate::specs::Words::led_of))]
+pub(crate) fn split_number(text: &[u8]) -> Option<(u64, &[u8])>
     ensures exact { option_map number_rest result ≡ led_of text.now }
     ensures shorter { IfSome result (λ found. length found.1.now < length text.now) }
 {
-    let at = first_colon(text)?;
-    let number = hex_u64(&text[..at])?;
-    Some((number, &text[at + 1..]))
+    let (before, rest) = split_at_colon(text)?;
+    let number = hex_u64(before)?;
+    Some((number, rest))
 }
 
 /// The address of a heap line and its form's text: a hex number of 1 to 16 digits, and what stands behind
@@ -33,11 +28,11 @@ pub fn heap_line(text: &[u8]) -> Option<(u64, &[u8])>
     ensures found { IfSome result (λ found. IsLed text.now found.0 found.1.now) }
     // Nothing is found only where the text isn't one.
     ensures none { IfNone result ((address : ℕ) (rest : List ℕ) → IsLed text.now address rest → ⊥) }
-    // The same, as a function of the text.
+    // The same, as the function with which definitions compute.
     ensures exact { option_map number_rest result ≡ led_of text.now }
     ensures shorter { IfSome result (λ found. length found.1.now < length text.now) }
 {
-    read_led(text)
+    split_number(text)
 }
 
 fn digit_run(text: &[u8]) -> usize
@@ -67,7 +62,7 @@ pub(crate) fn hex_run(text: &[u8]) -> usize
         .count()
 }
 
-#[tactic(auto, unfolding(crate::specs::Reading::digits_len))]
+#[tactic(auto, unfolding(crate::specs::Inner::Fronts::digits_len))]
 fn digits_prefix(text: &[u8]) -> Option<usize>
     ensures exact { result ≡ digits_len text.now }
     ensures within { IfSome result (λ n. n ≤ length text.now) }
@@ -77,7 +72,7 @@ fn digits_prefix(text: &[u8]) -> Option<usize>
 }
 
 // How many bytes of the text's front are an integer.
-#[tactic(auto, unfolding(crate::specs::Reading::integer_len))]
+#[tactic(auto, unfolding(crate::specs::Inner::Fronts::integer_len))]
 pub(crate) fn integer_prefix(text: &[u8]) -> Option<usize>
     ensures exact { result ≡ integer_len text.now }
     ensures within { IfSome result (λ n. n ≤ length text.now) }
@@ -91,7 +86,7 @@ pub(crate) fn integer_prefix(text: &[u8]) -> Option<usize>
 }
 
 // How many bytes of the text's front are a number in angle brackets.
-#[tactic(auto, unfolding(crate::specs::Reading::bracketed_len))]
+#[tactic(auto, unfolding(crate::specs::Inner::Fronts::bracketed_len))]
 pub(crate) fn bracketed_prefix(text: &[u8]) -> Option<usize>
     ensures exact { result ≡ bracketed_len text.now }
     ensures within { IfSome result (λ n. n ≤ length text.now) }

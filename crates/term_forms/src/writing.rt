@@ -1,21 +1,21 @@
 // Writing elements and forms.
-ghost use Rattle.std.specs.Prelude.{◌≡◌, ◌<◌, true, ◌∷◌, ◌++◌, length};
-ghost use Rattle.std.specs.Fmt.{digit_glyph};
-ghost use Rattle.term_forms.specs.Appends.{Appends};
-ghost use Rattle.term_forms.specs.Elements.{hex, plain_elem};
-ghost use Rattle.term_forms.specs.Words.{colon};
+ghost use Rattle.std.specs.Prelude.{◌∷◌, ◌++◌, length, codes, Some};
+ghost use Rattle.dump_io.specs.Numbers.{hexadecimal};
+ghost use Rattle.dump_io.specs.Sinks.{WritesAll};
+ghost use Rattle.term_forms.specs.Elements.{plain_elem};
+ghost use Rattle.term_forms.specs.Words.{bar, colon, comma};
 ghost use Rattle.term_forms.specs.Forms.{plain_form};
 ghost use Rattle.term_forms.specs.Joined.{plain_joined};
-ghost use Rattle.term_forms.specs.Pieces.{piece_text, pieces_text};
 ghost use Rattle.term_forms.specs.Seen.{element};
 ghost use Rattle.term_forms.specs.SeenForms.{heap_form};
 
 use crate::elems::Elems;
 use crate::shapes::{Elem, Form};
+use dump_io::HexText;
 use std::alloc::AllocError;
 
 fn put_text(into: &mut Vec<u8>, text: &[u8]) -> Result<(), AllocError>
-    ensures { Appends into.old.items into.new.items text.now result }
+    ensures { WritesAll (Some into.old.items) (Some into.new.items) text.now result }
 {
     if text.is_empty() {
         return Ok(());
@@ -23,68 +23,61 @@ fn put_text(into: &mut Vec<u8>, text: &[u8]) -> Result<(), AllocError>
     into.extend_from_slice(text)
 }
 
-fn hex_digit(d: u64) -> u8
-    requires { d < 16 }
-    ensures { result ≡ digit_glyph true d }
-{
-    if d < 10 {
-        b'0' + d as u8
-    } else {
-        b'A' - 10 + d as u8
-    }
-}
-
-// In upper-case hex, without leading zeros.
 fn put_hex(into: &mut Vec<u8>, n: u64) -> Result<(), AllocError>
-    ensures { Appends into.old.items into.new.items (hex n) result }
+    ensures { WritesAll (Some into.old.items) (Some into.new.items) (hexadecimal n) result }
 {
-    if n < 16 {
-        return put_text(into, &[hex_digit(n)]);
-    }
-    put_hex(into, n / 16)?;
-    put_text(into, &[hex_digit(n % 16)])
+    put_text(into, HexText::new(n).bytes())
 }
 
-fn put_tagged(into: &mut Vec<u8>, tag: u8, text: &[u8]) -> Result<(), AllocError>
-    ensures { Appends into.old.items into.new.items (tag ∷ text.now) result }
+fn put_tagged(into: &mut Vec<u8>, tag: &[u8], text: &[u8]) -> Result<(), AllocError>
+    ensures { WritesAll (Some into.old.items) (Some into.new.items) (tag.now ++ text.now) result }
 {
-    put_text(into, &[tag])?;
+    put_text(into, tag)?;
     put_text(into, text)
 }
 
 fn put_address(into: &mut Vec<u8>, address: u64) -> Result<(), AllocError>
-    ensures { Appends into.old.items into.new.items (72 ∷ hex address) result }
+    ensures { WritesAll (Some into.old.items) (Some into.new.items) (codes "H" ++ hexadecimal address) result }
 {
     put_text(into, b"H")?;
     put_hex(into, address)
 }
 
-fn put_atom(into: &mut Vec<u8>, bytes: &[u8]) -> Result<(), AllocError>
-    ensures { Appends into.old.items into.new.items (65 ∷ (hex (length bytes.now) ++ colon ∷ bytes.now)) result }
+// A tag, a length, and so many bytes, or the characters of so many.
+fn put_sized(into: &mut Vec<u8>, tag: &[u8], size: u64, text: &[u8]) -> Result<(), AllocError>
+    ensures { WritesAll (Some into.old.items) (Some into.new.items)
+        (tag.now ++ (hexadecimal size ++ colon ∷ text.now)) result }
 {
-    put_text(into, b"A")?;
-    put_hex(into, bytes.len() as u64)?;
-    put_text(into, b":")?;
-    put_text(into, bytes)
+    put_text(into, tag)?;
+    put_hex(into, size)?;
+    put_tagged(into, b":", text)
 }
 
 /// Appends the plain spelling of an element: numbers in upper-case hex without leading zeros, a port as
 /// `p<..>`. An error leaves a part of the spelling behind what was there.
 pub fn put_elem(into: &mut Vec<u8>, e: &Elem<'_>) -> Result<(), AllocError>
-    ensures { Appends into.old.items into.new.items (plain_elem (element e.now)) result }
+    ensures { WritesAll (Some into.old.items) (Some into.new.items) (plain_elem (element e.now)) result }
 {
     match e {
         Elem::Nil => put_text(into, b"N"),
-        Elem::Small(integer) => put_tagged(into, b'I', integer),
-        Elem::Atom(bytes) => put_atom(into, bytes),
-        Elem::Pid(pid) => put_tagged(into, b'P', pid),
-        Elem::Port(port) => put_tagged(into, b'p', port),
+        Elem::Small(integer) => put_tagged(into, b"I", integer),
+        Elem::Atom(bytes) => put_sized(into, b"A", bytes.len() as u64, bytes),
+        Elem::Pid(pid) => put_tagged(into, b"P", pid),
+        Elem::Port(port) => put_tagged(into, b"p", port),
         Elem::Ref(address) => put_address(into, *address),
     }
 }
 
+// An element behind a comma.
+fn put_next(into: &mut Vec<u8>, e: &Elem<'_>) -> Result<(), AllocError>
+    ensures { WritesAll (Some into.old.items) (Some into.new.items) (comma ∷ plain_elem (element e.now)) result }
+{
+    put_text(into, b",")?;
+    put_elem(into, e)
+}
+
 fn put_joined(into: &mut Vec<u8>, elements: &Elems<'_>) -> Result<(), AllocError>
-    ensures { Appends into.old.items into.new.items (plain_joined elements.now) result }
+    ensures { WritesAll (Some into.old.items) (Some into.new.items) (plain_joined elements.now) result }
 {
     let mut rest = elements.again();
     let Some(first) = rest.next() else {
@@ -92,81 +85,39 @@ fn put_joined(into: &mut Vec<u8>, elements: &Elems<'_>) -> Result<(), AllocError
     };
     put_elem(into, &first)?;
     for e in rest {
-        put_text(into, b",")?;
-        put_elem(into, &e)?;
+        put_next(into, &e)?;
     }
     Ok(())
 }
 
-// A piece of a form's spelling.
-#[derive(Drop)]
-enum Piece<'a> {
-    Text(&'a [u8]),
-    Number(u64),
-    Element(Elem<'a>),
-    Elements(&'a Elems<'a>),
-}
-
-fn put_piece(into: &mut Vec<u8>, piece: &Piece<'_>) -> Result<(), AllocError>
-    ensures { Appends into.old.items into.new.items (piece_text piece.now) result }
+fn put_count(into: &mut Vec<u8>, elements: &Elems<'_>) -> Result<(), AllocError>
+    ensures { WritesAll (Some into.old.items) (Some into.new.items) (hexadecimal (length elements.now)) result }
 {
-    match piece {
-        Piece::Text(text) => put_text(into, text),
-        Piece::Number(n) => put_hex(into, *n),
-        Piece::Element(e) => put_elem(into, e),
-        Piece::Elements(elements) => put_joined(into, elements),
-    }
+    put_hex(into, elements.left())
 }
 
-fn put_pieces(into: &mut Vec<u8>, pieces: &[Piece<'_>]) -> Result<(), AllocError>
-    ensures { Appends into.old.items into.new.items (pieces_text pieces.now) result }
+// A tag, the number of the elements, and the elements.
+fn put_counted(into: &mut Vec<u8>, tag: &[u8], elements: &Elems<'_>) -> Result<(), AllocError>
+    ensures { WritesAll (Some into.old.items) (Some into.new.items)
+        (tag.now ++ (hexadecimal (length elements.now) ++ colon ∷ plain_joined elements.now)) result }
 {
-    for piece in pieces {
-        put_piece(into, piece)?;
-    }
-    Ok(())
+    put_text(into, tag)?;
+    put_count(into, elements)?;
+    put_text(into, b":")?;
+    put_joined(into, elements)
 }
 
-// The number of the elements, and the elements.
-fn put_counted<'a>(
-    into: &mut Vec<u8>,
-    tag: &'a [u8],
-    elements: &'a Elems<'a>,
-) -> Result<(), AllocError>
-    ensures { Appends into.old.items into.new.items
-        (tag.now ++ (hex (length elements.now) ++ colon ∷ plain_joined elements.now)) result }
+// Two numbers with a colon between them.
+fn put_pair(into: &mut Vec<u8>, one: u64, other: u64) -> Result<(), AllocError>
+    ensures { WritesAll (Some into.old.items) (Some into.new.items)
+        (hexadecimal one ++ colon ∷ hexadecimal other) result }
 {
-    put_pieces(
-        into,
-        &[
-            Piece::Text(tag),
-            Piece::Number(elements.left()),
-            Piece::Text(b":"),
-            Piece::Elements(elements),
-        ],
-    )
+    put_hex(into, one)?;
+    put_text(into, b":")?;
+    put_hex(into, other)
 }
 
-// A length, and characters.
-fn put_sized<'a>(
-    into: &mut Vec<u8>,
-    tag: &'a [u8],
-    size: u64,
-    chars: &'a [u8],
-) -> Result<(), AllocError>
-    ensures { Appends into.old.items into.new.items (tag.now ++ (hex size ++ colon ∷ chars.now)) result }
-{
-    put_pieces(
-        into,
-        &[
-            Piece::Text(tag),
-            Piece::Number(size),
-            Piece::Text(b":"),
-            Piece::Text(chars),
-        ],
-    )
-}
-
+// A tag, an address, an offset and a size.
 fn put_range(
     into: &mut Vec<u8>,
     tag: &[u8],
@@ -174,68 +125,72 @@ fn put_range(
     offset: u64,
     size: u64,
 ) -> Result<(), AllocError>
-    ensures { Appends into.old.items into.new.items
-        (tag.now ++ (hex address ++ colon ∷ (hex offset ++ colon ∷ hex size))) result }
+    ensures { WritesAll (Some into.old.items) (Some into.new.items)
+        (tag.now ++ (hexadecimal address ++ colon ∷ (hexadecimal offset ++ colon ∷ hexadecimal size))) result }
 {
-    put_pieces(
-        into,
-        &[
-            Piece::Text(tag),
-            Piece::Number(address),
-            Piece::Text(b":"),
-            Piece::Number(offset),
-            Piece::Text(b":"),
-            Piece::Number(size),
-        ],
-    )
+    put_text(into, tag)?;
+    put_hex(into, address)?;
+    put_text(into, b":")?;
+    put_pair(into, offset, size)
+}
+
+fn put_list(into: &mut Vec<u8>, head: &Elem<'_>, tail: &Elem<'_>) -> Result<(), AllocError>
+    ensures { WritesAll (Some into.old.items) (Some into.new.items)
+        (codes "l" ++ (plain_elem (element head.now) ++ bar ∷ plain_elem (element tail.now))) result }
+{
+    put_text(into, b"l")?;
+    put_elem(into, head)?;
+    put_text(into, b"|")?;
+    put_elem(into, tail)
+}
+
+// The keys element and the values, each behind a colon.
+fn put_keyed(into: &mut Vec<u8>, keys: &Elem<'_>, values: &Elems<'_>) -> Result<(), AllocError>
+    ensures { WritesAll (Some into.old.items) (Some into.new.items)
+        (colon ∷ (plain_elem (element keys.now) ++ colon ∷ plain_joined values.now)) result }
+{
+    put_text(into, b":")?;
+    put_elem(into, keys)?;
+    put_text(into, b":")?;
+    put_joined(into, values)
+}
+
+fn put_flat(into: &mut Vec<u8>, keys: &Elem<'_>, values: &Elems<'_>) -> Result<(), AllocError>
+    ensures { WritesAll (Some into.old.items) (Some into.new.items)
+        (codes "Mf" ++ (hexadecimal (length values.now) ++ colon ∷ (plain_elem (element keys.now) ++ colon ∷ plain_joined values.now))) result }
+{
+    put_text(into, b"Mf")?;
+    put_count(into, values)?;
+    put_keyed(into, keys, values)
+}
+
+fn put_hash(into: &mut Vec<u8>, size: u64, children: &Elems<'_>) -> Result<(), AllocError>
+    ensures { WritesAll (Some into.old.items) (Some into.new.items)
+        (codes "Mh" ++ (hexadecimal size ++ colon ∷ (hexadecimal (length children.now) ++ colon ∷ plain_joined children.now))) result }
+{
+    put_text(into, b"Mh")?;
+    put_hex(into, size)?;
+    put_counted(into, b":", children)
 }
 
 /// Appends the plain spelling of a form: numbers in upper-case hex without leading zeros, a port as `p<..>`,
 /// and all that was kept of the text as it was. An error leaves a part of the spelling behind what was there.
 pub fn put_form(into: &mut Vec<u8>, f: &Form<'_>) -> Result<(), AllocError>
-    ensures { Appends into.old.items into.new.items (plain_form (heap_form f.now)) result }
+    ensures { WritesAll (Some into.old.items) (Some into.new.items) (plain_form (heap_form f.now)) result }
 {
     match f {
-        Form::List(head, tail) => put_pieces(
-            into,
-            &[
-                Piece::Text(b"l"),
-                Piece::Element(*head),
-                Piece::Text(b"|"),
-                Piece::Element(*tail),
-            ],
-        ),
+        Form::List(head, tail) => put_list(into, head, tail),
         Form::Tuple(elements) => put_counted(into, b"t", elements),
         Form::Float(bytes) => put_sized(into, b"F", bytes.len() as u64, bytes),
-        Form::Long(number) => put_tagged(into, b'B', number),
-        Form::Pid(pid) => put_tagged(into, b'P', pid),
-        Form::Port(port) => put_tagged(into, b'p', port),
+        Form::Long(number) => put_tagged(into, b"B", number),
+        Form::Pid(pid) => put_tagged(into, b"P", pid),
+        Form::Port(port) => put_tagged(into, b"p", port),
         Form::Ext(size, chars) => put_sized(into, b"E", *size, chars),
         Form::HeapBin(size, chars) => put_sized(into, b"Yh", *size, chars),
         Form::RefBin(address, offset, size) => put_range(into, b"Yc", *address, *offset, *size),
         Form::SubBin(address, offset, size) => put_range(into, b"Ys", *address, *offset, *size),
-        Form::Flat(keys, values) => put_pieces(
-            into,
-            &[
-                Piece::Text(b"Mf"),
-                Piece::Number(values.left()),
-                Piece::Text(b":"),
-                Piece::Element(*keys),
-                Piece::Text(b":"),
-                Piece::Elements(values),
-            ],
-        ),
-        Form::Hash(size, children) => put_pieces(
-            into,
-            &[
-                Piece::Text(b"Mh"),
-                Piece::Number(*size),
-                Piece::Text(b":"),
-                Piece::Number(children.left()),
-                Piece::Text(b":"),
-                Piece::Elements(children),
-            ],
-        ),
+        Form::Flat(keys, values) => put_flat(into, keys, values),
+        Form::Hash(size, children) => put_hash(into, *size, children),
         Form::Node(children) => put_counted(into, b"Mn", children),
     }
 }

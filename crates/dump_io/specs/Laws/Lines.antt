@@ -66,6 +66,7 @@ only (line ∷ next ∷ lines) some inner ended =
     ap (λ l. line ∷ l) (only (next ∷ lines) (All-tail (λ l. 0 < length l) line rest some) (All-tail HasLfLast line rest inner) (All-tail IsEnded line fronts front))
     ∙ sym (raw_lines-ended line (concat rest) (All-head (λ l. 0 < length l) line rest some) (All-head HasLfLast line rest inner) (All-head IsEnded line fronts front))
 
+-- lines by the rule are the raw lines of what they are together
 pub AreLines-only : (bytes : List ℕ) (lines : List (List ℕ)) → AreLines bytes lines → lines ≡ raw_lines bytes
 AreLines-only bytes lines are = only lines are.some are.lf_last are.ended ∙ ap raw_lines are.together
 

@@ -6,6 +6,7 @@ use Rattle.std.proofs.lemmas.List.{take-append-le, take_all}
 use Rattle.std.proofs.Math.Seq.{take-append-add}
 use Rattle.dump_io.specs.Sinks.{grown, change, GainsFront, WritesAll, Puts, HasPut}
 
+-- two texts in a row are one, and no text changes nothing
 pub grown-grown : (w : Option (List ℕ)) (xs ys : List ℕ) → grown (grown w xs) ys ≡ grown w (xs ++ ys)
 grown-grown None xs ys = refl
 grown-grown (Some zs) xs ys = ap Some (append_assoc zs xs ys)
@@ -99,15 +100,19 @@ Puts-failed {r = Err e} failed broken =
 
 -- What calls have put that all went well, as an invariant of a loop says it.
 
+-- nothing was put yet
 pub HasPut-none : {w : Option (List ℕ)} {f : ℕ} → HasPut (change w w f f) []
 HasPut-none {w = w} = record { later = omega arith; gained = sym (grown-nil w) }
 
+-- the text in other words
 pub HasPut-as : {w u : Option (List ℕ)} {f h : ℕ} {xs ys : List ℕ} → xs ≡ ys → HasPut (change w u f h) xs → HasPut (change w u f h) ys
 HasPut-as {w = w} {u = u} {f = f} {h = h} same put = subst (HasPut (change w u f h)) same put
 
+-- a call that went well
 pub HasPut-done : {T E : Type 0} {w u : Option (List ℕ)} {f h : ℕ} {xs : List ℕ} {x : T} → Puts {E = E} (change w u f h) xs (Ok x) → HasPut (change w u f h) xs
 HasPut-done puts = record { later = puts.later; gained = puts.writes.whole }
 
+-- and one more
 pub HasPut-then : {T E : Type 0} {w v u : Option (List ℕ)} {f g h : ℕ} {xs ys : List ℕ} {x : T}
     → HasPut (change w v f g) xs → Puts {E = E} (change v u g h) ys (Ok x) → HasPut (change w u f h) (xs ++ ys)
 HasPut-then {w = w} {v = v} {u = u} {xs = xs} {ys = ys} first second =
@@ -130,6 +135,7 @@ flat_map-at text (y ∷ xs) zero x is = let same : y ≡ x = cc in ap (λ z. tex
 flat_map-at text (y ∷ xs) (suc i) x is =
     ap (λ l. text y ++ l) (flat_map-at text xs i x is) ∙ sym (append_assoc (text y) (flat_map text (take i xs)) (text x ++ flat_map text (drop (suc i) xs)))
 
+-- the texts of one more element
 pub flat_map-more : {X : Type 0} (text : X → List ℕ) (xs : List X) (i : ℕ) (x : X) → slice_get xs i ≡ Some x
     → flat_map text (take (i + 1) xs) ≡ flat_map text (take i xs) ++ text x
 flat_map-more text [] i x is = cc

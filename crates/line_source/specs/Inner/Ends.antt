@@ -19,6 +19,7 @@ pub record EndsRefused (limit : ℕ) (stream piece : List ℕ) (before after : L
   pub among : StopsAmong before after refused (new_headers stream piece)
   pub short : All (λ at. refused.at < at) (too_long limit (stream ++ piece))
 
+-- the piece behind the stream ends it so: with a line that is too long, or with a header that was refused
 abbrev pub Ends : ℕ → List ℕ → List ℕ → List Header → List Header → Option RefusedHeader → ScanFault → Type 0
 Ends limit stream piece before after stop (HeaderTooLong at) = EndsTooLong limit stream piece before after at
 Ends limit stream piece before after stop (Stop value) = EndsRefused limit stream piece before after stop

@@ -8,6 +8,7 @@ header_bytes ended = []
 header_bytes plain = []
 header_bytes (header bytes) = bytes
 
+-- whether the last line is a header line that lacks its LF
 abbrev pub is_header_line : LastLine → Bool
 is_header_line ended = false
 is_header_line plain = false

@@ -10,6 +10,7 @@ use Rattle.section_index.specs.declared.builder.TheConstants.{PIECE}
 use Rattle.section_index.specs.Opening.{signature, first_id, version_named, fault_of, header_fault}
 use Rattle.section_index.specs.Sections.{id_of}
 
+-- whether a byte is LF
 abbrev pub is_lf : ℕ → Bool
 is_lf c = c == lf
 

@@ -8,6 +8,7 @@ use Rattle.section_index.specs.declared.headers.Head.{Head}
 abbrev pub header_in : List ℕ → Head → Header
 header_in pool head = record { at = head.at; body = head.body; text = between head.from head.upto pool }
 
+-- the headers that some heads stand for
 abbrev pub headers_in : List ℕ → List Head → List Header
 headers_in pool heads = map (header_in pool) heads
 

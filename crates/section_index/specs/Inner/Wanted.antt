@@ -5,6 +5,7 @@ use Rattle.section_index.specs.declared.lookups.Wanted.{Wanted}
 use Rattle.section_index.specs.declared.lookups.Wanted.TheVariants.{Named, Tagged, Hex}
 use Rattle.section_index.specs.Lookups.{has_tag, is_named, has_hex}
 
+-- whether a header's text is one that is looked for
 abbrev pub is_wanted : Wanted → List ℕ → Bool
 is_wanted (Named tag id) text = is_named tag.now (option_copied id) text
 is_wanted (Tagged tag) text = has_tag tag.now text

@@ -1,9 +1,14 @@
 use Rattle.std.proofs.Common.{sym}
-use Rattle.dump_command.proofs.Endings.{IsRunOf-same, IsRunOf-complete}
+use Rattle.dump_command.proofs.Endings.{IsProper-ended, IsRunOf-ended, IsRunOf-same, IsRunOf-complete}
 use Rattle.dump_command.proofs.runner.run.Goals as goal
 
+pub end-requires : goal.end-requires
+end-requires g c = IsProper-ended _ _ _ _ c.run_command-ended.result c.run_command-ended.ensures
+
+pub returns-in-Some-clause-ends : goal.returns-in-Some-clause-ends
+returns-in-Some-clause-ends g c cmd is =
+    IsRunOf-same _ _ cmd _ _ _ _ _ (sym c.in-Some.ensures) is (IsRunOf-ended _ _ _ _ _ _ c.run_command-ended.result c.run_command-ended.ensures c.end.ensures)
+
 pub returns-in-Some-clause-complete : goal.returns-in-Some-clause-complete
-returns-in-Some-clause-complete g c =
-    λ cmd bytes is dump open_to device_well out_well err_well.
-    IsRunOf-complete cmd _ _ _ _ _ (IsRunOf-same _ _ cmd _ _ _ _ _ (sym c.in-Some.ensures) is c.run_command.ensures)
-    bytes dump open_to device_well out_well err_well
+returns-in-Some-clause-complete g c cmd bytes is =
+    IsRunOf-complete cmd _ _ _ _ _ (returns-in-Some-clause-ends g c cmd is) bytes

@@ -1,5 +1,5 @@
-use Rattle.report_text.proofs.Written.{WritesAll-behind}
+use Rattle.dump_io.specs.Laws.Puts.{Puts-then}
 use Rattle.report_text.proofs.index_report.put_index.Goals as goal
 
-pub returns-clause-writes : goal.returns-clause-writes
-returns-clause-writes g c = WritesAll-behind _ _ _ _ _ _ c.in_ok-put_sections.ensures.writes c.put_state.ensures.writes
+pub returns : goal.returns
+returns g c = Puts-then c.in_ok-put_sections.ensures c.put_state.ensures

@@ -1,41 +1,20 @@
-use Rattle.std.proofs.Common.{◌≡◌, sym, ◌∙◌, ap, subst, take, drop, suc, arith}
-use Rattle.std.specs.List.{flat_map}
-use Rattle.std.proofs.lemmas.List.{take_all}
-use Rattle.dump_io.specs.Sinks.{grown, IsCut}
 use Rattle.section_index.specs.Index.{sections_in}
+use Rattle.dump_io.specs.Laws.Puts.{HasPut-none, HasPut-more, Puts-broken, Puts-all}
+use Rattle.std.proofs.Common.{arith}
 use Rattle.report_text.specs.Reports.{section_line}
-use Rattle.report_text.proofs.Written.{grown-nil, grown-next, IsCut-within, WritesAll-failed, HasCause-failed, flat_map-at, flat_map-more}
 use Rattle.report_text.proofs.index_report.put_sections.Goals as goal
 
 pub loop-i-init : goal.loop-i-init
-loop-i-init g c = (omega arith, sym (grown-nil (g.K.Sink.written c.args.sink.now)))
-
-pub returns-in_err-put_section-clause-writes : goal.returns-in_err-put_section-clause-writes
-returns-in_err-put_section-clause-writes g c =
-    let i = c.loop-i.i in
-    let sections = sections_in c.args.index.now in
-    let cut = IsCut-within _ _ _ (flat_map section_line (take i sections)) _ (flat_map section_line (drop (suc i) sections)) c.loop-i.invariant.1 c.in_err-put_section.ensures.writes in
-    let split = flat_map-at section_line sections i _ c.section.ensures.place in
-    WritesAll-failed _ _ _ c.from_residual.result c.from_residual.ensures.0
-    (subst (IsCut (g.K.Sink.written c.args.sink.now) (g.K.Sink.written c.put_section.new.sink)) (sym split) cut)
-
-pub returns-in_err-put_section-clause-cause : goal.returns-in_err-put_section-clause-cause
-returns-in_err-put_section-clause-cause g c =
-    let cause = c.in_err-put_section.ensures.cause in
-    HasCause-failed _ _ _ c.from_residual.result c.loop-i.invariant.0 cause.later cause.failed
+loop-i-init g c = HasPut-none
 
 pub loop-i-preserved : goal.loop-i-preserved
 loop-i-preserved g c =
-    let i = c.loop-i.i in
-    let sections = sections_in c.args.index.now in
-    let wrote = c.in_ok-put_section.ensures in
-    let more = flat_map-more section_line sections i _ c.section.ensures.place in (
-      omega (arith, c.loop-i.invariant.0, wrote.cause.later),
-      grown-next _ _ _ (flat_map section_line (take i sections)) _ c.loop-i.invariant.1 wrote.writes ∙ ap (grown (g.K.Sink.written c.args.sink.now)) (sym more),
-    )
+    HasPut-more section_line (sections_in c.args.index.now) c.loop-i.i _ c.section.ensures.place c.loop-i.invariant c.in_ok-put_section.ensures
 
-pub returns-clause-writes : goal.returns-clause-writes
-returns-clause-writes g c =
-    let sections = sections_in c.args.index.now in
-    let all : take c.loop-i.i sections ≡ sections = take_all c.loop-i.i sections (omega (arith, c.len-i-end.ensures.sections, c.loop-i-test.false)) in
-    c.loop-i.invariant.1 ∙ ap (λ l. grown (g.K.Sink.written c.args.sink.now) (flat_map section_line l)) all
+pub returns-in_err-put_section : goal.returns-in_err-put_section
+returns-in_err-put_section g c =
+    Puts-broken section_line (sections_in c.args.index.now) c.loop-i.i _ c.section.ensures.place c.loop-i.invariant c.from_residual.ensures.0 c.in_err-put_section.ensures
+
+pub returns : goal.returns
+returns g c =
+    Puts-all section_line (sections_in c.args.index.now) c.loop-i.i (omega (arith, c.len-i-end.ensures.sections, c.loop-i-test.false)) c.loop-i.invariant

@@ -1,20 +1,28 @@
-use Rattle.std.proofs.Common.{sym, subst}
-use Rattle.dump_io.specs.Sinks.{WritesAll}
+use Rattle.std.proofs.Common.{ap, sym, ◌∙◌}
+use Rattle.dump_io.specs.Laws.Puts.{Puts-as}
+use Rattle.section_index.specs.declared.opening.OpenFault.TheVariants.{Version}
 use Rattle.report_text.specs.declared.refusals.Refusal.TheVariants.{Open}
 use Rattle.report_text.specs.Refusals.{refusal_line}
 use Rattle.report_text.proofs.refusals.put_open_fault.Goals as goal
 
-pub returns-in-NotADump-clause-writes : goal.returns-in-NotADump-clause-writes
-returns-in-NotADump-clause-writes g c =
-    subst (λ fault. WritesAll (g.K.Sink.written c.args.sink.now) (g.K.Sink.written c.write_all-in-NotADump.new.sink) (refusal_line (Open fault)) c.write_all-in-NotADump.result)
-    (sym c.in-NotADump.is) c.write_all-in-NotADump.ensures.writes
+pub returns-in-Compressed : goal.returns-in-Compressed
+returns-in-Compressed g c = Puts-as (ap (λ f. refusal_line (Open f)) (sym c.in-Compressed.is)) c.write_all.ensures.puts
 
-pub returns-in-TooLarge-clause-writes : goal.returns-in-TooLarge-clause-writes
-returns-in-TooLarge-clause-writes g c =
-    subst (λ fault. WritesAll (g.K.Sink.written c.args.sink.now) (g.K.Sink.written c.put_numbered.new.sink) (refusal_line (Open fault)) c.put_numbered.result)
-    (sym c.in-TooLarge.is) c.put_numbered.ensures.writes
+pub returns-in-NotADump : goal.returns-in-NotADump
+returns-in-NotADump g c = Puts-as (ap (λ f. refusal_line (Open f)) (sym c.in-NotADump.is)) c.write_all-in-NotADump.ensures.puts
 
-pub returns-in-HeadersTooLarge-clause-writes : goal.returns-in-HeadersTooLarge-clause-writes
-returns-in-HeadersTooLarge-clause-writes g c =
-    subst (λ fault. WritesAll (g.K.Sink.written c.args.sink.now) (g.K.Sink.written c.put_numbered-in-HeadersTooLarge.new.sink) (refusal_line (Open fault)) c.put_numbered-in-HeadersTooLarge.result)
-    (sym c.in-HeadersTooLarge.is) c.put_numbered-in-HeadersTooLarge.ensures.writes
+pub returns-in-Version : goal.returns-in-Version
+returns-in-Version g c =
+    Puts-as (ap (λ t. refusal_line (Open (Version t))) c.bytes.ensures ∙ ap (λ f. refusal_line (Open f)) (sym c.in-Version.is)) c.put_cause.ensures
+
+pub returns-in-TooLarge : goal.returns-in-TooLarge
+returns-in-TooLarge g c = Puts-as (ap (λ f. refusal_line (Open f)) (sym c.in-TooLarge.is)) c.put_cause-in-TooLarge.ensures
+
+pub returns-in-HeaderTooLong : goal.returns-in-HeaderTooLong
+returns-in-HeaderTooLong g c = Puts-as (ap (λ f. refusal_line (Open f)) (sym c.in-HeaderTooLong.is)) c.put_cause-in-HeaderTooLong.ensures
+
+pub returns-in-TooManySections : goal.returns-in-TooManySections
+returns-in-TooManySections g c = Puts-as (ap (λ f. refusal_line (Open f)) (sym c.in-TooManySections.is)) c.put_cause-in-TooManySections.ensures
+
+pub returns-in-HeadersTooLarge : goal.returns-in-HeadersTooLarge
+returns-in-HeadersTooLarge g c = Puts-as (ap (λ f. refusal_line (Open f)) (sym c.in-HeadersTooLarge.is)) c.put_cause-in-HeadersTooLarge.ensures

@@ -1,6 +1,7 @@
 use Rattle.std.proofs.Common.{◌≡◌, ◌-◌, Some, [], ◌∷◌, ap, sym, ◌∙◌, arith}
 use Rattle.std.specs.Option.{option_map}
-use Rattle.term_forms.specs.Reading.{◌>>=◌, joined_of, with_first}
+use Rattle.term_forms.specs.Inner.Chain.{◌>>=◌}
+use Rattle.term_forms.specs.Inner.Joins.{joined_of, with_first}
 use Rattle.term_forms.specs.Seen.{element, element_rest}
 use Rattle.term_forms.proofs.Joins.{joined_one, joined_several, with_first_none, with_first_last}
 use Rattle.term_forms.proofs.elems.split_elem.Goals as goal

@@ -1,0 +1,118 @@
+-- What a dump that was opened says, and one that wasn't.
+use Rattle.std.proofs.Common.{◌≡◌, ◌⊎◌, ℕ, ◌+◌, ◌≤◌, List, length, Option, None, Some, Ok, Err, refl, sym, ◌∙◌, ap, subst, inl, inr, arith}
+use Rattle.std.specs.Prelude.{IsErrOf}
+use Rattle.dump_io.specs.Dumps.{Files, Now, closed, told, sized, size_of, IsAbsent, Use, used, DeviceFailed, ReadsAtMost}
+use Rattle.dump_io.specs.Limits.{Numbers}
+use Rattle.section_index.specs.Index.{Contents, IsAnswerFor, IsBuiltOver, IsClosedOrNamed, IsFileOf, IsHeld, ReadsFile}
+use Rattle.section_index.specs.declared.opening.OpenFault.{OpenFault}
+use Rattle.section_index.specs.declared.opening.OpenFault.TheVariants.{Read, Memory}
+use Rattle.dump_command.specs.Inner.Opened.{HasOpened, IsUnopened}
+use Rattle.dump_command.specs.Inner.Stops.{stop_of_opening}
+
+-- the file that is open has the size of the file of that name
+size-named : (files : Files) (name : List ℕ) (now : Now) (bytes : List ℕ) → files name ≡ Some bytes → IsClosedOrNamed (Some files) name now → size_of now ≤ length bytes
+size-named files name closed bytes is named = omega arith
+size-named files name (told all) bytes is named =
+    let same : named.0 ≡ bytes = cc (named.1, is) in omega (arith, ap size_of named.2, ap length same)
+size-named files name (sized size) bytes is named =
+    let same : named.0 ≡ bytes = cc (named.1, is) in omega (arith, ap size_of named.2, ap length same)
+
+size-file : (told_files : Option Files) (name : List ℕ) (now : Now) (bytes : List ℕ) → IsClosedOrNamed told_files name now
+    → IsHeld told_files name bytes ⊎ (now ≡ told bytes) → size_of now ≤ length bytes
+size-file None name now bytes named (inl is) = absurd is
+size-file (Some files) name now bytes named (inl is) = size-named files name now bytes is named
+size-file told_files name now bytes named (inr is) = omega (arith, ap size_of is)
+
+-- over an index that was built the file of that name is open
+told-named : (files : Files) (name : List ℕ) (now : Now) (bytes : List ℕ) (index : Contents) → files name ≡ Some bytes
+    → IsClosedOrNamed (Some files) name now → IsBuiltOver now index → now ≡ told bytes
+told-named files name closed bytes index is named over = absurd over
+told-named files name (told all) bytes index is named over =
+    let same : named.0 ≡ bytes = cc (named.1, is) in named.2 ∙ ap told same
+told-named files name (sized size) bytes index is named over =
+    let same : named.0 ≡ bytes = cc (named.1, is) in named.2 ∙ ap told same
+
+told-file : (told_files : Option Files) (name : List ℕ) (now : Now) (bytes : List ℕ) (index : Contents)
+    → IsClosedOrNamed told_files name now → IsBuiltOver now index → IsHeld told_files name bytes ⊎ (now ≡ told bytes) → now ≡ told bytes
+told-file None name now bytes index named over (inl is) = absurd is
+told-file (Some files) name now bytes index named over (inl is) = told-named files name now bytes index is named over
+told-file told_files name now bytes index named over (inr is) = is
+
+-- where no file has the name none is open
+closed-absent : (told_files : Option Files) (name : List ℕ) (now : Now) → IsClosedOrNamed told_files name now → IsAbsent told_files name → now ≡ closed
+closed-absent None name now named gone = absurd gone
+closed-absent (Some files) name closed named gone = refl
+closed-absent (Some files) name (told all) named gone = absurd (let no : ⊥ = cc (sym gone ∙ named.1) in no)
+closed-absent (Some files) name (sized size) named gone = absurd (let no : ⊥ = cc (sym gone ∙ named.1) in no)
+
+-- an index was built
+pub HasOpened-built : (name : List ℕ) (limits : Numbers) (device : Use) (index : Contents) → ReadsFile device name
+    → ((bytes : List ℕ) → IsFileOf device name bytes → IsAnswerFor bytes limits (Ok index))
+    → (IsAbsent device.files_before name → IsErrOf (Ok index) Read) → IsBuiltOver device.now_after index → HasOpened name limits device index 0
+HasOpened-built name limits device index reads answer absent over =
+    record {
+      there = λ gone. let no : ⊥ = cc (absent gone) in no;
+      same_files = reads.same_files;
+      later = reads.later;
+      over = over;
+      told = λ bytes file.
+          let right = answer bytes file in
+          record {
+            accepted = right.0;
+            of = right.1;
+            opened = told-file device.files_before name device.now_after bytes index reads.now over file;
+          };
+      taken = λ bytes file. omega (arith, reads.taken_most, size-file device.files_before name device.now_after bytes reads.now file);
+    }
+
+-- no index was built
+pub IsUnopened-built : (name : List ℕ) (limits : Numbers) (device : Use) (fault : OpenFault) → ReadsFile device name
+    → ((bytes : List ℕ) → IsFileOf device name bytes → IsAnswerFor bytes limits (Err fault))
+    → (IsAbsent device.files_before name → IsErrOf {T = Contents} (Err fault) Read)
+    → (IsErrOf {T = Contents} (Err fault) Read → DeviceFailed device ⊎ IsAbsent device.files_before name)
+    → IsUnopened name limits device (stop_of_opening fault)
+IsUnopened-built name limits device Read reads answer absent read =
+    record {
+      cause = read refl;
+      gone = closed-absent device.files_before name device.now_after reads.now;
+      taken = λ bytes file. omega (arith, reads.taken_most, size-file device.files_before name device.now_after bytes reads.now file);
+    }
+IsUnopened-built name limits device Memory reads answer absent read =
+    record {
+      cause = tt;
+      gone = closed-absent device.files_before name device.now_after reads.now;
+      taken = λ bytes file. omega (arith, reads.taken_most, size-file device.files_before name device.now_after bytes reads.now file);
+    }
+IsUnopened-built name limits device fault reads answer absent read =
+    record {
+      cause = record {
+        proper = tt;
+        there = λ gone. let no : ⊥ = cc (absent gone) in no;
+        told = λ bytes file. (fault, answer bytes file, refl);
+      };
+      gone = closed-absent device.files_before name device.now_after reads.now;
+      taken = λ bytes file. omega (arith, reads.taken_most, size-file device.files_before name device.now_after bytes reads.now file);
+    }
+
+stays : (told_files : Option Files) (before now : Now) (name bytes : List ℕ) → now ≡ before
+    → IsHeld told_files name bytes ⊎ (now ≡ told bytes) → IsHeld told_files name bytes ⊎ (before ≡ told bytes)
+stays told_files before now name bytes same (inl is) = inl is
+stays told_files before now name bytes same (inr is) = inr (sym same ∙ is)
+
+-- bytes were read of a dump that was opened
+pub HasOpened-read : {D : Type 0} (files : D → Option Files) (now : D → Now) (faults taken : D → ℕ) (a b c : D)
+    (name : List ℕ) (limits : Numbers) (index : Contents) (more count : ℕ)
+    → HasOpened name limits (used files now faults taken a b) index more → ReadsAtMost (used files now faults taken b c) count
+    → HasOpened name limits (used files now faults taken a c) index (more + count)
+HasOpened-read files now faults taken a b c name limits index more count opened step =
+    record {
+      there = opened.there;
+      same_files = step.same_files ∙ opened.same_files;
+      later = omega (arith, opened.later, step.later);
+      over = subst (λ n. IsBuiltOver n index) (sym step.same_now) opened.over;
+      told = λ bytes file.
+          let all = opened.told bytes (stays (files a) (now b) (now c) name bytes step.same_now file) in
+          record { accepted = all.accepted; of = all.of; opened = step.same_now ∙ all.opened };
+      taken = λ bytes file.
+          omega (arith, step.taken_most, opened.taken bytes (stays (files a) (now b) (now c) name bytes step.same_now file));
+    }

@@ -1,0 +1,43 @@
+-- Why a command ended without its whole report, and how its run ends.
+use Rattle.std.specs.Prelude.{◌≡◌, ℕ, Result, Ok, Err}
+use Rattle.section_index.specs.declared.bodies.BodyFault.{BodyFault}
+use Rattle.section_index.specs.declared.bodies.BodyFault.TheVariants as body_faults
+use Rattle.section_index.specs.declared.opening.OpenFault.{OpenFault}
+use Rattle.section_index.specs.declared.opening.OpenFault.TheVariants as open_faults
+use Rattle.report_text.specs.declared.refusals.Refusal.TheVariants.{Open, SectionTooLarge}
+use Rattle.report_text.specs.Refusals.{IsRefusal, refusal_line}
+use Rattle.dump_io.specs.Sinks.{Change, IsKept}
+use Rattle.dump_command.specs.Run.{EndsTold}
+use Rattle.dump_command.specs.declared.status.TheConstants.{REFUSED, UNREAD, UNWRITTEN, NO_MEMORY}
+use Rattle.dump_command.specs.declared.stop.Stop.{Stop}
+use Rattle.dump_command.specs.declared.stop.Stop.TheVariants.{Refused, NotRead, NotWritten, NoMemory}
+
+-- what stops a command whose dump isn't opened
+abbrev pub stop_of_opening : OpenFault → Stop
+stop_of_opening open_faults.Read = NotRead
+stop_of_opening open_faults.Memory = NoMemory
+stop_of_opening fault = Refused (Open fault)
+
+-- what stops a command of which a body isn't loaded
+abbrev pub stop_of_body : BodyFault → Stop
+stop_of_body body_faults.Read = NotRead
+stop_of_body body_faults.Memory = NoMemory
+stop_of_body (body_faults.SectionTooLarge at len) = Refused (SectionTooLarge at len)
+
+-- a refusal that has a line
+abbrev pub IsProper : Stop → Type 0
+IsProper (Refused why) = IsRefusal why
+IsProper stop = Unit {0}
+
+-- a report was written, and the command ends with this status, or a write failed
+abbrev pub done_of : {T E : Type 0} → ℕ → Result T E → Result ℕ Stop
+done_of status (Ok value) = Ok status
+done_of status (Err fault) = Err NotWritten
+
+-- the status of a run whose command ended so, and what `err` got
+abbrev pub EndsAs : Result ℕ Stop → ℕ → Change → Type 0
+EndsAs (Ok status) result err = (result ≡ status) × IsKept err
+EndsAs (Err (Refused why)) result err = EndsTold REFUSED (refusal_line why) result err
+EndsAs (Err NotRead) result err = (result ≡ UNREAD) × IsKept err
+EndsAs (Err NotWritten) result err = (result ≡ UNWRITTEN) × IsKept err
+EndsAs (Err NoMemory) result err = (result ≡ NO_MEMORY) × IsKept err

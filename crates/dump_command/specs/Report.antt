@@ -1,0 +1,75 @@
+-- What each command reports of the bytes of a dump, and why it is refused. A command without a file reports of
+-- no bytes.
+use Rattle.std.specs.Prelude.{ℕ, ◌+◌, List, [], ◌∷◌, map, length, slice_get, unwrap_or, Option, None, Some, Bool, false, nat_lt, if◌then◌else◌}
+use Rattle.std.specs.List.{between, sum_by}
+use Rattle.std.specs.Option.{option_map, option_or, option_and}
+use Rattle.dump_io.specs.Limits.{Numbers}
+use Rattle.dump_io.specs.Lines.{headers}
+use Rattle.section_index.specs.Bodies.{body_length}
+use Rattle.section_index.specs.Opening.{opening, first_id}
+use Rattle.section_index.specs.Sections.{Section, section, sections, tag_of}
+use Rattle.section_index.specs.Tags.{tag_counts}
+use Rattle.report_text.specs.declared.refusals.Refusal.{Refusal}
+use Rattle.report_text.specs.declared.refusals.Refusal.TheVariants.{Open, SectionTooLarge}
+use Rattle.report_text.specs.Reports.{index_report, info_report}
+use Rattle.dump_command.specs.Command.{Command, index, info, file_of}
+use Rattle.dump_command.specs.declared.status.TheConstants.{DONE}
+
+-- the first of these sections
+abbrev pub first_section : List Section → Section
+first_section sections = unwrap_or (slice_get sections 0) (section 0 0 0 [])
+
+-- the bodies that a command loads, in the order in which they are judged and read
+abbrev pub bodies : Command → List Section → List Section
+bodies (index file) sections = []
+bodies (info file) sections = first_section sections ∷ []
+
+-- the bytes of a section's body
+abbrev pub body_of : List ℕ → Section → List ℕ
+body_of bytes section = between section.body section.end bytes
+
+abbrev pub tags_of : List Section → List (List ℕ)
+tags_of sections = map (λ s. tag_of s.text) sections
+
+-- the report of a command on the bytes of a dump
+abbrev pub report : Command → List ℕ → List ℕ
+report (index file) bytes = index_report (headers bytes) (length bytes)
+report (info file) bytes =
+    info_report (first_id bytes) (headers bytes) (length bytes) (tag_counts (tags_of (sections bytes)))
+    (body_of bytes (first_section (sections bytes)))
+
+-- the status of a run that has written its whole report
+abbrev pub report_status : Command → List ℕ → ℕ
+report_status cmd bytes = DONE
+
+-- whether a command looks for findings
+abbrev pub finds : Command → Bool
+finds cmd = false
+
+-- the refusal of the first of these bodies that is longer than the limit
+abbrev pub too_large : ℕ → List Section → Option Refusal
+too_large limit [] = None
+too_large limit (s ∷ sections) =
+    if nat_lt limit (body_length s) then Some (SectionTooLarge s.at (body_length s)) else too_large limit sections
+
+-- why a command on the bytes of an accepted dump is refused: the first cause that holds
+abbrev pub refusal_opened : Command → List ℕ → Numbers → Option Refusal
+refusal_opened cmd bytes limits = too_large limits.section (bodies cmd (sections bytes))
+
+-- why a command on these bytes is refused under these limits, or none. A command without a file isn't refused
+abbrev pub refusal : Command → List ℕ → Numbers → Option Refusal
+refusal cmd bytes limits =
+    option_and (file_of cmd) (option_or (option_map Open (opening bytes limits)) (refusal_opened cmd bytes limits))
+
+-- how many bytes these bodies have together
+abbrev pub bytes_in : List Section → ℕ
+bytes_in sections = sum_by body_length sections
+
+-- the most bytes that a command takes from the device after it has read the dump once: those of the bodies that
+-- it loads
+abbrev pub reread : Command → List ℕ → ℕ
+reread cmd bytes = bytes_in (bodies cmd (sections bytes))
+
+-- the most bytes that a command takes from the device
+abbrev pub allowance : Command → List ℕ → ℕ
+allowance cmd bytes = length bytes + reread cmd bytes

@@ -1,0 +1,49 @@
+// How the run of a command ends.
+ghost use Rattle.std.specs.Prelude.{◌≡◌, MatchResult, IfErr};
+ghost use Rattle.dump_io.specs.Sinks.{changed};
+ghost use Rattle.dump_command.specs.Run.{EndsTold, usage_line};
+ghost use Rattle.dump_command.specs.Inner.Stops.{EndsAs, IsProper, done_of};
+
+use crate::status::{DONE, NO_MEMORY, REFUSED, UNREAD, UNWRITTEN, USAGE};
+use crate::stop::Stop;
+use dump_io::{Failed, Sink, write_all};
+use report_text::put_refusal;
+
+/// The ending of a command whose report was written, or not.
+pub(crate) fn done(written: Result<(), Failed>) -> Result<u8, Stop>
+    ensures { result ≡ done_of DONE written }
+{
+    written?;
+    Ok(DONE)
+}
+
+// The status after a line was written: this one, or that of a failed write.
+fn status_of(written: Result<(), Failed>, status: u8) -> u8
+    ensures { MatchResult written (λ _. result ≡ status) (λ _. result ≡ UNWRITTEN) }
+{
+    match written {
+        Ok(()) => status,
+        Err(_) => UNWRITTEN,
+    }
+}
+
+/// Writes the usage line, and answers the status.
+pub(crate) fn put_usage<E: Sink>(err: &mut E) -> u8
+    ensures { EndsTold USAGE usage_line result (changed E.written E.faults err.old err.new) }
+{
+    status_of(write_all(err, b"usage: edump COMMAND [WORDS]\n"), USAGE)
+}
+
+/// Ends the run of a command: writes the line of a refusal, and answers the status.
+pub(crate) fn end<E: Sink>(ended: Result<u8, Stop>, err: &mut E) -> u8
+    requires { IfErr ended IsProper }
+    ensures { EndsAs ended result (changed E.written E.faults err.old err.new) }
+{
+    match ended {
+        Ok(status) => status,
+        Err(Stop::Refused(why)) => status_of(put_refusal(err, &why), REFUSED),
+        Err(Stop::NotRead) => UNREAD,
+        Err(Stop::NotWritten) => UNWRITTEN,
+        Err(Stop::NoMemory) => NO_MEMORY,
+    }
+}

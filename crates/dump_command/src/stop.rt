@@ -1,0 +1,70 @@
+// Why a command ended without its whole report.
+ghost use Rattle.std.specs.Prelude.{◌≡◌};
+
+use dump_io::Failed;
+use report_text::Refusal;
+use section_index::{BodyFault, OpenFault};
+use std::alloc::AllocError;
+
+/// Why a command ended without its whole report: the faults of all layers come to one of these.
+#[derive(Debug, Drop)]
+pub(crate) enum Stop {
+    /// The command is refused.
+    Refused(Refusal),
+    /// The device failed, or has no such file.
+    NotRead,
+    /// The sink of the report failed.
+    NotWritten,
+    /// There was no memory.
+    NoMemory,
+}
+
+impl From<OpenFault> for Stop {
+    ghost use Rattle.dump_command.specs.Inner.Stops.{stop_of_opening};
+
+    ghost from_gives = { λ fault stop. stop ≡ stop_of_opening fault };
+
+    fn from(fault: OpenFault) -> Stop {
+        match fault {
+            OpenFault::Read => Stop::NotRead,
+            OpenFault::Memory => Stop::NoMemory,
+            fault => Stop::Refused(Refusal::Open(fault)),
+        }
+    }
+}
+
+impl From<BodyFault> for Stop {
+    ghost use Rattle.dump_command.specs.Inner.Stops.{stop_of_body};
+
+    ghost from_gives = { λ fault stop. stop ≡ stop_of_body fault };
+
+    fn from(fault: BodyFault) -> Stop {
+        match fault {
+            BodyFault::Read => Stop::NotRead,
+            BodyFault::Memory => Stop::NoMemory,
+            BodyFault::SectionTooLarge { at, len } => {
+                Stop::Refused(Refusal::SectionTooLarge { at, len })
+            }
+        }
+    }
+}
+
+impl From<AllocError> for Stop {
+    ghost use Rattle.dump_command.specs.declared.stop.Stop.TheVariants.{NoMemory};
+
+    ghost from_gives = { λ _ stop. stop ≡ NoMemory };
+
+    fn from(_fault: AllocError) -> Stop {
+        Stop::NoMemory
+    }
+}
+
+impl From<Failed> for Stop {
+    ghost use Rattle.dump_command.specs.declared.stop.Stop.TheVariants.{NotWritten};
+
+    ghost from_gives = { λ _ stop. stop ≡ NotWritten };
+
+    fn from(_fault: Failed) -> Stop {
+        Stop::NotWritten
+    }
+}

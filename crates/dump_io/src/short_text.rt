@@ -1,0 +1,68 @@
+// A short text that is put together on the stack.
+ghost use Rattle.std.specs.Prelude.{◌≡◌, ◌+◌, ◌≤◌, [], ◌++◌, length, take, if◌then◌else◌};
+
+use std::marker::Model;
+
+const ROOM: usize = 128;
+
+// A text of at most 128 bytes.
+#[derive(Drop)]
+pub(crate) struct ShortText {
+    bytes: [u8; ROOM],
+    len: usize,
+}
+
+impl Model for ShortText {
+    ghost use Rattle.std.specs.Prelude.{ℕ, ◌≤◌, List, take};
+    ghost use Rattle.dump_io.specs.declared.short_text.TheConstants.{ROOM};
+
+    ghost Value = { List ℕ };
+
+    ghost view = { λ text. take text.len text.bytes };
+
+    ghost invariant = { λ text. text.len ≤ ROOM };
+}
+
+impl ShortText {
+    // No bytes.
+    pub fn new() -> ShortText
+        ensures { result ≡ [] }
+    {
+        ShortText {
+            bytes: [0; ROOM],
+            len: 0,
+        }
+    }
+
+    // The bytes.
+    pub fn bytes(&self) -> &[u8]
+        ensures { result.now ≡ self.now }
+    {
+        &self.bytes[..self.len]
+    }
+
+    // Puts more bytes behind those that stand, and says whether they had room.
+    pub fn push(&mut self, more: &[u8]) -> bool
+        ensures { self.new ≡ (if result then self.old ++ more.now else self.old) }
+    {
+        if more.len() > ROOM - self.len {
+            return false;
+        }
+        put(&mut self.bytes, self.len, more);
+        self.len += more.len();
+        true
+    }
+}
+
+// Writes bytes into a buffer from a place on.
+fn put(buffer: &mut [u8], from: usize, bytes: &[u8])
+    requires { from + length bytes.now ≤ length buffer.old }
+    ensures front { take (from + length bytes.now) buffer.new ≡ take from buffer.old ++ bytes.now }
+{
+    // Most pieces of a line are one byte, for which a copy costs more than the byte.
+    if let [byte] = bytes {
+        buffer[from] = *byte;
+        return;
+    }
+    buffer[from..from + bytes.len()].copy_from_slice(bytes);
+}

@@ -1,0 +1,239 @@
+-- The whole of a heap.
+use Rattle.std.proofs.Common.{◌≡◌, ℕ, zero, suc, ◌+◌, ◌-◌, ◌<◌, ◌≤◌, ◌==◌, ◌||◌, Bool, true, false, not, cond, ltb, List, [], ◌∷◌, ◌++◌, length, take, drop, map, Option, None, Some, refl, sym, ◌∙◌, ap, subst, arith, append_assoc, length-append}
+use Rattle.std.specs.Prelude.{nat_eq, slice_get, slice_range}
+use Rattle.std.specs.Option.{option_map}
+use Rattle.std.specs.List.{list_any, flat_map, IsDistinct, AllByRecursion}
+use Rattle.std.proofs.lemmas.Bool.{true≢false, false_from_ne_true, eqb-true, eq-eqb}
+use Rattle.std.proofs.lemmas.List.{length-map, map-append, take-map, drop-map, length-take, take-append-drop}
+use Rattle.std.proofs.Math.Seq.{take-append_seam}
+use Rattle.std.proofs.lemmas.List.Folds.{list_any-append}
+use Rattle.std.proofs.lemmas.List.Sums.{sum_by-cons}
+use Rattle.std.proofs.lemmas.Option.{slice_get-map}
+use Rattle.term_forms.specs.declared.enc.Enc.{Enc}
+use Rattle.term_forms.specs.Elements.{Element, Nil, Small, Atom, Pid, Port, Ref}
+use Rattle.heap_cells.specs.declared.cells.CellRecord.{CellRecord}
+use Rattle.heap_cells.specs.declared.cells.Slot.{Slot}
+use Rattle.heap_cells.specs.declared.cells.Slot.TheVariants as slot
+use Rattle.heap_cells.specs.declared.gathering.Gathering.{Gathering}
+use Rattle.heap_cells.specs.declared.keeping.Indexed.{Indexed}
+use Rattle.heap_cells.specs.declared.texts.Texts.{Texts}
+use Rattle.heap_cells.specs.Cells.{Cell, first_cells, line_cells, cells_of, own_count, addresses, cell_weight, weight_of}
+use Rattle.heap_cells.specs.HeapMap.{number_at}
+use Rattle.heap_cells.specs.Targets.{Target, Plain, At, Missing, target, target_at, slot_target}
+use Rattle.heap_cells.specs.Inner.Gathering.{AreAll}
+use Rattle.heap_cells.specs.Inner.Keeping.{AreOrdered, IsIndexed}
+use Rattle.heap_cells.specs.Inner.Texts.{text_of, seam_of}
+use Rattle.heap_cells.specs.Inner.Order.{record_with}
+use Rattle.heap_cells.specs.Inner.Records.{cell_in, cells_in, elements_by, AreLaid, AreSlots, Spells, AllSpell, start_at, slots_at, IsArena}
+use Rattle.heap_cells.specs.Inner.Resolving.{settled, cell_or_gone}
+use Rattle.heap_cells.proofs.KeepingFacts.{is_seen}
+use Rattle.heap_cells.proofs.RecordFacts.{append-none, has-at, piece-of, number-at, weight-slots}
+
+pub ordered-slots : (text : List ℕ) (seam : ℕ) (enc : Enc) (known : List Cell) (rs : List CellRecord) (slots : List Slot) → AreSlots text seam enc known rs slots
+    → AreOrdered rs (length slots)
+ordered-slots text seam enc known rs slots are = record {
+  ordered = λ i inside. let there = has-at rs i inside in (piece-of text seam enc known rs slots i there.0 are there.1).ordered;
+  within = λ i inside. let there = has-at rs i inside in (piece-of text seam enc known rs slots i there.0 are there.1).within;
+}
+
+-- ---- the first cells
+
+weight-unless : (b : Bool) (cell : Cell) (later : List Cell) (most : ℕ) → weight_of later ≤ most → weight_of (cond b later (cell ∷ later)) ≤ cell_weight cell + most
+weight-unless true cell later most few = omega (arith, few)
+weight-unless false cell later most few = omega (arith, few, sum_by-cons cell_weight cell later)
+
+pub weight-first : (seen : List ℕ) (cells : List Cell) → weight_of (first_cells seen cells) ≤ weight_of cells
+weight-first seen [] = omega arith
+weight-first seen (cell ∷ cells) =
+    let later = first_cells (seen ++ cell.address ∷ []) cells in
+    let few = weight-unless (is_seen seen cell) cell later (weight_of cells) (weight-first (seen ++ cell.address ∷ []) cells) in
+    omega (arith, few, sum_by-cons cell_weight cell cells)
+
+append-unless : (b : Bool) (cell : Cell) (xs ys : List Cell) → cond b (xs ++ ys) (cell ∷ (xs ++ ys)) ≡ cond b xs (cell ∷ xs) ++ ys
+append-unless true cell xs ys = refl
+append-unless false cell xs ys = refl
+
+first_cells-append : (seen : List ℕ) (xs ys : List Cell) → first_cells seen (xs ++ ys) ≡ first_cells seen xs ++ first_cells (seen ++ addresses xs) ys
+first_cells-append seen [] ys = ap (λ l. first_cells l ys) (sym (append-none seen))
+first_cells-append seen (cell ∷ xs) ys =
+    let more = seen ++ cell.address ∷ [] in
+    let later = first_cells-append more xs ys ∙ ap (λ l. first_cells more xs ++ first_cells l ys) (append_assoc seen (cell.address ∷ []) (addresses xs)) in
+    ap (λ l. cond (is_seen seen cell) l (cell ∷ l)) later ∙ append-unless (is_seen seen cell) cell (first_cells more xs) (first_cells (seen ++ addresses (cell ∷ xs)) ys)
+
+pub first-few : (cells : List Cell) (own : ℕ) → length (first_cells [] (take own cells)) ≤ length (first_cells [] cells)
+first-few cells own =
+    let whole = ap (first_cells []) (sym (take-append-drop own cells)) ∙ first_cells-append [] (take own cells) (drop own cells) in
+    omega (arith, ap length whole, length-append (first_cells [] (take own cells)) (first_cells (addresses (take own cells)) (drop own cells)))
+
+-- an address that was seen is none of theirs
+abbrev IsApart : ℕ → List Cell → Type 0
+IsApart address cells = AllByRecursion (λ a. nat_eq address a ≡ false) (addresses cells)
+
+apart-unless : (address : ℕ) (seen : List ℕ) (cell : Cell) (later : List Cell) (b : Bool) → list_any (λ s. s == address) seen ≡ true → is_seen seen cell ≡ b → IsApart address later
+    → IsApart address (cond b later (cell ∷ later))
+apart-unless address seen cell later true is found rest = rest
+apart-unless address seen cell later false is fails rest =
+    (false_from_ne_true _ (λ same. true≢false (sym is ∙ ap (λ a. list_any (λ s. s == a) seen) (eqb-true address cell.address same) ∙ fails)), rest)
+
+apart : (address : ℕ) (seen : List ℕ) (cells : List Cell) → list_any (λ s. s == address) seen ≡ true → IsApart address (first_cells seen cells)
+apart address seen [] is = tt
+apart address seen (cell ∷ cells) is =
+    let more : list_any (λ s. s == address) (seen ++ cell.address ∷ []) ≡ true =
+    list_any-append (λ s. s == address) seen (cell.address ∷ []) ∙ ap (λ b. b || list_any (λ s. s == address) (cell.address ∷ [])) is in
+    apart-unless address seen cell (first_cells (seen ++ cell.address ∷ []) cells) (is_seen seen cell) is refl (apart address (seen ++ cell.address ∷ []) cells more)
+
+distinct-unless : (cell : Cell) (later : List Cell) (b : Bool) → IsApart cell.address later → IsDistinct nat_eq (addresses later)
+    → IsDistinct nat_eq (addresses (cond b later (cell ∷ later)))
+unfolding IsDistinct
+distinct-unless cell later true other rest = rest
+distinct-unless cell later false other rest = (other, rest)
+
+or-true : (b : Bool) → (b || true) ≡ true
+or-true true = refl
+or-true false = refl
+
+seen-last : (seen : List ℕ) (address : ℕ) → list_any (λ s. s == address) (seen ++ address ∷ []) ≡ true
+seen-last seen address =
+    list_any-append (λ s. s == address) seen (address ∷ [])
+    ∙ ap (λ b. list_any (λ s. s == address) seen || (b || false)) (eq-eqb address address refl)
+    ∙ or-true (list_any (λ s. s == address) seen)
+
+pub first-distinct : (seen : List ℕ) (cells : List Cell) → IsDistinct nat_eq (addresses (first_cells seen cells))
+unfolding IsDistinct
+first-distinct seen [] = tt
+first-distinct seen (cell ∷ cells) =
+    let more = seen ++ cell.address ∷ [] in
+    distinct-unless cell (first_cells more cells) (is_seen seen cell) (apart cell.address more cells (seen-last seen cell.address)) (first-distinct more cells)
+
+-- ---- references that are resolved
+
+settled_target : List Cell → Target → Target
+settled_target known Plain = Plain
+settled_target known (At n) = At n
+settled_target known (Missing address) = target_at address (number_at known address)
+
+found-target : (address : ℕ) (found : Option ℕ) → slot_target (cell_or_gone address found) ≡ target_at address found
+found-target address None = refl
+found-target address (Some n) = refl
+
+slot-settled : (rs : List CellRecord) (known : List Cell) (s : Slot) → ((address : ℕ) → record_with rs address ≡ number_at known address)
+    → slot_target (settled rs s) ≡ settled_target known (slot_target s)
+unfolding settled_target
+slot-settled rs known (slot.Imm place) same = refl
+slot-settled rs known (slot.Cell ix) same = refl
+slot-settled rs known (slot.Gone address) same = found-target address (record_with rs address) ∙ ap (target_at address) (same address)
+
+slots-settled : (rs : List CellRecord) (known : List Cell) (slots : List Slot) → ((address : ℕ) → record_with rs address ≡ number_at known address)
+    → map slot_target (map (settled rs) slots) ≡ map (settled_target known) (map slot_target slots)
+slots-settled rs known [] same = refl
+slots-settled rs known (s ∷ slots) same =
+    ap (λ t. t ∷ map slot_target (map (settled rs) slots)) (slot-settled rs known s same)
+    ∙ ap (λ ts. settled_target known (slot_target s) ∷ ts) (slots-settled rs known slots same)
+
+element-settled : (known : List Cell) (e : Element) → settled_target known (target [] e) ≡ target known e
+unfolding settled_target
+element-settled known Nil = refl
+element-settled known (Small integer) = refl
+element-settled known (Atom bytes) = refl
+element-settled known (Pid pid) = refl
+element-settled known (Port port) = refl
+element-settled known (Ref address) = refl
+
+elements-settled : (known : List Cell) (es : List Element) → map (settled_target known) (map (target []) es) ≡ map (target known) es
+elements-settled known [] = refl
+elements-settled known (e ∷ es) =
+    ap (λ t. t ∷ map (settled_target known) (map (target []) es)) (element-settled known e) ∙ ap (λ ts. target known e ∷ ts) (elements-settled known es)
+
+found-spells : (text : List ℕ) (seam upto address : ℕ) (found : Option ℕ) (e : Element) → Spells text seam upto (cell_or_gone address found) e
+found-spells text seam upto address None e = tt
+found-spells text seam upto address (Some n) e = tt
+
+spells-settled : (text : List ℕ) (seam upto : ℕ) (rs : List CellRecord) (s : Slot) (e : Element) → Spells text seam upto s e → Spells text seam upto (settled rs s) e
+spells-settled text seam upto rs (slot.Imm place) e is = is
+spells-settled text seam upto rs (slot.Cell ix) e is = tt
+spells-settled text seam upto rs (slot.Gone address) e is = found-spells text seam upto address (record_with rs address) e
+
+some-mapped : (f : Slot → Slot) (o : Option Slot) (s : Slot) → option_map f o ≡ Some s → (old : Slot) × (o ≡ Some old) × (f old ≡ s)
+some-mapped f None s is = cc
+some-mapped f (Some old) s is = (old, refl, cc)
+
+spell-settled : (text : List ℕ) (seam upto : ℕ) (rs : List CellRecord) (slots : List Slot) (es : List Element) → AllSpell text seam upto slots es
+    → AllSpell text seam upto (map (settled rs) slots) es
+spell-settled text seam upto rs slots es all k s e slot_is element_is =
+    let old = some-mapped (settled rs) (slice_get slots k) s (sym (slice_get-map (settled rs) slots k) ∙ slot_is) in
+    subst (λ (x : Slot). Spells text seam upto x e) old.2 (spells-settled text seam upto rs old.0 e (all k old.0 e old.1 element_is))
+
+slots_at-map : (f : Slot → Slot) (rs : List CellRecord) (slots : List Slot) (i : ℕ) → slots_at rs (map f slots) i ≡ map f (slots_at rs slots i)
+slots_at-map f rs slots i =
+    let from = start_at rs i (length slots) in
+    let upto = start_at rs (i + 1) (length slots) in
+    ap (λ n. slice_range (map f slots) (start_at rs i n) (start_at rs (i + 1) n)) (length-map slots f)
+    ∙ ap (take (upto - from)) (drop-map f from slots)
+    ∙ take-map f (upto - from) (drop from slots)
+
+pub AreSlots-settled : (text : List ℕ) (seam : ℕ) (enc : Enc) (rs : List CellRecord) (slots : List Slot) → AreSlots text seam enc [] rs slots
+    → AreSlots text seam enc (cells_in text enc rs) rs (map (settled rs) slots)
+AreSlots-settled text seam enc rs slots are =
+    let known = cells_in text enc rs in
+    record {
+      laid = subst (AreLaid text seam enc 0 rs) (sym (length-map slots (settled rs))) are.laid;
+      targets = slots-settled rs known slots (λ address. number-at text enc rs known address refl)
+          ∙ ap (map (settled_target known)) are.targets ∙ elements-settled known (flat_map (elements_by text enc) rs);
+      spelled = λ i r is. subst (λ l. AllSpell text seam (r.at + r.len) l (elements_by text enc r)) (sym (slots_at-map (settled rs) rs slots i))
+          (spell-settled text seam (r.at + r.len) rs (slots_at rs slots i) (elements_by text enc r) (are.spelled i r is));
+    }
+
+-- ---- the heap of two bodies
+
+abbrev all_lines : Texts → List Cell
+all_lines texts = line_cells texts.enc texts.heap.items ++ line_cells texts.enc texts.literals.items
+
+-- what is known where the lines and elements are not too many
+pub record IsWhole (texts : Texts) (g : Gathering) (own : ℕ) : Type 0 where
+  pub all : AreAll texts g own
+  pub kept : g.weight ≤ g.dense
+  pub limit : g.dense ≤ 100000000
+
+abbrev pub is-indexed : Texts → Gathering → ℕ → Indexed → Type 0
+is-indexed texts g own found = IsIndexed (text_of texts) (seam_of texts) texts.enc (cells_in (text_of texts) texts.enc g.arena.cells.items) own found
+
+-- the cells are those of the map
+pub cells-indexed : (texts : Texts) (g : Gathering) (own : ℕ) (found : Indexed) → IsWhole texts g own → is-indexed texts g own found
+    → cells_in (text_of texts) texts.enc found.arena.cells.items ≡ cells_of texts.enc texts.heap.items texts.literals.items
+cells-indexed texts g own found whole is = is.kept.cells_are ∙ ap (first_cells []) (whole.all.cells_are whole.kept)
+
+pub own-indexed : (texts : Texts) (g : Gathering) (own : ℕ) (found : Indexed) → IsWhole texts g own → is-indexed texts g own found
+    → found.own ≡ own_count texts.enc texts.heap.items
+own-indexed texts g own found whole is =
+    is.own_is
+    ∙ ap (λ l. length (first_cells [] (take own l))) (whole.all.cells_are whole.kept)
+    ∙ ap (λ n. length (first_cells [] (take n (all_lines texts)))) (whole.all.own_is whole.kept)
+    ∙ ap (λ l. length (first_cells [] l)) (take-append_seam (line_cells texts.enc texts.heap.items) (line_cells texts.enc texts.literals.items))
+
+pub few-indexed : (texts : Texts) (g : Gathering) (own : ℕ) (found : Indexed) → IsWhole texts g own → is-indexed texts g own found
+    → length found.arena.cells.items + length found.arena.slots.items ≤ 100000000
+few-indexed texts g own found whole is =
+    let weighs = weight-slots (text_of texts) (seam_of texts) texts.enc [] found.arena.cells.items found.arena.slots.items is.kept.slots_are in
+    let cells = ap weight_of (cells-indexed texts g own found whole is) in
+    let first = weight-first [] (all_lines texts) in
+    let total = whole.all.weight_is in
+    omega (arith, weighs, cells, first, total, whole.kept, whole.limit)
+
+pub arena-indexed : (texts : Texts) (g : Gathering) (own : ℕ) (found : Indexed) (slots : List Slot) → length texts.heap.items ≤ 536870912 → length texts.literals.items ≤ 536870912
+    → IsWhole texts g own → is-indexed texts g own found → slots ≡ map (settled found.arena.cells.items) found.arena.slots.items
+    → IsArena (text_of texts) (seam_of texts) texts.enc found.arena.cells.items slots found.order.items found.own
+arena-indexed texts g own found slots heap literals whole is settled_is =
+    let text = text_of texts in
+    let cells = cells-indexed texts g own found whole is in
+    let few = few-indexed texts g own found whole is in
+    record {
+      heap_size = heap;
+      size = omega (arith, literals, length-append texts.heap.items texts.literals.items);
+      own_is = let most = first-few (cells_in text texts.enc g.arena.cells.items) own in
+          omega (arith, is.own_is, most, ap length is.kept.cells_are, length-map found.arena.cells.items (cell_in text texts.enc));
+      few = omega (arith, few, ap length settled_is, length-map found.arena.slots.items (settled found.arena.cells.items));
+      distinct = subst (λ l. IsDistinct nat_eq (addresses l)) (sym cells) (first-distinct [] (all_lines texts));
+      slots_are = subst (AreSlots text (seam_of texts) texts.enc (cells_in text texts.enc found.arena.cells.items) found.arena.cells.items) (sym settled_is)
+          (AreSlots-settled text (seam_of texts) texts.enc found.arena.cells.items found.arena.slots.items is.kept.slots_are);
+      order_is = is.order_is;
+    }

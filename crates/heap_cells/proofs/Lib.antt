@@ -1,0 +1,10 @@
+pub mod FirstFacts
+pub mod FirstPlace
+pub mod GatheringFacts
+pub mod HeapFacts
+pub mod KeepingFacts
+pub mod OrderFacts
+pub mod PushingFacts
+pub mod RecordFacts
+pub mod ResolvingFacts
+pub mod TargetFacts

@@ -1,0 +1,7 @@
+pub mod Gathering
+pub mod Keeping
+pub mod Order
+pub mod Parts
+pub mod Records
+pub mod Resolving
+pub mod Texts

@@ -1,0 +1,79 @@
+-- The heap lines of the bodies are gathered one by one.
+use Rattle.std.specs.Prelude.{◌≡◌, ℕ, ◌+◌, ◌-◌, ◌<◌, ◌≤◌, List, [], ◌++◌, map, length, slice_range, Option, None, Some, All}
+use Rattle.std.specs.Option.{option_map}
+use Rattle.field_lines.specs.Lines.{TextLine}
+use Rattle.term_forms.specs.declared.enc.Enc.{Enc}
+use Rattle.term_forms.specs.Elements.{Element, Nil, Small, Atom, Pid, Port, Ref}
+use Rattle.term_forms.specs.Forms.{HeapForm}
+use Rattle.term_forms.specs.Places.{Placed}
+use Rattle.term_forms.specs.SeenForms.{heap_form}
+use Rattle.term_forms.specs.declared.shapes.Form.{Form}
+use Rattle.heap_cells.specs.declared.cells.CellRecord.{CellRecord}
+use Rattle.heap_cells.specs.declared.cells.Slot.{Slot}
+use Rattle.heap_cells.specs.declared.cells.Slot.TheVariants as slot
+use Rattle.heap_cells.specs.declared.gathering.Gathering.{Gathering}
+use Rattle.heap_cells.specs.Cells.{Cell, kind_of, weight_of, weight, line_cells}
+use Rattle.heap_cells.specs.Inner.Parts.{IsPart}
+use Rattle.heap_cells.specs.declared.texts.Texts.{Texts}
+use Rattle.heap_cells.specs.Inner.Texts.{text_of, seam_of}
+use Rattle.heap_cells.specs.Inner.Records.{cells_in, AreSlots}
+
+-- the slot of an element before references are resolved, where the text of its form begins at a place
+abbrev pub slot_with : ℕ → Element → Slot
+slot_with place Nil = slot.Imm place
+slot_with place (Small integer) = slot.Imm place
+slot_with place (Atom bytes) = slot.Imm place
+slot_with place (Pid pid) = slot.Imm place
+slot_with place (Port port) = slot.Imm place
+slot_with place (Ref address) = slot.Gone address
+
+abbrev pub slot_for : ℕ → Placed → Slot
+slot_for from placed = slot_with (from + placed.at) placed.element
+
+-- what a form's text spells: its form, and its elements with their places
+abbrev pub form_found : Option (Form × List Placed) → Option HeapForm
+form_found found = option_map (λ f. heap_form f.0) found
+
+abbrev pub slots_found : ℕ → Option (Form × List Placed) → List Slot
+slots_found from None = []
+slots_found from (Some found) = map (slot_for from) found.1
+
+-- each place is one of 32 bits
+abbrev pub AreSmall : ℕ → Option (Form × List Placed) → Type 0
+AreSmall from None = Unit {0}
+AreSmall from (Some found) = All (λ p. from + p.at < 4294967296) found.1
+
+-- a record of these parts, whose first slot stands behind so many
+abbrev pub new_record : ℕ → ℕ → ℕ → ℕ → Option HeapForm → CellRecord
+new_record address from upto first form =
+    record { address = address; at = from; len = upto - from; first = first; kind = option_map kind_of form }
+
+-- the text of a line stands so many bytes behind this place
+pub record IsLineAt (text : List ℕ) (seam base : ℕ) (line : TextLine) : Type 0 where
+  pub part : IsPart seam (length text) (base + line.at) (base + line.at + length line.text)
+  pub stands : slice_range text (base + line.at) (base + line.at + length line.text) ≡ line.text
+
+-- a body stands at this place
+pub record IsBodyAt (text : List ℕ) (seam base : ℕ) (body : List ℕ) : Type 0 where
+  pub part : IsPart seam (length text) base (base + length body)
+  pub stands : slice_range text base (base + length body) ≡ body
+
+-- what is kept are records and their slots, with no reference resolved
+pub record IsGathered (text : List ℕ) (seam : ℕ) (enc : Enc) (g : Gathering) : Type 0 where
+  pub slots_are : AreSlots text seam enc [] g.arena.cells.items g.arena.slots.items
+  pub few : length g.arena.cells.items + length g.arena.slots.items ≤ g.weight
+
+-- the lines that were gathered, and these cells of the lines that are left, are all cells
+pub record Leads (text : List ℕ) (enc : Enc) (g : Gathering) (rest all : List Cell) : Type 0 where
+  pub weight : g.weight + weight_of rest ≡ weight_of all
+  -- where there are no more lines and elements than the limit, the records of all are kept
+  pub kept : g.weight ≤ g.dense → cells_in text enc g.arena.cells.items ++ rest ≡ all
+
+-- what is gathered of both bodies, and how many of the cells are those of the first
+pub record AreAll (texts : Texts) (g : Gathering) (own : ℕ) : Type 0 where
+  pub gathered : IsGathered (text_of texts) (seam_of texts) texts.enc g
+  pub weight_is : g.weight ≡ weight texts.enc texts.heap.items texts.literals.items
+  -- where there are no more lines and elements than the limit, all are kept
+  pub cells_are : g.weight ≤ g.dense
+      → cells_in (text_of texts) texts.enc g.arena.cells.items ≡ line_cells texts.enc texts.heap.items ++ line_cells texts.enc texts.literals.items
+  pub own_is : g.weight ≤ g.dense → own ≡ length (line_cells texts.enc texts.heap.items)

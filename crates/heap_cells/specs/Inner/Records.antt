@@ -1,0 +1,92 @@
+-- What the records and the slots of a heap stand for. The text is that of both bodies, one behind the other.
+use Rattle.std.specs.Prelude.{◌≡◌, ℕ, ◌+◌, ◌≤◌, List, [], ◌∷◌, map, length, slice_get, slice_range, Option, None, Some, IsSome, nat_eq}
+use Rattle.std.specs.Option.{option_map}
+use Rattle.std.specs.List.{flat_map, IsDistinct}
+use Rattle.term_forms.specs.declared.enc.Enc.{Enc}
+use Rattle.term_forms.specs.Elements.{Element}
+use Rattle.term_forms.specs.Reading.{front}
+use Rattle.term_forms.specs.ReadingForms.{form_of}
+use Rattle.heap_cells.specs.declared.cells.CellRecord.{CellRecord}
+use Rattle.heap_cells.specs.declared.cells.Slot.{Slot}
+use Rattle.heap_cells.specs.declared.cells.Slot.TheVariants as slot
+use Rattle.heap_cells.specs.Cells.{Cell, elements_in, kind_of, addresses}
+use Rattle.heap_cells.specs.Targets.{target, slot_target}
+use Rattle.heap_cells.specs.Inner.Order.{IsOrder}
+use Rattle.heap_cells.specs.Inner.Parts.{IsPart}
+
+abbrev pub cell_in : List ℕ → Enc → CellRecord → Cell
+cell_in text enc r = record { address = r.address; form = form_of enc (slice_range text r.at (r.at + r.len)) }
+
+abbrev pub cells_in : List ℕ → Enc → List CellRecord → List Cell
+cells_in text enc records = map (cell_in text enc) records
+
+abbrev pub elements_by : List ℕ → Enc → CellRecord → List Element
+elements_by text enc r = elements_in (cell_in text enc r).form
+
+-- a record whose slots begin at this number
+pub record IsRecord (text : List ℕ) (seam : ℕ) (enc : Enc) (begin : ℕ) (r : CellRecord) : Type 0 where
+  pub first : r.first ≡ begin
+  pub part : IsPart seam (length text) r.at (r.at + r.len)
+  pub kind : r.kind ≡ option_map kind_of (cell_in text enc r).form
+
+-- the slots of each record begin where those of the one before end
+abbrev pub AreLaid : List ℕ → ℕ → Enc → ℕ → List CellRecord → ℕ → Type 0
+AreLaid text seam enc begin [] upto = begin ≡ upto
+AreLaid text seam enc begin (r ∷ rs) upto =
+    IsRecord text seam enc begin r × AreLaid text seam enc (begin + length (elements_by text enc r)) rs upto
+
+-- where the slots of a record begin, or where all end
+abbrev pub first_or : ℕ → Option CellRecord → ℕ
+first_or total None = total
+first_or total (Some r) = r.first
+
+abbrev pub start_at : List CellRecord → ℕ → ℕ → ℕ
+start_at records i total = first_or total (slice_get records i)
+
+-- the slots of a record
+abbrev pub slots_at : List CellRecord → List Slot → ℕ → List Slot
+slots_at records slots i = slice_range slots (start_at records i (length slots)) (start_at records (i + 1) (length slots))
+
+-- the element that begins a part of the text
+abbrev pub element_at : List ℕ → ℕ → ℕ → Option Element
+element_at text from upto = option_map (λ found. found.0) (front (slice_range text from upto))
+
+-- the element that a slot spells, where the text of its form ends at this place
+abbrev pub spelled_by : List ℕ → ℕ → Slot → Option Element
+spelled_by text upto (slot.Imm place) = element_at text place upto
+spelled_by text upto (slot.Cell ix) = None
+spelled_by text upto (slot.Gone address) = None
+
+-- where a slot spells an element, that can be read
+abbrev pub IsReadable : List ℕ → ℕ → ℕ → Slot → Type 0
+IsReadable text seam upto (slot.Imm place) = IsPart seam (length text) place upto × IsSome (element_at text place upto)
+IsReadable text seam upto (slot.Cell ix) = Unit {0}
+IsReadable text seam upto (slot.Gone address) = Unit {0}
+
+-- where a slot spells an element, that is this one
+abbrev pub Spells : List ℕ → ℕ → ℕ → Slot → Element → Type 0
+Spells text seam upto (slot.Imm place) e = IsPart seam (length text) place upto × (element_at text place upto ≡ Some e)
+Spells text seam upto (slot.Cell ix) e = Unit {0}
+Spells text seam upto (slot.Gone address) e = Unit {0}
+
+-- each of the slots spells the element at its place
+abbrev pub AllSpell : List ℕ → ℕ → ℕ → List Slot → List Element → Type 0
+AllSpell text seam upto slots es =
+    (k : ℕ) (s : Slot) (e : Element) → slice_get slots k ≡ Some s → slice_get es k ≡ Some e → Spells text seam upto s e
+
+-- the slots are those of the elements, where references lead to these cells
+pub record AreSlots (text : List ℕ) (seam : ℕ) (enc : Enc) (known : List Cell) (records : List CellRecord) (slots : List Slot) : Type 0 where
+  pub laid : AreLaid text seam enc 0 records (length slots)
+  pub targets : map slot_target slots ≡ map (target known) (flat_map (elements_by text enc) records)
+  pub spelled : (i : ℕ) (r : CellRecord) → slice_get records i ≡ Some r
+      → AllSpell text seam (r.at + r.len) (slots_at records slots i) (elements_by text enc r)
+
+-- the whole of a heap
+pub record IsArena (text : List ℕ) (seam : ℕ) (enc : Enc) (records : List CellRecord) (slots : List Slot) (order : List ℕ) (own : ℕ) : Type 0 where
+  pub heap_size : seam ≤ 536870912
+  pub size : length text ≤ seam + 536870912
+  pub own_is : own ≤ length records
+  pub few : length records + length slots ≤ 100000000
+  pub distinct : IsDistinct nat_eq (addresses (cells_in text enc records))
+  pub slots_are : AreSlots text seam enc (cells_in text enc records) records slots
+  pub order_is : IsOrder records order

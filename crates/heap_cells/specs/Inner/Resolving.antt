@@ -1,0 +1,27 @@
+-- References that become the cells they lead to.
+use Rattle.std.specs.Prelude.{◌≡◌, ℕ, ◌<◌, List, [], ◌∷◌, length, slice_get, Option, None, Some, All, Contains}
+use Rattle.heap_cells.specs.declared.cells.CellRecord.{CellRecord}
+use Rattle.heap_cells.specs.declared.cells.Slot.{Slot}
+use Rattle.heap_cells.specs.declared.cells.Slot.TheVariants as slot
+use Rattle.heap_cells.specs.Inner.Order.{record_with}
+
+abbrev pub cell_or_gone : ℕ → Option ℕ → Slot
+cell_or_gone address None = slot.Gone address
+cell_or_gone address (Some number) = slot.Cell (record { 0 = number })
+
+-- a slot whose reference leads to the first record with its address, where one has it
+abbrev pub settled : List CellRecord → Slot → Slot
+settled records (slot.Imm place) = slot.Imm place
+settled records (slot.Cell ix) = slot.Cell ix
+settled records (slot.Gone address) = cell_or_gone address (record_with records address)
+
+-- the address of a slot that is a reference, with the slot's place
+abbrev pub reference_of : Slot → ℕ → List (ℕ × ℕ)
+reference_of (slot.Imm at) place = []
+reference_of (slot.Cell ix) place = []
+reference_of (slot.Gone address) place = (address, place) ∷ []
+
+-- the addresses of the references among the slots, with their places
+pub record AreReferences (slots : List Slot) (references : List (ℕ × ℕ)) : Type 0 where
+  pub within : All (λ (r : ℕ × ℕ). r.1 < length slots) references
+  pub complete : (i address : ℕ) → slice_get slots i ≡ Some (slot.Gone address) → Contains references (address, i)

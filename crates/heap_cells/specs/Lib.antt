@@ -1,0 +1,5 @@
+pub mod Cells
+pub mod HeapMap
+pub mod Inner
+pub mod Loading
+pub mod Targets

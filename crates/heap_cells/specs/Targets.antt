@@ -1,0 +1,69 @@
+-- Where addresses and elements lead among the cells of a heap.
+use Rattle.std.specs.Prelude.{◌≡◌, ℕ, ◌<◌, List, map, Option, None, Some, IsSome}
+use Rattle.term_forms.specs.Elements.{Element, Nil, Small, Atom, Pid, Port, Ref}
+use Rattle.term_forms.specs.Seen.{element}
+use Rattle.heap_cells.specs.declared.cells.CellIx.{CellIx}
+use Rattle.heap_cells.specs.declared.cells.Seat.{Seat}
+use Rattle.heap_cells.specs.declared.cells.Seat.TheVariants as seat
+use Rattle.heap_cells.specs.declared.cells.Slot.{Slot}
+use Rattle.heap_cells.specs.declared.cells.Slot.TheVariants as slot
+use Rattle.heap_cells.specs.declared.cells.Kid.{Kid}
+use Rattle.heap_cells.specs.declared.cells.Kid.TheVariants as kid
+use Rattle.heap_cells.specs.Cells.{Cell}
+use Rattle.heap_cells.specs.HeapMap.{number_at, form_at}
+
+-- the number of a cell
+abbrev pub number : CellIx → ℕ
+number ix = ix.0
+
+-- what an element leads to: nothing, since it is no reference; the cell with a number; or an address that no cell has
+pub data Target : Type 0 where
+  Plain : Target
+  At : ℕ → Target
+  Missing : ℕ → Target
+
+abbrev pub target_at : ℕ → Option ℕ → Target
+target_at address None = Missing address
+target_at address (Some number) = At number
+
+abbrev pub target : List Cell → Element → Target
+target cells Nil = Plain
+target cells (Small integer) = Plain
+target cells (Atom bytes) = Plain
+target cells (Pid pid) = Plain
+target cells (Port port) = Plain
+target cells (Ref address) = target_at address (number_at cells address)
+
+-- what a slot says; the place in an `Imm` is left aside
+abbrev pub slot_target : Slot → Target
+slot_target (slot.Imm place) = Plain
+slot_target (slot.Cell ix) = At (number ix)
+slot_target (slot.Gone address) = Missing address
+
+abbrev pub kid_target : Kid → Target
+kid_target (kid.Imm e) = Plain
+kid_target (kid.Cell ix) = At (number ix)
+kid_target (kid.Gone address) = Missing address
+
+-- an element that is no reference is kept as it is
+abbrev pub KeepsElement : Kid → Element → Type 0
+KeepsElement (kid.Imm found) e = element found ≡ e
+KeepsElement (kid.Cell ix) e = Unit {0}
+KeepsElement (kid.Gone address) e = Unit {0}
+
+-- an address leads to no cell, to a malformed one, or to one with a form
+abbrev pub IsSeatOf : List Cell → ℕ → Seat → Type 0
+IsSeatOf cells address seat.Missing = number_at cells address ≡ None
+IsSeatOf cells address (seat.Malformed ix) = (number_at cells address ≡ Some (number ix)) × (form_at cells (number ix) ≡ None)
+IsSeatOf cells address (seat.Cell ix) = (number_at cells address ≡ Some (number ix)) × IsSome (form_at cells (number ix))
+
+-- a cell that is named is one of so many
+abbrev pub IsSeatWithin : ℕ → Seat → Type 0
+IsSeatWithin count seat.Missing = Unit {0}
+IsSeatWithin count (seat.Malformed ix) = number ix < count
+IsSeatWithin count (seat.Cell ix) = number ix < count
+
+abbrev pub IsWithin : ℕ → Target → Type 0
+IsWithin count Plain = Unit {0}
+IsWithin count (At number) = number < count
+IsWithin count (Missing address) = Unit {0}

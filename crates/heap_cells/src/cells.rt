@@ -1,0 +1,97 @@
+// The numbers of cells, and what an address or an element leads to.
+ghost use Rattle.std.specs.Prelude.{◌≡◌};
+ghost use Rattle.heap_cells.specs.Targets.{number};
+
+use term_forms::shapes::Elem;
+
+/// A cell of a heap, by its number.
+#[derive(Clone, Copy, Debug, PartialEq, Eq)]
+pub struct CellIx(u32);
+
+impl CellIx {
+    pub(crate) fn new(n: u32) -> CellIx
+        ensures { result ≡ record { 0 = n } }
+    {
+        CellIx(n)
+    }
+
+    /// The number of the cell, from 0, in the order of the heap's lines.
+    pub fn number(self) -> u32
+        ensures { result ≡ number self }
+    {
+        self.0
+    }
+}
+
+/// Why a reference has no term.
+#[derive(Clone, Copy, Debug, PartialEq, Eq)]
+pub enum Why {
+    /// No cell has the address.
+    Missing,
+    /// The text of the cell is no form, or no form that may stand there.
+    Malformed,
+    /// The cell is one of those that lead to the reference.
+    OnPath,
+}
+
+/// What an address leads to.
+#[derive(Clone, Copy, Debug, PartialEq, Eq)]
+pub enum Seat {
+    /// No cell has the address.
+    Missing,
+    /// The cell that has the address, whose text is no form.
+    Malformed(CellIx),
+    /// The cell that has the address.
+    Cell(CellIx),
+}
+
+/// The kind of a cell's form.
+#[derive(Clone, Copy, Debug, PartialEq, Eq)]
+pub enum Kind {
+    List,
+    Tuple,
+    Float,
+    Long,
+    Pid,
+    Port,
+    Ext,
+    HeapBin,
+    RefBin,
+    SubBin,
+    Flat,
+    Hash,
+    Node,
+}
+
+/// An element of a cell's form, with its reference resolved.
+#[derive(Clone, Copy, Debug, PartialEq, Eq)]
+pub enum Kid<'a> {
+    /// The element, which is no reference.
+    Imm(Elem<'a>),
+    /// The element refers to this cell, which may be malformed.
+    Cell(CellIx),
+    /// The element refers to this address, which no cell has.
+    Gone(u64),
+}
+
+/// An element of a cell's form as it is kept, with its reference resolved.
+#[derive(Clone, Copy, Debug, PartialEq, Eq)]
+pub enum Slot {
+    /// The element is no reference. The number is the place of its spelling, and no clause speaks of it.
+    Imm(u32),
+    /// The element refers to this cell, which may be malformed.
+    Cell(CellIx),
+    /// The element refers to this address, which no cell has.
+    Gone(u64),
+}
+
+// A cell: its address, where the text of its form stands, and the number of its first slot. Its slots end where those of
+// the next cell begin. Where the text is no form there is no kind.
+#[derive(Clone, Copy, Debug)]
+pub(crate) struct CellRecord {
+    pub address: u64,
+    pub at: u32,
+    pub len: u32,
+    pub first: u32,
+    pub kind: Option<Kind>,
+}

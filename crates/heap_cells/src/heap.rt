@@ -1,0 +1,238 @@
+// The heap of a process by address.
+ghost use Rattle.std.specs.Prelude.{◌≡◌, ◌+◌, ◌<◌, ◌≤◌, ℕ, List, map, length, slice_get, None, Some, IfSome, IsSome, IfOk, OnOk, IfErr, IsErrOf, All};
+ghost use Rattle.std.specs.Option.{option_map};
+ghost use Rattle.term_forms.specs.SeenForms.{heap_form};
+ghost use Rattle.heap_cells.specs.Cells.{kind_of};
+ghost use Rattle.heap_cells.specs.HeapMap.{IsBounded, address_at, form_at, elements_at, IsSpelled};
+ghost use Rattle.dump_io.specs.Dumps.{ReadsAtMost, used, told};
+ghost use Rattle.section_index.specs.Index.{IsBuiltOver};
+ghost use Rattle.heap_cells.specs.declared.faults.HeapFault.{HeapFault};
+ghost use Rattle.heap_cells.specs.Loading.{enc_of, heap_section, literals_section, body_size, body_in, section_fault, IsAnswerFor, IsCauseOf, IsOfTheTexts};
+ghost use Rattle.heap_cells.specs.Targets.{number, target, slot_target, kid_target, KeepsElement, IsSeatOf, IsSeatWithin, IsWithin};
+
+use crate::arena::{Arena, kid_of, slots_of};
+use crate::cells::{CellIx, Kid, Kind, Seat, Slot};
+use crate::faults::HeapFault;
+use crate::gathering::gather_all;
+use crate::keeping::{Indexed, index_cells};
+use crate::loading::{judge_size, read_texts};
+use crate::order::number_of;
+use crate::resolving::resolve;
+use crate::texts::{Texts, part};
+use dump_io::{Dumps, Limits};
+use section_index::Index;
+use std::alloc::Global;
+use std::marker::Model;
+use term_forms::Enc;
+use term_forms::reading::form;
+use term_forms::shapes::Form;
+
+/// The cells of a process's heap, and those of the literals behind them. Contracts see the list of the cells by number.
+#[derive(Drop)]
+pub struct Heap {
+    texts: Texts,
+    arena: Arena,
+    order: Vec<u32>,
+    own: u32,
+}
+
+impl Model for Heap {
+    ghost use Rattle.std.specs.Prelude.{length};
+    ghost use Rattle.heap_cells.specs.HeapMap.{HeapMap};
+    ghost use Rattle.heap_cells.specs.Inner.Texts.{text_of, seam_of};
+    ghost use Rattle.heap_cells.specs.Inner.Records.{cells_in, IsArena};
+
+    ghost Value = { HeapMap };
+
+    ghost view = { λ h. record {
+      cells = cells_in (text_of h.texts) h.texts.enc h.arena.cells.items;
+      own = h.own;
+      enc = h.texts.enc;
+      heap_size = length h.texts.heap.items;
+      literals_size = length h.texts.literals.items;
+    } };
+
+    ghost invariant = { λ h. IsArena (text_of h.texts) (seam_of h.texts) h.texts.enc h.arena.cells.items h.arena.slots.items h.order.items h.own };
+}
+
+impl Heap {
+    /// Reads the heap of a process and the literals: the first `proc_heap` section with the pid as its id, and the first
+    /// `literals` section. A section that isn't there is empty. The index is one that was built over the file that is
+    /// open, and the file stays open.
+    ///
+    /// A heap line is a line with a `:` and a hex number of 1 to 16 digits before the first one: the address of a cell,
+    /// whose form is spelled by what follows the `:`. A cell is malformed where that spells no form. Other lines are passed
+    /// over, and so are heap lines whose address an earlier one has; the lines of the heap stand before the literals.
+    ///
+    /// The refusals come in this order: `SectionTooLarge` exactly where a body has more bytes than the limit on sections,
+    /// the heap's before that of the literals, and nothing is read then; `Read`, only where the device's count of faults
+    /// rose; and `TooDense` exactly where all heap lines and the elements of their forms, those passed over included, are
+    /// more than the limit. `Memory` may come at any growth. Whatever the answer, at most as many bytes are read as the two
+    /// bodies have.
+    pub fn load<D: Dumps>(
+        alloc: Global,
+        dumps: &mut D,
+        index: &Index,
+        pid: &[u8],
+        limits: &Limits,
+    ) -> Result<Heap, HeapFault>
+        requires over { IsBuiltOver (D.now dumps.old) index.now }
+        ensures reads { ReadsAtMost (used D.files D.now D.faults D.taken dumps.old dumps.new)
+            (body_size (heap_section index.now pid.now) + body_size (literals_section index.now)) }
+
+        // Where the bytes are told, the heap is that of the two bodies, or they are too dense.
+        ensures answer { (dump : List ℕ) → D.now dumps.old ≡ told dump
+            → IsAnswerFor (enc_of index.now.version) (body_in dump (heap_section index.now pid.now)) (body_in dump (literals_section index.now)) limits.now.dense result }
+        ensures enc { IfOk result (λ heap. heap.enc ≡ enc_of index.now.version) }
+        ensures fault { IfErr result (IsCauseOf (section_fault limits.now.section index.now pid.now) limits.now.dense (used D.files D.now D.faults D.taken dumps.old dumps.new)) }
+
+        // A body that is too large is always refused as such, and the device plays no part.
+        ensures loaded { OnOk result (section_fault limits.now.section index.now pid.now ≡ None) }
+        ensures too_large { (fault : HeapFault) → section_fault limits.now.section index.now pid.now ≡ Some fault → IsErrOf result fault }
+        ensures unread { IsSome (section_fault limits.now.section index.now pid.now) → dumps.new ≡ dumps.old }
+    {
+        let heap = index.first(b"proc_heap", Some(pid));
+        let literals = index.first_tag(b"literals");
+        judge_size(index, heap, limits)?;
+        judge_size(index, literals, limits)?;
+        let texts = read_texts(alloc, dumps, index, heap, literals, limits)?;
+        Heap::new(alloc, texts, limits.dense())
+    }
+
+    // The heap with these bodies.
+    pub(crate) fn new(alloc: Global, texts: Texts, dense: u32) -> Result<Heap, HeapFault>
+        requires heap { length texts.heap.items ≤ 536870912 }
+        requires literals { length texts.literals.items ≤ 536870912 }
+        requires limit { dense ≤ 100000000 }
+        ensures answer { IsAnswerFor texts.enc texts.heap.items texts.literals.items dense result }
+        ensures enc { IfOk result (λ heap. heap.enc ≡ texts.enc) }
+        ensures fault { IfErr result IsOfTheTexts }
+    {
+        let (gathering, own) = gather_all(alloc, &texts, dense)?;
+        if gathering.weight > u64::from(dense) {
+            return Err(HeapFault::TooDense {
+                count: gathering.weight,
+            });
+        }
+        let Indexed {
+            mut arena,
+            order,
+            own,
+        } = index_cells(alloc, gathering.arena, own)?;
+        resolve(alloc, &mut arena.slots, &order, &arena.cells)?;
+        Ok(Heap {
+            texts,
+            arena,
+            order,
+            own,
+        })
+    }
+
+    /// The number of cells.
+    pub fn cells(&self) -> u32
+        ensures value { result ≡ length self.now.cells }
+        ensures bounded { IsBounded self.now }
+    {
+        self.arena.cells.len() as u32
+    }
+
+    /// How many of the cells come from the process's own heap. They are the first ones.
+    pub fn own(&self) -> u32
+        ensures value { result ≡ self.now.own }
+        ensures within { result ≤ length self.now.cells }
+    {
+        self.own
+    }
+
+    /// How the payloads of the heap are written.
+    pub fn enc(&self) -> Enc
+        ensures { result ≡ self.now.enc }
+    {
+        self.texts.enc
+    }
+
+    /// The cell with a number.
+    pub fn cell(&self, n: u32) -> CellIx
+        requires { n < length self.now.cells }
+        ensures { number result ≡ n }
+    {
+        CellIx::new(n)
+    }
+
+    /// The address of a cell.
+    pub fn addr(&self, ix: CellIx) -> u64
+        requires { number ix < length self.now.cells }
+        ensures { Some result ≡ address_at self.now.cells (number ix) }
+    {
+        self.arena.cells[ix.number() as usize].address
+    }
+
+    /// The kind of a cell's form. `None` comes exactly where the cell is malformed.
+    pub fn kind(&self, ix: CellIx) -> Option<Kind>
+        requires { number ix < length self.now.cells }
+        ensures { result ≡ option_map kind_of (form_at self.now.cells (number ix)) }
+    {
+        self.arena.cells[ix.number() as usize].kind
+    }
+
+    /// The number of the elements of a cell's form; a malformed cell has none. The keys element of a flat map is its
+    /// element 0, and the values follow.
+    pub fn kids(&self, ix: CellIx) -> u32
+        requires { number ix < length self.now.cells }
+        ensures { result ≡ length (elements_at self.now.cells (number ix)) }
+    {
+        self.slots(ix).len() as u32
+    }
+
+    /// An element of a cell's form, by its place from 0.
+    pub fn kid(&self, ix: CellIx, n: u32) -> Kid<'_>
+        requires cell { number ix < length self.now.cells }
+        requires place { n < length (elements_at self.now.cells (number ix)) }
+        ensures target { option_map (target self.now.cells) (slice_get (elements_at self.now.cells (number ix)) n) ≡ Some (kid_target result) }
+        ensures element { IfSome (slice_get (elements_at self.now.cells (number ix)) n) (KeepsElement result) }
+        ensures within { IsWithin (length self.now.cells) (kid_target result) }
+    {
+        let i = ix.number() as usize;
+        let cell = &self.arena.cells[i];
+        let slot = slots_of(&self.arena, i)[n as usize];
+        kid_of(&self.texts, slot, (cell.at + cell.len) as usize)
+    }
+
+    /// The form of a cell. `None` comes exactly where the cell is malformed.
+    pub fn form(&self, ix: CellIx) -> Option<Form<'_>>
+        requires { number ix < length self.now.cells }
+        ensures form { option_map heap_form result ≡ form_at self.now.cells (number ix) }
+        ensures spelled { IfSome result (λ form. IsSpelled self.now.enc (heap_form form)) }
+    {
+        let cell = &self.arena.cells[ix.number() as usize];
+        form(
+            part(&self.texts, cell.at as usize, (cell.at + cell.len) as usize),
+            self.texts.enc,
+        )
+    }
+
+    /// The elements of a cell's form as they are kept, as many as `kids` says and numbered as in `kid`.
+    pub fn slots(&self, ix: CellIx) -> &[Slot]
+        requires { number ix < length self.now.cells }
+        ensures targets { map slot_target result.now ≡ map (target self.now.cells) (elements_at self.now.cells (number ix)) }
+        ensures within { All (λ slot. IsWithin (length self.now.cells) (slot_target slot)) result.now }
+        ensures few { length result.now ≤ 100000000 }
+    {
+        slots_of(&self.arena, ix.number() as usize)
+    }
+
+    /// What an address leads to.
+    pub fn at(&self, addr: u64) -> Seat
+        ensures seat { IsSeatOf self.now.cells addr result }
+        ensures within { IsSeatWithin (length self.now.cells) result }
+    {
+        let Some(n) = number_of(&self.order, &self.arena.cells, addr) else {
+            return Seat::Missing;
+        };
+        let ix = CellIx::new(n);
+        match self.arena.cells[n as usize].kind {
+            None => Seat::Malformed(ix),
+            Some(_) => Seat::Cell(ix),
+        }
+    }
+}

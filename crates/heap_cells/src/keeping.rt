@@ -1,0 +1,122 @@
+// Of the cells with one address the first is kept.
+ghost use Rattle.std.specs.Prelude.{◌≡◌, ◌+◌, ◌<◌, ◌≤◌, ◌∷◌, ◌++◌, [], ℕ, List, length, take, slice_get, Some, OnOk, IfOk};
+ghost use Rattle.std.specs.List.{list_all};
+ghost use Rattle.term_forms.specs.declared.enc.Enc.{Enc};
+ghost use Rattle.heap_cells.specs.Cells.{first_cells};
+ghost use Rattle.heap_cells.specs.Inner.Keeping.{moved_record, AreOrdered, IsKept, IsIndexed};
+ghost use Rattle.heap_cells.specs.Inner.Order.{AreFirsts};
+ghost use Rattle.heap_cells.specs.Inner.Records.{AreSlots, cells_in, slots_at, start_at};
+
+use crate::arena::{Arena, slots_of};
+use crate::cells::CellRecord;
+use crate::order::{firsts_of, order_of};
+use std::alloc::{AllocError, Global};
+
+// Cells with their numbers by address, and how many of them come from the process's own heap.
+#[derive(Drop)]
+pub(crate) struct Indexed {
+    pub arena: Arena,
+    pub order: Vec<u32>,
+    pub own: u32,
+}
+
+fn are_all(tests: &[bool]) -> bool
+    ensures { result ≡ list_all (λ test. test) tests.now }
+{
+    tests.iter().all(|test| *test)
+}
+
+// One more cell, which is the one with this number in another arena.
+fn keep_cell(all: &Arena, i: usize, kept: &mut Arena) -> Result<(), AllocError>
+    requires place { i < length all.now.cells.items }
+    requires ordered { start_at all.now.cells.items i (length all.now.slots.items) ≤ start_at all.now.cells.items (i + 1) (length all.now.slots.items) }
+    requires within { start_at all.now.cells.items (i + 1) (length all.now.slots.items) ≤ length all.now.slots.items }
+    requires few { length kept.old.slots.items < 4294967296 }
+    ensures cells { OnOk result (kept.new.cells.items ≡ kept.old.cells.items ++ moved_record all.now.cells.items i (length kept.old.slots.items)) }
+    ensures slots { OnOk result (kept.new.slots.items ≡ kept.old.slots.items ++ slots_at all.now.cells.items all.now.slots.items i) }
+{
+    let cell = all.cells[i];
+    let first = kept.slots.len() as u32;
+    kept.slots.extend_from_slice(slots_of(all, i))?;
+    kept.cells.push(CellRecord { first, ..cell })?;
+    Ok(())
+}
+
+// The cells from a number on and before another one that are the first with their address.
+fn keep_part(
+    all: &Arena,
+    firsts: &[bool],
+    from: usize,
+    upto: usize,
+    kept: &mut Arena,
+) -> Result<(), AllocError>
+    requires firsts { AreFirsts all.now.cells.items firsts.now }
+    requires part { from ≤ upto }
+    requires within { upto ≤ length all.now.cells.items }
+    requires few { length all.now.slots.items < 4294967296 }
+    requires ordered { AreOrdered all.now.cells.items (length all.now.slots.items) }
+    requires room { length kept.old.slots.items ≤ start_at all.now.cells.items from (length all.now.slots.items) }
+    ensures room { OnOk result (length kept.new.slots.items ≤ start_at all.now.cells.items upto (length all.now.slots.items)) }
+    ensures few { OnOk result (length kept.new.cells.items + from ≤ length kept.old.cells.items + upto) }
+    ensures kept { OnOk result ((text : List ℕ) (seam : ℕ) (enc : Enc) → AreSlots text seam enc [] all.now.cells.items all.now.slots.items
+        → IsKept text seam enc (first_cells [] (take from (cells_in text enc all.now.cells.items))) kept.old
+        → IsKept text seam enc (first_cells [] (take upto (cells_in text enc all.now.cells.items))) kept.new) }
+{
+    for i in from..upto {
+        if firsts[i] {
+            keep_cell(all, i, kept)?;
+        }
+    }
+    Ok(())
+}
+
+// The cells that are the first with their address, and how many of them are among the first `own`.
+fn keep_firsts(
+    alloc: Global,
+    all: Arena,
+    firsts: &[bool],
+    own: usize,
+) -> Result<(Arena, usize), AllocError>
+    requires firsts { AreFirsts all.cells.items firsts.now }
+    requires own { own ≤ length all.cells.items }
+    requires few { length all.slots.items < 4294967296 }
+    requires ordered { AreOrdered all.cells.items (length all.slots.items) }
+    ensures few { IfOk result (λ found. (length found.0.cells.items ≤ length all.cells.items) × (found.1 ≤ length all.cells.items)) }
+    ensures kept { IfOk result (λ found. (text : List ℕ) (seam : ℕ) (enc : Enc) → AreSlots text seam enc [] all.cells.items all.slots.items
+        → IsKept text seam enc (first_cells [] (cells_in text enc all.cells.items)) found.0
+        × (found.1 ≡ length (first_cells [] (take own (cells_in text enc all.cells.items))))) }
+{
+    let mut kept = Arena::new(alloc);
+    keep_part(&all, firsts, 0, own, &mut kept)?;
+    let kept_own = kept.cells.len();
+    keep_part(&all, firsts, own, all.cells.len(), &mut kept)?;
+    Ok((kept, kept_own))
+}
+
+// The cells that are the first with their address, in the order of their addresses too. The first `own` of all cells are
+// those of the process's own heap.
+pub(crate) fn index_cells(alloc: Global, all: Arena, own: usize) -> Result<Indexed, AllocError>
+    requires own { own ≤ length all.cells.items }
+    requires cells { length all.cells.items < 4294967296 }
+    requires slots { length all.slots.items < 4294967296 }
+    requires ordered { AreOrdered all.cells.items (length all.slots.items) }
+    ensures { IfOk result (λ found. (text : List ℕ) (seam : ℕ) (enc : Enc) → AreSlots text seam enc [] all.cells.items all.slots.items
+        → IsIndexed text seam enc (cells_in text enc all.cells.items) own found) }
+{
+    let order = order_of(alloc, &all.cells)?;
+    let firsts = firsts_of(alloc, &order, &all.cells)?;
+    if are_all(&firsts) {
+        return Ok(Indexed {
+            arena: all,
+            order,
+            own: own as u32,
+        });
+    }
+    let (arena, own) = keep_firsts(alloc, all, &firsts, own)?;
+    let order = order_of(alloc, &arena.cells)?;
+    Ok(Indexed {
+        arena,
+        order,
+        own: own as u32,
+    })
+}

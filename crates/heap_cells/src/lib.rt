@@ -1,0 +1,21 @@
+//! One process's heap by address.
+//!
+//! [`Heap::load`] reads the first `proc_heap` section of a pid and the first `literals` section. Each line of the two
+//! bodies that has a hex address, a `:` and the text of a form is a cell; of all lines with one address the first counts.
+//! The cells are numbered in the order of their lines, and a reference to another cell is kept as that cell's number.
+#![tactic(auto)]
+
+mod arena;
+mod cells;
+mod faults;
+mod gathering;
+mod heap;
+mod keeping;
+mod loading;
+mod order;
+mod resolving;
+mod texts;
+
+pub use cells::{CellIx, Kid, Kind, Seat, Slot, Why};
+pub use faults::HeapFault;
+pub use heap::Heap;

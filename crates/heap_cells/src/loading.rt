@@ -1,0 +1,100 @@
+// The bodies of a heap are judged and read.
+ghost use Rattle.std.specs.Prelude.{◌≡◌, ◌+◌, ◌<◌, ◌≤◌, length, IfOk, IfErr, IfSome};
+ghost use Rattle.dump_io.specs.Dumps.{ReadsAtMost, used};
+ghost use Rattle.section_index.specs.Index.{IsBuiltOver};
+ghost use Rattle.heap_cells.specs.Loading.{enc_of, section_in, body_size, too_large, refused, IsBodyIn, IsReadFault};
+
+use crate::faults::HeapFault;
+use crate::texts::Texts;
+use dump_io::{Dumps, Limits};
+use section_index::{Index, Version, read_body};
+use std::alloc::Global;
+use term_forms::Enc;
+
+// How a version writes payloads.
+fn enc_of(version: Version) -> Enc
+    ensures { result ≡ enc_of version }
+{
+    match version {
+        Version::V03 | Version::V04 => Enc::Hex,
+        Version::V05 => Enc::Base64,
+    }
+}
+
+// Refuses a section whose body has more bytes than the limit. One that isn't there is empty.
+pub(crate) fn judge_size(
+    index: &Index,
+    place: Option<usize>,
+    limits: &Limits,
+) -> Result<(), HeapFault>
+    requires { IfSome place (λ i. i < length index.now.headers) }
+    ensures { result ≡ refused (too_large limits.now.section (section_in index.now place)) }
+{
+    let Some(i) = place else {
+        return Ok(());
+    };
+    let section = index.section(i);
+    let len = section.end - section.body;
+    if len > u64::from(limits.section()) {
+        return Err(HeapFault::SectionTooLarge {
+            at: section.at,
+            len,
+        });
+    }
+    Ok(())
+}
+
+// The body of a section, which is no larger than the limit. One that isn't there is empty.
+fn read_or_empty<D: Dumps>(
+    alloc: Global,
+    dumps: &mut D,
+    index: &Index,
+    place: Option<usize>,
+    limits: &Limits,
+) -> Result<Vec<u8>, HeapFault>
+    requires over { IsBuiltOver (D.now dumps.old) index.now }
+    requires place { IfSome place (λ i. i < length index.now.headers) }
+    requires small { body_size (section_in index.now place) ≤ limits.now.section }
+    ensures reads { ReadsAtMost (used D.files D.now D.faults D.taken dumps.old dumps.new) (body_size (section_in index.now place)) }
+    ensures body { IfOk result (λ body. IsBodyIn (D.now dumps.old) (section_in index.now place) body.items) }
+    ensures size { IfOk result (λ body. length body.items ≡ body_size (section_in index.now place)) }
+    ensures fault { IfErr result (IsReadFault (used D.files D.now D.faults D.taken dumps.old dumps.new)) }
+{
+    let Some(i) = place else {
+        return Ok(Vec::new(alloc));
+    };
+    let body = read_body(alloc, dumps, index, i, limits)?;
+    Ok(body)
+}
+
+// The bodies of two sections, which are no larger than the limit.
+pub(crate) fn read_texts<D: Dumps>(
+    alloc: Global,
+    dumps: &mut D,
+    index: &Index,
+    heap: Option<usize>,
+    literals: Option<usize>,
+    limits: &Limits,
+) -> Result<Texts, HeapFault>
+    requires over { IsBuiltOver (D.now dumps.old) index.now }
+    requires heap { IfSome heap (λ i. i < length index.now.headers) }
+    requires literals { IfSome literals (λ i. i < length index.now.headers) }
+    requires small_heap { body_size (section_in index.now heap) ≤ limits.now.section }
+    requires small_literals { body_size (section_in index.now literals) ≤ limits.now.section }
+    ensures reads { ReadsAtMost (used D.files D.now D.faults D.taken dumps.old dumps.new)
+        (body_size (section_in index.now heap) + body_size (section_in index.now literals)) }
+    ensures heap { IfOk result (λ texts. IsBodyIn (D.now dumps.old) (section_in index.now heap) texts.heap.items) }
+    ensures literals { IfOk result (λ texts. IsBodyIn (D.now dumps.old) (section_in index.now literals) texts.literals.items) }
+    ensures heap_size { IfOk result (λ texts. length texts.heap.items ≡ body_size (section_in index.now heap)) }
+    ensures literals_size { IfOk result (λ texts. length texts.literals.items ≡ body_size (section_in index.now literals)) }
+    ensures enc { IfOk result (λ texts. texts.enc ≡ enc_of index.now.version) }
+    ensures fault { IfErr result (IsReadFault (used D.files D.now D.faults D.taken dumps.old dumps.new)) }
+{
+    let heap = read_or_empty(alloc, dumps, index, heap, limits)?;
+    let literals = read_or_empty(alloc, dumps, index, literals, limits)?;
+    Ok(Texts {
+        heap,
+        literals,
+        enc: enc_of(index.version()),
+    })
+}

@@ -1,0 +1,96 @@
+// The numbers of cells by address.
+ghost use Rattle.std.specs.Prelude.{◌≡◌, ◌<◌, ◌≤◌, ◌||◌, ◌-◌, ◌==◌, length, map, nat_lt, not, true, false, IfOk, IfSome, slice_index_or};
+ghost use Rattle.std.specs.List.Sorted.{IsNonDecreasingBy, IsPartitionPoint};
+ghost use Rattle.heap_cells.specs.Inner.Order.{address_in, IsOrder, record_with, ArePairs, AreFirsts};
+
+use crate::cells::CellRecord;
+use std::alloc::{AllocError, Global};
+
+fn address_of(cells: &[CellRecord], n: u32) -> u64
+    ensures { result ≡ address_in cells.now n }
+{
+    match cells.get(n as usize) {
+        Some(cell) => cell.address,
+        None => 0,
+    }
+}
+
+// How many of the numbers belong to cells with a lesser address: these come first.
+fn count_below(order: &[u32], cells: &[CellRecord], address: u64) -> usize
+    requires { IsNonDecreasingBy (address_in cells.now) order.now }
+    ensures within { result ≤ length order.now }
+    ensures point { IsPartitionPoint (λ n. nat_lt (address_in cells.now n) address ≡ true) (λ n. nat_lt (address_in cells.now n) address ≡ false) order.now result }
+{
+    order.partition_point(|n| address_of(cells, *n) < address)
+}
+
+// The number of the first cell with the address.
+pub(crate) fn number_of(order: &[u32], cells: &[CellRecord], address: u64) -> Option<u32>
+    requires few { length cells.now < 4294967296 }
+    requires order { IsOrder cells.now order.now }
+    ensures { result ≡ record_with cells.now address }
+{
+    let at = count_below(order, cells, address);
+    let number = *order.get(at)?;
+    if address_of(cells, number) == address {
+        Some(number)
+    } else {
+        None
+    }
+}
+
+// The address of each cell, with the cell's number.
+fn pairs_of(alloc: Global, cells: &[CellRecord]) -> Result<Vec<(u64, u32)>, AllocError>
+    requires { length cells.now < 4294967296 }
+    ensures { IfOk result (λ pairs. ArePairs cells.now pairs.items) }
+{
+    let mut pairs = Vec::with_capacity(alloc, cells.len())?;
+    for i in 0..cells.len() {
+        let number = i as u32;
+        pairs.push((address_of(cells, number), number))?;
+    }
+    Ok(pairs)
+}
+
+fn numbers_of(alloc: Global, pairs: &[(u64, u32)]) -> Result<Vec<u32>, AllocError>
+    ensures { IfOk result (λ numbers. numbers.items ≡ map (λ pair. pair.1) pairs.now) }
+{
+    pairs.iter().map(|pair| pair.1).collect(alloc)
+}
+
+// The numbers of all cells by address, and those of cells with one address by number.
+pub(crate) fn order_of(alloc: Global, cells: &[CellRecord]) -> Result<Vec<u32>, AllocError>
+    requires { length cells.now < 4294967296 }
+    ensures { IfOk result (λ order. IsOrder cells.now order.items) }
+{
+    let mut pairs = pairs_of(alloc, cells)?;
+    pairs.sort_unstable();
+    numbers_of(alloc, &pairs)
+}
+
+// Whether no number in front of a place belongs to a cell with the same address as the number there.
+fn begins_address(order: &[u32], cells: &[CellRecord], place: usize) -> bool
+    requires { place < length order.now }
+    ensures { result ≡ (place == 0) || not (address_in cells.now (slice_index_or order.now (place - 1) 0) == address_in cells.now (slice_index_or order.now place 0)) }
+{
+    place == 0 || address_of(cells, order[place - 1]) != address_of(cells, order[place])
+}
+
+// Which of the cells stand in front of all others with their address.
+pub(crate) fn firsts_of(
+    alloc: Global,
+    order: &[u32],
+    cells: &[CellRecord],
+) -> Result<Vec<bool>, AllocError>
+    requires few { length cells.now < 4294967296 }
+    requires order { IsOrder cells.now order.now }
+    ensures { IfOk result (λ firsts. AreFirsts cells.now firsts.items) }
+{
+    let mut firsts = vec![in alloc; false; cells.len()]?;
+    for place in 0..order.len() {
+        if begins_address(order, cells, place) {
+            firsts[order[place] as usize] = true;
+        }
+    }
+    Ok(firsts)
+}

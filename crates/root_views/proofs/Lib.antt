@@ -1,0 +1,4 @@
+pub mod LineFacts
+pub mod MailFacts
+pub mod RootFacts
+pub mod SplitFacts

@@ -1,0 +1,9 @@
+use Rattle.dump_io.specs.Laws.Puts.{WritesAll-then, WritesAll-stopped}
+use Rattle.term_forms.proofs.writing.put_flat.Goals as goal
+
+pub returns-in_err-put_count : goal.returns-in_err-put_count
+returns-in_err-put_count c =
+    WritesAll-then c.in_ok-put_text.ensures (WritesAll-stopped _ c.from_residual-in_err-put_count.ensures.0 c.in_err-put_count.ensures)
+
+pub returns : goal.returns
+returns c = WritesAll-then c.in_ok-put_text.ensures (WritesAll-then c.in_ok-put_count.ensures c.put_keyed.ensures)

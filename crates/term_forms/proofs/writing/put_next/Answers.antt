@@ -1,0 +1,5 @@
+use Rattle.dump_io.specs.Laws.Puts.{WritesAll-then}
+use Rattle.term_forms.proofs.writing.put_next.Goals as goal
+
+pub returns : goal.returns
+returns c = WritesAll-then c.in_ok-put_text.ensures c.put_elem.ensures

@@ -1,0 +1,33 @@
+-- Where the elements of a form stand in its text.
+use Rattle.std.specs.Prelude.{◌≡◌, ℕ, ◌<◌, List, [], ◌∷◌, length, drop, Some}
+use Rattle.term_forms.specs.Elements.{Element}
+use Rattle.term_forms.specs.Forms.{HeapForm, Cons, Tuple, Float, Long, Pid, Port, Ext, HeapBin, RefBin, SubBin, Flat, Hash, Node}
+use Rattle.term_forms.specs.Reading.{front}
+
+-- the elements of a form in the order of its text: head and tail, the elements of a tuple, the keys element of a flat map
+-- before its values, the children
+abbrev pub elements_of : HeapForm → List Element
+elements_of (Cons head tail) = head ∷ tail ∷ []
+elements_of (Tuple elements) = elements
+elements_of (Float bytes) = []
+elements_of (Long number) = []
+elements_of (Pid pid) = []
+elements_of (Port port) = []
+elements_of (Ext size chars) = []
+elements_of (HeapBin size chars) = []
+elements_of (RefBin address offset size) = []
+elements_of (SubBin address offset size) = []
+elements_of (Flat keys values) = keys ∷ values
+elements_of (Hash size children) = children
+elements_of (Node children) = children
+
+-- an element, and the number of bytes before its spelling
+pub record Placed : Type 0 where
+  pub at : ℕ
+  pub element : Element
+
+-- what is read of the text from that place on begins with this element
+pub record StandsAt (text : List ℕ) (placed : Placed) : Type 0 where
+  pub within : placed.at < length text
+  pub len : ℕ
+  pub read : front (drop placed.at text) ≡ Some (placed.element, len)

@@ -1,0 +1,224 @@
+-- The children of an open cell by their places.
+use Rattle.std.proofs.Common.{◌≡◌, ◌⊎◌, ℕ, zero, suc, ◌+◌, ◌<◌, ◌≤◌, ◌/◌, ◌%◌, List, [], ◌∷◌, length, map, take, drop, get_or, Option, Some, None, refl, sym, ◌∙◌, ap, subst, inl, inr, arith}
+use Rattle.std.specs.Prelude.{slice_get, IfSome, All}
+use Rattle.std.specs.Option.{option_map, option_and_then}
+use Rattle.std.specs.List.{sum_by}
+use Rattle.std.proofs.lemmas.Bool.{cases_lt}
+use Rattle.std.proofs.lemmas.List.{length-map}
+use Rattle.std.proofs.lemmas.List.Sums.{sum_by-cons}
+use Rattle.std.proofs.lemmas.Option.{slice_get-map, slice_get-get_or, slice_get_past}
+use Rattle.std.proofs.Math.Nat.{div-add-mod}
+use Rattle.term_forms.specs.Elements.{Element, Nil, Small, Atom, Pid, Port, Ref}
+use Rattle.term_forms.specs.Forms.{HeapForm, Cons, Tuple, Float, Long, Pid as PidForm, Port as PortForm, Ext, HeapBin, RefBin, SubBin, Flat, Hash, Node}
+use Rattle.heap_cells.specs.Cells.{Cell, cell_weight, weight_of, elements_in, kind_of}
+use Rattle.heap_cells.specs.declared.cells.CellIx.{CellIx}
+use Rattle.heap_cells.specs.declared.cells.Slot.{Slot}
+use Rattle.heap_cells.specs.declared.cells.Slot.TheVariants as slot
+use Rattle.heap_cells.specs.HeapMap.{HeapMap, IsBounded, form_at, elements_at}
+use Rattle.heap_cells.specs.Targets.{At, number, target, slot_target, IsWithin}
+use Rattle.map_nodes.specs.Laws.Targets.{slot-leads, leads-at}
+use Rattle.map_nodes.specs.Rules.{address_of, element_at, form_with}
+use Rattle.term_unfold.specs.declared.children.Child.{Child as Kid}
+use Rattle.term_unfold.specs.declared.children.Child.TheVariants as kid
+use Rattle.term_unfold.specs.Inner.Kids.{members_in, HasMembers, found_elements, flat_kids, child_shown, IsTermAt, IsKid, IsKidAt}
+use Rattle.term_unfold.specs.Rules.{Child, Term, Item, terms, items, pairs}
+
+-- a cell has no more elements than the heap weighs
+
+weight-at : (heap : List Cell) (n : ℕ) → length (elements_at heap n) ≤ weight_of heap
+weight-at [] n = omega arith
+weight-at (c ∷ cs) zero = omega (arith, sum_by-cons cell_weight c cs)
+weight-at (c ∷ cs) (suc n) = omega (arith, sum_by-cons cell_weight c cs, weight-at cs n)
+
+pub elements-few : (heap : HeapMap) (n : ℕ) → IsBounded heap → length (elements_at heap.cells n) ≤ 100000000
+elements-few heap n bounded = omega (arith, bounded.weight, weight-at heap.cells n)
+
+-- no child
+
+pub kid-none : (heap : List Cell) (children : List Child) (next most : ℕ) (found : Option Kid) → found ≡ None → slice_get children next ≡ None → IsKidAt heap children next most found
+kid-none heap children next most None is past = record { child = sym past; kid = tt; few = tt }
+kid-none heap children next most (Some k) is past = cc
+
+pub terms-past : (elements : List Element) (next : ℕ) → length elements ≤ next → slice_get (terms elements) next ≡ None
+terms-past elements next past = slice_get_past (terms elements) next (omega (arith, length-map elements Term, past))
+
+pub items-past : (a : ℕ) (elements : List Element) (next : ℕ) → length elements ≤ next → slice_get (items a elements) next ≡ None
+items-past a elements next past = slice_get_past (items a elements) next (omega (arith, length-map elements (Item a), past))
+
+-- the child at a place
+
+pub term-kid : (heap : HeapMap) (ix : CellIx) (place : ℕ) (slots : List Slot) → IsBounded heap → number ix < length heap.cells → place < length (elements_at heap.cells (number ix))
+    → map slot_target slots ≡ map (target heap.cells) (elements_at heap.cells (number ix)) → IsWithin (length heap.cells) (slot_target (get_or slots place (slot.Imm 0)))
+    → IsKidAt heap.cells (terms (elements_at heap.cells (number ix))) place 100000000 (Some (kid.Term (get_or slots place (slot.Imm 0)) ix place))
+term-kid heap ix place slots bounded cell within same inside =
+    let elements = elements_at heap.cells (number ix) in
+    record {
+      child = sym (slice_get-map Term elements place ∙ ap (option_map Term) (slice_get-get_or elements place Nil within));
+      kid = record {
+        at = record { cell = cell; within = within };
+        leads = slot-leads heap.cells slots elements place (get_or slots place (slot.Imm 0)) same refl;
+        within = inside;
+      };
+      few = omega (arith, within, elements-few heap (number ix) bounded);
+    }
+
+pub item-kid : (heap : HeapMap) (ix : CellIx) (place : ℕ) → IsBounded heap → number ix < length heap.cells → HasMembers (form_at heap.cells (number ix)) → members_in (form_at heap.cells (number ix)) ≡ elements_at heap.cells (number ix)
+    → place < length (elements_at heap.cells (number ix))
+    → IsKidAt heap.cells (items (address_of heap.cells (number ix)) (members_in (form_at heap.cells (number ix)))) place 100000000 (Some (kid.Item ix place))
+item-kid heap ix place bounded cell has are within =
+    let elements = elements_at heap.cells (number ix) in
+    let a = address_of heap.cells (number ix) in
+    record {
+      child = sym (ap (λ l. slice_get (items a l) place) are ∙ slice_get-map (Item a) elements place ∙ ap (option_map (Item a)) (slice_get-get_or elements place Nil within));
+      kid = record { at = record { cell = cell; within = within }; kind = has };
+      few = omega (arith, within, elements-few heap (number ix) bounded);
+    }
+
+pub members-are : (form : Option HeapForm) → HasMembers form → members_in form ≡ elements_in form
+members-are None (inl h) = cc
+members-are None (inr (inl h)) = cc
+members-are None (inr (inr h)) = cc
+members-are (Some (Hash size children)) h = refl
+members-are (Some (Tuple elements)) h = refl
+members-are (Some (Node children)) h = refl
+members-are (Some (Cons head tail)) (inl h) = cc
+members-are (Some (Cons head tail)) (inr (inl h)) = cc
+members-are (Some (Cons head tail)) (inr (inr h)) = cc
+members-are (Some (Flat keys values)) (inl h) = cc
+members-are (Some (Flat keys values)) (inr (inl h)) = cc
+members-are (Some (Flat keys values)) (inr (inr h)) = cc
+members-are (Some form) (inl h) = cc
+members-are (Some form) (inr (inl h)) = cc
+members-are (Some form) (inr (inr h)) = cc
+
+-- the first two of some children
+
+two-first : (children : List Child) (place : ℕ) → place < 2 → slice_get (take 2 children) place ≡ slice_get children place
+two-first [] place h = refl
+two-first (x ∷ []) zero h = refl
+two-first (x ∷ []) (suc place) h = refl
+two-first (x ∷ y ∷ rest) zero h = refl
+two-first (x ∷ y ∷ rest) (suc zero) h = refl
+two-first (x ∷ y ∷ rest) (suc (suc place)) h = absurd (omega (arith, h))
+
+terms-two : (elements : List Element) → terms (take 2 elements) ≡ take 2 (terms elements)
+terms-two [] = refl
+terms-two (x ∷ []) = refl
+terms-two (x ∷ y ∷ rest) = refl
+
+kid-few : (k : Option Kid) (next most : ℕ) → next < most → IfSome k (λ _. next < most)
+kid-few None next most h = tt
+kid-few (Some k) next most h = h
+
+pub two-kid : (heap : List Cell) (elements : List Element) (place most : ℕ) (found : Option Kid) → place < 2 → IsKidAt heap (terms elements) place most found
+    → IsKidAt heap (terms (take 2 elements)) place 2 found
+two-kid heap elements place most found h at =
+    record {
+      child = at.child ∙ sym (ap (λ l. slice_get l place) (terms-two elements) ∙ two-first (terms elements) place h);
+      kid = at.kid;
+      few = kid-few found place 2 h;
+    }
+
+length-two : (elements : List Element) → length (take 2 elements) ≤ 2
+length-two [] = omega arith
+length-two (x ∷ []) = omega arith
+length-two (x ∷ y ∷ rest) = omega arith
+
+pub two-past : (elements : List Element) (place : ℕ) → 2 ≤ place → slice_get (terms (take 2 elements)) place ≡ None
+two-past elements place h = terms-past (take 2 elements) place (omega (arith, length-two elements, h))
+
+-- keys and values
+
+abbrev double : ℕ → ℕ
+double zero = zero
+double (suc i) = suc (suc (double i))
+
+double-twice : (i : ℕ) → double i ≡ i + i
+double-twice zero = refl
+double-twice (suc i) = omega (arith, double-twice i)
+
+pairs-key : (ks vs : List Element) (i : ℕ) (k v : Child) → slice_get (terms ks) i ≡ Some k → slice_get (terms vs) i ≡ Some v → slice_get (pairs ks vs) (double i) ≡ Some k
+pairs-key [] vs i k v a b = cc
+pairs-key (x ∷ ks) [] i k v a b = cc
+pairs-key (x ∷ ks) (y ∷ vs) zero k v a b = a
+pairs-key (x ∷ ks) (y ∷ vs) (suc i) k v a b = pairs-key ks vs i k v a b
+
+pairs-value : (ks vs : List Element) (i : ℕ) (k v : Child) → slice_get (terms ks) i ≡ Some k → slice_get (terms vs) i ≡ Some v → slice_get (pairs ks vs) (suc (double i)) ≡ Some v
+pairs-value [] vs i k v a b = cc
+pairs-value (x ∷ ks) [] i k v a b = cc
+pairs-value (x ∷ ks) (y ∷ vs) zero k v a b = b
+pairs-value (x ∷ ks) (y ∷ vs) (suc i) k v a b = pairs-value ks vs i k v a b
+
+pairs-no_key : (ks vs : List Element) (i : ℕ) → slice_get (terms ks) i ≡ None → (slice_get (pairs ks vs) (double i) ≡ None) × (slice_get (pairs ks vs) (suc (double i)) ≡ None)
+pairs-no_key [] vs i a = (refl, refl)
+pairs-no_key (x ∷ ks) [] i a = (refl, refl)
+pairs-no_key (x ∷ ks) (y ∷ vs) zero a = cc
+pairs-no_key (x ∷ ks) (y ∷ vs) (suc i) a = pairs-no_key ks vs i a
+
+pairs-no_value : (ks vs : List Element) (i : ℕ) → slice_get (terms vs) i ≡ None → (slice_get (pairs ks vs) (double i) ≡ None) × (slice_get (pairs ks vs) (suc (double i)) ≡ None)
+pairs-no_value [] vs i a = (refl, refl)
+pairs-no_value (x ∷ ks) [] i a = (refl, refl)
+pairs-no_value (x ∷ ks) (y ∷ vs) zero a = cc
+pairs-no_value (x ∷ ks) (y ∷ vs) (suc i) a = pairs-no_value ks vs i a
+
+behind-first : (es : List Element) (i : ℕ) → slice_get (terms (drop 1 es)) i ≡ slice_get (terms es) (i + 1)
+behind-first [] i = refl
+behind-first (e ∷ es) i =
+    let next : suc i ≡ i + 1 = omega arith in
+    ap (slice_get (terms (e ∷ es))) next
+
+even : (place : ℕ) → place % 2 ≡ 0 → place ≡ double (place / 2)
+even place h = omega (arith, h, double-twice (place / 2), div-add-mod place 2)
+
+odd : (place : ℕ) → 0 < place % 2 → place ≡ suc (double (place / 2))
+odd place h = omega (arith, h, double-twice (place / 2), div-add-mod place 2)
+
+none-at : (ks vs : List Element) (place : ℕ) → (slice_get (pairs ks vs) (double (place / 2)) ≡ None) × (slice_get (pairs ks vs) (suc (double (place / 2))) ≡ None)
+    → slice_get (pairs ks vs) place ≡ None
+none-at ks vs place h =
+    elim (cases_lt 0 (place % 2)) [
+      | inl some ↦ ap (slice_get (pairs ks vs)) (odd place some) ∙ h.1
+      | inr is ↦ ap (slice_get (pairs ks vs)) (even place (omega (arith, is))) ∙ h.0
+    ]
+
+small-place : (i place : ℕ) → i < 100000000 → i ≡ place / 2 → place < 200000000
+small-place i place h is = omega (arith, div-add-mod place 2)
+
+pub key-none : (heap : List Cell) (ks es : List Element) (place most : ℕ) (found out : Option Kid) → found ≡ None → IsKidAt heap (terms ks) (place / 2) most found → out ≡ None
+    → IsKidAt heap (pairs ks (drop 1 es)) place 200000000 out
+key-none heap ks es place most found out none at is =
+    kid-none heap (pairs ks (drop 1 es)) place 200000000 out is (none-at ks (drop 1 es) place (pairs-no_key ks (drop 1 es) (place / 2) (sym at.child ∙ ap (option_map (child_shown heap)) none)))
+
+pub value-none : (heap : List Cell) (ks es : List Element) (place most : ℕ) (found out : Option Kid) → found ≡ None → IsKidAt heap (terms es) (place / 2 + 1) most found → out ≡ None
+    → IsKidAt heap (pairs ks (drop 1 es)) place 200000000 out
+value-none heap ks es place most found out none at is =
+    kid-none heap (pairs ks (drop 1 es)) place 200000000 out is
+    (none-at ks (drop 1 es) place (pairs-no_value ks (drop 1 es) (place / 2) (behind-first es (place / 2) ∙ sym at.child ∙ ap (option_map (child_shown heap)) none)))
+
+pub key-kid : (heap : List Cell) (ks es : List Element) (place : ℕ) (k v : Kid) → IsKidAt heap (terms ks) (place / 2) 100000000 (Some k) → IsKidAt heap (terms es) (place / 2 + 1) 100000000 (Some v) → place % 2 ≡ 0
+    → IsKidAt heap (pairs ks (drop 1 es)) place 200000000 (Some k)
+key-kid heap ks es place k v key value h =
+    record {
+      child = sym (ap (slice_get (pairs ks (drop 1 es))) (even place h)
+          ∙ pairs-key ks (drop 1 es) (place / 2) (child_shown heap k) (child_shown heap v) (sym key.child) (behind-first es (place / 2) ∙ sym value.child));
+      kid = key.kid;
+      few = small-place (place / 2) place key.few refl;
+    }
+
+pub value-kid : (heap : List Cell) (ks es : List Element) (place : ℕ) (k v : Kid) → IsKidAt heap (terms ks) (place / 2) 100000000 (Some k) → IsKidAt heap (terms es) (place / 2 + 1) 100000000 (Some v) → 0 < place % 2
+    → IsKidAt heap (pairs ks (drop 1 es)) place 200000000 (Some v)
+value-kid heap ks es place k v key value h =
+    record {
+      child = sym (ap (slice_get (pairs ks (drop 1 es))) (odd place h)
+          ∙ pairs-value ks (drop 1 es) (place / 2) (child_shown heap k) (child_shown heap v) (sym key.child) (behind-first es (place / 2) ∙ sym value.child));
+      kid = value.kid;
+      few = small-place (place / 2) place key.few refl;
+    }
+
+-- a flat map whose keys element leads to a cell
+
+pub flat_kids-at : (heap : List Cell) (es : List Element) (k : ℕ) → 0 < length es → target heap (get_or es 0 Nil) ≡ At k → flat_kids heap es ≡ pairs (elements_at heap k) (drop 1 es)
+flat_kids-at heap [] k some h = absurd (omega (arith, some))
+flat_kids-at heap (e ∷ es) k some h =
+    let to = leads-at heap k e h in
+    ap (λ x. flat_kids heap (x ∷ es)) to.element ∙ ap (λ f. pairs (found_elements f) es) to.form

@@ -1,0 +1,14 @@
+pub mod Kidded
+mod Examples
+pub mod FirstNodes
+pub mod Levels
+pub mod Lines
+pub mod Opens
+pub mod Sized
+pub mod Stepping
+pub mod Suiting
+pub mod Tied
+pub mod Turning
+pub mod Turns_made
+pub mod Visited
+pub mod Written

@@ -1,0 +1,346 @@
+-- What a child opens, by what the walk sees of its cell.
+use Rattle.std.proofs.Common.{◌≡◌, ◌⊎◌, ℕ, zero, suc, ◌+◌, ◌-◌, ◌<◌, ◌≤◌, Bool, true, false, cond, ◌||◌, not, eqb, ltb, List, [], ◌∷◌, length, map, take, drop, get_or, Option, Some, None, refl, sym, ◌∙◌, ap, subst, inl, inr, arith}
+use Rattle.std.specs.Prelude.{slice_get}
+use Rattle.std.specs.Option.{option_map, option_and_then, unwrap_or}
+use Rattle.std.specs.List.{IsDistinct, position_or_len}
+use Rattle.std.proofs.lemmas.Bool.{cases_eq, cases_lt, eq-eqb, ne_eqb, lt-ltb, ltb-false}
+use Rattle.std.proofs.lemmas.List.{length-map}
+use Rattle.std.proofs.lemmas.Map.Keys.{apart_from_distinct}
+use Rattle.std.proofs.lemmas.Option.{slice_get-map, slice_get-get_or, unwrap_or-slice_get}
+use Rattle.std.proofs.lemmas.List.Sums.{position_or_len_is, prefix_len_passes}
+use Rattle.std.specs.Cmp.{nat_eq_equiv}
+use Rattle.term_forms.specs.Elements.{Element, Nil, Small, Atom, Pid, Port, Ref}
+use Rattle.term_forms.specs.Forms.{HeapForm, Cons, Tuple, Float, Long, Pid as PidForm, Port as PortForm, Ext, HeapBin, RefBin, SubBin, Flat, Hash, Node}
+use Rattle.heap_cells.specs.Cells.{Cell, addresses, elements_in, kind_of}
+use Rattle.heap_cells.specs.declared.cells.Kind.{Kind}
+use Rattle.heap_cells.specs.declared.cells.Kind.TheVariants as cell_kind
+use Rattle.heap_cells.specs.declared.cells.Why.{Why}
+use Rattle.heap_cells.specs.declared.cells.Why.TheVariants.{Missing, Malformed, OnPath}
+use Rattle.heap_cells.specs.HeapMap.{number_at, form_at, elements_at}
+use Rattle.heap_cells.specs.Targets.{Plain, At, Missing as Gone, number, target}
+use Rattle.map_nodes.specs.Laws.Targets.{IsRefTo, leads-at, leads-missing, leads-nowhere}
+use Rattle.map_nodes.specs.Rules.{Keys, no_keys, keys_at, bad_keys, tuple_keys, cell_keys, element_keys, form_keys, keys_of_map, Member, pair_at, inner_at, bad_member, form_member, cell_member, member_of, address_of, form_with}
+use Rattle.term_unfold.specs.declared.node.NodeKind.TheVariants as kinds
+use Rattle.term_unfold.specs.declared.path.Entry.{Entry}
+use Rattle.term_unfold.specs.Inner.Entries.{numbers_of, path_of, IsLine}
+use Rattle.term_unfold.specs.Inner.Kids.{members_in, found_elements, flat_kids}
+use Rattle.term_unfold.specs.Rules.{Child, Term, Item, Opening, leaf, bad, node, is_on, unless_on, terms, items, pairs, keyed, flat_opening, form_opening, cell_opening, term_opening, item_opening, opening}
+use Rattle.term_unfold.specs.Trees.{Immediate, OfCell}
+use Rattle.term_unfold.proofs.Kidded.{flat_kids-at}
+
+-- addresses and numbers
+
+address-get : (heap : List Cell) (n : ℕ) → address_of heap n ≡ get_or (addresses heap) n 0
+address-get heap n = ap (λ o. unwrap_or o 0) (sym (slice_get-map (λ (c : Cell). c.address) heap n)) ∙ unwrap_or-slice_get (addresses heap) n 0
+
+apart : (heap : List Cell) (m n : ℕ) → IsDistinct eqb (addresses heap) → m < n → n < length heap → eqb (address_of heap m) (address_of heap n) ≡ false
+apart heap m n distinct lt within =
+    ap (λ a. eqb a (address_of heap n)) (address-get heap m) ∙ ap (eqb (get_or (addresses heap) m 0)) (address-get heap n)
+    ∙ apart_from_distinct eqb (addresses heap) m n 0 distinct lt (omega (arith, within, length-map heap (λ (c : Cell). c.address)))
+
+-- two cells have one address exactly where they are one
+address-eqb : (heap : List Cell) (m n : ℕ) → IsDistinct eqb (addresses heap) → m < length heap → n < length heap → eqb (address_of heap m) (address_of heap n) ≡ eqb m n
+address-eqb heap m n distinct a b =
+    elim (cases_eq m n) [
+      | inl same ↦ eq-eqb (address_of heap m) (address_of heap n) (ap (address_of heap) same) ∙ sym (eq-eqb m n same)
+      | inr other ↦ elim (cases_lt m n) [
+        | inl lt ↦ apart heap m n distinct lt b ∙ sym (ne_eqb m n other)
+        | inr ge ↦ nat_eq_equiv.symm (address_of heap m) (address_of heap n) ∙ apart heap n m distinct (omega (arith, ge, other)) a ∙ sym (ne_eqb m n other)
+      ]
+    ]
+
+pub on-path : (heap : List Cell) (n : ℕ) (entries : List Entry) → IsDistinct eqb (addresses heap) → n < length heap → IsLine (length heap) (numbers_of entries)
+    → is_on (address_of heap n) (path_of heap entries) ≡ is_on n (numbers_of entries)
+on-path heap n [] distinct within line = refl
+on-path heap n (e ∷ es) distinct within line =
+    ap (λ b. b || is_on (address_of heap n) (path_of heap es)) (address-eqb heap n (number e.cell) distinct within line.0)
+    ∙ ap (λ b. eqb n (number e.cell) || b) (on-path heap n es distinct within line.2)
+
+or-true : (b : Bool) → (b || true) ≡ true
+or-true true = refl
+or-true false = refl
+
+pub on-longer : (a b : ℕ) (path : List ℕ) → is_on b path ≡ true → is_on b (a ∷ path) ≡ true
+on-longer a b path on = ap (λ x. eqb b a || x) on ∙ or-true (eqb b a)
+
+pub off-longer : (a b : ℕ) (path : List ℕ) → eqb b a ≡ false → is_on b path ≡ false → is_on b (a ∷ path) ≡ false
+off-longer a b path other off = ap (λ x. x || is_on b path) other ∙ off
+
+pub off-other : (heap : List Cell) (m n : ℕ) → IsDistinct eqb (addresses heap) → m < length heap → n < length heap → (m ≡ n → ⊥) → eqb (address_of heap m) (address_of heap n) ≡ false
+off-other heap m n distinct a b other = address-eqb heap m n distinct a b ∙ ne_eqb m n other
+
+-- a reference to an ancestor, and one to another cell
+
+pub term-on : (heap : List Cell) (path : List ℕ) (a : ℕ) → is_on a path ≡ true → opening heap path (Term (Ref a)) ≡ bad a OnPath
+term-on heap path a on = ap (λ b. cond b (bad a OnPath) (term_opening heap path (Ref a))) on
+
+pub item-on : (heap : List Cell) (path : List ℕ) (parent a : ℕ) → is_on a path ≡ true → opening heap path (Item parent (Ref a)) ≡ bad a OnPath
+item-on heap path parent a on = ap (λ b. cond b (bad a OnPath) (item_opening (member_of heap parent (Ref a)))) on
+
+pub term-off : (heap : List Cell) (path : List ℕ) (a n : ℕ) → is_on a path ≡ false → form_with heap a ≡ Some (form_at heap n) → opening heap path (Term (Ref a)) ≡ form_opening heap path a (form_at heap n)
+term-off heap path a n off found =
+    ap (λ b. cond b (bad a OnPath) (term_opening heap path (Ref a))) off ∙ ap (cell_opening heap path a) found
+
+pub item-off : (heap : List Cell) (path : List ℕ) (parent a n : ℕ) → is_on a path ≡ false → form_with heap a ≡ Some (form_at heap n) → opening heap path (Item parent (Ref a)) ≡ item_opening (form_member a (form_at heap n))
+item-off heap path parent a n off found =
+    ap (λ b. cond b (bad a OnPath) (item_opening (member_of heap parent (Ref a)))) off ∙ ap (λ f. item_opening (cell_member a f)) found
+
+-- an element that leads nowhere, or to no cell
+
+pub term-plain : (heap : List Cell) (path : List ℕ) (e : Element) → target heap e ≡ Plain → opening heap path (Term e) ≡ leaf (Immediate e)
+term-plain heap path e h =
+    leads-nowhere (λ e. opening heap path (Term e) ≡ leaf (Immediate e)) heap e h refl (λ _. refl) (λ _. refl) (λ _. refl) (λ _. refl)
+
+pub item-plain : (heap : List Cell) (path : List ℕ) (parent : ℕ) (e : Element) → target heap e ≡ Plain → opening heap path (Item parent e) ≡ bad parent Malformed
+item-plain heap path parent e h =
+    leads-nowhere (λ e. opening heap path (Item parent e) ≡ bad parent Malformed) heap e h refl (λ _. refl) (λ _. refl) (λ _. refl) (λ _. refl)
+
+-- an address that no cell has is no ancestor's
+
+no_cell : Cell
+no_cell = record { address = 0; form = None }
+
+address-cell : (heap : List Cell) (n : ℕ) → n < length heap → address_of heap n ≡ (get_or heap n no_cell).address
+address-cell heap n within = ap (λ o. unwrap_or (option_map (λ (c : Cell). c.address) o) 0) (slice_get-get_or heap n no_cell within)
+
+not-true : (b : Bool) → not b ≡ true → b ≡ false
+not-true true h = cc
+not-true false h = refl
+
+cond-none : (b : Bool) (k : ℕ) → cond b (Some k) None ≡ None → b ≡ false
+cond-none true k h = cc
+cond-none false k h = refl
+
+-- no cell has the address
+address-none : (heap : List Cell) (b n : ℕ) → number_at heap b ≡ None → n < length heap → eqb b (address_of heap n) ≡ false
+address-none heap b n none within =
+    let p = λ (c : Cell). eqb c.address b in
+    let past : length heap ≤ position_or_len p heap = ltb-false (position_or_len p heap) (length heap) (cond-none (ltb (position_or_len p heap) (length heap)) (position_or_len p heap) none) in
+    let fails : not (eqb (get_or heap n no_cell).address b) ≡ true = prefix_len_passes (λ (c : Cell). not (eqb c.address b)) heap n no_cell (omega (arith, past, within)) in
+    ap (eqb b) (address-cell heap n within) ∙ nat_eq_equiv.symm b (get_or heap n no_cell).address ∙ not-true (eqb (get_or heap n no_cell).address b) fails
+
+off-path : (heap : List Cell) (b : ℕ) (entries : List Entry) → number_at heap b ≡ None → IsLine (length heap) (numbers_of entries) → is_on b (path_of heap entries) ≡ false
+off-path heap b [] none line = refl
+off-path heap b (e ∷ es) none line =
+    ap (λ x. x || is_on b (path_of heap es)) (address-none heap b (number e.cell) none line.0) ∙ off-path heap b es none line.2
+
+none-number : (heap : List Cell) (found : Option ℕ) → option_map (form_at heap) found ≡ None → found ≡ None
+none-number heap None h = refl
+none-number heap (Some n) h = cc
+
+pub off-missing : (heap : List Cell) (b : ℕ) (entries : List Entry) → form_with heap b ≡ None → IsLine (length heap) (numbers_of entries) → is_on b (path_of heap entries) ≡ false
+off-missing heap b entries none line = off-path heap b entries (none-number heap (number_at heap b) none) line
+
+-- the same below one cell more
+pub off-missing_below : (heap : List Cell) (b n : ℕ) (entries : List Entry) → form_with heap b ≡ None → IsLine (length heap) (n ∷ numbers_of entries) → is_on b (address_of heap n ∷ path_of heap entries) ≡ false
+off-missing_below heap b n entries none line =
+    ap (λ x. x || is_on b (path_of heap entries)) (address-none heap b n (none-number heap (number_at heap b) none) line.0) ∙ off-missing heap b entries none line.2
+
+pub term-missing : (heap : List Cell) (path : List ℕ) (e : Element) (b : ℕ) → e ≡ Ref b → is_on b path ≡ false → form_with heap b ≡ None → opening heap path (Term e) ≡ bad b Missing
+term-missing heap path e b is off none =
+    ap (λ e. opening heap path (Term e)) is ∙ ap (λ x. cond x (bad b OnPath) (term_opening heap path (Ref b))) off ∙ ap (cell_opening heap path b) none
+
+pub item-missing : (heap : List Cell) (path : List ℕ) (parent : ℕ) (e : Element) (b : ℕ) → e ≡ Ref b → is_on b path ≡ false → form_with heap b ≡ None → opening heap path (Item parent e) ≡ bad b Missing
+item-missing heap path parent e b is off none =
+    ap (λ e. opening heap path (Item parent e)) is ∙ ap (λ x. cond x (bad b OnPath) (item_opening (member_of heap parent (Ref b)))) off ∙ ap (λ f. item_opening (cell_member b f)) none
+
+-- each cell is found by its address
+
+number-is : (heap : List Cell) (n : ℕ) → IsDistinct eqb (addresses heap) → n < length heap → number_at heap (address_of heap n) ≡ Some n
+number-is heap n distinct within =
+    let a = address_of heap n in
+    let p = λ (c : Cell). eqb c.address a in
+    let place : position_or_len p heap ≡ n
+    = position_or_len_is p heap n no_cell (omega (arith, within))
+    (λ k lt. let inside : k < length heap = omega (arith, lt, within) in
+    ap (λ b. eqb b a) (sym (address-cell heap k inside)) ∙ apart heap k n distinct lt within)
+    (λ lt. ap (λ b. eqb b a) (sym (address-cell heap n within)) ∙ eq-eqb a a refl) in
+    ap (λ k. cond (ltb k (length heap)) (Some k) None) place ∙ ap (λ b. cond b (Some n) None) (lt-ltb n (length heap) within)
+
+pub form-is : (heap : List Cell) (n : ℕ) → IsDistinct eqb (addresses heap) → n < length heap → form_with heap (address_of heap n) ≡ Some (form_at heap n)
+form-is heap n distinct within = ap (option_map (form_at heap)) (number-is heap n distinct within)
+
+-- the openings of forms, by their kinds
+
+pub form-none : (heap : List Cell) (path : List ℕ) (a : ℕ) (form : Option HeapForm) → option_map kind_of form ≡ None → form_opening heap path a form ≡ bad a Malformed
+form-none heap path a None h = refl
+form-none heap path a (Some form) h = cc
+
+pub form-list : (heap : List Cell) (path : List ℕ) (a : ℕ) (form : Option HeapForm) → option_map kind_of form ≡ Some cell_kind.List → form_opening heap path a form ≡ node a kinds.Cons (terms (take 2 (elements_in form)))
+form-list heap path a None h = cc
+form-list heap path a (Some (Cons head tail)) h = refl
+form-list heap path a (Some form) h = cc
+
+pub form-tuple : (heap : List Cell) (path : List ℕ) (a : ℕ) (form : Option HeapForm) → option_map kind_of form ≡ Some cell_kind.Tuple → form_opening heap path a form ≡ node a kinds.Tuple (terms (elements_in form))
+form-tuple heap path a None h = cc
+form-tuple heap path a (Some (Tuple elements)) h = refl
+form-tuple heap path a (Some form) h = cc
+
+pub form-hash : (heap : List Cell) (path : List ℕ) (a : ℕ) (form : Option HeapForm) → option_map kind_of form ≡ Some cell_kind.Hash → form_opening heap path a form ≡ node a kinds.Hash (items a (members_in form))
+form-hash heap path a None h = cc
+form-hash heap path a (Some (Hash size children)) h = refl
+form-hash heap path a (Some form) h = cc
+
+pub form-node : (heap : List Cell) (path : List ℕ) (a : ℕ) (form : Option HeapForm) → option_map kind_of form ≡ Some cell_kind.Node → form_opening heap path a form ≡ bad a Malformed
+form-node heap path a None h = cc
+form-node heap path a (Some (Node children)) h = refl
+form-node heap path a (Some form) h = cc
+
+-- a form that has no children
+pub record IsLeafForm (heap : List Cell) (path : List ℕ) (a : ℕ) (form : Option HeapForm) : Type 0 where
+  pub leaf_form : HeapForm
+  pub form_is : form ≡ Some leaf_form
+  pub opens : form_opening heap path a form ≡ leaf (OfCell a leaf_form)
+
+pub form-leaf : (heap : List Cell) (path : List ℕ) (a : ℕ) (kind : Kind) (form : Option HeapForm) → option_map kind_of form ≡ Some kind → (kind ≡ cell_kind.List → ⊥) → (kind ≡ cell_kind.Tuple → ⊥)
+    → (kind ≡ cell_kind.Flat → ⊥) → (kind ≡ cell_kind.Hash → ⊥) → (kind ≡ cell_kind.Node → ⊥) → IsLeafForm heap path a form
+form-leaf heap path a kind None h l t f m n = cc
+form-leaf heap path a kind (Some (Cons head tail)) h l t f m n = let is : kind ≡ cell_kind.List = cc in absurd (l is)
+form-leaf heap path a kind (Some (Tuple elements)) h l t f m n = let is : kind ≡ cell_kind.Tuple = cc in absurd (t is)
+form-leaf heap path a kind (Some (Flat keys values)) h l t f m n = let is : kind ≡ cell_kind.Flat = cc in absurd (f is)
+form-leaf heap path a kind (Some (Hash size children)) h l t f m n = let is : kind ≡ cell_kind.Hash = cc in absurd (m is)
+form-leaf heap path a kind (Some (Node children)) h l t f m n = let is : kind ≡ cell_kind.Node = cc in absurd (n is)
+form-leaf heap path a kind (Some (Float bytes)) h l t f m n = record { leaf_form = Float bytes; form_is = refl; opens = refl }
+form-leaf heap path a kind (Some (Long number)) h l t f m n = record { leaf_form = Long number; form_is = refl; opens = refl }
+form-leaf heap path a kind (Some (PidForm pid)) h l t f m n = record { leaf_form = PidForm pid; form_is = refl; opens = refl }
+form-leaf heap path a kind (Some (PortForm port)) h l t f m n = record { leaf_form = PortForm port; form_is = refl; opens = refl }
+form-leaf heap path a kind (Some (Ext size chars)) h l t f m n = record { leaf_form = Ext size chars; form_is = refl; opens = refl }
+form-leaf heap path a kind (Some (HeapBin size chars)) h l t f m n = record { leaf_form = HeapBin size chars; form_is = refl; opens = refl }
+form-leaf heap path a kind (Some (RefBin address offset size)) h l t f m n = record { leaf_form = RefBin address offset size; form_is = refl; opens = refl }
+form-leaf heap path a kind (Some (SubBin address offset size)) h l t f m n = record { leaf_form = SubBin address offset size; form_is = refl; opens = refl }
+
+-- flat maps
+
+pairs-none : (ks : List Element) → pairs ks [] ≡ []
+pairs-none [] = refl
+pairs-none (k ∷ ks) = refl
+
+flat-alone : (heap : List Cell) (keys : Element) → flat_kids heap (keys ∷ []) ≡ []
+flat-alone heap Nil = refl
+flat-alone heap (Small integer) = refl
+flat-alone heap (Atom bytes) = refl
+flat-alone heap (Pid pid) = refl
+flat-alone heap (Port port) = refl
+flat-alone heap (Ref k) = pairs-none (found_elements (form_with heap k))
+
+pub flat-empty : (heap : List Cell) (path : List ℕ) (a : ℕ) (form : Option HeapForm) → option_map kind_of form ≡ Some cell_kind.Flat → length (elements_in form) < 2
+    → form_opening heap path a form ≡ node a kinds.Flat (flat_kids heap (elements_in form))
+flat-empty heap path a None h few = cc
+flat-empty heap path a (Some (Flat keys [])) h few = ap (node a kinds.Flat) (sym (flat-alone heap keys))
+flat-empty heap path a (Some (Flat keys (v ∷ vs))) h few = absurd (omega (arith, few))
+flat-empty heap path a (Some form) h few = cc
+
+-- the keys element of a flat map that has values is opened below the map
+pub flat-some : (heap : List Cell) (path : List ℕ) (a : ℕ) (form : Option HeapForm) → option_map kind_of form ≡ Some cell_kind.Flat → 2 ≤ length (elements_in form)
+    → form_opening heap path a form ≡ unless_on (a ∷ path) (get_or (elements_in form) 0 Nil) (keyed a (drop 1 (elements_in form)) (form_keys heap a form))
+flat-some heap path a None h some = cc
+flat-some heap path a (Some (Flat keys [])) h some = absurd (omega (arith, some))
+flat-some heap path a (Some (Flat keys (v ∷ vs))) h some = refl
+flat-some heap path a (Some form) h some = cc
+
+keys-some : (heap : List Cell) (a : ℕ) (form : Option HeapForm) → option_map kind_of form ≡ Some cell_kind.Flat → 2 ≤ length (elements_in form)
+    → form_keys heap a form ≡ element_keys heap a (length (elements_in form) - 1) (get_or (elements_in form) 0 Nil)
+keys-some heap a None h some = cc
+keys-some heap a (Some (Flat keys [])) h some = absurd (omega (arith, some))
+keys-some heap a (Some (Flat keys (v ∷ vs))) h some =
+    let size : length (v ∷ vs) ≡ length (keys ∷ v ∷ vs) - 1 = omega arith in
+    ap (λ n. element_keys heap a n keys) size
+keys-some heap a (Some form) h some = cc
+
+pub flat-plain : (heap : List Cell) (path : List ℕ) (a : ℕ) (form : Option HeapForm) → option_map kind_of form ≡ Some cell_kind.Flat → 2 ≤ length (elements_in form) → target heap (get_or (elements_in form) 0 Nil) ≡ Plain
+    → form_opening heap path a form ≡ bad a Malformed
+flat-plain heap path a form h some plain =
+    flat-some heap path a form h some
+    ∙ ap (λ k. unless_on (a ∷ path) (get_or (elements_in form) 0 Nil) (keyed a (drop 1 (elements_in form)) k)) (keys-some heap a form h some)
+    ∙ leads-nowhere (λ e. unless_on (a ∷ path) e (keyed a (drop 1 (elements_in form)) (element_keys heap a (length (elements_in form) - 1) e)) ≡ bad a Malformed) heap (get_or (elements_in form) 0 Nil) plain
+    refl (λ _. refl) (λ _. refl) (λ _. refl) (λ _. refl)
+
+-- the keys element refers to an address
+flat-ref : (heap : List Cell) (path : List ℕ) (a b : ℕ) (form : Option HeapForm) (found : Option (Option HeapForm)) → option_map kind_of form ≡ Some cell_kind.Flat → 2 ≤ length (elements_in form)
+    → get_or (elements_in form) 0 Nil ≡ Ref b → form_with heap b ≡ found
+    → form_opening heap path a form ≡ cond (is_on b (a ∷ path)) (bad b OnPath) (keyed a (drop 1 (elements_in form)) (cell_keys b (length (elements_in form) - 1) found))
+flat-ref heap path a b form found h some is with_is =
+    flat-some heap path a form h some
+    ∙ ap (λ k. unless_on (a ∷ path) (get_or (elements_in form) 0 Nil) (keyed a (drop 1 (elements_in form)) k)) (keys-some heap a form h some)
+    ∙ ap (λ e. unless_on (a ∷ path) e (keyed a (drop 1 (elements_in form)) (element_keys heap a (length (elements_in form) - 1) e))) is
+    ∙ ap (λ f. cond (is_on b (a ∷ path)) (bad b OnPath) (keyed a (drop 1 (elements_in form)) (cell_keys b (length (elements_in form) - 1) f))) with_is
+
+pub flat-on : (heap : List Cell) (path : List ℕ) (a b : ℕ) (form : Option HeapForm) → option_map kind_of form ≡ Some cell_kind.Flat → 2 ≤ length (elements_in form)
+    → get_or (elements_in form) 0 Nil ≡ Ref b → is_on b (a ∷ path) ≡ true → form_opening heap path a form ≡ bad b OnPath
+flat-on heap path a b form h some is on =
+    flat-ref heap path a b form (form_with heap b) h some is refl
+    ∙ ap (λ x. cond x (bad b OnPath) (keyed a (drop 1 (elements_in form)) (cell_keys b (length (elements_in form) - 1) (form_with heap b)))) on
+
+pub flat-missing : (heap : List Cell) (path : List ℕ) (a b : ℕ) (form : Option HeapForm) → option_map kind_of form ≡ Some cell_kind.Flat → 2 ≤ length (elements_in form)
+    → get_or (elements_in form) 0 Nil ≡ Ref b → is_on b (a ∷ path) ≡ false → form_with heap b ≡ None → form_opening heap path a form ≡ bad b Missing
+flat-missing heap path a b form h some is off none =
+    flat-ref heap path a b form None h some is none
+    ∙ ap (λ x. cond x (bad b OnPath) (bad b Missing)) off
+
+tuple-size : (x : Bool) (b c : ℕ) (elements ks : List Element) → cond x (keys_at b elements) (bad_keys b Malformed) ≡ keys_at c ks → elements ≡ ks
+tuple-size true b c elements ks h = cc
+tuple-size false b c elements ks h = cc
+
+tuple-keys-at : (b size : ℕ) (form : Option HeapForm) (c : ℕ) (ks : List Element) → tuple_keys b size form ≡ keys_at c ks → elements_in form ≡ ks
+tuple-keys-at b size None c ks h = cc
+tuple-keys-at b size (Some (Tuple elements)) c ks h = tuple-size (eqb (length elements) size) b c elements ks h
+tuple-keys-at b size (Some form) c ks h = cc
+
+-- the keys are those of the tuple to which the keys element refers
+pub flat-keyed : (heap : List Cell) (path : List ℕ) (a k c : ℕ) (ks : List Element) (form : Option HeapForm) → option_map kind_of form ≡ Some cell_kind.Flat → 2 ≤ length (elements_in form)
+    → target heap (get_or (elements_in form) 0 Nil) ≡ At k → is_on (address_of heap k) (a ∷ path) ≡ false → form_keys heap a form ≡ keys_at c ks
+    → form_opening heap path a form ≡ node a kinds.Flat (flat_kids heap (elements_in form))
+flat-keyed heap path a k c ks form h some leads off keys =
+    let to = leads-at heap k (get_or (elements_in form) 0 Nil) leads in
+    let elements = elements_in form in
+    let size = length elements - 1 in
+    let tuple : tuple_keys (address_of heap k) size (form_at heap k) ≡ keys_at c ks
+    = sym (keys-some heap a form h some ∙ ap (element_keys heap a size) to.element ∙ ap (cell_keys (address_of heap k) size) to.form) ∙ keys in
+    flat-ref heap path a (address_of heap k) form (Some (form_at heap k)) h some to.element to.form
+    ∙ ap (λ x. cond x (bad (address_of heap k) OnPath) (keyed a (drop 1 elements) (tuple_keys (address_of heap k) size (form_at heap k)))) off
+    ∙ ap (keyed a (drop 1 elements)) tuple
+    ∙ ap (λ l. node a kinds.Flat (pairs l (drop 1 elements))) (sym (tuple-keys-at (address_of heap k) size (form_at heap k) c ks tuple))
+    ∙ ap (node a kinds.Flat) (sym (flat_kids-at heap elements k (omega (arith, some)) leads))
+
+pub flat-bad : (heap : List Cell) (path : List ℕ) (a k c : ℕ) (why : Why) (form : Option HeapForm) → option_map kind_of form ≡ Some cell_kind.Flat → 2 ≤ length (elements_in form)
+    → target heap (get_or (elements_in form) 0 Nil) ≡ At k → is_on (address_of heap k) (a ∷ path) ≡ false → form_keys heap a form ≡ bad_keys c why → form_opening heap path a form ≡ bad c why
+flat-bad heap path a k c why form h some leads off keys =
+    let to = leads-at heap k (get_or (elements_in form) 0 Nil) leads in
+    flat-some heap path a form h some
+    ∙ ap (λ x. unless_on (a ∷ path) (get_or (elements_in form) 0 Nil) (keyed a (drop 1 (elements_in form)) x)) keys
+    ∙ ap (λ e. unless_on (a ∷ path) e (bad c why)) to.element
+    ∙ ap (λ x. cond x (bad (address_of heap k) OnPath) (bad c why)) off
+
+-- a flat map with values has keys or bad ones
+no-tuple : {X : Type 0} (b : Bool) (k : ℕ) (elements : List Element) → cond b (keys_at k elements) (bad_keys k Malformed) ≡ no_keys → X
+no-tuple true k elements h = cc
+no-tuple false k elements h = cc
+
+no-form : {X : Type 0} (k size : ℕ) (form : Option HeapForm) → tuple_keys k size form ≡ no_keys → X
+no-form k size None h = cc
+no-form k size (Some (Tuple elements)) h = no-tuple (eqb (length elements) size) k elements h
+no-form k size (Some form) h = cc
+
+pub flat-no_keys : {X : Type 0} (heap : List Cell) (a k : ℕ) (form : Option HeapForm) → option_map kind_of form ≡ Some cell_kind.Flat → 2 ≤ length (elements_in form) → target heap (get_or (elements_in form) 0 Nil) ≡ At k
+    → form_keys heap a form ≡ no_keys → X
+flat-no_keys heap a k form h some leads none =
+    let to = leads-at heap k (get_or (elements_in form) 0 Nil) leads in
+    let size = length (elements_in form) - 1 in
+    no-form (address_of heap k) size (form_at heap k)
+    (sym (keys-some heap a form h some ∙ ap (element_keys heap a size) to.element ∙ ap (cell_keys (address_of heap k) size) to.form) ∙ none)
+
+-- items
+
+pub pair-opens : (a b : ℕ) (k v : Element) (form : Option HeapForm) → form_member a form ≡ pair_at b k v → item_opening (form_member a form) ≡ node a kinds.Pair (terms (take 2 (elements_in form)))
+pair-opens a b k v None h = cc
+pair-opens a b k v (Some (Cons head tail)) h = refl
+pair-opens a b k v (Some (Tuple elements)) h = cc
+pair-opens a b k v (Some (Node children)) h = cc
+pair-opens a b k v (Some form) h = cc
+
+pub inner-opens : (a b : ℕ) (es : List Element) (form : Option HeapForm) → form_member a form ≡ inner_at b es → item_opening (form_member a form) ≡ node a kinds.Inner (items a (members_in form))
+inner-opens a b es None h = cc
+inner-opens a b es (Some (Cons head tail)) h = cc
+inner-opens a b es (Some (Tuple elements)) h = refl
+inner-opens a b es (Some (Node children)) h = refl
+inner-opens a b es (Some form) h = cc

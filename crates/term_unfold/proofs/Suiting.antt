@@ -1,0 +1,103 @@
+-- What a term unfolds to is a term, and what a child of a hash map unfolds to is an item.
+use Rattle.std.proofs.Common.{◌≡◌, ℕ, zero, suc, ◌-◌, List, [], ◌∷◌, length, Option, None, Some, refl, Bool, true, false, cond}
+use Rattle.term_forms.specs.Elements.{Element, Nil, Small, Atom, Pid, Port, Ref}
+use Rattle.term_forms.specs.Forms.{HeapForm, Cons, Tuple, Float, Long, Pid as PidForm, Port as PortForm, Ext, HeapBin, RefBin, SubBin, Flat, Hash, Node}
+use Rattle.heap_cells.specs.Cells.{Cell}
+use Rattle.heap_cells.specs.declared.cells.Why.{Why}
+use Rattle.heap_cells.specs.declared.cells.Why.TheVariants.{OnPath}
+use Rattle.map_nodes.specs.Rules.{Keys, no_keys, keys_at, bad_keys, keys_of_map, Member, pair_at, inner_at, bad_member, member_of, form_with}
+use Rattle.term_unfold.specs.Laws.{Suits}
+use Rattle.term_unfold.specs.Rules.{Child, Term, Item, Opening, bad, is_on, unless_on, terms, items, pairs, keyed, flat_opening, form_opening, cell_opening, term_opening, item_opening, opening}
+use Rattle.term_unfold.specs.Terms.{IsTerm, IsItem, AreTerms, AreItems}
+use Rattle.term_unfold.specs.Trees.{Tree, Bad}
+use Rattle.term_unfold.specs.Unfolding.{trees, grown, unfold_by, unfolded}
+
+terms-suit : (f : Child → Tree) (es : List Element) → ((child : Child) → Suits child (f child)) → AreTerms (trees f (terms es))
+terms-suit f [] h = tt
+terms-suit f (e ∷ es) h = (h (Term e), terms-suit f es h)
+
+items-suit : (f : Child → Tree) (parent : ℕ) (es : List Element) → ((child : Child) → Suits child (f child)) → AreItems (trees f (items parent es))
+items-suit f parent [] h = tt
+items-suit f parent (e ∷ es) h = (h (Item parent e), items-suit f parent es h)
+
+pairs-suit : (f : Child → Tree) (ks vs : List Element) → ((child : Child) → Suits child (f child)) → AreTerms (trees f (pairs ks vs))
+pairs-suit f [] vs h = tt
+pairs-suit f (k ∷ ks) [] h = tt
+pairs-suit f (k ∷ ks) (v ∷ vs) h = (h (Term k), (h (Term v), pairs-suit f ks vs h))
+
+-- trees that suit their children, below every address
+abbrev AllSuit : (ℕ → Child → Tree) → Type 0
+AllSuit below = (a : ℕ) (child : Child) → Suits child (below a child)
+
+keyed-suits : (below : ℕ → Child → Tree) (a : ℕ) (vs : List Element) (keys : Keys) → AllSuit below → IsTerm (grown below (keyed a vs keys))
+keyed-suits below a vs no_keys h = tt
+keyed-suits below a vs (keys_at k ks) h = pairs-suit (below a) ks vs (h a)
+keyed-suits below a vs (bad_keys k why) h = tt
+
+off-suits : (below : ℕ → Child → Tree) (path : List ℕ) (e : Element) (off : Opening) → IsTerm (grown below off) → IsTerm (grown below (unless_on path e off))
+off-suits below path Nil off h = h
+off-suits below path (Small integer) off h = h
+off-suits below path (Atom bytes) off h = h
+off-suits below path (Pid pid) off h = h
+off-suits below path (Port port) off h = h
+off-suits below path (Ref a) off h = elim (is_on a path) as (λ b. IsTerm (grown below (cond b (bad a OnPath) off))) [ true ↦ tt | false ↦ h ]
+
+off-suits_item : (below : ℕ → Child → Tree) (path : List ℕ) (e : Element) (off : Opening) → IsItem (grown below off) → IsItem (grown below (unless_on path e off))
+off-suits_item below path Nil off h = h
+off-suits_item below path (Small integer) off h = h
+off-suits_item below path (Atom bytes) off h = h
+off-suits_item below path (Pid pid) off h = h
+off-suits_item below path (Port port) off h = h
+off-suits_item below path (Ref a) off h = elim (is_on a path) as (λ b. IsItem (grown below (cond b (bad a OnPath) off))) [ true ↦ tt | false ↦ h ]
+
+form-suits : (below : ℕ → Child → Tree) (heap : List Cell) (path : List ℕ) (a : ℕ) (form : Option HeapForm) → AllSuit below → IsTerm (grown below (form_opening heap path a form))
+form-suits below heap path a None h = tt
+form-suits below heap path a (Some (Cons head tail)) h = (refl, terms-suit (below a) (head ∷ tail ∷ []) (h a))
+form-suits below heap path a (Some (Tuple elements)) h = terms-suit (below a) elements (h a)
+form-suits below heap path a (Some (Flat keys [])) h = tt
+form-suits below heap path a (Some (Flat keys (v ∷ vs))) h =
+    off-suits below (a ∷ path) keys (keyed a (v ∷ vs) (keys_of_map heap a keys (v ∷ vs))) (keyed-suits below a (v ∷ vs) (keys_of_map heap a keys (v ∷ vs)) h)
+form-suits below heap path a (Some (Hash size children)) h = items-suit (below a) a children (h a)
+form-suits below heap path a (Some (Node children)) h = tt
+form-suits below heap path a (Some (Float bytes)) h = tt
+form-suits below heap path a (Some (Long number)) h = tt
+form-suits below heap path a (Some (PidForm pid)) h = tt
+form-suits below heap path a (Some (PortForm port)) h = tt
+form-suits below heap path a (Some (Ext size chars)) h = tt
+form-suits below heap path a (Some (HeapBin size chars)) h = tt
+form-suits below heap path a (Some (RefBin address offset size)) h = tt
+form-suits below heap path a (Some (SubBin address offset size)) h = tt
+
+cell-suits : (below : ℕ → Child → Tree) (heap : List Cell) (path : List ℕ) (a : ℕ) (found : Option (Option HeapForm)) → AllSuit below → IsTerm (grown below (cell_opening heap path a found))
+cell-suits below heap path a None h = tt
+cell-suits below heap path a (Some form) h = form-suits below heap path a form h
+
+term-suits : (below : ℕ → Child → Tree) (heap : List Cell) (path : List ℕ) (e : Element) → AllSuit below → IsTerm (grown below (term_opening heap path e))
+term-suits below heap path Nil h = tt
+term-suits below heap path (Small integer) h = tt
+term-suits below heap path (Atom bytes) h = tt
+term-suits below heap path (Pid pid) h = tt
+term-suits below heap path (Port port) h = tt
+term-suits below heap path (Ref a) h = cell-suits below heap path a (form_with heap a) h
+
+item-suits : (below : ℕ → Child → Tree) (member : Member) → AllSuit below → IsItem (grown below (item_opening member))
+item-suits below (pair_at a key value) h = (refl, terms-suit (below a) (key ∷ value ∷ []) (h a))
+item-suits below (inner_at a children) h = items-suit (below a) a children (h a)
+item-suits below (bad_member a why) h = tt
+
+opening-suits : (below : ℕ → Child → Tree) (heap : List Cell) (path : List ℕ) (child : Child) → AllSuit below → Suits child (grown below (opening heap path child))
+opening-suits below heap path (Term e) h = off-suits below path e (term_opening heap path e) (term-suits below heap path e h)
+opening-suits below heap path (Item parent e) h = off-suits_item below path e (item_opening (member_of heap parent e)) (item-suits below (member_of heap parent e) h)
+
+bad-suits : (child : Child) (a : ℕ) (why : Why) → Suits child (Bad a why)
+bad-suits (Term e) a why = tt
+bad-suits (Item parent e) a why = tt
+
+levels-suit : (levels : ℕ) (heap : List Cell) (path : List ℕ) (child : Child) → Suits child (unfold_by levels heap path child)
+unfolding unfold_by
+levels-suit zero heap path child = bad-suits child 0 OnPath
+levels-suit (suc levels) heap path child = opening-suits (λ a. unfold_by levels heap (a ∷ path)) heap path child (λ a below. levels-suit levels heap (a ∷ path) below)
+
+pub unfolded-suits : (heap : List Cell) (path : List ℕ) (child : Child) → Suits child (unfolded heap path child)
+unfolding unfolded
+unfolded-suits heap path child = levels-suit (suc (length heap) - length path) heap path child

@@ -1,0 +1,232 @@
+-- What the open cells still have to write, step by step.
+use Rattle.std.proofs.Common.{◌≡◌, ℕ, zero, suc, ◌+◌, ◌<◌, ◌≤◌, ◌%◌, ◌/◌, Bool, true, false, not, cond, List, [], ◌∷◌, ◌++◌, length, take, drop, Some, None, refl, sym, ◌∙◌, ap, subst, append_assoc, append-nil, arith, add-one}
+use Rattle.std.specs.Prelude.{codes, slice_get}
+use Rattle.std.proofs.Math.Nat.{div-add-mod}
+use Rattle.term_forms.specs.Elements.{Element, Nil}
+use Rattle.heap_cells.specs.Cells.{Cell}
+use Rattle.heap_cells.specs.HeapMap.{form_at, elements_at}
+use Rattle.heap_cells.specs.Targets.{number}
+use Rattle.heap_cells.specs.declared.cells.CellIx.{CellIx}
+use Rattle.map_nodes.specs.Rules.{address_of}
+use Rattle.term_unfold.specs.declared.node.NodeKind.{NodeKind}
+use Rattle.term_unfold.specs.declared.node.NodeKind.TheVariants as kinds
+use Rattle.term_unfold.specs.declared.openings.Opened.{Opened}
+use Rattle.term_unfold.specs.declared.openings.Opened.TheVariants as opened
+use Rattle.term_unfold.specs.declared.path.Entry.{Entry}
+use Rattle.term_unfold.specs.Inner.Coming.{left_of, entered_by}
+use Rattle.term_unfold.specs.Inner.Entries.{path_of, next_of, told, is_item, came_of, outside}
+use Rattle.term_unfold.specs.Inner.Kids.{kids_of}
+use Rattle.term_unfold.specs.Inner.Openings.{element_of, is_item_child, IsOpened}
+use Rattle.term_unfold.specs.Inner.Rest.{closing, list_rest, is_value, flat_rest, term_rest, pair_rest, item_rest, run, run_items, resume, rest, to_show, to_list, bracket, cell_text, own_text}
+use Rattle.term_unfold.specs.Rules.{Child, terms}
+use Rattle.term_unfold.specs.Text.{Shown, shown, led, ◌then◌, Stand, Cut, At, Listed, listed, go_on, ◌followed◌, left_at, closed, comma, cut, valued, key_then, bad_text, is_nil, leaf_tail, barred, node_text, head_text, tail_text, elements_text, keys_text, values_text, items_text, item_text, pair_text, value_text}
+use Rattle.term_unfold.specs.Trees.{Value, Immediate, OfCell, Tree, Leaf, Bad, Branch, Trees, none, more}
+use Rattle.term_unfold.specs.Unfolding.{trees, unfolded}
+use Rattle.term_unfold.proofs.Visited.{unfolded-as, drop-at_get, drop-past_get}
+
+-- texts and what follows them
+
+pub run-then : (s : Shown) (f : ℕ → Shown) (k : ℕ → List ℕ) → run (s then f) k ≡ run s (λ m. run (f m) k)
+run-then s f k = append_assoc s.text (f s.left).text (k (f s.left).left)
+
+pub run-led : (front : List ℕ) (s : Shown) (k : ℕ → List ℕ) → run (led front s) k ≡ front ++ run s k
+run-led front s k = append_assoc front s.text (k s.left)
+
+pub run-barred : (s : Shown) (k : ℕ → List ℕ) → run (barred s) k ≡ codes "|" ++ run s (λ m. codes "]" ++ k m)
+run-barred s k = ap (λ l. 124 ∷ l) (append_assoc s.text (codes "]") (k s.left))
+
+-- the children that are left
+
+pub left-none : (heap : List Cell) (e : Entry) (es : List Entry) → slice_get (kids_of heap e.kind (number e.cell)) e.next ≡ None → left_of heap e es ≡ none
+left-none heap e es is = ap (trees (unfolded heap (path_of heap (e ∷ es)))) (drop-past_get (kids_of heap e.kind (number e.cell)) e.next is)
+
+pub left-more : (heap : List Cell) (came : Bool) (e : Entry) (es : List Entry) (child : Child) → slice_get (kids_of heap e.kind (number e.cell)) e.next ≡ Some child
+    → left_of heap e es ≡ more (unfolded heap (path_of heap (next_of came e ∷ es)) child) (left_of heap (next_of came e) es)
+left-more heap came e es child is =
+    ap (trees (unfolded heap (path_of heap (e ∷ es)))) (drop-at_get (kids_of heap e.kind (number e.cell)) e.next child is)
+
+-- what the innermost cell has to write, where its kind is given
+
+pub term-at : (leaf : Value → List ℕ) (heap : List Cell) (e : Entry) (es : List Entry) (came : Bool) (m : ℕ) (k : NodeKind) → e.kind ≡ k → is_item k ≡ false
+    → resume leaf heap (e ∷ es) (At came m) ≡ run (term_rest leaf k came e.next (left_of heap e es) m) (rest leaf heap es)
+term-at leaf heap e es came m k is term =
+    ap (λ x. cond (is_item x) (run_items (item_rest leaf x came e.next (left_of heap e es) m) (resume leaf heap es)) (run (term_rest leaf x came e.next (left_of heap e es) m) (rest leaf heap es))) is
+    ∙ ap (λ b. cond b (run_items (item_rest leaf k came e.next (left_of heap e es) m) (resume leaf heap es)) (run (term_rest leaf k came e.next (left_of heap e es) m) (rest leaf heap es))) term
+
+pub item-at : (leaf : Value → List ℕ) (heap : List Cell) (e : Entry) (es : List Entry) (came : Bool) (m : ℕ) (k : NodeKind) → e.kind ≡ k → is_item k ≡ true
+    → resume leaf heap (e ∷ es) (At came m) ≡ run_items (item_rest leaf k came e.next (left_of heap e es) m) (resume leaf heap es)
+item-at leaf heap e es came m k is item =
+    ap (λ x. cond (is_item x) (run_items (item_rest leaf x came e.next (left_of heap e es) m) (resume leaf heap es)) (run (term_rest leaf x came e.next (left_of heap e es) m) (rest leaf heap es))) is
+    ∙ ap (λ b. cond b (run_items (item_rest leaf k came e.next (left_of heap e es) m) (resume leaf heap es)) (run (term_rest leaf k came e.next (left_of heap e es) m) (rest leaf heap es))) item
+
+-- what the innermost was told is where it stands
+pub rest-told : (leaf : Value → List ℕ) (heap : List Cell) (es : List Entry) (came : Bool) (m : ℕ) → rest leaf heap (told came es) m ≡ resume leaf heap es (At came m)
+rest-told leaf heap [] came m = refl
+rest-told leaf heap (e ∷ es) came m = refl
+
+-- a cut is closed by the map, and the count is 0
+cut-at : (leaf : Value → List ℕ) (b : Bool) (heap : List Cell) (es : List Entry) → resume leaf heap es Cut ≡ codes "}" ++ rest leaf heap (outside es) 0
+    → cond b (resume leaf heap es Cut) (codes "}" ++ rest leaf heap es 0) ≡ codes "}" ++ rest leaf heap (cond b (outside es) es) 0
+cut-at leaf true heap es is = is
+cut-at leaf false heap es is = refl
+
+resume-cut : (leaf : Value → List ℕ) (heap : List Cell) (entries : List Entry) → resume leaf heap entries Cut ≡ codes "}" ++ rest leaf heap (outside entries) 0
+resume-cut leaf heap [] = refl
+resume-cut leaf heap (e ∷ es) = cut-at leaf (is_item e.kind) heap es (resume-cut leaf heap es)
+
+pub outside-item : (e : Entry) (es : List Entry) (k : NodeKind) → e.kind ≡ k → is_item k ≡ true → outside (e ∷ es) ≡ outside es
+outside-item e es k is item = ap (λ x. cond (is_item x) (outside es) es) is ∙ ap (λ b. cond b (outside es) es) item
+
+pub outside-term : (e : Entry) (es : List Entry) (k : NodeKind) → e.kind ≡ k → is_item k ≡ false → outside (e ∷ es) ≡ es
+outside-term e es k is term = ap (λ x. cond (is_item x) (outside es) es) is ∙ ap (λ b. cond b (outside es) es) term
+
+-- no child is left
+
+list-none : (leaf : Value → List ℕ) (came : Bool) (next m : ℕ) → list_rest leaf came next none m ≡ shown (closing came) m
+list-none leaf came zero m = refl
+list-none leaf came (suc next) m = refl
+
+flat-none : (leaf : Value → List ℕ) (b came : Bool) (m : ℕ) → flat_rest leaf b came none m ≡ shown (codes "}") m
+flat-none leaf true came m = refl
+flat-none leaf false came m = refl
+
+pair-none : (leaf : Value → List ℕ) (came : Bool) (next m : ℕ) → pair_rest leaf came next none m ≡ listed [] (At true m)
+pair-none leaf came zero m = refl
+pair-none leaf came (suc next) m = refl
+
+pub close-cons : (leaf : Value → List ℕ) (heap : List Cell) (e : Entry) (es : List Entry) (m : ℕ) → e.kind ≡ kinds.Cons → left_of heap e es ≡ none
+    → rest leaf heap (e ∷ es) m ≡ closing e.came ++ rest leaf heap es m
+close-cons leaf heap e es m is left =
+    term-at leaf heap e es e.came m kinds.Cons is refl ∙ ap (λ t. run (list_rest leaf e.came e.next t m) (rest leaf heap es)) left
+    ∙ ap (λ s. run s (rest leaf heap es)) (list-none leaf e.came e.next m)
+
+pub close-tuple : (leaf : Value → List ℕ) (heap : List Cell) (e : Entry) (es : List Entry) (m : ℕ) → e.kind ≡ kinds.Tuple → left_of heap e es ≡ none
+    → rest leaf heap (e ∷ es) m ≡ codes "}" ++ rest leaf heap es m
+close-tuple leaf heap e es m is left =
+    term-at leaf heap e es e.came m kinds.Tuple is refl ∙ ap (λ t. run (elements_text leaf e.came t m) (rest leaf heap es)) left
+
+pub close-flat : (leaf : Value → List ℕ) (heap : List Cell) (e : Entry) (es : List Entry) (m : ℕ) → e.kind ≡ kinds.Flat → left_of heap e es ≡ none
+    → rest leaf heap (e ∷ es) m ≡ codes "}" ++ rest leaf heap es m
+close-flat leaf heap e es m is left =
+    term-at leaf heap e es e.came m kinds.Flat is refl ∙ ap (λ t. run (flat_rest leaf (is_value e.next) e.came t m) (rest leaf heap es)) left
+    ∙ ap (λ s. run s (rest leaf heap es)) (flat-none leaf (is_value e.next) e.came m)
+
+pub close-hash : (leaf : Value → List ℕ) (heap : List Cell) (e : Entry) (es : List Entry) (m : ℕ) → e.kind ≡ kinds.Hash → left_of heap e es ≡ none
+    → rest leaf heap (e ∷ es) m ≡ codes "}" ++ rest leaf heap es m
+close-hash leaf heap e es m is left =
+    term-at leaf heap e es e.came m kinds.Hash is refl ∙ ap (λ t. run (closed (items_text leaf e.came t m)) (rest leaf heap es)) left
+
+pub close-inner : (leaf : Value → List ℕ) (heap : List Cell) (e : Entry) (es : List Entry) (m : ℕ) → e.kind ≡ kinds.Inner → left_of heap e es ≡ none
+    → rest leaf heap (e ∷ es) m ≡ rest leaf heap (told e.came es) m
+close-inner leaf heap e es m is left =
+    item-at leaf heap e es e.came m kinds.Inner is refl ∙ ap (λ t. run_items (items_text leaf e.came t m) (resume leaf heap es)) left ∙ sym (rest-told leaf heap es e.came m)
+
+pub close-pair : (leaf : Value → List ℕ) (heap : List Cell) (e : Entry) (es : List Entry) (m : ℕ) → e.kind ≡ kinds.Pair → left_of heap e es ≡ none
+    → rest leaf heap (e ∷ es) m ≡ rest leaf heap (told true es) m
+close-pair leaf heap e es m is left =
+    item-at leaf heap e es e.came m kinds.Pair is refl ∙ ap (λ t. run_items (pair_rest leaf e.came e.next t m) (resume leaf heap es)) left
+    ∙ ap (λ l. run_items l (resume leaf heap es)) (pair-none leaf e.came e.next m) ∙ sym (rest-told leaf heap es true m)
+
+-- a child is left that isn't visited
+
+tail-cut : (leaf : Value → List ℕ) (t : Tree) (ts : Trees) → tail_text leaf (more t ts) 0 ≡ shown (codes "|...]") 0
+tail-cut leaf (Leaf value) ts = refl
+tail-cut leaf (Bad address why) ts = refl
+tail-cut leaf (Branch kinds.Cons children) ts = refl
+tail-cut leaf (Branch k children) ts = refl
+
+-- a cut behind a front, down to the map
+cut-down : (leaf : Value → List ℕ) (heap : List Cell) (entries : List Entry) (front : List ℕ) → (front ++ codes "...") ++ resume leaf heap entries Cut ≡ (front ++ codes "...}") ++ rest leaf heap (outside entries) 0
+cut-down leaf heap entries front =
+    append_assoc front (codes "...") (resume leaf heap entries Cut) ∙ ap (λ l. front ++ (codes "..." ++ l)) (resume-cut leaf heap entries)
+    ∙ sym (append_assoc front (codes "...}") (rest leaf heap (outside entries) 0))
+
+abbrev pub HasChild : List Cell → Entry → Child → Type 0
+HasChild heap e child = slice_get (kids_of heap e.kind (number e.cell)) e.next ≡ Some child
+
+abbrev tree_of : List Cell → Entry → List Entry → Child → Tree
+tree_of heap e es child = unfolded heap (path_of heap (next_of true e ∷ es)) child
+
+pub cut-head : (leaf : Value → List ℕ) (heap : List Cell) (e : Entry) (es : List Entry) (child : Child) → e.kind ≡ kinds.Cons → e.next ≡ 0 → HasChild heap e child
+    → rest leaf heap (e ∷ es) 0 ≡ codes "...]" ++ rest leaf heap es 0
+cut-head leaf heap e es child is at has =
+    term-at leaf heap e es e.came 0 kinds.Cons is refl ∙ ap (λ t. run (list_rest leaf e.came e.next t 0) (rest leaf heap es)) (left-more heap true e es child has)
+    ∙ ap (λ n. run (list_rest leaf e.came n (more (tree_of heap e es child) (left_of heap (next_of true e) es)) 0) (rest leaf heap es)) at
+
+pub cut-tail : (leaf : Value → List ℕ) (heap : List Cell) (e : Entry) (es : List Entry) (child : Child) (n : ℕ) → e.kind ≡ kinds.Cons → e.next ≡ suc n → HasChild heap e child
+    → rest leaf heap (e ∷ es) 0 ≡ codes "|...]" ++ rest leaf heap es 0
+cut-tail leaf heap e es child n is at has =
+    term-at leaf heap e es e.came 0 kinds.Cons is refl ∙ ap (λ t. run (list_rest leaf e.came e.next t 0) (rest leaf heap es)) (left-more heap true e es child has)
+    ∙ ap (λ n. run (list_rest leaf e.came n (more (tree_of heap e es child) (left_of heap (next_of true e) es)) 0) (rest leaf heap es)) at
+    ∙ ap (λ s. run s (rest leaf heap es)) (tail-cut leaf (tree_of heap e es child) (left_of heap (next_of true e) es))
+
+pub cut-tuple : (leaf : Value → List ℕ) (heap : List Cell) (e : Entry) (es : List Entry) (child : Child) → e.kind ≡ kinds.Tuple → HasChild heap e child
+    → rest leaf heap (e ∷ es) 0 ≡ (comma e.came ++ codes "...}") ++ rest leaf heap es 0
+cut-tuple leaf heap e es child is has =
+    term-at leaf heap e es e.came 0 kinds.Tuple is refl ∙ ap (λ t. run (elements_text leaf e.came t 0) (rest leaf heap es)) (left-more heap true e es child has)
+
+pub cut-key : (leaf : Value → List ℕ) (heap : List Cell) (e : Entry) (es : List Entry) (child : Child) → e.kind ≡ kinds.Flat → is_value e.next ≡ false → HasChild heap e child
+    → rest leaf heap (e ∷ es) 0 ≡ (comma e.came ++ codes "...}") ++ rest leaf heap es 0
+cut-key leaf heap e es child is key has =
+    term-at leaf heap e es e.came 0 kinds.Flat is refl ∙ ap (λ t. run (flat_rest leaf (is_value e.next) e.came t 0) (rest leaf heap es)) (left-more heap true e es child has)
+    ∙ ap (λ b. run (flat_rest leaf b e.came (more (tree_of heap e es child) (left_of heap (next_of true e) es)) 0) (rest leaf heap es)) key
+
+pub cut-value : (leaf : Value → List ℕ) (heap : List Cell) (e : Entry) (es : List Entry) (child : Child) → e.kind ≡ kinds.Flat → is_value e.next ≡ true → HasChild heap e child
+    → rest leaf heap (e ∷ es) 0 ≡ codes "=>...}" ++ rest leaf heap es 0
+cut-value leaf heap e es child is value has =
+    term-at leaf heap e es e.came 0 kinds.Flat is refl ∙ ap (λ t. run (flat_rest leaf (is_value e.next) e.came t 0) (rest leaf heap es)) (left-more heap true e es child has)
+    ∙ ap (λ b. run (flat_rest leaf b e.came (more (tree_of heap e es child) (left_of heap (next_of true e) es)) 0) (rest leaf heap es)) value
+
+pub cut-hash : (leaf : Value → List ℕ) (heap : List Cell) (e : Entry) (es : List Entry) (child : Child) → e.kind ≡ kinds.Hash → HasChild heap e child
+    → rest leaf heap (e ∷ es) 0 ≡ (comma e.came ++ codes "...}") ++ rest leaf heap es 0
+cut-hash leaf heap e es child is has =
+    term-at leaf heap e es e.came 0 kinds.Hash is refl ∙ ap (λ t. run (closed (items_text leaf e.came t 0)) (rest leaf heap es)) (left-more heap true e es child has)
+    ∙ ap (λ l. l ++ rest leaf heap es 0) (append_assoc (comma e.came) (codes "...") (codes "}"))
+
+pub cut-inner : (leaf : Value → List ℕ) (heap : List Cell) (e : Entry) (es : List Entry) (child : Child) → e.kind ≡ kinds.Inner → HasChild heap e child
+    → rest leaf heap (e ∷ es) 0 ≡ (comma e.came ++ codes "...}") ++ rest leaf heap (outside es) 0
+cut-inner leaf heap e es child is has =
+    item-at leaf heap e es e.came 0 kinds.Inner is refl ∙ ap (λ t. run_items (items_text leaf e.came t 0) (resume leaf heap es)) (left-more heap true e es child has)
+    ∙ cut-down leaf heap es (comma e.came)
+
+pub cut-pair_key : (leaf : Value → List ℕ) (heap : List Cell) (e : Entry) (es : List Entry) (child : Child) → e.kind ≡ kinds.Pair → e.next ≡ 0 → HasChild heap e child
+    → rest leaf heap (e ∷ es) 0 ≡ (comma e.came ++ codes "...}") ++ rest leaf heap (outside es) 0
+cut-pair_key leaf heap e es child is at has =
+    item-at leaf heap e es e.came 0 kinds.Pair is refl ∙ ap (λ t. run_items (pair_rest leaf e.came e.next t 0) (resume leaf heap es)) (left-more heap true e es child has)
+    ∙ ap (λ n. run_items (pair_rest leaf e.came n (more (tree_of heap e es child) (left_of heap (next_of true e) es)) 0) (resume leaf heap es)) at
+    ∙ cut-down leaf heap es (comma e.came)
+
+pub cut-pair_value : (leaf : Value → List ℕ) (heap : List Cell) (e : Entry) (es : List Entry) (child : Child) (n : ℕ) → e.kind ≡ kinds.Pair → e.next ≡ suc n → HasChild heap e child
+    → rest leaf heap (e ∷ es) 0 ≡ codes "=>...}" ++ rest leaf heap (outside es) 0
+cut-pair_value leaf heap e es child n is at has =
+    item-at leaf heap e es e.came 0 kinds.Pair is refl ∙ ap (λ t. run_items (pair_rest leaf e.came e.next t 0) (resume leaf heap es)) (left-more heap true e es child has)
+    ∙ ap (λ n. run_items (pair_rest leaf e.came n (more (tree_of heap e es child) (left_of heap (next_of true e) es)) 0) (resume leaf heap es)) at
+    ∙ cut-down leaf heap es (codes "=>")
+
+-- which children of a flat map are values
+
+abbrev double : ℕ → ℕ
+double zero = zero
+double (suc i) = suc (suc (double i))
+
+double-twice : (i : ℕ) → double i ≡ i + i
+double-twice zero = refl
+double-twice (suc i) = omega (arith, double-twice i)
+
+not-not : (b : Bool) → not (not b) ≡ b
+not-not true = refl
+not-not false = refl
+
+double-key : (i : ℕ) → is_value (double i) ≡ false
+double-key zero = refl
+double-key (suc i) = not-not (is_value (double i)) ∙ double-key i
+
+pub even-key : (n : ℕ) → n % 2 ≡ 0 → is_value n ≡ false
+even-key n h =
+    let is : n ≡ double (n / 2) = omega (arith, h, double-twice (n / 2), div-add-mod n 2) in
+    ap is_value is ∙ double-key (n / 2)
+
+pub odd-value : (n : ℕ) → 0 < n % 2 → is_value n ≡ true
+odd-value n h =
+    let is : n ≡ suc (double (n / 2)) = omega (arith, h, double-twice (n / 2), div-add-mod n 2) in
+    ap is_value is ∙ ap not (double-key (n / 2))

@@ -1,0 +1,109 @@
+-- The steps of the walk, by what the stack stands for.
+use Rattle.std.proofs.Common.{◌≡◌, ℕ, zero, suc, ◌+◌, ◌-◌, ◌<◌, ◌≤◌, Bool, List, [], ◌∷◌, ◌++◌, length, take, drop, Some, None, refl, sym, ◌∙◌, ap, append_assoc, arith}
+use Rattle.std.specs.Prelude.{slice_get}
+use Rattle.std.proofs.lemmas.List.{drop_more, length-map}
+use Rattle.std.proofs.lemmas.Option.{slice_get_within, get_or_from_slice_get}
+use Rattle.heap_cells.specs.Cells.{Cell}
+use Rattle.heap_cells.specs.Targets.{number}
+use Rattle.heap_cells.specs.declared.cells.CellIx.{CellIx}
+use Rattle.heap_cells.specs.declared.cells.Why.{Why}
+use Rattle.map_nodes.specs.Rules.{address_of}
+use Rattle.term_unfold.specs.declared.node.NodeKind.{NodeKind}
+use Rattle.term_unfold.specs.declared.openings.Opened.{Opened}
+use Rattle.term_unfold.specs.declared.openings.Opened.TheVariants as opened
+use Rattle.term_unfold.specs.declared.path.Entry.{Entry}
+use Rattle.term_unfold.specs.declared.verdict.Verdict.{Verdict}
+use Rattle.term_unfold.specs.declared.verdict.Verdict.TheVariants as verdicts
+use Rattle.term_unfold.specs.Inner.Coming.{left_of, to_come, entered_by, verdict_on, Visits}
+use Rattle.term_unfold.specs.Inner.Entries.{path_of, stepped}
+use Rattle.term_unfold.specs.Inner.Kids.{kids_of}
+use Rattle.term_unfold.specs.Inner.Openings.{element_of, IsOpened}
+use Rattle.term_unfold.specs.Rules.{Child, Opening, leaf, bad, node, opening}
+use Rattle.term_unfold.specs.Trees.{Value, Immediate, OfCell, Tree, Leaf, Bad, Branch, pre, pre_all, seen, or_else, first_bad}
+use Rattle.term_unfold.specs.Unfolding.{trees, grown, unfolded}
+use Rattle.term_unfold.proofs.Levels.{unfolded-rule}
+
+-- the tree of a child, by what it opens
+
+pub path-few : (heap : List Cell) (entries : List Entry) → length entries ≤ length heap → length (path_of heap entries) ≤ length heap
+path-few heap entries few = omega (arith, few, length-map entries (λ (e : Entry). address_of heap (number e.cell)))
+
+pub unfolded-as : (heap : List Cell) (entries : List Entry) (child : Child) (o : Opening) → length entries ≤ length heap → opening heap (path_of heap entries) child ≡ o
+    → unfolded heap (path_of heap entries) child ≡ grown (λ a. unfolded heap (a ∷ path_of heap entries)) o
+unfolded-as heap entries child o few is =
+    unfolded-rule heap (path_of heap entries) child (path-few heap entries few) ∙ ap (grown (λ a. unfolded heap (a ∷ path_of heap entries))) is
+
+visits-as : (heap : List Cell) (before after : List Entry) (child : Child) (o : Opening) (verdict : Verdict) (tree : Tree) → length before ≤ length heap → opening heap (path_of heap before) child ≡ o
+    → pre (grown (λ a. unfolded heap (a ∷ path_of heap before)) o) ++ to_come heap before ≡ tree ∷ to_come heap after → verdict ≡ seen tree
+    → Visits heap before after child verdict
+visits-as heap before after child o verdict tree few is first says = record {
+  node = tree;
+  first = ap (λ t. pre t ++ to_come heap before) (unfolded-as heap before child o few is) ∙ first;
+  seen = says;
+}
+
+pub visits-opened : (heap : List Cell) (before after : List Entry) (child : Child) (o : Opened) (came : Bool) → length before ≤ length heap → IsOpened heap (path_of heap before) child o
+    → after ≡ entered_by o came before → Visits heap before after child (verdict_on o)
+visits-opened heap before after child opened.Immediate came few is now =
+    let tree : Tree = Leaf (Immediate (element_of child)) in
+    visits-as heap before after child _ verdicts.Clean tree few is (ap (λ es. tree ∷ to_come heap es) (sym now)) refl
+visits-opened heap before after child (opened.Leaf ix) came few is now =
+    let tree : Tree = Leaf (OfCell (address_of heap (number ix)) is.form) in
+    visits-as heap before after child _ verdicts.Clean tree few is.opens (ap (λ es. tree ∷ to_come heap es) (sym now)) refl
+visits-opened heap before after child (opened.Bad address why) came few is now =
+    visits-as heap before after child _ (verdicts.Bad address why) (Bad address why) few is (ap (λ es. Bad address why ∷ to_come heap es) (sym now)) refl
+visits-opened heap before after child (opened.Node ix kind) came few is now =
+    let tree : Tree = Branch kind (trees (unfolded heap (address_of heap (number ix) ∷ path_of heap before)) (kids_of heap kind (number ix))) in
+    visits-as heap before after child _ verdicts.Clean tree few is.opens (ap (λ es. tree ∷ to_come heap es) (sym now)) refl
+
+-- children by place
+
+pub drop-at_get : {X : Type 0} → (xs : List X) (i : ℕ) (x : X) → slice_get xs i ≡ Some x → drop i xs ≡ x ∷ drop (i + 1) xs
+drop-at_get xs i x is =
+    drop_more xs i x (slice_get_within xs i x is) ∙ ap (λ y. y ∷ drop (i + 1) xs) (get_or_from_slice_get xs i x x is)
+
+pub drop-past_get : {X : Type 0} → (xs : List X) (i : ℕ) → slice_get xs i ≡ None → drop i xs ≡ []
+drop-past_get [] zero is = refl
+drop-past_get [] (suc i) is = refl
+drop-past_get (y ∷ ys) zero is = cc
+drop-past_get (y ∷ ys) (suc i) is = drop-past_get ys i is
+
+-- the innermost cell gives its next child
+to_come-next : (heap : List Cell) (came : Bool) (e : Entry) (es : List Entry) (s : Child) → slice_get (kids_of heap e.kind (number e.cell)) e.next ≡ Some s
+    → to_come heap (e ∷ es) ≡ pre (unfolded heap (path_of heap (stepped came (e ∷ es))) s) ++ to_come heap (stepped came (e ∷ es))
+to_come-next heap came e es s is =
+    let tree : Child → Tree = unfolded heap (path_of heap (e ∷ es)) in
+    let kids = kids_of heap e.kind (number e.cell) in
+    ap (λ ss. pre_all (trees tree ss) ++ to_come heap es) (drop-at_get kids e.next s is)
+    ∙ append_assoc (pre (tree s)) (pre_all (trees tree (drop (e.next + 1) kids))) (to_come heap es)
+
+pub to_come-step : (heap : List Cell) (came : Bool) (before after : List Entry) (e : Entry) (es : List Entry) (s : Child) → before ≡ e ∷ es → slice_get (kids_of heap e.kind (number e.cell)) e.next ≡ Some s
+    → after ≡ stepped came before → to_come heap before ≡ pre (unfolded heap (path_of heap after) s) ++ to_come heap after
+to_come-step heap came before after e es s was at step =
+    let now : after ≡ stepped came (e ∷ es) = step ∙ ap (stepped came) was in
+    ap (to_come heap) was ∙ to_come-next heap came e es s at ∙ ap (λ es. pre (unfolded heap (path_of heap es) s) ++ to_come heap es) (sym now)
+
+-- the innermost cell is left
+pub to_come-pop : (heap : List Cell) (before after : List Entry) (e : Entry) → before ≡ e ∷ after → slice_get (kids_of heap e.kind (number e.cell)) e.next ≡ None → to_come heap after ≡ to_come heap before
+to_come-pop heap before after e was at =
+    sym (ap (to_come heap) was ∙ ap (λ ss. pre_all (trees (unfolded heap (path_of heap (e ∷ after))) ss) ++ to_come heap after) (drop-past_get (kids_of heap e.kind (number e.cell)) e.next at))
+
+-- one node less
+visited : (n : ℕ) (heap : List Cell) (before after : List Entry) (child : Child) (verdict : Verdict) → Visits heap before after child verdict → 0 < n
+    → or_else verdict (first_bad (take (n - 1) (to_come heap after))) ≡ first_bad (take n (pre (unfolded heap (path_of heap before) child) ++ to_come heap before))
+visited zero heap before after child verdict v some = absurd (omega (arith, some))
+visited (suc m) heap before after child verdict v some =
+    let less : suc m - 1 ≡ m = omega arith in
+    ap (λ k. or_else verdict (first_bad (take k (to_come heap after)))) less
+    ∙ ap (λ w. or_else w (first_bad (take m (to_come heap after)))) v.seen
+    ∙ ap (λ ts. first_bad (take (suc m) ts)) (sym v.first)
+
+pub visited-next : (budget i : ℕ) (heap : List Cell) (es before after : List Entry) (child : Child) (old new : Verdict) → old ≡ verdicts.Clean → i < budget
+    → to_come heap es ≡ pre (unfolded heap (path_of heap before) child) ++ to_come heap before → Visits heap before after child new
+    → or_else new (first_bad (take (budget - (i + 1)) (to_come heap after))) ≡ or_else old (first_bad (take (budget - i) (to_come heap es)))
+visited-next budget i heap es before after child old new clean lt next v =
+    let less : budget - (i + 1) ≡ budget - i - 1 = omega (arith, lt) in
+    ap (λ k. or_else new (first_bad (take k (to_come heap after)))) less
+    ∙ visited (budget - i) heap before after child new v (omega (arith, lt))
+    ∙ ap (λ ts. first_bad (take (budget - i) ts)) (sym next)
+    ∙ ap (λ w. or_else w (first_bad (take (budget - i) (to_come heap es)))) (sym clean)

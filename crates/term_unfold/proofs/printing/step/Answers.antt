@@ -1,0 +1,48 @@
+use Rattle.std.proofs.Common.{◌≡◌, ℕ, ◌+◌, ◌-◌, ◌<◌, ◌≤◌, zero, suc, false, List, [], ◌∷◌, ◌++◌, length, drop, Ok, Err, refl, sym, ◌∙◌, ap, subst, append-nil, arith}
+use Rattle.std.specs.Option.{option_map}
+use Rattle.term_forms.specs.Seen.{element}
+use Rattle.term_unfold.specs.Inner.Entries.{Entered, path_of}
+use Rattle.term_unfold.specs.Inner.Coming.{entered_by}
+use Rattle.term_unfold.specs.Inner.Kids.{child_shown}
+use Rattle.term_unfold.specs.Inner.Openings.{IsOpened}
+use Rattle.term_unfold.specs.Inner.Rest.{rest, own_text, turn_text}
+use Rattle.term_unfold.specs.Leaves.{leaf_text}
+use Rattle.term_unfold.specs.Rules.{Term}
+use Rattle.term_unfold.specs.Text.{show}
+use Rattle.term_unfold.specs.Unfolding.{unfolding_of}
+use Rattle.term_unfold.proofs.Turning.{left-none}
+use Rattle.term_unfold.proofs.Stepping.{show-opened}
+use Rattle.term_unfold.proofs.Written.{Steps-text, IsPart-next, Puts-part, Puts-broken_step, Puts-whole}
+use Rattle.term_unfold.proofs.printing.step.Goals as goal
+
+pub returns-in_default-clause-step : goal.returns-in_default-clause-step
+returns-in_default-clause-step g c =
+    let heap = c.args.heap.now.cells in
+    let leaf = leaf_text c.args.heap.now.enc c.args.previews.now in
+    let before = c.args.path.now.entries in
+    let e = c.args.entry in
+    let none = sym c.child_at.ensures.child ∙ ap (option_map (child_shown heap)) c.in_default.is in
+    Steps-text _ _ _ _ (rest leaf heap before c.args.left) c.close-text.result.now (rest leaf heap c.close-text.new.path.entries) c.args.left c.write_all.result c.counted.result c.counted.ensures c.write_all.ensures.puts
+    (c.close-text.ensures.text leaf heap c.args.left (left-none heap e (drop 1 before) none))
+
+pub returns-then-left-eq0-clause-step : goal.returns-then-left-eq0-clause-step
+returns-then-left-eq0-clause-step g c =
+    let heap = c.args.heap.now.cells in
+    let leaf = leaf_text c.args.heap.now.enc c.args.previews.now in
+    let before = c.args.path.now.entries in
+    let e = c.args.entry in
+    let has = sym c.child_at.ensures.child ∙ ap (option_map (child_shown heap)) c.in-Some.is in
+    Steps-text _ _ _ _ (rest leaf heap before c.args.left) c.cut-text.result.now (rest leaf heap c.cut-text.new.path.entries) 0 c.write_all-then-left-eq0.result c.counted-then-left-eq0.result
+    c.counted-then-left-eq0.ensures c.write_all-then-left-eq0.ensures.puts
+    (ap (rest leaf heap before) c.if-left-eq0.true ∙ c.cut-text.ensures.text leaf heap (child_shown heap c.in-Some.child) has)
+
+pub returns-clause-step : goal.returns-clause-step
+returns-clause-step g c =
+    let heap = c.args.heap.now.cells in
+    let leaf = leaf_text c.args.heap.now.enc c.args.previews.now in
+    let before = c.args.path.now.entries in
+    let e = c.args.entry in
+    let count : c.args.left ≡ suc (c.args.left - 1) = omega (arith, c.if-left-eq0.false) in
+    Steps-text _ _ _ _ (rest leaf heap before c.args.left) (turn_text leaf heap (child_shown heap c.in-Some.child) c.visit_next-turn.result) (rest leaf heap c.visit_next-turn.new.path.entries) (c.args.left - 1)
+    c.put_turn.result c.counted-2.result c.counted-2.ensures c.put_turn.ensures
+    (ap (rest leaf heap before) count ∙ c.visit_next-turn.ensures.turn.text leaf (c.args.left - 1))

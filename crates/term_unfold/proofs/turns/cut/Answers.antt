@@ -1,0 +1,79 @@
+use Rattle.std.proofs.Common.{◌≡◌, ◌+◌, ◌-◌, ◌<◌, ◌≤◌, zero, suc, true, false, ◌∷◌, ◌++◌, length, drop, refl, sym, ◌∙◌, ap, subst, inl, inr, arith}
+use Rattle.std.specs.Prelude.{codes}
+use Rattle.term_unfold.specs.declared.node.NodeKind.TheVariants as kinds
+use Rattle.term_unfold.specs.Inner.Entries.{Entered, outside, path_of, next_of}
+use Rattle.term_unfold.specs.Inner.Kids.{child_shown}
+use Rattle.term_unfold.specs.Inner.Rest.{rest}
+use Rattle.term_unfold.specs.Text.{comma}
+use Rattle.term_unfold.proofs.Turning.{outside-item, outside-term, cut-tuple, cut-key, cut-value, cut-hash, cut-inner, cut-pair_key, cut-pair_value, even-key, odd-value}
+use Rattle.term_unfold.proofs.Stepping.{step-tuple, step-key, step-value, step-head, step-nil, step-cons, step-tail, step-pair_key, step-pair_value, cons-term, tuple-term, pair-term, map-term}
+use Rattle.term_unfold.proofs.Turns_made.{IsTurn-own, IsTurn-none, IsTurn-bad, items-turn, few-top, opens-top, advanced-top, advanced-few, popped-more, outside-fewer}
+use Rattle.term_unfold.proofs.turns.cut.Goals as goal
+
+pub returns-in-Tuple-clause-text : goal.returns-in-Tuple-clause-text
+returns-in-Tuple-clause-text c = λ leaf heap child has.
+    let before = c.args.path.now.entries in
+    let es = drop 1 before in
+    let left = ap (λ (p : Entered). p.entries) c.leave_node.ensures ∙ ap outside c.requires.top in
+    ap (λ es. rest leaf heap es 0) c.requires.top ∙ cut-tuple leaf heap c.args.entry es child c.in-Tuple.is has ∙ ap (λ l. l ++ rest leaf heap es 0) (sym c.cut_text.ensures)
+    ∙ ap (λ es. c.cut_text.result.now ++ rest leaf heap es 0) (sym (left ∙ outside-term c.args.entry es kinds.Tuple c.in-Tuple.is refl))
+
+pub returns-then-entry-eq0-2-clause-text : goal.returns-then-entry-eq0-2-clause-text
+returns-then-entry-eq0-2-clause-text c = λ leaf heap child has.
+    let before = c.args.path.now.entries in
+    let es = drop 1 before in
+    let left = ap (λ (p : Entered). p.entries) c.leave_node.ensures ∙ ap outside c.requires.top in
+    ap (λ es. rest leaf heap es 0) c.requires.top ∙ cut-key leaf heap c.args.entry es child c.in-Flat.is (even-key c.args.entry.next c.if-entry-eq0-2.true) has ∙ ap (λ l. l ++ rest leaf heap es 0) (sym c.cut_text-then-entry-eq0-2.ensures)
+    ∙ ap (λ es. c.cut_text-then-entry-eq0-2.result.now ++ rest leaf heap es 0) (sym (left ∙ outside-term c.args.entry es kinds.Flat c.in-Flat.is refl))
+
+pub returns-else-entry-eq0-2-clause-text : goal.returns-else-entry-eq0-2-clause-text
+returns-else-entry-eq0-2-clause-text c = λ leaf heap child has.
+    let before = c.args.path.now.entries in
+    let es = drop 1 before in
+    let left = ap (λ (p : Entered). p.entries) c.leave_node.ensures ∙ ap outside c.requires.top in
+    ap (λ es. rest leaf heap es 0) c.requires.top ∙ cut-value leaf heap c.args.entry es child c.in-Flat.is (odd-value c.args.entry.next (omega (arith, c.if-entry-eq0-2.false))) has
+    ∙ ap (λ es. codes "=>...}" ++ rest leaf heap es 0) (sym (left ∙ outside-term c.args.entry es kinds.Flat c.in-Flat.is refl))
+
+pub returns-in-Hash-clause-text : goal.returns-in-Hash-clause-text
+returns-in-Hash-clause-text c = λ leaf heap child has.
+    let before = c.args.path.now.entries in
+    let es = drop 1 before in
+    let left = ap (λ (p : Entered). p.entries) c.leave_node.ensures ∙ ap outside c.requires.top in
+    ap (λ es. rest leaf heap es 0) c.requires.top ∙ cut-hash leaf heap c.args.entry es child c.in-Hash.is has ∙ ap (λ l. l ++ rest leaf heap es 0) (sym c.cut_text-in-Hash.ensures)
+    ∙ ap (λ es. c.cut_text-in-Hash.result.now ++ rest leaf heap es 0) (sym (left ∙ outside-term c.args.entry es kinds.Hash c.in-Hash.is refl))
+
+pub returns-in-Inner-clause-fewer : goal.returns-in-Inner-clause-fewer
+returns-in-Inner-clause-fewer c =
+    outside-fewer c.args.path.now.entries c.leave_node.new.path.entries c.args.entry c.requires.top (ap (λ (p : Entered). p.entries) c.leave_node.ensures)
+
+pub returns-in-Inner-clause-text : goal.returns-in-Inner-clause-text
+returns-in-Inner-clause-text c = λ leaf heap child has.
+    let before = c.args.path.now.entries in
+    let es = drop 1 before in
+    let left = ap (λ (p : Entered). p.entries) c.leave_node.ensures ∙ ap outside c.requires.top in
+    ap (λ es. rest leaf heap es 0) c.requires.top ∙ cut-inner leaf heap c.args.entry es child c.in-Inner.is has ∙ ap (λ l. l ++ rest leaf heap (outside es) 0) (sym c.cut_text-in-Inner.ensures)
+    ∙ ap (λ es. c.cut_text-in-Inner.result.now ++ rest leaf heap es 0) (sym (left ∙ outside-item c.args.entry es kinds.Inner c.in-Inner.is refl))
+
+pub returns-then-entry-eq0-3-clause-fewer : goal.returns-then-entry-eq0-3-clause-fewer
+returns-then-entry-eq0-3-clause-fewer c =
+    outside-fewer c.args.path.now.entries c.leave_node.new.path.entries c.args.entry c.requires.top (ap (λ (p : Entered). p.entries) c.leave_node.ensures)
+
+pub returns-then-entry-eq0-3-clause-text : goal.returns-then-entry-eq0-3-clause-text
+returns-then-entry-eq0-3-clause-text c = λ leaf heap child has.
+    let before = c.args.path.now.entries in
+    let es = drop 1 before in
+    let left = ap (λ (p : Entered). p.entries) c.leave_node.ensures ∙ ap outside c.requires.top in
+    ap (λ es. rest leaf heap es 0) c.requires.top ∙ cut-pair_key leaf heap c.args.entry es child c.in-Pair.is c.if-entry-eq0-3.true has ∙ ap (λ l. l ++ rest leaf heap (outside es) 0) (sym c.cut_text-then-entry-eq0-3.ensures)
+    ∙ ap (λ es. c.cut_text-then-entry-eq0-3.result.now ++ rest leaf heap es 0) (sym (left ∙ outside-item c.args.entry es kinds.Pair c.in-Pair.is refl))
+
+pub returns-else-entry-eq0-3-clause-fewer : goal.returns-else-entry-eq0-3-clause-fewer
+returns-else-entry-eq0-3-clause-fewer c =
+    outside-fewer c.args.path.now.entries c.leave_node.new.path.entries c.args.entry c.requires.top (ap (λ (p : Entered). p.entries) c.leave_node.ensures)
+
+pub returns-else-entry-eq0-3-clause-text : goal.returns-else-entry-eq0-3-clause-text
+returns-else-entry-eq0-3-clause-text c = λ leaf heap child has.
+    let before = c.args.path.now.entries in
+    let es = drop 1 before in
+    let left = ap (λ (p : Entered). p.entries) c.leave_node.ensures ∙ ap outside c.requires.top in
+    ap (λ es. rest leaf heap es 0) c.requires.top ∙ cut-pair_value leaf heap c.args.entry es child (c.args.entry.next - 1) c.in-Pair.is (omega (arith, c.if-entry-eq0-3.false)) has
+    ∙ ap (λ es. codes "=>...}" ++ rest leaf heap es 0) (sym (left ∙ outside-item c.args.entry es kinds.Pair c.in-Pair.is refl))

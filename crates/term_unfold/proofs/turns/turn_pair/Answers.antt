@@ -1,0 +1,33 @@
+use Rattle.std.proofs.Common.{◌≡◌, ◌+◌, ◌-◌, ◌<◌, ◌≤◌, zero, suc, true, false, ◌∷◌, ◌++◌, length, drop, refl, sym, ◌∙◌, ap, subst, inl, inr, arith}
+use Rattle.std.specs.Prelude.{codes}
+use Rattle.term_unfold.specs.declared.node.NodeKind.TheVariants as kinds
+use Rattle.term_unfold.specs.Inner.Entries.{Entered, outside, path_of, next_of}
+use Rattle.term_unfold.specs.Inner.Kids.{child_shown}
+use Rattle.term_unfold.specs.Inner.Rest.{rest}
+use Rattle.term_unfold.specs.Text.{comma}
+use Rattle.term_unfold.proofs.Turning.{outside-item, outside-term, cut-tuple, cut-key, cut-value, cut-hash, cut-inner, cut-pair_key, cut-pair_value, even-key, odd-value}
+use Rattle.term_unfold.proofs.Stepping.{step-tuple, step-key, step-value, step-head, step-nil, step-cons, step-tail, step-pair_key, step-pair_value, cons-term, tuple-term, pair-term, map-term}
+use Rattle.term_unfold.proofs.Turns_made.{IsTurn-own, IsTurn-none, IsTurn-bad, items-turn, few-top, opens-top, advanced-top, advanced-few, popped-more, outside-fewer}
+use Rattle.term_unfold.proofs.turns.turn_pair.Goals as goal
+
+pub returns-then-entry-eq0-clause-turn : goal.returns-then-entry-eq0-clause-turn
+returns-then-entry-eq0-clause-turn c =
+    let heap = c.args.heap.now.cells in
+    let before = c.args.path.now.entries in
+    let es = drop 1 before in
+    let e = c.args.entry in
+    let child = child_shown heap c.args.child in
+    let at = c.requires.at in
+    IsTurn-own heap before c.advance.new.path.entries child _ e (comma e.came) true at.top at.few (pair-term heap e child c.requires.kind at.at) at.opens.found_is c.comma_text.ensures refl (ap (λ (p : Entered). p.entries) c.advance.ensures)
+    (λ leaf m. step-pair_key leaf heap e es child m c.requires.kind c.if-entry-eq0.true at.at)
+
+pub returns-clause-turn : goal.returns-clause-turn
+returns-clause-turn c =
+    let heap = c.args.heap.now.cells in
+    let before = c.args.path.now.entries in
+    let es = drop 1 before in
+    let e = c.args.entry in
+    let child = child_shown heap c.args.child in
+    let at = c.requires.at in
+    IsTurn-own heap before c.advance.new.path.entries child _ e (codes "=>") true at.top at.few (pair-term heap e child c.requires.kind at.at) at.opens.found_is refl refl (ap (λ (p : Entered). p.entries) c.advance.ensures)
+    (λ leaf m. step-pair_value leaf heap e es child (e.next - 1) m c.requires.kind (omega (arith, c.if-entry-eq0.false)) at.at)

@@ -1,0 +1,74 @@
+-- The cells that a walk is in, from the innermost out.
+use Rattle.std.specs.Prelude.{◌≡◌, ℕ, ◌+◌, ◌<◌, Bool, true, false, if◌then◌else◌, List, [], ◌∷◌, length, map, slice_index_or}
+use Rattle.heap_cells.specs.Cells.{Cell}
+use Rattle.heap_cells.specs.HeapMap.{HeapMap, IsBounded}
+use Rattle.heap_cells.specs.Targets.{number}
+use Rattle.map_nodes.specs.Rules.{address_of}
+use Rattle.term_unfold.specs.declared.node.NodeKind.{NodeKind}
+use Rattle.term_unfold.specs.declared.node.NodeKind.TheVariants as kinds
+use Rattle.term_unfold.specs.declared.path.Entry.{Entry}
+use Rattle.term_unfold.specs.Rules.{is_on}
+
+pub record Entered : Type 0 where
+  -- how many cells there are
+  pub cells : ℕ
+  pub entries : List Entry
+
+abbrev pub numbers_of : List Entry → List ℕ
+numbers_of entries = map (λ (e : Entry). number e.cell) entries
+
+-- the addresses of the ancestors
+abbrev pub path_of : List Cell → List Entry → List ℕ
+path_of heap entries = map (λ (e : Entry). address_of heap (number e.cell)) entries
+
+abbrev pub altered : (Entry → Entry) → List Entry → List Entry
+altered f [] = []
+altered f (e ∷ es) = f e ∷ es
+
+abbrev pub next_of : Bool → Entry → Entry
+next_of came e = record { cell = e.cell; next = e.next + 1; kind = e.kind; came = came }
+
+abbrev pub told_of : Bool → Entry → Entry
+told_of came e = record { cell = e.cell; next = e.next; kind = e.kind; came = came }
+
+-- the innermost cell goes on to its next child, behind a text or behind none
+abbrev pub stepped : Bool → List Entry → List Entry
+stepped came entries = altered (next_of came) entries
+
+-- the innermost cell stands behind a text or behind none
+abbrev pub told : Bool → List Entry → List Entry
+told came entries = altered (told_of came) entries
+
+abbrev pub came_of : List Entry → Bool
+came_of [] = false
+came_of (e ∷ es) = e.came
+
+-- an item of a hash map
+abbrev pub is_item : NodeKind → Bool
+is_item kinds.Cons = false
+is_item kinds.Tuple = false
+is_item kinds.Flat = false
+is_item kinds.Hash = false
+is_item kinds.Inner = true
+is_item kinds.Pair = true
+
+-- all but the innermost map and the items that the walk is in there
+abbrev pub outside : List Entry → List Entry
+outside [] = []
+outside (e ∷ es) = if is_item e.kind then outside es else es
+
+-- different numbers below a bound
+abbrev pub IsLine : ℕ → List ℕ → Type 0
+IsLine cells [] = Unit {0}
+IsLine cells (n ∷ ns) = (n < cells) × (is_on n ns ≡ false) × IsLine cells ns
+
+-- the marked cells are those of the entries, each once, and the stack has room for all cells
+pub record IsTied (marks : List Bool) (capacity : ℕ) (entries : List Entry) : Type 0 where
+  pub room : length marks < capacity
+  pub line : IsLine (length marks) (numbers_of entries)
+  pub marked : (n : ℕ) → n < length marks → slice_index_or marks n false ≡ is_on n (numbers_of entries)
+
+-- a path of so many cells serves the heap
+pub record Serves (heap : HeapMap) (cells : ℕ) : Type 0 where
+  pub size : cells ≡ length heap.cells
+  pub bounded : IsBounded heap

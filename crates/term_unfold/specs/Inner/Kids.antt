@@ -1,0 +1,77 @@
+-- The children of an open cell, by what it is in the walk.
+use Rattle.std.specs.Prelude.{◌≡◌, ◌⊎◌, ℕ, ◌<◌, List, [], ◌∷◌, length, take, slice_get, Option, None, Some, IfSome}
+use Rattle.std.specs.Option.{option_map}
+use Rattle.term_forms.specs.Elements.{Element, Ref}
+use Rattle.term_forms.specs.Forms.{HeapForm, Tuple, Hash, Node}
+use Rattle.heap_cells.specs.Cells.{Cell, elements_in, kind_of}
+use Rattle.heap_cells.specs.declared.cells.Kind.TheVariants as cell_kind
+use Rattle.heap_cells.specs.declared.cells.Slot.{Slot}
+use Rattle.heap_cells.specs.HeapMap.{form_at, elements_at}
+use Rattle.heap_cells.specs.Targets.{number, target, slot_target, IsWithin}
+use Rattle.map_nodes.specs.Rules.{address_of, element_at, form_with}
+use Rattle.term_unfold.specs.declared.node.NodeKind.{NodeKind}
+use Rattle.term_unfold.specs.declared.node.NodeKind.TheVariants as kinds
+use Rattle.term_unfold.specs.declared.children.Child.{Child as Kid}
+use Rattle.term_unfold.specs.declared.children.Child.TheVariants as kid
+use Rattle.term_unfold.specs.Rules.{Child, Term, Item, terms, items, pairs}
+
+-- the children of a cell as a hash map or an inner node
+abbrev pub members_in : Option HeapForm → List Element
+members_in (Some (Hash size children)) = children
+members_in (Some (Tuple elements)) = elements
+members_in (Some (Node children)) = children
+members_in form = []
+
+-- a hash map, or what may be an inner node
+abbrev pub HasMembers : Option HeapForm → Type 0
+HasMembers form = (option_map kind_of form ≡ Some cell_kind.Hash) ⊎ (option_map kind_of form ≡ Some cell_kind.Node) ⊎ (option_map kind_of form ≡ Some cell_kind.Tuple)
+
+-- the elements of a cell that was found by its address
+abbrev pub found_elements : Option (Option HeapForm) → List Element
+found_elements None = []
+found_elements (Some form) = elements_in form
+
+-- the children of a flat map with the elements: the keys element, then the values
+abbrev pub flat_kids : List Cell → List Element → List Child
+flat_kids heap [] = []
+flat_kids heap (Ref k ∷ values) = pairs (found_elements (form_with heap k)) values
+flat_kids heap (element ∷ values) = []
+
+abbrev pub kids_of : List Cell → NodeKind → ℕ → List Child
+kids_of heap kinds.Cons n = terms (take 2 (elements_at heap n))
+kids_of heap kinds.Tuple n = terms (elements_at heap n)
+kids_of heap kinds.Flat n = flat_kids heap (elements_at heap n)
+kids_of heap kinds.Hash n = items (address_of heap n) (members_in (form_at heap n))
+kids_of heap kinds.Inner n = items (address_of heap n) (members_in (form_at heap n))
+kids_of heap kinds.Pair n = terms (take 2 (elements_at heap n))
+
+-- the child that a place in a cell stands for
+abbrev pub child_shown : List Cell → Kid → Child
+child_shown heap (kid.Term slot ix place) = Term (element_at heap (number ix) place)
+child_shown heap (kid.Item ix place) = Item (address_of heap (number ix)) (element_at heap (number ix) place)
+
+-- a place of an element in a cell
+pub record IsPlace (heap : List Cell) (n place : ℕ) : Type 0 where
+  pub cell : n < length heap
+  pub within : place < length (elements_at heap n)
+
+-- a place with its slot
+pub record IsTermAt (heap : List Cell) (slot : Slot) (n place : ℕ) : Type 0 where
+  pub at : IsPlace heap n place
+  pub leads : target heap (element_at heap n place) ≡ slot_target slot
+  pub within : IsWithin (length heap) (slot_target slot)
+
+-- a place in a hash map or an inner node
+pub record IsItemAt (heap : List Cell) (n place : ℕ) : Type 0 where
+  pub at : IsPlace heap n place
+  pub kind : HasMembers (form_at heap n)
+
+abbrev pub IsKid : List Cell → Kid → Type 0
+IsKid heap (kid.Term slot ix place) = IsTermAt heap slot (number ix) place
+IsKid heap (kid.Item ix place) = IsItemAt heap (number ix) place
+
+-- a child that was asked for by its place is the one of so many children, and the place is small
+pub record IsKidAt (heap : List Cell) (children : List Child) (next most : ℕ) (found : Option Kid) : Type 0 where
+  pub child : option_map (child_shown heap) found ≡ slice_get children next
+  pub kid : IfSome found (IsKid heap)
+  pub few : IfSome found (λ _. next < most)

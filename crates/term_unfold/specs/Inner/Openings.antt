@@ -1,0 +1,79 @@
+-- What the walk finds where it comes to a child.
+use Rattle.std.specs.Prelude.{◌≡◌, ℕ, ◌<◌, Bool, true, false, List, [], ◌∷◌, length, Option, Some}
+use Rattle.term_forms.specs.Elements.{Element}
+use Rattle.term_forms.specs.Forms.{HeapForm}
+use Rattle.heap_cells.specs.Cells.{Cell}
+use Rattle.heap_cells.specs.HeapMap.{HeapMap, form_at}
+use Rattle.heap_cells.specs.Targets.{number, target, Target}
+use Rattle.map_nodes.specs.Rules.{address_of}
+use Rattle.term_unfold.specs.declared.node.NodeKind.{NodeKind}
+use Rattle.term_unfold.specs.declared.node.NodeKind.TheVariants as kinds
+use Rattle.term_unfold.specs.declared.openings.Opened.{Opened}
+use Rattle.term_unfold.specs.declared.openings.Opened.TheVariants as opened
+use Rattle.term_unfold.specs.Inner.Entries.{Entered, numbers_of, path_of, is_item, IsLine}
+use Rattle.term_unfold.specs.Inner.Kids.{kids_of}
+use Rattle.term_unfold.specs.Rules.{Child, Term, Item, Opening, leaf, bad, node, opening}
+use Rattle.term_unfold.specs.Text.{is_nil}
+use Rattle.term_unfold.specs.Trees.{Immediate, OfCell}
+
+abbrev pub element_of : Child → Element
+element_of (Term element) = element
+element_of (Item parent element) = element
+
+abbrev pub is_item_child : Child → Bool
+is_item_child (Term element) = false
+is_item_child (Item parent element) = true
+
+-- whether a child is the leaf that ends a list
+abbrev pub is_nil_term : Child → Bool
+is_nil_term (Term element) = is_nil (Immediate element)
+is_nil_term (Item parent element) = false
+
+-- whether a list goes on
+abbrev pub is_list_kind : NodeKind → Bool
+is_list_kind kinds.Cons = true
+is_list_kind kinds.Tuple = false
+is_list_kind kinds.Flat = false
+is_list_kind kinds.Hash = false
+is_list_kind kinds.Inner = false
+is_list_kind kinds.Pair = false
+
+abbrev pub is_list : Opened → Bool
+is_list opened.Immediate = false
+is_list (opened.Leaf ix) = false
+is_list (opened.Bad address why) = false
+is_list (opened.Node ix kind) = is_list_kind kind
+
+-- a cell that is a leaf
+pub record IsLeafAt (heap : List Cell) (path : List ℕ) (child : Child) (n : ℕ) : Type 0 where
+  pub cell : n < length heap
+  pub form : HeapForm
+  pub form_is : form_at heap n ≡ Some form
+  pub opens : opening heap path child ≡ leaf (OfCell (address_of heap n) form)
+
+-- a cell that is a node
+pub record IsNodeAt (heap : List Cell) (path : List ℕ) (child : Child) (n : ℕ) (kind : NodeKind) : Type 0 where
+  pub cell : n < length heap
+  pub fits : is_item kind ≡ is_item_child child
+  pub opens : opening heap path child ≡ node (address_of heap n) kind (kids_of heap kind n)
+
+abbrev pub IsOpened : List Cell → List ℕ → Child → Opened → Type 0
+IsOpened heap path child opened.Immediate = opening heap path child ≡ leaf (Immediate (element_of child))
+IsOpened heap path child (opened.Leaf ix) = IsLeafAt heap path child (number ix)
+IsOpened heap path child (opened.Bad address why) = opening heap path child ≡ bad address why
+IsOpened heap path child (opened.Node ix kind) = IsNodeAt heap path child (number ix) kind
+
+-- a node's cell may be entered
+abbrev pub MayEnter : Entered → Opened → Type 0
+MayEnter path opened.Immediate = Unit {0}
+MayEnter path (opened.Leaf ix) = Unit {0}
+MayEnter path (opened.Bad address why) = Unit {0}
+MayEnter path (opened.Node ix kind) = IsLine path.cells (number ix ∷ numbers_of path.entries)
+
+pub record Opens (heap : HeapMap) (path : Entered) (child : Child) (found : Opened) : Type 0 where
+  pub found_is : IsOpened heap.cells (path_of heap.cells path.entries) child found
+  pub enters : MayEnter path found
+
+-- what is found of each term that leads to a place
+abbrev pub OpensEach : HeapMap → Entered → Target → Opened → Type 0
+OpensEach heap path place found = (e : Element) → target heap.cells e ≡ place → Opens heap path (Term e) found

@@ -1,0 +1,143 @@
+-- What the open cells of a walk still have to write.
+use Rattle.std.specs.Prelude.{◌≡◌, ◌⊎◌, ℕ, zero, suc, ◌+◌, ◌<◌, ◌≤◌, length, drop, slice_get, Bool, true, false, not, if◌then◌else◌, List, [], ◌∷◌, ◌++◌, codes, Option, None, Some}
+use Rattle.term_forms.specs.Forms.{HeapForm}
+use Rattle.heap_cells.specs.Cells.{Cell}
+use Rattle.heap_cells.specs.HeapMap.{HeapMap, form_at}
+use Rattle.heap_cells.specs.Targets.{number}
+use Rattle.map_nodes.specs.Rules.{address_of}
+use Rattle.term_unfold.specs.declared.children.Child.{Child as Kid}
+use Rattle.term_unfold.specs.declared.node.NodeKind.{NodeKind}
+use Rattle.term_unfold.specs.declared.node.NodeKind.TheVariants as kinds
+use Rattle.term_unfold.specs.declared.openings.Opened.{Opened}
+use Rattle.term_unfold.specs.declared.openings.Opened.TheVariants as opened
+use Rattle.term_unfold.specs.declared.path.Entry.{Entry}
+use Rattle.term_unfold.specs.declared.turns.Turn.{Turn}
+use Rattle.term_unfold.specs.Inner.Coming.{left_of}
+use Rattle.term_unfold.specs.Inner.Entries.{Entered, came_of, is_item, path_of}
+use Rattle.term_unfold.specs.Inner.Openings.{element_of, Opens}
+use Rattle.term_unfold.specs.Inner.Kids.{kids_of, child_shown, IsKid}
+use Rattle.term_unfold.specs.Rules.{Child}
+use Rattle.term_unfold.specs.Text.{Shown, shown, Stand, Cut, At, Listed, listed, closed, bad_text, node_text, head_text, tail_text, elements_text, keys_text, values_text, items_text, item_text, pair_text, value_text}
+use Rattle.term_unfold.specs.Trees.{Value, Immediate, OfCell, Trees, none, more}
+use Rattle.term_unfold.specs.Unfolding.{unfolded}
+
+-- what a list still has to write: its head, its tail, or the `]` behind a tail that isn't a list
+abbrev pub closing : Bool → List ℕ
+closing true = codes "]"
+closing false = []
+
+abbrev pub list_rest : (Value → List ℕ) → Bool → ℕ → Trees → ℕ → Shown
+list_rest leaf came next none m = shown (closing came) m
+list_rest leaf came zero (more head rest) m = head_text leaf (more head rest) m
+list_rest leaf came (suc next) (more tail rest) m = tail_text leaf (more tail rest) m
+
+-- whether the next child of a flat map is a value
+abbrev pub is_value : ℕ → Bool
+is_value zero = false
+is_value (suc next) = not (is_value next)
+
+abbrev pub flat_rest : (Value → List ℕ) → Bool → Bool → Trees → ℕ → Shown
+flat_rest leaf false came trees m = keys_text leaf came trees m
+flat_rest leaf true came trees m = values_text leaf trees m
+
+-- what an open cell still has to write as a term, of the children that it has left
+abbrev pub term_rest : (Value → List ℕ) → NodeKind → Bool → ℕ → Trees → ℕ → Shown
+term_rest leaf kinds.Cons came next trees m = list_rest leaf came next trees m
+term_rest leaf kinds.Tuple came next trees m = elements_text leaf came trees m
+term_rest leaf kinds.Flat came next trees m = flat_rest leaf (is_value next) came trees m
+term_rest leaf kinds.Hash came next trees m = closed (items_text leaf came trees m)
+term_rest leaf kinds.Inner came next trees m = shown [] m
+term_rest leaf kinds.Pair came next trees m = shown [] m
+
+-- the same of a pair of a hash map
+abbrev pub pair_rest : (Value → List ℕ) → Bool → ℕ → Trees → ℕ → Listed
+pair_rest leaf came next none m = listed [] (At true m)
+pair_rest leaf came zero (more key rest) m = pair_text leaf came (more key rest) m
+pair_rest leaf came (suc next) (more value rest) m = value_text leaf (more value rest) m
+
+-- what an open cell still has to write as an item of a hash map
+abbrev pub item_rest : (Value → List ℕ) → NodeKind → Bool → ℕ → Trees → ℕ → Listed
+item_rest leaf kinds.Cons came next trees m = listed [] (At came m)
+item_rest leaf kinds.Tuple came next trees m = listed [] (At came m)
+item_rest leaf kinds.Flat came next trees m = listed [] (At came m)
+item_rest leaf kinds.Hash came next trees m = listed [] (At came m)
+item_rest leaf kinds.Inner came next trees m = items_text leaf came trees m
+item_rest leaf kinds.Pair came next trees m = pair_rest leaf came next trees m
+
+-- a text with what follows it, which begins with the count that it leaves
+abbrev pub run : Shown → (ℕ → List ℕ) → List ℕ
+run first second = first.text ++ second first.left
+
+-- a text of items with what follows it, which begins where it stands
+abbrev pub run_items : Listed → (Stand → List ℕ) → List ℕ
+run_items first second = first.text ++ second first.stand
+
+-- what all open cells still have to write, where the innermost stands behind some text. An item hands its stand to the cell
+-- below it, and a cut goes down to the map
+abbrev pub resume : (Value → List ℕ) → List Cell → List Entry → Stand → List ℕ
+resume leaf heap [] Cut = codes "}"
+resume leaf heap [] (At came m) = []
+resume leaf heap (e ∷ es) Cut = if is_item e.kind then resume leaf heap es Cut else codes "}" ++ resume leaf heap es (At (came_of es) 0)
+resume leaf heap (e ∷ es) (At came m) =
+    if is_item e.kind then run_items (item_rest leaf e.kind came e.next (left_of heap e es) m) (resume leaf heap es)
+    else run (term_rest leaf e.kind came e.next (left_of heap e es) m) (λ n. resume leaf heap es (At (came_of es) n))
+
+abbrev pub rest : (Value → List ℕ) → List Cell → List Entry → ℕ → List ℕ
+rest leaf heap entries m = resume leaf heap entries (At (came_of entries) m)
+
+-- what is to be written where a term, or an item, is visited
+abbrev pub to_show : (Value → List ℕ) → List Cell → List Entry → Child → ℕ → List ℕ
+to_show leaf heap entries child m = run (node_text leaf (unfolded heap (path_of heap entries) child) m) (rest leaf heap entries)
+
+abbrev pub to_list : (Value → List ℕ) → List Cell → List Entry → Bool → Child → ℕ → List ℕ
+to_list leaf heap entries came child m = run_items (item_text leaf came (unfolded heap (path_of heap entries) child) m) (resume leaf heap entries)
+
+-- what stands in front of the children of a node
+abbrev pub bracket : NodeKind → List ℕ
+bracket kinds.Cons = codes "["
+bracket kinds.Tuple = codes "{"
+bracket kinds.Flat = codes "#{"
+bracket kinds.Hash = codes "#{"
+bracket kinds.Inner = []
+bracket kinds.Pair = []
+
+abbrev pub cell_text : (Value → List ℕ) → ℕ → Option HeapForm → List ℕ
+cell_text leaf a None = []
+cell_text leaf a (Some form) = leaf (OfCell a form)
+
+-- a child's own text, up to its children
+abbrev pub own_text : (Value → List ℕ) → List Cell → Child → Opened → List ℕ
+own_text leaf heap child opened.Immediate = leaf (Immediate (element_of child))
+own_text leaf heap child (opened.Leaf ix) = cell_text leaf (address_of heap (number ix)) (form_at heap (number ix))
+own_text leaf heap child (opened.Bad address why) = bad_text address why
+own_text leaf heap child (opened.Node ix kind) = bracket kind
+
+-- what is written at a child: something in front, and its own text or not
+abbrev pub turn_text : (Value → List ℕ) → List Cell → Child → Turn → List ℕ
+turn_text leaf heap child turn = turn.front.now ++ (if turn.own then own_text leaf heap child turn.opened else [])
+
+-- a leaf's cell is one of the heap
+abbrev pub LeafWithin : List Cell → Opened → Type 0
+LeafWithin heap opened.Immediate = Unit {0}
+LeafWithin heap (opened.Leaf ix) = number ix < length heap
+LeafWithin heap (opened.Bad address why) = Unit {0}
+LeafWithin heap (opened.Node ix kind) = Unit {0}
+
+-- a hash map, or an inner node of one
+abbrev pub HasItems : NodeKind → Type 0
+HasItems kind = (kind ≡ kinds.Hash) ⊎ (kind ≡ kinds.Inner)
+
+-- the innermost cell has come to a child, and what was found there
+pub record AtChild (heap : HeapMap) (path : Entered) (entry : Entry) (child : Kid) (found : Opened) : Type 0 where
+  pub top : path.entries ≡ entry ∷ drop 1 path.entries
+  pub few : length path.entries ≤ length heap.cells
+  pub next_few : entry.next < 200000000
+  pub at : slice_get (kids_of heap.cells entry.kind (number entry.cell)) entry.next ≡ Some (child_shown heap.cells child)
+  pub kid : IsKid heap.cells child
+  pub opens : Opens heap path (child_shown heap.cells child) found
+
+-- with one node more to write, the open cells write what the turn says, and then what is open behind it writes
+pub record IsTurn (heap : List Cell) (before after : List Entry) (child : Child) (turn : Turn) : Type 0 where
+  pub text : (leaf : Value → List ℕ) (m : ℕ) → rest leaf heap before (suc m) ≡ turn_text leaf heap child turn ++ rest leaf heap after m
+  pub more : length after ≤ length before + 1
+  pub cell : LeafWithin heap turn.opened

@@ -1,0 +1,28 @@
+-- What the laws of the unfolding speak of.
+use Rattle.std.specs.Prelude.{◌≡◌, ℕ, ◌+◌, ◌<◌, false, List, [], ◌∷◌, length, IsSome}
+use Rattle.heap_cells.specs.Cells.{Cell}
+use Rattle.heap_cells.specs.HeapMap.{number_at}
+use Rattle.term_unfold.specs.Rules.{Child, Term, Item, is_on, opening}
+use Rattle.term_unfold.specs.Terms.{IsTerm, IsItem}
+use Rattle.term_unfold.specs.Trees.{Tree}
+use Rattle.term_unfold.specs.Unfolding.{grown, unfold_by, unfolded}
+
+-- different addresses of the heap
+abbrev pub IsPath : List Cell → List ℕ → Type 0
+IsPath heap [] = Unit {0}
+IsPath heap (a ∷ path) = IsSome (number_at heap a) × (is_on a path ≡ false) × IsPath heap path
+
+-- the tree of what a child opens, with no number of levels
+abbrev pub FollowsRules : (List Cell → List ℕ → Child → Tree) → Type 0
+FollowsRules tree = (heap : List Cell) (path : List ℕ) (child : Child) → IsPath heap path
+    → tree heap path child ≡ grown (λ a. tree heap (a ∷ path)) (opening heap path child)
+
+-- more levels than cells that are no ancestors give the same tree
+abbrev pub IsEnough : Type 0
+IsEnough = (levels : ℕ) (heap : List Cell) (path : List ℕ) (child : Child) → IsPath heap path → length heap < levels + length path
+    → unfold_by levels heap path child ≡ unfolded heap path child
+
+-- a term gives a term, and a child of a hash map an item
+abbrev pub Suits : Child → Tree → Type 0
+Suits (Term element) tree = IsTerm tree
+Suits (Item parent element) tree = IsItem tree

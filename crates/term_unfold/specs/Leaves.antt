@@ -1,0 +1,68 @@
+-- The texts of leaves.
+use Rattle.std.specs.Prelude.{ℕ, ◌==◌, List, [], ◌∷◌, ◌++◌, take, min, nat_lt, codes, decimal, Option, None, Some, if◌then◌else◌}
+use Rattle.std.specs.List.{flat_map}
+use Rattle.std.specs.Option.{option_map}
+use Rattle.dump_io.specs.Atoms.{atom_text}
+use Rattle.dump_io.specs.Numbers.{hex_byte}
+use Rattle.term_forms.specs.declared.enc.Enc.{Enc}
+use Rattle.term_forms.specs.Elements.{Element, Nil, Small, Atom, Pid, Port, Ref}
+use Rattle.term_forms.specs.Forms.{HeapForm, Cons, Tuple, Float, Long, Pid as PidForm, Port as PortForm, Ext, HeapBin, RefBin, SubBin, Flat, Hash, Node}
+use Rattle.term_forms.specs.ReadingPayloads.{payload_bytes}
+use Rattle.term_unfold.specs.Trees.{Value, Immediate, OfCell}
+
+-- the first bytes of a binary, 32 at most, where they are known, by the address of the cell that refers to it
+abbrev pub preview_at : List (ℕ × Option (List ℕ)) → ℕ → Option (List ℕ)
+preview_at [] a = None
+preview_at (p ∷ ps) a = if p.0 == a then p.1 else preview_at ps a
+
+-- `#Port` and the port's text
+abbrev pub port_text : List ℕ → List ℕ
+port_text port = codes "#Port" ++ port
+
+abbrev pub element_text : Element → List ℕ
+element_text Nil = codes "[]"
+element_text (Small integer) = integer
+element_text (Atom name) = atom_text name
+element_text (Pid pid) = pid
+element_text (Port port) = port_text port
+-- a reference is no leaf
+element_text (Ref address) = []
+
+-- `..` stands for the bytes behind the first 32
+abbrev pub dots : ℕ → List ℕ
+dots size = if nat_lt 32 size then codes ".." else []
+
+-- the first bytes of so many, in upper-case hex, or `?` where they are unknown
+abbrev pub preview_text : ℕ → Option (List ℕ) → List ℕ
+preview_text size None = codes "?"
+preview_text size (Some bytes) = flat_map hex_byte bytes ++ dots size
+
+-- a word, the size, `:`, the preview, `>`
+abbrev pub sized_text : List ℕ → ℕ → Option (List ℕ) → List ℕ
+sized_text word size preview = word ++ (decimal size ++ (codes ":" ++ (preview_text size preview ++ codes ">")))
+
+-- the first bytes of a cell's own payload
+abbrev pub own_preview : Enc → ℕ → List ℕ → Option (List ℕ)
+own_preview enc size chars = option_map (λ bytes. take (min size 32) bytes) (payload_bytes enc chars)
+
+-- a cell that has no children, by the preview of what it refers to
+abbrev pub form_text : Enc → Option (List ℕ) → HeapForm → List ℕ
+form_text enc preview (Float bytes) = bytes
+form_text enc preview (Long number) = number
+form_text enc preview (PidForm pid) = pid
+form_text enc preview (PortForm port) = port_text port
+form_text enc preview (Ext size chars) = sized_text (codes "#Ext<") size (own_preview enc size chars)
+form_text enc preview (HeapBin size chars) = sized_text (codes "#Bin<") size (own_preview enc size chars)
+form_text enc preview (RefBin address offset size) = sized_text (codes "#Bin<") size preview
+form_text enc preview (SubBin address offset size) = sized_text (codes "#Bin<") size preview
+-- the others are no leaves
+form_text enc preview (Cons head tail) = []
+form_text enc preview (Tuple elements) = []
+form_text enc preview (Flat keys values) = []
+form_text enc preview (Hash size children) = []
+form_text enc preview (Node children) = []
+
+-- the text of a leaf, by the encoding of payloads and by the previews
+abbrev pub leaf_text : Enc → List (ℕ × Option (List ℕ)) → Value → List ℕ
+leaf_text enc previews (Immediate element) = element_text element
+leaf_text enc previews (OfCell a form) = form_text enc (preview_at previews a) form

@@ -1,0 +1,10 @@
+pub mod Inner
+pub mod Laws
+pub mod Leaves
+pub mod Places
+pub mod Rules
+pub mod Terms
+pub mod Text
+pub mod Trees
+pub mod Unfolding
+pub mod Walks

@@ -1,0 +1,41 @@
+-- Which trees are terms.
+use Rattle.std.specs.Prelude.{◌≡◌, ℕ, suc}
+use Rattle.term_unfold.specs.declared.node.NodeKind.TheVariants as kinds
+use Rattle.term_unfold.specs.Trees.{Tree, Leaf, Bad, Branch, Trees, none, more}
+
+abbrev pub count : Trees → ℕ
+count none = 0
+count (more tree trees) = suc (count trees)
+
+abbrev mutual
+  pub IsTerm : Tree → Type 0
+  IsTerm (Leaf value) = Unit {0}
+  IsTerm (Bad address why) = Unit {0}
+  -- a head and a tail
+  IsTerm (Branch kinds.Cons children) = (count children ≡ 2) × AreTerms children
+  IsTerm (Branch kinds.Tuple children) = AreTerms children
+  -- keys and values
+  IsTerm (Branch kinds.Flat children) = AreTerms children
+  IsTerm (Branch kinds.Hash children) = AreItems children
+  IsTerm (Branch kinds.Inner children) = ⊥
+  IsTerm (Branch kinds.Pair children) = ⊥
+
+  -- what may stand in a hash map
+  pub IsItem : Tree → Type 0
+  IsItem (Leaf value) = ⊥
+  IsItem (Bad address why) = Unit {0}
+  IsItem (Branch kinds.Cons children) = ⊥
+  IsItem (Branch kinds.Tuple children) = ⊥
+  IsItem (Branch kinds.Flat children) = ⊥
+  IsItem (Branch kinds.Hash children) = ⊥
+  IsItem (Branch kinds.Inner children) = AreItems children
+  -- a key and a value
+  IsItem (Branch kinds.Pair children) = (count children ≡ 2) × AreTerms children
+
+  pub AreTerms : Trees → Type 0
+  AreTerms none = Unit {0}
+  AreTerms (more tree trees) = IsTerm tree × AreTerms trees
+
+  pub AreItems : Trees → Type 0
+  AreItems none = Unit {0}
+  AreItems (more tree trees) = IsItem tree × AreItems trees

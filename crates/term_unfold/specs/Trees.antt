@@ -1,0 +1,53 @@
+-- Finite trees of terms, their nodes in preorder, and the first of them that is bad.
+use Rattle.std.specs.Prelude.{ℕ, List, [], ◌∷◌, ◌++◌, take}
+use Rattle.term_forms.specs.Elements.{Element}
+use Rattle.term_forms.specs.Forms.{HeapForm}
+use Rattle.heap_cells.specs.declared.cells.Why.{Why}
+use Rattle.term_unfold.specs.declared.node.NodeKind.{NodeKind}
+use Rattle.term_unfold.specs.declared.verdict.Verdict.{Verdict}
+use Rattle.term_unfold.specs.declared.verdict.Verdict.TheVariants as verdicts
+
+-- what a leaf holds: an element that is no reference, or a cell with its address
+pub data Value : Type 0 where
+  Immediate : Element → Value
+  OfCell : ℕ → HeapForm → Value
+
+mutual
+  pub data Tree : Type 0 where
+    Leaf : Value → Tree
+    Bad : ℕ → Why → Tree
+    Branch : NodeKind → Trees → Tree
+
+  pub data Trees : Type 0 where
+    none : Trees
+    more : Tree → Trees → Trees
+
+-- the nodes of a tree in preorder, children from the left, each as the tree below it
+abbrev mutual
+  pub pre : Tree → List Tree
+  pre (Leaf value) = Leaf value ∷ []
+  pre (Bad address why) = Bad address why ∷ []
+  pre (Branch kind children) = Branch kind children ∷ pre_all children
+
+  pub pre_all : Trees → List Tree
+  pre_all none = []
+  pre_all (more tree trees) = pre tree ++ pre_all trees
+
+-- what a node says by itself
+abbrev pub seen : Tree → Verdict
+seen (Leaf value) = verdicts.Clean
+seen (Bad address why) = verdicts.Bad address why
+seen (Branch kind children) = verdicts.Clean
+
+abbrev pub or_else : Verdict → Verdict → Verdict
+or_else verdicts.Clean later = later
+or_else (verdicts.Bad address why) later = verdicts.Bad address why
+
+-- the first that is bad
+abbrev pub first_bad : List Tree → Verdict
+first_bad [] = verdicts.Clean
+first_bad (tree ∷ trees) = or_else (seen tree) (first_bad trees)
+
+-- the first bad node among the first n
+abbrev pub verdict : Tree → ℕ → Verdict
+verdict tree n = first_bad (take n (pre tree))

@@ -1,0 +1,31 @@
+-- The finite tree that an element unfolds to.
+use Rattle.std.specs.Prelude.{ℕ, zero, suc, ◌-◌, List, [], ◌∷◌, length}
+use Rattle.term_forms.specs.Elements.{Element}
+use Rattle.heap_cells.specs.Cells.{Cell}
+use Rattle.heap_cells.specs.declared.cells.Why.TheVariants.{OnPath}
+use Rattle.term_unfold.specs.Rules.{Child, Term, Opening, leaf, bad, node, opening}
+use Rattle.term_unfold.specs.Trees.{Tree, Leaf, Bad, Branch, Trees, none, more}
+
+-- each child's tree
+abbrev pub trees : (Child → Tree) → List Child → Trees
+trees tree [] = none
+trees tree (child ∷ children) = more (tree child) (trees tree children)
+
+-- the tree of what was opened, where those below an address are known
+abbrev pub grown : (ℕ → Child → Tree) → Opening → Tree
+grown below (leaf value) = Leaf value
+grown below (bad address why) = Bad address why
+grown below (node a kind children) = Branch kind (trees (below a) children)
+
+-- at most so many levels below the ancestors `path`
+unfoldable pub unfold_by : ℕ → List Cell → List ℕ → Child → Tree
+unfold_by zero heap path child = Bad 0 OnPath
+unfold_by (suc levels) heap path child = grown (λ a. unfold_by levels heap (a ∷ path)) (opening heap path child)
+
+-- Each level down has one cell more among the ancestors, so the cells that are none of them yet, and one level more, are all.
+unfoldable pub unfolded : List Cell → List ℕ → Child → Tree
+unfolded heap path child = unfold_by (suc (length heap) - length path) heap path child
+
+-- the tree of a root, which has no ancestors
+abbrev pub unfolding_of : List Cell → Element → Tree
+unfolding_of heap element = unfolded heap [] (Term element)

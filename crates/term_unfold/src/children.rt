@@ -1,0 +1,120 @@
+// The children of an open cell, one by one.
+ghost use Rattle.std.specs.Prelude.{◌≡◌, ◌<◌, ◌^◌, length, take, drop};
+ghost use Rattle.heap_cells.specs.HeapMap.{IsBounded, elements_at, form_at};
+ghost use Rattle.heap_cells.specs.Targets.{number};
+ghost use Rattle.map_nodes.specs.Rules.{address_of};
+ghost use Rattle.term_unfold.specs.Inner.Kids.{kids_of, flat_kids, members_in, HasMembers, IsKidAt};
+ghost use Rattle.term_unfold.specs.Rules.{terms, items, pairs};
+
+use crate::node::NodeKind;
+use heap_cells::{CellIx, Heap, Kind, Slot};
+
+/// A child of an open cell, by the place from 0 at which its element stands in a cell.
+#[derive(Clone, Copy)]
+pub(crate) enum Child {
+    /// A term, with its slot.
+    Term(Slot, CellIx, u32),
+    /// An item of a hash map: the cell is the map or an inner node.
+    Item(CellIx, u32),
+}
+
+// The element of a cell at a place, as a term.
+fn term_at(heap: &Heap, ix: CellIx, place: u32) -> Option<Child>
+    requires cell { number ix < length heap.now.cells }
+    requires bounded { IsBounded heap.now }
+    ensures { IsKidAt heap.now.cells (terms (elements_at heap.now.cells (number ix))) place 100000000 result }
+{
+    let kids = heap.kids(ix);
+    if place >= kids {
+        return None;
+    }
+    Some(Child::Term(heap.slots(ix)[place as usize], ix, place))
+}
+
+// The head or the tail of a list cell, as a term.
+fn head_or_tail(heap: &Heap, ix: CellIx, place: u32) -> Option<Child>
+    requires cell { number ix < length heap.now.cells }
+    requires bounded { IsBounded heap.now }
+    ensures { IsKidAt heap.now.cells (terms (take 2 (elements_at heap.now.cells (number ix)))) place 2 result }
+{
+    if place < 2 {
+        term_at(heap, ix, place)
+    } else {
+        None
+    }
+}
+
+// A key or the value behind it, where the keys stand in one cell, and the values behind the first element of another.
+fn key_or_value(heap: &Heap, ix: CellIx, keys: CellIx, place: u32) -> Option<Child>
+    requires map { number ix < length heap.now.cells }
+    requires keys { number keys < length heap.now.cells }
+    requires bounded { IsBounded heap.now }
+    ensures { IsKidAt heap.now.cells (pairs (elements_at heap.now.cells (number keys)) (drop 1 (elements_at heap.now.cells (number ix)))) place 200000000 result }
+{
+    let key = term_at(heap, keys, place / 2)?;
+    let value = term_at(heap, ix, place / 2 + 1)?;
+    if place % 2 == 0 {
+        Some(key)
+    } else {
+        Some(value)
+    }
+}
+
+// A child of a flat map.
+fn pair_part(heap: &Heap, ix: CellIx, place: u32) -> Option<Child>
+    requires cell { number ix < length heap.now.cells }
+    requires bounded { IsBounded heap.now }
+    ensures { IsKidAt heap.now.cells (flat_kids heap.now.cells (elements_at heap.now.cells (number ix))) place 200000000 result }
+{
+    if heap.kids(ix) == 0 {
+        return None;
+    }
+    match heap.slots(ix)[0] {
+        Slot::Cell(keys) => key_or_value(heap, ix, keys, place),
+        Slot::Imm(_) => None,
+        Slot::Gone(_) => None,
+    }
+}
+
+// An item of a hash map or of an inner node.
+fn item_at(heap: &Heap, ix: CellIx, place: u32) -> Option<Child>
+    requires cell { number ix < length heap.now.cells }
+    requires bounded { IsBounded heap.now }
+    requires kind { HasMembers (form_at heap.now.cells (number ix)) }
+    ensures { IsKidAt heap.now.cells (items (address_of heap.now.cells (number ix)) (members_in (form_at heap.now.cells (number ix)))) place 100000000 result }
+{
+    if place >= heap.kids(ix) {
+        return None;
+    }
+    Some(Child::Item(ix, place))
+}
+
+// A child of a hash map or of an inner node.
+fn member_at(heap: &Heap, ix: CellIx, place: u32) -> Option<Child>
+    requires cell { number ix < length heap.now.cells }
+    requires bounded { IsBounded heap.now }
+    ensures { IsKidAt heap.now.cells (items (address_of heap.now.cells (number ix)) (members_in (form_at heap.now.cells (number ix)))) place 100000000 result }
+{
+    match heap.kind(ix) {
+        Some(Kind::Hash) => item_at(heap, ix, place),
+        Some(Kind::Tuple) => item_at(heap, ix, place),
+        Some(Kind::Node) => item_at(heap, ix, place),
+        _ => None,
+    }
+}
+
+/// The child at a place from 0 of a cell, by what the cell is in the walk.
+pub(crate) fn child_at(heap: &Heap, ix: CellIx, kind: NodeKind, place: u32) -> Option<Child>
+    requires cell { number ix < length heap.now.cells }
+    requires bounded { IsBounded heap.now }
+    ensures { IsKidAt heap.now.cells (kids_of heap.now.cells kind (number ix)) place 200000000 result }
+{
+    match kind {
+        NodeKind::Cons => head_or_tail(heap, ix, place),
+        NodeKind::Tuple => term_at(heap, ix, place),
+        NodeKind::Flat => pair_part(heap, ix, place),
+        NodeKind::Hash => member_at(heap, ix, place),
+        NodeKind::Inner => member_at(heap, ix, place),
+        NodeKind::Pair => head_or_tail(heap, ix, place),
+    }
+}

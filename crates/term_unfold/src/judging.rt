@@ -1,0 +1,106 @@
+// The walk that judges.
+ghost use Rattle.std.specs.Prelude.{◌≡◌, ◌<◌, ◌≤◌, ◌++◌, List, [], ◌∷◌, length, IfSome, MatchOption};
+ghost use Rattle.term_forms.specs.Seen.{element};
+ghost use Rattle.term_unfold.specs.Inner.Coming.{to_come, entered_by, verdict_on, Visits};
+ghost use Rattle.term_unfold.specs.Inner.Entries.{path_of, Serves};
+ghost use Rattle.term_unfold.specs.Inner.Kids.{child_shown, IsKid};
+ghost use Rattle.term_unfold.specs.Inner.Openings.{MayEnter};
+ghost use Rattle.term_unfold.specs.Rules.{Term};
+ghost use Rattle.term_unfold.specs.Trees.{pre, verdict};
+ghost use Rattle.term_unfold.specs.Unfolding.{unfolded, unfolding_of};
+
+use crate::children::{Child, child_at};
+use crate::openings::{Opened, open_child, open_root};
+use crate::path::Path;
+use crate::verdict::Verdict;
+use heap_cells::Heap;
+use term_forms::shapes::Elem;
+
+// The child that comes next, below the cells that the walk is in then.
+fn next_child(heap: &Heap, path: &mut Path) -> Option<Child>
+    requires serves { Serves heap.now path.old.cells }
+    ensures cells { path.new.cells ≡ path.old.cells }
+    ensures few { IfSome result (λ _. length path.new.entries ≤ length heap.now.cells) }
+    ensures kid { IfSome result (IsKid heap.now.cells) }
+    ensures next { MatchOption result
+        (to_come heap.now.cells path.old.entries ≡ [])
+        (λ child. to_come heap.now.cells path.old.entries
+        ≡ pre (unfolded heap.now.cells (path_of heap.now.cells path.new.entries) (child_shown heap.now.cells child)) ++ to_come heap.now.cells path.new.entries) }
+{
+    while let Some(entry) = path.top() {
+        if let Some(child) = child_at(heap, entry.cell, entry.kind, entry.next) {
+            path.step(entry.came);
+            return Some(child);
+        }
+        path.pop();
+    }
+    None
+}
+
+/// Enters what was found of a child, if it is a node.
+pub(crate) fn enter(path: &mut Path, opened: Opened, came: bool)
+    requires { MayEnter path.old opened }
+    ensures { path.new ≡ record path.old { entries = entered_by opened came path.old.entries } }
+{
+    if let Opened::Node(ix, kind) = opened {
+        path.push(ix, kind, came);
+    }
+}
+
+// What is said of a child by itself.
+fn judge_opened(opened: Opened) -> Verdict
+    ensures { result ≡ verdict_on opened }
+{
+    match opened {
+        Opened::Immediate => Verdict::Clean,
+        Opened::Leaf(_) => Verdict::Clean,
+        Opened::Bad(addr, why) => Verdict::Bad(addr, why),
+        Opened::Node(_, _) => Verdict::Clean,
+    }
+}
+
+// Visits a child of the innermost cell.
+fn visit(heap: &Heap, path: &mut Path, child: Child) -> Verdict
+    requires serves { Serves heap.now path.old.cells }
+    requires few { length path.old.entries ≤ length heap.now.cells }
+    requires kid { IsKid heap.now.cells child }
+    ensures cells { path.new.cells ≡ path.old.cells }
+    ensures visits { Visits heap.now.cells path.old.entries path.new.entries (child_shown heap.now.cells child) result }
+{
+    let opened = open_child(heap, path, child);
+    enter(path, opened, false);
+    judge_opened(opened)
+}
+
+// Visits a root.
+fn visit_root(heap: &Heap, path: &mut Path, root: &Elem<'_>) -> Verdict
+    requires serves { Serves heap.now path.old.cells }
+    requires few { length path.old.entries ≤ length heap.now.cells }
+    ensures cells { path.new.cells ≡ path.old.cells }
+    ensures visits { Visits heap.now.cells path.old.entries path.new.entries (Term (element root.now)) result }
+{
+    let opened = open_root(heap, path, root);
+    enter(path, opened, false);
+    judge_opened(opened)
+}
+
+/// The first bad node among the first `budget` nodes of the root, with the walk left where it stops.
+pub(crate) fn first_bad(heap: &Heap, path: &mut Path, root: &Elem<'_>, budget: u32) -> Verdict
+    requires serves { Serves heap.now path.old.cells }
+    requires empty { path.old.entries ≡ [] }
+    requires budget { 0 < budget }
+    ensures cells { path.new.cells ≡ path.old.cells }
+    ensures verdict { result ≡ verdict (unfolding_of heap.now.cells (element root.now)) budget }
+{
+    let mut found = visit_root(heap, path, root);
+    for _ in 1..budget {
+        if let Verdict::Bad(_, _) = found {
+            return found;
+        }
+        let Some(child) = next_child(heap, path) else {
+            return Verdict::Clean;
+        };
+        found = visit(heap, path, child);
+    }
+    found
+}

@@ -1,0 +1,24 @@
+// The laws of the definitions. Each is the contract of a function that does nothing.
+ghost use Rattle.std.specs.Prelude.{◌≡◌, ℕ, List, take};
+ghost use Rattle.heap_cells.specs.Cells.{Cell};
+ghost use Rattle.term_unfold.specs.Laws.{FollowsRules, IsEnough, Suits};
+ghost use Rattle.term_unfold.specs.Places.{nodes_of};
+ghost use Rattle.term_unfold.specs.Rules.{Child};
+ghost use Rattle.term_unfold.specs.Terms.{IsTerm};
+ghost use Rattle.term_unfold.specs.Text.{show};
+ghost use Rattle.term_unfold.specs.Trees.{Value, Tree};
+ghost use Rattle.term_unfold.specs.Unfolding.{unfolded};
+
+/// The unfolding follows the rules with no number of levels; more levels than there are cells change nothing; a term
+/// unfolds to a term, and a child of a hash map to an item.
+pub fn unfolding_is_finite()
+    ensures rules { FollowsRules unfolded }
+    ensures enough { IsEnough }
+    ensures suits { (heap : List Cell) (path : List ℕ) (child : Child) → Suits child (unfolded heap path child) }
+{}
+
+/// The text over n nodes depends on the first n nodes alone: two terms whose first n nodes look alike and stand at the
+/// same places have the same text, whatever the texts of leaves are.
+pub fn text_is_of_first_nodes()
+    ensures { (leaf : Value → List ℕ) (t u : Tree) (n : ℕ) → IsTerm t → IsTerm u → take n (nodes_of leaf t) ≡ take n (nodes_of leaf u) → show leaf t n ≡ show leaf u n }
+{}

@@ -1,0 +1,166 @@
+// The texts of leaves and of bad addresses.
+ghost use Rattle.std.specs.Prelude.{◌≡◌, ◌<◌, ◌++◌, length, codes, decimal, IfSome};
+ghost use Rattle.std.specs.List.{flat_map};
+ghost use Rattle.std.specs.Option.{option_map};
+ghost use Rattle.dump_io.specs.Sinks.{changed, Puts};
+ghost use Rattle.dump_io.specs.Numbers.{hex_byte};
+ghost use Rattle.heap_cells.specs.HeapMap.{IsSpelled, form_at};
+ghost use Rattle.heap_cells.specs.Targets.{number};
+ghost use Rattle.map_nodes.specs.Rules.{address_of};
+ghost use Rattle.term_forms.specs.Payload.{IsPayloadOf};
+ghost use Rattle.term_forms.specs.Seen.{element};
+ghost use Rattle.term_forms.specs.SeenForms.{heap_form};
+ghost use Rattle.term_unfold.specs.Inner.Rest.{cell_text};
+ghost use Rattle.term_unfold.specs.Leaves.{element_text, port_text, dots, preview_text, sized_text, own_preview, form_text, leaf_text};
+ghost use Rattle.term_unfold.specs.Text.{reason, bad_text};
+
+use crate::previews::Previews;
+use dump_io::{Failed, Piece, Sink, put_atom, put_hex_bytes, put_pieces, write_all};
+use heap_cells::{CellIx, Heap, Why};
+use term_forms::shapes::{Elem, Form};
+use term_forms::{Enc, payload_part};
+
+fn why_text(why: Why) -> &'static [u8]
+    ensures { result.now ≡ reason why }
+{
+    match why {
+        Why::Missing => b"missing",
+        Why::Malformed => b"malformed",
+        Why::OnPath => b"onpath",
+    }
+}
+
+/// Writes a bad address in its place.
+pub(crate) fn put_bad<K: Sink>(sink: &mut K, addr: u64, why: Why) -> Result<(), Failed>
+    ensures { Puts (changed K.written K.faults sink.old sink.new) (bad_text addr why) result }
+{
+    put_pieces(
+        sink,
+        &[
+            Piece::Bytes(b"!"),
+            Piece::Bytes(why_text(why)),
+            Piece::Bytes(b":"),
+            Piece::Hex(addr),
+        ],
+    )
+}
+
+fn put_port<K: Sink>(sink: &mut K, port: &[u8]) -> Result<(), Failed>
+    ensures { Puts (changed K.written K.faults sink.old sink.new) (port_text port.now) result }
+{
+    put_pieces(sink, &[Piece::Bytes(b"#Port"), Piece::Bytes(port)])
+}
+
+/// Writes an element that is no reference.
+pub(crate) fn put_element<K: Sink>(sink: &mut K, e: &Elem<'_>) -> Result<(), Failed>
+    ensures { Puts (changed K.written K.faults sink.old sink.new) (element_text (element e.now)) result }
+{
+    match e {
+        Elem::Nil => write_all(sink, b"[]"),
+        Elem::Small(integer) => write_all(sink, integer),
+        Elem::Atom(name) => put_atom(sink, name),
+        Elem::Pid(pid) => write_all(sink, pid),
+        Elem::Port(port) => put_port(sink, port),
+        Elem::Ref(_) => write_all(sink, b""),
+    }
+}
+
+fn dots_text(size: u64) -> &'static [u8]
+    ensures { result.now ≡ dots size }
+{
+    if size > 32 { b".." } else { b"" }
+}
+
+fn put_known<K: Sink>(sink: &mut K, size: u64, bytes: &[u8]) -> Result<(), Failed>
+    ensures { Puts (changed K.written K.faults sink.old sink.new) (flat_map hex_byte bytes.now ++ dots size) result }
+{
+    put_hex_bytes(sink, bytes)?;
+    write_all(sink, dots_text(size))
+}
+
+fn put_preview<K: Sink>(sink: &mut K, size: u64, preview: Option<&[u8]>) -> Result<(), Failed>
+    ensures { Puts (changed K.written K.faults sink.old sink.new) (preview_text size (option_map (λ bytes. bytes.now) preview.entry)) result }
+{
+    match preview {
+        None => write_all(sink, b"?"),
+        Some(bytes) => put_known(sink, size, bytes),
+    }
+}
+
+// Writes a word, the size of a binary, and its preview.
+fn put_sized<K: Sink>(
+    sink: &mut K,
+    word: &[u8],
+    size: u64,
+    preview: Option<&[u8]>,
+) -> Result<(), Failed>
+    ensures { Puts (changed K.written K.faults sink.old sink.new) (sized_text word.now size (option_map (λ bytes. bytes.now) preview.entry)) result }
+{
+    put_pieces(
+        sink,
+        &[Piece::Bytes(word), Piece::Dec(size), Piece::Bytes(b":")],
+    )?;
+    put_preview(sink, size, preview)?;
+    write_all(sink, b">")
+}
+
+// Writes a cell that has its own payload.
+fn put_payload<K: Sink>(
+    sink: &mut K,
+    word: &[u8],
+    enc: Enc,
+    size: u64,
+    chars: &[u8],
+) -> Result<(), Failed>
+    requires { IsPayloadOf enc chars.now size }
+    ensures { Puts (changed K.written K.faults sink.old sink.new) (sized_text word.now size (own_preview enc size chars.now)) result }
+{
+    let mut buffer = [0; 32];
+    let first = &mut buffer[..size.min(32) as usize];
+    payload_part(chars, enc, size, 0, first);
+    put_sized(sink, word, size, Some(first))
+}
+
+// Writes a cell that has no children, by the preview of what it refers to.
+fn put_form<K: Sink>(
+    sink: &mut K,
+    enc: Enc,
+    form: &Form<'_>,
+    preview: Option<&[u8]>,
+) -> Result<(), Failed>
+    requires { IsSpelled enc (heap_form form.now) }
+    ensures { Puts (changed K.written K.faults sink.old sink.new) (form_text enc (option_map (λ bytes. bytes.now) preview.entry) (heap_form form.now)) result }
+{
+    match form {
+        Form::Float(bytes) => write_all(sink, bytes),
+        Form::Long(digits) => write_all(sink, digits),
+        Form::Pid(pid) => write_all(sink, pid),
+        Form::Port(port) => put_port(sink, port),
+        Form::Ext(size, chars) => put_payload(sink, b"#Ext<", enc, *size, chars),
+        Form::HeapBin(size, chars) => put_payload(sink, b"#Bin<", enc, *size, chars),
+        Form::RefBin(_, _, size) => put_sized(sink, b"#Bin<", *size, preview),
+        Form::SubBin(_, _, size) => put_sized(sink, b"#Bin<", *size, preview),
+        Form::List(_, _) => write_all(sink, b""),
+        Form::Tuple(_) => write_all(sink, b""),
+        Form::Flat(_, _) => write_all(sink, b""),
+        Form::Hash(_, _) => write_all(sink, b""),
+        Form::Node(_) => write_all(sink, b""),
+    }
+}
+
+/// Writes a cell that has no children.
+pub(crate) fn put_cell<K: Sink>(
+    sink: &mut K,
+    heap: &Heap,
+    previews: &Previews,
+    ix: CellIx,
+) -> Result<(), Failed>
+    requires { number ix < length heap.now.cells }
+    ensures { Puts (changed K.written K.faults sink.old sink.new)
+        (cell_text (leaf_text heap.now.enc previews.now) (address_of heap.now.cells (number ix)) (form_at heap.now.cells (number ix))) result }
+{
+    match heap.form(ix) {
+        Some(form) => put_form(sink, heap.enc(), &form, previews.get(heap, ix)),
+        None => write_all(sink, b""),
+    }
+}

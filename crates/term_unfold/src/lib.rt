@@ -1,0 +1,21 @@
+//! What a term of a heap unfolds to: its first bad address, and its text, within a budget of nodes.
+#![tactic(auto)]
+
+mod children;
+mod judging;
+mod laws;
+mod leaves;
+mod node;
+mod openings;
+mod path;
+mod previews;
+mod printing;
+mod turns;
+mod verdict;
+mod walker;
+
+pub use laws::{text_is_of_first_nodes, unfolding_is_finite};
+pub use node::NodeKind;
+pub use previews::Previews;
+pub use verdict::Verdict;
+pub use walker::Walker;

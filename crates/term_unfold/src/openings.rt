@@ -1,0 +1,201 @@
+// What the walk finds where it comes to a child.
+ghost use Rattle.std.specs.Prelude.{◌≡◌, ◌<◌, ◌≤◌, false, ◌∷◌, length, Some, IsFalse};
+ghost use Rattle.std.specs.Option.{option_map};
+ghost use Rattle.heap_cells.specs.Cells.{kind_of};
+ghost use Rattle.heap_cells.specs.HeapMap.{form_at, elements_at};
+ghost use Rattle.heap_cells.specs.Targets.{number, target, slot_target, At, IsWithin};
+ghost use Rattle.term_forms.specs.Elements.{Ref};
+ghost use Rattle.term_forms.specs.Seen.{element};
+ghost use Rattle.map_nodes.specs.Rules.{address_of, element_at};
+ghost use Rattle.term_unfold.specs.Inner.Entries.{numbers_of, path_of, IsLine, Serves};
+ghost use Rattle.term_unfold.specs.Inner.Kids.{child_shown, IsItemAt, IsKid};
+ghost use Rattle.term_unfold.specs.Inner.Openings.{Opens, OpensEach};
+ghost use Rattle.term_unfold.specs.Rules.{is_on, Term, Item};
+
+use crate::children::Child;
+use crate::node::NodeKind;
+use crate::path::Path;
+use heap_cells::{CellIx, Heap, Kind, Seat, Slot, Why};
+use map_nodes::{KeysAt, MapChild, child_of, keys_of};
+use term_forms::shapes::Elem;
+
+/// What a child is below the cells that the walk is in.
+#[derive(Clone, Copy)]
+pub(crate) enum Opened {
+    /// A leaf: an element that is no reference.
+    Immediate,
+    /// A leaf: a cell that has no children.
+    Leaf(CellIx),
+    /// A bad address.
+    Bad(u64, Why),
+    /// A node, whose cell the walk may enter.
+    Node(CellIx, NodeKind),
+}
+
+// Whether the walk is in the cell.
+fn is_open(heap: &Heap, path: &Path, ix: CellIx) -> bool
+    requires cell { number ix < length heap.now.cells }
+    requires serves { Serves heap.now path.now.cells }
+    ensures on { result ≡ is_on (address_of heap.now.cells (number ix)) (path_of heap.now.cells path.now.entries) }
+    ensures line { IsFalse result → IsLine path.now.cells (number ix ∷ numbers_of path.now.entries) }
+{
+    path.contains(ix)
+}
+
+// What is found at an address that no cell has. The walk is in cells alone, so it isn't in one with that address.
+fn missing(path: &Path, addr: u64) -> Opened
+    ensures found { result ≡ Opened.Bad addr Why.Missing }
+    ensures line { IsLine path.now.cells (numbers_of path.now.entries) }
+{
+    path.line();
+    Opened::Bad(addr, Why::Missing)
+}
+
+// A flat map that the walk isn't in, whose keys element refers to a cell.
+fn open_keyed(heap: &Heap, path: &Path, ix: CellIx, keys: CellIx) -> Opened
+    requires cell { number ix < length heap.now.cells }
+    requires keys { number keys < length heap.now.cells }
+    requires serves { Serves heap.now path.now.cells }
+    requires flat { option_map kind_of (form_at heap.now.cells (number ix)) ≡ Some Kind.Flat }
+    requires some { 2 ≤ length (elements_at heap.now.cells (number ix)) }
+    requires leads { target heap.now.cells (element_at heap.now.cells (number ix) 0) ≡ At (number keys) }
+    requires off { is_on (address_of heap.now.cells (number ix)) (path_of heap.now.cells path.now.entries) ≡ false }
+    requires line { IsLine path.now.cells (number ix ∷ numbers_of path.now.entries) }
+    ensures { Opens heap.now path.now (Term (Ref (address_of heap.now.cells (number ix)))) result }
+{
+    if keys.number() == ix.number() {
+        return Opened::Bad(heap.addr(keys), Why::OnPath);
+    }
+    if is_open(heap, path, keys) {
+        return Opened::Bad(heap.addr(keys), Why::OnPath);
+    }
+    match keys_of(heap, ix) {
+        KeysAt::None => Opened::Node(ix, NodeKind::Flat),
+        KeysAt::Keys(_) => Opened::Node(ix, NodeKind::Flat),
+        KeysAt::Bad(addr, why) => Opened::Bad(addr, why),
+    }
+}
+
+// A flat map that the walk isn't in.
+fn open_flat(heap: &Heap, path: &Path, ix: CellIx) -> Opened
+    requires cell { number ix < length heap.now.cells }
+    requires serves { Serves heap.now path.now.cells }
+    requires flat { option_map kind_of (form_at heap.now.cells (number ix)) ≡ Some Kind.Flat }
+    requires off { is_on (address_of heap.now.cells (number ix)) (path_of heap.now.cells path.now.entries) ≡ false }
+    requires line { IsLine path.now.cells (number ix ∷ numbers_of path.now.entries) }
+    ensures { Opens heap.now path.now (Term (Ref (address_of heap.now.cells (number ix)))) result }
+{
+    if heap.kids(ix) < 2 {
+        return Opened::Node(ix, NodeKind::Flat);
+    }
+    match heap.slots(ix)[0] {
+        Slot::Imm(_) => Opened::Bad(heap.addr(ix), Why::Malformed),
+        Slot::Gone(addr) => Opened::Bad(addr, Why::Missing),
+        Slot::Cell(keys) => open_keyed(heap, path, ix, keys),
+    }
+}
+
+// A cell as a term.
+fn open_cell(heap: &Heap, path: &Path, ix: CellIx) -> Opened
+    requires cell { number ix < length heap.now.cells }
+    requires serves { Serves heap.now path.now.cells }
+    ensures { Opens heap.now path.now (Term (Ref (address_of heap.now.cells (number ix)))) result }
+{
+    if is_open(heap, path, ix) {
+        return Opened::Bad(heap.addr(ix), Why::OnPath);
+    }
+    let Some(kind) = heap.kind(ix) else {
+        return Opened::Bad(heap.addr(ix), Why::Malformed);
+    };
+    match kind {
+        Kind::List => Opened::Node(ix, NodeKind::Cons),
+        Kind::Tuple => Opened::Node(ix, NodeKind::Tuple),
+        Kind::Flat => open_flat(heap, path, ix),
+        Kind::Hash => Opened::Node(ix, NodeKind::Hash),
+        Kind::Node => Opened::Bad(heap.addr(ix), Why::Malformed),
+        _ => Opened::Leaf(ix),
+    }
+}
+
+// A term, by its slot.
+fn open_slot(heap: &Heap, path: &Path, slot: Slot) -> Opened
+    requires slot { IsWithin (length heap.now.cells) (slot_target slot) }
+    requires serves { Serves heap.now path.now.cells }
+    ensures { OpensEach heap.now path.now (slot_target slot) result }
+{
+    match slot {
+        Slot::Imm(_) => Opened::Immediate,
+        Slot::Gone(addr) => missing(path, addr),
+        Slot::Cell(ix) => open_cell(heap, path, ix),
+    }
+}
+
+// An item of the hash map or the inner node `parent` that refers to a cell.
+fn open_member(heap: &Heap, path: &Path, parent: CellIx, place: u32, ix: CellIx) -> Opened
+    requires item { IsItemAt heap.now.cells (number parent) place }
+    requires cell { number ix < length heap.now.cells }
+    requires leads { target heap.now.cells (element_at heap.now.cells (number parent) place) ≡ At (number ix) }
+    requires serves { Serves heap.now path.now.cells }
+    ensures { Opens heap.now path.now (Item (address_of heap.now.cells (number parent)) (element_at heap.now.cells (number parent) place)) result }
+{
+    if is_open(heap, path, ix) {
+        return Opened::Bad(heap.addr(ix), Why::OnPath);
+    }
+    match child_of(heap, parent, place) {
+        MapChild::Pair(_) => Opened::Node(ix, NodeKind::Pair),
+        MapChild::Inner(_) => Opened::Node(ix, NodeKind::Inner),
+        MapChild::Bad(addr, why) => Opened::Bad(addr, why),
+    }
+}
+
+// An item of the hash map or the inner node `parent`.
+fn open_item(heap: &Heap, path: &Path, parent: CellIx, place: u32) -> Opened
+    requires item { IsItemAt heap.now.cells (number parent) place }
+    requires serves { Serves heap.now path.now.cells }
+    ensures { Opens heap.now path.now (Item (address_of heap.now.cells (number parent)) (element_at heap.now.cells (number parent) place)) result }
+{
+    match heap.slots(parent)[place as usize] {
+        Slot::Imm(_) => Opened::Bad(heap.addr(parent), Why::Malformed),
+        Slot::Gone(addr) => missing(path, addr),
+        Slot::Cell(ix) => open_member(heap, path, parent, place, ix),
+    }
+}
+
+/// A child of an open cell.
+pub(crate) fn open_child(heap: &Heap, path: &Path, child: Child) -> Opened
+    requires kid { IsKid heap.now.cells child }
+    requires serves { Serves heap.now path.now.cells }
+    ensures { Opens heap.now path.now (child_shown heap.now.cells child) result }
+{
+    match child {
+        Child::Term(slot, _, _) => open_slot(heap, path, slot),
+        Child::Item(parent, place) => open_item(heap, path, parent, place),
+    }
+}
+
+// A reference to an address, as a term.
+fn open_address(heap: &Heap, path: &Path, addr: u64) -> Opened
+    requires serves { Serves heap.now path.now.cells }
+    ensures { Opens heap.now path.now (Term (Ref addr)) result }
+{
+    match heap.at(addr) {
+        Seat::Missing => missing(path, addr),
+        Seat::Malformed(ix) => open_cell(heap, path, ix),
+        Seat::Cell(ix) => open_cell(heap, path, ix),
+    }
+}
+
+/// A root.
+pub(crate) fn open_root(heap: &Heap, path: &Path, root: &Elem<'_>) -> Opened
+    requires serves { Serves heap.now path.now.cells }
+    ensures { Opens heap.now path.now (Term (element root.now)) result }
+{
+    match root {
+        Elem::Ref(addr) => open_address(heap, path, *addr),
+        Elem::Nil => Opened::Immediate,
+        Elem::Small(_) => Opened::Immediate,
+        Elem::Atom(_) => Opened::Immediate,
+        Elem::Pid(_) => Opened::Immediate,
+        Elem::Port(_) => Opened::Immediate,
+    }
+}

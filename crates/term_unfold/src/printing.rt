@@ -1,0 +1,226 @@
+// The walk that prints.
+ghost use Rattle.std.specs.Prelude.{◌≡◌, ◌<◌, ◌≤◌, ◌+◌, ◌-◌, ◌*◌, List, [], ◌∷◌, length, drop, if◌then◌else◌};
+ghost use Rattle.dump_io.specs.Sinks.{changed, Puts};
+ghost use Rattle.term_forms.specs.Seen.{element};
+ghost use Rattle.term_unfold.specs.Inner.Entries.{Serves};
+ghost use Rattle.heap_cells.specs.Targets.{number};
+ghost use Rattle.map_nodes.specs.Rules.{element_at};
+ghost use Rattle.term_unfold.specs.Inner.Kids.{child_shown, IsKid, IsPlace};
+ghost use Rattle.term_unfold.specs.Inner.Openings.{element_of};
+ghost use Rattle.term_unfold.specs.Inner.Rest.{bracket, own_text, turn_text, rest, LeafWithin};
+ghost use Rattle.term_unfold.specs.Inner.Steps.{Steps, Falls, counted_of};
+ghost use Rattle.term_unfold.specs.Leaves.{element_text, leaf_text};
+ghost use Rattle.term_unfold.specs.Rules.{Term};
+ghost use Rattle.term_unfold.specs.Text.{show};
+ghost use Rattle.term_unfold.specs.Unfolding.{unfolding_of};
+
+use crate::children::{Child, child_at};
+use crate::judging::enter;
+use crate::leaves::{put_bad, put_cell, put_element};
+use crate::node::NodeKind;
+use crate::openings::{Opened, open_root};
+use crate::path::{Entry, Path};
+use crate::previews::Previews;
+use crate::turns::{Turn, close, cut, visit_next};
+use dump_io::{Failed, Sink, write_all};
+use heap_cells::{CellIx, Heap, Kid};
+use term_forms::shapes::Elem;
+
+fn bracket_text(kind: NodeKind) -> &'static [u8]
+    ensures { result.now ≡ bracket kind }
+{
+    match kind {
+        NodeKind::Cons => b"[",
+        NodeKind::Tuple => b"{",
+        NodeKind::Flat => b"#{",
+        NodeKind::Hash => b"#{",
+        NodeKind::Inner => b"",
+        NodeKind::Pair => b"",
+    }
+}
+
+// Writes the element at a place of a cell; a reference is no text.
+fn put_place<K: Sink>(sink: &mut K, heap: &Heap, ix: CellIx, place: u32) -> Result<(), Failed>
+    requires { IsPlace heap.now.cells (number ix) place }
+    ensures { Puts (changed K.written K.faults sink.old sink.new) (element_text (element_at heap.now.cells (number ix) place)) result }
+{
+    match heap.kid(ix, place) {
+        Kid::Imm(e) => put_element(sink, &e),
+        Kid::Cell(_) => write_all(sink, b""),
+        Kid::Gone(_) => write_all(sink, b""),
+    }
+}
+
+// Writes a child that is an element and no reference.
+fn put_immediate<K: Sink>(sink: &mut K, heap: &Heap, child: Child) -> Result<(), Failed>
+    requires { IsKid heap.now.cells child }
+    ensures { Puts (changed K.written K.faults sink.old sink.new) (element_text (element_of (child_shown heap.now.cells child))) result }
+{
+    match child {
+        Child::Term(_, ix, place) => put_place(sink, heap, ix, place),
+        Child::Item(ix, place) => put_place(sink, heap, ix, place),
+    }
+}
+
+// Writes a child's own text, up to its children.
+fn put_own<K: Sink>(
+    sink: &mut K,
+    heap: &Heap,
+    previews: &Previews,
+    child: Child,
+    opened: Opened,
+) -> Result<(), Failed>
+    requires kid { IsKid heap.now.cells child }
+    requires cell { LeafWithin heap.now.cells opened }
+    ensures { Puts (changed K.written K.faults sink.old sink.new)
+        (own_text (leaf_text heap.now.enc previews.now) heap.now.cells (child_shown heap.now.cells child) opened) result }
+{
+    match opened {
+        Opened::Immediate => put_immediate(sink, heap, child),
+        Opened::Leaf(ix) => put_cell(sink, heap, previews, ix),
+        Opened::Bad(addr, why) => put_bad(sink, addr, why),
+        Opened::Node(_, kind) => write_all(sink, bracket_text(kind)),
+    }
+}
+
+fn put_own_if<K: Sink>(
+    sink: &mut K,
+    heap: &Heap,
+    previews: &Previews,
+    child: Child,
+    turn: &Turn,
+) -> Result<(), Failed>
+    requires kid { IsKid heap.now.cells child }
+    requires cell { LeafWithin heap.now.cells turn.now.opened }
+    ensures { Puts (changed K.written K.faults sink.old sink.new)
+        (if turn.now.own then own_text (leaf_text heap.now.enc previews.now) heap.now.cells (child_shown heap.now.cells child) turn.now.opened else []) result }
+{
+    if turn.own {
+        put_own(sink, heap, previews, child, turn.opened)
+    } else {
+        write_all(sink, b"")
+    }
+}
+
+// Writes what the walk says where it comes to a child.
+fn put_turn<K: Sink>(
+    sink: &mut K,
+    heap: &Heap,
+    previews: &Previews,
+    child: Child,
+    turn: &Turn,
+) -> Result<(), Failed>
+    requires kid { IsKid heap.now.cells child }
+    requires cell { LeafWithin heap.now.cells turn.now.opened }
+    ensures { Puts (changed K.written K.faults sink.old sink.new)
+        (turn_text (leaf_text heap.now.enc previews.now) heap.now.cells (child_shown heap.now.cells child) turn.now) result }
+{
+    write_all(sink, turn.front)?;
+    put_own_if(sink, heap, previews, child, turn)
+}
+
+// The count that remains, where a text was written.
+fn counted(written: Result<(), Failed>, left: u32) -> Result<u32, Failed>
+    ensures { result ≡ counted_of written left }
+{
+    match written {
+        Ok(()) => Ok(left),
+        Err(failed) => Err(failed),
+    }
+}
+
+// Goes on with the innermost cell, where so many nodes remain.
+fn step<K: Sink>(
+    heap: &Heap,
+    previews: &Previews,
+    path: &mut Path,
+    entry: Entry,
+    left: u32,
+    sink: &mut K,
+) -> Result<u32, Failed>
+    requires serves { Serves heap.now path.old.cells }
+    requires top { path.old.entries ≡ entry ∷ drop 1 path.old.entries }
+    requires cell { number entry.cell < length heap.now.cells }
+    requires few { length path.old.entries ≤ length heap.now.cells }
+    ensures cells { path.new.cells ≡ path.old.cells }
+    ensures falls { Falls path.old.entries path.new.entries left result }
+    ensures step { Steps (changed K.written K.faults sink.old sink.new)
+        (rest (leaf_text heap.now.enc previews.now) heap.now.cells path.old.entries left)
+        (rest (leaf_text heap.now.enc previews.now) heap.now.cells path.new.entries) result }
+{
+    let Some(child) = child_at(heap, entry.cell, entry.kind, entry.next) else {
+        let text = close(path, entry);
+        return counted(write_all(sink, text), left);
+    };
+    if left == 0 {
+        let text = cut(path, entry);
+        return counted(write_all(sink, text), 0);
+    }
+    let turn = visit_next(heap, path, entry, child);
+    counted(put_turn(sink, heap, previews, child, &turn), left - 1)
+}
+
+// Writes a root's own text, up to its children.
+fn put_root<K: Sink>(
+    sink: &mut K,
+    heap: &Heap,
+    previews: &Previews,
+    root: &Elem<'_>,
+    opened: Opened,
+) -> Result<(), Failed>
+    requires cell { LeafWithin heap.now.cells opened }
+    ensures { Puts (changed K.written K.faults sink.old sink.new)
+        (own_text (leaf_text heap.now.enc previews.now) heap.now.cells (Term (element root.now)) opened) result }
+{
+    match opened {
+        Opened::Immediate => put_element(sink, root),
+        Opened::Leaf(ix) => put_cell(sink, heap, previews, ix),
+        Opened::Bad(addr, why) => put_bad(sink, addr, why),
+        Opened::Node(_, kind) => write_all(sink, bracket_text(kind)),
+    }
+}
+
+// Visits a root, within a budget of nodes.
+fn print_root<K: Sink>(
+    heap: &Heap,
+    previews: &Previews,
+    path: &mut Path,
+    root: &Elem<'_>,
+    budget: u32,
+    sink: &mut K,
+) -> Result<u32, Failed>
+    requires serves { Serves heap.now path.old.cells }
+    requires empty { path.old.entries ≡ [] }
+    requires budget { 0 < budget }
+    ensures cells { path.new.cells ≡ path.old.cells }
+    ensures step { Steps (changed K.written K.faults sink.old sink.new)
+        (show (leaf_text heap.now.enc previews.now) (unfolding_of heap.now.cells (element root.now)) budget)
+        (rest (leaf_text heap.now.enc previews.now) heap.now.cells path.new.entries) result }
+{
+    let opened = open_root(heap, path, root);
+    enter(path, opened, false);
+    counted(put_root(sink, heap, previews, root, opened), budget - 1)
+}
+
+/// Writes the whole text of a root, over as many nodes as the budget says.
+pub(crate) fn print_all<K: Sink>(
+    heap: &Heap,
+    previews: &Previews,
+    path: &mut Path,
+    root: &Elem<'_>,
+    budget: u32,
+    sink: &mut K,
+) -> Result<(), Failed>
+    requires serves { Serves heap.now path.old.cells }
+    requires empty { path.old.entries ≡ [] }
+    requires budget { 0 < budget }
+    ensures cells { path.new.cells ≡ path.old.cells }
+    ensures puts { Puts (changed K.written K.faults sink.old sink.new)
+        (show (leaf_text heap.now.enc previews.now) (unfolding_of heap.now.cells (element root.now)) budget) result }
+{
+    let mut left = print_root(heap, previews, path, root, budget, sink)?;
+    while let Some(entry) = path.top() {
+        left = step(heap, previews, path, entry, left, sink)?;
+    }
+    Ok(())
+}

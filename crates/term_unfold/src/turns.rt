@@ -1,0 +1,333 @@
+// The steps of the walk that prints: what each writes, and where the walk stands then.
+ghost use Rattle.std.specs.Prelude.{◌≡◌, ℕ, suc, ◌+◌, ◌<◌, ◌≤◌, ◌++◌, List, [], ◌∷◌, length, drop, slice_get, codes, ◌^◌, Some, IfSome};
+ghost use Rattle.heap_cells.specs.Cells.{Cell};
+ghost use Rattle.heap_cells.specs.Targets.{number};
+ghost use Rattle.term_unfold.specs.Inner.Coming.{left_of, entered_by};
+ghost use Rattle.term_unfold.specs.Inner.Entries.{stepped, outside, is_item, Serves};
+ghost use Rattle.term_unfold.specs.Inner.Kids.{kids_of, child_shown, IsKid};
+ghost use Rattle.term_unfold.specs.Inner.Openings.{MayEnter, is_nil_term, is_list, is_list_kind};
+ghost use Rattle.term_unfold.specs.Inner.Rest.{rest, AtChild, IsTurn, HasItems};
+ghost use Rattle.term_unfold.specs.Rules.{Child as Below};
+ghost use Rattle.term_unfold.specs.Text.{comma};
+ghost use Rattle.term_unfold.specs.Trees.{Value, none};
+
+use crate::children::Child;
+use crate::judging::enter;
+use crate::node::NodeKind;
+use crate::openings::{Opened, open_child};
+use crate::path::{Entry, Path};
+use heap_cells::{Heap, Kid};
+use term_forms::shapes::Elem;
+
+/// What the walk writes where it comes to a child: a text in front, and the child's own text or not.
+#[derive(Clone, Copy)]
+pub(crate) struct Turn {
+    pub front: &'static [u8],
+    pub own: bool,
+    pub opened: Opened,
+}
+
+fn comma_text(came: bool) -> &'static [u8]
+    ensures { result.now ≡ comma came }
+{
+    if came { b"," } else { b"" }
+}
+
+// What stands for all that is left of a node behind some text or none, and closes it.
+fn cut_text(came: bool) -> &'static [u8]
+    ensures { result.now ≡ comma came ++ codes "...}" }
+{
+    if came { b",...}" } else { b"...}" }
+}
+
+fn is_item_kind(kind: NodeKind) -> bool
+    ensures { result ≡ is_item kind }
+{
+    match kind {
+        NodeKind::Cons => false,
+        NodeKind::Tuple => false,
+        NodeKind::Flat => false,
+        NodeKind::Hash => false,
+        NodeKind::Inner => true,
+        NodeKind::Pair => true,
+    }
+}
+
+// Leaves the innermost node; where that is an item of a hash map, the whole map.
+fn leave_node(path: &mut Path)
+    ensures { path.new ≡ record path.old { entries = outside path.old.entries } }
+{
+    while let Some(entry) = path.top() {
+        path.pop();
+        if !is_item_kind(entry.kind) {
+            return;
+        }
+    }
+}
+
+/// Leaves the innermost cell, which has no child left, and gives the text that closes it.
+pub(crate) fn close(path: &mut Path, entry: Entry) -> &'static [u8]
+    requires top { path.old.entries ≡ entry ∷ drop 1 path.old.entries }
+    ensures cells { path.new.cells ≡ path.old.cells }
+    ensures fewer { length path.new.entries < length path.old.entries }
+    ensures text { (leaf : Value → List ℕ) (heap : List Cell) (m : ℕ) → left_of heap entry (drop 1 path.old.entries) ≡ none
+        → rest leaf heap path.old.entries m ≡ result.now ++ rest leaf heap path.new.entries m }
+{
+    path.pop();
+    match entry.kind {
+        NodeKind::Cons => { if entry.came { b"]" } else { b"" } }
+        NodeKind::Tuple => b"}",
+        NodeKind::Flat => b"}",
+        NodeKind::Hash => b"}",
+        NodeKind::Inner => {
+            path.tell(entry.came);
+            b""
+        }
+        NodeKind::Pair => {
+            path.tell(true);
+            b""
+        }
+    }
+}
+
+/// Leaves the innermost node, which has a child left that isn't visited any more, and gives the text that stands for all
+/// that is left there. Of a hash map all is left, wherever the walk is in it.
+pub(crate) fn cut(path: &mut Path, entry: Entry) -> &'static [u8]
+    requires top { path.old.entries ≡ entry ∷ drop 1 path.old.entries }
+    ensures cells { path.new.cells ≡ path.old.cells }
+    ensures fewer { length path.new.entries < length path.old.entries }
+    ensures text { (leaf : Value → List ℕ) (heap : List Cell) (child : Below) → slice_get (kids_of heap entry.kind (number entry.cell)) entry.next ≡ Some child
+        → rest leaf heap path.old.entries 0 ≡ result.now ++ rest leaf heap path.new.entries 0 }
+{
+    leave_node(path);
+    match entry.kind {
+        NodeKind::Cons => { if entry.next == 0 { b"...]" } else { b"|...]" } }
+        NodeKind::Tuple => cut_text(entry.came),
+        NodeKind::Flat => {
+            if entry.next % 2 == 0 {
+                cut_text(entry.came)
+            } else {
+                b"=>...}"
+            }
+        }
+        NodeKind::Hash => cut_text(entry.came),
+        NodeKind::Inner => cut_text(entry.came),
+        NodeKind::Pair => {
+            if entry.next == 0 {
+                cut_text(entry.came)
+            } else {
+                b"=>...}"
+            }
+        }
+    }
+}
+
+// Goes on behind a child of the innermost cell, and enters the child if it is a node.
+fn advance(path: &mut Path, opened: Opened, came: bool, inside: bool)
+    requires some { 0 < length path.old.entries }
+    requires few { IfSome (slice_get path.old.entries 0) (λ e. e.next + 1 < 2 ^ 32) }
+    requires enters { MayEnter path.old opened }
+    ensures { path.new ≡ record path.old { entries = entered_by opened inside (stepped came path.old.entries) } }
+{
+    path.step(came);
+    enter(path, opened, inside);
+}
+
+// Whether a child is the leaf that ends a list.
+fn is_nil_child(heap: &Heap, child: Child) -> bool
+    requires { IsKid heap.now.cells child }
+    ensures { result ≡ is_nil_term (child_shown heap.now.cells child) }
+{
+    match child {
+        Child::Term(_, cell, place) => matches!(heap.kid(cell, place), Kid::Imm(Elem::Nil)),
+        Child::Item(_, _) => false,
+    }
+}
+
+fn is_list_kind(kind: NodeKind) -> bool
+    ensures { result ≡ is_list_kind kind }
+{
+    match kind {
+        NodeKind::Cons => true,
+        NodeKind::Tuple => false,
+        NodeKind::Flat => false,
+        NodeKind::Hash => false,
+        NodeKind::Inner => false,
+        NodeKind::Pair => false,
+    }
+}
+
+// Whether a list goes on with what was found.
+fn is_list(opened: Opened) -> bool
+    ensures { result ≡ is_list opened }
+{
+    match opened {
+        Opened::Node(_, kind) => is_list_kind(kind),
+        Opened::Immediate => false,
+        Opened::Leaf(_) => false,
+        Opened::Bad(_, _) => false,
+    }
+}
+
+// Goes on with a list behind its head.
+fn turn_tail(heap: &Heap, path: &mut Path, entry: Entry, child: Child, opened: Opened) -> Turn
+    requires at { AtChild heap.now path.old entry child opened }
+    requires kind { entry.kind ≡ NodeKind.Cons }
+    requires next { 0 < entry.next }
+    ensures cells { path.new.cells ≡ path.old.cells }
+    ensures turn { IsTurn heap.now.cells path.old.entries path.new.entries (child_shown heap.now.cells child) result }
+{
+    if is_nil_child(heap, child) {
+        path.pop();
+        return Turn {
+            front: b"]",
+            own: false,
+            opened,
+        };
+    }
+    if is_list(opened) {
+        advance(path, opened, false, false);
+        return Turn {
+            front: b",",
+            own: false,
+            opened,
+        };
+    }
+    advance(path, opened, true, false);
+    Turn {
+        front: b"|",
+        own: true,
+        opened,
+    }
+}
+
+// Goes on with a list.
+fn turn_list(heap: &Heap, path: &mut Path, entry: Entry, child: Child, opened: Opened) -> Turn
+    requires at { AtChild heap.now path.old entry child opened }
+    requires kind { entry.kind ≡ NodeKind.Cons }
+    ensures cells { path.new.cells ≡ path.old.cells }
+    ensures turn { IsTurn heap.now.cells path.old.entries path.new.entries (child_shown heap.now.cells child) result }
+{
+    if entry.next > 0 {
+        return turn_tail(heap, path, entry, child, opened);
+    }
+    advance(path, opened, false, false);
+    Turn {
+        front: b"",
+        own: true,
+        opened,
+    }
+}
+
+// Goes on with a tuple.
+fn turn_tuple(heap: &Heap, path: &mut Path, entry: Entry, child: Child, opened: Opened) -> Turn
+    requires at { AtChild heap.now path.old entry child opened }
+    requires kind { entry.kind ≡ NodeKind.Tuple }
+    ensures cells { path.new.cells ≡ path.old.cells }
+    ensures turn { IsTurn heap.now.cells path.old.entries path.new.entries (child_shown heap.now.cells child) result }
+{
+    advance(path, opened, true, false);
+    Turn {
+        front: comma_text(entry.came),
+        own: true,
+        opened,
+    }
+}
+
+// Goes on with a flat map.
+fn turn_flat(heap: &Heap, path: &mut Path, entry: Entry, child: Child, opened: Opened) -> Turn
+    requires at { AtChild heap.now path.old entry child opened }
+    requires kind { entry.kind ≡ NodeKind.Flat }
+    ensures cells { path.new.cells ≡ path.old.cells }
+    ensures turn { IsTurn heap.now.cells path.old.entries path.new.entries (child_shown heap.now.cells child) result }
+{
+    advance(path, opened, true, false);
+    if entry.next % 2 == 0 {
+        return Turn {
+            front: comma_text(entry.came),
+            own: true,
+            opened,
+        };
+    }
+    Turn {
+        front: b"=>",
+        own: true,
+        opened,
+    }
+}
+
+// Goes on with a pair of a hash map.
+fn turn_pair(heap: &Heap, path: &mut Path, entry: Entry, child: Child, opened: Opened) -> Turn
+    requires at { AtChild heap.now path.old entry child opened }
+    requires kind { entry.kind ≡ NodeKind.Pair }
+    ensures cells { path.new.cells ≡ path.old.cells }
+    ensures turn { IsTurn heap.now.cells path.old.entries path.new.entries (child_shown heap.now.cells child) result }
+{
+    advance(path, opened, true, false);
+    if entry.next == 0 {
+        return Turn {
+            front: comma_text(entry.came),
+            own: true,
+            opened,
+        };
+    }
+    Turn {
+        front: b"=>",
+        own: true,
+        opened,
+    }
+}
+
+// Goes on with the items of a hash map or of an inner node.
+fn turn_item(heap: &Heap, path: &mut Path, entry: Entry, child: Child, opened: Opened) -> Turn
+    requires at { AtChild heap.now path.old entry child opened }
+    requires kind { HasItems entry.kind }
+    ensures cells { path.new.cells ≡ path.old.cells }
+    ensures turn { IsTurn heap.now.cells path.old.entries path.new.entries (child_shown heap.now.cells child) result }
+{
+    if let Opened::Bad(_, _) = opened {
+        advance(path, opened, true, false);
+        return Turn {
+            front: comma_text(entry.came),
+            own: true,
+            opened,
+        };
+    }
+    advance(path, opened, entry.came, entry.came);
+    Turn {
+        front: b"",
+        own: false,
+        opened,
+    }
+}
+
+// Goes on with the innermost cell, where so much was found of its next child.
+fn turn_by(heap: &Heap, path: &mut Path, entry: Entry, child: Child, opened: Opened) -> Turn
+    requires at { AtChild heap.now path.old entry child opened }
+    ensures cells { path.new.cells ≡ path.old.cells }
+    ensures turn { IsTurn heap.now.cells path.old.entries path.new.entries (child_shown heap.now.cells child) result }
+{
+    match entry.kind {
+        NodeKind::Cons => turn_list(heap, path, entry, child, opened),
+        NodeKind::Tuple => turn_tuple(heap, path, entry, child, opened),
+        NodeKind::Flat => turn_flat(heap, path, entry, child, opened),
+        NodeKind::Hash => turn_item(heap, path, entry, child, opened),
+        NodeKind::Inner => turn_item(heap, path, entry, child, opened),
+        NodeKind::Pair => turn_pair(heap, path, entry, child, opened),
+    }
+}
+
+/// Visits the next child of the innermost cell.
+pub(crate) fn visit_next(heap: &Heap, path: &mut Path, entry: Entry, child: Child) -> Turn
+    requires serves { Serves heap.now path.old.cells }
+    requires top { path.old.entries ≡ entry ∷ drop 1 path.old.entries }
+    requires few { length path.old.entries ≤ length heap.now.cells }
+    requires next_few { entry.next < 200000000 }
+    requires at { slice_get (kids_of heap.now.cells entry.kind (number entry.cell)) entry.next ≡ Some (child_shown heap.now.cells child) }
+    requires kid { IsKid heap.now.cells child }
+    ensures cells { path.new.cells ≡ path.old.cells }
+    ensures turn { IsTurn heap.now.cells path.old.entries path.new.entries (child_shown heap.now.cells child) result }
+{
+    let opened = open_child(heap, path, child);
+    turn_by(heap, path, entry, child, opened)
+}

@@ -1,0 +1,11 @@
+// What a term is judged to be.
+use heap_cells::Why;
+
+/// What a term is judged to be within a budget of nodes.
+#[derive(Clone, Copy, Debug, PartialEq, Eq)]
+pub enum Verdict {
+    /// None of the nodes is bad.
+    Clean,
+    /// The address of the first bad node, and why it is bad.
+    Bad(u64, Why),
+}

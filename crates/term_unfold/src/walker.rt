@@ -1,0 +1,102 @@
+// Judging and printing, any number of times, in memory that is taken once.
+ghost use Rattle.std.specs.Prelude.{◌≡◌, ◌<◌, false, IfOk};
+ghost use Rattle.dump_io.specs.Sinks.{changed, Puts};
+ghost use Rattle.term_forms.specs.Seen.{element};
+ghost use Rattle.term_unfold.specs.Leaves.{leaf_text};
+ghost use Rattle.term_unfold.specs.Text.{show};
+ghost use Rattle.term_unfold.specs.Trees.{verdict};
+ghost use Rattle.term_unfold.specs.Unfolding.{unfolding_of};
+ghost use Rattle.term_unfold.specs.Walks.{walk};
+
+use crate::judging::first_bad;
+use crate::path::Path;
+use crate::previews::Previews;
+use crate::printing::print_all;
+use crate::verdict::Verdict;
+use dump_io::{Failed, Sink};
+use heap_cells::Heap;
+use std::alloc::{AllocError, Global};
+use std::marker::Model;
+use term_forms::shapes::Elem;
+
+/// Judges and prints terms of a heap.
+#[derive(Drop)]
+pub struct Walker<'h> {
+    heap: &'h Heap,
+    previews: &'h Previews,
+    path: Path,
+}
+
+// Between two calls the walk is in no cell, and there is room for a path through all cells.
+impl<'h> Model for Walker<'h> {
+    ghost use Rattle.std.specs.Prelude.{◌≡◌, []};
+    ghost use Rattle.term_unfold.specs.Inner.Entries.{Serves};
+    ghost use Rattle.term_unfold.specs.Walks.{Walk, walk};
+
+    ghost Value = { Walk };
+
+    ghost view = { λ w. walk w.heap.now w.previews.now };
+
+    ghost invariant = { λ w. Serves w.heap.now w.path.cells × (w.path.entries ≡ []) };
+}
+
+impl<'h> Walker<'h> {
+    /// A walker over a heap and its previews. It takes all the memory that the walks need: a stack of one entry more than
+    /// there are cells, and one mark a cell.
+    pub fn new(
+        alloc: Global,
+        heap: &'h Heap,
+        previews: &'h Previews,
+    ) -> Result<Walker<'h>, AllocError>
+        ensures { IfOk result (λ walker. walker ≡ walk heap.now previews.now) }
+    {
+        let path = Path::new(alloc, heap.cells() as usize)?;
+        Ok(Walker {
+            heap,
+            previews,
+            path,
+        })
+    }
+
+    /// The first bad node among the first `budget` nodes of what the root unfolds to. It takes no memory.
+    pub fn judge(&mut self, root: Elem<'_>, budget: u32) -> Verdict
+        requires { 0 < budget }
+        ensures verdict { result ≡ verdict (unfolding_of self.old.heap.cells (element root.entry)) budget }
+        ensures same { self.new ≡ self.old }
+    {
+        let verdict = first_bad(self.heap, &mut self.path, &root, budget);
+        self.path.clear();
+        verdict
+    }
+
+    /// Writes the text of what the root unfolds to, over as many nodes as the budget says.
+    ///
+    /// Where `marked` is false none of these nodes may be bad; else a bad one is shown in its place. It takes no memory.
+    /// `Failed` comes only where the sink's count of faults rose; a proper front of the text was written then, and the
+    /// walker can be used again.
+    pub fn print<K: Sink>(
+        &mut self,
+        root: Elem<'_>,
+        budget: u32,
+        marked: bool,
+        sink: &mut K,
+    ) -> Result<(), Failed>
+        requires budget { 0 < budget }
+        requires clean { marked ≡ false → verdict (unfolding_of self.old.heap.cells (element root)) budget ≡ Verdict.Clean }
+        ensures puts { Puts (changed K.written K.faults sink.old sink.new)
+            (show (leaf_text self.old.heap.enc self.old.previews) (unfolding_of self.old.heap.cells (element root.entry)) budget) result }
+        ensures same { self.new ≡ self.old }
+    {
+        let _shown = marked;
+        let result = print_all(
+            self.heap,
+            self.previews,
+            &mut self.path,
+            &root,
+            budget,
+            sink,
+        );
+        Path::clear(&mut self.path);
+        result
+    }
+}
