@@ -2,6 +2,8 @@
 // measure of a command.
 //
 //   bench write FILE BYTES SECTIONS   writes a dump of so many bytes and sections, heap lines of about 40 bytes
+//   bench procs FILE BYTES PROCESSES  writes a dump of so many bytes and processes, each with a body of about 300
+//                                     bytes and a heap, and prints how many bytes a process table keeps of them
 //   bench heap FILE CELLS             writes the heap lines of so many list cells, 40 bytes each with their LF
 //   bench scan FILE                   counts the headers: reads of 64 KiB, memchr for `=`, the byte before
 //   bench measure OUT COMMAND WORDS.. runs a command, its output into the file OUT, and prints the seconds that it
@@ -27,6 +29,32 @@ static int write_dump(const char *name, long bytes, long sections) {
             at += fprintf(f, "%012lX:lI%08ld|H%012lX\n", at, at % 100000000, at + 16);
     }
     fprintf(f, "=end\n");
+    return fclose(f) != 0;
+}
+
+// The body of a process, of which the table keeps the pid and five values: their bytes are counted.
+static long write_process(FILE *f, long i, long *kept) {
+    char pid[40], name[40], links[120], memory[40];
+    *kept += sprintf(pid, "<0.%ld.0>", i) + sprintf(name, "worker_%07ld", i) + sprintf(memory, "%ld", 2640 + i % 1000);
+    *kept += sprintf(links, "[<0.%ld.0>, {to,<0.%ld.0>,#Ref<0.1.2.%ld>}]", i + 1, i + 2, i) + strlen("Waiting") + strlen("0");
+    return fprintf(f, "=proc:%s\nState: Waiting\nName: %s\nSpawned as: proc_lib:init_p/5\nRun queue: %ld\nSpawned by: <0.%ld.0>\n"
+        "Message queue length: 0\nLink list: %s\nReductions: %ld\nStack+heap: 233\nOldHeap: 0\nHeap unused: 100\n"
+        "OldHeap unused: 0\nMemory: %s\n", pid, name, i % 8, i - 1, links, i * 7, memory);
+}
+
+static int write_processes(const char *name, long bytes, long count) {
+    FILE *f = fopen(name, "w");
+    if (!f) return 1;
+    long kept = 0, at = fprintf(f, "=erl_crash_dump:0.5\nSlogan: a benchmark\n");
+    for (long i = 1; i <= count; i++) {
+        long until = bytes / count * i;
+        at += write_process(f, i, &kept);
+        at += fprintf(f, "=proc_heap:<0.%ld.0>\n", i);
+        while (at < until)
+            at += fprintf(f, "%012lX:lI%08ld|H%012lX\n", at, at % 100000000, at + 16);
+    }
+    fprintf(f, "=end\n");
+    printf("%ld\n", kept);
     return fclose(f) != 0;
 }
 
@@ -69,6 +97,7 @@ static int measure(const char *out, char **command) {
 
 int main(int count, char **words) {
     if (count == 5 && !strcmp(words[1], "write")) return write_dump(words[2], atol(words[3]), atol(words[4]));
+    if (count == 5 && !strcmp(words[1], "procs")) return write_processes(words[2], atol(words[3]), atol(words[4]));
     if (count == 4 && !strcmp(words[1], "heap")) return write_heap(words[2], atol(words[3]));
     if (count == 3 && !strcmp(words[1], "scan")) return scan(words[2]);
     if (count > 3 && !strcmp(words[1], "measure")) return measure(words[2], words + 3);

@@ -9,3 +9,6 @@ mod rows;
 
 pub use kinds::TableKind;
 pub use rows::Rows;
+
+#[cfg(test)]
+mod tests;
