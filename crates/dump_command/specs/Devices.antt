@@ -17,12 +17,15 @@ pub now_in-small : (dump : Option OpenDump) → size_of (now_in dump) < 2 ^ 64
 now_in-small None = lit< tt
 now_in-small (Some dump) = omega arith
 
+-- what is open
 abbrev pub now_of : FileDumps → Now
 now_of dumps = now_in dumps.«open»
 
+-- how often the device failed
 abbrev pub faults_of : FileDumps → ℕ
 faults_of dumps = number_in dumps.faults
 
+-- how many bytes the device gave
 abbrev pub taken_of : FileDumps → ℕ
 taken_of dumps = number_in dumps.taken
 
@@ -34,5 +37,6 @@ count_of sink = number_in sink.faults
 abbrev pub is_broken_in : {W : Type 0} {w : Ghosts W} → StdSink W w → Bool
 is_broken_in sink = sink.is_broken
 
+-- the stream behind the buffer
 abbrev pub stream_of : {W : Type 0} {w : Ghosts W} → StdSink W w → W
 stream_of sink = sink.stream

@@ -51,6 +51,7 @@ bodies (table kind file) sections = listed kind sections
 abbrev pub body_of : List ℕ → Section → List ℕ
 body_of bytes section = between section.body section.end bytes
 
+-- the tags of these sections
 abbrev pub tags_of : List Section → List (List ℕ)
 tags_of sections = map (λ s. tag_of s.text) sections
 

@@ -12,6 +12,7 @@ use Rattle.dump_command.specs.Command.{Command, file_of}
 use Rattle.dump_command.specs.Report.{report, report_status, finds, refusal, allowance}
 use Rattle.dump_command.specs.declared.status.TheConstants.{DONE, USAGE, REFUSED, FOUND, UNREAD, UNWRITTEN, NO_MEMORY}
 
+-- whether a status is one of these
 abbrev pub is_one_of : List ℕ → ℕ → Bool
 is_one_of statuses status = list_any (λ s. s == status) statuses
 
@@ -20,6 +21,7 @@ abbrev pub IsInputOf : Use → Option (List ℕ) → List ℕ → Type 0
 IsInputOf device None bytes = bytes ≡ []
 IsInputOf device (Some name) bytes = IsFileOf device name bytes
 
+-- these are the bytes of which this command reports
 abbrev pub IsDumpOf : Use → Command → List ℕ → Type 0
 IsDumpOf device cmd bytes = IsInputOf device (file_of cmd) bytes
 
@@ -28,6 +30,7 @@ abbrev pub IsMissingFrom : Use → Option (List ℕ) → Type 0
 IsMissingFrom device None = ⊥
 IsMissingFrom device (Some name) = IsAbsent device.files_before name
 
+-- the files are told, and none has the name of the command's file
 abbrev pub IsMissing : Use → Command → Type 0
 IsMissing device cmd = IsMissingFrom device (file_of cmd)
 
@@ -36,6 +39,7 @@ abbrev pub IsUnreadFrom : Use → Option (List ℕ) → Type 0
 IsUnreadFrom device None = ⊥
 IsUnreadFrom device (Some name) = DeviceFailed device ⊎ IsAbsent device.files_before name
 
+-- the command's dump wasn't read
 abbrev pub IsUnread : Use → Command → Type 0
 IsUnread device cmd = IsUnreadFrom device (file_of cmd)
 
@@ -83,6 +87,7 @@ pub record IsRunOf (cmd : Command) (limits : Numbers) (status : ℕ) (device : U
   -- whatever the status, no more bytes are taken than the command is allowed
   pub taken : TakesAtMost cmd device
 
+-- the line for words that are no command
 abbrev pub usage_line : List ℕ
 usage_line = codes "usage: edump COMMAND [WORDS]\n"
 

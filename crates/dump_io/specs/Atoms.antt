@@ -20,6 +20,7 @@ is_bare name = option_map_or is_small_letter (slice_get name 0) false && list_al
 abbrev pub quote : ℕ
 quote = 39
 
+-- the byte `\`
 abbrev pub backslash : ℕ
 backslash = 92
 

@@ -7,6 +7,7 @@ use denote.Ref.{Bor}
 abbrev pub colon : ℕ
 colon = 58
 
+-- whether a byte is a colon
 abbrev pub is_colon : ℕ → Bool
 is_colon c = c == colon
 

@@ -7,5 +7,6 @@ use Rattle.dump_io.specs.declared.file.DumpFile.{DumpFile}
 abbrev pub name_of : DumpFile → List ℕ
 name_of file = string_bytes file.name
 
+-- the bytes of the file
 abbrev pub bytes_of : DumpFile → List ℕ
 bytes_of file = file.bytes.items

@@ -26,8 +26,10 @@ now_where-small true file = file.fits
 abbrev pub file_of : HeldDump → DumpFile
 file_of device = device.file
 
+-- what is open
 abbrev pub now_of : HeldDump → Now
 now_of device = now_where device.is_open device.file
 
+-- how many bytes the device has given
 abbrev pub taken_of : HeldDump → ℕ
 taken_of device = number_in device.taken

@@ -6,9 +6,11 @@ use Rattle.std.specs.List.{concat, starts_with, ends_with}
 abbrev pub lf : ℕ
 lf = 10
 
+-- the byte CR
 abbrev pub cr : ℕ
 cr = 13
 
+-- the byte `=`
 abbrev pub equals_sign : ℕ
 equals_sign = 61
 

@@ -45,6 +45,7 @@ now_of device = now_at device.files.items device.place
 abbrev pub calls_of : MemDumps → ℕ
 calls_of device = number_in device.calls
 
+-- how many reads have gone well
 abbrev pub reads_of : MemDumps → ℕ
 reads_of device = number_in device.reads
 
@@ -52,6 +53,7 @@ reads_of device = number_in device.reads
 abbrev pub faults_of : MemDumps → ℕ
 faults_of device = number_in device.faults
 
+-- how many bytes the device has given
 abbrev pub taken_of : MemDumps → ℕ
 taken_of device = number_in device.taken
 
@@ -59,6 +61,7 @@ taken_of device = number_in device.taken
 abbrev pub fails_of : MemDumps → List ℕ
 fails_of device = device.fails.items
 
+-- the most bytes that each read gives, in turn
 abbrev pub cuts_of : MemDumps → List ℕ
 cuts_of device = device.cuts.items
 

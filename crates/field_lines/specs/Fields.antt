@@ -18,6 +18,7 @@ without_space (c ∷ bytes) = if c == space then bytes else c ∷ bytes
 abbrev pub key_of : List ℕ → List ℕ
 key_of text = before_colon text
 
+-- the value of a line is what follows its first colon, less one space
 abbrev pub value_of : List ℕ → List ℕ
 value_of text = without_space (after_colon text)
 

@@ -17,6 +17,7 @@ pub record Cell : Type 0 where
   pub address : ℕ
   pub form : Option HeapForm
 
+-- the cell of an address and the text behind it: malformed where that spells no form
 abbrev pub spelled_cell : Enc → ℕ × List ℕ → Cell
 spelled_cell enc led = record { address = led.0; form = form_of enc led.1 }
 
@@ -48,6 +49,7 @@ abbrev pub elements_in : Option HeapForm → List Element
 elements_in None = []
 elements_in (Some form) = elements_of form
 
+-- which kind of form it is
 abbrev pub kind_of : HeapForm → Kind
 kind_of (Cons head tail) = kind.List
 kind_of (Tuple elements) = kind.Tuple
@@ -67,6 +69,7 @@ kind_of (Node children) = kind.Node
 abbrev pub cell_weight : Cell → ℕ
 cell_weight cell = 1 + length (elements_in cell.form)
 
+-- how many cells there are, and how many elements their forms have
 abbrev pub weight_of : List Cell → ℕ
 weight_of cells = sum_by cell_weight cells
 
@@ -74,5 +77,6 @@ weight_of cells = sum_by cell_weight cells
 abbrev pub weight : Enc → List ℕ → List ℕ → ℕ
 weight enc heap literals = weight_of (line_cells enc heap ++ line_cells enc literals)
 
+-- the addresses of the cells, in order
 abbrev pub addresses : List Cell → List ℕ
 addresses cells = map (λ cell. cell.address) cells

@@ -24,6 +24,7 @@ enc_of V03 = Hex
 enc_of V04 = Hex
 enc_of V05 = Base64
 
+-- the section at a place
 abbrev pub section_in : Contents → Option ℕ → Option Section
 section_in index None = None
 section_in index (Some i) = Some (section_at index i)

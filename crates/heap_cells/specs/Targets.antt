@@ -22,10 +22,12 @@ pub data Target : Type 0 where
   At : ℕ → Target
   Missing : ℕ → Target
 
+-- where a reference to an address leads, by the number of the cell that the map has there
 abbrev pub target_at : ℕ → Option ℕ → Target
 target_at address None = Missing address
 target_at address (Some number) = At number
 
+-- where an element leads: a reference to a cell or to a missing address, any other nowhere
 abbrev pub target : List Cell → Element → Target
 target cells Nil = Plain
 target cells (Small integer) = Plain
@@ -40,6 +42,7 @@ slot_target (slot.Imm place) = Plain
 slot_target (slot.Cell ix) = At (number ix)
 slot_target (slot.Gone address) = Missing address
 
+-- where an element leads, as it is lent
 abbrev pub kid_target : Kid → Target
 kid_target (kid.Imm e) = Plain
 kid_target (kid.Cell ix) = At (number ix)
@@ -63,6 +66,7 @@ IsSeatWithin count seat.Missing = Unit {0}
 IsSeatWithin count (seat.Malformed ix) = number ix < count
 IsSeatWithin count (seat.Cell ix) = number ix < count
 
+-- the cell to which an element leads is one of so many
 abbrev pub IsWithin : ℕ → Target → Type 0
 IsWithin count Plain = Unit {0}
 IsWithin count (At number) = number < count

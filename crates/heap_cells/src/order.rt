@@ -1,5 +1,5 @@
 // The numbers of cells by address.
-ghost use Rattle.std.specs.Prelude.{◌≡◌, ◌<◌, ◌≤◌, ◌||◌, ◌-◌, ◌==◌, length, map, nat_lt, not, true, false, IfOk, IfSome, slice_index_or};
+ghost use Rattle.std.specs.Prelude.{◌≡◌, ◌<◌, ◌≤◌, ◌||◌, ◌-◌, ◌==◌, length, map, nat_lt, not, true, false, IfOk, slice_index_or};
 ghost use Rattle.std.specs.List.Sorted.{IsNonDecreasingBy, IsPartitionPoint};
 ghost use Rattle.heap_cells.specs.Inner.Order.{address_in, IsOrder, record_with, ArePairs, AreFirsts};
 

@@ -16,6 +16,7 @@ pub record AreKeysOf (heap : List Cell) (n : ℕ) (keys : Keys) : Type 0 where
   pub within : n < length heap
   pub are : keys ≡ keys_at (address_of heap n) (elements_at heap n)
 
+-- an answer tells these keys of a flat map
 abbrev pub IsKeysAt : List Cell → Keys → KeysAt → Type 0
 IsKeysAt heap found keys.None = found ≡ no_keys
 IsKeysAt heap found (keys.Keys ix) = AreKeysOf heap (number ix) found
@@ -34,6 +35,7 @@ pub record IsInnerOf (heap : List Cell) (n : ℕ) (member : Member) : Type 0 whe
   pub within : n < length heap
   pub is : member ≡ inner_at (address_of heap n) (elements_at heap n)
 
+-- an answer tells this child of a hash map
 abbrev pub IsMemberAt : List Cell → Member → MapChild → Type 0
 IsMemberAt heap member (child.Pair ix) = IsPairOf heap (number ix) member
 IsMemberAt heap member (child.Inner ix) = IsInnerOf heap (number ix) member

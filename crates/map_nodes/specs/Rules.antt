@@ -54,6 +54,7 @@ abbrev pub form_keys : List Cell → ℕ → Option HeapForm → Keys
 form_keys heap map (Some (Flat keys values)) = keys_of_map heap map keys values
 form_keys heap map form = no_keys
 
+-- the keys of the flat map that is the cell with this number
 abbrev pub keys_of_cell : List Cell → ℕ → Keys
 keys_of_cell heap n = form_keys heap (address_of heap n) (form_at heap n)
 
@@ -66,12 +67,14 @@ pub data Member : Type 0 where
   -- the address is bad, and stands in the child's place
   bad_member : ℕ → Why → Member
 
+-- the child that a cell is, by its form: a list is a pair, a tuple or a node an inner node, any other is malformed
 abbrev pub form_member : ℕ → Option HeapForm → Member
 form_member a (Some (Cons head tail)) = pair_at a head tail
 form_member a (Some (Tuple elements)) = inner_at a elements
 form_member a (Some (Node children)) = inner_at a children
 form_member a form = bad_member a Malformed
 
+-- the child at an address: missing where the map hasn't it
 abbrev pub cell_member : ℕ → Option (Option HeapForm) → Member
 cell_member a None = bad_member a Missing
 cell_member a (Some form) = form_member a form

@@ -9,6 +9,7 @@ use Rattle.section_index.specs.Sections.{Section, id_of}
 abbrev pub Placed : Type 0
 Placed = ℕ × Section
 
+-- each section with its place
 abbrev pub placed : List Section → List Placed
 placed sections = enumerate_from 0 sections
 
@@ -16,12 +17,15 @@ placed sections = enumerate_from 0 sections
 abbrev pub is_process : Section → Bool
 is_process s = has_tag (codes "proc") s.text && is_some (id_of s.text)
 
+-- the pid of a process's section is its id
 abbrev pub pid_of : Section → List ℕ
 pid_of s = unwrap_or (id_of s.text) []
 
+-- the sections of processes, in the order of the dump
 abbrev pub process_sections : List Placed → List Placed
 process_sections sections = filter (λ p. is_process p.1) sections
 
+-- pids are the same byte for byte
 abbrev pub has_same_pid : Placed → Placed → Bool
 has_same_pid p other = bytes_eq (pid_of p.1) (pid_of other.1)
 
@@ -34,6 +38,7 @@ first_of_each (p ∷ rest) = p ∷ filter (λ other. not (has_same_pid p other))
 abbrev pub records : List Section → List Placed
 records sections = first_of_each (process_sections (placed sections))
 
+-- the sections of the records
 abbrev pub record_sections : List Section → List Section
 record_sections sections = map (λ r. r.1) (records sections)
 

@@ -10,9 +10,11 @@ use Rattle.section_index.specs.declared.opening.Version.TheVariants.{V03, V04, V
 use Rattle.section_index.specs.Sections.{Section, sections_of}
 use Rattle.section_index.specs.Index.{state_of}
 
+-- the text between two parts of a line
 abbrev pub space : List ℕ
 space = codes " "
 
+-- the end of a line
 abbrev pub newline : List ℕ
 newline = codes "\n"
 
@@ -35,6 +37,7 @@ abbrev pub index_report : List Header → ℕ → List ℕ
 index_report headers size =
     flat_map section_line (sections_of headers size) ++ state_line (sections_of headers size) (state_of headers)
 
+-- a version as the dump writes it
 abbrev pub version_text : Version → List ℕ
 version_text V03 = codes "0.3"
 version_text V04 = codes "0.4"

@@ -9,6 +9,7 @@ use Rattle.process_table.specs.Processes.{Process, ProcessTable}
 use Rattle.section_rows.specs.Rows.{Kept, Row, Table, text_in}
 use Rattle.report_text.specs.Reports.{newline, text_or_dash}
 
+-- the text between two cells of a row
 abbrev pub tab : List ℕ
 tab = codes "\t"
 

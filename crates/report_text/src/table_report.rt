@@ -1,7 +1,6 @@
 // The report of a table.
 ghost use Rattle.std.specs.Prelude.{◌≡◌, ◌<◌, length};
 ghost use Rattle.std.specs.List.{flat_map};
-ghost use Rattle.std.specs.Option.{option_copied};
 ghost use Rattle.dump_io.specs.Sinks.{changed, Puts};
 ghost use Rattle.section_rows.specs.Rows.{row_at, cell_at, text_in, AreEven};
 ghost use Rattle.report_text.specs.Reports.{text_or_dash};

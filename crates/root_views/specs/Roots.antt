@@ -26,6 +26,7 @@ pub record BodyRoot : Type 0 where
 abbrev pub has_text : TextLine → Bool
 has_text line = nat_lt 0 (length line.text)
 
+-- lines with an empty text give no root
 abbrev pub root_lines : List ℕ → List TextLine
 root_lines body = filter has_text (text_lines body)
 
@@ -46,6 +47,7 @@ abbrev pub stack_root : TextLine → BodyRoot
 stack_root line =
     labelled line.at (before_colon line.text) (if has_colon line.text then stack_content (after_colon line.text) else None)
 
+-- the roots of a `proc_stack` body
 abbrev pub stack_roots : List ℕ → List BodyRoot
 stack_roots body = map stack_root (root_lines body)
 
@@ -55,6 +57,7 @@ stack_roots body = map stack_root (root_lines body)
 abbrev pub dict_root : TextLine → BodyRoot
 dict_root line = record { at = line.at; label = codes "e"; content = option_map_or Term (whole_of line.text) Unread }
 
+-- the roots of a `proc_dictionary` body
 abbrev pub dict_roots : List ℕ → List BodyRoot
 dict_roots body = map dict_root (root_lines body)
 
@@ -64,6 +67,7 @@ dict_roots body = map dict_root (root_lines body)
 abbrev pub message : ℕ → Content → BodyRoot
 message at content = record { at = at; label = codes "m"; content = content }
 
+-- the token of a message, at the place of its text
 abbrev pub token : ℕ → Element → BodyRoot
 token at e = record { at = at; label = codes "t"; content = Term e }
 
@@ -89,6 +93,7 @@ pair_roots line =
 abbrev pub mail_line : TextLine → List BodyRoot
 mail_line line = unwrap_or (option_or (dist_roots line) (pair_roots line)) (message line.at Unread ∷ [])
 
+-- the roots of a `proc_messages` body
 abbrev pub mail_roots : List ℕ → List BodyRoot
 mail_roots body = flat_map mail_line (root_lines body)
 
@@ -96,6 +101,7 @@ mail_roots body = flat_map mail_line (root_lines body)
 abbrev pub is_message : BodyRoot → Bool
 is_message root = bytes_eq root.label (codes "m")
 
+-- how many messages a mailbox has: its roots without the tokens
 abbrev pub message_count : List ℕ → ℕ
 message_count body = count_by is_message (mail_roots body)
 

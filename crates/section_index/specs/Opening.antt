@@ -118,5 +118,6 @@ opening bytes limits = option_or (too_large bytes limits) (fault_of bytes limits
 abbrev pub IsAccepted : List ℕ → Numbers → Type 0
 IsAccepted bytes limits = opening bytes limits ≡ None
 
+-- bytes are refused for the first cause that holds
 abbrev pub IsRefusedFor : List ℕ → Numbers → OpenFault → Type 0
 IsRefusedFor bytes limits fault = opening bytes limits ≡ Some fault

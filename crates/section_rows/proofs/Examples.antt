@@ -3,7 +3,7 @@ use Rattle.std.proofs.Common.{◌≡◌, [], ◌∷◌, None, Some, map, refl}
 use Rattle.std.specs.Prelude.{codes}
 use Rattle.section_index.specs.Sections.{section}
 use Rattle.section_rows.specs.Loading.{first_large}
-use Rattle.section_rows.specs.Rows.{kept, tag, id, field, cell_of, body_of, row_of}
+use Rattle.section_rows.specs.Rows.{kept, tag, id, field, cell_of}
 
 -- a value's offset is that of the value, and the first of two fields counts
 cells : map (cell_of (section 20 30 52 (codes "=node:b:1")) (codes "A:  x:y\nB\nC:\r\nA: z\n")) (tag ∷ id ∷ field (codes "A") ∷ field (codes "B") ∷ field (codes "C") ∷ [])

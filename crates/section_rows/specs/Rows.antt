@@ -11,6 +11,7 @@ pub record Kept : Type 0 where
   pub value_at : ℕ
   pub text : List ℕ
 
+-- a field's value with the offsets of its line and of itself in the file
 abbrev pub kept : ℕ → ℕ → List ℕ → Kept
 kept at value_at text = record { at = at; value_at = value_at; text = text }
 
@@ -38,10 +39,12 @@ cell_of s body tag = Some (tag_kept s)
 cell_of s body id = id_kept s
 cell_of s body (field key) = field_kept s.body body key
 
+-- a row: the offset of its section, and a cell for each column
 pub record Row : Type 0 where
   pub at : ℕ
   pub cells : List (Option Kept)
 
+-- the row of a section with this body
 abbrev pub row_of : List Column → Section → List ℕ → Row
 row_of columns s body = record { at = s.at; cells = map (cell_of s body) columns }
 
@@ -80,8 +83,10 @@ pub record IsBounded (k : Kept) : Type 0 where
   pub value_at : k.value_at ≤ usual.dump
   pub text : length k.text ≤ usual.section
 
+-- a cell that is there is within the bounds
 abbrev pub IsBoundedCell : Option Kept → Type 0
 IsBoundedCell cell = IfSome cell IsBounded
 
+-- all cells of a table are within the bounds
 abbrev pub AreBounded : Table → Type 0
 AreBounded table = All (λ row. All IsBoundedCell row.cells) table.rows

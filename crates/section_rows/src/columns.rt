@@ -1,6 +1,5 @@
 // What a column shows of a section.
-ghost use Rattle.std.specs.Prelude.{◌≡◌, ◌+◌, ◌^◌, ◌<◌, ◌≤◌, length, option_map};
-ghost use Rattle.std.specs.Option.{option_copied};
+ghost use Rattle.std.specs.Prelude.{◌≡◌, ◌+◌, ◌^◌, ◌<◌, ◌≤◌, length};
 ghost use Rattle.section_rows.specs.Rows.{cell_of, field_kept, id_kept};
 ghost use Rattle.section_rows.specs.Shown.{shown_cell, shown_column};
 ghost use Rattle.section_rows.specs.Inner.Lent.{IsLent, shown_section};

@@ -1,10 +1,9 @@
 // The bodies of sections are loaded one after another, and what the columns ask for is kept.
-ghost use Rattle.std.specs.Prelude.{◌≡◌, ℕ, List, ◌<◌, ◌≤◌, length, map, All, IfOk, OnOk, IfErr, IsSome, None};
-ghost use Rattle.dump_io.specs.Dumps.{told, used, ReadsAtMost};
+ghost use Rattle.std.specs.Prelude.{◌≡◌, ◌<◌, ◌≤◌, length, map, All, IfOk, OnOk, IfErr, None};
+ghost use Rattle.dump_io.specs.Dumps.{used, ReadsAtMost};
 ghost use Rattle.section_index.specs.Bodies.{section_at, body_length};
 ghost use Rattle.section_index.specs.Index.{IsBuiltOver};
-ghost use Rattle.section_rows.specs.Loading.{sections_at, bodies_length, first_large, large_fault, AreRefused};
-ghost use Rattle.section_rows.specs.Rows.{rows_of};
+ghost use Rattle.section_rows.specs.Loading.{sections_at, bodies_length, large_fault};
 ghost use Rattle.section_rows.specs.Shown.{shown_column};
 ghost use Rattle.section_rows.specs.Inner.Gains.{GainsRow, HoldsRows, IsUnread};
 ghost use Rattle.section_rows.specs.Inner.Lent.{IsLent, shown_section};

@@ -1,6 +1,5 @@
 // Rows of cells, kept with their texts in one pool.
 ghost use Rattle.std.specs.Prelude.{◌≡◌, ◌+◌, ◌<◌, ◌≤◌, [], ◌∷◌, ◌^◌, length, map, All, Some, IfSome, OnOk, slice_get};
-ghost use Rattle.std.specs.Option.{option_copied};
 ghost use Rattle.section_rows.specs.Shown.{shown_kept, shown_cell, shown_column};
 ghost use Rattle.section_rows.specs.Rows.{IsBoundedCell, kept as kept_text, IsBounded, cell_of, row_of, row_at};
 ghost use Rattle.section_rows.specs.Inner.Lent.{IsLent, shown_section};

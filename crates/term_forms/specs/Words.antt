@@ -11,21 +11,27 @@ abbrev pub letter : List ℕ → ℕ
 letter [] = 0
 letter (c ∷ text) = c
 
+-- the byte `,`
 abbrev pub comma : ℕ
 comma = 44
 
+-- the byte `-`
 abbrev pub minus : ℕ
 minus = 45
 
+-- the byte `.`
 abbrev pub dot : ℕ
 dot = 46
 
+-- the byte `<`
 abbrev pub less : ℕ
 less = 60
 
+-- the byte `>`
 abbrev pub greater : ℕ
 greater = 62
 
+-- the byte `|`
 abbrev pub bar : ℕ
 bar = 124
 

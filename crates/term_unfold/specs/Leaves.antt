@@ -19,6 +19,7 @@ preview_at (p ∷ ps) a = if p.0 == a then p.1 else preview_at ps a
 abbrev pub port_text : List ℕ → List ℕ
 port_text port = codes "#Port" ++ port
 
+-- an element that is a leaf: the kept text, `[]` for the empty list, an atom bare or quoted
 abbrev pub element_text : Element → List ℕ
 element_text Nil = codes "[]"
 element_text (Small integer) = integer

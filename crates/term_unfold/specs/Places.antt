@@ -20,6 +20,7 @@ pub record Placed : Type 0 where
   pub place : List ℕ
   pub face : Face
 
+-- a node and its place: the numbers of the children that lead to it from the root
 abbrev pub at_place : List ℕ → Face → Placed
 at_place place face = record { place = place; face = face }
 

@@ -31,9 +31,11 @@ abbrev pub unless_on : List ℕ → Element → Opening → Opening
 unless_on path (Ref a) off = if is_on a path then bad a OnPath else off
 unless_on path element off = off
 
+-- children that unfold as terms
 abbrev pub terms : List Element → List Child
 terms elements = map Term elements
 
+-- children of a map's node, which know their parent's address
 abbrev pub items : ℕ → List Element → List Child
 items parent elements = map (Item parent) elements
 
@@ -65,10 +67,12 @@ form_opening heap path a (Some (Hash size children)) = node a kinds.Hash (items 
 form_opening heap path a (Some (Node children)) = bad a Malformed
 form_opening heap path a (Some form) = leaf (OfCell a form)
 
+-- what the cell at an address opens; a cell that the map hasn't is missing
 abbrev pub cell_opening : List Cell → List ℕ → ℕ → Option (Option HeapForm) → Opening
 cell_opening heap path a None = bad a Missing
 cell_opening heap path a (Some form) = form_opening heap path a form
 
+-- what an element opens: a reference its cell, any other is a leaf
 abbrev pub term_opening : List Cell → List ℕ → Element → Opening
 term_opening heap path (Ref a) = cell_opening heap path a (form_with heap a)
 term_opening heap path element = leaf (Immediate element)

@@ -3,6 +3,7 @@ use Rattle.std.specs.Prelude.{◌≡◌, ℕ, suc}
 use Rattle.term_unfold.specs.declared.node.NodeKind.TheVariants as kinds
 use Rattle.term_unfold.specs.Trees.{Tree, Leaf, Bad, Branch, Trees, none, more}
 
+-- how many trees they are
 abbrev pub count : Trees → ℕ
 count none = 0
 count (more tree trees) = suc (count trees)

@@ -12,6 +12,7 @@ pub record Shown : Type 0 where
   pub text : List ℕ
   pub left : ℕ
 
+-- a text and how many nodes may still be visited
 abbrev pub shown : List ℕ → ℕ → Shown
 shown text m = record { text = text; left = m }
 
@@ -30,10 +31,12 @@ pub data Stand : Type 0 where
   Cut : Stand
   At : Bool → ℕ → Stand
 
+-- the text of some items of a hash map, and where the text stands behind them
 pub record Listed : Type 0 where
   pub text : List ℕ
   pub stand : Stand
 
+-- the two as one value
 abbrev pub listed : List ℕ → Stand → Listed
 listed text stand = record { text = text; stand = stand }
 
@@ -42,10 +45,12 @@ abbrev pub go_on : (Bool → ℕ → Listed) → Stand → Listed
 go_on second Cut = listed [] Cut
 go_on second (At came m) = second came m
 
+-- some items, and those that come behind them
 infixl 10 ◌followed◌
 abbrev pub ◌followed◌ : Listed → (Bool → ℕ → Listed) → Listed
 first followed second = listed (first.text ++ (go_on second first.stand).text) (go_on second first.stand).stand
 
+-- how many nodes may still be visited
 abbrev pub left_at : Stand → ℕ
 left_at Cut = 0
 left_at (At came m) = m
@@ -71,6 +76,7 @@ valued value = listed (codes "=>" ++ value.text) (At true value.left)
 abbrev pub key_then : Bool → Shown → (ℕ → Listed) → Listed
 key_then came key second = listed (comma came ++ (key.text ++ (second key.left).text)) (second key.left).stand
 
+-- why an address is bad, in a word
 abbrev pub reason : Why → List ℕ
 reason Missing = codes "missing"
 reason Malformed = codes "malformed"

@@ -39,6 +39,7 @@ seen (Leaf value) = verdicts.Clean
 seen (Bad address why) = verdicts.Bad address why
 seen (Branch kind children) = verdicts.Clean
 
+-- the first that is bad of an earlier and a later verdict
 abbrev pub or_else : Verdict → Verdict → Verdict
 or_else verdicts.Clean later = later
 or_else (verdicts.Bad address why) later = verdicts.Bad address why

@@ -17,6 +17,7 @@ pub record Walk : Type 0 where
   pub heap : HeapMap
   pub previews : List (ℕ × Option (List ℕ))
 
+-- the two as one value
 abbrev pub walk : HeapMap → List (ℕ × Option (List ℕ)) → Walk
 walk heap previews = record { heap = heap; previews = previews }
 

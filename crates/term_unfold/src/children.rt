@@ -1,5 +1,5 @@
 // The children of an open cell, one by one.
-ghost use Rattle.std.specs.Prelude.{◌≡◌, ◌<◌, ◌^◌, length, take, drop};
+ghost use Rattle.std.specs.Prelude.{◌<◌, length, take, drop};
 ghost use Rattle.heap_cells.specs.HeapMap.{IsBounded, elements_at, form_at};
 ghost use Rattle.heap_cells.specs.Targets.{number};
 ghost use Rattle.map_nodes.specs.Rules.{address_of};

@@ -1,5 +1,5 @@
 // The walk that judges.
-ghost use Rattle.std.specs.Prelude.{◌≡◌, ◌<◌, ◌≤◌, ◌++◌, List, [], ◌∷◌, length, IfSome, MatchOption};
+ghost use Rattle.std.specs.Prelude.{◌≡◌, ◌<◌, ◌≤◌, ◌++◌, [], length, IfSome, MatchOption};
 ghost use Rattle.term_forms.specs.Seen.{element};
 ghost use Rattle.term_unfold.specs.Inner.Coming.{to_come, entered_by, verdict_on, Visits};
 ghost use Rattle.term_unfold.specs.Inner.Entries.{path_of, Serves};

@@ -1,7 +1,7 @@
 // The cells that a walk is in: a stack with one mark for each cell.
-ghost use Rattle.std.specs.Prelude.{◌≡◌, ◌<◌, ◌≤◌, ◌+◌, ◌^◌, List, [], ◌∷◌, length, slice_get, drop, IsFalse, IfOk, IfSome, MatchOption};
+ghost use Rattle.std.specs.Prelude.{◌≡◌, ◌<◌, ◌≤◌, ◌+◌, ◌^◌, [], ◌∷◌, length, slice_get, drop, IfOk, IfSome, MatchOption};
 ghost use Rattle.heap_cells.specs.Targets.{number};
-ghost use Rattle.term_unfold.specs.Inner.Entries.{Entered, numbers_of, stepped, told, outside, IsLine};
+ghost use Rattle.term_unfold.specs.Inner.Entries.{Entered, numbers_of, stepped, told, IsLine};
 ghost use Rattle.term_unfold.specs.Rules.{is_on};
 
 use crate::node::NodeKind;

@@ -1,5 +1,5 @@
 // The walk that prints.
-ghost use Rattle.std.specs.Prelude.{◌≡◌, ◌<◌, ◌≤◌, ◌+◌, ◌-◌, ◌*◌, List, [], ◌∷◌, length, drop, if◌then◌else◌};
+ghost use Rattle.std.specs.Prelude.{◌≡◌, ◌<◌, ◌≤◌, ◌-◌, [], ◌∷◌, length, drop, if◌then◌else◌};
 ghost use Rattle.dump_io.specs.Sinks.{changed, Puts};
 ghost use Rattle.term_forms.specs.Seen.{element};
 ghost use Rattle.term_unfold.specs.Inner.Entries.{Serves};

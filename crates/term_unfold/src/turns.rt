@@ -1,5 +1,5 @@
 // The steps of the walk that prints: what each writes, and where the walk stands then.
-ghost use Rattle.std.specs.Prelude.{◌≡◌, ℕ, suc, ◌+◌, ◌<◌, ◌≤◌, ◌++◌, List, [], ◌∷◌, length, drop, slice_get, codes, ◌^◌, Some, IfSome};
+ghost use Rattle.std.specs.Prelude.{◌≡◌, ℕ, ◌+◌, ◌<◌, ◌≤◌, ◌++◌, List, ◌∷◌, length, drop, slice_get, codes, ◌^◌, Some, IfSome};
 ghost use Rattle.heap_cells.specs.Cells.{Cell};
 ghost use Rattle.heap_cells.specs.Targets.{number};
 ghost use Rattle.term_unfold.specs.Inner.Coming.{left_of, entered_by};
