@@ -1,7 +1,5 @@
 -- Which records stand in front of all others with their address.
-use Rattle.std.proofs.Common.{◌≡◌, ℕ, zero, suc, ◌+◌, ◌-◌, ◌*◌, ◌<◌, ◌≤◌, ◌==◌, ◌||◌, ◌⊎◌, inl, inr, Bool, true, false, not, eqb, None, List, length, get_or, set, take, refl, sym, ◌∙◌, ap, subst, arith, below_more}
-use Rattle.std.specs.Prelude.{slice_get}
-use Rattle.std.specs.List.{list_any}
+use Rattle.std.proofs.Common.{◌≡◌, ℕ, zero, suc, ◌+◌, ◌-◌, ◌<◌, ◌≤◌, ◌==◌, ◌||◌, ◌⊎◌, inl, inr, Bool, true, false, not, eqb, None, List, length, get_or, set, take, refl, sym, ◌∙◌, ap, subst, arith, below_more}
 use Rattle.std.proofs.lemmas.Bool.{true≢false, cases_lt, false_from_ne_true, eq-eqb, eqb-true}
 use Rattle.std.proofs.lemmas.Bool.Decides.{eqb_tells}
 use Rattle.std.proofs.lemmas.Grind.{get_or-set_at}

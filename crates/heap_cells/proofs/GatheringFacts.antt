@@ -1,5 +1,5 @@
 -- One more heap line.
-use Rattle.std.proofs.Common.{◌≡◌, ℕ, zero, suc, ◌+◌, ◌-◌, ◌<◌, ◌≤◌, List, [], ◌∷◌, ◌++◌, length, take, drop, map, get_or, Option, None, Some, Result, Ok, Err, refl, sym, ◌∙◌, ap, subst, arith, length-append, append_assoc, inl, inr}
+use Rattle.std.proofs.Common.{◌≡◌, ℕ, suc, ◌+◌, ◌-◌, ◌<◌, ◌≤◌, List, [], ◌∷◌, ◌++◌, length, take, drop, map, Option, None, Some, Result, Ok, Err, refl, sym, ◌∙◌, ap, subst, arith, length-append, append_assoc, inl, inr}
 use Rattle.std.specs.Prelude.{codes, ◌⊎◌, slice_get, slice_range, All, IfSome, OnOk}
 use Rattle.std.specs.Option.{option_map}
 use Rattle.std.specs.List.{filter_map, cons_option}
@@ -20,14 +20,13 @@ use Rattle.term_forms.specs.SeenForms.{heap_form}
 use Rattle.term_forms.specs.declared.shapes.Form.{Form}
 use Rattle.term_forms.specs.Words.{comma, colon, bar, IsLed, led_of}
 use Rattle.heap_cells.specs.declared.arena.Arena.{Arena}
-use Rattle.heap_cells.specs.declared.cells.CellRecord.{CellRecord}
 use Rattle.heap_cells.specs.declared.cells.Slot.{Slot}
 use Rattle.heap_cells.specs.declared.gathering.Gathering.{Gathering}
 use Rattle.heap_cells.specs.Cells.{Cell, spelled_cell, cell_of, line_cells, elements_in, kind_of, cell_weight, weight_of}
 use Rattle.heap_cells.specs.Targets.{target, slot_target}
 use Rattle.heap_cells.specs.Inner.Gathering.{slot_with, slot_for, form_found, slots_found, AreSmall, new_record, IsLineAt, IsBodyAt, IsGathered, Leads, AreAll}
 use Rattle.heap_cells.specs.Inner.Parts.{IsPart}
-use Rattle.heap_cells.specs.Inner.Records.{cell_in, cells_in, elements_by, IsRecord, AreSlots, Spells, AllSpell, element_at}
+use Rattle.heap_cells.specs.Inner.Records.{cell_in, cells_in, elements_by, AreSlots, Spells, AllSpell, element_at}
 use Rattle.heap_cells.proofs.PushingFacts.{AreSlots-push}
 use Rattle.heap_cells.specs.declared.texts.Texts.{Texts}
 use Rattle.heap_cells.specs.Inner.Texts.{text_of, seam_of}

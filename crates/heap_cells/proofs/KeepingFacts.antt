@@ -1,21 +1,20 @@
 -- Of the cells with one address the first is kept.
-use Rattle.std.proofs.Common.{◌≡◌, ℕ, zero, suc, ◌+◌, ◌-◌, ◌<◌, ◌≤◌, ◌==◌, ◌||◌, Bool, true, false, not, cond, List, [], ◌∷◌, ◌++◌, length, take, drop, map, get_or, Option, None, Some, refl, sym, ◌∙◌, ap, subst, arith, append_assoc, length-append}
+use Rattle.std.proofs.Common.{◌≡◌, ℕ, zero, suc, ◌+◌, ◌-◌, ◌<◌, ◌≤◌, ◌==◌, ◌||◌, Bool, true, false, not, cond, List, [], ◌∷◌, ◌++◌, length, take, drop, map, get_or, Some, refl, sym, ◌∙◌, ap, subst, arith, append_assoc, length-append}
 use Rattle.std.specs.Prelude.{slice_get}
 use Rattle.std.specs.List.{list_any, list_all}
 use Rattle.std.proofs.Math.Seq.{take-length}
 use Rattle.std.proofs.lemmas.List.Folds.{list_all_at}
 use Rattle.std.proofs.lemmas.Bool.{true≢false, true_from_ne_false}
 use Rattle.std.proofs.lemmas.List.{take_more, length-map, map-append, take-map, length-take}
-use Rattle.std.proofs.lemmas.Option.{slice_get-get_or, get_or_from_slice_get, slice_get_within}
+use Rattle.std.proofs.lemmas.Option.{get_or_from_slice_get, slice_get_within}
 use Rattle.term_forms.specs.declared.enc.Enc.{Enc}
 use Rattle.heap_cells.specs.declared.arena.Arena.{Arena}
 use Rattle.heap_cells.specs.declared.cells.CellRecord.{CellRecord}
-use Rattle.heap_cells.specs.declared.cells.Slot.{Slot}
 use Rattle.heap_cells.specs.declared.keeping.Indexed.{Indexed}
 use Rattle.heap_cells.specs.Cells.{Cell, first_cells, addresses}
 use Rattle.heap_cells.specs.Inner.Keeping.{moved, moved_record, AreOrdered, IsKept, IsIndexed}
 use Rattle.heap_cells.specs.Inner.Order.{address_or, address_in, is_first, AreFirsts, IsOrder}
-use Rattle.heap_cells.specs.Inner.Records.{cell_in, cells_in, elements_by, IsRecord, AreSlots, start_at, slots_at}
+use Rattle.heap_cells.specs.Inner.Records.{cell_in, cells_in, AreSlots, start_at, slots_at}
 use Rattle.heap_cells.proofs.PushingFacts.{AreSlots-push}
 use Rattle.heap_cells.proofs.RecordFacts.{append-none, has-at, cell-at, record-at, piece-of}
 

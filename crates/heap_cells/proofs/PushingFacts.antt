@@ -1,5 +1,5 @@
 -- One more record, with its slots.
-use Rattle.std.proofs.Common.{◌≡◌, ℕ, zero, suc, ◌+◌, ◌-◌, ◌<◌, ◌≤◌, ◌⊎◌, inl, inr, List, [], ◌∷◌, ◌++◌, length, take, drop, map, Option, None, Some, refl, sym, ◌∙◌, ap, subst, arith, length-append, length-drop}
+use Rattle.std.proofs.Common.{◌≡◌, ℕ, zero, suc, ◌+◌, ◌-◌, ◌<◌, ◌≤◌, ◌⊎◌, inl, inr, List, [], ◌∷◌, ◌++◌, length, take, drop, map, Some, refl, sym, ◌∙◌, ap, subst, arith, length-append, length-drop}
 use Rattle.std.specs.Prelude.{slice_get, slice_range}
 use Rattle.std.specs.List.{flat_map}
 use Rattle.std.proofs.lemmas.Bool.{cases_lt}
@@ -8,13 +8,12 @@ use Rattle.std.proofs.lemmas.List.{length-map, map-append, take-append-le, drop-
 use Rattle.std.proofs.lemmas.List.Concat.{flat_map-append}
 use Rattle.std.proofs.Math.Seq.{drop-append_seam, take-length}
 use Rattle.term_forms.specs.declared.enc.Enc.{Enc}
-use Rattle.term_forms.specs.Elements.{Element}
 use Rattle.heap_cells.specs.declared.cells.CellRecord.{CellRecord}
 use Rattle.heap_cells.specs.declared.cells.Slot.{Slot}
 use Rattle.heap_cells.specs.Cells.{Cell}
 use Rattle.heap_cells.specs.Targets.{target, slot_target}
-use Rattle.heap_cells.specs.Inner.Records.{cell_in, cells_in, elements_by, IsRecord, AreLaid, AreSlots, AllSpell, first_or, start_at, slots_at}
-use Rattle.heap_cells.proofs.RecordFacts.{append-none, IsPiece, piece-of, slots-count}
+use Rattle.heap_cells.specs.Inner.Records.{elements_by, IsRecord, AreLaid, AreSlots, AllSpell, first_or, start_at, slots_at}
+use Rattle.heap_cells.proofs.RecordFacts.{append-none, piece-of}
 
 -- ---- a record behind others
 

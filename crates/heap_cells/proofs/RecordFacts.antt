@@ -1,6 +1,6 @@
 -- What the records and the slots of a heap say of its cells.
 use Rattle.std.proofs.Common.{◌≡◌, ℕ, zero, suc, ◌+◌, ◌-◌, ◌<◌, ◌≤◌, ◌==◌, Bool, not, cond, ltb, List, [], ◌∷◌, ◌++◌, length, take, drop, map, get_or, Option, None, Some, refl, sym, ◌∙◌, ap, subst, arith, length-append, length-drop}
-use Rattle.std.specs.Prelude.{slice_range, slice_get, is_some, IsSome, IfSome}
+use Rattle.std.specs.Prelude.{slice_get, is_some, IsSome, IfSome}
 use Rattle.std.specs.Option.{option_map}
 use Rattle.std.specs.List.{flat_map, position, position_or_len}
 use Rattle.std.proofs.lemmas.Option.{slice_get-map, slice_get_read, slice_get-get_or}

@@ -1,5 +1,5 @@
 -- Where addresses and elements lead among the cells of a heap.
-use Rattle.std.specs.Prelude.{◌≡◌, ℕ, ◌<◌, List, map, Option, None, Some, IsSome}
+use Rattle.std.specs.Prelude.{◌≡◌, ℕ, ◌<◌, List, Option, None, Some, IsSome}
 use Rattle.term_forms.specs.Elements.{Element, Nil, Small, Atom, Pid, Port, Ref}
 use Rattle.term_forms.specs.Seen.{element}
 use Rattle.heap_cells.specs.declared.cells.CellIx.{CellIx}

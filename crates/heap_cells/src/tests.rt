@@ -1,3 +1,7 @@
+// Heaps of small dumps, drawn cell by cell.
+ghost use Rattle.std.specs.Prelude.{◌<◌, length};
+ghost use Rattle.heap_cells.specs.Targets.{number};
+
 use crate::{CellIx, Heap, HeapFault, Kid, Kind, Seat, Slot};
 use dump_io::{DumpFile, Limits, MemDumps};
 use section_index::build;

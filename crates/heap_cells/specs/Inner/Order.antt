@@ -1,5 +1,5 @@
 -- The records of a heap in the order of their addresses.
-use Rattle.std.specs.Prelude.{◌≡◌, ℕ, ◌+◌, ◌*◌, ◌<◌, ◌==◌, Bool, false, not, List, map, length, take, slice_get, slice_index_or, Option, None, Some, All, Contains, position}
+use Rattle.std.specs.Prelude.{◌≡◌, ℕ, ◌+◌, ◌*◌, ◌<◌, ◌==◌, Bool, false, not, List, length, take, slice_get, slice_index_or, Option, None, Some, All, Contains, position}
 use Rattle.std.specs.List.{list_any}
 use Rattle.std.specs.List.Sorted.{IsNonDecreasingBy}
 use Rattle.heap_cells.specs.declared.cells.CellRecord.{CellRecord}

@@ -1,5 +1,5 @@
 -- The two bodies of a heap as one text.
-use Rattle.std.specs.Prelude.{ℕ, ◌<◌, ◌≤◌, List, ◌++◌, length}
+use Rattle.std.specs.Prelude.{ℕ, List, ◌++◌, length}
 use Rattle.heap_cells.specs.declared.texts.Texts.{Texts}
 
 -- the heap's own body, and that of the literals behind it

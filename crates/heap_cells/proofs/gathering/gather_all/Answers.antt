@@ -1,8 +1,8 @@
-use Rattle.std.proofs.Common.{◌≡◌, ◌++◌, [], ℕ, List, length, sym, ◌∙◌, ap, subst, arith}
+use Rattle.std.proofs.Common.{◌++◌, [], List, sym, ◌∙◌, ap, subst, arith}
 use Rattle.heap_cells.specs.declared.gathering.Gathering.{Gathering}
 use Rattle.heap_cells.specs.Cells.{Cell, line_cells}
 use Rattle.heap_cells.specs.Inner.Gathering.{Leads}
-use Rattle.heap_cells.specs.Inner.Texts.{text_of, seam_of}
+use Rattle.heap_cells.specs.Inner.Texts.{text_of}
 use Rattle.heap_cells.proofs.GatheringFacts.{leads-begin, all-gathered}
 use Rattle.heap_cells.proofs.RecordFacts.{append-none}
 use Rattle.heap_cells.proofs.gathering.gather_all.Goals as goal

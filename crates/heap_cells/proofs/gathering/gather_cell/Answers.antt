@@ -1,17 +1,16 @@
-use Rattle.std.proofs.Common.{◌≡◌, ℕ, ◌+◌, ◌-◌, ◌<◌, ◌≤◌, List, length, map, Option, refl, sym, ◌∙◌, ap, subst, arith, length-append}
-use Rattle.std.specs.Prelude.{slice_range, IfSome, All, OnOk}
+use Rattle.std.proofs.Common.{◌≡◌, ℕ, ◌+◌, ◌-◌, ◌≤◌, List, length, refl, ◌∙◌, ap, arith, length-append}
+use Rattle.std.specs.Prelude.{slice_range, IfSome}
 use Rattle.std.proofs.lemmas.Result.{IfOk-weaker}
-use Rattle.term_forms.specs.Places.{elements_of, Placed, StandsAt}
 use Rattle.term_forms.specs.Forms.{IsForm}
 use Rattle.term_forms.specs.SeenForms.{heap_form}
-use Rattle.heap_cells.specs.Cells.{Cell, spelled_cell, elements_in}
-use Rattle.heap_cells.specs.Inner.Gathering.{form_found, IsGathered, Leads}
+use Rattle.heap_cells.specs.Cells.{spelled_cell, elements_in}
+use Rattle.heap_cells.specs.Inner.Gathering.{form_found}
 use Rattle.heap_cells.specs.Inner.Texts.{text_of, seam_of}
 use Rattle.heap_cells.specs.declared.cells.CellRecord.{CellRecord}
 use Rattle.heap_cells.specs.declared.cells.Slot.{Slot}
 use Rattle.heap_cells.specs.declared.gathering.Gathering.{Gathering}
 use Rattle.heap_cells.specs.declared.texts.Texts.{Texts}
-use Rattle.heap_cells.proofs.GatheringFacts.{Found, IsFound, OnOk-both, found-few, found-small, found-is, found-weight, part-few, slots-more, slots-found-count, cells-more, leads-kept, leads-passed}
+use Rattle.heap_cells.proofs.GatheringFacts.{Found, OnOk-both, found-few, found-small, found-is, found-weight, part-few, slots-more, slots-found-count, cells-more, leads-kept}
 use Rattle.heap_cells.proofs.gathering.gather_cell.Goals as goal
 
 weight-few : (texts : Texts) (from upto weight : ℕ) (part : List ℕ) (found : Found) → part ≡ slice_range (text_of texts) from upto

@@ -1,10 +1,10 @@
-use Rattle.std.proofs.Common.{◌≡◌, ◌∷◌, ◌++◌, ◌∙◌, List, length, sym, ap, subst, arith}
+use Rattle.std.proofs.Common.{◌++◌, ◌∙◌, List, length, ap, subst, arith}
 use Rattle.std.specs.Prelude.{All}
 use Rattle.std.specs.List.{filter_map}
 use Rattle.std.proofs.lemmas.List.Elements.{All-tail, All-head}
 use Rattle.field_lines.specs.Lines.{TextLine, IsPart}
 use Rattle.field_lines.specs.Shown.{shown_line}
-use Rattle.heap_cells.specs.Cells.{Cell, cell_of}
+use Rattle.heap_cells.specs.Cells.{cell_of}
 use Rattle.heap_cells.specs.Inner.Gathering.{Leads}
 use Rattle.heap_cells.specs.Inner.Texts.{text_of, seam_of}
 use Rattle.heap_cells.proofs.GatheringFacts.{line-at, line-few}

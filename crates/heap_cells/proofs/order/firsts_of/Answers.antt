@@ -1,4 +1,4 @@
-use Rattle.std.proofs.Common.{◌≡◌, ℕ, zero, suc, ◌+◌, ◌<◌, Bool, false, List, length, get_or, refl, sym, ◌∙◌, ap, subst, arith, Vec, Global}
+use Rattle.std.proofs.Common.{◌≡◌, ℕ, zero, suc, ◌+◌, Bool, false, length, get_or, refl, sym, ◌∙◌, ap, subst, arith, Vec, Global}
 use Rattle.std.specs.Prelude.{replicate}
 use Rattle.heap_cells.proofs.FirstFacts.{AreMarked, marked-none, marked-more, marked-same, marked-all}
 use Rattle.heap_cells.proofs.order.firsts_of.Goals as goal

@@ -1,4 +1,3 @@
-use Rattle.std.proofs.Common.{◌≡◌}
 use Rattle.heap_cells.proofs.FirstFacts.{AreMarked}
 use Rattle.heap_cells.proofs.order.firsts_of.Given as goal
 

@@ -1,5 +1,4 @@
-use Rattle.std.proofs.Common.{◌≡◌, ◌<◌, ◌≤◌, length, sym, ◌∙◌, arith}
-use Rattle.std.proofs.lemmas.Bool.{ltb-true, ltb-false}
+use Rattle.std.proofs.Common.{◌≡◌, sym, ◌∙◌, arith}
 use Rattle.heap_cells.proofs.OrderFacts.{by-address, past-the-end, found-there, other-there}
 use Rattle.heap_cells.proofs.order.number_of.Goals as goal
 

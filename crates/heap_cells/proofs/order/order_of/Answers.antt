@@ -1,4 +1,4 @@
-use Rattle.std.proofs.Common.{◌≡◌, ℕ, sym, ◌∙◌, map, ap, Vec, Global}
+use Rattle.std.proofs.Common.{ℕ, sym, ◌∙◌, map, ap, Vec, Global}
 use Rattle.std.proofs.lemmas.Result.{IfOk-weaker}
 use Rattle.heap_cells.proofs.OrderFacts.{pairs-moved, pairs-ranked, order-is}
 use Rattle.heap_cells.proofs.order.order_of.Goals as goal

@@ -1,4 +1,3 @@
-use Rattle.std.proofs.Common.{arith}
 use Rattle.heap_cells.specs.declared.cells.Slot.TheVariants as slot
 use Rattle.heap_cells.proofs.ResolvingFacts.{resolving-none, resolving-more, resolving-all}
 use Rattle.heap_cells.proofs.resolving.resolve_each.Goals as goal

@@ -1,8 +1,8 @@
-use Rattle.std.proofs.Common.{◌≡◌, length, ◌∙◌, sym, ap, subst, arith, length-append}
+use Rattle.std.proofs.Common.{length, ap, subst, arith, length-append}
 use Rattle.std.proofs.lemmas.List.{length-map}
 use Rattle.heap_cells.specs.HeapMap.{HeapMap, IsBounded}
 use Rattle.heap_cells.specs.Inner.Texts.{text_of, seam_of}
-use Rattle.heap_cells.specs.Inner.Records.{cell_in, cells_in}
+use Rattle.heap_cells.specs.Inner.Records.{cell_in}
 use Rattle.heap_cells.proofs.RecordFacts.{weight-slots}
 use Rattle.heap_cells.proofs.heap.Heap.cells.Goals as goal
 

@@ -1,7 +1,5 @@
-use Rattle.std.proofs.Common.{◌≡◌, ◌≤◌, length, ◌∙◌, sym, ap, subst, arith, length-append, Option, None, Some}
-use Rattle.std.specs.Prelude.{IfSome, slice_range}
-use Rattle.std.specs.Option.{option_map}
-use Rattle.std.proofs.lemmas.List.{length-map}
+use Rattle.std.proofs.Common.{◌∙◌, ap, subst, arith, Option, None, Some}
+use Rattle.std.specs.Prelude.{IfSome}
 use Rattle.term_forms.specs.Forms.{IsForm}
 use Rattle.term_forms.specs.SeenForms.{heap_form}
 use Rattle.term_forms.specs.ReadingForms.{form_of}
@@ -9,7 +7,7 @@ use Rattle.term_forms.specs.declared.shapes.Form.{Form}
 use Rattle.heap_cells.specs.HeapMap.{HeapMap, IsSpelled}
 use Rattle.heap_cells.specs.Targets.{number}
 use Rattle.heap_cells.specs.Inner.Texts.{text_of, seam_of}
-use Rattle.heap_cells.proofs.RecordFacts.{IsReadFrom, read-from, form-of}
+use Rattle.heap_cells.proofs.RecordFacts.{read-from, form-of}
 use Rattle.heap_cells.proofs.heap.Heap.form.Goals as goal
 
 pub overflow_add-cell : goal.overflow_add-cell

@@ -1,4 +1,4 @@
-use Rattle.std.proofs.Common.{◌≡◌, length, ◌∙◌, sym, ap, arith}
+use Rattle.std.proofs.Common.{length, ◌∙◌, sym, ap, arith}
 use Rattle.std.proofs.lemmas.List.{length-map}
 use Rattle.heap_cells.specs.HeapMap.{elements_at}
 use Rattle.heap_cells.specs.Targets.{number, target, slot_target}
