@@ -4,7 +4,12 @@
 //   bench write FILE BYTES SECTIONS   writes a dump of so many bytes and sections, heap lines of about 40 bytes
 //   bench procs FILE BYTES PROCESSES  writes a dump of so many bytes and processes, each with a body of about 300
 //                                     bytes and a heap, and prints how many bytes a process table keeps of them
-//   bench heap FILE CELLS             writes the heap lines of so many list cells, 40 bytes each with their LF
+//   bench list FILE CELLS ORDER       writes a dump with one process, whose heap is a list of so many cells, 40 bytes
+//                                     each with their LF; with ORDER 1 their addresses stand in no order
+//   bench tuples FILE CELLS           the same with tuples, each inside the one before
+//   bench binaries FILE CELLS BINS    the same with references to binaries, over so many sections of binaries
+//   bench links FILE PROCESSES        writes a dump of so many processes with five links and monitors each
+//   bench star FILE LINKS             writes a dump of a process with so many links, whose partners have one each
 //   bench scan FILE                   counts the headers: reads of 64 KiB, memchr for `=`, the byte before
 //   bench measure OUT COMMAND WORDS.. runs a command, its output into the file OUT, and prints the seconds that it
 //                                     took and the most memory that it had, in KiB
@@ -58,12 +63,72 @@ static int write_processes(const char *name, long bytes, long count) {
     return fclose(f) != 0;
 }
 
-static int write_heap(const char *name, long cells) {
+static FILE *begin_process(const char *name) {
+    FILE *f = fopen(name, "w");
+    if (f) fprintf(f, "=erl_crash_dump:0.5\n=proc:<0.1.0>\nState: Waiting\n=proc_heap:<0.1.0>\n");
+    return f;
+}
+
+static int end_dump(FILE *f) {
+    fprintf(f, "=end\n");
+    return fclose(f) != 0;
+}
+
+// The address of the cell with a number from 0: in order, or each of 2^24 once in no order.
+static long address(long i, int shuffled) {
+    return ((shuffled ? i * 2654435761 % 16777216 : i) + 1) * 16;
+}
+
+static int write_list(const char *name, long cells, int shuffled) {
+    FILE *f = begin_process(name);
+    if (!f) return 1;
+    for (long i = 0; i + 1 < cells; i++)
+        fprintf(f, "%012lX:lI%010ld|H%012lX\n", address(i, shuffled), i, address(i + 1, shuffled));
+    fprintf(f, "%012lX:lI%010ld|N\n", address(cells - 1, shuffled), cells);
+    return end_dump(f);
+}
+
+static int write_tuples(const char *name, long cells) {
+    FILE *f = begin_process(name);
+    if (!f) return 1;
+    for (long i = 0; i + 1 < cells; i++)
+        fprintf(f, "%012lX:t2:H%012lX,I%08ld\n", address(i, 0), address(i + 1, 0), i);
+    fprintf(f, "%012lX:t0:\n", address(cells - 1, 0));
+    return end_dump(f);
+}
+
+static int write_binaries(const char *name, long cells, long bins) {
+    FILE *f = begin_process(name);
+    if (!f) return 1;
+    for (long i = 0; i < cells; i++)
+        fprintf(f, "%012lX:Yc%lX:%lX:8\n", address(i, 0), i % bins * 16 + 16, i % 32);
+    for (long i = 0; i < bins; i++)
+        fprintf(f, "=binary:%lX\n30:QUJDREVGR0hJSktMTU5PUFFSU1RVVldYWVphYmNkZWZnaGlqa2xtbm9wcXJzdHV2\n", i * 16 + 16);
+    return end_dump(f);
+}
+
+static int write_links(const char *name, long count) {
     FILE *f = fopen(name, "w");
     if (!f) return 1;
-    for (long i = 1; i <= cells; i++)
-        fprintf(f, "%012lX:lI%010ld|H%012lX\n", i * 16, i, i * 16 + 16);
-    return fclose(f) != 0;
+    fprintf(f, "=erl_crash_dump:0.5\n");
+    for (long i = 1; i <= count; i++)
+        fprintf(f, "=proc:<0.%ld.0>\nState: Waiting\nMessage queue length: 0\nLink list: [<0.%ld.0>, <0.%ld.0>, "
+            "{to,<0.%ld.0>,#Ref<0.1.2.%ld>}, {from,<0.%ld.0>,#Ref<0.1.2.%ld>}, #Port<0.%ld>]\nMemory: 2640\n",
+            i, i % count + 1, (i + count - 2) % count + 1, i % count + 1, i, (i + count - 2) % count + 1,
+            (i + count - 2) % count + 1, i);
+    return end_dump(f);
+}
+
+static int write_star(const char *name, long links) {
+    FILE *f = fopen(name, "w");
+    if (!f) return 1;
+    fprintf(f, "=erl_crash_dump:0.5\n=proc:<0.1.0>\nLink list: [");
+    for (long i = 1; i <= links; i++)
+        fprintf(f, "%s<0.%ld.0>", i > 1 ? ", " : "", i + 1);
+    fprintf(f, "]\n");
+    for (long i = 1; i <= links; i++)
+        fprintf(f, "=proc:<0.%ld.0>\nLink list: [<0.1.0>]\n", i + 1);
+    return end_dump(f);
 }
 
 static int scan(const char *name) {
@@ -98,7 +163,11 @@ static int measure(const char *out, char **command) {
 int main(int count, char **words) {
     if (count == 5 && !strcmp(words[1], "write")) return write_dump(words[2], atol(words[3]), atol(words[4]));
     if (count == 5 && !strcmp(words[1], "procs")) return write_processes(words[2], atol(words[3]), atol(words[4]));
-    if (count == 4 && !strcmp(words[1], "heap")) return write_heap(words[2], atol(words[3]));
+    if (count == 5 && !strcmp(words[1], "list")) return write_list(words[2], atol(words[3]), atoi(words[4]));
+    if (count == 4 && !strcmp(words[1], "tuples")) return write_tuples(words[2], atol(words[3]));
+    if (count == 5 && !strcmp(words[1], "binaries")) return write_binaries(words[2], atol(words[3]), atol(words[4]));
+    if (count == 4 && !strcmp(words[1], "links")) return write_links(words[2], atol(words[3]));
+    if (count == 4 && !strcmp(words[1], "star")) return write_star(words[2], atol(words[3]));
     if (count == 3 && !strcmp(words[1], "scan")) return scan(words[2]);
     if (count > 3 && !strcmp(words[1], "measure")) return measure(words[2], words + 3);
     return 2;

@@ -25,6 +25,3 @@ pub use file_dumps::FileDumps;
 pub use runner::run;
 pub use std_sink::StdSink;
 pub use words::{Cmd, read_words};
-
-#[cfg(test)]
-mod tests;

@@ -1,0 +1,167 @@
+// A case, and the lines that tell it.
+use crate::text::{put_expected, put_line};
+use dump_io::{Limits, dec_u64};
+use std::alloc::{AllocError, Global};
+
+/// The limits of a run, as they may be lowered.
+#[derive(Clone, Copy)]
+pub struct Bounds {
+    pub dump: u64,
+    pub header: u16,
+    pub sections: u32,
+    pub pool: u32,
+    pub section: u32,
+    pub dense: u32,
+}
+
+impl Bounds {
+    fn usual() -> Bounds {
+        let usual = Limits::usual();
+        Bounds {
+            dump: usual.dump(),
+            header: usual.header(),
+            sections: usual.sections(),
+            pool: usual.pool(),
+            section: usual.section(),
+            dense: usual.dense(),
+        }
+    }
+
+    /// The limits of these numbers; the usual ones where a number is above its usual value.
+    pub fn limits(&self) -> Limits {
+        let limits = Limits::new(
+            self.dump,
+            self.header,
+            self.sections,
+            self.pool,
+            self.section,
+            self.dense,
+        );
+        limits.unwrap_or(Limits::usual())
+    }
+
+    // Lowers the limit of this name. `None` comes where there is no such limit, or the number isn't one of its type.
+    fn lower(&mut self, name: &str, number: u64) -> Option<()> {
+        match name {
+            "dump" => self.dump = number,
+            "header" => self.header = u16::try_from(number).ok()?,
+            "sections" => self.sections = u32::try_from(number).ok()?,
+            "pool" => self.pool = u32::try_from(number).ok()?,
+            "section" => self.section = u32::try_from(number).ok()?,
+            "dense" => self.dense = u32::try_from(number).ok()?,
+            _ => return None,
+        }
+        Some(())
+    }
+}
+
+/// Words, the dump on which they run, and what they leave.
+#[derive(Drop)]
+pub struct Case {
+    pub name: String,
+    pub words: Vec<String>,
+    pub dump: Vec<u8>,
+    /// Whether the dump is that of the case before.
+    is_same_dump: bool,
+    /// Whether the case runs only once, as it is.
+    pub is_once: bool,
+    /// On the fronts of how many bytes the case runs, where it doesn't run on the whole dump.
+    pub fronts: Option<(usize, usize)>,
+    pub bounds: Bounds,
+    pub taken: u64,
+    pub status: u64,
+    pub out: Vec<u8>,
+    pub err: Vec<u8>,
+}
+
+impl Case {
+    pub fn new(alloc: Global) -> Case {
+        Case {
+            name: String::new(alloc),
+            words: Vec::new(alloc),
+            dump: Vec::new(alloc),
+            is_same_dump: true,
+            is_once: false,
+            fronts: None,
+            bounds: Bounds::usual(),
+            taken: u64::MAX,
+            status: 0,
+            out: Vec::new(alloc),
+            err: Vec::new(alloc),
+        }
+    }
+
+    /// Begins the next case, on the same dump.
+    pub fn begin(&mut self, alloc: Global, name: &str) -> Result<(), AllocError> {
+        self.name = String::from_str(alloc, name)?;
+        self.words.clear();
+        self.is_same_dump = true;
+        self.is_once = false;
+        self.fronts = None;
+        self.bounds = Bounds::usual();
+        self.taken = u64::MAX;
+        self.status = 0;
+        self.out.clear();
+        self.err.clear();
+        Ok(())
+    }
+
+    /// Takes a line of the case; `false` comes where it tells nothing of one.
+    pub fn take(&mut self, alloc: Global, line: &str) -> Result<bool, AllocError> {
+        let (word, rest) = line.split_once(' ').unwrap_or((line, ""));
+        if let Some(kind) = word.strip_prefix('|') {
+            self.begin_dump();
+            return put_line(&mut self.dump, kind, rest);
+        }
+        if let Some(kind) = word.strip_prefix('>') {
+            return put_expected(&mut self.out, kind, rest);
+        }
+        if let Some(kind) = word.strip_prefix('!') {
+            return put_expected(&mut self.err, kind, rest);
+        }
+        if word == "words" {
+            self.take_words(alloc, rest)?;
+            return Ok(true);
+        }
+        Ok(self.take_setting(word, rest).is_some())
+    }
+
+    fn take_words(&mut self, alloc: Global, rest: &str) -> Result<(), AllocError> {
+        for word in rest.split_whitespace() {
+            self.words.push(String::from_str(alloc, word)?)?;
+        }
+        Ok(())
+    }
+
+    // `None` comes where there is no such setting.
+    fn take_setting(&mut self, word: &str, rest: &str) -> Option<()> {
+        match word {
+            "limit" => {
+                let (name, number) = rest.split_once(' ')?;
+                let number = dec_u64(number.as_bytes())?;
+                self.bounds.lower(name, number)?;
+            }
+            "taken" => self.taken = dec_u64(rest.as_bytes())?,
+            "status" => self.status = dec_u64(rest.as_bytes())?,
+            "once" => self.is_once = true,
+            "fronts" => {
+                let (from, upto) = rest.split_once(' ')?;
+                self.fronts = Some((length_of(from)?, length_of(upto)?));
+            }
+            _ => return None,
+        }
+        Some(())
+    }
+
+    // The first line of a dump ends the dump of the case before.
+    fn begin_dump(&mut self) {
+        if self.is_same_dump {
+            self.dump.clear();
+            self.is_same_dump = false;
+        }
+    }
+}
+
+fn length_of(text: &str) -> Option<usize> {
+    usize::try_from(dec_u64(text.as_bytes())?).ok()
+}

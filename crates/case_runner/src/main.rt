@@ -1,0 +1,48 @@
+//! `case_runner FILES`: runs the cases of some files, and says how many passed and which did not.
+//!
+//! A case is a run of edump's words over a dump in memory, and what it leaves: its status, and all bytes on its output and
+//! its standard error. Its file has a line for each of these, which begins with a word or a sign:
+//!
+//! ```text
+//! # a remark
+//! case a list within its budget
+//! words term F <0.1.0> 10 2
+//! limit section 65
+//! | =erl_crash_dump:0.5
+//! | =end
+//! taken 40
+//! status 0
+//! > [1|...]
+//! ! an expected line of standard error
+//! ```
+//!
+//! The dump is the file `F`. Behind the sign of a line of it, or of what is expected, one letter may stand: with `-` the line
+//! lacks its LF, and `r` ends it with CR and LF; `h 1F 8B` is these bytes, `x 4095` so many letters `x`, and `k 3 TEXT` the text
+//! so many times: of a dump as lines, where `@0` stands for 16 times the line's number in hex and `@1` for 16 more, and of
+//! what is expected without LF. A case without a line of a dump runs on that of the case before. `limit` lowers one limit, and
+//! `taken` is the most bytes that the device gives.
+//!
+//! Each case runs with reads of several sizes, and must end alike. Then each call of the device fails once, which must
+//! end with the status of a read fault and nothing written; and each write of a single byte fails once, which must leave the
+//! bytes before it. With the line `once` a case runs once, as it is; with `fronts 19 936` it runs once on each front of the dump
+//! from 19 to 935 bytes, and what it writes must end with a line that begins as is expected.
+#![tactic(auto)]
+
+mod case;
+mod outcome;
+mod passing;
+mod script;
+mod text;
+
+use script::run_file;
+use std::{env, fs, io};
+
+fn main(rt: HostRuntime) -> io::Result<()> {
+    let mut passed = 0u64;
+    for name in env::args(&rt)?.skip(1) {
+        let text = fs::read_to_string(&rt, name.as_str())?;
+        passed = passed.saturating_add(run_file(&rt, text.as_str())?);
+    }
+    println!(&rt; "{passed} cases passed")?;
+    Ok(())
+}

@@ -1,0 +1,86 @@
+// A run of a case, and what it leaves.
+use crate::case::Case;
+use dump_command::run;
+use dump_io::{DumpFile, MemDumps, MemSink};
+use std::alloc::{AllocError, Global};
+
+/// How a run is hindered: to how many bytes its reads are cut, which call of the device fails, how many bytes a write to
+/// either sink takes, and which write to each of them fails. With 0 nothing is.
+#[derive(Clone, Copy)]
+pub struct Hindrance {
+    pub cut: usize,
+    pub failing_call: u64,
+    pub step: usize,
+    pub failing_out: u64,
+    pub failing_err: u64,
+}
+
+/// Nothing hinders the run.
+pub const NONE: Hindrance = Hindrance {
+    cut: 0,
+    failing_call: 0,
+    step: 0,
+    failing_out: 0,
+    failing_err: 0,
+};
+
+#[derive(Drop)]
+pub struct Outcome {
+    pub status: u64,
+    pub out: MemSink,
+    pub err: MemSink,
+    pub taken: u64,
+}
+
+impl Outcome {
+    /// Whether the run ended so, and left these bytes.
+    pub fn is(&self, status: u64, out: &[u8], err: &[u8]) -> bool {
+        self.status == status && self.out.written() == out && self.err.written() == err
+    }
+}
+
+fn dumps_of(alloc: Global, dump: &[u8], hindrance: &Hindrance) -> Result<MemDumps, AllocError> {
+    let file = DumpFile::new(String::from_str(alloc, "F")?, Vec::from_slice(alloc, dump)?);
+    let cuts = if hindrance.cut == 0 {
+        Vec::new(alloc)
+    } else {
+        vec![in alloc; hindrance.cut]?
+    };
+    let fails = vec![in alloc; hindrance.failing_call]?;
+    Ok(MemDumps::new(vec![in alloc; file]?, cuts, fails))
+}
+
+/// Runs a case, hindered so.
+pub fn run_case(alloc: Global, case: &Case, hindrance: &Hindrance) -> Result<Outcome, AllocError> {
+    run_on(alloc, case, case.dump.as_slice(), hindrance)
+}
+
+/// Runs a case on another dump.
+pub fn run_on(
+    alloc: Global,
+    case: &Case,
+    dump: &[u8],
+    hindrance: &Hindrance,
+) -> Result<Outcome, AllocError> {
+    let mut dumps = dumps_of(alloc, dump, hindrance)?;
+    let failing_out = vec![in alloc; hindrance.failing_out]?;
+    let failing_err = vec![in alloc; hindrance.failing_err]?;
+    let mut out = MemSink::new(alloc, hindrance.step, failing_out);
+    let mut err = MemSink::new(alloc, hindrance.step, failing_err);
+    let limits = case.bounds.limits();
+    let status = run(
+        alloc,
+        case.words.as_slice(),
+        &limits,
+        &mut dumps,
+        &mut out,
+        &mut err,
+    );
+    let taken = dumps.taken();
+    Ok(Outcome {
+        status: u64::from(status),
+        out,
+        err,
+        taken,
+    })
+}

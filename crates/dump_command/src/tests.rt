@@ -1,8 +1,0 @@
-mod cases;
-mod dumps;
-mod hindered;
-mod index;
-mod info;
-mod long_lines;
-mod tables;
-mod usage;
