@@ -1,11 +1,11 @@
 -- Parts of bodies, and what is shown of them.
-use Rattle.std.proofs.Common.{◌≡◌, ℕ, zero, suc, ◌+◌, ◌-◌, ◌*◌, ◌/◌, ◌<◌, ◌≤◌, ◌==◌, ◌↔◌, Bool, true, false, List, [], ◌∷◌, ◌++◌, length, take, drop, get_or, Option, None, Some, if◌then◌else◌, refl, sym, ◌∙◌, ap, subst, arith, append_assoc, length-append}
-use Rattle.std.specs.Prelude.{slice_get, unwrap_or}
+use Rattle.std.proofs.Common.{◌≡◌, ℕ, zero, suc, ◌+◌, ◌-◌, ◌*◌, ◌/◌, ◌<◌, ◌≤◌, ◌==◌, ◌↔◌, ⊎_elim, Bool, true, false, List, [], ◌∷◌, ◌++◌, length, take, drop, get_or, Option, None, Some, if◌then◌else◌, refl, sym, ◌∙◌, ap, subst, arith, append_assoc, length-append}
+use Rattle.std.specs.Prelude.{slice_get, unwrap_or, min, replicate, IfSome}
 use Rattle.std.specs.Option.{option_map, option_and_then}
 use Rattle.std.specs.List.{between}
-use Rattle.std.proofs.lemmas.Bool.{and_parts, leb-true, le-leb, lt-leb, eq-eqb, eqb-true, false_from_ne_true}
+use Rattle.std.proofs.lemmas.Bool.{cases_lt, and_parts, leb-true, le-leb, lt-leb, eq-eqb, eqb-true, false_from_ne_true}
 use Rattle.std.proofs.lemmas.Option.{cond_some, slice_get-get_or}
-use Rattle.std.proofs.lemmas.List.{take-append-drop, drop-take, drop-drop, take-take, length-take, length-drop}
+use Rattle.std.proofs.lemmas.List.{take_all, take-append-drop, drop-take, drop-drop, take-take, length-take, length-take-le, length-drop}
 use Rattle.dump_io.specs.Numbers.{hex_number}
 use Rattle.section_index.specs.Bodies.{section_at, body_length}
 use Rattle.section_index.specs.Index.{Contents, IsIndexOf, sections_in}
@@ -43,7 +43,9 @@ AreRead = (text : List ℕ) (n : ℕ) (rest : List ℕ) → (led_of text ≡ Som
 
 drop-behind : (hex rest : List ℕ) → drop (length hex + 1) (hex ++ colon ∷ rest) ≡ rest
 drop-behind [] rest = refl
-drop-behind (c ∷ hex) rest = drop-behind hex rest
+drop-behind (c ∷ hex) rest =
+    let more : length (c ∷ hex) + 1 ≡ suc (length hex + 1) = omega arith in
+    ap (λ n. drop n (c ∷ (hex ++ colon ∷ rest))) more ∙ drop-behind hex rest
 
 pub lead-some : AreRead → (front body rest : List ℕ) (n : ℕ) → IsLed front n rest → front ≡ take 17 body → led_of body ≡ Some (n, drop (length front - length rest) body)
 lead-some reads front body rest n led is =
@@ -157,3 +159,26 @@ in-dump dump index enc address offset size place inside found =
 pub payload-count : (enc : Enc) (chars : List ℕ) (n : ℕ) → ((text bytes : List ℕ) → IsPayload enc text bytes → length text ≡ chars_of enc (length bytes)) → IsPayloadOf enc chars n → n ≤ length chars
 payload-count Hex chars n law is = omega (arith, is.count, law chars is.bytes is.payload)
 payload-count Base64 chars n law is = omega (arith, is.count, law chars is.bytes is.payload)
+
+-- the front of a body that is read is that of the whole
+pub take-upto : (m n : ℕ) (body : List ℕ) → length body ≡ m → take (min m n) body ≡ take n body
+take-upto m n body size = ⊎_elim (λ less. ap (λ k. take k body) (omega (arith, less))) (λ more. ap (λ k. take k body) (omega (arith, more)) ∙ (take_all m body (omega (arith, size)) ∙ sym (take_all n body (omega (arith, size, more))))) (cases_lt n m)
+
+-- the section that is found by its place
+pub first-section : (index : Contents) (address : ℕ) (place : Option ℕ) → place ≡ binary_place (sections_in index) address → IfSome place (λ i. i < length index.headers)
+    → (count : ℕ) → count ≡ length index.headers → count ≡ length (sections_in index) → option_map (section_at index) place ≡ binary_section index address
+first-section index address None is within count same all = sym (section-none index address (sym is))
+first-section index address (Some i) is within count same all = sym (section-found index address i (omega (arith, within, same, all)) (sym is))
+
+-- the room for the front of a body, and for the bytes of a cover
+abbrev pub zeros : ℕ → List ℕ
+zeros n = replicate n 0
+
+-- a front of the 17 bytes of room
+pub read-front : (m k : ℕ) (front body : List ℕ) → k ≡ min m 17 → length body ≡ m → front ≡ take (length (take k (zeros 17))) body → front ≡ take 17 body
+read-front m k front body is size read =
+    let few : k ≤ 17 = omega (arith, is) in
+    read ∙ (ap (λ n. take n body) (length-take-le k (zeros 17) few ∙ is) ∙ take-upto m 17 body size)
+
+pub room-size : (n : ℕ) → n ≤ 36 → length (take n (zeros 36)) ≡ n
+room-size n few = length-take-le n (zeros 36) few

@@ -3,7 +3,7 @@ use Rattle.std.proofs.Common.{◌≡◌, ℕ, zero, suc, ◌+◌, ◌-◌, ◌*�
 use Rattle.std.specs.Prelude.{All, IsSome}
 use Rattle.std.specs.Option.{option_map, option_and_then, option_or, option_to_list}
 use Rattle.std.specs.List.Sorted.{IsNonDecreasingBy, IsPartitionPoint}
-use Rattle.std.proofs.lemmas.Bool.{cases_lt, false_from_ne_true, eq-eqb, eqb-true, ltb-true, ltb-false}
+use Rattle.std.proofs.lemmas.Bool.{true≢false, cases_lt, false_from_ne_true, eq-eqb, eqb-true, ltb-true, ltb-false}
 use Rattle.std.proofs.lemmas.Bool.Decides.{eqb_tells}
 use Rattle.std.proofs.lemmas.List.{get_or-map, length-map}
 use Rattle.std.proofs.lemmas.List.Elements.{All-nil, All-push}
@@ -45,7 +45,7 @@ front-differs : (es : List Entry) (n at k : ℕ) (d : Entry) → IsPointOf es n 
 front-differs es n at k d point before same = let less = ltb-true _ _ (point.0 k d (omega arith) before) in omega (arith, less, same)
 
 is-not-none : {X : Type 0} (o : Option X) → IsSome o → o ≡ None → ⊥
-is-not-none None some is = some
+is-not-none None some is = true≢false (sym some)
 is-not-none (Some x) some is = none-some x (sym is)
 
 pub point-within : (es : List Entry) (n at : ℕ) → IsPointOf es n at → IsSome (entry_at es n) → at < length es
@@ -240,3 +240,12 @@ reads-upto cells n inside =
     let up : length (by_number stated cells (n + 1)) ≤ length (binaries cells) =
     subst (λ m. length (by_number stated cells (n + 1)) ≤ length (by_number stated cells m)) all (rises cells (n + 1) rest) in
     omega (arith, reads-more cells n, up)
+
+-- an entry that is looked up is that of the number
+pub entry-cell : (es : List Entry) (n : ℕ) (e : Entry) → entry_at es n ≡ Some e → e.cell ≡ n
+entry-cell [] n e is = absurd (none-some e is)
+entry-cell (x ∷ es) n e is = by (x.cell == n) refl is (entry-cell es n e)
+  where
+    by : (b : Bool) → (x.cell == n) ≡ b → (if b then Some x else entry_at es n) ≡ Some e → (entry_at es n ≡ Some e → e.cell ≡ n) → e.cell ≡ n
+    by true same found rest = ap (λ (f : Entry). f.cell) (sym (same_Some x e found)) ∙ eqb-true x.cell n same
+    by false other found rest = rest found

@@ -100,6 +100,7 @@ pub(crate) fn place_of(index: &Index, pairs: &[(u64, u32)], address: u64) -> Opt
     requires { AreOrdered (sections_in index.now) pairs.now }
     ensures place { result ≡ binary_place (sections_in index.now) address }
     ensures within { IfSome result (λ i. i < length index.now.headers) }
+    ensures listed { IfSome result (λ i. i < length (sections_in index.now)) }
 {
     let _count = index.len();
     let at = count_below(pairs, address);

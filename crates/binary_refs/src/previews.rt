@@ -203,6 +203,26 @@ fn count_below(entries: &[Entry], n: u32) -> usize
     entries.partition_point(|e| e.cell < n)
 }
 
+// The entry of the cell with a number.
+fn entry_with(entries: &[Entry], n: u32) -> &Entry
+    requires sorted { IsNonDecreasingBy (λ e. e.cell) entries.now }
+    requires some { IsSome (entry_at entries.now n) }
+    ensures entry { entry_at entries.now n ≡ Some result.now }
+    ensures cell { result.now.cell ≡ n }
+{
+    &entries[count_below(entries, n)]
+}
+
+// What an entry tells.
+fn shown(entry: &Entry) -> Preview<'_>
+    ensures { told_entry entry.now.cell result ≡ entry.now }
+{
+    match &entry.bytes {
+        Some(bytes) => Preview::Bytes(bytes.bytes(), entry.size),
+        None => Preview::Unknown(entry.size),
+    }
+}
+
 /// The previews of a heap: for each cell that refers to a binary the first bytes of the range to which it refers, 32 at
 /// most, or that they are unknown.
 ///
@@ -255,10 +275,6 @@ impl Previews {
         requires { IsSome (entry_at self.now (number ix)) }
         ensures { Some (told_entry (number ix) result) ≡ entry_at self.now (number ix) }
     {
-        let entry = &self.entries[count_below(&self.entries, ix.number())];
-        match &entry.bytes {
-            Some(bytes) => Preview::Bytes(bytes.bytes(), entry.size),
-            None => Preview::Unknown(entry.size),
-        }
+        shown(entry_with(&self.entries, ix.number()))
     }
 }

@@ -111,6 +111,15 @@ fn whole_at<D: Dumps>(
     }
 }
 
+// The place of the first `binary` section whose id writes the address in hex.
+fn place_of(index: &Index, addr: u64) -> Option<usize>
+    ensures section { option_map (section_at index.now) result ≡ binary_section index.now addr }
+    ensures within { IfSome result (λ i. i < length index.now.headers) }
+{
+    let _count = index.len();
+    index.first_hex(b"binary", addr)
+}
+
 /// Reads all bytes of the first `binary` section whose id writes an address in hex. The index is one that was built over
 /// the file that is open, and the file stays open.
 ///
@@ -137,7 +146,7 @@ pub fn whole<D: Dumps>(
     ensures refused { IfSome (refused limits.now.section (binary_section index.now addr)) (IsErrOf result) }
     ensures unread { IfSome (refused limits.now.section (binary_section index.now addr)) (λ _. dumps.new ≡ dumps.old) }
 {
-    let Some(i) = index.first_hex(b"binary".as_slice(), addr) else {
+    let Some(i) = place_of(index, addr) else {
         return Err(BinFault::NoBinary);
     };
     whole_at(alloc, dumps, index, i, limits)
