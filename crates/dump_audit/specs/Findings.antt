@@ -1,0 +1,156 @@
+-- What an audit finds: a list, by process in dump order.
+use Rattle.std.specs.Prelude.{ℕ, ◌==◌, Bool, true, false, ◌&&◌, not, List, [], ◌∷◌, ◌++◌, flat_map, position, slice_get, Option, None, Some, is_some, unwrap_or, nat_lt, if◌then◌else◌}
+use Rattle.std.specs.List.{enumerate_from, filter_map, list_any}
+use Rattle.std.specs.Option.{option_and_then, option_flatten, option_map, option_to_list}
+use Rattle.std.specs.Str.{bytes_eq}
+use Rattle.dump_io.specs.Numbers.{dec_number}
+use Rattle.section_index.specs.declared.index.State.{State}
+use Rattle.section_index.specs.declared.index.State.TheVariants.{Whole, TruncatedIn}
+use Rattle.section_index.specs.Index.{Contents, state_of}
+use Rattle.section_index.specs.Bodies.{section_at}
+use Rattle.section_rows.specs.Rows.{Kept}
+use Rattle.process_table.specs.Processes.{Process}
+use Rattle.link_graph.specs.Texts.{is_local}
+use Rattle.link_graph.specs.Kinds.{Kind, Link, To, ToName, From}
+use Rattle.link_graph.specs.Entries.{LinkEntry}
+use Rattle.link_graph.specs.Graph.{Links, links_of, has_kind}
+use Rattle.dump_audit.specs.declared.finding.Finding.{Finding}
+use Rattle.dump_audit.specs.declared.finding.Finding.TheVariants.{LinkOneSided, MonitorTo, MonitorFrom, Mailbox, UnreadLinks, UnreadQueue, LinkGone, ToGone, FromGone, QueueCount}
+
+-- what is audited: the sections of a dump and its processes; from which length on a message queue isn't told; and in a
+-- full audit, for each process, how many messages it has, where that is known
+pub record Audit : Type 0 where
+  pub index : Contents
+  pub processes : List Process
+  pub limit : ℕ
+  pub mails : Option (List (Option ℕ))
+
+abbrev pub audit_of : Contents → List Process → ℕ → Option (List (Option ℕ)) → Audit
+audit_of index processes limit mails = record { index = index; processes = processes; limit = limit; mails = mails }
+
+-- ---- which processes count
+-- the dump breaks off in the section at this place
+abbrev pub is_cut : State → ℕ → Bool
+is_cut Whole section = false
+is_cut (TruncatedIn last) section = section == last
+
+abbrev pub is_whole : State → Bool
+is_whole Whole = true
+is_whole (TruncatedIn last) = false
+
+-- a process is dumped unless the dump breaks off in its section
+abbrev pub is_dumped : Contents → Process → Bool
+is_dumped index process = not (is_cut (state_of index.headers) process.section)
+
+-- its entries are judged by its partners', and theirs by its own: it is dumped, it is of this node, and its link list
+-- isn't unread
+abbrev pub is_judged : Contents → Process → Bool
+is_judged index process = is_dumped index process && is_local process.pid && not (links_of process.links).unread
+
+-- where the section of a process begins
+abbrev pub section_offset : Contents → Process → ℕ
+section_offset index process = (section_at index process.section).at
+
+-- ---- links and monitors
+-- the pid that an entry speaks of
+abbrev pub partner_pid : Kind → Option (List ℕ)
+partner_pid (Link pid) = Some pid
+partner_pid (To pid reference) = Some pid
+partner_pid (From pid reference) = Some pid
+partner_pid kind = None
+
+-- to an entry of the process with this pid, the entries of which the partner should have one
+abbrev pub counterparts : List ℕ → Kind → List Kind
+counterparts pid (Link partner) = Link pid ∷ []
+counterparts pid (To partner reference) = From pid reference ∷ []
+counterparts pid (From partner reference) = To pid reference ∷ ToName reference ∷ []
+counterparts pid kind = []
+
+abbrev pub is_answered : List ℕ → Kind → Links → Bool
+is_answered pid kind partner = list_any (λ counterpart. has_kind counterpart partner.entries) (counterparts pid kind)
+
+-- a process that links to itself is none of its partners
+abbrev pub is_own_link : Kind → ℕ → ℕ → Bool
+is_own_link (Link pid) p q = p == q
+is_own_link kind p q = false
+
+-- the finding that an entry isn't answered
+abbrev pub one_sided : Kind → ℕ → ℕ → ℕ → ℕ → ℕ → Option Finding
+one_sided (Link pid) p q entry at other = Some (LinkOneSided p q entry at other)
+one_sided (To pid reference) p q entry at other = Some (MonitorTo p q entry at other)
+one_sided (From pid reference) p q entry at other = Some (MonitorFrom p q entry at other)
+one_sided kind p q entry at other = None
+
+-- the finding that its partner isn't in the dump
+abbrev pub gone : Kind → ℕ → ℕ → ℕ → ℕ → Option Finding
+gone (Link pid) p entry at other = Some (LinkGone p entry at other)
+gone (To pid reference) p entry at other = Some (ToGone p entry at other)
+gone (From pid reference) p entry at other = Some (FromGone p entry at other)
+gone kind p entry at other = None
+
+-- a process at a place, and past the last one a process without anything
+abbrev pub nobody : Process
+nobody = record { section = 0; pid = []; state = None; name = None; queue = None; memory = None; links = None }
+
+abbrev pub process_at : List Process → ℕ → Process
+process_at processes p = unwrap_or (slice_get processes p) nobody
+
+-- the place of the process with this pid
+abbrev pub place_of : List Process → List ℕ → Option ℕ
+place_of processes pid = position (λ process. bytes_eq pid process.pid) processes
+
+-- a full audit of a whole dump names the processes of this node that aren't in it
+abbrev pub names_gone : Audit → Bool
+names_gone a = is_some a.mails && is_whole (state_of a.index.headers)
+
+-- what is said of an entry of a process, whose partner stands at a place or isn't in the dump
+abbrev pub partner_finding : Audit → ℕ → Process → ℕ → ℕ → Kind → List ℕ → Option ℕ → Option Finding
+partner_finding a p process entry at kind pid (Some q) =
+    let partner = process_at a.processes q in
+    if is_judged a.index partner && not (is_own_link kind p q) && not (is_answered process.pid kind (links_of partner.links))
+    then one_sided kind p q entry at (section_offset a.index partner) else None
+partner_finding a p process entry at kind pid None =
+    if names_gone a && is_local pid then gone kind p entry at (section_offset a.index process) else None
+
+abbrev pub entry_finding : Audit → ℕ → Process → ℕ → ℕ → Kind → Option Finding
+entry_finding a p process entry at kind =
+    option_and_then (λ pid. partner_finding a p process entry at kind pid (place_of a.processes pid)) (partner_pid kind)
+
+-- what is said of the entries of a process, in their order
+abbrev pub entry_findings : Audit → ℕ → Process → List LinkEntry → List Finding
+entry_findings a p process entries = filter_map (λ numbered. entry_finding a p process numbered.0 numbered.1.at numbered.1.kind) (enumerate_from 0 entries)
+
+-- what is said of the link list of a process
+abbrev pub link_findings : Audit → ℕ → Process → List Finding
+link_findings a p process =
+    let links = links_of process.links in
+    if links.unread then option_to_list (option_map (λ line. UnreadLinks p line.at (section_offset a.index process)) process.links)
+    else (if is_local process.pid then entry_findings a p process links.entries else [])
+
+-- ---- message queues
+-- how many messages a process has, in a full audit and where that is known
+abbrev pub mail_of : Audit → ℕ → Option ℕ
+mail_of a p = option_and_then (λ mails. option_flatten (slice_get mails p)) a.mails
+
+abbrev pub count_findings : ℕ → Kept → ℕ → ℕ → Option ℕ → List Finding
+count_findings p line other stated None = []
+count_findings p line other stated (Some found) = if found == stated then [] else QueueCount p stated found line.at other ∷ []
+
+abbrev pub stated_findings : Audit → ℕ → Kept → ℕ → Option ℕ → List Finding
+stated_findings a p line other None = UnreadQueue p line.at other ∷ []
+stated_findings a p line other (Some stated) =
+    (if nat_lt a.limit stated then Mailbox p stated line.at other ∷ [] else []) ++ count_findings p line other stated (mail_of a p)
+
+-- what is said of the field that states the length of a message queue
+abbrev pub queue_findings : Audit → ℕ → Process → Option Kept → List Finding
+queue_findings a p process None = []
+queue_findings a p process (Some line) = stated_findings a p line (section_offset a.index process) (dec_number line.text)
+
+-- ---- all processes
+abbrev pub process_findings : Audit → ℕ × Process → List Finding
+process_findings a (p, process) =
+    if is_dumped a.index process then link_findings a p process ++ queue_findings a p process process.queue else []
+
+-- the findings of an audit
+abbrev pub findings : Audit → List Finding
+findings a = flat_map (process_findings a) (enumerate_from 0 a.processes)

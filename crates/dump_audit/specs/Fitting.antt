@@ -1,0 +1,38 @@
+-- A finding that fits some processes: the places and the numbers that it names are theirs.
+use Rattle.std.specs.Prelude.{◌≡◌, ℕ, ◌<◌, Bool, true, false, List, length, slice_get, IsSomeAnd}
+use Rattle.process_table.specs.Processes.{Process}
+use Rattle.link_graph.specs.Kinds.{Kind, Link, To, From}
+use Rattle.link_graph.specs.Graph.{links_of}
+use Rattle.dump_audit.specs.Findings.{process_at}
+use Rattle.dump_audit.specs.declared.finding.Finding.{Finding}
+use Rattle.dump_audit.specs.declared.finding.Finding.TheVariants.{LinkOneSided, MonitorTo, MonitorFrom, Mailbox, UnreadLinks, UnreadQueue, LinkGone, ToGone, FromGone, QueueCount}
+
+abbrev pub is_link : Kind → Bool
+is_link (Link pid) = true
+is_link kind = false
+
+abbrev pub is_to : Kind → Bool
+is_to (To pid reference) = true
+is_to kind = false
+
+abbrev pub is_from : Kind → Bool
+is_from (From pid reference) = true
+is_from kind = false
+
+-- the process at a place has an entry with this number, and it is of such a kind
+pub record HasEntry (is_kind : Kind → Bool) (processes : List Process) (p entry : ℕ) : Type 0 where
+  pub inside : p < length processes
+  pub there : IsSomeAnd (slice_get (links_of (process_at processes p).links).entries entry) (λ e. is_kind e.kind ≡ true)
+
+-- what a finding says of the processes: each place is that of one, and an entry is of the finding's kind
+abbrev pub Fits : List Process → Finding → Type 0
+Fits processes (LinkOneSided p q entry at other) = HasEntry is_link processes p entry × (q < length processes)
+Fits processes (MonitorTo p q entry at other) = HasEntry is_to processes p entry × (q < length processes)
+Fits processes (MonitorFrom p q entry at other) = HasEntry is_from processes p entry × (q < length processes)
+Fits processes (Mailbox p count at other) = p < length processes
+Fits processes (UnreadLinks p at other) = p < length processes
+Fits processes (UnreadQueue p at other) = p < length processes
+Fits processes (LinkGone p entry at other) = HasEntry is_link processes p entry
+Fits processes (ToGone p entry at other) = HasEntry is_to processes p entry
+Fits processes (FromGone p entry at other) = HasEntry is_from processes p entry
+Fits processes (QueueCount p stated found at other) = p < length processes

@@ -1,0 +1,40 @@
+-- What the code keeps of an audit.
+use Rattle.std.specs.Prelude.{◌≡◌, ℕ, ◌<◌, ◌^◌, Bool, true, false, ◌&&◌, ◌⊎◌, List, length, map, slice_get, None, Some, All}
+use Rattle.section_index.specs.Index.{state_of}
+use Rattle.section_index.specs.declared.index.State.{State}
+use Rattle.process_table.specs.Processes.{Process, IsIn}
+use Rattle.process_table.specs.Shown.{shown_process}
+use Rattle.link_graph.specs.Texts.{is_local}
+use Rattle.link_graph.specs.Graph.{Links, links_of, graph_of}
+use Rattle.link_graph.specs.Entries.{LinkEntry}
+use Rattle.dump_audit.specs.Findings.{Audit, is_judged, section_offset, process_at, place_of, names_gone}
+use Rattle.dump_audit.specs.declared.audited.Holder.{Holder}
+use Rattle.dump_audit.specs.declared.audited.Partner.{Partner}
+use Rattle.dump_audit.specs.declared.audited.Partner.TheVariants.{At, Gone, Passed}
+
+-- the graph is that of the processes, and it is kept which of them are judged and whether those that are gone are named
+pub record IsKept (a : Audit) (links : List Links) (seen : State) (tests : List Bool) (named : Bool) : Type 0 where
+  pub graph : links ≡ graph_of a.processes
+  pub state : seen ≡ state_of a.index.headers
+  pub judged : tests ≡ map (is_judged a.index) a.processes
+  pub gone : named ≡ names_gone a
+  pub few : length a.processes < 2 ^ 32
+  pub sections : All (IsIn a.index) a.processes
+
+-- the process at a place, with the offset of its section
+pub record IsHolder (a : Audit) (holder : Holder) : Type 0 where
+  pub process : slice_get a.processes holder.p ≡ Some (shown_process holder.process)
+  pub offset : holder.offset ≡ section_offset a.index (shown_process holder.process)
+  pub few : holder.p < 2 ^ 32
+
+-- the process with this pid is judged and stands there; there is none, and that is named; or nothing is said of it
+abbrev pub IsPartner : Audit → List ℕ → Partner → Type 0
+IsPartner a pid (At q) = (place_of a.processes pid ≡ Some q) × (is_judged a.index (process_at a.processes q) ≡ true)
+IsPartner a pid Gone = (place_of a.processes pid ≡ None) × ((names_gone a && is_local pid) ≡ true)
+IsPartner a pid Passed =
+    ((place_of a.processes pid ≡ None) × ((names_gone a && is_local pid) ≡ false))
+    ⊎ ((q : ℕ) × (place_of a.processes pid ≡ Some q) × (is_judged a.index (process_at a.processes q) ≡ false))
+
+-- the entries of a process
+abbrev pub entries_in : Process → List LinkEntry
+entries_in process = (links_of process.links).entries

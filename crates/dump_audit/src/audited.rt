@@ -1,0 +1,100 @@
+// What is audited: the sections, the processes and their links, with what is asked of many of them.
+ghost use Rattle.std.specs.Prelude.{◌≡◌, ◌<◌, length};
+ghost use Rattle.dump_audit.specs.Findings.{section_offset, process_at};
+ghost use Rattle.dump_audit.specs.Inner.Audited.{IsHolder, IsPartner};
+
+use link_graph::{Graph, is_local};
+use process_table::{Proc, Procs};
+use section_index::{Index, State};
+use std::marker::Model;
+
+// A process whose link list and message queue are judged: its place among the processes, and its section's offset.
+#[derive(Clone, Copy)]
+pub(crate) struct Holder<'a> {
+    pub p: usize,
+    pub process: Proc<'a>,
+    pub offset: u64,
+}
+
+// What an entry's partner is.
+#[derive(Clone, Copy)]
+pub(crate) enum Partner {
+    // A process that is judged, at this place.
+    At(usize),
+    // None of the dump's, which is to be named.
+    Gone,
+    // Another, of which nothing is said.
+    Passed,
+}
+
+#[derive(Drop)]
+pub(crate) struct Audited<'a> {
+    pub index: &'a Index,
+    pub procs: &'a Procs,
+    pub graph: &'a Graph<'a>,
+    pub limit: u64,
+    pub mails: Option<&'a [Option<u64>]>,
+    pub state: State,
+    // Which processes are judged.
+    pub judged: &'a [bool],
+    pub names_gone: bool,
+}
+
+impl<'a> Model for Audited<'a> {
+    ghost use Rattle.std.specs.Option.{option_copied};
+    ghost use Rattle.dump_audit.specs.Findings.{Audit};
+    ghost use Rattle.dump_audit.specs.Inner.Audited.{IsKept};
+
+    ghost Value = { Audit };
+
+    ghost view = { λ a. record { index = a.index.now; processes = a.procs.now.processes; limit = a.limit; mails = option_copied a.mails } };
+
+    ghost invariant = { λ a. IsKept (record { index = a.index.now; processes = a.procs.now.processes; limit = a.limit; mails = option_copied a.mails }) a.graph.now a.state a.judged.now a.names_gone };
+}
+
+impl<'a> Audited<'a> {
+    // The offset of the section of the process at a place.
+    pub fn offset(&self, p: usize) -> u64
+        requires { p < length self.now.processes }
+        ensures { result ≡ section_offset self.now.index (process_at self.now.processes p) }
+    {
+        let section = self.procs.at(p).section;
+        self.index.section(section).at
+    }
+
+    // The process at a place.
+    pub fn holder(&self, p: usize) -> Holder<'a>
+        requires { p < length self.now.processes }
+        ensures holder { IsHolder self.now result }
+        ensures place { result.p ≡ p }
+    {
+        let process = self.procs.at(p);
+        Holder {
+            p,
+            process,
+            offset: self.index.section(process.section).at,
+        }
+    }
+
+    // What the process with this pid is to an entry that speaks of it.
+    pub fn partner(&self, pid: &[u8]) -> Partner
+        ensures { IsPartner self.now pid.now result }
+    {
+        match self.procs.get(pid) {
+            Some(q) => {
+                if self.judged[q] {
+                    Partner::At(q)
+                } else {
+                    Partner::Passed
+                }
+            }
+            None => {
+                if self.names_gone && is_local(pid) {
+                    Partner::Gone
+                } else {
+                    Partner::Passed
+                }
+            }
+        }
+    }
+}

@@ -1,0 +1,206 @@
+// The audit of a dump.
+ghost use Rattle.std.specs.Prelude.{◌≡◌, ◌<◌, ◌^◌, ◌&&◌, ◌++◌, not, length, map, All, is_some, None, Some, IfOk, OnOk};
+ghost use Rattle.std.specs.Option.{option_copied, option_map};
+ghost use Rattle.process_table.specs.Processes.{IsIn};
+ghost use Rattle.process_table.specs.Shown.{shown_process};
+ghost use Rattle.link_graph.specs.Texts.{is_local};
+ghost use Rattle.link_graph.specs.Graph.{links_of, graph_of};
+ghost use Rattle.dump_audit.specs.Findings.{audit_of, is_cut, is_whole, is_judged, link_findings, process_findings, process_at, findings};
+ghost use Rattle.dump_audit.specs.Fitting.{Fits};
+ghost use Rattle.dump_audit.specs.declared.finding.Finding.TheVariants.{UnreadLinks};
+ghost use Rattle.dump_audit.specs.Inner.Audited.{IsHolder};
+
+use crate::audited::{Audited, Holder};
+use crate::finding::Finding;
+use crate::linking::push_found;
+use link_graph::{Graph, is_local};
+use process_table::{Proc, Procs};
+use section_index::{Index, State};
+use std::alloc::{AllocError, Global};
+
+// Whether the dump breaks off in the section at this place.
+fn is_cut(state: State, section: usize) -> bool
+    ensures { result ≡ is_cut state section }
+{
+    match state {
+        State::Whole => false,
+        State::TruncatedIn(last) => section == last,
+    }
+}
+
+fn is_whole(state: State) -> bool
+    ensures { result ≡ is_whole state }
+{
+    match state {
+        State::Whole => true,
+        State::TruncatedIn(_) => false,
+    }
+}
+
+fn is_judged(state: State, process: &Proc<'_>, unread: bool) -> bool
+    ensures { result ≡ (not (is_cut state process.now.section) && is_local process.now.pid.now && not unread) }
+{
+    !is_cut(state, process.section) && is_local(process.pid) && !unread
+}
+
+// Which processes are judged.
+fn all_judged(
+    alloc: Global,
+    index: &Index,
+    procs: &Procs,
+    graph: &Graph<'_>,
+) -> Result<Vec<bool>, AllocError>
+    requires { graph.now ≡ graph_of procs.now.processes }
+    ensures judged { IfOk result (λ judged. judged.items ≡ map (is_judged index.now) procs.now.processes) }
+    ensures few { length procs.now.processes < 2 ^ 32 }
+{
+    let state = index.state();
+    let mut judged = Vec::new(alloc);
+    for p in 0..procs.len() {
+        judged.push(is_judged(state, &procs.at(p), graph.unread(p)))?;
+    }
+    Ok(judged)
+}
+
+// What is said of the link list of a process that isn't read.
+fn unread_links(holder: &Holder<'_>) -> Option<Finding>
+    requires { holder.now.p < 2 ^ 32 }
+    ensures { result ≡ option_map (λ line. UnreadLinks holder.now.p line.at holder.now.offset) (shown_process holder.now.process).links }
+{
+    let line = holder.process.links?;
+    Some(Finding::UnreadLinks {
+        p: holder.p as u32,
+        at: line.at,
+        other: holder.offset,
+    })
+}
+
+impl<'a> Audited<'a> {
+    fn is_unread(&self, holder: &Holder<'_>) -> bool
+        requires { IsHolder self.now holder.now }
+        ensures { result ≡ (links_of (shown_process holder.now.process).links).unread }
+    {
+        self.graph.unread(holder.p)
+    }
+
+    // Adds what is said of the link list of a process.
+    fn add_links(&self, holder: &Holder<'_>, findings: &mut Vec<Finding>) -> Result<(), AllocError>
+        requires { IsHolder self.now holder.now }
+        ensures { OnOk result (findings.new.items ≡ findings.old.items
+            ++ link_findings self.now holder.now.p (shown_process holder.now.process)) }
+    {
+        if self.is_unread(holder) {
+            push_found(findings, unread_links(holder))
+        } else if is_local(holder.process.pid) {
+            self.add_entries(holder, findings)
+        } else {
+            Ok(())
+        }
+    }
+
+    // Adds what is said of the process at a place.
+    fn add_process(&self, p: usize, findings: &mut Vec<Finding>) -> Result<(), AllocError>
+        requires { p < length self.now.processes }
+        ensures { OnOk result (findings.new.items ≡ findings.old.items
+            ++ process_findings self.now (p, process_at self.now.processes p)) }
+    {
+        let holder = self.holder(p);
+        if is_cut(self.state, holder.process.section) {
+            return Ok(());
+        }
+        self.add_links(&holder, findings)?;
+        self.add_queue(&holder, findings)
+    }
+
+    fn len(&self) -> usize
+        ensures { result ≡ length self.now.processes }
+    {
+        self.procs.len()
+    }
+
+    fn findings(&self, alloc: Global) -> Result<Vec<Finding>, AllocError>
+        ensures { IfOk result (λ found. found.items ≡ findings self.now) }
+    {
+        let mut found = Vec::new(alloc);
+        for p in 0..self.len() {
+            self.add_process(p, &mut found)?;
+        }
+        Ok(found)
+    }
+}
+
+// Whether the processes that aren't in the dump are named.
+fn names_gone(mails: &Option<&[Option<u64>]>, state: State) -> bool
+    ensures { result ≡ (is_some (option_copied mails.now) && is_whole state) }
+{
+    mails.is_some() && is_whole(state)
+}
+
+fn audited_findings(
+    alloc: Global,
+    index: &Index,
+    procs: &Procs,
+    graph: &Graph<'_>,
+    limit: u64,
+    mails: Option<&[Option<u64>]>,
+) -> Result<Vec<Finding>, AllocError>
+    requires graph { graph.now ≡ graph_of procs.now.processes }
+    requires sections { All (IsIn index.now) procs.now.processes }
+    ensures found { IfOk result (λ found. found.items ≡ findings (audit_of index.now procs.now.processes limit (option_copied mails.entry))) }
+    ensures fits { IfOk result (λ found. All (Fits procs.now.processes) found.items) }
+{
+    let judged = all_judged(alloc, index, procs, graph)?;
+    let state = index.state();
+    let audited = Audited {
+        index,
+        procs,
+        graph,
+        limit,
+        mails,
+        state,
+        judged: &judged,
+        names_gone: names_gone(&mails, state),
+    };
+    audited.findings(alloc)
+}
+
+/// What there is to find in a dump, by process in dump order, and for each process first what its link list shows and
+/// then what its message queue does.
+///
+/// A process counts unless the dump breaks off in its section. A link or a monitor between two such processes of the
+/// dumped node is told where the partner's list is read and doesn't have its counterpart. A message queue is told where
+/// its stated length is above `limit`.
+pub fn audit(
+    alloc: Global,
+    index: &Index,
+    procs: &Procs,
+    graph: &Graph<'_>,
+    limit: u64,
+) -> Result<Vec<Finding>, AllocError>
+    requires graph { graph.now ≡ graph_of procs.now.processes }
+    requires sections { All (IsIn index.now) procs.now.processes }
+    ensures found { IfOk result (λ found. found.items ≡ findings (audit_of index.now procs.now.processes limit None)) }
+    ensures fits { IfOk result (λ found. All (Fits procs.now.processes) found.items) }
+{
+    audited_findings(alloc, index, procs, graph, limit, None)
+}
+
+/// The same with two more kinds of findings: in a whole dump the links and monitors of processes of the dumped node that
+/// aren't in it, and the stated lengths of message queues that aren't the numbers of their messages. `mails` has that
+/// number for each process of the table, in its order, where it is known.
+pub fn audit_full(
+    alloc: Global,
+    index: &Index,
+    procs: &Procs,
+    graph: &Graph<'_>,
+    limit: u64,
+    mails: &[Option<u64>],
+) -> Result<Vec<Finding>, AllocError>
+    requires graph { graph.now ≡ graph_of procs.now.processes }
+    requires sections { All (IsIn index.now) procs.now.processes }
+    requires mails { length mails.now ≡ length procs.now.processes }
+    ensures found { IfOk result (λ found. found.items ≡ findings (audit_of index.now procs.now.processes limit (Some mails.now))) }
+    ensures fits { IfOk result (λ found. All (Fits procs.now.processes) found.items) }
+{
+    audited_findings(alloc, index, procs, graph, limit, Some(mails))
+}

@@ -1,0 +1,14 @@
+//! The audit of a dump: one-sided links and monitors, grown mailboxes, and what can't be read.
+#![tactic(auto)]
+
+mod audited;
+mod auditing;
+mod finding;
+mod linking;
+mod queues;
+
+pub use auditing::{audit, audit_full};
+pub use finding::Finding;
+
+#[cfg(test)]
+mod tests;

@@ -1,0 +1,181 @@
+use crate::{Finding, audit, audit_full};
+use dump_io::{DumpFile, Dumps, HeldDump, Limits};
+use link_graph::Graph;
+use process_table::Procs;
+use section_index::build;
+use std::alloc::Global;
+use std::test::Fail;
+
+// The findings of the dump of a device, with a limit, and in a full audit with the numbers of messages.
+fn findings_of<D: Dumps>(
+    alloc: Global,
+    dumps: &mut D,
+    limit: u64,
+    mails: Option<&[Option<u64>]>,
+) -> Result<Vec<Finding>, Fail> {
+    let limits = Limits::usual();
+    let index = build(alloc, dumps, "F", &limits)?;
+    let procs = Procs::load(alloc, dumps, &index, &limits)?;
+    let graph = Graph::build(alloc, &procs)?;
+    match mails {
+        Some(mails) if mails.len() == procs.len() => {
+            Ok(audit_full(alloc, &index, &procs, &graph, limit, mails)?)
+        }
+        _ => Ok(audit(alloc, &index, &procs, &graph, limit)?),
+    }
+}
+
+fn findings(
+    alloc: Global,
+    sections: &str,
+    limit: u64,
+    mails: Option<&[Option<u64>]>,
+) -> Result<Vec<Finding>, Fail> {
+    let text = format!(in alloc; "=erl_crash_dump:0.5\n{sections}")?;
+    let file = DumpFile::new(
+        String::from_str(alloc, "F")?,
+        Vec::from_slice(alloc, text.as_bytes())?,
+    );
+    findings_of(alloc, &mut HeldDump::new(file), limit, mails)
+}
+
+// The monitored name of the first process answers the monitor of the second, a link to itself is none, and a link to
+// the second is told.
+const LINKED: &str = "=proc:<0.1.0>
+Link list: [<0.2.0>, <0.1.0>, {to,{q,n@h},#Ref<0.0.0.9>}]
+Message queue length: 10
+=proc:<0.2.0>
+Link list: [{from,<0.1.0>,#Ref<0.0.0.9>}]
+=end
+";
+
+const MONITORED: &str = "=proc:<0.1.0>
+Link list: [{to,<0.2.0>,#Ref<0.0.0.1>}]
+=proc:<0.2.0>
+Link list: [{from,<0.1.0>,#Ref<0.0.0.2>}]
+Message queue length: x
+=end
+";
+
+// Of two processes with one pid the first counts, and pids of another node are passed over.
+const UNREAD: &str = "=proc:<0.1.0>
+Link list: x
+Name: a
+=proc:<0.1.0>
+Link list: [<0.2.0>]
+=proc:<7.2.0>
+Link list: [<0.2.0>, <0.1.0>]
+=proc:<0.2.0>
+Link list: [<7.2.0>, <0.1.0>]
+=end
+";
+
+const CUT: &str = "=proc:<0.1.0>
+Link list: [<0.2.0>, <0.9.0>]
+=proc:<0.2.0>
+Message queue length: 9
+";
+
+const GONE: &str = "=proc:<0.1.0>
+Link list: [<0.7.0>, x, {to,<0.8.0>,#Ref<0.1>}, {from,<0.9.0>,#Ref<0.1>}, <7.1.0>]
+Message queue length: 3
+=end
+";
+
+#[test]
+fn links_monitors_and_queues_are_told(rt: HostRuntime) -> Result<(), Fail> {
+    let alloc = rt.alloc();
+    let link = Finding::LinkOneSided {
+        p: 0,
+        q: 1,
+        entry: 0,
+        at: 46,
+        other: 117,
+    };
+    let mailbox = Finding::Mailbox {
+        p: 0,
+        count: 10,
+        at: 92,
+        other: 20,
+    };
+    let found = findings(alloc, LINKED, 10, None)?;
+    assert_eq!(rt; found.as_slice(), [link].as_slice());
+    let found = findings(alloc, LINKED, 9, None)?;
+    assert_eq!(rt; found.as_slice(), [link, mailbox].as_slice());
+    let found = findings(alloc, MONITORED, 5, None)?;
+    let to = Finding::MonitorTo {
+        p: 0,
+        q: 1,
+        entry: 0,
+        at: 46,
+        other: 74,
+    };
+    let from = Finding::MonitorFrom {
+        p: 1,
+        q: 0,
+        entry: 0,
+        at: 100,
+        other: 20,
+    };
+    let unread = Finding::UnreadQueue {
+        p: 1,
+        at: 130,
+        other: 74,
+    };
+    assert_eq!(rt; found.as_slice(), [to, from, unread].as_slice());
+    Ok(())
+}
+
+#[test]
+fn unread_cut_and_other_processes_are_passed_over(rt: HostRuntime) -> Result<(), Fail> {
+    let alloc = rt.alloc();
+    let unread = Finding::UnreadLinks {
+        p: 0,
+        at: 34,
+        other: 20,
+    };
+    let found = findings(alloc, UNREAD, 0, None)?;
+    assert_eq!(rt; found.as_slice(), [unread].as_slice());
+    let found = findings(alloc, CUT, 0, None)?;
+    assert_eq!(rt; found.as_slice(), [].as_slice());
+    let found = findings(alloc, CUT, 0, Some(&[None, Some(1)]))?;
+    assert_eq!(rt; found.as_slice(), [].as_slice());
+    Ok(())
+}
+
+#[test]
+fn a_full_audit_tells_what_is_gone_and_miscounted(rt: HostRuntime) -> Result<(), Fail> {
+    let alloc = rt.alloc();
+    let found = findings(alloc, GONE, 3, None)?;
+    assert_eq!(rt; found.as_slice(), [].as_slice());
+    let link = Finding::LinkGone {
+        p: 0,
+        entry: 0,
+        at: 46,
+        other: 20,
+    };
+    let to = Finding::ToGone {
+        p: 0,
+        entry: 2,
+        at: 58,
+        other: 20,
+    };
+    let from = Finding::FromGone {
+        p: 0,
+        entry: 3,
+        at: 82,
+        other: 20,
+    };
+    let count = Finding::QueueCount {
+        p: 0,
+        stated: 3,
+        found: 2,
+        at: 117,
+        other: 20,
+    };
+    let found = findings(alloc, GONE, 3, Some(&[Some(2)]))?;
+    assert_eq!(rt; found.as_slice(), [link, to, from, count].as_slice());
+    let found = findings(alloc, GONE, 3, Some(&[Some(3)]))?;
+    assert_eq!(rt; found.as_slice(), [link, to, from].as_slice());
+    Ok(())
+}

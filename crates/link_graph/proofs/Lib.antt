@@ -1,0 +1,10 @@
+pub mod Closed
+pub mod Commas
+pub mod Counts
+pub mod CutLaws
+pub mod Cuts
+pub mod Examples
+pub mod Fronts
+pub mod KindLaws
+pub mod Sets
+pub mod Taken

@@ -1,0 +1,15 @@
+use Rattle.std.proofs.Common.{sym, ◌∙◌, ap, take, ◌++◌, ◌∷◌, []}
+use Rattle.section_rows.specs.Shown.{shown_cell}
+use Rattle.process_table.specs.Shown.{shown_process}
+use Rattle.link_graph.specs.Graph.{links_of, graph_of}
+use Rattle.link_graph.proofs.Taken.{map-at}
+use Rattle.link_graph.proofs.graph.Graph.build.Goals as goal
+
+pub loop-p-preserved : goal.loop-p-preserved
+loop-p-preserved c =
+    let processes = c.args.procs.now.processes in
+    let process = shown_process c.at.result in
+    c.in_ok-push.ensures.items
+    ∙ ap (λ lists. lists ++ c.in_ok-links.field-0 ∷ []) c.loop-p.invariant
+    ∙ ap (λ links. graph_of (take c.loop-p.p processes) ++ links ∷ []) c.in_ok-links.ensures
+    ∙ sym (map-at (λ process. links_of process.links) processes c.loop-p.p process c.at.ensures)

@@ -1,0 +1,91 @@
+// The kind of an entry.
+ghost use Rattle.std.specs.Prelude.{◌≡◌};
+ghost use Rattle.std.specs.Option.{option_map, option_copied};
+ghost use Rattle.link_graph.specs.Reading.{at_last_comma, parties, to_kind, from_kind, monitor_kind, kind_of};
+ghost use Rattle.link_graph.specs.Seen.{both, shown_kind};
+
+use crate::shapes::EntryKind;
+use crate::texts::{inside, is_braced, is_pid, is_port, is_reference};
+use memchr::memrchr;
+
+fn at_last_comma(text: &[u8]) -> Option<(&[u8], &[u8])>
+    ensures { option_map both result ≡ at_last_comma text.now }
+{
+    let comma = memrchr(b',', text)?;
+    Some((&text[..comma], &text[comma + 1..]))
+}
+
+// The partner and the reference of a monitor, from what stands between its opening and its `}`.
+#[tactic(auto, unfolding(crate::specs::Reading::parties))]
+fn parties(text: &[u8]) -> Option<(&[u8], &[u8])>
+    ensures { option_map both result ≡ parties text.now }
+{
+    let (partner, reference) = at_last_comma(text)?;
+    if is_reference(reference) {
+        Some((partner, reference))
+    } else {
+        None
+    }
+}
+
+#[tactic(auto, unfolding(crate::specs::Reading::to_kind))]
+fn to_kind<'a>(partner: &'a [u8], reference: &'a [u8]) -> EntryKind<'a>
+    ensures { shown_kind result ≡ to_kind (partner.now, reference.now) }
+{
+    if is_pid(partner) {
+        EntryKind::To(partner, reference)
+    } else if is_port(partner) {
+        EntryKind::ToPort
+    } else if is_braced(partner) {
+        EntryKind::ToName(reference)
+    } else {
+        EntryKind::Other
+    }
+}
+
+#[tactic(auto, unfolding(crate::specs::Reading::from_kind))]
+fn from_kind<'a>(partner: &'a [u8], reference: &'a [u8]) -> EntryKind<'a>
+    ensures { shown_kind result ≡ from_kind (partner.now, reference.now) }
+{
+    if is_pid(partner) {
+        EntryKind::From(partner, reference)
+    } else if is_port(partner) {
+        EntryKind::FromPort
+    } else {
+        EntryKind::Other
+    }
+}
+
+// The kind of a text, by the monitor that it opens as.
+#[tactic(auto, unfolding(crate::specs::Reading::monitor_kind))]
+fn monitor_kind<'a>(to: Option<&'a [u8]>, from: Option<&'a [u8]>) -> EntryKind<'a>
+    ensures { shown_kind result ≡ monitor_kind (option_copied to.entry) (option_copied from.entry) }
+{
+    if let Some(to) = to {
+        return match parties(to) {
+            None => EntryKind::Other,
+            Some((partner, reference)) => to_kind(partner, reference),
+        };
+    }
+    if let Some(from) = from {
+        return match parties(from) {
+            None => EntryKind::Other,
+            Some((partner, reference)) => from_kind(partner, reference),
+        };
+    }
+    EntryKind::Other
+}
+
+// What a text says as an entry.
+#[tactic(auto, unfolding(crate::specs::Reading::kind_of))]
+pub(crate) fn kind(text: &[u8]) -> EntryKind<'_>
+    ensures { shown_kind result ≡ kind_of text.now }
+{
+    if is_pid(text) {
+        return EntryKind::Link(text);
+    }
+    if is_port(text) {
+        return EntryKind::LinkPort;
+    }
+    monitor_kind(inside(text, b"{to,", b"}"), inside(text, b"{from,", b"}"))
+}
