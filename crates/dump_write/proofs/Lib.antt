@@ -1,0 +1,11 @@
+pub mod Accepting
+pub mod Appends
+pub mod Divided
+pub mod TextLists
+pub mod Weights
+pub mod HeapWeights
+pub mod LineTexts
+pub mod MadeDump
+pub mod MadeTexts
+pub mod Numerals
+pub mod OneLine

@@ -1,0 +1,4 @@
+pub mod Heaps
+pub mod Inner
+pub mod Made
+pub mod Written

@@ -1,0 +1,29 @@
+// The law of made dumps.
+ghost use Rattle.std.specs.Prelude.{◌≡◌, ◌+◌, ◌*◌, ◌≤◌, ℕ, List, All, length};
+ghost use Rattle.dump_io.specs.Limits.{usual};
+ghost use Rattle.dump_io.specs.Lines.{headers};
+ghost use Rattle.section_index.specs.Bodies.{body_length};
+ghost use Rattle.section_index.specs.Index.{Contents, state_of};
+ghost use Rattle.section_index.specs.Opening.{IsAccepted};
+ghost use Rattle.section_index.specs.Sections.{sections};
+ghost use Rattle.section_index.specs.declared.index.State.TheVariants.{Whole};
+ghost use Rattle.dump_write.specs.Heaps.{heap_weight};
+ghost use Rattle.dump_write.specs.Made.{made};
+
+use term_forms::{Enc, form_is_read, number_is_read};
+
+/// A law, and no work: a made dump is accepted under the usual limits, it is whole, it has five sections
+/// for each process and five more, and none of its bodies and none of its heaps passes a usual limit.
+pub fn made_dump_is_accepted(seed: u64, count: u32)
+    requires some { 1 ≤ count }
+    requires few { count ≤ 200000 }
+    ensures accepted { IsAccepted (made seed count) usual }
+    ensures whole { state_of (headers (made seed count)) ≡ Whole }
+    ensures sections { length (sections (made seed count)) ≡ 5 * count + 5 }
+    ensures bodies { All (λ section. body_length section ≤ usual.section) (sections (made seed count)) }
+    ensures heaps { (index : Contents) (pid : List ℕ) → heap_weight (made seed count) index pid ≤ usual.dense }
+{
+    number_is_read();
+    form_is_read(Enc::Hex);
+    form_is_read(Enc::Base64);
+}

@@ -1,0 +1,17 @@
+//! A writer of crash dumps, line by line, and a generator of whole dumps.
+//!
+//! [`put_header`], [`put_line`] and [`put_heap`] append a line to a vector. [`make`] makes the dump of a node
+//! with so many processes, on which a reader of dumps can be tried.
+#![tactic(auto)]
+
+mod appending;
+mod laws;
+mod made;
+mod writing;
+
+pub use laws::made_dump_is_accepted;
+pub use made::make;
+pub use writing::{put_header, put_heap, put_line};
+
+#[cfg(test)]
+mod tests;
