@@ -1,14 +1,14 @@
 -- The keys of a flat map, by its elements.
-use Rattle.std.proofs.Common.{◌≡◌, ℕ, ◌-◌, ◌≤◌, List, [], ◌∷◌, length, get_or, Option, None, Some, refl, sym, ◌∙◌, ap, subst, arith}
+use Rattle.std.proofs.Common.{◌≡◌, ℕ, ◌-◌, ◌≤◌, List, [], ◌∷◌, length, get_or, Option, None, Some, sym, ◌∙◌, ap, arith}
 use Rattle.std.specs.Option.{option_map}
-use Rattle.term_forms.specs.Elements.{Element, Nil, Ref}
+use Rattle.term_forms.specs.Elements.{Nil}
 use Rattle.term_forms.specs.Forms.{HeapForm, Cons, Tuple, Float, Long, Pid, Port, Ext, HeapBin, RefBin, SubBin, Flat, Hash, Node}
 use Rattle.heap_cells.specs.Cells.{Cell, kind_of, elements_in}
 use Rattle.heap_cells.specs.HeapMap.{form_at, elements_at}
 use Rattle.heap_cells.specs.Targets.{At, target}
 use Rattle.heap_cells.specs.declared.cells.Kind.TheVariants as kinds
 use Rattle.map_nodes.specs.Laws.Targets.{leads-at}
-use Rattle.map_nodes.specs.Rules.{Keys, address_of, form_keys, element_keys, cell_keys, tuple_keys, keys_of_cell}
+use Rattle.map_nodes.specs.Rules.{address_of, form_keys, element_keys, cell_keys, tuple_keys, keys_of_cell}
 
 form-keyed : (heap : List Cell) (map : ℕ) (form : Option HeapForm) → option_map kind_of form ≡ Some kinds.Flat → 2 ≤ length (elements_in form)
     → form_keys heap map form ≡ element_keys heap map (length (elements_in form) - 1) (get_or (elements_in form) 0 Nil)

@@ -1,7 +1,7 @@
 -- What the answers say.
-use Rattle.std.specs.Prelude.{◌≡◌, ◌⊎◌, ℕ, ◌<◌, List, length, Some}
+use Rattle.std.specs.Prelude.{◌≡◌, ℕ, ◌<◌, List, length, Some}
 use Rattle.term_forms.specs.Elements.{Element}
-use Rattle.term_forms.specs.Forms.{HeapForm, Cons}
+use Rattle.term_forms.specs.Forms.{Cons}
 use Rattle.heap_cells.specs.Cells.{Cell}
 use Rattle.heap_cells.specs.HeapMap.{form_at, elements_at}
 use Rattle.heap_cells.specs.Targets.{number}

@@ -1,7 +1,7 @@
 -- The maps of a heap: what the keys of a flat map are, and what the children of a hash map are. The ancestors play no part here.
 use Rattle.std.specs.Prelude.{ℕ, ◌==◌, List, [], ◌∷◌, length, Option, None, Some, slice_index_or, if◌then◌else◌}
-use Rattle.term_forms.specs.Elements.{Element, Nil, Small, Atom, Pid, Port, Ref}
-use Rattle.term_forms.specs.Forms.{HeapForm, Cons, Tuple, Flat, Hash, Node}
+use Rattle.term_forms.specs.Elements.{Element, Nil, Ref}
+use Rattle.term_forms.specs.Forms.{HeapForm, Cons, Tuple, Flat, Node}
 use Rattle.std.specs.Option.{option_map, unwrap_or}
 use Rattle.heap_cells.specs.Cells.{Cell}
 use Rattle.heap_cells.specs.HeapMap.{number_at, address_at, form_at, elements_at}

@@ -1,4 +1,4 @@
-use Rattle.std.proofs.Common.{◌-◌, subst, sym, arith, ◌∙◌, ap}
+use Rattle.std.proofs.Common.{◌-◌, subst, sym, arith, ap}
 use Rattle.heap_cells.specs.HeapMap.{elements_at}
 use Rattle.heap_cells.specs.Targets.{number}
 use Rattle.heap_cells.specs.declared.cells.Slot.TheVariants as slot
