@@ -1,12 +1,12 @@
 // The bytes of whole binaries.
-ghost use Rattle.std.specs.Prelude.{◌≡◌, ℕ, ◌<◌, List, length, slice_get, Some, None, IfSome, IfOk, IfErr, OnOk, IsErrOf, OnErr};
+ghost use Rattle.std.specs.Prelude.{◌≡◌, ℕ, ◌<◌, List, length, Some, None, IfSome, IfOk, IfErr, OnOk, IsErrOf};
 ghost use Rattle.std.specs.Option.{option_map, option_copied};
 ghost use Rattle.dump_io.specs.Dumps.{told, used, ReadsAtMost};
 ghost use Rattle.section_index.specs.Bodies.{section_at, body_length};
 ghost use Rattle.section_index.specs.Index.{IsBuiltOver};
 ghost use Rattle.heap_cells.specs.Loading.{enc_of};
 ghost use Rattle.binary_refs.specs.Previews.{payload_of, binary_section};
-ghost use Rattle.binary_refs.specs.Wholes.{first_text, bytes_of_text, bytes_of_body, whole_bytes, IsBadFor, IsBinCauseOf, found_length, refused};
+ghost use Rattle.binary_refs.specs.Wholes.{first_text, bytes_of_body, whole_bytes, IsBadFor, IsBinCauseOf, found_length, refused};
 ghost use Rattle.binary_refs.specs.Inner.Leads.{body_at, bytes_in, bin_fault};
 
 use crate::faults::BinFault;

@@ -25,15 +25,18 @@ pub record Audit : Type 0 where
   pub limit : ℕ
   pub mails : Option (List (Option ℕ))
 
+-- these as one value
 abbrev pub audit_of : Contents → List Process → ℕ → Option (List (Option ℕ)) → Audit
 audit_of index processes limit mails = record { index = index; processes = processes; limit = limit; mails = mails }
 
 -- ---- which processes count
+
 -- the dump breaks off in the section at this place
 abbrev pub is_cut : State → ℕ → Bool
 is_cut Whole section = false
 is_cut (TruncatedIn last) section = section == last
 
+-- the dump has its end
 abbrev pub is_whole : State → Bool
 is_whole Whole = true
 is_whole (TruncatedIn last) = false
@@ -52,6 +55,7 @@ abbrev pub section_offset : Contents → Process → ℕ
 section_offset index process = (section_at index process.section).at
 
 -- ---- links and monitors
+
 -- the pid that an entry speaks of
 abbrev pub partner_pid : Kind → Option (List ℕ)
 partner_pid (Link pid) = Some pid
@@ -66,6 +70,7 @@ counterparts pid (To partner reference) = From pid reference ∷ []
 counterparts pid (From partner reference) = To pid reference ∷ ToName reference ∷ []
 counterparts pid kind = []
 
+-- the partner has one of the entries that it should have
 abbrev pub is_answered : List ℕ → Kind → Links → Bool
 is_answered pid kind partner = list_any (λ counterpart. has_kind counterpart partner.entries) (counterparts pid kind)
 
@@ -92,6 +97,7 @@ gone kind p entry at other = None
 abbrev pub nobody : Process
 nobody = record { section = 0; pid = []; state = None; name = None; queue = None; memory = None; links = None }
 
+-- the process at a place
 abbrev pub process_at : List Process → ℕ → Process
 process_at processes p = unwrap_or (slice_get processes p) nobody
 
@@ -112,6 +118,7 @@ partner_finding a p process entry at kind pid (Some q) =
 partner_finding a p process entry at kind pid None =
     if names_gone a && is_local pid then gone kind p entry at (section_offset a.index process) else None
 
+-- what is said of an entry of a process, by its partner
 abbrev pub entry_finding : Audit → ℕ → Process → ℕ → ℕ → Kind → Option Finding
 entry_finding a p process entry at kind =
     option_and_then (λ pid. partner_finding a p process entry at kind pid (place_of a.processes pid)) (partner_pid kind)
@@ -128,14 +135,17 @@ link_findings a p process =
     else (if is_local process.pid then entry_findings a p process links.entries else [])
 
 -- ---- message queues
+
 -- how many messages a process has, in a full audit and where that is known
 abbrev pub mail_of : Audit → ℕ → Option ℕ
 mail_of a p = option_and_then (λ mails. option_flatten (slice_get mails p)) a.mails
 
+-- what is said of a stated length beside the number of messages, where that is known
 abbrev pub count_findings : ℕ → Kept → ℕ → ℕ → Option ℕ → List Finding
 count_findings p line other stated None = []
 count_findings p line other stated (Some found) = if found == stated then [] else QueueCount p stated found line.at other ∷ []
 
+-- what is said of a stated length, where it is a number: it is above the limit, or isn't the number of messages
 abbrev pub stated_findings : Audit → ℕ → Kept → ℕ → Option ℕ → List Finding
 stated_findings a p line other None = UnreadQueue p line.at other ∷ []
 stated_findings a p line other (Some stated) =
@@ -147,6 +157,8 @@ queue_findings a p process None = []
 queue_findings a p process (Some line) = stated_findings a p line (section_offset a.index process) (dec_number line.text)
 
 -- ---- all processes
+
+-- what is said of a process: of its link list, then of its message queue
 abbrev pub process_findings : Audit → ℕ × Process → List Finding
 process_findings a (p, process) =
     if is_dumped a.index process then link_findings a p process ++ queue_findings a p process process.queue else []

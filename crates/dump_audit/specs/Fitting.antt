@@ -7,14 +7,17 @@ use Rattle.dump_audit.specs.Findings.{process_at}
 use Rattle.dump_audit.specs.declared.finding.Finding.{Finding}
 use Rattle.dump_audit.specs.declared.finding.Finding.TheVariants.{LinkOneSided, MonitorTo, MonitorFrom, Mailbox, UnreadLinks, UnreadQueue, LinkGone, ToGone, FromGone, QueueCount}
 
+-- the entry is a link to a pid
 abbrev pub is_link : Kind → Bool
 is_link (Link pid) = true
 is_link kind = false
 
+-- the entry is a monitor of a pid
 abbrev pub is_to : Kind → Bool
 is_to (To pid reference) = true
 is_to kind = false
 
+-- the entry is a monitor by a pid
 abbrev pub is_from : Kind → Bool
 is_from (From pid reference) = true
 is_from kind = false

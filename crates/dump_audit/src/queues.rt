@@ -1,7 +1,6 @@
 // What is said of message queues.
 ghost use Rattle.std.specs.Prelude.{◌≡◌, ◌++◌, OnOk};
-ghost use Rattle.dump_io.specs.Numbers.{dec_number};
-ghost use Rattle.section_rows.specs.Shown.{shown_kept, shown_cell};
+ghost use Rattle.section_rows.specs.Shown.{shown_kept};
 ghost use Rattle.process_table.specs.Shown.{shown_process};
 ghost use Rattle.dump_audit.specs.Findings.{mail_of, stated_findings, queue_findings};
 ghost use Rattle.dump_audit.specs.Inner.Audited.{IsHolder};

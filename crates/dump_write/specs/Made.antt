@@ -27,6 +27,7 @@ link_list queue next previous =
     if queue == 0 then concat (codes "Link list: [<0." ∷ decimal next ∷ codes ".0>]" ∷ [])
     else concat (codes "Link list: [<0." ∷ decimal next ∷ codes ".0>, <0." ∷ decimal previous ∷ codes ".0>]" ∷ [])
 
+-- the process: waiting, with a name, the length of its mailbox, its links and its memory
 abbrev pub proc_section : ℕ → ℕ → ℕ → ℕ → List (List ℕ)
 proc_section i queue next previous =
     concat (codes "=proc:<0." ∷ decimal i ∷ codes ".0>" ∷ [])
@@ -41,9 +42,11 @@ proc_section i queue next previous =
 abbrev pub stack_section : ℕ → List (List ℕ)
 stack_section i = concat (codes "=proc_stack:<0." ∷ decimal i ∷ codes ".0>" ∷ []) ∷ concat (codes "y0:H" ∷ hexadecimal (heap_of i) ∷ []) ∷ []
 
+-- the dictionary's root is the heap's third cell
 abbrev pub dictionary_section : ℕ → List (List ℕ)
 dictionary_section i = concat (codes "=proc_dictionary:<0." ∷ decimal i ∷ codes ".0>" ∷ []) ∷ concat (codes "H" ∷ hexadecimal (heap_of i + 32) ∷ []) ∷ []
 
+-- each message is a one without a token
 abbrev pub messages_section : ℕ → ℕ → List (List ℕ)
 messages_section i queue = concat (codes "=proc_messages:<0." ∷ decimal i ∷ codes ".0>" ∷ []) ∷ replicate queue (codes "I1:N")
 
@@ -63,6 +66,7 @@ cells i queue heap =
     ∷ concat (hexadecimal (heap + 64) ∷ codes ":Yc20:1:3" ∷ [])
     ∷ []
 
+-- the heap has five cells
 abbrev pub heap_section : ℕ → ℕ → List (List ℕ)
 heap_section i queue = concat (codes "=proc_heap:<0." ∷ decimal i ∷ codes ".0>" ∷ []) ∷ cells i queue (heap_of i)
 
@@ -72,9 +76,11 @@ sections_with count i queue =
     proc_section i queue (next_of count i) (previous_of count i)
     ++ (stack_section i ++ (dictionary_section i ++ (messages_section i queue ++ heap_section i queue)))
 
+-- the sections of process i
 abbrev pub process_sections : ℕ → ℕ → ℕ → List (List ℕ)
 process_sections seed count i = sections_with count i (queue_of seed i)
 
+-- what stands before the processes
 abbrev pub first_sections : ℕ → ℕ → List (List ℕ)
 first_sections seed count =
     codes "=erl_crash_dump:0.5"
@@ -83,6 +89,7 @@ first_sections seed count =
     ∷ concat (codes "total: " ∷ decimal (1000 * count) ∷ [])
     ∷ []
 
+-- what stands behind the processes: a literal, a binary and the end
 abbrev pub last_sections : List (List ℕ)
 last_sections =
     codes "=literals"

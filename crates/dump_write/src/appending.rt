@@ -1,7 +1,6 @@
 // Texts and lines are appended to a vector.
-ghost use Rattle.std.specs.Prelude.{◌≡◌, ◌++◌, Some, OnOk, decimal};
+ghost use Rattle.std.specs.Prelude.{◌≡◌, ◌++◌, Some, OnOk};
 ghost use Rattle.std.specs.List.{flat_map};
-ghost use Rattle.dump_io.specs.Numbers.{hexadecimal};
 ghost use Rattle.dump_io.specs.Pieces.{piece_text, pieces_text};
 ghost use Rattle.dump_io.specs.Sinks.{WritesAll};
 ghost use Rattle.dump_write.specs.Inner.Pieces.{pieces_line};

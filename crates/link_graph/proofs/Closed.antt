@@ -1,10 +1,10 @@
 -- Which texts are lists.
-use Rattle.std.proofs.Common.{◌≡◌, ℕ, List, ◌++◌, Option, Some, None, refl, ◌∙◌, ap}
+use Rattle.std.proofs.Common.{◌≡◌, ℕ, List, Option, Some, None, refl, ◌∙◌, ap}
 use Rattle.std.specs.Prelude.{◌↔◌, IsSome, is_some, codes, map}
 use Rattle.std.proofs.lemmas.Bool.{false≢true}
 use Rattle.std.specs.Option.{option_map}
 use Rattle.link_graph.specs.Texts.{inside}
-use Rattle.link_graph.specs.Entries.{LinkEntry, parts_of, entry_of, entries_of, IsList}
+use Rattle.link_graph.specs.Entries.{parts_of, entry_of, entries_of, IsList}
 use Rattle.link_graph.proofs.Fronts.{inside_around, inside_parts}
 
 pub list_is : (text : List ℕ) → IsSome (entries_of text) ↔ IsList text

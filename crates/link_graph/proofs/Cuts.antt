@@ -1,11 +1,11 @@
 -- The parts of a text, from a place on.
-use Rattle.std.proofs.Common.{◌≡◌, ◌≢◌, ℕ, zero, suc, ◌+◌, ◌-◌, ◌<◌, ◌≤◌, ◌==◌, ◌&&◌, Bool, true, false, List, [], ◌∷◌, ◌++◌, length, take, drop, refl, sym, ◌∙◌, ap, subst, arith, if◌then◌else◌, append_assoc}
+use Rattle.std.proofs.Common.{◌≡◌, ◌≢◌, ℕ, zero, suc, ◌+◌, ◌-◌, ◌<◌, ◌≤◌, ◌==◌, ◌&&◌, false, List, [], ◌∷◌, ◌++◌, length, take, drop, refl, sym, ◌∙◌, ap, subst, arith, if◌then◌else◌}
 use Rattle.std.specs.Prelude.{slice_index}
 use Rattle.std.proofs.lemmas.Bool.{eqb-true, false_from_ne_true, ne_eqb}
 use Rattle.std.proofs.lemmas.List.{drop_more, drop-drop, length-drop, get_or-drop, append-nil, take-append-drop}
 use Rattle.std.proofs.Math.Seq.{take-add, take-suc, take-length, drop-length}
 use Rattle.memchr.specs.Find.{Passes, is_byte, Nowhere, NoneBefore}
-use Rattle.link_graph.specs.Entries.{is_gap, led_by, cut}
+use Rattle.link_graph.specs.Entries.{led_by, cut}
 
 -- parts with a front before the first of them
 abbrev pub lead : List ℕ → List (List ℕ) → List (List ℕ)

@@ -1,11 +1,11 @@
 -- A text is of the kind that is read, and of no other.
-use Rattle.std.proofs.Common.{◌≡◌, ℕ, Bool, true, false, ◌&&◌, ◌||◌, List, [], ◌∷◌, ◌++◌, Option, Some, None, refl, sym, ◌∙◌, ap, subst, if◌then◌else◌, append_assoc, inl, inr}
+use Rattle.std.proofs.Common.{◌≡◌, ℕ, Bool, true, false, ◌||◌, List, [], ◌∷◌, ◌++◌, Option, Some, None, refl, sym, ◌∙◌, ap, subst, if◌then◌else◌, append_assoc, inl, inr}
 use Rattle.std.specs.Prelude.{◌⊎◌, ◌==◌, ◌↔◌, codes, nat_lt, length}
 use Rattle.std.specs.Option.{is_some, option_map_or}
 use Rattle.std.specs.List.{list_all}
 use Rattle.std.specs.Char.{is_ascii_digit}
 use Rattle.std.proofs.lemmas.Bool.{false≢true, and_parts, eqb-true}
-use Rattle.link_graph.specs.Texts.{◌>>=◌, behind, before, inside, is_dot, is_dotted, is_pid, is_port, is_reference, is_braced}
+use Rattle.link_graph.specs.Texts.{◌>>=◌, behind, inside, is_dot, is_dotted, is_pid, is_port, is_reference, is_braced}
 use Rattle.link_graph.specs.Kinds.{Kind, Link, LinkPort, To, ToPort, ToName, From, FromPort, Other, to_opening, from_opening, IsMonitor, Spells, IsKind}
 use Rattle.link_graph.specs.Reading.{is_comma, at_last_comma, parties, to_kind, from_kind, monitor_kind, kind_of}
 use Rattle.link_graph.proofs.Fronts.{inside_around, inside_parts}

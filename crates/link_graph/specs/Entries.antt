@@ -9,6 +9,7 @@ use Rattle.link_graph.specs.Reading.{kind_of}
 abbrev pub gap : List ℕ
 gap = codes ", "
 
+-- these two bytes are a gap
 abbrev pub is_gap : ℕ → ℕ → Bool
 is_gap c d = c == 44 && d == 32
 
@@ -43,6 +44,7 @@ abbrev pub parts_left : ℕ → Option (List ℕ) → List Part
 parts_left end None = []
 parts_left end (Some rest) = parts_from (end - length rest) (cut rest)
 
+-- a rest has no more bytes than stand before the offset
 abbrev pub EndsBy : ℕ → Option (List ℕ) → Type 0
 EndsBy end None = Unit {0}
 EndsBy end (Some rest) = length rest ≤ end
@@ -62,6 +64,7 @@ pub record LinkEntry : Type 0 where
   pub text : List ℕ
   pub kind : Kind
 
+-- the entry that a part is
 abbrev pub entry_of : Part → LinkEntry
 entry_of part = record { at = part.at; text = part.text; kind = kind_of part.text }
 

@@ -14,9 +14,11 @@ pub data Kind : Type 0 where
   FromPort : Kind
   Other : Kind
 
+-- how a monitor that the process holds begins
 abbrev pub to_opening : List ℕ
 to_opening = codes "{to,"
 
+-- how a monitor of the process begins
 abbrev pub from_opening : List ℕ
 from_opening = codes "{from,"
 

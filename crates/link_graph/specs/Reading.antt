@@ -5,6 +5,7 @@ use Rattle.std.specs.Option.{option_map, option_map_or, option_or}
 use Rattle.link_graph.specs.Texts.{◌>>=◌, inside, is_pid, is_port, is_reference, is_braced}
 use Rattle.link_graph.specs.Kinds.{Kind, Link, LinkPort, To, ToPort, ToName, From, FromPort, Other, to_opening, from_opening}
 
+-- whether a byte is a comma
 abbrev pub is_comma : ℕ → Bool
 is_comma c = c == 44
 
@@ -18,11 +19,13 @@ at_last_comma (c ∷ text) =
 unfoldable pub parties : List ℕ → Option (List ℕ × List ℕ)
 parties text = at_last_comma text >>= λ found. if is_reference found.1 then Some found else None
 
+-- the kind of a monitor that the process holds, by its partner
 unfoldable pub to_kind : List ℕ × List ℕ → Kind
 to_kind found =
     if is_pid found.0 then To found.0 found.1
     else (if is_port found.0 then ToPort else (if is_braced found.0 then ToName found.1 else Other))
 
+-- the kind of a monitor of the process, by its partner
 unfoldable pub from_kind : List ℕ × List ℕ → Kind
 from_kind found = if is_pid found.0 then From found.0 found.1 else (if is_port found.0 then FromPort else Other)
 
@@ -32,6 +35,7 @@ monitor_kind (Some to) from = option_map_or to_kind (parties to) Other
 monitor_kind None (Some from) = option_map_or from_kind (parties from) Other
 monitor_kind None None = Other
 
+-- the kind of a text: a pid, a port or a monitor, and else `Other`
 unfoldable pub kind_of : List ℕ → Kind
 kind_of text =
     if is_pid text then Link text

@@ -4,6 +4,7 @@ use Rattle.std.specs.List.{list_all, ends_with, position}
 use Rattle.std.specs.Option.{is_some, option_and_then, option_map_or}
 use Rattle.std.specs.Char.{is_ascii_digit}
 
+-- a value, and what is read of it
 infixl 10 ◌>>=◌
 abbrev pub ◌>>=◌ : {A B : Type 0} → Option A → (A → Option B) → Option B
 o >>= f = option_and_then f o
@@ -22,6 +23,7 @@ before back text = if ends_with nat_eq text back then Some (take (length text - 
 unfoldable pub inside : List ℕ → List ℕ → List ℕ → Option (List ℕ)
 inside front back text = behind front text >>= before back
 
+-- whether a byte is a dot
 abbrev pub is_dot : ℕ → Bool
 is_dot c = c == 46
 

@@ -1,5 +1,5 @@
 // The link list of one process.
-ghost use Rattle.std.specs.Prelude.{◌≡◌, ◌+◌, ◌^◌, ◌<◌, [], length, map, slice_get, Some, None, IfOk};
+ghost use Rattle.std.specs.Prelude.{◌≡◌, ◌+◌, ◌^◌, ◌<◌, length, map, slice_get, Some, IfOk};
 ghost use Rattle.std.specs.List.{list_any};
 ghost use Rattle.link_graph.specs.Kinds.{is_same_kind};
 ghost use Rattle.link_graph.specs.Entries.{entries_at};

@@ -1,4 +1,4 @@
-use Rattle.std.proofs.Common.{◌≡◌, ◌-◌, ◌≤◌, length}
+use Rattle.std.proofs.Common.{◌-◌, ◌≤◌, length}
 use Rattle.link_graph.proofs.Cuts.{IsCutTo}
 use Rattle.link_graph.proofs.cutting.first_gap.Given as goal
 

@@ -1,5 +1,4 @@
 use Rattle.std.proofs.Common.{sym, ◌∙◌, ap, take, ◌++◌, ◌∷◌, []}
-use Rattle.section_rows.specs.Shown.{shown_cell}
 use Rattle.process_table.specs.Shown.{shown_process}
 use Rattle.link_graph.specs.Graph.{links_of, graph_of}
 use Rattle.link_graph.proofs.Taken.{map-at}
