@@ -1,9 +1,9 @@
 #!/bin/sh
 # Times `edump index` and `edump info` on a dump of 1 GiB, once with 500,000 and once with 900,000 sections, warm,
-# beside a C loop and grep; then `edump procs` on a dump of 1 GiB with 200,000 processes, beside `edump index`; and
-# then the reading of a heap of a million list cells through `heap_line` and `form`. Each command runs in turn for a
-# number of rounds; the script prints its median in seconds, how many times that of the C loop this is, or of
-# `edump index`, and the most memory that it had.
+# beside a C loop and grep; then `edump procs` on a dump of 1 GiB with 200,000 processes, beside `edump index`; then the
+# load of heaps, beside the reading of their lines through `heap_line` and `form`, and the walk of a term; then the
+# previews of binaries; and then `edump audit` beside `edump procs`. Each command runs in turn for a number of rounds;
+# the script prints its median in seconds, how many times that of another this is, and the most memory that it had.
 #
 #   bench/run.sh [ROUNDS]
 #
@@ -18,7 +18,7 @@ bench="$folder/bench"
 dump="$folder/dump"
 edump="$here/../crates/edump/out/edump"
 heap_bench="$here/../crates/heap_bench/out/heap_bench"
-(cd "$here/../crates/heap_bench" && rt run -- data/small.heap) >"$folder/build.log" 2>&1 || exit 1
+(cd "$here/../crates/heap_bench" && rt run -- lines data/small.heap) >"$folder/build.log" 2>&1 || exit 1
 
 # One round of a command: the name of its times, the file for its output, and the command.
 round() {
@@ -77,8 +77,57 @@ for name in index procs; do sort -n -k 2 "$folder/$name.times" | tail -n 1; done
     awk -v kept="$kept" -v count="$processes" \
         '{ most[NR] = $2 * 1024 } END { printf "%.0f bytes a process beside the index and the %d bytes that are kept of it\n", (most[2] - most[1] - kept) / count, kept / count }'
 rm -f "$dump"
-"$bench" heap "$folder/heap" 1000000 || exit 1
-for _ in $(seq "$rounds"); do
-    round cells "$folder/count" "$heap_bench" "$folder/heap"
+
+# Heaps: the reading of the lines alone, the load of the heap, and the walk of its one term.
+for shape in "list 1000000 0" "list 10000000 1" "tuples 1000000"; do
+    rm -f "$folder"/*.times
+    # shellcheck disable=SC2086
+    set -- $shape
+    "$bench" "$1" "$dump" "$2" $3 || exit 1
+    size=$(wc -c <"$dump")
+    for _ in $(seq "$rounds"); do
+        round lines /dev/null "$heap_bench" lines "$dump"
+        round load /dev/null "$heap_bench" load "$dump" "<0.1.0>" 10
+        [ "$2" -gt 1000000 ] && continue
+        round previews /dev/null "$heap_bench" previews "$dump" "<0.1.0>" 10
+        round walk /dev/null "$heap_bench" walk "$dump" "<0.1.0>" 10
+        round term /dev/null "$edump" term "$dump" "<0.1.0>" 10 1000000000
+    done
+    echo "a heap of $2 cells, $1${3:+, in order $3}, $size bytes of text:"
+    tell lines "lines"
+    tell load "load" lines "the lines"
+    awk -v most="$(memory load)" -v size="$size" 'BEGIN { printf "the load had %.2f times the text\n", most * 1000000 / size }'
+    [ "$2" -gt 1000000 ] && continue
+    awk -v walk="$(median walk)" -v load="$(median previews)" -v cells="$2" \
+        'BEGIN { printf "judge and print: %.1f million nodes a second\n", 2 * cells / (walk - load) / 1000000 }'
+    tell term "edump term" load "the load"
 done
-echo "a heap of a million list cells: $(median cells) s, $(cat "$folder/count")"
+
+# References to binaries, over few and over many sections.
+for sections in 10000 100000; do
+    rm -f "$folder"/*.times
+    "$bench" binaries "$dump" 1000000 "$sections" || exit 1
+    for _ in $(seq "$rounds"); do
+        round load /dev/null "$heap_bench" load "$dump" "<0.1.0>" 10
+        round previews /dev/null "$heap_bench" previews "$dump" "<0.1.0>" 10
+    done
+    echo "a million references to $sections binaries:"
+    tell load "load" load "itself"
+    tell previews "and previews" load "the load"
+done
+
+# Links: five entries a process, and one process with a million.
+for shape in "links 200000" "star 1000000"; do
+    rm -f "$folder"/*.times
+    # shellcheck disable=SC2086
+    set -- $shape
+    "$bench" "$1" "$dump" "$2" || exit 1
+    for _ in $(seq "$rounds"); do
+        round procs /dev/null "$edump" procs "$dump"
+        round audit /dev/null "$edump" audit "$dump" 1000
+    done
+    echo "a dump of $2 processes or links, $1:"
+    tell procs "edump procs" procs "itself"
+    tell audit "edump audit" procs "edump procs"
+done
+rm -f "$dump"

@@ -1,0 +1,41 @@
+#!/bin/sh
+# Refuses each growth of memory once: runs edump again and again, of which the first, the second and each further call of
+# malloc or realloc fails, up to the number that is given. Each run must end with its report and its status, or with
+# status 6 and nothing written. Says for each command how many runs ended so, and fails where one ended otherwise.
+#
+#   bench/growths.sh [MOST]
+most=${1:-60}
+here=$(CDPATH= cd -- "$(dirname -- "$0")" && pwd) || exit 1
+edump="$here/../crates/edump/out/edump"
+folder=$(mktemp -d) || exit 1
+trap 'rm -rf "$folder"' EXIT
+cc -O2 -shared -fPIC -o "$folder/refuse.so" "$here/refuse.c" -ldl || exit 1
+"$here/../edump" make 0 10 >"$folder/dump" || exit 1
+failed=0
+
+# One command: its runs with each growth refused beside its run with ample memory.
+try() {
+    "$edump" "$@" >"$folder/expected"
+    status=$?
+    done=0
+    wanting=0
+    for refused in $(seq "$most"); do
+        LD_PRELOAD="$folder/refuse.so" REFUSED=$refused "$edump" "$@" >"$folder/out" 2>"$folder/err"
+        ended=$?
+        if [ "$ended" -eq "$status" ] && cmp -s "$folder/out" "$folder/expected"; then
+            done=$((done + 1))
+        elif [ "$ended" -eq 6 ] && [ ! -s "$folder/out" ]; then
+            wanting=$((wanting + 1))
+        else
+            echo "growth $refused of edump $*: status $ended"
+            failed=1
+        fi
+    done
+    echo "edump $1: of $most growths that were refused $wanting ended with 6 and nothing written, $done runs with the whole report"
+}
+
+try trial 0 10
+try term "$folder/dump" "<0.4.0>" 4000
+try mail "$folder/dump" "<0.4.0>"
+try audit "$folder/dump" 8
+exit "$failed"

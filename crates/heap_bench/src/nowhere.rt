@@ -1,0 +1,17 @@
+// A sink that throws away what is written.
+ghost use Rattle.std.specs.Prelude.{None};
+
+use dump_io::{Failed, Sink};
+
+#[derive(Drop)]
+pub struct Nowhere;
+
+impl Sink for Nowhere {
+    ghost written = { λ _. None };
+
+    ghost faults = { λ _. 0 };
+
+    fn write(&mut self, piece: &[u8]) -> Result<usize, Failed> {
+        Ok(piece.len())
+    }
+}
