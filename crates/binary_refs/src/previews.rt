@@ -11,6 +11,7 @@ ghost use Rattle.heap_cells.specs.HeapMap.{form_at, IsSpelled};
 ghost use Rattle.heap_cells.specs.Targets.{number};
 ghost use Rattle.binary_refs.specs.Loading.{IsCauseOf};
 ghost use Rattle.binary_refs.specs.Previews.{own_binary, heap_binary, in_heap, in_part, entry, entry_of, by_number, previews_of, stated, stating, binaries, entry_at, AreFor, told_entry};
+ghost use Rattle.binary_refs.specs.Inner.Kinds.{refers};
 ghost use Rattle.binary_refs.specs.Inner.Places.{AreOrdered};
 
 use crate::entries::{Entry, Preview};
@@ -19,7 +20,7 @@ use crate::few_bytes::FewBytes;
 use crate::places::places_of;
 use crate::stored::{Range, is_within, range_of, read_stored};
 use dump_io::{Dumps, Failed};
-use heap_cells::{CellIx, Heap, Seat};
+use heap_cells::{CellIx, Heap, Kind, Seat};
 use section_index::Index;
 use std::alloc::Global;
 use std::marker::Model;
@@ -120,6 +121,13 @@ fn read_form<D: Dumps>(
     }
 }
 
+// Whether a cell of this kind refers to a binary.
+fn refers(kind: Option<Kind>) -> bool
+    ensures { result ≡ refers kind }
+{
+    matches!(kind, Some(Kind::RefBin | Kind::SubBin))
+}
+
 // The entry of the cell with a number, where it refers to a binary.
 fn read_entry<D: Dumps>(
     dumps: &mut D,
@@ -137,7 +145,11 @@ fn read_entry<D: Dumps>(
     ensures entry { IfOk result (λ entry. (dump : List ℕ) → D.now dumps.old ≡ told dump
         → entry ≡ option_and_then (entry_of dump index.now heap.now n) (form_at heap.now.cells n)) }
 {
-    match heap.form(heap.cell(n)) {
+    let ix = heap.cell(n);
+    if !refers(heap.kind(ix)) {
+        return Ok(None);
+    }
+    match heap.form(ix) {
         Some(form) => read_form(dumps, index, places, heap, n, &form),
         None => Ok(None),
     }
