@@ -7,10 +7,10 @@ ghost use Rattle.section_index.specs.Index.{IsBuiltOver, sections_in};
 ghost use Rattle.term_forms.specs.Payload.{IsPayloadOf};
 ghost use Rattle.term_forms.specs.Seen.{number_rest};
 ghost use Rattle.term_forms.specs.SeenForms.{heap_form};
-ghost use Rattle.heap_cells.specs.HeapMap.{form_at, IsSpelled};
+ghost use Rattle.heap_cells.specs.HeapMap.{form_at};
 ghost use Rattle.heap_cells.specs.Targets.{number};
 ghost use Rattle.binary_refs.specs.Loading.{IsCauseOf};
-ghost use Rattle.binary_refs.specs.Previews.{own_binary, heap_binary, in_heap, in_part, entry, entry_of, by_number, previews_of, stated, stating, binaries, entry_at, AreFor, told_entry};
+ghost use Rattle.binary_refs.specs.Previews.{own_binary, heap_binary, in_heap, in_part, entry, entry_of, previews_of, stated, stating, binaries, entry_at, AreFor, told_entry};
 ghost use Rattle.binary_refs.specs.Inner.Kinds.{refers};
 ghost use Rattle.binary_refs.specs.Inner.Places.{AreOrdered};
 
