@@ -7,6 +7,8 @@
 //! - `walk`: judges and prints the term at an address into nothing, and says whether it is clean.
 #![tactic(auto)]
 
+ghost use Rattle.binary_refs.specs.Previews.{AreFor};
+
 mod nowhere;
 
 use binary_refs::Previews;
