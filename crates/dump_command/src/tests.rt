@@ -1,3 +1,4 @@
+mod audits;
 mod cases;
 mod dumps;
 mod hindered;
