@@ -36,7 +36,7 @@ pub bodies-index : (cmd : Command) (bytes : List ℕ) (index : Contents) → IsI
 bodies-index cmd bytes index of = ap (bodies cmd) (sections-index bytes index of)
 
 -- the bytes of a command are those of its file
-file-of : (cmd : Command) (name : List ℕ) (device : Use) (bytes : List ℕ) → file_of cmd ≡ Some name → IsDumpOf device cmd bytes → IsFileOf device name bytes
+pub file-of : (cmd : Command) (name : List ℕ) (device : Use) (bytes : List ℕ) → file_of cmd ≡ Some name → IsDumpOf device cmd bytes → IsFileOf device name bytes
 file-of cmd name device bytes named dump = subst (λ f. IsInputOf device f bytes) named dump
 
 -- a command with a file is refused for the opening, and else for what stands behind it
@@ -45,7 +45,7 @@ refusal-named : (cmd : Command) (name bytes : List ℕ) (limits : Numbers) → f
 refusal-named cmd name bytes limits named =
     ap (λ f. option_and f (option_or (option_map Open (opening bytes limits)) (refusal_opened cmd bytes limits))) named
 
-refusal-accepted : (cmd : Command) (name bytes : List ℕ) (limits : Numbers) → file_of cmd ≡ Some name → opening bytes limits ≡ None
+pub refusal-accepted : (cmd : Command) (name bytes : List ℕ) (limits : Numbers) → file_of cmd ≡ Some name → opening bytes limits ≡ None
     → refusal cmd bytes limits ≡ refusal_opened cmd bytes limits
 refusal-accepted cmd name bytes limits named accepted =
     refusal-named cmd name bytes limits named ∙ ap (λ o. option_or (option_map Open o) (refusal_opened cmd bytes limits)) accepted
@@ -89,14 +89,14 @@ pub IsAllowed-bodies : (cmd : Command) (limits : Numbers) (device : Use) (index 
 IsAllowed-bodies cmd limits device index more is few =
     record { most = λ bytes all. omega (arith, few, is bytes, ap bytes_in (bodies-index cmd bytes index all.of)) }
 
-TakesAtMost-opened : (cmd : Command) (name : List ℕ) (limits : Numbers) (device : Use) (index : Contents) (more : ℕ) → file_of cmd ≡ Some name
+pub TakesAtMost-opened : (cmd : Command) (name : List ℕ) (limits : Numbers) (device : Use) (index : Contents) (more : ℕ) → file_of cmd ≡ Some name
     → HasOpened name limits device index more → IsAllowed cmd limits device index more → TakesAtMost cmd device
 TakesAtMost-opened cmd name limits device index more named opened few =
     λ bytes dump.
     let file = file-of cmd name device bytes named dump in omega (arith, opened.taken bytes file, few.most bytes (opened.told bytes file))
 
 -- a dump that was opened isn't missing
-there-opened : (cmd : Command) (name : List ℕ) (limits : Numbers) (device : Use) (index : Contents) (more : ℕ) → file_of cmd ≡ Some name
+pub there-opened : (cmd : Command) (name : List ℕ) (limits : Numbers) (device : Use) (index : Contents) (more : ℕ) → file_of cmd ≡ Some name
     → HasOpened name limits device index more → IsMissing device cmd → ⊥
 there-opened cmd name limits device index more named opened gone = opened.there (subst (IsMissingFrom device) named gone)
 
@@ -184,7 +184,7 @@ pub none_refused : (limit : ℕ) (ss : List Section) → first_large limit ss �
 none_refused limit ss none = ap (option_map refused) none
 
 -- the bodies of several sections weren't loaded, where no cause of a refusal stands before their lengths
-large-refused : (first : Option Section) (at len : ℕ) → option_map (λ s. body_faults.SectionTooLarge s.at (body_length s)) first ≡ Some (body_faults.SectionTooLarge at len)
+pub large-refused : (first : Option Section) (at len : ℕ) → option_map (λ s. body_faults.SectionTooLarge s.at (body_length s)) first ≡ Some (body_faults.SectionTooLarge at len)
     → option_map refused first ≡ Some (SectionTooLarge at len)
 large-refused None at len is = absurd (let no : ⊥ = cc (is) in no)
 large-refused (Some s) at len is =

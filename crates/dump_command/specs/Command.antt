@@ -1,10 +1,12 @@
 -- The commands, by the words of the command line.
-use Rattle.std.specs.Prelude.{ℕ, List, [], ◌∷◌, Option, None, Some, codes, if◌then◌else◌}
+use Rattle.std.specs.Prelude.{ℕ, Bool, true, false, List, [], ◌∷◌, Option, None, Some, codes, if◌then◌else◌}
+use Rattle.std.specs.Option.{option_and_then, option_map}
 use Rattle.std.specs.Str.{bytes_eq}
+use Rattle.dump_io.specs.Numbers.{dec_number}
 use Rattle.table_sections.specs.declared.kinds.TableKind.{TableKind}
 use Rattle.table_sections.specs.declared.kinds.TableKind.TheVariants as kinds
 use Rattle.dump_command.specs.declared.words.Cmd.{Cmd}
-use Rattle.dump_command.specs.declared.words.Cmd.TheVariants.{Index, Info, Procs, Proc, Memory, Ets, Ports, Nodes, Mods}
+use Rattle.dump_command.specs.declared.words.Cmd.TheVariants.{Index, Info, Procs, Proc, Memory, Ets, Ports, Nodes, Mods, Links, Audit}
 
 -- a command and what it is asked for
 pub data Command : Type 0 where
@@ -15,6 +17,9 @@ pub data Command : Type 0 where
   proc : List ℕ → List ℕ → Command
   memory : List ℕ → Command
   table : TableKind → List ℕ → Command
+  links : List ℕ → Command
+  -- an audit with this limit on message queues, in full or not
+  audit : List ℕ → ℕ → Bool → Command
 
 -- what a command is, where its words are lent
 abbrev pub shown : Cmd → Command
@@ -27,6 +32,8 @@ shown (Ets file) = table kinds.Ets file.now
 shown (Ports file) = table kinds.Ports file.now
 shown (Nodes file) = table kinds.Nodes file.now
 shown (Mods file) = table kinds.Mods file.now
+shown (Links file) = links file.now
+shown (Audit file limit full) = audit file.now limit full
 
 -- a command of one word, which is the name of a file
 abbrev pub file_command : List ℕ → List ℕ → Option Command
@@ -38,11 +45,25 @@ file_command name file =
     else (if bytes_eq name (codes "ets") then Some (table kinds.Ets file)
     else (if bytes_eq name (codes "ports") then Some (table kinds.Ports file)
     else (if bytes_eq name (codes "nodes") then Some (table kinds.Nodes file)
-    else (if bytes_eq name (codes "mods") then Some (table kinds.Mods file) else None)))))))
+    else (if bytes_eq name (codes "mods") then Some (table kinds.Mods file)
+    else (if bytes_eq name (codes "links") then Some (links file) else None))))))))
+
+-- an audit is full where its last word is `full`
+abbrev pub full_of : List (List ℕ) → Option Bool
+full_of [] = Some false
+full_of (word ∷ []) = if bytes_eq word (codes "full") then Some true else None
+full_of (word ∷ more ∷ words) = None
+
+abbrev pub audit_command : List ℕ → List ℕ → List (List ℕ) → Option Command
+audit_command file limit words = option_and_then (λ n. option_map (audit file n) (full_of words)) (dec_number limit)
+
+-- a command that may have more words behind the name of a file and another word
+abbrev pub process_command : List ℕ → List ℕ → List ℕ → List (List ℕ) → Option Command
+process_command name file word words = if bytes_eq name (codes "audit") then audit_command file word words else None
 
 -- a command of the name of a file and another word
 abbrev pub word_command : List ℕ → List ℕ → List ℕ → Option Command
-word_command name file word = if bytes_eq name (codes "proc") then Some (proc file word) else None
+word_command name file word = if bytes_eq name (codes "proc") then Some (proc file word) else process_command name file word []
 
 -- the command of the words behind the program's name, or none
 abbrev pub command : List (List ℕ) → Option Command
@@ -50,7 +71,7 @@ command [] = None
 command (name ∷ []) = None
 command (name ∷ file ∷ []) = file_command name file
 command (name ∷ file ∷ word ∷ []) = word_command name file word
-command (name ∷ file ∷ word ∷ more ∷ words) = None
+command (name ∷ file ∷ word ∷ more ∷ words) = process_command name file word (more ∷ words)
 
 -- the name of the file that a command opens, where it opens one
 abbrev pub file_of : Command → Option (List ℕ)
@@ -60,3 +81,5 @@ file_of (procs file) = Some file
 file_of (proc file pid) = Some file
 file_of (memory file) = Some file
 file_of (table kind file) = Some file
+file_of (links file) = Some file
+file_of (audit file limit full) = Some file

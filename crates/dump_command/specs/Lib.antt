@@ -1,3 +1,4 @@
+pub mod Audits
 pub mod Command
 pub mod Devices
 pub mod Inner

@@ -1,6 +1,6 @@
 -- What each command reports of the bytes of a dump, and why it is refused. A command without a file reports of
 -- no bytes.
-use Rattle.std.specs.Prelude.{ℕ, ◌+◌, List, [], ◌∷◌, map, length, slice_get, unwrap_or, Option, None, Some, Bool, false, codes, find, is_some, if◌then◌else◌}
+use Rattle.std.specs.Prelude.{ℕ, ◌+◌, List, [], ◌∷◌, map, length, slice_get, unwrap_or, Option, None, Some, Bool, true, false, codes, find, is_some, if◌then◌else◌}
 use Rattle.std.specs.List.{between, sum_by}
 use Rattle.std.specs.Option.{option_map, option_or, option_and}
 use Rattle.dump_io.specs.Limits.{Numbers}
@@ -13,12 +13,16 @@ use Rattle.report_text.specs.declared.refusals.Refusal.{Refusal}
 use Rattle.report_text.specs.declared.refusals.Refusal.TheVariants.{Open, NoProcess, SectionTooLarge}
 use Rattle.report_text.specs.Reports.{index_report, info_report}
 use Rattle.report_text.specs.Tables.{fields_report, procs_report, rows_report}
+use Rattle.report_text.specs.Links.{links_report}
+use Rattle.report_text.specs.Findings.{audit_report}
+use Rattle.dump_audit.specs.Findings.{findings}
 use Rattle.process_table.specs.Processes.{process_table}
 use Rattle.process_table.specs.Records.{record_sections}
 use Rattle.section_index.specs.Lookups.{has_tag, is_named}
 use Rattle.section_rows.specs.Loading.{first_large}
 use Rattle.table_sections.specs.Tables.{listed, table_of}
-use Rattle.dump_command.specs.Command.{Command, index, info, procs, proc, memory, table, file_of}
+use Rattle.dump_command.specs.Audits.{audit_in, audited_sections, status_of}
+use Rattle.dump_command.specs.Command.{Command, index, info, procs, proc, memory, table, links, audit, file_of}
 use Rattle.dump_command.specs.declared.status.TheConstants.{DONE}
 
 -- the first of these sections
@@ -46,6 +50,8 @@ bodies (procs file) sections = record_sections sections
 bodies (proc file pid) sections = one_of (process_section pid sections)
 bodies (memory file) sections = one_of (memory_section sections)
 bodies (table kind file) sections = listed kind sections
+bodies (links file) sections = record_sections sections
+bodies (audit file limit full) sections = audited_sections full sections
 
 -- the bytes of a section's body
 abbrev pub body_of : List ℕ → Section → List ℕ
@@ -70,13 +76,17 @@ report (procs file) bytes = procs_report (process_table bytes)
 report (proc file pid) bytes = fields_of bytes (process_section pid (sections bytes))
 report (memory file) bytes = fields_of bytes (memory_section (sections bytes))
 report (table kind file) bytes = rows_report (table_of kind bytes)
+report (links file) bytes = links_report (process_table bytes).processes
+report (audit file limit full) bytes = audit_report (audit_in limit full bytes)
 
 -- the status of a run that has written its whole report
 abbrev pub report_status : Command → List ℕ → ℕ
+report_status (audit file limit full) bytes = status_of (findings (audit_in limit full bytes))
 report_status cmd bytes = DONE
 
 -- whether a command looks for findings
 abbrev pub finds : Command → Bool
+finds (audit file limit full) = true
 finds cmd = false
 
 -- a command is refused where its subject isn't there: no section is that of the process

@@ -4,18 +4,22 @@ ghost use Rattle.dump_io.specs.Sinks.{changed};
 ghost use Rattle.dump_command.specs.Command.{shown};
 ghost use Rattle.dump_command.specs.Inner.Loads.{Runs};
 
+mod audit;
 mod fields;
 mod index;
 mod info;
+mod links;
 mod processes;
 mod tables;
 
 use crate::stop::Stop;
 use crate::words::Cmd;
+use audit::run_audit;
 use dump_io::{Dumps, Limits, Sink};
 use fields::{run_memory, run_proc};
 use index::run_index;
 use info::run_info;
+use links::run_links;
 use processes::run_procs;
 use std::alloc::Global;
 use table_sections::TableKind;
@@ -41,5 +45,9 @@ pub(crate) fn run_command<D: Dumps, K: Sink>(
         Cmd::Ports { file } => run_table(alloc, file, TableKind::Ports, limits, dumps, out),
         Cmd::Nodes { file } => run_table(alloc, file, TableKind::Nodes, limits, dumps, out),
         Cmd::Mods { file } => run_table(alloc, file, TableKind::Mods, limits, dumps, out),
+        Cmd::Links { file } => run_links(alloc, file, limits, dumps, out),
+        Cmd::Audit { file, limit, full } => {
+            run_audit(alloc, file, *limit, *full, limits, dumps, out)
+        }
     }
 }

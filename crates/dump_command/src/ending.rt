@@ -13,8 +13,15 @@ use report_text::put_refusal;
 pub(crate) fn done(written: Result<(), Failed>) -> Result<u8, Stop>
     ensures { result ≡ done_of DONE written }
 {
+    done_with(DONE, written)
+}
+
+/// The same with another status for a report that was written.
+pub(crate) fn done_with(status: u8, written: Result<(), Failed>) -> Result<u8, Stop>
+    ensures { result ≡ done_of status written }
+{
     written?;
-    Ok(DONE)
+    Ok(status)
 }
 
 // The status after a line was written: this one, or that of a failed write.

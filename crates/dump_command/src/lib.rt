@@ -14,6 +14,8 @@
 mod commands;
 mod ending;
 mod file_dumps;
+mod mailboxes;
+mod messages;
 mod open;
 mod runner;
 pub mod status;

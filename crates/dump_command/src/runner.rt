@@ -19,16 +19,18 @@ use std::alloc::Global;
 ///
 /// | Status | Comes |
 /// |---|---|
-/// | 0 | the whole report stands in `out` |
+/// | 0 | the whole report stands in `out`, and it isn't an audit with a finding |
 /// | 1 | exactly where the words are no command, unless `err` failed; the usage line stands in `err` |
 /// | 2 | exactly where the dump is refused, unless 4, 5 or 6; the line that says why stands in `err` |
+/// | 3 | exactly where an audit has a finding, and its whole report stands in `out` |
 /// | 4 | only where the count of faults of `dumps` rose, or where its files are told and none has that name |
 /// | 5 | only where the count of faults of `out` or of `err` rose |
 /// | 6 | want of memory, which may come at any growth |
 ///
 /// `out` is untouched at 1, 2, 4 and 6, and holds a proper front of the report at 5. The bytes of the dump are
 /// those of the file of the command's name, where `dumps` tells its files, or those that are open at the end,
-/// where it tells these alone. Where they are told and not refused and nothing failed, the status is 0, or 6.
+/// where it tells these alone. Where they are told and not refused and nothing failed, the status is 3 for an audit
+/// with a finding and else 0, or 6.
 pub fn run<D: Dumps, K: Sink, E: Sink>(
     alloc: Global,
     words: &[String],

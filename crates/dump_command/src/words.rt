@@ -1,29 +1,62 @@
 // The words of the command line.
 ghost use Rattle.std.specs.Prelude.{◌≡◌, map, option_map};
 ghost use Rattle.std.specs.String.{string_bytes};
-ghost use Rattle.dump_command.specs.Command.{command, file_command, word_command, shown};
+ghost use Rattle.dump_command.specs.Command.{audit_command, command, file_command, full_of, process_command, word_command, shown};
+
+use dump_io::dec_u64;
 
 /// A command with its words.
 #[derive(Clone, Copy, Debug, PartialEq, Eq)]
 pub enum Cmd<'a> {
     /// `index FILE`: the sections of a dump and its state.
-    Index { file: &'a str },
+    Index {
+        file: &'a str,
+    },
     /// `info FILE`: version, size, counts, slogan, tags and state of a dump.
-    Info { file: &'a str },
+    Info {
+        file: &'a str,
+    },
     /// `procs FILE`: the process table.
-    Procs { file: &'a str },
+    Procs {
+        file: &'a str,
+    },
     /// `proc FILE PID`: the fields of one process.
-    Proc { file: &'a str, pid: &'a str },
+    Proc {
+        file: &'a str,
+        pid: &'a str,
+    },
     /// `memory FILE`: the fields of the first section on memory.
-    Memory { file: &'a str },
+    Memory {
+        file: &'a str,
+    },
     /// `ets FILE`: the ETS tables.
-    Ets { file: &'a str },
+    Ets {
+        file: &'a str,
+    },
     /// `ports FILE`: the ports.
-    Ports { file: &'a str },
+    Ports {
+        file: &'a str,
+    },
     /// `nodes FILE`: the nodes that this one knew.
-    Nodes { file: &'a str },
+    Nodes {
+        file: &'a str,
+    },
     /// `mods FILE`: the modules.
-    Mods { file: &'a str },
+    Mods {
+        file: &'a str,
+    },
+    /// `links FILE`: the links and monitors of all processes.
+    Links {
+        file: &'a str,
+    },
+    /// `audit FILE LIMIT [full]`: the one-sided links and monitors, the message queues that are longer than the limit, and
+    /// what can't be read. A full audit also has the links and monitors of processes that aren't in the dump, and the
+    /// message queues whose stated length isn't the number of their messages.
+    Audit {
+        file: &'a str,
+        limit: u64,
+        full: bool,
+    },
 }
 
 /// The command of the words behind the program's name. `None` comes exactly where they are no command.
@@ -33,6 +66,9 @@ pub fn read_words(words: &[String]) -> Option<Cmd<'_>>
     match words {
         [name, file] => file_command(name.as_str(), file.as_str()),
         [name, file, word] => word_command(name.as_str(), file.as_str(), word.as_str()),
+        [name, file, word, rest @ ..] => {
+            process_command(name.as_str(), file.as_str(), word.as_str(), rest)
+        }
         _ => None,
     }
 }
@@ -49,6 +85,7 @@ fn file_command<'a>(name: &str, file: &'a str) -> Option<Cmd<'a>>
         "ports" => Some(Cmd::Ports { file }),
         "nodes" => Some(Cmd::Nodes { file }),
         "mods" => Some(Cmd::Mods { file }),
+        "links" => Some(Cmd::Links { file }),
         _ => None,
     }
 }
@@ -58,6 +95,34 @@ fn word_command<'a>(name: &str, file: &'a str, word: &'a str) -> Option<Cmd<'a>>
 {
     match name {
         "proc" => Some(Cmd::Proc { file, pid: word }),
+        _ => process_command(name, file, word, &[]),
+    }
+}
+
+fn process_command<'a>(name: &str, file: &'a str, word: &str, words: &[String]) -> Option<Cmd<'a>>
+    ensures { option_map shown result ≡ process_command name.now file.now word.now (map string_bytes words.now) }
+{
+    match name {
+        "audit" => audit_command(file, word, words),
         _ => None,
     }
+}
+
+// Whether an audit is full, by its last words.
+fn full_of(words: &[String]) -> Option<bool>
+    ensures { result ≡ full_of (map string_bytes words.now) }
+{
+    match words {
+        [] => Some(false),
+        [word] if word.as_str() == "full" => Some(true),
+        _ => None,
+    }
+}
+
+fn audit_command<'a>(file: &'a str, limit: &str, words: &[String]) -> Option<Cmd<'a>>
+    ensures { option_map shown result ≡ audit_command file.now limit.now (map string_bytes words.now) }
+{
+    let limit = dec_u64(limit.as_bytes())?;
+    let full = full_of(words)?;
+    Some(Cmd::Audit { file, limit, full })
 }

@@ -1,1 +1,3 @@
+pub mod FindingFacts
+pub mod LinkFacts
 pub mod TableFacts

@@ -1,3 +1,5 @@
+pub mod Findings
+pub mod Links
 pub mod Refusals
 pub mod Reports
 pub mod Tables

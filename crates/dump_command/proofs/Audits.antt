@@ -1,0 +1,93 @@
+-- What an audit is written of is what it says of the dump.
+use Rattle.std.proofs.Common.{◌≡◌, ℕ, Bool, true, List, [], ◌∷◌, ◌++◌, length, map, Option, None, Some, refl, sym, ◌∙◌, ap, if◌then◌else◌}
+use Rattle.std.specs.Option.{option_or, unwrap_or}
+use Rattle.std.specs.Prelude.{IsTrue}
+use Rattle.dump_io.specs.Dumps.{Use, DeviceFailed}
+use Rattle.dump_io.specs.Limits.{Numbers}
+use Rattle.dump_io.specs.Lines.{headers}
+use Rattle.section_index.specs.Index.{Contents, IsIndexOf, sections_in, state_of}
+use Rattle.section_index.specs.Sections.{Section}
+use Rattle.section_index.specs.declared.bodies.BodyFault.{BodyFault}
+use Rattle.section_index.specs.declared.bodies.BodyFault.TheVariants as body_faults
+use Rattle.section_index.specs.declared.opening.Version.TheVariants.{V05}
+use Rattle.section_rows.specs.Loading.{first_large, AreRefused}
+use Rattle.process_table.specs.Processes.{Process, process_table}
+use Rattle.dump_audit.specs.Findings.{Audit, audit_of, findings}
+use Rattle.report_text.specs.declared.refusals.Refusal.TheVariants.{SectionTooLarge}
+use Rattle.dump_command.specs.Audits.{audit_in, index_of, mail_in, mailbox_places, mails, status_of}
+use Rattle.dump_command.specs.Command.{Command, file_of}
+use Rattle.dump_command.specs.Report.{report, report_status, refusal_opened, too_large, finds}
+use Rattle.dump_command.specs.Run.{is_one_of}
+use Rattle.dump_command.specs.Inner.Loads.{IsReady, IsStopped}
+use Rattle.dump_command.specs.Inner.Opened.{HasOpened, IsIndexed}
+use Rattle.dump_command.specs.Inner.Stops.{stop_of_body}
+use Rattle.dump_command.specs.declared.status.TheConstants.{DONE, FOUND}
+use Rattle.dump_command.proofs.Loads.{IsAllowed, IsStopped-unread, IsStopped-no_memory, IsStopped-refused, TakesAtMost-opened, file-of, large-refused, none_refused, refusal-accepted, sections-index, there-opened, too_large-append}
+
+-- the index of a dump
+pub index-told : (bytes : List ℕ) (index : Contents) → IsIndexOf bytes index → index ≡ index_of bytes
+index-told bytes index of =
+    ap (λ h. record { headers = h; size = index.size; version = index.version }) of.headers
+    ∙ ap (λ n. record { headers = headers bytes; size = n; version = index.version }) of.size
+    ∙ ap (λ v. record { headers = headers bytes; size = length bytes; version = unwrap_or v V05 }) (sym of.version)
+
+-- the numbers of messages
+pub mails-told : (bytes : List ℕ) (index : Contents) → IsIndexOf bytes index
+    → map (mail_in bytes (state_of index.headers) (sections_in index)) (mailbox_places (sections_in index)) ≡ mails bytes
+mails-told bytes index of =
+    ap (λ h. map (mail_in bytes (state_of h) (sections_in index)) (mailbox_places (sections_in index))) of.headers
+    ∙ ap (λ ss. map (mail_in bytes (state_of (headers bytes)) ss) (mailbox_places ss)) (sections-index bytes index of)
+
+-- what is audited
+pub audit-told : (bytes : List ℕ) (index : Contents) (processes : List Process) (limit : ℕ) (full : Bool) (counts : Option (List (Option ℕ))) → IsIndexOf bytes index
+    → processes ≡ (process_table bytes).processes
+    → counts ≡ (if full then Some (map (mail_in bytes (state_of index.headers) (sections_in index)) (mailbox_places (sections_in index))) else None)
+    → audit_of index processes limit counts ≡ audit_in limit full bytes
+audit-told bytes index processes limit full counts of table counted =
+    ap (λ i. audit_of i processes limit counts) (index-told bytes index of)
+    ∙ ap (λ ps. audit_of (index_of bytes) ps limit counts) table
+    ∙ ap (λ m. audit_of (index_of bytes) (process_table bytes).processes limit m) (counted ∙ ap (λ m. if full then Some m else None) (mails-told bytes index of))
+
+-- a status of an audit is one of two
+pub status-whole : (a : Audit) → is_one_of (DONE ∷ FOUND ∷ []) (status_of (findings a)) ≡ true
+status-whole a = of (findings a)
+  where
+    of : (found : List _) → is_one_of (DONE ∷ FOUND ∷ []) (status_of found) ≡ true
+    of [] = refl
+    of (f ∷ fs) = refl
+
+-- the first of two lists of bodies wasn't loaded
+pub IsStopped-bodies_first : (cmd : Command) (name : List ℕ) (limits : Numbers) (device step : Use) (index : Contents) (more : ℕ) (ss rest : List Section) (fault : BodyFault) → file_of cmd ≡ Some name
+    → HasOpened name limits device index more → IsAllowed cmd limits device index more
+    → AreRefused ss limits.section step fault → (DeviceFailed step → DeviceFailed device)
+    → ((bytes : List ℕ) → IsIndexed bytes limits index device.now_after → refusal_opened cmd bytes limits ≡ too_large limits.section (ss ++ rest))
+    → IsStopped cmd limits device (stop_of_body fault)
+IsStopped-bodies_first cmd name limits device step index more ss rest body_faults.Read named opened few cause later large =
+    IsStopped-unread cmd name limits device index more named opened few (later cause.0)
+IsStopped-bodies_first cmd name limits device step index more ss rest body_faults.Memory named opened few cause later large =
+    IsStopped-no_memory cmd name limits device index more named opened few
+IsStopped-bodies_first cmd name limits device step index more ss rest (body_faults.SectionTooLarge at len) named opened few cause later large =
+    IsStopped-refused cmd name limits device index more (SectionTooLarge at len) named opened few tt
+    (λ bytes all. large bytes all ∙ too_large-append limits.section ss rest
+    ∙ ap (λ o. option_or o (too_large limits.section rest)) (large-refused (first_large limits.section ss) at len cause))
+
+-- where none of the first is too large the second decides
+pub too_large-second : (limit : ℕ) (ss rest : List Section) → first_large limit ss ≡ None → too_large limit (ss ++ rest) ≡ too_large limit rest
+too_large-second limit ss rest none = too_large-append limit ss rest ∙ ap (λ o. option_or o (too_large limit rest)) (none_refused limit ss none)
+
+-- all was loaded, for a report with this status
+pub IsReady-with : (cmd : Command) (name : List ℕ) (limits : Numbers) (device : Use) (index : Contents) (more : ℕ) (text : List ℕ) (status : ℕ) → file_of cmd ≡ Some name
+    → HasOpened name limits device index more → IsAllowed cmd limits device index more
+    → IsTrue (is_one_of (DONE ∷ FOUND ∷ []) status) → (status ≡ FOUND → IsTrue (finds cmd))
+    → ((bytes : List ℕ) → IsIndexed bytes limits index device.now_after → (refusal_opened cmd bytes limits ≡ None) × (text ≡ report cmd bytes) × (status ≡ report_status cmd bytes))
+    → IsReady cmd limits device text status
+IsReady-with cmd name limits device index more text status named opened few whole found ready =
+    record {
+      there = there-opened cmd name limits device index more named opened;
+      whole = whole;
+      found = found;
+      told = λ bytes dump.
+          let all = opened.told bytes (file-of cmd name device bytes named dump) in
+          let right = ready bytes all in (refusal-accepted cmd name bytes limits named all.accepted ∙ right.0, right.1, right.2);
+      taken = TakesAtMost-opened cmd name limits device index more named opened few;
+    }

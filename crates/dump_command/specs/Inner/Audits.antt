@@ -1,0 +1,39 @@
+-- What the reports of links and of an audit are written of.
+use Rattle.std.specs.Prelude.{◌≡◌, ℕ, Bool, List, length, All, IfSome, Result, MatchResult}
+use Rattle.std.specs.Option.{option_map}
+use Rattle.dump_io.specs.Dumps.{Use}
+use Rattle.dump_io.specs.Limits.{Numbers}
+use Rattle.process_table.specs.Processes.{IsIn, ProcessTable}
+use Rattle.dump_audit.specs.Findings.{Audit, audit_of, findings}
+use Rattle.report_text.specs.Findings.{audit_report}
+use Rattle.report_text.specs.Links.{links_report}
+use Rattle.dump_command.specs.Audits.{status_of}
+use Rattle.dump_command.specs.Command.{audit}
+use Rattle.dump_command.specs.Inner.Loads.{IsReady, IsStopped}
+use Rattle.dump_command.specs.declared.commands.audit.Loaded.{Loaded}
+use Rattle.dump_command.specs.declared.stop.Stop.{Stop}
+
+-- the text of the links of some processes
+abbrev pub links_text : ProcessTable → List ℕ
+links_text table = links_report table.processes
+
+-- what is audited
+abbrev pub loaded_audit : ℕ → Loaded → Audit
+loaded_audit limit loaded = audit_of loaded.index loaded.procs.processes limit (option_map (λ counts. counts.items) loaded.mails)
+
+-- each process is one of the index, and where messages were counted they were so for each
+pub record IsAuditable (loaded : Loaded) : Type 0 where
+  pub sections : All (IsIn loaded.index) loaded.procs.processes
+  pub counts : IfSome loaded.mails (λ counts. length counts.items ≡ length loaded.procs.processes)
+
+abbrev pub audit_text : ℕ → Loaded → List ℕ
+audit_text limit loaded = audit_report (loaded_audit limit loaded)
+
+abbrev pub audit_status : ℕ → Loaded → ℕ
+audit_status limit loaded = status_of (findings (loaded_audit limit loaded))
+
+-- a load gives what an audit with any limit needs, or says why not
+abbrev pub LoadsAudit : List ℕ → Bool → Numbers → Use → ℕ → Result Loaded Stop → Type 0
+LoadsAudit file full limits device limit result =
+    MatchResult result (λ loaded. IsReady (audit file limit full) limits device (audit_text limit loaded) (audit_status limit loaded))
+    (IsStopped (audit file limit full) limits device)

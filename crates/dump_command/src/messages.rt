@@ -1,0 +1,151 @@
+// The messages of processes are counted, one mailbox after another.
+ghost use Rattle.std.specs.Prelude.{◌≡◌, ℕ, List, [], ◌∷◌, ◌<◌, ◌≤◌, true, length, map, All, None, IfOk, IfErr, OnOk};
+ghost use Rattle.dump_io.specs.Dumps.{told, used, ReadsAtMost};
+ghost use Rattle.section_index.specs.Bodies.{section_at, body_length};
+ghost use Rattle.section_index.specs.Index.{IsBuiltOver, sections_in, state_of};
+ghost use Rattle.section_rows.specs.Loading.{bodies_length, first_large, large_fault, AreRefused};
+ghost use Rattle.dump_audit.specs.Findings.{is_cut};
+ghost use Rattle.dump_command.specs.Audits.{mail_at, mail_in, mailbox_places, mailboxes_at, more_sections, pids_in};
+ghost use Rattle.dump_command.specs.Inner.Mailboxes.{IsSmall, IsUncounted, IsWithin};
+
+use crate::mailboxes::mailboxes;
+use dump_io::{Dumps, Limits};
+use process_table::Procs;
+use root_views::messages;
+use section_index::{BodyFault, Index, State, read_body};
+use std::alloc::Global;
+
+// Whether the dump breaks off in the section at a place.
+fn is_cut(index: &Index, i: usize) -> bool
+    ensures { result ≡ is_cut (state_of index.now.headers) i }
+{
+    match index.state() {
+        State::Whole => false,
+        State::TruncatedIn(last) => i == last,
+    }
+}
+
+// The refusal of the mailbox at a place, where it is too large.
+fn large_at(index: &Index, place: Option<usize>, limits: &Limits) -> Option<BodyFault>
+    requires { IsWithin index.now place }
+    ensures { result ≡ large_fault limits.now.section (mailboxes_at (sections_in index.now) (place ∷ [])) }
+{
+    let section = index.section(place?);
+    let len = section.end - section.body;
+    if len <= u64::from(limits.section()) {
+        return None;
+    }
+    Some(BodyFault::SectionTooLarge {
+        at: section.at,
+        len,
+    })
+}
+
+// The refusal of the first mailbox that is too large.
+fn large(index: &Index, places: &[Option<usize>], limits: &Limits) -> Option<BodyFault>
+    requires { All (IsWithin index.now) places.now }
+    ensures { result ≡ large_fault limits.now.section (mailboxes_at (sections_in index.now) places.now) }
+{
+    for place in places {
+        let fault = large_at(index, *place, limits);
+        if fault.is_some() {
+            return fault;
+        }
+    }
+    None
+}
+
+// Loads the mailbox at a place, counts its messages, and lets it go. One in which the dump breaks off isn't counted.
+fn count_at<D: Dumps>(
+    alloc: Global,
+    dumps: &mut D,
+    index: &Index,
+    i: usize,
+    limits: &Limits,
+) -> Result<Option<u64>, BodyFault>
+    requires over { IsBuiltOver (D.now dumps.old) index.now }
+    requires place { i < length index.now.headers }
+    requires small { body_length (section_at index.now i) ≤ limits.now.section }
+    ensures reads { ReadsAtMost (used D.files D.now D.faults D.taken dumps.old dumps.new) (body_length (section_at index.now i)) }
+    ensures count { IfOk result (λ count. (bytes : List ℕ) → D.now dumps.old ≡ told bytes → count ≡ mail_at bytes (state_of index.now.headers) (sections_in index.now) i) }
+    ensures fault { IfErr result (IsUncounted (used D.files D.now D.faults D.taken dumps.old dumps.new)) }
+{
+    if is_cut(index, i) {
+        return Ok(None);
+    }
+    let body = read_body(alloc, dumps, index, i, limits)?;
+    Ok(Some(messages(body.as_slice())))
+}
+
+// The same of a process that may have no mailbox.
+fn count_in<D: Dumps>(
+    alloc: Global,
+    dumps: &mut D,
+    index: &Index,
+    place: Option<usize>,
+    limits: &Limits,
+) -> Result<Option<u64>, BodyFault>
+    requires over { IsBuiltOver (D.now dumps.old) index.now }
+    requires within { IsWithin index.now place }
+    requires small { IsSmall index.now limits.now.section place }
+    ensures reads { ReadsAtMost (used D.files D.now D.faults D.taken dumps.old dumps.new) (bodies_length (mailboxes_at (sections_in index.now) (place ∷ []))) }
+    ensures count { IfOk result (λ count. (bytes : List ℕ) → D.now dumps.old ≡ told bytes → count ≡ mail_in bytes (state_of index.now.headers) (sections_in index.now) place) }
+    ensures fault { IfErr result (IsUncounted (used D.files D.now D.faults D.taken dumps.old dumps.new)) }
+{
+    match place {
+        None => Ok(None),
+        Some(i) => count_at(alloc, dumps, index, i, limits),
+    }
+}
+
+// Counts the messages of mailboxes that are none of them too large, one after another.
+fn count_each<D: Dumps>(
+    alloc: Global,
+    dumps: &mut D,
+    index: &Index,
+    places: &[Option<usize>],
+    limits: &Limits,
+) -> Result<Vec<Option<u64>>, BodyFault>
+    requires over { IsBuiltOver (D.now dumps.old) index.now }
+    requires within { All (IsWithin index.now) places.now }
+    requires small { All (IsSmall index.now limits.now.section) places.now }
+    ensures reads { ReadsAtMost (used D.files D.now D.faults D.taken dumps.old dumps.new) (bodies_length (mailboxes_at (sections_in index.now) places.now)) }
+    ensures counts { IfOk result (λ counts. (bytes : List ℕ) → D.now dumps.old ≡ told bytes → counts.items ≡ map (mail_in bytes (state_of index.now.headers) (sections_in index.now)) places.now) }
+    ensures all { IfOk result (λ counts. length counts.items ≡ length places.now) }
+    ensures fault { IfErr result (IsUncounted (used D.files D.now D.faults D.taken dumps.old dumps.new)) }
+{
+    let mut counts = Vec::new(alloc);
+    for place in places {
+        let count = count_in(alloc, dumps, index, *place, limits)?;
+        if counts.push(count).is_err() {
+            return Err(BodyFault::Memory);
+        }
+    }
+    Ok(counts)
+}
+
+/// Counts the messages of each process of the table. All mailboxes are judged before one is read, and each is loaded,
+/// counted and given up in turn.
+pub(crate) fn count_messages<D: Dumps>(
+    alloc: Global,
+    dumps: &mut D,
+    index: &Index,
+    procs: &Procs,
+    limits: &Limits,
+) -> Result<Vec<Option<u64>>, BodyFault>
+    requires over { IsBuiltOver (D.now dumps.old) index.now }
+    requires pids { map (λ p. p.pid) procs.now.processes ≡ pids_in (sections_in index.now) }
+    ensures reads { ReadsAtMost (used D.files D.now D.faults D.taken dumps.old dumps.new) (bodies_length (more_sections true (sections_in index.now))) }
+    ensures counts { IfOk result (λ counts. (bytes : List ℕ) → D.now dumps.old ≡ told bytes → counts.items ≡ map (mail_in bytes (state_of index.now.headers) (sections_in index.now)) (mailbox_places (sections_in index.now))) }
+    ensures all { IfOk result (λ counts. length counts.items ≡ length procs.now.processes) }
+    ensures loaded { OnOk result (first_large limits.now.section (more_sections true (sections_in index.now)) ≡ None) }
+    ensures fault { IfErr result (AreRefused (more_sections true (sections_in index.now)) limits.now.section (used D.files D.now D.faults D.taken dumps.old dumps.new)) }
+{
+    let Ok(places) = mailboxes(alloc, index, procs) else {
+        return Err(BodyFault::Memory);
+    };
+    if let Some(fault) = large(index, places.as_slice(), limits) {
+        return Err(fault);
+    }
+    count_each(alloc, dumps, index, places.as_slice(), limits)
+}

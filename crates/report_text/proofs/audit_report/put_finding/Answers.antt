@@ -1,0 +1,56 @@
+use Rattle.std.proofs.Common.{codes, decimal, sym, ◌∙◌, ap}
+use Rattle.dump_io.specs.Laws.Puts.{Puts-as}
+use Rattle.report_text.specs.Findings.{finding_line, three_line, partner_in, reference_in}
+use Rattle.report_text.proofs.FindingFacts.{kind-there, one-same, two-same, three-same}
+use Rattle.report_text.proofs.audit_report.put_finding.Goals as goal
+
+pub returns-in-MonitorTo : goal.returns-in-MonitorTo
+returns-in-MonitorTo g c =
+    let ps = c.args.procs.now.processes in
+    let f = c.in-MonitorTo in
+    let says = c.kind.ensures ∙ kind-there c.args.graph.now ps f.p f.entry c.requires.graph in
+    Puts-as (three-same (codes "monitor-to") c.in-MonitorTo.at c.in-MonitorTo.other c.pid-in-MonitorTo.ensures c.pid-in-MonitorTo-2.ensures (c.reference-reference.ensures ∙ ap reference_in says) ∙ ap (finding_line ps) (sym f.is))
+    c.put_three.ensures
+
+pub returns-in-MonitorFrom : goal.returns-in-MonitorFrom
+returns-in-MonitorFrom g c =
+    let ps = c.args.procs.now.processes in
+    let f = c.in-MonitorFrom in
+    let says = c.kind-in-MonitorFrom.ensures ∙ kind-there c.args.graph.now ps f.p f.entry c.requires.graph in
+    Puts-as (three-same (codes "monitor-from") c.in-MonitorFrom.at c.in-MonitorFrom.other c.pid-in-MonitorFrom.ensures c.pid-in-MonitorFrom-2.ensures (c.reference-reference-in-MonitorFrom.ensures ∙ ap reference_in says) ∙ ap (finding_line ps) (sym f.is))
+    c.put_three-in-MonitorFrom.ensures
+
+pub returns-in-UnreadLinks : goal.returns-in-UnreadLinks
+returns-in-UnreadLinks g c =
+    Puts-as (one-same (codes "unread-links") c.in-UnreadLinks.at c.in-UnreadLinks.other c.pid-in-UnreadLinks.ensures ∙ ap (finding_line c.args.procs.now.processes) (sym c.in-UnreadLinks.is)) c.put_one.ensures
+
+pub returns-in-UnreadQueue : goal.returns-in-UnreadQueue
+returns-in-UnreadQueue g c =
+    Puts-as (one-same (codes "unread-queue") c.in-UnreadQueue.at c.in-UnreadQueue.other c.pid-in-UnreadQueue.ensures ∙ ap (finding_line c.args.procs.now.processes) (sym c.in-UnreadQueue.is)) c.put_one-in-UnreadQueue.ensures
+
+pub returns-in-LinkGone : goal.returns-in-LinkGone
+returns-in-LinkGone g c =
+    let ps = c.args.procs.now.processes in
+    let f = c.in-LinkGone in
+    let says = c.kind-in-LinkGone.ensures ∙ kind-there c.args.graph.now ps f.p f.entry c.requires.graph in
+    Puts-as (two-same (codes "link-gone") c.in-LinkGone.at c.in-LinkGone.other c.pid-in-LinkGone.ensures (c.partner-gone.ensures ∙ ap partner_in says) ∙ ap (finding_line ps) (sym f.is)) c.put_two-in-LinkGone.ensures
+
+pub returns-in-ToGone : goal.returns-in-ToGone
+returns-in-ToGone g c =
+    let ps = c.args.procs.now.processes in
+    let f = c.in-ToGone in
+    let says = c.kind-kind.ensures ∙ kind-there c.args.graph.now ps f.p f.entry c.requires.graph in
+    Puts-as (three-same (codes "to-gone") c.in-ToGone.at c.in-ToGone.other c.pid-in-ToGone.ensures (c.partner.ensures ∙ ap partner_in says) (c.reference.ensures ∙ ap reference_in says) ∙ ap (finding_line ps) (sym f.is))
+    c.put_three-in-ToGone.ensures
+
+pub returns-in-FromGone : goal.returns-in-FromGone
+returns-in-FromGone g c =
+    let ps = c.args.procs.now.processes in
+    let f = c.in-FromGone in
+    let says = c.kind-kind-in-FromGone.ensures ∙ kind-there c.args.graph.now ps f.p f.entry c.requires.graph in
+    Puts-as (three-same (codes "from-gone") c.in-FromGone.at c.in-FromGone.other c.pid-in-FromGone.ensures (c.partner-in-FromGone.ensures ∙ ap partner_in says) (c.reference-in-FromGone.ensures ∙ ap reference_in says) ∙ ap (finding_line ps) (sym f.is))
+    c.put_three-in-FromGone.ensures
+
+pub returns-in-QueueCount : goal.returns-in-QueueCount
+returns-in-QueueCount g c =
+    Puts-as (ap (λ t. three_line (codes "queue-count") t (decimal c.in-QueueCount.stated) (decimal c.in-QueueCount.found) c.in-QueueCount.at c.in-QueueCount.other) c.pid-in-QueueCount.ensures ∙ ap (finding_line c.args.procs.now.processes) (sym c.in-QueueCount.is)) c.put_three-in-QueueCount.ensures

@@ -1,0 +1,47 @@
+-- The text of the report over links and monitors. Offsets are of the file.
+use Rattle.std.specs.Prelude.{ℕ, List, [], ◌∷◌, ◌++◌, length, decimal, codes, Option, None, Some, if◌then◌else◌}
+use Rattle.std.specs.List.{concat, flat_map, sum_by}
+use Rattle.section_rows.specs.Rows.{Kept}
+use Rattle.process_table.specs.Processes.{Process}
+use Rattle.link_graph.specs.Kinds.{Kind, Link, LinkPort, To, ToPort, ToName, From, FromPort, Other}
+use Rattle.link_graph.specs.Entries.{LinkEntry}
+use Rattle.link_graph.specs.Graph.{links_of}
+use Rattle.report_text.specs.Reports.{newline, space}
+
+-- the word of a kind of entries
+abbrev pub kind_word : Kind → List ℕ
+kind_word (Link pid) = codes "link"
+kind_word LinkPort = codes "link-port"
+kind_word (To pid reference) = codes "to"
+kind_word ToPort = codes "to-port"
+kind_word (ToName reference) = codes "to-name"
+kind_word (From pid reference) = codes "from"
+kind_word FromPort = codes "from-port"
+kind_word Other = codes "other"
+
+-- the line of an entry of the process with this pid: where it begins, the pid, the word of its kind, and its text
+abbrev pub entry_line : List ℕ → LinkEntry → List ℕ
+entry_line pid entry =
+    concat (decimal entry.at ∷ space ∷ pid ∷ space ∷ kind_word entry.kind ∷ space ∷ entry.text ∷ newline ∷ [])
+
+-- the line of a link list that isn't a list: where its field's line begins
+abbrev pub unread_line : List ℕ → Option Kept → List ℕ
+unread_line pid None = []
+unread_line pid (Some list) = concat (decimal list.at ∷ space ∷ pid ∷ codes " unread\n" ∷ [])
+
+-- the lines of a process
+abbrev pub process_links : Process → List ℕ
+process_links process =
+    if (links_of process.links).unread then unread_line process.pid process.links
+    else flat_map (entry_line process.pid) (links_of process.links).entries
+
+-- the last line: how many entries all processes have
+abbrev pub entry_count : Process → ℕ
+entry_count process = length (links_of process.links).entries
+
+abbrev pub entries_line : ℕ → List ℕ
+entries_line count = concat (codes "entries " ∷ decimal count ∷ newline ∷ [])
+
+-- the report of `links`
+abbrev pub links_report : List Process → List ℕ
+links_report processes = flat_map process_links processes ++ entries_line (sum_by entry_count processes)

@@ -1,0 +1,332 @@
+// The report of `audit`.
+ghost use Rattle.std.specs.Prelude.{◌≡◌, ◌<◌, length, slice_get, All};
+ghost use Rattle.std.specs.List.{flat_map};
+ghost use Rattle.dump_io.specs.Pieces.{piece_text};
+ghost use Rattle.dump_io.specs.Sinks.{changed, Puts};
+ghost use Rattle.link_graph.specs.Graph.{graph_of, links_at};
+ghost use Rattle.link_graph.specs.Seen.{shown_kind};
+ghost use Rattle.dump_audit.specs.Fitting.{Fits};
+ghost use Rattle.report_text.specs.Findings.{pid_at, kind_in, partner_in, reference_in, one_line, two_line, three_line, finding_line, findings_line, findings_report};
+
+use crate::index_report::put_state;
+use dump_audit::Finding;
+use dump_io::{Failed, Piece, Sink, put_pieces};
+use link_graph::{EntryKind, Graph};
+use process_table::Procs;
+use section_index::Index;
+
+// Writes the line of a finding with one text between its word and its offsets.
+fn put_one<'x, K: Sink>(
+    sink: &mut K,
+    word: &'x [u8],
+    first: Piece<'x>,
+    at: u64,
+    other: u64,
+) -> Result<(), Failed>
+    ensures { Puts (changed K.written K.faults sink.old sink.new) (one_line word.now (piece_text first.entry) at other) result }
+{
+    let space = Piece::Bytes(b" ");
+    put_pieces(
+        sink,
+        &[
+            Piece::Bytes(word),
+            space,
+            first,
+            space,
+            Piece::Dec(at),
+            space,
+            Piece::Dec(other),
+            Piece::Bytes(b"\n"),
+        ],
+    )
+}
+
+// Writes the line of a finding with two texts.
+fn put_two<'x, K: Sink>(
+    sink: &mut K,
+    word: &'x [u8],
+    first: Piece<'x>,
+    second: Piece<'x>,
+    at: u64,
+    other: u64,
+) -> Result<(), Failed>
+    ensures { Puts (changed K.written K.faults sink.old sink.new) (two_line word.now (piece_text first.entry) (piece_text second.entry) at other) result }
+{
+    let space = Piece::Bytes(b" ");
+    put_pieces(
+        sink,
+        &[
+            Piece::Bytes(word),
+            space,
+            first,
+            space,
+            second,
+            space,
+            Piece::Dec(at),
+            space,
+            Piece::Dec(other),
+            Piece::Bytes(b"\n"),
+        ],
+    )
+}
+
+// Writes the line of a finding with three texts.
+fn put_three<'x, K: Sink>(
+    sink: &mut K,
+    word: &'x [u8],
+    first: Piece<'x>,
+    second: Piece<'x>,
+    third: Piece<'x>,
+    at: u64,
+    other: u64,
+) -> Result<(), Failed>
+    ensures { Puts (changed K.written K.faults sink.old sink.new) (three_line word.now (piece_text first.entry) (piece_text second.entry) (piece_text third.entry) at other) result }
+{
+    let space = Piece::Bytes(b" ");
+    put_pieces(
+        sink,
+        &[
+            Piece::Bytes(word),
+            space,
+            first,
+            space,
+            second,
+            space,
+            third,
+            space,
+            Piece::Dec(at),
+            space,
+            Piece::Dec(other),
+            Piece::Bytes(b"\n"),
+        ],
+    )
+}
+
+// The pid of the process at a place.
+fn pid(procs: &Procs, p: u32) -> Piece<'_>
+    requires { p < length procs.now.processes }
+    ensures { piece_text result ≡ pid_at procs.now.processes p }
+{
+    Piece::Bytes(procs.at(p as usize).pid)
+}
+
+// What the entry with a number says, of the process at a place.
+fn kind<'a>(graph: &'a Graph<'a>, p: u32, entry: u32) -> EntryKind<'a>
+    requires process { p < length graph.now }
+    requires entry { entry < length (links_at graph.now p).entries }
+    ensures { shown_kind result ≡ kind_in (slice_get (links_at graph.now p).entries entry) }
+{
+    let entry = graph.entry(p as usize, entry);
+    entry.kind
+}
+
+// The pid that an entry speaks of.
+fn partner(kind: EntryKind<'_>) -> Piece<'_>
+    ensures { piece_text result ≡ partner_in (shown_kind kind.entry) }
+{
+    match kind {
+        EntryKind::Link(pid) | EntryKind::To(pid, _) | EntryKind::From(pid, _) => Piece::Bytes(pid),
+        _ => Piece::Bytes(b""),
+    }
+}
+
+// The reference of a monitor.
+fn reference(kind: EntryKind<'_>) -> Piece<'_>
+    ensures { piece_text result ≡ reference_in (shown_kind kind.entry) }
+{
+    match kind {
+        EntryKind::To(_, reference) | EntryKind::From(_, reference) => Piece::Bytes(reference),
+        _ => Piece::Bytes(b""),
+    }
+}
+
+// Writes the line of a finding.
+fn put_finding<K: Sink>(
+    sink: &mut K,
+    procs: &Procs,
+    graph: &Graph<'_>,
+    finding: Finding,
+) -> Result<(), Failed>
+    requires graph { graph.now ≡ graph_of procs.now.processes }
+    requires fits { Fits procs.now.processes finding }
+    ensures { Puts (changed K.written K.faults sink.old sink.new) (finding_line procs.now.processes finding) result }
+{
+    match finding {
+        Finding::LinkOneSided {
+            p,
+            q,
+            at,
+            other,
+            ..
+        } => put_two(sink, b"link", pid(procs, p), pid(procs, q), at, other),
+        Finding::MonitorTo {
+            p,
+            q,
+            entry,
+            at,
+            other,
+        } => {
+            let reference = reference(kind(graph, p, entry));
+            put_three(
+                sink,
+                b"monitor-to",
+                pid(procs, p),
+                pid(procs, q),
+                reference,
+                at,
+                other,
+            )
+        }
+        Finding::MonitorFrom {
+            p,
+            q,
+            entry,
+            at,
+            other,
+        } => {
+            let reference = reference(kind(graph, p, entry));
+            put_three(
+                sink,
+                b"monitor-from",
+                pid(procs, p),
+                pid(procs, q),
+                reference,
+                at,
+                other,
+            )
+        }
+        Finding::Mailbox {
+            p,
+            count,
+            at,
+            other,
+        } => put_two(
+            sink,
+            b"mailbox",
+            pid(procs, p),
+            Piece::Dec(count),
+            at,
+            other,
+        ),
+        Finding::UnreadLinks { p, at, other } => put_one(
+            sink,
+            b"unread-links",
+            pid(procs, p),
+            at,
+            other,
+        ),
+        Finding::UnreadQueue { p, at, other } => put_one(
+            sink,
+            b"unread-queue",
+            pid(procs, p),
+            at,
+            other,
+        ),
+        Finding::LinkGone {
+            p,
+            entry,
+            at,
+            other,
+        } => {
+            let gone = partner(kind(graph, p, entry));
+            put_two(sink, b"link-gone", pid(procs, p), gone, at, other)
+        }
+        Finding::ToGone {
+            p,
+            entry,
+            at,
+            other,
+        } => {
+            let kind = kind(graph, p, entry);
+            put_three(
+                sink,
+                b"to-gone",
+                pid(procs, p),
+                partner(kind),
+                reference(kind),
+                at,
+                other,
+            )
+        }
+        Finding::FromGone {
+            p,
+            entry,
+            at,
+            other,
+        } => {
+            let kind = kind(graph, p, entry);
+            put_three(
+                sink,
+                b"from-gone",
+                pid(procs, p),
+                partner(kind),
+                reference(kind),
+                at,
+                other,
+            )
+        }
+        Finding::QueueCount {
+            p,
+            stated,
+            found,
+            at,
+            other,
+        } => put_three(
+            sink,
+            b"queue-count",
+            pid(procs, p),
+            Piece::Dec(stated),
+            Piece::Dec(found),
+            at,
+            other,
+        ),
+    }
+}
+
+fn put_all<K: Sink>(
+    sink: &mut K,
+    procs: &Procs,
+    graph: &Graph<'_>,
+    findings: &[Finding],
+) -> Result<(), Failed>
+    requires graph { graph.now ≡ graph_of procs.now.processes }
+    requires fits { All (Fits procs.now.processes) findings.now }
+    ensures { Puts (changed K.written K.faults sink.old sink.new) (flat_map (finding_line procs.now.processes) findings.now) result }
+{
+    for finding in findings {
+        put_finding(sink, procs, graph, *finding)?;
+    }
+    Ok(())
+}
+
+fn put_count<K: Sink>(sink: &mut K, count: usize) -> Result<(), Failed>
+    ensures { Puts (changed K.written K.faults sink.old sink.new) (findings_line count) result }
+{
+    put_pieces(
+        sink,
+        &[
+            Piece::Bytes(b"findings "),
+            Piece::Dec(count as u64),
+            Piece::Bytes(b"\n"),
+        ],
+    )
+}
+
+/// Writes a line for each finding: its word, the pid of the process, what else it names, and its two offsets. Then come
+/// `findings N` and the line of the state, as in [`put_index`](crate::put_index). The graph is that of the processes, and the
+/// findings fit them, as those of [`audit`](dump_audit::audit) do.
+pub fn put_findings<K: Sink>(
+    sink: &mut K,
+    index: &Index,
+    procs: &Procs,
+    graph: &Graph<'_>,
+    findings: &[Finding],
+) -> Result<(), Failed>
+    requires graph { graph.now ≡ graph_of procs.now.processes }
+    requires fits { All (Fits procs.now.processes) findings.now }
+    ensures { Puts (changed K.written K.faults sink.old sink.new) (findings_report index.now procs.now.processes findings.now) result }
+{
+    put_all(sink, procs, graph, findings)?;
+    put_count(sink, findings.len())?;
+    put_state(sink, index)
+}

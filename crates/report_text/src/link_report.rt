@@ -1,0 +1,140 @@
+// The report of `links`.
+ghost use Rattle.std.specs.Prelude.{◌≡◌, ◌<◌, length};
+ghost use Rattle.std.specs.List.{flat_map, sum_by};
+ghost use Rattle.dump_io.specs.Sinks.{changed, Puts};
+ghost use Rattle.process_table.specs.Shown.{shown_process};
+ghost use Rattle.link_graph.specs.Graph.{graph_of, links_at, links_of};
+ghost use Rattle.link_graph.specs.Seen.{shown_entry, shown_kind};
+ghost use Rattle.report_text.specs.Links.{kind_word, entry_line, unread_line, process_links, entry_count, entries_line, links_report};
+
+use dump_io::{Failed, Piece, Sink, put_pieces};
+use link_graph::{Entry, EntryKind, Graph};
+use process_table::{Proc, Procs};
+
+fn kind_word(kind: &EntryKind<'_>) -> &'static [u8]
+    ensures { result.now ≡ kind_word (shown_kind kind.now) }
+{
+    match kind {
+        EntryKind::Link(_) => b"link",
+        EntryKind::LinkPort => b"link-port",
+        EntryKind::To(_, _) => b"to",
+        EntryKind::ToPort => b"to-port",
+        EntryKind::ToName(_) => b"to-name",
+        EntryKind::From(_, _) => b"from",
+        EntryKind::FromPort => b"from-port",
+        EntryKind::Other => b"other",
+    }
+}
+
+// Writes the line of an entry of the process with this pid.
+fn put_entry<'x, K: Sink>(sink: &mut K, pid: &'x [u8], entry: &Entry<'x>) -> Result<(), Failed>
+    ensures { Puts (changed K.written K.faults sink.old sink.new) (entry_line pid.now (shown_entry entry.now)) result }
+{
+    let space = Piece::Bytes(b" ");
+    put_pieces(
+        sink,
+        &[
+            Piece::Dec(entry.at),
+            space,
+            Piece::Bytes(pid),
+            space,
+            Piece::Bytes(kind_word(&entry.kind)),
+            space,
+            Piece::Bytes(entry.text),
+            Piece::Bytes(b"\n"),
+        ],
+    )
+}
+
+// Writes the lines of the entries of the process at a place.
+fn put_entries<K: Sink>(sink: &mut K, pid: &[u8], graph: &Graph<'_>, p: usize) -> Result<(), Failed>
+    requires { p < length graph.now }
+    ensures { Puts (changed K.written K.faults sink.old sink.new) (flat_map (entry_line pid.now) (links_at graph.now p).entries) result }
+{
+    for n in 0..graph.count(p) {
+        put_entry(sink, pid, &graph.entry(p, n))?;
+    }
+    Ok(())
+}
+
+// Writes the line of a link list that isn't read.
+fn put_unread<K: Sink>(sink: &mut K, process: &Proc<'_>) -> Result<(), Failed>
+    ensures { Puts (changed K.written K.faults sink.old sink.new) (unread_line process.now.pid.now (shown_process process.now).links) result }
+{
+    let Some(list) = process.links else {
+        return Ok(());
+    };
+    put_pieces(
+        sink,
+        &[
+            Piece::Dec(list.at),
+            Piece::Bytes(b" "),
+            Piece::Bytes(process.pid),
+            Piece::Bytes(b" unread\n"),
+        ],
+    )
+}
+
+// Writes the lines of a process, which stands at this place.
+fn put_process<K: Sink>(
+    sink: &mut K,
+    process: &Proc<'_>,
+    graph: &Graph<'_>,
+    p: usize,
+) -> Result<(), Failed>
+    requires place { p < length graph.now }
+    requires links { links_at graph.now p ≡ links_of (shown_process process.now).links }
+    ensures { Puts (changed K.written K.faults sink.old sink.new) (process_links (shown_process process.now)) result }
+{
+    if graph.unread(p) {
+        put_unread(sink, process)
+    } else {
+        put_entries(sink, process.pid, graph, p)
+    }
+}
+
+fn put_processes<K: Sink>(sink: &mut K, procs: &Procs, graph: &Graph<'_>) -> Result<(), Failed>
+    requires { graph.now ≡ graph_of procs.now.processes }
+    ensures { Puts (changed K.written K.faults sink.old sink.new) (flat_map process_links procs.now.processes) result }
+{
+    for p in 0..procs.len() {
+        put_process(sink, &procs.at(p), graph, p)?;
+    }
+    Ok(())
+}
+
+// How many entries all processes have.
+fn entry_total(procs: &Procs, graph: &Graph<'_>) -> u64
+    requires { graph.now ≡ graph_of procs.now.processes }
+    ensures { result ≡ sum_by entry_count procs.now.processes }
+{
+    let mut total = 0;
+    for p in 0..procs.len() {
+        total += graph.count(p) as u64;
+    }
+    total
+}
+
+fn put_total<K: Sink>(sink: &mut K, total: u64) -> Result<(), Failed>
+    ensures { Puts (changed K.written K.faults sink.old sink.new) (entries_line total) result }
+{
+    put_pieces(
+        sink,
+        &[
+            Piece::Bytes(b"entries "),
+            Piece::Dec(total),
+            Piece::Bytes(b"\n"),
+        ],
+    )
+}
+
+/// Writes a line for each entry of the link lists, `AT PID WORD ENTRY`: its offset, the pid of the process, the word
+/// of its kind and its text. A link list that isn't read has the line `AT PID unread`, with the offset of its field.
+/// Then comes `entries N`. The graph is that of the processes.
+pub fn put_links<K: Sink>(sink: &mut K, procs: &Procs, graph: &Graph<'_>) -> Result<(), Failed>
+    requires { graph.now ≡ graph_of procs.now.processes }
+    ensures { Puts (changed K.written K.faults sink.old sink.new) (links_report procs.now.processes) result }
+{
+    put_processes(sink, procs, graph)?;
+    put_total(sink, entry_total(procs, graph))
+}
