@@ -1,12 +1,13 @@
 -- The commands, by the words of the command line.
-use Rattle.std.specs.Prelude.{ℕ, Bool, true, false, List, [], ◌∷◌, Option, None, Some, codes, if◌then◌else◌}
+use Rattle.std.specs.Prelude.{ℕ, ◌≤◌, Bool, true, false, List, [], ◌∷◌, Option, None, Some, codes, if◌then◌else◌}
 use Rattle.std.specs.Option.{option_and_then, option_map}
 use Rattle.std.specs.Str.{bytes_eq}
 use Rattle.dump_io.specs.Numbers.{dec_number}
 use Rattle.table_sections.specs.declared.kinds.TableKind.{TableKind}
 use Rattle.table_sections.specs.declared.kinds.TableKind.TheVariants as kinds
 use Rattle.dump_command.specs.declared.words.Cmd.{Cmd}
-use Rattle.dump_command.specs.declared.words.Cmd.TheVariants.{Index, Info, Procs, Proc, Memory, Ets, Ports, Nodes, Mods, Links, Audit}
+use Rattle.dump_command.specs.declared.words.Cmd.TheVariants.{Index, Info, Procs, Proc, Memory, Ets, Ports, Nodes, Mods, Links, Audit, Make}
+use Rattle.dump_command.specs.MadeWords.{seed_and_count}
 
 -- a command and what it is asked for
 pub data Command : Type 0 where
@@ -20,6 +21,8 @@ pub data Command : Type 0 where
   links : List ℕ → Command
   -- an audit with this limit on message queues, in full or not
   audit : List ℕ → ℕ → Bool → Command
+  -- a dump is made of a seed and a count of processes
+  make : ℕ → ℕ → Command
 
 -- what a command is, where its words are lent
 abbrev pub shown : Cmd → Command
@@ -34,6 +37,7 @@ shown (Nodes file) = table kinds.Nodes file.now
 shown (Mods file) = table kinds.Mods file.now
 shown (Links file) = links file.now
 shown (Audit file limit full) = audit file.now limit full
+shown (Make seed count) = make seed count
 
 -- a command of one word, which is the name of a file
 abbrev pub file_command : List ℕ → List ℕ → Option Command
@@ -61,9 +65,16 @@ audit_command file limit words = option_and_then (λ n. option_map (audit file n
 abbrev pub process_command : List ℕ → List ℕ → List ℕ → List (List ℕ) → Option Command
 process_command name file word words = if bytes_eq name (codes "audit") then audit_command file word words else None
 
--- a command of the name of a file and another word
+-- a command of two numbers
+abbrev pub number_command : List ℕ → List ℕ → List ℕ → Option Command
+number_command name seed count =
+    if bytes_eq name (codes "make") then option_map (λ numbers. make numbers.0 numbers.1) (seed_and_count seed count) else None
+
+-- a command of the name of a file and another word, or of two numbers
 abbrev pub word_command : List ℕ → List ℕ → List ℕ → Option Command
-word_command name file word = if bytes_eq name (codes "proc") then Some (proc file word) else process_command name file word []
+word_command name file word =
+    if bytes_eq name (codes "proc") then Some (proc file word)
+    else (if bytes_eq name (codes "make") then number_command name file word else process_command name file word [])
 
 -- the command of the words behind the program's name, or none
 abbrev pub command : List (List ℕ) → Option Command
@@ -83,3 +94,9 @@ file_of (memory file) = Some file
 file_of (table kind file) = Some file
 file_of (links file) = Some file
 file_of (audit file limit full) = Some file
+file_of (make seed count) = None
+
+-- the numbers of a command are those that it takes
+abbrev pub IsInRange : Command → Type 0
+IsInRange (make seed count) = (1 ≤ count) × (count ≤ 200000)
+IsInRange cmd = Unit {0}

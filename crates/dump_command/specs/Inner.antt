@@ -1,6 +1,7 @@
+-- What only private functions cite: how a command's run is put together.
+pub mod Alone
 pub mod Audits
 pub mod Fields
--- What only private functions cite: how a command's run is put together.
 pub mod Info
 pub mod Loads
 pub mod Mailboxes

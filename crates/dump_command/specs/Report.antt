@@ -21,8 +21,9 @@ use Rattle.process_table.specs.Records.{record_sections}
 use Rattle.section_index.specs.Lookups.{has_tag, is_named}
 use Rattle.section_rows.specs.Loading.{first_large}
 use Rattle.table_sections.specs.Tables.{listed, table_of}
+use Rattle.dump_write.specs.Made.{made}
 use Rattle.dump_command.specs.Audits.{audit_in, audited_sections, status_of}
-use Rattle.dump_command.specs.Command.{Command, index, info, procs, proc, memory, table, links, audit, file_of}
+use Rattle.dump_command.specs.Command.{Command, index, info, procs, proc, memory, table, links, audit, make, file_of}
 use Rattle.dump_command.specs.declared.status.TheConstants.{DONE}
 
 -- the first of these sections
@@ -52,6 +53,7 @@ bodies (memory file) sections = one_of (memory_section sections)
 bodies (table kind file) sections = listed kind sections
 bodies (links file) sections = record_sections sections
 bodies (audit file limit full) sections = audited_sections full sections
+bodies (make seed count) sections = []
 
 -- the bytes of a section's body
 abbrev pub body_of : List ℕ → Section → List ℕ
@@ -78,6 +80,7 @@ report (memory file) bytes = fields_of bytes (memory_section (sections bytes))
 report (table kind file) bytes = rows_report (table_of kind bytes)
 report (links file) bytes = links_report (process_table bytes).processes
 report (audit file limit full) bytes = audit_report (audit_in limit full bytes)
+report (make seed count) bytes = made seed count
 
 -- the status of a run that has written its whole report
 abbrev pub report_status : Command → List ℕ → ℕ

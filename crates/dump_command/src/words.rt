@@ -1,8 +1,10 @@
 // The words of the command line.
 ghost use Rattle.std.specs.Prelude.{◌≡◌, map, option_map};
+ghost use Rattle.std.specs.Option.{IfSome};
 ghost use Rattle.std.specs.String.{string_bytes};
-ghost use Rattle.dump_command.specs.Command.{audit_command, command, file_command, full_of, process_command, word_command, shown};
+ghost use Rattle.dump_command.specs.Command.{audit_command, command, file_command, full_of, process_command, word_command, shown, IsInRange};
 
+use crate::made_words::number_command;
 use dump_io::dec_u64;
 
 /// A command with its words.
@@ -57,11 +59,17 @@ pub enum Cmd<'a> {
         limit: u64,
         full: bool,
     },
+    /// `make SEED COUNT`: a dump that is made, of so many processes. No file is opened.
+    Make {
+        seed: u64,
+        count: u32,
+    },
 }
 
 /// The command of the words behind the program's name. `None` comes exactly where they are no command.
 pub fn read_words(words: &[String]) -> Option<Cmd<'_>>
-    ensures { option_map shown result ≡ command (map string_bytes words.now) }
+    ensures reads { option_map shown result ≡ command (map string_bytes words.now) }
+    ensures range { IfSome result (λ cmd. IsInRange (shown cmd)) }
 {
     match words {
         [name, file] => file_command(name.as_str(), file.as_str()),
@@ -74,7 +82,8 @@ pub fn read_words(words: &[String]) -> Option<Cmd<'_>>
 }
 
 fn file_command<'a>(name: &str, file: &'a str) -> Option<Cmd<'a>>
-    ensures { option_map shown result ≡ file_command name.now file.now }
+    ensures reads { option_map shown result ≡ file_command name.now file.now }
+    ensures range { IfSome result (λ cmd. IsInRange (shown cmd)) }
 {
     match name {
         "index" => Some(Cmd::Index { file }),
@@ -91,16 +100,19 @@ fn file_command<'a>(name: &str, file: &'a str) -> Option<Cmd<'a>>
 }
 
 fn word_command<'a>(name: &str, file: &'a str, word: &'a str) -> Option<Cmd<'a>>
-    ensures { option_map shown result ≡ word_command name.now file.now word.now }
+    ensures reads { option_map shown result ≡ word_command name.now file.now word.now }
+    ensures range { IfSome result (λ cmd. IsInRange (shown cmd)) }
 {
     match name {
         "proc" => Some(Cmd::Proc { file, pid: word }),
+        "make" => number_command(name, file, word),
         _ => process_command(name, file, word, &[]),
     }
 }
 
 fn process_command<'a>(name: &str, file: &'a str, word: &str, words: &[String]) -> Option<Cmd<'a>>
-    ensures { option_map shown result ≡ process_command name.now file.now word.now (map string_bytes words.now) }
+    ensures reads { option_map shown result ≡ process_command name.now file.now word.now (map string_bytes words.now) }
+    ensures range { IfSome result (λ cmd. IsInRange (shown cmd)) }
 {
     match name {
         "audit" => audit_command(file, word, words),
@@ -120,7 +132,8 @@ fn full_of(words: &[String]) -> Option<bool>
 }
 
 fn audit_command<'a>(file: &'a str, limit: &str, words: &[String]) -> Option<Cmd<'a>>
-    ensures { option_map shown result ≡ audit_command file.now limit.now (map string_bytes words.now) }
+    ensures reads { option_map shown result ≡ audit_command file.now limit.now (map string_bytes words.now) }
+    ensures range { IfSome result (λ cmd. IsInRange (shown cmd)) }
 {
     let limit = dec_u64(limit.as_bytes())?;
     let full = full_of(words)?;
