@@ -1,3 +1,6 @@
+// A graph of a small dump.
+ghost use Rattle.std.specs.Prelude.{◌≤◌, length};
+
 use crate::{EntryKind, Graph};
 use dump_io::{DumpFile, Dumps, HeldDump, Limits};
 use process_table::Procs;
@@ -25,7 +28,9 @@ fn procs_of<D: Dumps>(alloc: Global, dumps: &mut D) -> Result<Procs, Fail> {
     Ok(Procs::load(alloc, dumps, &index, &limits)?)
 }
 
-fn sees_entries(rt: &impl Abort, graph: &Graph<'_>) {
+fn sees_entries(rt: &impl Abort, graph: &Graph<'_>)
+    requires { 4 ≤ length graph.now }
+{
     assert_eq!(rt; graph.count(0), 4);
     let entry = graph.entry(0, 1);
     assert_eq!(rt; entry.at, 55);
@@ -38,7 +43,9 @@ fn sees_entries(rt: &impl Abort, graph: &Graph<'_>) {
     );
 }
 
-fn finds_entries(rt: &impl Abort, graph: &Graph<'_>) {
+fn finds_entries(rt: &impl Abort, graph: &Graph<'_>)
+    requires { 4 ≤ length graph.now }
+{
     assert!(rt; graph.has_link(0, b"<0.2.0>") && !graph.has_link(0, b"<0.20.0>"));
     assert!(rt;
         graph.has_to(0, b"<0.3.0>", b"#Ref<0.8>") && !graph.has_to(0, b"<0.3.0>", b"#Ref<0.80>")
@@ -60,6 +67,9 @@ fn a_graph_has_the_entries_of_a_dump(rt: HostRuntime) -> Result<(), Fail> {
     let procs = procs_of(alloc, &mut HeldDump::new(file))?;
     let graph = Graph::build(alloc, &procs)?;
     assert_eq!(&rt; procs.len(), 4);
+    if procs.len() < 4 {
+        return Err("processes".into());
+    }
     sees_entries(&rt, &graph);
     finds_entries(&rt, &graph);
     Ok(())
