@@ -1,0 +1,4 @@
+pub mod BodyFacts
+pub mod EntryFacts
+pub mod FirstPlace
+pub mod PlaceFacts

@@ -1,0 +1,35 @@
+-- The beginning of a `binary` section's body.
+use Rattle.std.specs.Prelude.{◌≡◌, ℕ, ◌≤◌, List, drop, Option, None, Some}
+use Rattle.std.specs.Option.{option_map}
+use Rattle.std.specs.List.{between}
+use Rattle.std.specs.Global.{Vec}
+use Rattle.section_index.specs.Index.{Contents}
+use Rattle.section_index.specs.declared.bodies.BodyFault.{BodyFault}
+use Rattle.section_index.specs.declared.bodies.BodyFault.TheVariants as load
+use Rattle.binary_refs.specs.declared.faults.BinFault.{BinFault}
+use Rattle.binary_refs.specs.declared.faults.BinFault.TheVariants as give
+use Rattle.section_index.specs.Bodies.{section_at}
+use Rattle.term_forms.specs.Words.{led_of}
+use Rattle.binary_refs.specs.declared.stored.Lead.{Lead}
+
+-- the body of the section at a place, in the bytes of a dump
+abbrev pub body_at : List ℕ → Contents → ℕ → List ℕ
+body_at dump index place = between (section_at index place).body (section_at index place).end dump
+
+-- the length that a body begins with, and the characters behind it
+abbrev pub led_by : List ℕ → Lead → ℕ × List ℕ
+led_by body lead = (lead.length, drop lead.chars body)
+
+-- this is the beginning of the body, if it has one
+abbrev pub IsLeadOf : List ℕ → Option Lead → Type 0
+IsLeadOf body lead = option_map (led_by body) lead ≡ led_of body
+
+-- the bytes of a vector, where there is one
+abbrev pub bytes_in : Option (Vec ℕ) → Option (List ℕ)
+bytes_in bytes = option_map (λ (v : Vec ℕ). v.items) bytes
+
+-- why a body isn't loaded, as why its binary isn't given
+abbrev pub bin_fault : BodyFault → BinFault
+bin_fault (load.SectionTooLarge at len) = give.SectionTooLarge at len
+bin_fault load.Read = give.Read
+bin_fault load.Memory = give.Memory

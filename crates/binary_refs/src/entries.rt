@@ -1,0 +1,19 @@
+// What is kept of a cell that refers to a binary, and what is told of it.
+use crate::few_bytes::FewBytes;
+
+/// The first bytes of the range to which a cell refers, and the size that the cell states.
+#[derive(Clone, Copy, Debug)]
+pub enum Preview<'a> {
+    /// The first bytes, 32 at most, and the size of the whole range.
+    Bytes(&'a [u8], u64),
+    /// The bytes are unknown; the size of the range as it is stated.
+    Unknown(u64),
+}
+
+// The number of a cell, the size that it states, and the bytes that are shown of it.
+#[derive(Drop)]
+pub(crate) struct Entry {
+    pub cell: u32,
+    pub size: u64,
+    pub bytes: Option<FewBytes>,
+}

@@ -1,0 +1,280 @@
+// The previews of a heap's references to binaries.
+ghost use Rattle.std.specs.Prelude.{◌≡◌, ℕ, ◌+◌, ◌*◌, ◌<◌, ◌≤◌, ◌++◌, List, length, map, nat_lt, true, false, Some, None, IsSome, OnOk, OnErr, IfOk, IfErr, IfSome};
+ghost use Rattle.std.specs.Option.{option_map, option_and_then, option_to_list};
+ghost use Rattle.std.specs.List.Sorted.{IsNonDecreasingBy, IsPartitionPoint};
+ghost use Rattle.dump_io.specs.Dumps.{told, used, DeviceFailed, ReadsAtMost};
+ghost use Rattle.section_index.specs.Index.{IsBuiltOver, sections_in};
+ghost use Rattle.term_forms.specs.Payload.{IsPayloadOf};
+ghost use Rattle.term_forms.specs.Seen.{number_rest};
+ghost use Rattle.term_forms.specs.SeenForms.{heap_form};
+ghost use Rattle.heap_cells.specs.HeapMap.{form_at, IsSpelled};
+ghost use Rattle.heap_cells.specs.Targets.{number};
+ghost use Rattle.binary_refs.specs.Loading.{IsCauseOf};
+ghost use Rattle.binary_refs.specs.Previews.{own_binary, heap_binary, in_heap, in_part, entry, entry_of, by_number, previews_of, stated, stating, binaries, entry_at, AreFor, told_entry};
+ghost use Rattle.binary_refs.specs.Inner.Places.{AreOrdered};
+
+use crate::entries::{Entry, Preview};
+use crate::faults::PreviewFault;
+use crate::few_bytes::FewBytes;
+use crate::places::places_of;
+use crate::stored::{Range, is_within, range_of, read_stored};
+use dump_io::{Dumps, Failed};
+use heap_cells::{CellIx, Heap, Seat};
+use section_index::Index;
+use std::alloc::Global;
+use std::marker::Model;
+use term_forms::shapes::Form;
+use term_forms::{Enc, payload_part};
+
+// The length and the characters of a binary that lies in the heap.
+fn own_binary<'a>(form: &Form<'a>) -> Option<(u64, &'a [u8])>
+    ensures { option_map number_rest result ≡ own_binary (heap_form form.now) }
+{
+    match form {
+        Form::HeapBin(size, chars) => Some((*size, *chars)),
+        _ => None,
+    }
+}
+
+// Those of the heap's binary with this address.
+fn heap_binary(heap: &Heap, address: u64) -> Option<(u64, &[u8])>
+    ensures found { option_map number_rest result ≡ heap_binary heap.now.cells address }
+    ensures payload { IfSome result (λ binary. IsPayloadOf heap.now.enc binary.1.now binary.0) }
+{
+    let Seat::Cell(ix) = heap.at(address) else {
+        return None;
+    };
+    let form = heap.form(ix)?;
+    own_binary(&form)
+}
+
+// What is shown of a range of a binary with this payload.
+fn shown_in(chars: &[u8], enc: Enc, size: u64, range: &Range) -> Option<FewBytes>
+    requires { IsPayloadOf enc chars.now size }
+    ensures { result ≡ in_heap enc range.now.offset range.now.size (size, chars.now) }
+{
+    if !is_within(range, size) {
+        return None;
+    }
+    let mut buffer = [0; 32];
+    let bytes = &mut buffer[..range.size.min(32) as usize];
+    payload_part(chars, enc, size, range.offset, bytes);
+    Some(FewBytes::new(bytes))
+}
+
+// What is shown of a part of a binary, from the heap's binary where there is one, and else from the dump.
+fn read_shown_part<D: Dumps>(
+    dumps: &mut D,
+    index: &Index,
+    places: &[(u64, u32)],
+    heap: &Heap,
+    range: &Range,
+) -> Result<Option<FewBytes>, Failed>
+    requires over { IsBuiltOver (D.now dumps.old) index.now }
+    requires places { AreOrdered (sections_in index.now) places.now }
+    ensures reads { ReadsAtMost (used D.files D.now D.faults D.taken dumps.old dumps.new) 128 }
+    ensures failed { OnErr result (DeviceFailed (used D.files D.now D.faults D.taken dumps.old dumps.new)) }
+    ensures bytes { IfOk result (λ bytes. (dump : List ℕ) → D.now dumps.old ≡ told dump
+        → bytes ≡ in_part (heap_binary heap.now.cells range.now.address) dump index.now heap.now.enc range.now.address range.now.offset range.now.size) }
+{
+    match heap_binary(heap, range.address) {
+        Some((size, chars)) => Ok(shown_in(chars, heap.enc(), size, range)),
+        None => read_stored(dumps, index, places, heap.enc(), range),
+    }
+}
+
+fn new_entry(cell: u32, size: u64, bytes: Option<FewBytes>) -> Entry
+    ensures { result ≡ entry cell size bytes }
+{
+    Entry { cell, size, bytes }
+}
+
+// The entry of the cell with this number and form, where it refers to a binary.
+fn read_form<D: Dumps>(
+    dumps: &mut D,
+    index: &Index,
+    places: &[(u64, u32)],
+    heap: &Heap,
+    n: u32,
+    form: &Form<'_>,
+) -> Result<Option<Entry>, Failed>
+    requires over { IsBuiltOver (D.now dumps.old) index.now }
+    requires places { AreOrdered (sections_in index.now) places.now }
+    ensures reads { ReadsAtMost (used D.files D.now D.faults D.taken dumps.old dumps.new) (128 * length (option_to_list (stated n (heap_form form.now)))) }
+    ensures failed { OnErr result (DeviceFailed (used D.files D.now D.faults D.taken dumps.old dumps.new)) }
+    ensures stated { IfOk result (λ entry. option_map stating entry ≡ stated n (heap_form form.now)) }
+    ensures entry { IfOk result (λ entry. (dump : List ℕ) → D.now dumps.old ≡ told dump → entry ≡ entry_of dump index.now heap.now n (heap_form form.now)) }
+{
+    match form {
+        Form::RefBin(address, offset, size) => {
+            let range = range_of(*address, *offset, *size);
+            let bytes = read_stored(dumps, index, places, heap.enc(), &range)?;
+            Ok(Some(new_entry(n, *size, bytes)))
+        }
+        Form::SubBin(address, offset, size) => {
+            let range = range_of(*address, *offset, *size);
+            let bytes = read_shown_part(dumps, index, places, heap, &range)?;
+            Ok(Some(new_entry(n, *size, bytes)))
+        }
+        _ => Ok(None),
+    }
+}
+
+// The entry of the cell with a number, where it refers to a binary.
+fn read_entry<D: Dumps>(
+    dumps: &mut D,
+    index: &Index,
+    places: &[(u64, u32)],
+    heap: &Heap,
+    n: u32,
+) -> Result<Option<Entry>, Failed>
+    requires over { IsBuiltOver (D.now dumps.old) index.now }
+    requires places { AreOrdered (sections_in index.now) places.now }
+    requires cell { n < length heap.now.cells }
+    ensures reads { ReadsAtMost (used D.files D.now D.faults D.taken dumps.old dumps.new) (128 * length (option_to_list (option_and_then (stated n) (form_at heap.now.cells n)))) }
+    ensures failed { OnErr result (DeviceFailed (used D.files D.now D.faults D.taken dumps.old dumps.new)) }
+    ensures stated { IfOk result (λ entry. option_map stating entry ≡ option_and_then (stated n) (form_at heap.now.cells n)) }
+    ensures entry { IfOk result (λ entry. (dump : List ℕ) → D.now dumps.old ≡ told dump
+        → entry ≡ option_and_then (entry_of dump index.now heap.now n) (form_at heap.now.cells n)) }
+{
+    match heap.form(heap.cell(n)) {
+        Some(form) => read_form(dumps, index, places, heap, n, &form),
+        None => Ok(None),
+    }
+}
+
+// One more entry, where the cell with a number refers to a binary.
+fn push_entry<D: Dumps>(
+    entries: &mut Vec<Entry>,
+    dumps: &mut D,
+    index: &Index,
+    places: &[(u64, u32)],
+    heap: &Heap,
+    n: u32,
+) -> Result<(), PreviewFault>
+    requires over { IsBuiltOver (D.now dumps.old) index.now }
+    requires places { AreOrdered (sections_in index.now) places.now }
+    requires cell { n < length heap.now.cells }
+    ensures reads { ReadsAtMost (used D.files D.now D.faults D.taken dumps.old dumps.new) (128 * length (option_to_list (option_and_then (stated n) (form_at heap.now.cells n)))) }
+    ensures fault { IfErr result (IsCauseOf (used D.files D.now D.faults D.taken dumps.old dumps.new)) }
+    ensures stated { OnOk result (map stating entries.new.items ≡ map stating entries.old.items ++ option_to_list (option_and_then (stated n) (form_at heap.now.cells n))) }
+    ensures entry { OnOk result ((dump : List ℕ) → D.now dumps.old ≡ told dump
+        → entries.new.items ≡ entries.old.items ++ option_to_list (option_and_then (entry_of dump index.now heap.now n) (form_at heap.now.cells n))) }
+{
+    let Ok(entry) = read_entry(dumps, index, places, heap, n) else {
+        return Err(PreviewFault::Read);
+    };
+    if let Some(entry) = entry {
+        if entries.push(entry).is_err() {
+            return Err(PreviewFault::Memory);
+        }
+    }
+    Ok(())
+}
+
+// The entries of all cells that refer to a binary, in the order of the cells.
+fn read_entries<D: Dumps>(
+    alloc: Global,
+    dumps: &mut D,
+    index: &Index,
+    places: &[(u64, u32)],
+    heap: &Heap,
+) -> Result<Vec<Entry>, PreviewFault>
+    requires over { IsBuiltOver (D.now dumps.old) index.now }
+    requires places { AreOrdered (sections_in index.now) places.now }
+    ensures reads { ReadsAtMost (used D.files D.now D.faults D.taken dumps.old dumps.new) (128 * length (binaries heap.now.cells)) }
+    ensures fault { IfErr result (IsCauseOf (used D.files D.now D.faults D.taken dumps.old dumps.new)) }
+    ensures stated { IfOk result (λ entries. map stating entries.items ≡ binaries heap.now.cells) }
+    ensures entries { IfOk result (λ entries. (dump : List ℕ) → D.now dumps.old ≡ told dump → entries.items ≡ previews_of dump index.now heap.now) }
+{
+    let mut entries = Vec::new(alloc);
+    for n in 0..heap.cells() {
+        push_entry(&mut entries, dumps, index, places, heap, n)?;
+    }
+    Ok(entries)
+}
+
+// How many of the entries are those of cells with lesser numbers: these come first.
+fn count_below(entries: &[Entry], n: u32) -> usize
+    requires { IsNonDecreasingBy (λ e. e.cell) entries.now }
+    ensures within { result ≤ length entries.now }
+    ensures point { IsPartitionPoint (λ e. nat_lt e.cell n ≡ true) (λ e. nat_lt e.cell n ≡ false) entries.now result }
+{
+    entries.partition_point(|e| e.cell < n)
+}
+
+// The entry of the cell with a number.
+fn entry_with(entries: &[Entry], n: u32) -> &Entry
+    requires sorted { IsNonDecreasingBy (λ e. e.cell) entries.now }
+    requires some { IsSome (entry_at entries.now n) }
+    ensures entry { entry_at entries.now n ≡ Some result.now }
+    ensures cell { result.now.cell ≡ n }
+{
+    &entries[count_below(entries, n)]
+}
+
+// What an entry tells.
+fn shown(entry: &Entry) -> Preview<'_>
+    ensures { told_entry entry.now.cell result ≡ entry.now }
+{
+    match &entry.bytes {
+        Some(bytes) => Preview::Bytes(bytes.bytes(), entry.size),
+        None => Preview::Unknown(entry.size),
+    }
+}
+
+/// The previews of a heap: for each cell that refers to a binary the first bytes of the range to which it refers, 32 at
+/// most, or that they are unknown.
+///
+/// The bytes are unknown exactly where the dump hasn't the binary, where the range lies past its end, or where the
+/// characters that write the bytes are cut off or are none of the encoding.
+#[derive(Drop)]
+pub struct Previews {
+    entries: Vec<Entry>,
+}
+
+impl Model for Previews {
+    ghost use Rattle.std.specs.Prelude.{List};
+    ghost use Rattle.std.specs.List.Sorted.{IsNonDecreasingBy};
+    ghost use Rattle.binary_refs.specs.declared.entries.Entry.{Entry};
+
+    ghost Value = { List Entry };
+
+    ghost view = { λ previews. previews.entries.items };
+
+    ghost invariant = { λ previews. IsNonDecreasingBy (λ e. e.cell) previews.entries.items };
+}
+
+impl Previews {
+    /// Reads the previews of a heap. The index is one that was built over the file that is open, and the file stays open.
+    ///
+    /// `Read` comes only where the device's count of faults rose; `Memory` may come where memory is taken for the
+    /// previews. At most 128 bytes are read for each cell that refers to a binary, also where the previews aren't loaded.
+    pub fn load<D: Dumps>(
+        alloc: Global,
+        dumps: &mut D,
+        index: &Index,
+        heap: &Heap,
+    ) -> Result<Previews, PreviewFault>
+        requires { IsBuiltOver (D.now dumps.old) index.now }
+        ensures reads { ReadsAtMost (used D.files D.now D.faults D.taken dumps.old dumps.new) (128 * length (binaries heap.now.cells)) }
+        ensures previews { IfOk result (λ previews. (dump : List ℕ) → D.now dumps.old ≡ told dump → previews ≡ previews_of dump index.now heap.now) }
+        ensures stated { IfOk result (λ previews. map stating previews ≡ binaries heap.now.cells) }
+        ensures each { IfOk result (AreFor heap.now.cells) }
+        ensures fault { IfErr result (IsCauseOf (used D.files D.now D.faults D.taken dumps.old dumps.new)) }
+    {
+        let Ok(places) = places_of(alloc, index) else {
+            return Err(PreviewFault::Memory);
+        };
+        let entries = read_entries(alloc, dumps, index, &places, heap)?;
+        Ok(Previews { entries })
+    }
+
+    /// The preview of a cell that has one.
+    pub fn get(&self, ix: CellIx) -> Preview<'_>
+        requires { IsSome (entry_at self.now (number ix)) }
+        ensures { Some (told_entry (number ix) result) ≡ entry_at self.now (number ix) }
+    {
+        shown(entry_with(&self.entries, ix.number()))
+    }
+}

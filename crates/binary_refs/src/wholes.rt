@@ -1,0 +1,153 @@
+// The bytes of whole binaries.
+ghost use Rattle.std.specs.Prelude.{◌≡◌, ℕ, ◌<◌, List, length, slice_get, Some, None, IfSome, IfOk, IfErr, OnOk, IsErrOf, OnErr};
+ghost use Rattle.std.specs.Option.{option_map, option_copied};
+ghost use Rattle.dump_io.specs.Dumps.{told, used, ReadsAtMost};
+ghost use Rattle.section_index.specs.Bodies.{section_at, body_length};
+ghost use Rattle.section_index.specs.Index.{IsBuiltOver};
+ghost use Rattle.heap_cells.specs.Loading.{enc_of};
+ghost use Rattle.binary_refs.specs.Previews.{payload_of, binary_section};
+ghost use Rattle.binary_refs.specs.Wholes.{first_text, bytes_of_text, bytes_of_body, whole_bytes, IsBadFor, IsBinCauseOf, found_length, refused};
+ghost use Rattle.binary_refs.specs.Inner.Leads.{body_at, bytes_in, bin_fault};
+
+use crate::faults::BinFault;
+use dump_io::{Dumps, Limits};
+use field_lines::reading::lines;
+use section_index::{BodyFault, Index, Version, read_body};
+use std::alloc::{AllocError, Global};
+use term_forms::{Enc, heap_line, payload, payload_bytes_are_read, payload_is_of_one};
+
+// How a dump of this version writes payloads.
+fn enc_of(version: Version) -> Enc
+    ensures { result ≡ enc_of version }
+{
+    match version {
+        Version::V03 | Version::V04 => Enc::Hex,
+        Version::V05 => Enc::Base64,
+    }
+}
+
+// The text of a body's first line.
+fn first_text(body: &[u8]) -> Option<&[u8]>
+    ensures { option_copied result ≡ first_text body.now }
+{
+    let line = lines(body).next()?;
+    Some(line.text)
+}
+
+// The bytes of which the characters are the payload, where there are exactly so many.
+fn payload_of(
+    alloc: Global,
+    enc: Enc,
+    count: u64,
+    chars: &[u8],
+) -> Result<Option<Vec<u8>>, AllocError>
+    ensures { IfOk result (λ bytes. bytes_in bytes ≡ payload_of enc count chars.now) }
+{
+    payload_bytes_are_read(enc);
+    payload_is_of_one(enc);
+    // No byte is written by fewer characters than one.
+    if count > chars.len() as u64 {
+        return Ok(None);
+    }
+    let mut bytes = vec![in alloc; 0u8; count as usize]?;
+    if payload(chars, enc, &mut bytes) {
+        Ok(Some(bytes))
+    } else {
+        Ok(None)
+    }
+}
+
+// The bytes of a body, where its first line is a length, `:`, and the payload of so many bytes.
+fn bytes_of_body(alloc: Global, enc: Enc, body: &[u8]) -> Result<Option<Vec<u8>>, AllocError>
+    ensures { IfOk result (λ bytes. bytes_in bytes ≡ bytes_of_body enc body.now) }
+{
+    let Some(text) = first_text(body) else {
+        return Ok(None);
+    };
+    match heap_line(text) {
+        Some((count, chars)) => payload_of(alloc, enc, count, chars),
+        None => Ok(None),
+    }
+}
+
+fn fault_of(fault: BodyFault) -> BinFault
+    ensures { result ≡ bin_fault fault }
+{
+    match fault {
+        BodyFault::SectionTooLarge { at, len } => BinFault::SectionTooLarge { at, len },
+        BodyFault::Read => BinFault::Read,
+        BodyFault::Memory => BinFault::Memory,
+    }
+}
+
+// The bytes of the binary whose section is at a place.
+fn whole_at<D: Dumps>(
+    alloc: Global,
+    dumps: &mut D,
+    index: &Index,
+    i: usize,
+    limits: &Limits,
+) -> Result<Vec<u8>, BinFault>
+    requires over { IsBuiltOver (D.now dumps.old) index.now }
+    requires place { i < length index.now.headers }
+    ensures reads { ReadsAtMost (used D.files D.now D.faults D.taken dumps.old dumps.new) (body_length (section_at index.now i)) }
+    ensures bytes { IfOk result (λ bytes. (dump : List ℕ) → D.now dumps.old ≡ told dump → bytes_of_body (enc_of index.now.version) (body_at dump index.now i) ≡ Some bytes.items) }
+    ensures bad { IfErr result (λ fault. (dump : List ℕ) → D.now dumps.old ≡ told dump → IsBadFor (bytes_of_body (enc_of index.now.version) (body_at dump index.now i)) fault) }
+    ensures loaded { OnOk result (refused limits.now.section (Some (section_at index.now i)) ≡ None) }
+    ensures fault { IfErr result (IsBinCauseOf (Some (section_at index.now i)) limits.now.section (used D.files D.now D.faults D.taken dumps.old dumps.new)) }
+    ensures refused { IfSome (refused limits.now.section (Some (section_at index.now i))) (IsErrOf result) }
+    ensures unread { IfSome (refused limits.now.section (Some (section_at index.now i))) (λ _. dumps.new ≡ dumps.old) }
+{
+    let body = match read_body(alloc, dumps, index, i, limits) {
+        Ok(body) => body,
+        Err(fault) => return Err(fault_of(fault)),
+    };
+    match bytes_of_body(alloc, enc_of(index.version()), &body) {
+        Ok(Some(bytes)) => Ok(bytes),
+        Ok(None) => Err(BinFault::BadBinary {
+            at: index.section(i).at,
+        }),
+        Err(_) => Err(BinFault::Memory),
+    }
+}
+
+// The place of the first `binary` section whose id writes the address in hex.
+fn place_of(index: &Index, addr: u64) -> Option<usize>
+    ensures section { option_map (section_at index.now) result ≡ binary_section index.now addr }
+    ensures within { IfSome result (λ i. i < length index.now.headers) }
+{
+    let _count = index.len();
+    index.first_hex(b"binary", addr)
+}
+
+/// Reads all bytes of the first `binary` section whose id writes an address in hex. The index is one that was built over
+/// the file that is open, and the file stays open.
+///
+/// `NoBinary` comes exactly where there is no such section, and `SectionTooLarge` exactly where its body has more bytes
+/// than the limit on sections; nothing is read then. `BadBinary` comes exactly where the body's first line isn't the
+/// number of bytes in hex, `:`, and the characters of so many bytes, unless `Read` or `Memory` comes: `Read` only where
+/// the device's count of faults rose, and `Memory` where memory is taken. At most as many bytes are read as the body has,
+/// also where none are given.
+pub fn whole<D: Dumps>(
+    alloc: Global,
+    dumps: &mut D,
+    index: &Index,
+    addr: u64,
+    limits: &Limits,
+) -> Result<Vec<u8>, BinFault>
+    requires { IsBuiltOver (D.now dumps.old) index.now }
+    ensures reads { ReadsAtMost (used D.files D.now D.faults D.taken dumps.old dumps.new) (found_length (binary_section index.now addr)) }
+    ensures bytes { IfOk result (λ bytes. (dump : List ℕ) → D.now dumps.old ≡ told dump → whole_bytes dump index.now addr ≡ Some bytes.items) }
+    ensures bad { IfErr result (λ fault. (dump : List ℕ) → D.now dumps.old ≡ told dump → IsBadFor (whole_bytes dump index.now addr) fault) }
+    ensures loaded { OnOk result (refused limits.now.section (binary_section index.now addr) ≡ None) }
+    ensures fault { IfErr result (IsBinCauseOf (binary_section index.now addr) limits.now.section (used D.files D.now D.faults D.taken dumps.old dumps.new)) }
+
+    // These two refusals come before anything is read, and the device plays no part.
+    ensures refused { IfSome (refused limits.now.section (binary_section index.now addr)) (IsErrOf result) }
+    ensures unread { IfSome (refused limits.now.section (binary_section index.now addr)) (λ _. dumps.new ≡ dumps.old) }
+{
+    let Some(i) = place_of(index, addr) else {
+        return Err(BinFault::NoBinary);
+    };
+    whole_at(alloc, dumps, index, i, limits)
+}
