@@ -1,5 +1,5 @@
 -- The beginning of a `binary` section's body.
-use Rattle.std.specs.Prelude.{◌≡◌, ℕ, ◌≤◌, List, drop, Option, None, Some}
+use Rattle.std.specs.Prelude.{◌≡◌, ℕ, List, drop, Option}
 use Rattle.std.specs.Option.{option_map}
 use Rattle.std.specs.List.{between}
 use Rattle.std.specs.Global.{Vec}

@@ -1,4 +1,4 @@
-use Rattle.std.proofs.Common.{◌≡◌, ◌≤◌, length, sym, ◌∙◌, subst, arith}
+use Rattle.std.proofs.Common.{◌≤◌, subst, arith}
 use Rattle.dump_io.specs.Dumps.{Now}
 use Rattle.section_index.specs.Index.{IsBuiltOver}
 use Rattle.section_index.specs.Bodies.{section_at, body_length}
