@@ -1,6 +1,10 @@
+pub mod BinaryLoads
 pub mod Endings
 pub mod Info
 pub mod Loads
 pub mod Opened
 pub mod Runs
+pub mod TermLoads
 pub mod Places
+pub mod Heaps
+pub mod LongWords

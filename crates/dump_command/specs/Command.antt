@@ -1,10 +1,15 @@
 -- The commands, by the words of the command line.
-use Rattle.std.specs.Prelude.{ℕ, List, [], ◌∷◌, Option, None, Some, codes, if◌then◌else◌}
+use Rattle.std.specs.Prelude.{ℕ, ◌<◌, Bool, List, [], ◌∷◌, Option, None, Some, codes, if◌then◌else◌}
+use Rattle.std.specs.Option.{option_map, option_and_then}
 use Rattle.std.specs.Str.{bytes_eq}
+use Rattle.dump_io.specs.Numbers.{hex_number}
+use Rattle.report_text.specs.declared.root_report.RootKind.{RootKind}
+use Rattle.report_text.specs.declared.root_report.RootKind.TheVariants as bodies
 use Rattle.table_sections.specs.declared.kinds.TableKind.{TableKind}
 use Rattle.table_sections.specs.declared.kinds.TableKind.TheVariants as kinds
 use Rattle.dump_command.specs.declared.words.Cmd.{Cmd}
-use Rattle.dump_command.specs.declared.words.Cmd.TheVariants.{Index, Info, Procs, Proc, Memory, Ets, Ports, Nodes, Mods}
+use Rattle.dump_command.specs.declared.words.Cmd.TheVariants.{Index, Info, Procs, Proc, Memory, Ets, Ports, Nodes, Mods, Stack, Dict, Mail, Term, Binary}
+use Rattle.dump_command.specs.Budgets.{budget_of}
 
 -- a command and what it is asked for
 pub data Command : Type 0 where
@@ -15,6 +20,12 @@ pub data Command : Type 0 where
   proc : List ℕ → List ℕ → Command
   memory : List ℕ → Command
   table : TableKind → List ℕ → Command
+  -- the roots of the process with this pid, each within so many nodes, with bad addresses marked or not
+  roots : RootKind → List ℕ → List ℕ → ℕ → Bool → Command
+  -- the term at this address, in the heap of the process with this pid
+  term : List ℕ → List ℕ → ℕ → ℕ → Bool → Command
+  -- the binary with this address
+  binary : List ℕ → ℕ → Command
 
 -- what a command is, where its words are lent
 abbrev pub shown : Cmd → Command
@@ -27,6 +38,11 @@ shown (Ets file) = table kinds.Ets file.now
 shown (Ports file) = table kinds.Ports file.now
 shown (Nodes file) = table kinds.Nodes file.now
 shown (Mods file) = table kinds.Mods file.now
+shown (Stack file pid nodes marked) = roots bodies.Stack file.now pid.now nodes marked
+shown (Dict file pid nodes marked) = roots bodies.Dict file.now pid.now nodes marked
+shown (Mail file pid nodes marked) = roots bodies.Mail file.now pid.now nodes marked
+shown (Term file pid addr nodes marked) = term file.now pid.now addr nodes marked
+shown (Binary file addr) = binary file.now addr
 
 -- a command of one word, which is the name of a file
 abbrev pub file_command : List ℕ → List ℕ → Option Command
@@ -40,9 +56,30 @@ file_command name file =
     else (if bytes_eq name (codes "nodes") then Some (table kinds.Nodes file)
     else (if bytes_eq name (codes "mods") then Some (table kinds.Mods file) else None)))))))
 
+-- the roots of a process, within the budget of the last words
+abbrev pub roots_command : RootKind → List ℕ → List ℕ → List (List ℕ) → Option Command
+roots_command kind file pid words = option_map (λ b. roots kind file pid b.nodes b.marked) (budget_of words)
+
+-- the term at an address, which is written in hex
+abbrev pub term_command : List ℕ → List ℕ → List (List ℕ) → Option Command
+term_command file pid [] = None
+term_command file pid (addr ∷ words) =
+    option_and_then (λ a. option_map (λ b. term file pid a b.nodes b.marked) (budget_of words)) (hex_number addr)
+
+-- a command on the terms of a process: behind the name of a file and the pid it has a budget
+abbrev pub process_command : List ℕ → List ℕ → List ℕ → List (List ℕ) → Option Command
+process_command name file pid words =
+    if bytes_eq name (codes "stack") then roots_command bodies.Stack file pid words
+    else (if bytes_eq name (codes "dict") then roots_command bodies.Dict file pid words
+    else (if bytes_eq name (codes "mail") then roots_command bodies.Mail file pid words
+    else (if bytes_eq name (codes "term") then term_command file pid words else None)))
+
 -- a command of the name of a file and another word
 abbrev pub word_command : List ℕ → List ℕ → List ℕ → Option Command
-word_command name file word = if bytes_eq name (codes "proc") then Some (proc file word) else None
+word_command name file word =
+    if bytes_eq name (codes "proc") then Some (proc file word)
+    else (if bytes_eq name (codes "binary") then option_map (binary file) (hex_number word)
+    else process_command name file word [])
 
 -- the command of the words behind the program's name, or none
 abbrev pub command : List (List ℕ) → Option Command
@@ -50,7 +87,7 @@ command [] = None
 command (name ∷ []) = None
 command (name ∷ file ∷ []) = file_command name file
 command (name ∷ file ∷ word ∷ []) = word_command name file word
-command (name ∷ file ∷ word ∷ more ∷ words) = None
+command (name ∷ file ∷ word ∷ more ∷ words) = process_command name file word (more ∷ words)
 
 -- the name of the file that a command opens, where it opens one
 abbrev pub file_of : Command → Option (List ℕ)
@@ -60,3 +97,12 @@ file_of (procs file) = Some file
 file_of (proc file pid) = Some file
 file_of (memory file) = Some file
 file_of (table kind file) = Some file
+file_of (roots kind file pid nodes marked) = Some file
+file_of (term file pid addr nodes marked) = Some file
+file_of (binary file addr) = Some file
+
+-- a command on terms shows some nodes
+abbrev pub HasNodes : Command → Type 0
+HasNodes (roots kind file pid nodes marked) = 0 < nodes
+HasNodes (term file pid addr nodes marked) = 0 < nodes
+HasNodes cmd = Unit {0}

@@ -4,3 +4,5 @@ pub mod Info
 pub mod Stops
 pub mod Opened
 pub mod Loads
+pub mod TermLoads
+pub mod TermStops

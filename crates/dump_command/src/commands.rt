@@ -1,25 +1,34 @@
 // Each command: what it loads, and what it writes.
 ghost use Rattle.dump_io.specs.Dumps.{used};
 ghost use Rattle.dump_io.specs.Sinks.{changed};
-ghost use Rattle.dump_command.specs.Command.{shown};
+ghost use Rattle.dump_command.specs.Command.{shown, HasNodes};
 ghost use Rattle.dump_command.specs.Inner.Loads.{Runs};
 
+mod binary;
 mod fields;
 mod index;
 mod info;
 mod processes;
+mod roots;
+mod subjects;
 mod tables;
+mod term;
 
+use crate::budgets::Budget;
 use crate::stop::Stop;
 use crate::words::Cmd;
+use binary::run_binary;
 use dump_io::{Dumps, Limits, Sink};
 use fields::{run_memory, run_proc};
 use index::run_index;
 use info::run_info;
 use processes::run_procs;
+use report_text::RootKind;
+use roots::run_roots;
 use std::alloc::Global;
 use table_sections::TableKind;
 use tables::run_table;
+use term::run_term;
 
 /// Runs a command from a device to the sink of its report, and answers its status.
 pub(crate) fn run_command<D: Dumps, K: Sink>(
@@ -29,6 +38,7 @@ pub(crate) fn run_command<D: Dumps, K: Sink>(
     dumps: &mut D,
     out: &mut K,
 ) -> Result<u8, Stop>
+    requires { HasNodes (shown cmd.now) }
     ensures { Runs (shown cmd.now) limits.now (used D.files D.now D.faults D.taken dumps.old dumps.new) (changed K.written K.faults out.old out.new) result }
 {
     match cmd {
@@ -41,5 +51,52 @@ pub(crate) fn run_command<D: Dumps, K: Sink>(
         Cmd::Ports { file } => run_table(alloc, file, TableKind::Ports, limits, dumps, out),
         Cmd::Nodes { file } => run_table(alloc, file, TableKind::Nodes, limits, dumps, out),
         Cmd::Mods { file } => run_table(alloc, file, TableKind::Mods, limits, dumps, out),
+        Cmd::Stack {
+            file,
+            pid,
+            nodes,
+            marked,
+        } => {
+            let budget = Budget::new(*nodes, *marked);
+            run_roots(
+                alloc,
+                file,
+                pid,
+                RootKind::Stack,
+                budget,
+                limits,
+                dumps,
+                out,
+            )
+        }
+        Cmd::Dict {
+            file,
+            pid,
+            nodes,
+            marked,
+        } => {
+            let budget = Budget::new(*nodes, *marked);
+            run_roots(alloc, file, pid, RootKind::Dict, budget, limits, dumps, out)
+        }
+        Cmd::Mail {
+            file,
+            pid,
+            nodes,
+            marked,
+        } => {
+            let budget = Budget::new(*nodes, *marked);
+            run_roots(alloc, file, pid, RootKind::Mail, budget, limits, dumps, out)
+        }
+        Cmd::Term {
+            file,
+            pid,
+            addr,
+            nodes,
+            marked,
+        } => {
+            let budget = Budget::new(*nodes, *marked);
+            run_term(alloc, file, pid, *addr, budget, limits, dumps, out)
+        }
+        Cmd::Binary { file, addr } => run_binary(alloc, file, *addr, limits, dumps, out),
     }
 }

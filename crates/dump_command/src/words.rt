@@ -1,44 +1,111 @@
 // The words of the command line.
-ghost use Rattle.std.specs.Prelude.{◌≡◌, map, option_map};
+ghost use Rattle.std.specs.Prelude.{◌≡◌, [], map, option_map, IfSome};
 ghost use Rattle.std.specs.String.{string_bytes};
-ghost use Rattle.dump_command.specs.Command.{command, file_command, word_command, shown};
+ghost use Rattle.dump_command.specs.Command.{binary, command, file_command, process_command, roots_command, term_command, word_command, shown, HasNodes};
+ghost use Rattle.dump_io.specs.Numbers.{hex_number};
+
+use crate::budgets::{Budget, read_budget};
+use dump_io::hex_u64;
+use report_text::RootKind;
 
 /// A command with its words.
 #[derive(Clone, Copy, Debug, PartialEq, Eq)]
 pub enum Cmd<'a> {
     /// `index FILE`: the sections of a dump and its state.
-    Index { file: &'a str },
+    Index {
+        file: &'a str,
+    },
     /// `info FILE`: version, size, counts, slogan, tags and state of a dump.
-    Info { file: &'a str },
+    Info {
+        file: &'a str,
+    },
     /// `procs FILE`: the process table.
-    Procs { file: &'a str },
+    Procs {
+        file: &'a str,
+    },
     /// `proc FILE PID`: the fields of one process.
-    Proc { file: &'a str, pid: &'a str },
+    Proc {
+        file: &'a str,
+        pid: &'a str,
+    },
     /// `memory FILE`: the fields of the first section on memory.
-    Memory { file: &'a str },
+    Memory {
+        file: &'a str,
+    },
     /// `ets FILE`: the ETS tables.
-    Ets { file: &'a str },
+    Ets {
+        file: &'a str,
+    },
     /// `ports FILE`: the ports.
-    Ports { file: &'a str },
+    Ports {
+        file: &'a str,
+    },
     /// `nodes FILE`: the nodes that this one knew.
-    Nodes { file: &'a str },
+    Nodes {
+        file: &'a str,
+    },
     /// `mods FILE`: the modules.
-    Mods { file: &'a str },
+    Mods {
+        file: &'a str,
+    },
+    /// `stack FILE PID [NODES] [marked]`: the roots of a process's stack, each within so many nodes. Bad addresses are
+    /// marked in the texts, or the first of a root stands in place of its text.
+    Stack {
+        file: &'a str,
+        pid: &'a str,
+        nodes: u32,
+        marked: bool,
+    },
+    /// `dict FILE PID [NODES] [marked]`: the same of its dictionary.
+    Dict {
+        file: &'a str,
+        pid: &'a str,
+        nodes: u32,
+        marked: bool,
+    },
+    /// `mail FILE PID [NODES] [marked]`: the same of its mailbox.
+    Mail {
+        file: &'a str,
+        pid: &'a str,
+        nodes: u32,
+        marked: bool,
+    },
+    /// `term FILE PID ADDR [NODES] [marked]`: the term at an address, as a process refers to it.
+    Term {
+        file: &'a str,
+        pid: &'a str,
+        addr: u64,
+        nodes: u32,
+        marked: bool,
+    },
+    /// `binary FILE ADDR`: the bytes of a binary.
+    Binary {
+        file: &'a str,
+        addr: u64,
+    },
 }
 
 /// The command of the words behind the program's name. `None` comes exactly where they are no command.
 pub fn read_words(words: &[String]) -> Option<Cmd<'_>>
-    ensures { option_map shown result ≡ command (map string_bytes words.now) }
+    ensures told { option_map shown result ≡ command (map string_bytes words.now) }
+    ensures nodes { IfSome result (λ cmd. HasNodes (shown cmd)) }
 {
     match words {
         [name, file] => file_command(name.as_str(), file.as_str()),
         [name, file, word] => word_command(name.as_str(), file.as_str(), word.as_str()),
+        [name, file, pid, _, ..] => process_command(
+            name.as_str(),
+            file.as_str(),
+            pid.as_str(),
+            &words[3..],
+        ),
         _ => None,
     }
 }
 
 fn file_command<'a>(name: &str, file: &'a str) -> Option<Cmd<'a>>
-    ensures { option_map shown result ≡ file_command name.now file.now }
+    ensures told { option_map shown result ≡ file_command name.now file.now }
+    ensures nodes { IfSome result (λ cmd. HasNodes (shown cmd)) }
 {
     match name {
         "index" => Some(Cmd::Index { file }),
@@ -54,10 +121,83 @@ fn file_command<'a>(name: &str, file: &'a str) -> Option<Cmd<'a>>
 }
 
 fn word_command<'a>(name: &str, file: &'a str, word: &'a str) -> Option<Cmd<'a>>
-    ensures { option_map shown result ≡ word_command name.now file.now word.now }
+    ensures told { option_map shown result ≡ word_command name.now file.now word.now }
+    ensures nodes { IfSome result (λ cmd. HasNodes (shown cmd)) }
 {
     match name {
         "proc" => Some(Cmd::Proc { file, pid: word }),
+        "binary" => binary_command(file, word),
+        _ => process_command(name, file, word, &[]),
+    }
+}
+
+fn binary_command<'a>(file: &'a str, word: &str) -> Option<Cmd<'a>>
+    ensures told { option_map shown result ≡ option_map (binary file.now) (hex_number word.now) }
+    ensures nodes { IfSome result (λ cmd. HasNodes (shown cmd)) }
+{
+    let addr = hex_u64(word.as_bytes())?;
+    Some(Cmd::Binary { file, addr })
+}
+
+fn process_command<'a>(name: &str, file: &'a str, pid: &'a str, words: &[String]) -> Option<Cmd<'a>>
+    ensures told { option_map shown result ≡ process_command name.now file.now pid.now (map string_bytes words.now) }
+    ensures nodes { IfSome result (λ cmd. HasNodes (shown cmd)) }
+{
+    match name {
+        "stack" => roots_command(RootKind::Stack, file, pid, words),
+        "dict" => roots_command(RootKind::Dict, file, pid, words),
+        "mail" => roots_command(RootKind::Mail, file, pid, words),
+        "term" => term_command(file, pid, words),
         _ => None,
     }
+}
+
+fn roots_command<'a>(
+    kind: RootKind,
+    file: &'a str,
+    pid: &'a str,
+    words: &[String],
+) -> Option<Cmd<'a>>
+    ensures told { option_map shown result ≡ roots_command kind file.now pid.now (map string_bytes words.now) }
+    ensures nodes { IfSome result (λ cmd. HasNodes (shown cmd)) }
+{
+    let Budget { nodes, marked } = read_budget(words)?;
+    Some(match kind {
+        RootKind::Stack => Cmd::Stack {
+            file,
+            pid,
+            nodes,
+            marked,
+        },
+        RootKind::Dict => Cmd::Dict {
+            file,
+            pid,
+            nodes,
+            marked,
+        },
+        RootKind::Mail => Cmd::Mail {
+            file,
+            pid,
+            nodes,
+            marked,
+        },
+    })
+}
+
+fn term_command<'a>(file: &'a str, pid: &'a str, words: &[String]) -> Option<Cmd<'a>>
+    ensures told { option_map shown result ≡ term_command file.now pid.now (map string_bytes words.now) }
+    ensures nodes { IfSome result (λ cmd. HasNodes (shown cmd)) }
+{
+    let [addr, rest @ ..] = words else {
+        return None;
+    };
+    let addr = hex_u64(addr.as_bytes())?;
+    let Budget { nodes, marked } = read_budget(rest)?;
+    Some(Cmd::Term {
+        file,
+        pid,
+        addr,
+        nodes,
+        marked,
+    })
 }
