@@ -1,9 +1,12 @@
 pub mod Alone
 pub mod Audits
+pub mod BinaryLoads
 pub mod Endings
 pub mod Info
 pub mod Loads
 pub mod MailPlaces
 pub mod Opened
 pub mod Runs
+pub mod TermLoads
 pub mod Places
+pub mod Heaps

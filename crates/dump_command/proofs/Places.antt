@@ -1,5 +1,5 @@
 -- The first section that passes a test, by its place.
-use Rattle.std.proofs.Common.{◌≡◌, ℕ, Bool, true, false, List, length, Option, None, Some, sym, ◌∙◌, ap, inl, inr}
+use Rattle.std.proofs.Common.{◌≡◌, ℕ, Bool, true, false, List, length, None, Some, sym, ◌∙◌, ap, inl, inr}
 use Rattle.std.specs.Prelude.{cond, find, nat_lt, position}
 use Rattle.std.specs.List.{slice_get, position_or_len}
 use Rattle.std.specs.Option.{unwrap_or}

@@ -1,12 +1,15 @@
 -- The commands, by the words of the command line.
-use Rattle.std.specs.Prelude.{ℕ, ◌≤◌, Bool, true, false, List, [], ◌∷◌, Option, None, Some, codes, if◌then◌else◌}
+use Rattle.std.specs.Prelude.{ℕ, ◌<◌, ◌≤◌, Bool, true, false, List, [], ◌∷◌, Option, None, Some, codes, if◌then◌else◌}
 use Rattle.std.specs.Option.{option_and_then, option_map}
 use Rattle.std.specs.Str.{bytes_eq}
-use Rattle.dump_io.specs.Numbers.{dec_number}
+use Rattle.dump_io.specs.Numbers.{dec_number, hex_number}
+use Rattle.report_text.specs.declared.root_report.RootKind.{RootKind}
+use Rattle.report_text.specs.declared.root_report.RootKind.TheVariants as bodies
 use Rattle.table_sections.specs.declared.kinds.TableKind.{TableKind}
 use Rattle.table_sections.specs.declared.kinds.TableKind.TheVariants as kinds
 use Rattle.dump_command.specs.declared.words.Cmd.{Cmd}
-use Rattle.dump_command.specs.declared.words.Cmd.TheVariants.{Index, Info, Procs, Proc, Memory, Ets, Ports, Nodes, Mods, Links, Audit, Make}
+use Rattle.dump_command.specs.declared.words.Cmd.TheVariants.{Index, Info, Procs, Proc, Memory, Ets, Ports, Nodes, Mods, Stack, Dict, Mail, Term, Binary, Links, Audit, Make}
+use Rattle.dump_command.specs.Budgets.{budget_of}
 use Rattle.dump_command.specs.MadeWords.{seed_and_count}
 
 -- a command and what it is asked for
@@ -18,6 +21,12 @@ pub data Command : Type 0 where
   proc : List ℕ → List ℕ → Command
   memory : List ℕ → Command
   table : TableKind → List ℕ → Command
+  -- the roots of the process with this pid, each within so many nodes, with bad addresses marked or not
+  roots : RootKind → List ℕ → List ℕ → ℕ → Bool → Command
+  -- the term at this address, in the heap of the process with this pid
+  term : List ℕ → List ℕ → ℕ → ℕ → Bool → Command
+  -- the binary with this address
+  binary : List ℕ → ℕ → Command
   links : List ℕ → Command
   -- an audit with this limit on message queues, in full or not
   audit : List ℕ → ℕ → Bool → Command
@@ -35,6 +44,11 @@ shown (Ets file) = table kinds.Ets file.now
 shown (Ports file) = table kinds.Ports file.now
 shown (Nodes file) = table kinds.Nodes file.now
 shown (Mods file) = table kinds.Mods file.now
+shown (Stack file pid nodes marked) = roots bodies.Stack file.now pid.now nodes marked
+shown (Dict file pid nodes marked) = roots bodies.Dict file.now pid.now nodes marked
+shown (Mail file pid nodes marked) = roots bodies.Mail file.now pid.now nodes marked
+shown (Term file pid addr nodes marked) = term file.now pid.now addr nodes marked
+shown (Binary file addr) = binary file.now addr
 shown (Links file) = links file.now
 shown (Audit file limit full) = audit file.now limit full
 shown (Make seed count) = make seed count
@@ -52,18 +66,34 @@ file_command name file =
     else (if bytes_eq name (codes "mods") then Some (table kinds.Mods file)
     else (if bytes_eq name (codes "links") then Some (links file) else None))))))))
 
+-- the roots of a process, within the budget of the last words
+abbrev pub roots_command : RootKind → List ℕ → List ℕ → List (List ℕ) → Option Command
+roots_command kind file pid words = option_map (λ b. roots kind file pid b.nodes b.marked) (budget_of words)
+
+-- the term at an address, which is written in hex
+abbrev pub term_command : List ℕ → List ℕ → List (List ℕ) → Option Command
+term_command file pid [] = None
+term_command file pid (addr ∷ words) =
+    option_and_then (λ a. option_map (λ b. term file pid a b.nodes b.marked) (budget_of words)) (hex_number addr)
+
 -- an audit is full where its last word is `full`
 abbrev pub full_of : List (List ℕ) → Option Bool
 full_of [] = Some false
 full_of (word ∷ []) = if bytes_eq word (codes "full") then Some true else None
 full_of (word ∷ more ∷ words) = None
 
+-- an audit with a limit, which is decimal
 abbrev pub audit_command : List ℕ → List ℕ → List (List ℕ) → Option Command
 audit_command file limit words = option_and_then (λ n. option_map (audit file n) (full_of words)) (dec_number limit)
 
 -- a command that may have more words behind the name of a file and another word
 abbrev pub process_command : List ℕ → List ℕ → List ℕ → List (List ℕ) → Option Command
-process_command name file word words = if bytes_eq name (codes "audit") then audit_command file word words else None
+process_command name file word words =
+    if bytes_eq name (codes "stack") then roots_command bodies.Stack file word words
+    else (if bytes_eq name (codes "dict") then roots_command bodies.Dict file word words
+    else (if bytes_eq name (codes "mail") then roots_command bodies.Mail file word words
+    else (if bytes_eq name (codes "term") then term_command file word words
+    else (if bytes_eq name (codes "audit") then audit_command file word words else None))))
 
 -- a command of two numbers
 abbrev pub number_command : List ℕ → List ℕ → List ℕ → Option Command
@@ -74,7 +104,9 @@ number_command name seed count =
 abbrev pub word_command : List ℕ → List ℕ → List ℕ → Option Command
 word_command name file word =
     if bytes_eq name (codes "proc") then Some (proc file word)
-    else (if bytes_eq name (codes "make") then number_command name file word else process_command name file word [])
+    else (if bytes_eq name (codes "binary") then option_map (binary file) (hex_number word)
+    else (if bytes_eq name (codes "make") then number_command name file word
+    else process_command name file word []))
 
 -- the command of the words behind the program's name, or none
 abbrev pub command : List (List ℕ) → Option Command
@@ -92,11 +124,16 @@ file_of (procs file) = Some file
 file_of (proc file pid) = Some file
 file_of (memory file) = Some file
 file_of (table kind file) = Some file
+file_of (roots kind file pid nodes marked) = Some file
+file_of (term file pid addr nodes marked) = Some file
+file_of (binary file addr) = Some file
 file_of (links file) = Some file
 file_of (audit file limit full) = Some file
 file_of (make seed count) = None
 
 -- the numbers of a command are those that it takes
 abbrev pub IsInRange : Command → Type 0
+IsInRange (roots kind file pid nodes marked) = 0 < nodes
+IsInRange (term file pid addr nodes marked) = 0 < nodes
 IsInRange (make seed count) = (1 ≤ count) × (count ≤ 200000)
 IsInRange cmd = Unit {0}

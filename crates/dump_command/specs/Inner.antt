@@ -7,3 +7,5 @@ pub mod Loads
 pub mod Mailboxes
 pub mod Opened
 pub mod Stops
+pub mod TermLoads
+pub mod TermStops

@@ -1,7 +1,9 @@
 pub mod Audits
+pub mod Budgets
 pub mod Command
 pub mod Devices
 pub mod Inner
 pub mod MadeWords
 pub mod Report
 pub mod Run
+pub mod Terms

@@ -1,6 +1,6 @@
 -- What each command reports of the bytes of a dump, and why it is refused. A command without a file reports of
 -- no bytes.
-use Rattle.std.specs.Prelude.{ℕ, ◌+◌, List, [], ◌∷◌, map, length, slice_get, unwrap_or, Option, None, Some, Bool, true, false, codes, find, is_some, if◌then◌else◌}
+use Rattle.std.specs.Prelude.{ℕ, ◌+◌, ◌*◌, List, [], ◌∷◌, ◌++◌, map, length, slice_get, unwrap_or, Option, None, Some, Bool, true, false, codes, find, is_some, if◌then◌else◌}
 use Rattle.std.specs.List.{between, sum_by}
 use Rattle.std.specs.Option.{option_map, option_or, option_and}
 use Rattle.dump_io.specs.Limits.{Numbers}
@@ -23,7 +23,8 @@ use Rattle.section_rows.specs.Loading.{first_large}
 use Rattle.table_sections.specs.Tables.{listed, table_of}
 use Rattle.dump_write.specs.Made.{made}
 use Rattle.dump_command.specs.Audits.{audit_in, audited_sections, status_of}
-use Rattle.dump_command.specs.Command.{Command, index, info, procs, proc, memory, table, links, audit, make, file_of}
+use Rattle.dump_command.specs.Command.{Command, index, info, procs, proc, memory, table, roots, term, binary, links, audit, make, file_of}
+use Rattle.dump_command.specs.Terms.{binary_at, binary_cause, bad_binary, binary_count, binary_of, heap_of, literals_of, no_address, roots_of, roots_section, term_of, too_dense}
 use Rattle.dump_command.specs.declared.status.TheConstants.{DONE}
 
 -- the first of these sections
@@ -43,6 +44,10 @@ abbrev pub one_of : Option Section → List Section
 one_of None = []
 one_of (Some s) = s ∷ []
 
+-- the heap of a process, and the literals
+abbrev pub heap_bodies : List ℕ → List Section → List Section
+heap_bodies pid sections = one_of (heap_of pid sections) ++ one_of (literals_of sections)
+
 -- the bodies that a command loads, in the order in which they are judged and read
 abbrev pub bodies : Command → List Section → List Section
 bodies (index file) sections = []
@@ -51,6 +56,9 @@ bodies (procs file) sections = record_sections sections
 bodies (proc file pid) sections = one_of (process_section pid sections)
 bodies (memory file) sections = one_of (memory_section sections)
 bodies (table kind file) sections = listed kind sections
+bodies (roots kind file pid nodes marked) sections = one_of (roots_section kind pid sections) ++ heap_bodies pid sections
+bodies (term file pid addr nodes marked) sections = heap_bodies pid sections
+bodies (binary file addr) sections = one_of (binary_at addr sections)
 bodies (links file) sections = record_sections sections
 bodies (audit file limit full) sections = audited_sections full sections
 bodies (make seed count) sections = []
@@ -78,6 +86,9 @@ report (procs file) bytes = procs_report (process_table bytes)
 report (proc file pid) bytes = fields_of bytes (process_section pid (sections bytes))
 report (memory file) bytes = fields_of bytes (memory_section (sections bytes))
 report (table kind file) bytes = rows_report (table_of kind bytes)
+report (roots kind file pid nodes marked) bytes = roots_of kind pid nodes marked bytes
+report (term file pid addr nodes marked) bytes = term_of pid addr nodes marked bytes
+report (binary file addr) bytes = binary_of addr bytes
 report (links file) bytes = links_report (process_table bytes).processes
 report (audit file limit full) bytes = audit_report (audit_in limit full bytes)
 report (make seed count) bytes = made seed count
@@ -92,19 +103,39 @@ abbrev pub finds : Command → Bool
 finds (audit file limit full) = true
 finds cmd = false
 
--- a command is refused where its subject isn't there: no section is that of the process
+-- no section is that of the process
+abbrev pub no_process : List ℕ → List Section → Option Refusal
+no_process pid sections = if is_some (process_section pid sections) then None else Some (NoProcess pid)
+
+-- a command is refused where its subject isn't there: no section is that of the process, or of the binary
 abbrev pub no_subject : Command → List Section → Option Refusal
-no_subject (proc file pid) sections = if is_some (process_section pid sections) then None else Some (NoProcess pid)
+no_subject (proc file pid) sections = no_process pid sections
+no_subject (roots kind file pid nodes marked) sections = no_process pid sections
+no_subject (term file pid addr nodes marked) sections = no_process pid sections
+no_subject (binary file addr) sections = binary_cause addr (binary_at addr sections)
 no_subject cmd sections = None
 
 -- the refusal of the first of these bodies that is longer than the limit
 abbrev pub too_large : ℕ → List Section → Option Refusal
 too_large limit sections = option_map (λ s. SectionTooLarge s.at (body_length s)) (first_large limit sections)
 
+-- a body that the command loads is longer than the limit
+abbrev pub large_body : Command → List ℕ → Numbers → Option Refusal
+large_body cmd bytes limits = too_large limits.section (bodies cmd (sections bytes))
+
+-- why a command whose subject is there is refused: a body is too large, or what the bodies hold is refused
+abbrev pub refusal_loaded : Command → List ℕ → Numbers → Option Refusal
+refusal_loaded (roots kind file pid nodes marked) bytes limits =
+    option_or (large_body (roots kind file pid nodes marked) bytes limits) (too_dense limits.dense pid bytes)
+refusal_loaded (term file pid addr nodes marked) bytes limits =
+    option_or (large_body (term file pid addr nodes marked) bytes limits)
+    (option_or (too_dense limits.dense pid bytes) (no_address addr pid bytes))
+refusal_loaded (binary file addr) bytes limits = option_or (large_body (binary file addr) bytes limits) (bad_binary addr bytes)
+refusal_loaded cmd bytes limits = large_body cmd bytes limits
+
 -- why a command on the bytes of an accepted dump is refused: the first cause that holds
 abbrev pub refusal_opened : Command → List ℕ → Numbers → Option Refusal
-refusal_opened cmd bytes limits =
-    option_or (no_subject cmd (sections bytes)) (too_large limits.section (bodies cmd (sections bytes)))
+refusal_opened cmd bytes limits = option_or (no_subject cmd (sections bytes)) (refusal_loaded cmd bytes limits)
 
 -- why a command on these bytes is refused under these limits, or none. A command without a file isn't refused
 abbrev pub refusal : Command → List ℕ → Numbers → Option Refusal
@@ -115,10 +146,16 @@ refusal cmd bytes limits =
 abbrev pub bytes_in : List Section → ℕ
 bytes_in sections = sum_by body_length sections
 
+-- the bytes of the bodies that a command loads
+abbrev pub loaded_bytes : Command → List ℕ → ℕ
+loaded_bytes cmd bytes = bytes_in (bodies cmd (sections bytes))
+
 -- the most bytes that a command takes from the device after it has read the dump once: those of the bodies that
--- it loads
+-- it loads, and 128 for each reference to a binary in the heap of a process
 abbrev pub reread : Command → List ℕ → ℕ
-reread cmd bytes = bytes_in (bodies cmd (sections bytes))
+reread (roots kind file pid nodes marked) bytes = loaded_bytes (roots kind file pid nodes marked) bytes + 128 * binary_count pid bytes
+reread (term file pid addr nodes marked) bytes = loaded_bytes (term file pid addr nodes marked) bytes + 128 * binary_count pid bytes
+reread cmd bytes = loaded_bytes cmd bytes
 
 -- the most bytes that a command takes from the device
 abbrev pub allowance : Command → List ℕ → ℕ

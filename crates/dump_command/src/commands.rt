@@ -6,17 +6,23 @@ ghost use Rattle.dump_command.specs.Command.{file_of, shown, IsInRange};
 ghost use Rattle.dump_command.specs.Inner.Loads.{Runs};
 
 mod audit;
+mod binary;
 mod fields;
 mod index;
 mod info;
 mod links;
 mod made;
 mod processes;
+mod roots;
+mod subjects;
 mod tables;
+mod term;
 
+use crate::budgets::Budget;
 use crate::stop::Stop;
 use crate::words::Cmd;
 use audit::run_audit;
+use binary::run_binary;
 use dump_io::{Dumps, Limits, Sink};
 use fields::{run_memory, run_proc};
 use index::run_index;
@@ -24,9 +30,12 @@ use info::run_info;
 use links::run_links;
 use made::run_make;
 use processes::run_procs;
+use report_text::RootKind;
+use roots::run_roots;
 use std::alloc::Global;
 use table_sections::TableKind;
 use tables::run_table;
+use term::run_term;
 
 /// Runs a command from a device to the sink of its report, and answers its status.
 pub(crate) fn run_command<D: Dumps, K: Sink>(
@@ -52,6 +61,53 @@ pub(crate) fn run_command<D: Dumps, K: Sink>(
         Cmd::Ports { file } => run_table(alloc, file, TableKind::Ports, limits, dumps, out),
         Cmd::Nodes { file } => run_table(alloc, file, TableKind::Nodes, limits, dumps, out),
         Cmd::Mods { file } => run_table(alloc, file, TableKind::Mods, limits, dumps, out),
+        Cmd::Stack {
+            file,
+            pid,
+            nodes,
+            marked,
+        } => {
+            let budget = Budget::new(*nodes, *marked);
+            run_roots(
+                alloc,
+                file,
+                pid,
+                RootKind::Stack,
+                budget,
+                limits,
+                dumps,
+                out,
+            )
+        }
+        Cmd::Dict {
+            file,
+            pid,
+            nodes,
+            marked,
+        } => {
+            let budget = Budget::new(*nodes, *marked);
+            run_roots(alloc, file, pid, RootKind::Dict, budget, limits, dumps, out)
+        }
+        Cmd::Mail {
+            file,
+            pid,
+            nodes,
+            marked,
+        } => {
+            let budget = Budget::new(*nodes, *marked);
+            run_roots(alloc, file, pid, RootKind::Mail, budget, limits, dumps, out)
+        }
+        Cmd::Term {
+            file,
+            pid,
+            addr,
+            nodes,
+            marked,
+        } => {
+            let budget = Budget::new(*nodes, *marked);
+            run_term(alloc, file, pid, *addr, budget, limits, dumps, out)
+        }
+        Cmd::Binary { file, addr } => run_binary(alloc, file, *addr, limits, dumps, out),
         Cmd::Links { file } => run_links(alloc, file, limits, dumps, out),
         Cmd::Audit { file, limit, full } => {
             run_audit(alloc, file, *limit, *full, limits, dumps, out)

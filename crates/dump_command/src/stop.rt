@@ -1,7 +1,9 @@
 // Why a command ended without its whole report.
 ghost use Rattle.std.specs.Prelude.{◌≡◌};
 
+use binary_refs::PreviewFault;
 use dump_io::Failed;
+use heap_cells::HeapFault;
 use report_text::Refusal;
 use section_index::{BodyFault, OpenFault};
 use std::alloc::AllocError;
@@ -45,6 +47,36 @@ impl From<BodyFault> for Stop {
             BodyFault::SectionTooLarge { at, len } => {
                 Stop::Refused(Refusal::SectionTooLarge { at, len })
             }
+        }
+    }
+}
+
+impl From<HeapFault> for Stop {
+    ghost use Rattle.dump_command.specs.Inner.TermStops.{stop_of_heap};
+
+    ghost from_gives = { λ fault stop. stop ≡ stop_of_heap fault };
+
+    fn from(fault: HeapFault) -> Stop {
+        match fault {
+            HeapFault::Read => Stop::NotRead,
+            HeapFault::Memory => Stop::NoMemory,
+            HeapFault::SectionTooLarge { at, len } => {
+                Stop::Refused(Refusal::SectionTooLarge { at, len })
+            }
+            HeapFault::TooDense { count } => Stop::Refused(Refusal::TooDense { count }),
+        }
+    }
+}
+
+impl From<PreviewFault> for Stop {
+    ghost use Rattle.dump_command.specs.Inner.TermStops.{stop_of_previews};
+
+    ghost from_gives = { λ fault stop. stop ≡ stop_of_previews fault };
+
+    fn from(fault: PreviewFault) -> Stop {
+        match fault {
+            PreviewFault::Read => Stop::NotRead,
+            PreviewFault::Memory => Stop::NoMemory,
         }
     }
 }

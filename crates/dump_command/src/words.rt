@@ -1,11 +1,14 @@
 // The words of the command line.
-ghost use Rattle.std.specs.Prelude.{◌≡◌, map, option_map};
+ghost use Rattle.std.specs.Prelude.{◌≡◌, [], map, option_map};
 ghost use Rattle.std.specs.Option.{IfSome};
 ghost use Rattle.std.specs.String.{string_bytes};
-ghost use Rattle.dump_command.specs.Command.{audit_command, command, file_command, full_of, process_command, word_command, shown, IsInRange};
+ghost use Rattle.dump_command.specs.Command.{audit_command, binary, command, file_command, full_of, process_command, roots_command, term_command, word_command, shown, IsInRange};
+ghost use Rattle.dump_io.specs.Numbers.{hex_number};
 
+use crate::budgets::{Budget, read_budget};
 use crate::made_words::number_command;
-use dump_io::dec_u64;
+use dump_io::{dec_u64, hex_u64};
+use report_text::RootKind;
 
 /// A command with its words.
 #[derive(Clone, Copy, Debug, PartialEq, Eq)]
@@ -46,6 +49,41 @@ pub enum Cmd<'a> {
     /// `mods FILE`: the modules.
     Mods {
         file: &'a str,
+    },
+    /// `stack FILE PID [NODES] [marked]`: the roots of a process's stack, each within so many nodes. Bad addresses are
+    /// marked in the texts, or the first of a root stands in place of its text.
+    Stack {
+        file: &'a str,
+        pid: &'a str,
+        nodes: u32,
+        marked: bool,
+    },
+    /// `dict FILE PID [NODES] [marked]`: the same of its dictionary.
+    Dict {
+        file: &'a str,
+        pid: &'a str,
+        nodes: u32,
+        marked: bool,
+    },
+    /// `mail FILE PID [NODES] [marked]`: the same of its mailbox.
+    Mail {
+        file: &'a str,
+        pid: &'a str,
+        nodes: u32,
+        marked: bool,
+    },
+    /// `term FILE PID ADDR [NODES] [marked]`: the term at an address, as a process refers to it.
+    Term {
+        file: &'a str,
+        pid: &'a str,
+        addr: u64,
+        nodes: u32,
+        marked: bool,
+    },
+    /// `binary FILE ADDR`: the bytes of a binary.
+    Binary {
+        file: &'a str,
+        addr: u64,
     },
     /// `links FILE`: the links and monitors of all processes.
     Links {
@@ -105,19 +143,82 @@ fn word_command<'a>(name: &str, file: &'a str, word: &'a str) -> Option<Cmd<'a>>
 {
     match name {
         "proc" => Some(Cmd::Proc { file, pid: word }),
+        "binary" => binary_command(file, word),
         "make" => number_command(name, file, word),
         _ => process_command(name, file, word, &[]),
     }
 }
 
-fn process_command<'a>(name: &str, file: &'a str, word: &str, words: &[String]) -> Option<Cmd<'a>>
-    ensures reads { option_map shown result ≡ process_command name.now file.now word.now (map string_bytes words.now) }
+fn binary_command<'a>(file: &'a str, word: &str) -> Option<Cmd<'a>>
+    ensures reads { option_map shown result ≡ option_map (binary file.now) (hex_number word.now) }
+    ensures range { IfSome result (λ cmd. IsInRange (shown cmd)) }
+{
+    let addr = hex_u64(word.as_bytes())?;
+    Some(Cmd::Binary { file, addr })
+}
+
+fn process_command<'a>(name: &str, file: &'a str, pid: &'a str, words: &[String]) -> Option<Cmd<'a>>
+    ensures reads { option_map shown result ≡ process_command name.now file.now pid.now (map string_bytes words.now) }
     ensures range { IfSome result (λ cmd. IsInRange (shown cmd)) }
 {
     match name {
-        "audit" => audit_command(file, word, words),
+        "stack" => roots_command(RootKind::Stack, file, pid, words),
+        "dict" => roots_command(RootKind::Dict, file, pid, words),
+        "mail" => roots_command(RootKind::Mail, file, pid, words),
+        "term" => term_command(file, pid, words),
+        "audit" => audit_command(file, pid, words),
         _ => None,
     }
+}
+
+fn roots_command<'a>(
+    kind: RootKind,
+    file: &'a str,
+    pid: &'a str,
+    words: &[String],
+) -> Option<Cmd<'a>>
+    ensures reads { option_map shown result ≡ roots_command kind file.now pid.now (map string_bytes words.now) }
+    ensures range { IfSome result (λ cmd. IsInRange (shown cmd)) }
+{
+    let Budget { nodes, marked } = read_budget(words)?;
+    Some(match kind {
+        RootKind::Stack => Cmd::Stack {
+            file,
+            pid,
+            nodes,
+            marked,
+        },
+        RootKind::Dict => Cmd::Dict {
+            file,
+            pid,
+            nodes,
+            marked,
+        },
+        RootKind::Mail => Cmd::Mail {
+            file,
+            pid,
+            nodes,
+            marked,
+        },
+    })
+}
+
+fn term_command<'a>(file: &'a str, pid: &'a str, words: &[String]) -> Option<Cmd<'a>>
+    ensures reads { option_map shown result ≡ term_command file.now pid.now (map string_bytes words.now) }
+    ensures range { IfSome result (λ cmd. IsInRange (shown cmd)) }
+{
+    let [addr, rest @ ..] = words else {
+        return None;
+    };
+    let addr = hex_u64(addr.as_bytes())?;
+    let Budget { nodes, marked } = read_budget(rest)?;
+    Some(Cmd::Term {
+        file,
+        pid,
+        addr,
+        nodes,
+        marked,
+    })
 }
 
 // Whether an audit is full, by its last words.

@@ -1,3 +1,5 @@
 pub mod FindingFacts
 pub mod LinkFacts
 pub mod TableFacts
+pub mod RootFacts
+pub mod HexFacts

@@ -1,10 +1,9 @@
-use Rattle.std.proofs.Common.{◌≡◌, ℕ, Bool, List, [], Option, None, Some, codes, refl, sym, ◌∙◌, ap, subst, arith}
+use Rattle.std.proofs.Common.{◌≡◌, ℕ, Bool, [], Option, None, Some, codes, refl, sym, ◌∙◌, ap, subst, arith}
 use Rattle.std.specs.Prelude.{find}
-use Rattle.std.specs.Option.{option_or}
 use Rattle.std.proofs.lemmas.Result.{err_from_is_err_and}
 use Rattle.dump_io.specs.Dumps.{told, used}
 use Rattle.section_index.specs.Bodies.{section_at, IsBodyOf}
-use Rattle.section_index.specs.Index.{Contents, IsIndexOf, sections_in}
+use Rattle.section_index.specs.Index.{sections_in}
 use Rattle.section_index.specs.Lookups.{has_tag}
 use Rattle.section_index.specs.Sections.{Section, section, sections}
 use Rattle.report_text.specs.declared.refusals.Refusal.{Refusal}
@@ -13,7 +12,7 @@ use Rattle.dump_command.specs.Command.{memory}
 use Rattle.dump_command.specs.Report.{bytes_in, fields_of, memory_section, one_of, too_large}
 use Rattle.dump_command.proofs.Opened.{HasOpened-read}
 use Rattle.dump_command.proofs.Places.{found-at, not-found}
-use Rattle.dump_command.proofs.Loads.{IsStopped-unopened, IsStopped-body, IsReady-opened, IsAllowed-bodies, sections-index, too_large-first, too_large-rest}
+use Rattle.dump_command.proofs.Loads.{IsStopped-body, IsReady-opened, IsAllowed-bodies, sections-index, too_large-first, too_large-rest}
 use Rattle.dump_command.proofs.commands.fields.load_memory.Goals as goal
 
 -- whether a section is one on memory

@@ -4,7 +4,7 @@ use Rattle.std.specs.Option.{option_or}
 use Rattle.std.proofs.lemmas.Result.{err_from_is_err_and}
 use Rattle.dump_io.specs.Dumps.{told, used}
 use Rattle.section_index.specs.Bodies.{section_at, IsBodyOf}
-use Rattle.section_index.specs.Index.{Contents, IsIndexOf, sections_in}
+use Rattle.section_index.specs.Index.{sections_in}
 use Rattle.section_index.specs.Lookups.{is_named}
 use Rattle.section_index.specs.Sections.{Section, section, sections}
 use Rattle.report_text.specs.declared.refusals.Refusal.{Refusal}
@@ -14,7 +14,7 @@ use Rattle.dump_command.specs.Command.{proc}
 use Rattle.dump_command.specs.Report.{bytes_in, fields_of, one_of, process_section, too_large}
 use Rattle.dump_command.proofs.Opened.{HasOpened-read}
 use Rattle.dump_command.proofs.Places.{found-at, not-found}
-use Rattle.dump_command.proofs.Loads.{IsStopped-unopened, IsStopped-body, IsStopped-refused, IsStopped-no_memory, IsReady-opened, IsAllowed-bodies, sections-index, too_large-first, too_large-rest}
+use Rattle.dump_command.proofs.Loads.{IsStopped-body, IsStopped-refused, IsStopped-no_memory, IsReady-opened, IsAllowed-bodies, sections-index, too_large-first, too_large-rest}
 use Rattle.dump_command.proofs.commands.fields.load_process.Goals as goal
 
 -- whether a section is that of a process

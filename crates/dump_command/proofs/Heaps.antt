@@ -1,0 +1,187 @@
+-- The heap that a command loads is that of the process in the dump.
+use Rattle.std.proofs.Common.{◌≡◌, ℕ, ◌+◌, ◌≤◌, Bool, true, false, if◌then◌else◌, List, [], ◌++◌, length, Option, None, Some, Err, codes, refl, sym, ◌∙◌, ap, append-nil, arith}
+use Rattle.std.specs.Prelude.{find, nat_lt, position, IsErrOf}
+use Rattle.std.specs.Option.{option_map, option_or, unwrap_or}
+use Rattle.std.proofs.lemmas.Bool.{ltb-false}
+use Rattle.std.proofs.lemmas.List.Sums.{sum_by-cons}
+use Rattle.dump_io.specs.Lines.{Header, headers}
+use Rattle.section_index.specs.Bodies.{body_length}
+use Rattle.section_index.specs.Index.{Contents, IsIndexOf, sections_in}
+use Rattle.section_index.specs.Lookups.{has_tag, is_named}
+use Rattle.section_index.specs.Sections.{Section, section}
+use Rattle.section_index.specs.declared.opening.Version.{Version}
+use Rattle.section_index.specs.declared.opening.Version.TheVariants.{V05}
+use Rattle.heap_cells.specs.Cells.{cells_of, weight}
+use Rattle.heap_cells.specs.HeapMap.{HeapMap}
+use Rattle.heap_cells.specs.Loading.{body_in, body_size, enc_of, heap_section, literals_section, section_in, section_fault, IsMapOf, too_large as heap_too_large}
+use Rattle.heap_cells.specs.declared.faults.HeapFault.{HeapFault}
+use Rattle.heap_cells.specs.declared.faults.HeapFault.TheVariants as faults
+use Rattle.report_text.specs.declared.refusals.Refusal.{Refusal}
+use Rattle.report_text.specs.declared.refusals.Refusal.TheVariants.{SectionTooLarge}
+use Rattle.section_rows.specs.Loading.{first_large}
+use Rattle.dump_command.specs.Report.{bytes_in, heap_bodies, one_of, too_large}
+use Rattle.dump_command.specs.Terms.{heap_body, heap_map, heap_of, index_of, literals_body, literals_of, payloads_of}
+use Rattle.dump_command.specs.Inner.TermStops.{stop_of_heap}
+use Rattle.dump_command.specs.declared.stop.Stop.TheVariants.{Refused}
+use Rattle.dump_command.proofs.Loads.{sections-index, too_large-append}
+use Rattle.dump_command.proofs.Places.{found-at, not-found}
+
+abbrev contents : List Header → ℕ → Version → Contents
+contents hs size version = record { headers = hs; size = size; version = version }
+
+-- the index of accepted bytes is the one that they have
+pub index-of : (bytes : List ℕ) (index : Contents) → IsIndexOf bytes index → index ≡ index_of bytes
+index-of bytes index of =
+    ap (λ hs. contents hs index.size index.version) of.headers
+    ∙ ap (λ n. contents (headers bytes) n index.version) of.size
+    ∙ ap (λ v. contents (headers bytes) (length bytes) (unwrap_or v V05)) (sym of.version)
+
+-- the section at the first place of a test is the first section that passes it
+section-found : (p : Section → Bool) (index : Contents) (place : Option ℕ) → position p (sections_in index) ≡ place → section_in index place ≡ find p (sections_in index)
+section-found p index None is = sym (not-found p (sections_in index) is)
+section-found p index (Some i) is = sym (found-at p (sections_in index) i (section 0 0 0 []) is)
+
+pub section-named : (tag pid : List ℕ) (index : Contents) (place : Option ℕ) → place ≡ position (λ s. is_named tag (Some pid) s.text) (sections_in index)
+    → section_in index place ≡ find (λ s. is_named tag (Some pid) s.text) (sections_in index)
+section-named tag pid index place is = section-found (λ s. is_named tag (Some pid) s.text) index place (sym is)
+
+pub heap-found : (pid : List ℕ) (index : Contents) → heap_section index pid ≡ heap_of pid (sections_in index)
+heap-found pid index = section-found (λ s. is_named (codes "proc_heap") (Some pid) s.text) index _ refl
+
+pub literals-found : (index : Contents) → literals_section index ≡ literals_of (sections_in index)
+literals-found index = section-found (λ s. has_tag (codes "literals") s.text) index _ refl
+
+-- ---- how many bytes they have
+
+bytes-one : (found : Option Section) (rest : List Section) → bytes_in (one_of found ++ rest) ≡ body_size found + bytes_in rest
+bytes-one None rest = omega arith
+bytes-one (Some s) rest = sum_by-cons body_length s rest
+
+pub bytes-heap : (pid : List ℕ) (index : Contents)
+    → bytes_in (heap_bodies pid (sections_in index)) ≡ body_size (heap_section index pid) + body_size (literals_section index)
+bytes-heap pid index =
+    let heap = heap_of pid (sections_in index) in
+    let literals = literals_of (sections_in index) in
+    omega (
+      arith,
+      bytes-one heap (one_of literals),
+      bytes-one literals [],
+      ap (λ l. bytes_in l) (append-nil (one_of literals)),
+      ap body_size (heap-found pid index),
+      ap body_size (literals-found index),
+    )
+
+pub bytes-roots : (found : Option Section) (pid : List ℕ) (index : Contents)
+    → bytes_in (one_of found ++ heap_bodies pid (sections_in index)) ≡ body_size found + (body_size (heap_section index pid) + body_size (literals_section index))
+bytes-roots found pid index = omega (arith, bytes-one found (heap_bodies pid (sections_in index)), bytes-heap pid index)
+
+-- ---- which of them is too large
+
+abbrev refused : Section → Refusal
+refused s = SectionTooLarge s.at (body_length s)
+
+fault-one : (limit : ℕ) (found : Option Section) → option_map stop_of_heap (heap_too_large limit found) ≡ option_map Refused (too_large limit (one_of found))
+fault-one limit None = refl
+fault-one limit (Some s) =
+    elim (nat_lt limit (body_length s))
+    as (λ b. option_map stop_of_heap (if b then Some (faults.SectionTooLarge s.at (body_length s)) else None)
+    ≡ option_map Refused (option_map refused (if b then Some s else first_large limit []))) [ true ↦ refl | false ↦ refl ]
+
+map-or : {X Y : Type 0} (f : X → Y) (first second : Option X) → option_map f (option_or first second) ≡ option_or (option_map f first) (option_map f second)
+map-or f None second = refl
+map-or f (Some x) second = refl
+
+-- the refusal of a section of the heap stops the command as that of a body
+fault-heap : (limit : ℕ) (pid : List ℕ) (index : Contents)
+    → option_map stop_of_heap (section_fault limit index pid) ≡ option_map Refused (too_large limit (heap_bodies pid (sections_in index)))
+fault-heap limit pid index =
+    let heap = heap_of pid (sections_in index) in
+    let literals = literals_of (sections_in index) in
+    ap (λ h. option_map stop_of_heap (option_or (heap_too_large limit h) (heap_too_large limit (literals_section index)))) (heap-found pid index)
+    ∙ ap (λ l. option_map stop_of_heap (option_or (heap_too_large limit heap) (heap_too_large limit l))) (literals-found index)
+    ∙ map-or stop_of_heap (heap_too_large limit heap) (heap_too_large limit literals)
+    ∙ ap (λ o. option_or o (option_map stop_of_heap (heap_too_large limit literals))) (fault-one limit heap)
+    ∙ ap (λ o. option_or (option_map Refused (too_large limit (one_of heap))) o) (fault-one limit literals)
+    ∙ sym (map-or Refused (too_large limit (one_of heap)) (too_large limit (one_of literals)))
+    ∙ ap (option_map Refused) (sym (too_large-append limit (one_of heap) (one_of literals)))
+
+some-refused : (cause : Option Refusal) (why : Refusal) → option_map Refused cause ≡ Some (Refused why) → cause ≡ Some why
+some-refused None why is = absurd (let no : ⊥ = cc (is) in no)
+some-refused (Some other) why is = let same : other ≡ why = cc (is) in ap Some same
+
+none-refused : (cause : Option Refusal) → option_map Refused cause ≡ None → cause ≡ None
+none-refused None is = refl
+none-refused (Some why) is = absurd (let no : ⊥ = cc (is) in no)
+
+pub heap-too-large : (limit : ℕ) (pid : List ℕ) (index : Contents) (at len : ℕ) → section_fault limit index pid ≡ Some (faults.SectionTooLarge at len)
+    → too_large limit (heap_bodies pid (sections_in index)) ≡ Some (SectionTooLarge at len)
+heap-too-large limit pid index at len is =
+    some-refused (too_large limit (heap_bodies pid (sections_in index))) (SectionTooLarge at len)
+    (sym (fault-heap limit pid index) ∙ ap (option_map stop_of_heap) is)
+
+pub heap-small : (limit : ℕ) (pid : List ℕ) (index : Contents) → section_fault limit index pid ≡ None → too_large limit (heap_bodies pid (sections_in index)) ≡ None
+heap-small limit pid index is =
+    none-refused (too_large limit (heap_bodies pid (sections_in index))) (sym (fault-heap limit pid index) ∙ ap (option_map stop_of_heap) is)
+
+section-of : (fault : Option HeapFault) (at len : ℕ) → option_map stop_of_heap fault ≡ Some (Refused (SectionTooLarge at len))
+    → fault ≡ Some (faults.SectionTooLarge at len)
+section-of None at len is = absurd (let no : ⊥ = cc (is) in no)
+section-of (Some (faults.SectionTooLarge a l)) at len is =
+    let same_at : a ≡ at = cc (is) in
+    let same_len : l ≡ len = cc (is) in
+    ap (λ n. Some (faults.SectionTooLarge n l)) same_at ∙ ap (λ n. Some (faults.SectionTooLarge at n)) same_len
+section-of (Some (faults.TooDense count)) at len is = absurd (let no : ⊥ = cc (is) in no)
+section-of (Some faults.Read) at len is = absurd (let no : ⊥ = cc (is) in no)
+section-of (Some faults.Memory) at len is = absurd (let no : ⊥ = cc (is) in no)
+
+-- where the heap is too dense none of its sections is too large
+pub dense-small : (limit : ℕ) (pid : List ℕ) (index : Contents) (count : ℕ)
+    → ((fault : HeapFault) → section_fault limit index pid ≡ Some fault → IsErrOf {T = HeapMap} (Err (faults.TooDense count)) fault)
+    → (found : Option Section) → first_large limit (heap_bodies pid (sections_in index)) ≡ found
+    → too_large limit (heap_bodies pid (sections_in index)) ≡ None
+dense-small limit pid index count told None is = ap (option_map refused) is
+dense-small limit pid index count told (Some s) is =
+    let one : section_fault limit index pid ≡ Some (faults.SectionTooLarge s.at (body_length s)) =
+    section-of (section_fault limit index pid) s.at (body_length s) (fault-heap limit pid index ∙ ap (λ o. option_map Refused (option_map refused o)) is) in
+    let other = told (faults.SectionTooLarge s.at (body_length s)) one in
+    absurd (let no : ⊥ = cc (other) in no)
+
+small-test : (b : Bool) (s : Section) → option_map refused (if b then Some s else None) ≡ None → b ≡ false
+small-test true s none = absurd (let no : ⊥ = cc (none) in no)
+small-test false s none = refl
+
+-- a body that isn't too large is within the limit
+pub small-one : (limit : ℕ) (found : Option Section) → too_large limit (one_of found) ≡ None → body_size found ≤ limit
+small-one limit None none = omega arith
+small-one limit (Some s) none = ltb-false limit (body_length s) (small-test (nat_lt limit (body_length s)) s none)
+
+-- ---- what they hold
+
+pub payloads-index : (bytes : List ℕ) (index : Contents) → IsIndexOf bytes index → enc_of index.version ≡ payloads_of bytes
+payloads-index bytes index of = ap (λ i. enc_of i.version) (index-of bytes index of)
+
+pub heap_body-index : (pid bytes : List ℕ) (index : Contents) → IsIndexOf bytes index → body_in bytes (heap_section index pid) ≡ heap_body pid bytes
+heap_body-index pid bytes index of = ap (body_in bytes) (heap-found pid index ∙ ap (heap_of pid) (sections-index bytes index of))
+
+pub literals_body-index : (bytes : List ℕ) (index : Contents) → IsIndexOf bytes index → body_in bytes (literals_section index) ≡ literals_body bytes
+literals_body-index bytes index of = ap (body_in bytes) (literals-found index ∙ ap literals_of (sections-index bytes index of))
+
+pub enc-index : (pid bytes : List ℕ) (index : Contents) (heap : HeapMap) → IsIndexOf bytes index → heap.enc ≡ enc_of index.version → heap.enc ≡ (heap_map pid bytes).enc
+enc-index pid bytes index heap of is = is ∙ payloads-index bytes index of
+
+pub cells-index : (pid bytes : List ℕ) (index : Contents) (heap : HeapMap) → IsIndexOf bytes index
+    → IsMapOf (enc_of index.version) (body_in bytes (heap_section index pid)) (body_in bytes (literals_section index)) heap
+    → heap.cells ≡ (heap_map pid bytes).cells
+cells-index pid bytes index heap of map =
+    map.cells
+    ∙ ap (λ e. cells_of e (body_in bytes (heap_section index pid)) (body_in bytes (literals_section index))) (payloads-index bytes index of)
+    ∙ ap (λ h. cells_of (payloads_of bytes) h (body_in bytes (literals_section index))) (heap_body-index pid bytes index of)
+    ∙ ap (cells_of (payloads_of bytes) (heap_body pid bytes)) (literals_body-index bytes index of)
+
+pub weight-index : (pid bytes : List ℕ) (index : Contents) → IsIndexOf bytes index
+    → weight (enc_of index.version) (body_in bytes (heap_section index pid)) (body_in bytes (literals_section index))
+    ≡ weight (payloads_of bytes) (heap_body pid bytes) (literals_body bytes)
+weight-index pid bytes index of =
+    ap (λ e. weight e (body_in bytes (heap_section index pid)) (body_in bytes (literals_section index))) (payloads-index bytes index of)
+    ∙ ap (λ h. weight (payloads_of bytes) h (body_in bytes (literals_section index))) (heap_body-index pid bytes index of)
+    ∙ ap (weight (payloads_of bytes) (heap_body pid bytes)) (literals_body-index bytes index of)

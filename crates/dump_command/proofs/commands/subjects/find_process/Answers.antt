@@ -1,0 +1,36 @@
+use Rattle.std.proofs.Common.{◌≡◌, ℕ, Bool, List, [], Option, None, Some, if◌then◌else◌, codes, sym, ◌∙◌, ap}
+use Rattle.std.specs.Prelude.{is_some}
+use Rattle.section_index.specs.Bodies.{section_at}
+use Rattle.section_index.specs.Index.{sections_in}
+use Rattle.section_index.specs.Lookups.{is_named}
+use Rattle.section_index.specs.Sections.{Section, section}
+use Rattle.report_text.specs.declared.refusals.Refusal.{Refusal}
+use Rattle.report_text.specs.declared.refusals.Refusal.TheVariants.{NoProcess}
+use Rattle.dump_command.specs.Report.{process_section}
+use Rattle.dump_command.proofs.Places.{found-at, not-found}
+use Rattle.dump_command.proofs.commands.subjects.find_process.Goals as goal
+
+-- whether a section is that of a process
+abbrev is_that : List ℕ → Section → Bool
+is_that pid s = is_named (codes "proc") (Some pid) s.text
+
+-- why the command is refused, by the section that it found
+abbrev cause : List ℕ → Option Section → Option Refusal
+cause pid found = if is_some found then None else Some (NoProcess pid)
+
+pub returns-in_default : goal.returns-in_default
+returns-in_default c =
+    let pid = c.args.pid.now in
+    let ss = sections_in c.args.index.now in
+    let none : process_section pid ss ≡ None = not-found (is_that pid) ss (sym c.in_default.ensures.place) in (
+      tt,
+      ap (cause pid) none ∙ ap (λ t. Some (NoProcess t)) (sym c.in_ok-pid.ensures.items ∙ sym c.new.ensures),
+    )
+
+pub returns : goal.returns
+returns c =
+    let pid = c.args.pid.now in
+    let ss = sections_in c.args.index.now in
+    let s = section_at c.args.index.now c.in-Some._place in
+    let here : process_section pid ss ≡ Some s = found-at (is_that pid) ss c.in-Some._place (section 0 0 0 []) (sym c.in-Some.ensures.place) in
+    ap (cause pid) here

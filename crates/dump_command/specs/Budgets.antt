@@ -1,0 +1,31 @@
+-- How much of a term is shown, by the last words of a command.
+use Rattle.std.specs.Prelude.{ℕ, Bool, true, false, ◌&&◌, List, [], ◌∷◌, Option, None, Some, codes, nat_le, if◌then◌else◌}
+use Rattle.std.specs.Option.{option_map, option_and_then}
+use Rattle.std.specs.Str.{bytes_eq}
+use Rattle.dump_io.specs.Numbers.{dec_number}
+use Rattle.dump_command.specs.declared.budgets.Budget.{Budget}
+
+-- so many nodes of a term, with bad addresses marked in its text or not
+abbrev pub budget : Bool → ℕ → Budget
+budget marked nodes = record { nodes = nodes; marked = marked }
+
+-- the number of nodes that a word writes: from 1 to 1,000,000,000
+abbrev pub allowed_nodes : ℕ → Option ℕ
+allowed_nodes n = if nat_le 1 n && nat_le n 1000000000 then Some n else None
+
+abbrev pub nodes_of : List ℕ → Option ℕ
+nodes_of word = option_and_then allowed_nodes (dec_number word)
+
+abbrev pub is_mark : List ℕ → Bool
+is_mark word = bytes_eq word (codes "marked")
+
+-- a number of nodes
+abbrev pub counted : Bool → List ℕ → Option Budget
+counted marked word = option_map (budget marked) (nodes_of word)
+
+-- the last words are a number of nodes, which is 10,000 where it is left out, and then `marked` or nothing
+abbrev pub budget_of : List (List ℕ) → Option Budget
+budget_of [] = Some (budget false 10000)
+budget_of (word ∷ []) = if is_mark word then Some (budget true 10000) else counted false word
+budget_of (nodes ∷ mark ∷ []) = if is_mark mark then counted true nodes else None
+budget_of (nodes ∷ mark ∷ more ∷ words) = None

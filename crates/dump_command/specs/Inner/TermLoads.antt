@@ -1,0 +1,25 @@
+-- What the reports of terms are written of.
+use Rattle.std.specs.Prelude.{ℕ, ◌+◌, ◌^◌, ◌<◌, Bool, List, length}
+use Rattle.std.specs.Global.{Vec}
+use Rattle.term_unfold.specs.Walks.{walk}
+use Rattle.report_text.specs.declared.root_report.RootKind.{RootKind}
+use Rattle.report_text.specs.Roots.{answer_over, roots_in, binary_report, roots_report, term_report}
+use Rattle.dump_command.specs.declared.commands.roots.Loaded.{Loaded}
+use Rattle.dump_command.specs.declared.commands.term.Loaded.{Loaded as TermLoaded}
+
+-- the text of the roots
+abbrev pub roots_text : RootKind → ℕ → Bool → Loaded → List ℕ
+roots_text kind nodes marked loaded =
+    roots_report (answer_over (walk loaded.heap loaded.previews) nodes marked) loaded.body.base (roots_in kind loaded.body.bytes.items)
+
+-- each place of the body is one of a file of at most 2^64 - 1 bytes
+abbrev pub HasPlaces : Loaded → Type 0
+HasPlaces loaded = loaded.body.base + length loaded.body.bytes.items < 2 ^ 64
+
+-- the text of a term
+abbrev pub term_text : ℕ → ℕ → Bool → TermLoaded → List ℕ
+term_text addr nodes marked loaded = term_report (answer_over (walk loaded.heap loaded.previews) nodes marked) addr
+
+-- the text of a binary
+abbrev pub binary_text : ℕ → Vec ℕ → List ℕ
+binary_text addr bytes = binary_report addr bytes.items

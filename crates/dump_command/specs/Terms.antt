@@ -1,0 +1,144 @@
+-- What the commands on the terms of a process, and on a binary, say of the bytes of an accepted dump.
+use Rattle.std.specs.Prelude.{ℕ, Bool, List, [], length, Option, None, Some, codes, find, is_some, nat_lt, unwrap_or, if◌then◌else◌}
+use Rattle.std.specs.Option.{option_map}
+use Rattle.dump_io.specs.Lines.{headers}
+use Rattle.section_index.specs.Index.{Contents}
+use Rattle.section_index.specs.Lookups.{has_hex, has_tag, is_named}
+use Rattle.section_index.specs.Opening.{first_id, version_named}
+use Rattle.section_index.specs.Sections.{Section, sections}
+use Rattle.section_index.specs.declared.opening.Version.TheVariants.{V05}
+use Rattle.term_forms.specs.declared.enc.Enc.{Enc}
+use Rattle.term_forms.specs.Elements.{Element}
+use Rattle.heap_cells.specs.Cells.{cells_of, own_count, weight}
+use Rattle.heap_cells.specs.HeapMap.{HeapMap, number_at}
+use Rattle.heap_cells.specs.Loading.{body_in, enc_of}
+use Rattle.binary_refs.specs.declared.entries.Entry.{Entry}
+use Rattle.binary_refs.specs.Previews.{binaries, previews_of}
+use Rattle.binary_refs.specs.Wholes.{whole_bytes}
+use Rattle.term_unfold.specs.Walks.{Walk, walk}
+use Rattle.report_text.specs.declared.refusals.Refusal.{Refusal}
+use Rattle.report_text.specs.declared.refusals.Refusal.TheVariants.{TooDense, NoAddress, NoBinary, BadBinary}
+use Rattle.report_text.specs.declared.root_report.RootKind.{RootKind}
+use Rattle.report_text.specs.declared.root_report.RootKind.TheVariants.{Stack, Dict, Mail}
+use Rattle.report_text.specs.Roots.{answer_over, binary_report, roots_in, roots_report, term_report}
+
+-- the index of the bytes
+abbrev pub index_of : List ℕ → Contents
+index_of bytes = record { headers = headers bytes; size = length bytes; version = unwrap_or (version_named (first_id bytes)) V05 }
+
+-- the tag of the sections with roots of a kind
+abbrev pub roots_tag : RootKind → List ℕ
+roots_tag Stack = codes "proc_stack"
+roots_tag Dict = codes "proc_dictionary"
+roots_tag Mail = codes "proc_messages"
+
+-- the first section with this tag of the process with this pid
+abbrev pub named_section : List ℕ → List ℕ → List Section → Option Section
+named_section tag pid sections = find (λ s. is_named tag (Some pid) s.text) sections
+
+-- the first section with this tag
+abbrev pub tagged_section : List ℕ → List Section → Option Section
+tagged_section tag sections = find (λ s. has_tag tag s.text) sections
+
+-- the roots of a process, its heap, and the literals, to which each heap may refer
+abbrev pub roots_section : RootKind → List ℕ → List Section → Option Section
+roots_section kind pid sections = named_section (roots_tag kind) pid sections
+
+abbrev pub heap_of : List ℕ → List Section → Option Section
+heap_of pid sections = named_section (codes "proc_heap") pid sections
+
+abbrev pub literals_of : List Section → Option Section
+literals_of sections = tagged_section (codes "literals") sections
+
+-- how the payloads of a dump are written
+abbrev pub payloads_of : List ℕ → Enc
+payloads_of bytes = enc_of (index_of bytes).version
+
+-- the bodies of the heap and of the literals
+abbrev pub heap_body : List ℕ → List ℕ → List ℕ
+heap_body pid bytes = body_in bytes (heap_of pid (sections bytes))
+
+abbrev pub literals_body : List ℕ → List ℕ
+literals_body bytes = body_in bytes (literals_of (sections bytes))
+
+-- the heap with these bodies
+abbrev pub heap_with : Enc → List ℕ → List ℕ → HeapMap
+heap_with enc heap literals =
+    record {
+      cells = cells_of enc heap literals;
+      own = own_count enc heap;
+      enc = enc;
+      heap_size = length heap;
+      literals_size = length literals;
+    }
+
+-- the heap of the process with this pid
+abbrev pub heap_map : List ℕ → List ℕ → HeapMap
+heap_map pid bytes = heap_with (payloads_of bytes) (heap_body pid bytes) (literals_body bytes)
+
+-- what the references of a heap to binaries show
+abbrev pub previews_in : List ℕ → HeapMap → List Entry
+previews_in bytes heap = previews_of bytes (index_of bytes) heap.enc heap.cells
+
+-- the heap of a process with what its references to binaries show
+abbrev pub walk_of : List ℕ → List ℕ → Walk
+walk_of pid bytes = walk (heap_map pid bytes) (previews_in bytes (heap_map pid bytes))
+
+-- the answer to an element of the process, within so many nodes, with bad addresses marked or not
+abbrev pub answer_in : List ℕ → ℕ → Bool → List ℕ → Element → List ℕ
+answer_in pid nodes marked bytes e = answer_over (walk_of pid bytes) nodes marked e
+
+-- where a body begins in the file
+abbrev pub base_of : Option Section → ℕ
+base_of None = 0
+base_of (Some s) = s.body
+
+-- the roots of a body, over a heap and its previews
+abbrev pub roots_over : (Element → List ℕ) → RootKind → List ℕ → Option Section → List ℕ
+roots_over say kind bytes found = roots_report say (base_of found) (roots_in kind (body_in bytes found))
+
+-- the roots of a process
+abbrev pub roots_of : RootKind → List ℕ → ℕ → Bool → List ℕ → List ℕ
+roots_of kind pid nodes marked bytes = roots_over (answer_in pid nodes marked bytes) kind bytes (roots_section kind pid (sections bytes))
+
+-- the term at an address
+abbrev pub term_of : List ℕ → ℕ → ℕ → Bool → List ℕ → List ℕ
+term_of pid addr nodes marked bytes = term_report (answer_in pid nodes marked bytes) addr
+
+-- the heap and the literals have more lines and elements than the limit
+abbrev pub dense_cause : ℕ → ℕ → Option Refusal
+dense_cause limit count = if nat_lt limit count then Some (TooDense count) else None
+
+abbrev pub too_dense : ℕ → List ℕ → List ℕ → Option Refusal
+too_dense limit pid bytes = dense_cause limit (weight (payloads_of bytes) (heap_body pid bytes) (literals_body bytes))
+
+-- the heap has no cell at the address
+abbrev pub address_cause : ℕ → Option ℕ → Option Refusal
+address_cause addr found = if is_some found then None else Some (NoAddress addr)
+
+abbrev pub no_address : ℕ → List ℕ → List ℕ → Option Refusal
+no_address addr pid bytes = address_cause addr (number_at (heap_map pid bytes).cells addr)
+
+-- how many references to binaries the heap of a process has
+abbrev pub binary_count : List ℕ → List ℕ → ℕ
+binary_count pid bytes = length (binaries (heap_map pid bytes).cells)
+
+-- the first `binary` section whose id writes the address in hex
+abbrev pub binary_at : ℕ → List Section → Option Section
+binary_at addr sections = find (λ s. has_hex (codes "binary") addr s.text) sections
+
+-- the report of the binary at an address, of the bytes that its section writes
+abbrev pub binary_of : ℕ → List ℕ → List ℕ
+binary_of addr bytes = binary_report addr (unwrap_or (whole_bytes bytes (index_of bytes) addr) [])
+
+-- its section writes no bytes
+abbrev pub bad_cause : Option Section → Option (List ℕ) → Option Refusal
+bad_cause found (Some bytes) = None
+bad_cause found None = option_map (λ s. BadBinary s.at) found
+
+abbrev pub bad_binary : ℕ → List ℕ → Option Refusal
+bad_binary addr bytes = bad_cause (binary_at addr (sections bytes)) (whole_bytes bytes (index_of bytes) addr)
+
+-- no section is that of the binary
+abbrev pub binary_cause : ℕ → Option Section → Option Refusal
+binary_cause addr found = if is_some found then None else Some (NoBinary addr)

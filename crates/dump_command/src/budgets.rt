@@ -1,0 +1,87 @@
+// How much of a term is shown, by the last words of a command.
+ghost use Rattle.std.specs.Prelude.{◌≡◌, ◌<◌, [], ◌∷◌, map, IfSome};
+ghost use Rattle.std.specs.String.{string_bytes};
+ghost use Rattle.dump_command.specs.Budgets.{budget, budget_of, counted, is_mark, nodes_of};
+
+use dump_io::dec_u64;
+
+// The number of nodes where the words have none.
+const USUAL_NODES: u32 = 10_000;
+
+const MOST_NODES: u64 = 1_000_000_000;
+
+/// How much of a term is shown.
+#[derive(Clone, Copy, Debug, PartialEq, Eq)]
+pub(crate) struct Budget {
+    /// The most nodes that are shown.
+    pub(crate) nodes: u32,
+    /// Whether bad addresses are marked in the text.
+    pub(crate) marked: bool,
+}
+
+impl Budget {
+    pub(crate) fn new(nodes: u32, marked: bool) -> Budget
+        ensures { result ≡ budget marked nodes }
+    {
+        Budget { nodes, marked }
+    }
+}
+
+fn nodes_of(word: &str) -> Option<u32>
+    ensures told { result ≡ nodes_of word.now }
+    ensures some { IfSome result (λ nodes. 0 < nodes) }
+{
+    let nodes = dec_u64(word.as_bytes())?;
+    if nodes == 0 || nodes > MOST_NODES {
+        return None;
+    }
+    Some(nodes as u32)
+}
+
+fn is_mark(word: &str) -> bool
+    ensures { result ≡ is_mark word.now }
+{
+    word == "marked"
+}
+
+fn counted(word: &str, marked: bool) -> Option<Budget>
+    ensures told { result ≡ counted marked word.now }
+    ensures nodes { IfSome result (λ budget. 0 < budget.nodes) }
+{
+    let nodes = nodes_of(word)?;
+    Some(Budget::new(nodes, marked))
+}
+
+fn one_word(word: &str) -> Option<Budget>
+    ensures told { result ≡ budget_of (word.now ∷ []) }
+    ensures nodes { IfSome result (λ budget. 0 < budget.nodes) }
+{
+    if is_mark(word) {
+        return Some(Budget::new(USUAL_NODES, true));
+    }
+    counted(word, false)
+}
+
+fn two_words(nodes: &str, mark: &str) -> Option<Budget>
+    ensures told { result ≡ budget_of (nodes.now ∷ mark.now ∷ []) }
+    ensures nodes { IfSome result (λ budget. 0 < budget.nodes) }
+{
+    if !is_mark(mark) {
+        return None;
+    }
+    counted(nodes, true)
+}
+
+/// The budget that the last words of a command tell: a number of nodes from 1 to 1,000,000,000, which is 10,000 where it is
+/// left out, and then the word `marked` or nothing.
+pub(crate) fn read_budget(words: &[String]) -> Option<Budget>
+    ensures told { result ≡ budget_of (map string_bytes words.now) }
+    ensures nodes { IfSome result (λ budget. 0 < budget.nodes) }
+{
+    match words {
+        [] => Some(Budget::new(USUAL_NODES, false)),
+        [word] => one_word(word.as_str()),
+        [nodes, mark] => two_words(nodes.as_str(), mark.as_str()),
+        _ => None,
+    }
+}
