@@ -31,6 +31,8 @@ use std::alloc::Global;
 /// those of the file of the command's name, where `dumps` tells its files, or those that are open at the end,
 /// where it tells these alone. Where they are told and not refused and nothing failed, the status is 3 for an audit
 /// with a finding and else 0, or 6.
+///
+/// A command that opens no file, as `make`, reports of no bytes and leaves `dumps` as it is; it ends with 0, 5 or 6.
 pub fn run<D: Dumps, K: Sink, E: Sink>(
     alloc: Global,
     words: &[String],
