@@ -1,1 +1,3 @@
 pub mod TableFacts
+pub mod RootFacts
+pub mod HexFacts

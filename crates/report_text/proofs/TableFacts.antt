@@ -1,9 +1,9 @@
 -- A row and a cell at a place of a table.
-use Rattle.std.proofs.Common.{◌≡◌, ℕ, ◌<◌, List, [], length, Option, None, Some, sym, ◌∙◌, ap, subst}
-use Rattle.std.specs.List.{slice_get, All}
+use Rattle.std.proofs.Common.{◌≡◌, ℕ, ◌<◌, List, [], length, None, Some, sym, ◌∙◌, ap, subst}
+use Rattle.std.specs.List.{slice_get}
 use Rattle.std.proofs.lemmas.Option.{slice_get-get_or, unwrap_or-slice_get}
 use Rattle.std.proofs.lemmas.List.Elements.{All-get_or}
-use Rattle.section_rows.specs.Rows.{Kept, Row, Table, row_at, cell_at, AreEven}
+use Rattle.section_rows.specs.Rows.{Row, Table, row_at, cell_at, AreEven}
 
 abbrev no_row : Row
 no_row = record { at = 0; cells = [] }

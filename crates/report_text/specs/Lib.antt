@@ -1,3 +1,5 @@
+pub mod Inner
 pub mod Refusals
 pub mod Reports
+pub mod Roots
 pub mod Tables

@@ -1,10 +1,11 @@
 -- The lines that say why a dump is refused.
 use Rattle.std.specs.Prelude.{ℕ, List, [], ◌∷◌, ◌++◌, decimal, codes}
 use Rattle.std.specs.List.{concat}
+use Rattle.dump_io.specs.Numbers.{hexadecimal}
 use Rattle.section_index.specs.declared.opening.OpenFault.{OpenFault}
 use Rattle.section_index.specs.declared.opening.OpenFault.TheVariants.{Compressed, NotADump, Version, TooLarge, HeaderTooLong, TooManySections, HeadersTooLarge, Read, Memory}
 use Rattle.report_text.specs.declared.refusals.Refusal.{Refusal}
-use Rattle.report_text.specs.declared.refusals.Refusal.TheVariants.{Open, NoProcess, SectionTooLarge}
+use Rattle.report_text.specs.declared.refusals.Refusal.TheVariants.{Open, NoProcess, SectionTooLarge, TooDense, NoAddress, NoBinary, BadBinary}
 use Rattle.report_text.specs.Reports.{newline}
 
 -- what a dump that isn't opened is refused for, part by part
@@ -23,6 +24,10 @@ abbrev pub cause_of : Refusal → List (List ℕ)
 cause_of (Open fault) = open_cause fault
 cause_of (NoProcess pid) = codes "no process " ∷ pid ∷ []
 cause_of (SectionTooLarge at len) = codes "section too large at " ∷ decimal at ∷ codes " length " ∷ decimal len ∷ []
+cause_of (TooDense count) = codes "heap too dense " ∷ decimal count ∷ []
+cause_of (NoAddress addr) = codes "no address " ∷ hexadecimal addr ∷ []
+cause_of (NoBinary addr) = codes "no binary " ∷ hexadecimal addr ∷ []
+cause_of (BadBinary at) = codes "bad binary at " ∷ decimal at ∷ []
 
 abbrev pub refusal_line : Refusal → List ℕ
 refusal_line refusal = concat ((codes "refused: " ∷ cause_of refusal) ++ newline ∷ [])
@@ -35,5 +40,4 @@ IsRefusing fault = Unit {0}
 
 abbrev pub IsRefusal : Refusal → Type 0
 IsRefusal (Open fault) = IsRefusing fault
-IsRefusal (NoProcess pid) = Unit {0}
-IsRefusal (SectionTooLarge at len) = Unit {0}
+IsRefusal refusal = Unit {0}

@@ -9,16 +9,20 @@
 //! only where the sink's count of faults rose, and a proper front of the text was written then.
 #![tactic(auto)]
 
+mod binary_report;
 mod field_report;
 mod index_report;
 mod info_report;
 mod process_report;
 mod refusals;
+mod root_report;
 mod table_report;
 
+pub use binary_report::put_binary;
 pub use field_report::put_fields;
 pub use index_report::put_index;
 pub use info_report::put_info;
 pub use process_report::put_procs;
 pub use refusals::{Refusal, put_refusal};
+pub use root_report::{RootKind, put_roots, put_term};
 pub use table_report::put_rows;

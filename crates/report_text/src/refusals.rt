@@ -19,6 +19,14 @@ pub enum Refusal {
     /// A body that the command loads has more bytes than the limit on sections; `at` is the offset of its
     /// section in the file, and `len` the number of bytes.
     SectionTooLarge { at: u64, len: u64 },
+    /// The heap has more lines and elements than the limit; `count` is how many.
+    TooDense { count: u64 },
+    /// The heap has no cell at this address.
+    NoAddress { addr: u64 },
+    /// No section of a binary has this address.
+    NoBinary { addr: u64 },
+    /// The first line of the body isn't that of a binary; `at` is the offset of its section in the file.
+    BadBinary { at: u64 },
 }
 
 // Writes a line whose cause is a text and a piece behind it.
@@ -84,5 +92,9 @@ pub fn put_refusal<K: Sink>(sink: &mut K, refusal: &Refusal) -> Result<(), Faile
         Refusal::Open(fault) => put_open_fault(sink, fault),
         Refusal::NoProcess(pid) => put_cause(sink, b"no process ", Piece::Bytes(pid.bytes())),
         Refusal::SectionTooLarge { at, len } => put_too_large(sink, *at, *len),
+        Refusal::TooDense { count } => put_cause(sink, b"heap too dense ", Piece::Dec(*count)),
+        Refusal::NoAddress { addr } => put_cause(sink, b"no address ", Piece::Hex(*addr)),
+        Refusal::NoBinary { addr } => put_cause(sink, b"no binary ", Piece::Hex(*addr)),
+        Refusal::BadBinary { at } => put_cause(sink, b"bad binary at ", Piece::Dec(*at)),
     }
 }

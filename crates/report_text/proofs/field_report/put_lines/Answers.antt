@@ -1,9 +1,9 @@
-use Rattle.std.proofs.Common.{◌≡◌, List, ◌++◌, sym, ◌∙◌, ap, subst, refl}
+use Rattle.std.proofs.Common.{◌++◌, sym, ◌∙◌, ap, subst}
 use Rattle.std.specs.Prelude.{All}
 use Rattle.std.specs.List.{flat_map}
 use Rattle.std.proofs.lemmas.List.{append_assoc}
 use Rattle.std.proofs.lemmas.List.Elements.{All-tail}
-use Rattle.dump_io.specs.Laws.Puts.{HasPut-none, HasPut-then, HasPut-done, Puts-behind, Puts-stopped, Puts-as}
+use Rattle.dump_io.specs.Laws.Puts.{HasPut-then, Puts-behind, Puts-stopped, Puts-as}
 use Rattle.field_lines.specs.Lines.{IsPart}
 use Rattle.field_lines.specs.Shown.{shown_line}
 use Rattle.report_text.specs.Tables.{line_row}

@@ -1,4 +1,4 @@
-use Rattle.std.proofs.Common.{◌≡◌, ◌≤◌, ◌<◌, ◌^◌, filter, length, ap, arith, rules}
+use Rattle.std.proofs.Common.{◌≤◌, ◌<◌, ◌^◌, filter, length, ap, arith, rules}
 use Rattle.std.proofs.lemmas.List.Sums.{length-filter, count_by-le-length}
 use Rattle.field_lines.specs.Lines.{text_lines}
 use Rattle.report_text.specs.Tables.{has_row}

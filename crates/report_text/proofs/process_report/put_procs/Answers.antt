@@ -1,4 +1,4 @@
-use Rattle.dump_io.specs.Laws.Puts.{Puts-then, Puts-stopped}
+use Rattle.dump_io.specs.Laws.Puts.{Puts-then}
 use Rattle.report_text.proofs.process_report.put_procs.Goals as goal
 
 pub returns : goal.returns

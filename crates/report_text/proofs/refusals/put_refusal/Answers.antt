@@ -9,3 +9,15 @@ returns-in-SectionTooLarge g c = Puts-as (ap refusal_line (sym c.in-SectionTooLa
 
 pub returns-in-NoProcess : goal.returns-in-NoProcess
 returns-in-NoProcess g c = Puts-as (ap (λ t. refusal_line (NoProcess t)) c.bytes.ensures ∙ ap refusal_line (sym c.in-NoProcess.is)) c.put_cause.ensures
+
+pub returns-in-TooDense : goal.returns-in-TooDense
+returns-in-TooDense g c = Puts-as (ap refusal_line (sym c.in-TooDense.is)) c.put_cause-in-TooDense.ensures
+
+pub returns-in-NoAddress : goal.returns-in-NoAddress
+returns-in-NoAddress g c = Puts-as (ap refusal_line (sym c.in-NoAddress.is)) c.put_cause-in-NoAddress.ensures
+
+pub returns-in-NoBinary : goal.returns-in-NoBinary
+returns-in-NoBinary g c = Puts-as (ap refusal_line (sym c.in-NoBinary.is)) c.put_cause-in-NoBinary.ensures
+
+pub returns-in-BadBinary : goal.returns-in-BadBinary
+returns-in-BadBinary g c = Puts-as (ap refusal_line (sym c.in-BadBinary.is)) c.put_cause-in-BadBinary.ensures

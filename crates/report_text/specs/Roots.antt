@@ -1,0 +1,64 @@
+-- The texts of the roots of a process, of one term, and of a whole binary. Offsets are of the file.
+use Rattle.std.specs.Prelude.{ℕ, zero, suc, ◌+◌, ◌/◌, Bool, List, [], ◌∷◌, ◌++◌, length, take, drop, decimal, codes}
+use Rattle.std.specs.List.{concat, flat_map}
+use Rattle.dump_io.specs.Numbers.{hexadecimal, hex_byte}
+use Rattle.term_forms.specs.Elements.{Element, Ref}
+use Rattle.term_unfold.specs.Walks.{Walk, answer}
+use Rattle.root_views.specs.Roots.{Content, Term, Info, Dist, Unread, BodyRoot, stack_roots, dict_roots, mail_roots}
+use Rattle.report_text.specs.declared.root_report.RootKind.{RootKind}
+use Rattle.report_text.specs.declared.root_report.RootKind.TheVariants.{Stack, Dict, Mail}
+use Rattle.report_text.specs.Reports.{space, newline}
+
+-- the roots of a body of this kind
+abbrev pub roots_in : RootKind → List ℕ → List BodyRoot
+roots_in Stack body = stack_roots body
+roots_in Dict body = dict_roots body
+roots_in Mail body = mail_roots body
+
+-- the answer to an element within a budget of nodes, over a heap and its previews
+abbrev pub answer_over : Walk → ℕ → Bool → Element → List ℕ
+answer_over walk budget marked e = answer walk.heap.enc walk.previews walk.heap.cells e budget marked
+
+-- what a root is, where `say` answers to an element
+abbrev pub content_text : (Element → List ℕ) → Content → List ℕ
+content_text say (Term e) = say e
+content_text say (Info text) = codes "# " ++ text
+content_text say (Dist text) = codes "D " ++ decimal (length text)
+content_text say Unread = codes "?"
+
+-- a root's line begins with its offset, where the body begins at this one, and its label
+abbrev pub root_heading : ℕ → BodyRoot → List ℕ
+root_heading base root = concat (decimal (base + root.at) ∷ space ∷ root.label ∷ space ∷ [])
+
+-- the line of a root
+abbrev pub root_line : (Element → List ℕ) → ℕ → BodyRoot → List ℕ
+root_line say base root = root_heading base root ++ (content_text say root.content ++ newline)
+
+-- the last line: how many roots there are
+abbrev pub roots_line : ℕ → List ℕ
+roots_line count = concat (codes "roots " ∷ decimal count ∷ newline ∷ [])
+
+-- the report of the roots of a body that begins at this offset
+abbrev pub roots_report : (Element → List ℕ) → ℕ → List BodyRoot → List ℕ
+roots_report say base roots = flat_map (root_line say base) roots ++ roots_line (length roots)
+
+-- the report of one term: the answer to the reference to this address
+abbrev pub term_report : (Element → List ℕ) → ℕ → List ℕ
+term_report say address = say (Ref address) ++ newline
+
+-- the bytes in upper-case hex, in so many lines of 32 bytes, or of as many as are left
+abbrev pub hex_lines : ℕ → List ℕ → List ℕ
+hex_lines zero bytes = []
+hex_lines (suc lines) bytes = (flat_map hex_byte (take 32 bytes) ++ newline) ++ hex_lines lines (drop 32 bytes)
+
+-- as many lines as hold all bytes
+abbrev pub line_count : List ℕ → ℕ
+line_count bytes = (length bytes + 31) / 32
+
+-- the first line: the address of a binary, and how many bytes it has
+abbrev pub binary_heading : ℕ → ℕ → List ℕ
+binary_heading address size = concat (codes "binary " ∷ hexadecimal address ∷ codes " size " ∷ decimal size ∷ newline ∷ [])
+
+-- the report of the binary with this address
+abbrev pub binary_report : ℕ → List ℕ → List ℕ
+binary_report address bytes = binary_heading address (length bytes) ++ hex_lines (line_count bytes) bytes
