@@ -3,3 +3,4 @@ pub mod Refusals
 pub mod Reports
 pub mod Roots
 pub mod Tables
+pub mod Tallies
