@@ -18,7 +18,8 @@ use Rattle.process_table.specs.Records.{record_sections}
 use Rattle.section_index.specs.Lookups.{has_tag, is_named}
 use Rattle.section_rows.specs.Loading.{first_large}
 use Rattle.table_sections.specs.Tables.{listed, table_of}
-use Rattle.dump_command.specs.Command.{Command, index, info, procs, proc, memory, table, file_of}
+use Rattle.dump_write.specs.Made.{made}
+use Rattle.dump_command.specs.Command.{Command, index, info, procs, proc, memory, table, make, file_of}
 use Rattle.dump_command.specs.declared.status.TheConstants.{DONE}
 
 -- the first of these sections
@@ -46,6 +47,7 @@ bodies (procs file) sections = record_sections sections
 bodies (proc file pid) sections = one_of (process_section pid sections)
 bodies (memory file) sections = one_of (memory_section sections)
 bodies (table kind file) sections = listed kind sections
+bodies (make seed count) sections = []
 
 -- the bytes of a section's body
 abbrev pub body_of : List ℕ → Section → List ℕ
@@ -70,6 +72,7 @@ report (procs file) bytes = procs_report (process_table bytes)
 report (proc file pid) bytes = fields_of bytes (process_section pid (sections bytes))
 report (memory file) bytes = fields_of bytes (memory_section (sections bytes))
 report (table kind file) bytes = rows_report (table_of kind bytes)
+report (make seed count) bytes = made seed count
 
 -- the status of a run that has written its whole report
 abbrev pub report_status : Command → List ℕ → ℕ

@@ -14,6 +14,7 @@
 mod commands;
 mod ending;
 mod file_dumps;
+mod made_words;
 mod open;
 mod runner;
 pub mod status;

@@ -1,7 +1,10 @@
 // The words of the command line.
 ghost use Rattle.std.specs.Prelude.{◌≡◌, map, option_map};
+ghost use Rattle.std.specs.Option.{IfSome};
 ghost use Rattle.std.specs.String.{string_bytes};
-ghost use Rattle.dump_command.specs.Command.{command, file_command, word_command, shown};
+ghost use Rattle.dump_command.specs.Command.{command, file_command, word_command, shown, IsInRange};
+
+use crate::made_words::number_command;
 
 /// A command with its words.
 #[derive(Clone, Copy, Debug, PartialEq, Eq)]
@@ -24,11 +27,14 @@ pub enum Cmd<'a> {
     Nodes { file: &'a str },
     /// `mods FILE`: the modules.
     Mods { file: &'a str },
+    /// `make SEED COUNT`: a dump that is made, of so many processes. No file is opened.
+    Make { seed: u64, count: u32 },
 }
 
 /// The command of the words behind the program's name. `None` comes exactly where they are no command.
 pub fn read_words(words: &[String]) -> Option<Cmd<'_>>
-    ensures { option_map shown result ≡ command (map string_bytes words.now) }
+    ensures reads { option_map shown result ≡ command (map string_bytes words.now) }
+    ensures range { IfSome result (λ cmd. IsInRange (shown cmd)) }
 {
     match words {
         [name, file] => file_command(name.as_str(), file.as_str()),
@@ -38,7 +44,8 @@ pub fn read_words(words: &[String]) -> Option<Cmd<'_>>
 }
 
 fn file_command<'a>(name: &str, file: &'a str) -> Option<Cmd<'a>>
-    ensures { option_map shown result ≡ file_command name.now file.now }
+    ensures reads { option_map shown result ≡ file_command name.now file.now }
+    ensures range { IfSome result (λ cmd. IsInRange (shown cmd)) }
 {
     match name {
         "index" => Some(Cmd::Index { file }),
@@ -54,10 +61,11 @@ fn file_command<'a>(name: &str, file: &'a str) -> Option<Cmd<'a>>
 }
 
 fn word_command<'a>(name: &str, file: &'a str, word: &'a str) -> Option<Cmd<'a>>
-    ensures { option_map shown result ≡ word_command name.now file.now word.now }
+    ensures reads { option_map shown result ≡ word_command name.now file.now word.now }
+    ensures range { IfSome result (λ cmd. IsInRange (shown cmd)) }
 {
     match name {
         "proc" => Some(Cmd::Proc { file, pid: word }),
-        _ => None,
+        _ => number_command(name, file, word),
     }
 }

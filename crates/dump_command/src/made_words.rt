@@ -1,0 +1,35 @@
+// The words of a command that makes a dump.
+ghost use Rattle.std.specs.Prelude.{◌≡◌, ◌≤◌, option_map};
+ghost use Rattle.std.specs.Option.{IfSome};
+ghost use Rattle.dump_command.specs.Command.{number_command, shown, IsInRange};
+ghost use Rattle.dump_command.specs.MadeWords.{seed_and_count};
+
+use crate::words::Cmd;
+use dump_io::dec_u64;
+
+// The seed and the count of processes, from 1 to 200,000, that two words write.
+fn seed_and_count(seed: &str, count: &str) -> Option<(u64, u32)>
+    ensures numbers { result ≡ seed_and_count seed.now count.now }
+    ensures range { IfSome result (λ numbers. (1 ≤ numbers.1) × (numbers.1 ≤ 200000)) }
+{
+    let seed = dec_u64(seed.as_bytes())?;
+    let count = dec_u64(count.as_bytes())?;
+    if count < 1 || count > 200_000 {
+        return None;
+    }
+    Some((seed, count as u32))
+}
+
+/// The command of two numbers that has this name.
+pub(crate) fn number_command<'a>(name: &str, seed: &str, count: &str) -> Option<Cmd<'a>>
+    ensures reads { option_map shown result ≡ number_command name.now seed.now count.now }
+    ensures range { IfSome result (λ cmd. IsInRange (shown cmd)) }
+{
+    match name {
+        "make" => {
+            let (seed, count) = seed_and_count(seed, count)?;
+            Some(Cmd::Make { seed, count })
+        }
+        _ => None,
+    }
+}
