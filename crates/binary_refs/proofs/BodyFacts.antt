@@ -1,33 +1,22 @@
 -- Parts of bodies, and what is shown of them.
-use Rattle.std.proofs.Common.{◌≡◌, ℕ, zero, suc, ◌+◌, ◌-◌, ◌<◌, ◌≤◌, ◌==◌, ◌↔◌, ⊎_elim, false, List, [], ◌∷◌, ◌++◌, length, take, drop, get_or, Option, None, Some, if◌then◌else◌, refl, sym, ◌∙◌, ap, subst, arith, append_assoc, length-append}
+use Rattle.std.proofs.Common.{◌≡◌, ℕ, zero, suc, ◌+◌, ◌-◌, ◌<◌, ◌≤◌, ◌==◌, ◌↔◌, ⊎_elim, false, List, [], ◌∷◌, ◌++◌, length, take, drop, get_or, Option, None, Some, if◌then◌else◌, refl, sym, ◌∙◌, ap, arith, append_assoc, length-append}
 use Rattle.std.specs.Prelude.{slice_get, unwrap_or, min, replicate, IfSome}
 use Rattle.std.specs.Option.{option_map, option_and_then}
 use Rattle.std.specs.List.{between}
-use Rattle.std.proofs.lemmas.Bool.{cases_lt, and_parts, leb-true, le-leb, lt-leb, eq-eqb, eqb-true, false_from_ne_true}
+use Rattle.std.proofs.lemmas.Bool.{cases_lt, and_parts, leb-true, eqb-true, false_from_ne_true}
 use Rattle.std.proofs.lemmas.Option.{cond_some, slice_get-get_or}
-use Rattle.std.proofs.lemmas.List.{take_all, take-append-drop, drop-take, drop-drop, take-take, length-take, length-take-le, length-drop}
+use Rattle.std.proofs.lemmas.List.{take_all, take-append-drop, length-take, length-take-le, length-drop}
 use Rattle.dump_io.specs.Numbers.{hex_number}
 use Rattle.section_index.specs.Bodies.{section_at, body_length}
 use Rattle.section_index.specs.Index.{Contents, IsIndexOf, sections_in}
 use Rattle.section_index.specs.Sections.{Section, section}
-use Rattle.term_forms.specs.declared.covers.Cover.{Cover}
 use Rattle.term_forms.specs.declared.enc.Enc.{Enc}
 use Rattle.term_forms.specs.declared.enc.Enc.TheVariants.{Hex, Base64}
-use Rattle.term_forms.specs.Cover.{cover_of, range_cover}
 use Rattle.term_forms.specs.Payload.{IsPayload, IsPayloadOf, chars_of}
 use Rattle.term_forms.specs.ReadingPayloads.{payload_bytes}
 use Rattle.term_forms.specs.Words.{colon, led_of, IsLed}
-use Rattle.binary_refs.specs.Previews.{payload_of, covered_range, bytes_from, in_body, in_dump, binary_place, binary_section}
+use Rattle.binary_refs.specs.Previews.{payload_of, in_body, in_dump, binary_place, binary_section}
 use Rattle.binary_refs.specs.Inner.Leads.{body_at}
-
--- what was read from a place in a body on is a part of the body
-pub part-of-body : (dump : List ℕ) (at end from n : ℕ) → from + n ≤ end - at → take n (drop (at + from) dump) ≡ take n (drop from (between at end dump))
-part-of-body dump at end from n inside =
-    let rest = drop at dump in
-    let m = (end - at) - from in
-    let whole : from + m ≡ end - at = omega (arith, inside) in
-    let inner : drop from (take (end - at) rest) ≡ take m (drop from rest) = ap (λ k. drop from (take k rest)) (sym whole) ∙ drop-take from m rest in
-    sym (ap (take n) inner ∙ (take-take n m (drop from rest) (omega (arith, inside)) ∙ ap (take n) (drop-drop from at dump)))
 
 -- ---- what a body begins with
 
@@ -83,11 +72,6 @@ eq-not a b other = false_from_ne_true _ (λ same. other (eqb-true a b same))
 abbrev pub AreDecoded : Enc → Type 0
 AreDecoded enc = (chars bytes : List ℕ) → (payload_bytes enc chars ≡ Some bytes) ↔ IsPayload enc chars bytes
 
-pub payload-true : (enc : Enc) → AreDecoded enc → (chars bytes : List ℕ) (n : ℕ) → IsPayload enc chars bytes → length bytes ≡ n → payload_of enc n chars ≡ Some bytes
-payload-true enc law chars bytes n is same =
-    ap (λ o. option_and_then (λ found. if length found == n then Some found else None) o) ((law chars bytes).1 is)
-    ∙ ap (λ b. if b then Some bytes else None) (eq-eqb (length bytes) n same)
-
 pub payload-false : (enc : Enc) → AreDecoded enc → (chars : List ℕ) (n : ℕ) → (IsPayloadOf enc chars n → ⊥) → payload_of enc n chars ≡ None
 payload-false enc law chars n none = by (payload_bytes enc chars) refl
   where
@@ -96,37 +80,6 @@ payload-false enc law chars n none = by (payload_bytes enc chars) refl
     by (Some bytes) is =
         ap (λ b. if b then Some bytes else None)
         (eq-not (length bytes) n (λ same. none (record { bytes = bytes; count = same; payload = (law chars bytes).0 is })))
-
--- the characters for a range that isn't empty
-pub cover-some : (enc : Enc) (len offset count : ℕ) → (count ≡ 0 → ⊥) → cover_of enc len offset count ≡ range_cover enc len offset count
-cover-some enc len offset count some =
-    ap (λ b. if b then record { first = 0; chars = 0; skip = 0; bytes = 0 } else range_cover enc len offset count) (eq-not count 0 some)
-
--- no byte is written by fewer characters than one
-range-past : (enc : Enc) (len offset count chars : ℕ) → (count ≡ 0 → ⊥) → chars < offset → chars < (range_cover enc len offset count).first + (range_cover enc len offset count).chars
-range-past Hex len offset count chars some past = omega (arith, past)
-range-past Base64 len offset count chars some past = omega (arith, past)
-
-pub cover-past : (enc : Enc) (len offset count chars : ℕ) → (count ≡ 0 → ⊥) → chars < offset → chars < (cover_of enc len offset count).first + (cover_of enc len offset count).chars
-cover-past enc len offset count chars some past =
-    subst (λ (c : Cover). chars < c.first + c.chars) (sym (cover-some enc len offset count some)) (range-past enc len offset count chars some past)
-
-pub bytes-cut : (enc : Enc) (len : ℕ) (chars : List ℕ) (offset count : ℕ) → (count ≡ 0 → ⊥)
-    → length chars < (cover_of enc len offset count).first + (cover_of enc len offset count).chars → bytes_from enc len chars offset count ≡ None
-bytes-cut enc len chars offset count some past =
-    let c = cover_of enc len offset count in
-    ap (λ b. if b then Some [] else covered_range enc chars c count) (eq-not count 0 some)
-    ∙ ap (λ b. option_map (λ bytes. take count (drop c.skip bytes)) (if b then payload_of enc c.bytes (take c.chars (drop c.first chars)) else None)) (lt-leb _ _ past)
-
-pub bytes-covered : (enc : Enc) (len : ℕ) (chars : List ℕ) (offset count : ℕ) → (count ≡ 0 → ⊥)
-    → (cover_of enc len offset count).first + (cover_of enc len offset count).chars ≤ length chars
-    → bytes_from enc len chars offset count
-    ≡ option_map (λ bytes. take count (drop (cover_of enc len offset count).skip bytes))
-    (payload_of enc (cover_of enc len offset count).bytes (take (cover_of enc len offset count).chars (drop (cover_of enc len offset count).first chars)))
-bytes-covered enc len chars offset count some within =
-    let c = cover_of enc len offset count in
-    ap (λ b. if b then Some [] else covered_range enc chars c count) (eq-not count 0 some)
-    ∙ ap (λ b. option_map (λ bytes. take count (drop c.skip bytes)) (if b then payload_of enc c.bytes (take c.chars (drop c.first chars)) else None)) (le-leb _ _ within)
 
 pub body-length : (dump : List ℕ) (index : Contents) (place : ℕ) → IsIndexOf dump index → (section_at index place).end ≤ index.size
     → length (body_at dump index place) ≡ body_length (section_at index place)

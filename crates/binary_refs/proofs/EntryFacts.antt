@@ -9,11 +9,14 @@ use Rattle.std.proofs.lemmas.List.{get_or-map, length-map}
 use Rattle.std.proofs.lemmas.List.Elements.{All-nil, All-push}
 use Rattle.std.proofs.lemmas.List.Sorted.{IsNonDecreasingBy-push, IsNonDecreasingBy-short}
 use Rattle.std.proofs.lemmas.Option.{none-some, same_Some}
+use Rattle.term_forms.specs.declared.enc.Enc.{Enc}
 use Rattle.term_forms.specs.Forms.{HeapForm, Cons, Tuple, Float, Long, Pid, Port, Ext, HeapBin, RefBin, SubBin, Flat, Hash, Node}
-use Rattle.heap_cells.specs.Cells.{Cell}
+use Rattle.section_index.specs.Index.{Contents}
+use Rattle.heap_cells.specs.Cells.{Cell, kind_of}
 use Rattle.heap_cells.specs.HeapMap.{form_at}
 use Rattle.binary_refs.specs.declared.entries.Entry.{Entry}
-use Rattle.binary_refs.specs.Previews.{by_number, stated, stating, binaries, entry_at, AreFor}
+use Rattle.binary_refs.specs.Previews.{entry_of, by_number, stated, stating, binaries, entry_at, AreFor}
+use Rattle.binary_refs.specs.Inner.Kinds.{refers}
 
 -- ---- looking entries up
 
@@ -249,3 +252,37 @@ entry-cell (x ∷ es) n e is = by (x.cell == n) refl is (entry-cell es n e)
     by : (b : Bool) → (x.cell == n) ≡ b → (if b then Some x else entry_at es n) ≡ Some e → (entry_at es n ≡ Some e → e.cell ≡ n) → e.cell ≡ n
     by true same found rest = ap (λ (f : Entry). f.cell) (sym (same_Some x e found)) ∙ eqb-true x.cell n same
     by false other found rest = rest found
+
+-- ---- cells that refer to no binary
+
+pub not-stated : (n : ℕ) (o : Option HeapForm) → refers (option_map kind_of o) ≡ false → option_and_then (stated n) o ≡ None
+not-stated n None other = refl
+not-stated n (Some (Cons head tail)) other = refl
+not-stated n (Some (Tuple elements)) other = refl
+not-stated n (Some (Float bytes)) other = refl
+not-stated n (Some (Long number)) other = refl
+not-stated n (Some (Pid pid)) other = refl
+not-stated n (Some (Port port)) other = refl
+not-stated n (Some (Ext size chars)) other = refl
+not-stated n (Some (HeapBin size chars)) other = refl
+not-stated n (Some (RefBin address offset size)) other = absurd (true≢false other)
+not-stated n (Some (SubBin address offset size)) other = absurd (true≢false other)
+not-stated n (Some (Flat keys values)) other = refl
+not-stated n (Some (Hash size children)) other = refl
+not-stated n (Some (Node children)) other = refl
+
+pub no-entry : (dump : List ℕ) (index : Contents) (enc : Enc) (cells : List Cell) (n : ℕ) (o : Option HeapForm) → refers (option_map kind_of o) ≡ false → option_and_then (entry_of dump index enc cells n) o ≡ None
+no-entry dump index enc cells n None other = refl
+no-entry dump index enc cells n (Some (Cons head tail)) other = refl
+no-entry dump index enc cells n (Some (Tuple elements)) other = refl
+no-entry dump index enc cells n (Some (Float bytes)) other = refl
+no-entry dump index enc cells n (Some (Long number)) other = refl
+no-entry dump index enc cells n (Some (Pid pid)) other = refl
+no-entry dump index enc cells n (Some (Port port)) other = refl
+no-entry dump index enc cells n (Some (Ext size chars)) other = refl
+no-entry dump index enc cells n (Some (HeapBin size chars)) other = refl
+no-entry dump index enc cells n (Some (RefBin address offset size)) other = absurd (true≢false other)
+no-entry dump index enc cells n (Some (SubBin address offset size)) other = absurd (true≢false other)
+no-entry dump index enc cells n (Some (Flat keys values)) other = refl
+no-entry dump index enc cells n (Some (Hash size children)) other = refl
+no-entry dump index enc cells n (Some (Node children)) other = refl

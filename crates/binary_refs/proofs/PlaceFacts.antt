@@ -1,15 +1,15 @@
 -- The first `binary` section of an address, among sorted pairs.
-use Rattle.std.proofs.Common.{◌≡◌, ℕ, ◌+◌, ◌*◌, ◌<◌, ◌≤◌, ◌==◌, ◌⊎◌, ⊎_elim, inl, inr, Bool, true, false, ◌&&◌, ltb, List, [], ◌∷◌, ◌++◌, length, get_or, Option, None, Some, if◌then◌else◌, sym, ◌∙◌, ap, subst, arith}
-use Rattle.std.specs.Prelude.{slice_get, nat_eq, codes, All, IfSome, Contains}
+use Rattle.std.proofs.Common.{◌≡◌, ℕ, ◌+◌, ◌*◌, ◌<◌, ◌≤◌, ◌==◌, ◌⊎◌, ⊎_elim, inl, inr, Bool, true, false, ◌&&◌, ltb, List, [], length, get_or, Option, None, Some, if◌then◌else◌, sym, ◌∙◌, ap, subst, arith}
+use Rattle.std.specs.Prelude.{nat_eq, codes, IfSome}
 use Rattle.std.specs.Option.{option_eq, option_and_then}
-use Rattle.std.specs.List.Sorted.{IsNonDecreasingBy, IsPartitionPoint, IsPermutation, IsSorted}
+use Rattle.std.specs.List.Sorted.{IsPartitionPoint, IsPermutation, IsSorted}
 use Rattle.std.specs.Ordering.{is_lt, ordering_then, nat_cmp}
 use Rattle.std.specs.Cmp.{nat_cmp_is}
 use Rattle.std.specs.declared.cmp.Ordering.TheVariants.{Less, Equal}
 use Rattle.std.proofs.lemmas.Map.Keys.{ge_from_not_lt}
 use Rattle.std.proofs.lemmas.Bool.{true≢false, cases_lt, cases_order, false_from_ne_true, eq-eqb, eqb-true, ltb-true, ltb-false}
 use Rattle.std.proofs.lemmas.Bool.Decides.{eqb_tells}
-use Rattle.std.proofs.lemmas.List.Elements.{All-nil, All-push, Contains-append_left, Contains-push}
+use Rattle.std.proofs.lemmas.List.Elements.{All-nil}
 use Rattle.std.proofs.lemmas.List.Sorted.{All-permutation, Contains-permutation, IsNonDecreasingBy-from_all_adjacent}
 use Rattle.std.proofs.lemmas.List.{get_or_default}
 use Rattle.std.proofs.lemmas.Option.{slice_get-get_or, none-some, same_Some}
@@ -65,13 +65,6 @@ IsPointOf pairs a at = IsPartitionPoint (λ (p : ℕ × ℕ). ltb p.0 a ≡ true
 
 lesser : (a b m n : ℕ) → m < 4294967296 → n < 4294967296 → a * 4294967296 + m ≤ b * 4294967296 + n → a ≤ b
 lesser a b m n one other ranks = omega arith
-
--- the pairs rise by address
-pub by-address : (ss : List Section) (pairs : List (ℕ × ℕ)) → length ss < 4294967296 → AreOrdered ss pairs → IsNonDecreasingBy (λ (p : ℕ × ℕ). p.0) pairs
-by-address ss pairs few is i j d up inside =
-    let one = (is.are.each i d (omega arith)).0 in
-    let other = (is.are.each j d inside).0 in
-    lesser (get_or pairs i d).0 (get_or pairs j d).0 (get_or pairs i d).1 (get_or pairs j d).1 (omega (arith, one, few)) (omega (arith, other, few)) (is.sorted i j d up inside)
 
 -- a pair in front of the point has another address
 front-differs : (pairs : List (ℕ × ℕ)) (a at k m : ℕ) → IsPointOf pairs a at → k < at → get_or pairs k (a, m) ≡ (a, m) → ⊥
@@ -139,28 +132,6 @@ looked-within ss pairs a at p is inside read =
 
 pub pairs-none : (ss : List Section) → ArePairs ss 0 []
 pairs-none ss = record { each = All-nil (IsPairOf ss); complete = λ place a before. absurd (omega (arith, before)) }
-
-pub pairs-same : (ss : List Section) (i : ℕ) (pairs : List (ℕ × ℕ)) → ArePairs ss i pairs → address_at ss i ≡ None → ArePairs ss (i + 1) pairs
-pairs-same ss i pairs are none = record { each = are.each; complete = λ place a before is. all place a is (cases_lt place i) (omega (arith, before)) }
-  where
-    all : (place a : ℕ) → address_at ss place ≡ Some a → (place < i) ⊎ (i ≤ place) → place ≤ i → Contains pairs (a, place)
-    all place a is (inl earlier) upto = are.complete place a earlier is
-    all place a is (inr later) upto =
-        let here : place ≡ i = omega (arith, later, upto) in absurd (none-some a (sym none ∙ (ap (address_at ss) (sym here) ∙ is)))
-
-pub pairs-more : (ss : List Section) (i a : ℕ) (pairs : List (ℕ × ℕ)) → ArePairs ss i pairs → i < length ss → address_at ss i ≡ Some a → ArePairs ss (i + 1) (pairs ++ (a, i) ∷ [])
-pairs-more ss i a pairs are inside found =
-    record {
-      each = All-push (IsPairOf ss) pairs (a, i) are.each (inside, found);
-      complete = λ place b before is. all place b is (cases_lt place i) (omega (arith, before));
-    }
-  where
-    all : (place b : ℕ) → address_at ss place ≡ Some b → (place < i) ⊎ (i ≤ place) → place ≤ i → Contains (pairs ++ (a, i) ∷ []) (b, place)
-    all place b is (inl earlier) upto = Contains-append_left pairs ((a, i) ∷ []) (b, place) (are.complete place b earlier is)
-    all place b is (inr later) upto =
-        let here : i ≡ place = omega (arith, later, upto) in
-        let same : a ≡ b = same_Some a b (sym found ∙ (ap (address_at ss) here ∙ is)) in
-        subst (λ n. Contains (pairs ++ (a, i) ∷ []) (b, n)) here (subst (λ c. Contains (pairs ++ (a, i) ∷ []) (c, i)) same (Contains-push pairs (a, i)))
 
 -- ---- sorted pairs
 

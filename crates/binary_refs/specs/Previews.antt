@@ -13,7 +13,7 @@ use Rattle.term_forms.specs.Forms.{HeapForm, HeapBin, RefBin, SubBin}
 use Rattle.term_forms.specs.ReadingPayloads.{payload_bytes}
 use Rattle.term_forms.specs.Words.{led_of}
 use Rattle.heap_cells.specs.Cells.{Cell}
-use Rattle.heap_cells.specs.HeapMap.{HeapMap, number_at, form_at}
+use Rattle.heap_cells.specs.HeapMap.{number_at, form_at}
 use Rattle.binary_refs.specs.declared.entries.Entry.{Entry}
 use Rattle.binary_refs.specs.declared.entries.Preview.{Preview}
 use Rattle.binary_refs.specs.declared.entries.Preview.TheVariants.{Bytes, Unknown}
@@ -88,20 +88,20 @@ abbrev pub entry : ℕ → ℕ → Option (List ℕ) → Entry
 entry cell size bytes = record { cell = cell; size = size; bytes = bytes }
 
 -- the entry of a cell with this number and form; references to binaries and parts of binaries have one
-abbrev pub entry_of : List ℕ → Contents → HeapMap → ℕ → HeapForm → Option Entry
-entry_of dump index heap n (RefBin address offset size) = Some (entry n size (in_dump dump index heap.enc address offset size))
-entry_of dump index heap n (SubBin address offset size) =
-    Some (entry n size (in_part (heap_binary heap.cells address) dump index heap.enc address offset size))
-entry_of dump index heap n form = None
+abbrev pub entry_of : List ℕ → Contents → Enc → List Cell → ℕ → HeapForm → Option Entry
+entry_of dump index enc cells n (RefBin address offset size) = Some (entry n size (in_dump dump index enc address offset size))
+entry_of dump index enc cells n (SubBin address offset size) =
+    Some (entry n size (in_part (heap_binary cells address) dump index enc address offset size))
+entry_of dump index enc cells n form = None
 
 -- what the first n cells give by their numbers and forms, in order
 abbrev pub by_number : {X : Type 0} → (ℕ → HeapForm → Option X) → List Cell → ℕ → List X
 by_number f cells zero = []
 by_number f cells (suc n) = by_number f cells n ++ option_to_list (option_and_then (f n) (form_at cells n))
 
--- the previews of a heap over the bytes of a dump
-abbrev pub previews_of : List ℕ → Contents → HeapMap → List Entry
-previews_of dump index heap = by_number (entry_of dump index heap) heap.cells (length heap.cells)
+-- the previews of a heap's cells over the bytes of a dump
+abbrev pub previews_of : List ℕ → Contents → Enc → List Cell → List Entry
+previews_of dump index enc cells = by_number (entry_of dump index enc cells) cells (length cells)
 
 -- the number of a cell that refers to a binary, and the size that it states
 abbrev pub stated : ℕ → HeapForm → Option (ℕ × ℕ)

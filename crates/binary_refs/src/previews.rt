@@ -11,6 +11,7 @@ ghost use Rattle.heap_cells.specs.HeapMap.{form_at};
 ghost use Rattle.heap_cells.specs.Targets.{number};
 ghost use Rattle.binary_refs.specs.Loading.{IsCauseOf};
 ghost use Rattle.binary_refs.specs.Previews.{own_binary, heap_binary, in_heap, in_part, entry, entry_of, previews_of, stated, stating, binaries, entry_at, AreFor, told_entry};
+ghost use Rattle.binary_refs.specs.Inner.Kinds.{refers};
 ghost use Rattle.binary_refs.specs.Inner.Places.{AreOrdered};
 
 use crate::entries::{Entry, Preview};
@@ -19,7 +20,7 @@ use crate::few_bytes::FewBytes;
 use crate::places::places_of;
 use crate::stored::{Range, is_within, range_of, read_stored};
 use dump_io::{Dumps, Failed};
-use heap_cells::{CellIx, Heap, Seat};
+use heap_cells::{CellIx, Heap, Kind, Seat};
 use section_index::Index;
 use std::alloc::Global;
 use std::marker::Model;
@@ -103,7 +104,7 @@ fn read_form<D: Dumps>(
     ensures reads { ReadsAtMost (used D.files D.now D.faults D.taken dumps.old dumps.new) (128 * length (option_to_list (stated n (heap_form form.now)))) }
     ensures failed { OnErr result (DeviceFailed (used D.files D.now D.faults D.taken dumps.old dumps.new)) }
     ensures stated { IfOk result (λ entry. option_map stating entry ≡ stated n (heap_form form.now)) }
-    ensures entry { IfOk result (λ entry. (dump : List ℕ) → D.now dumps.old ≡ told dump → entry ≡ entry_of dump index.now heap.now n (heap_form form.now)) }
+    ensures entry { IfOk result (λ entry. (dump : List ℕ) → D.now dumps.old ≡ told dump → entry ≡ entry_of dump index.now heap.now.enc heap.now.cells n (heap_form form.now)) }
 {
     match form {
         Form::RefBin(address, offset, size) => {
@@ -118,6 +119,13 @@ fn read_form<D: Dumps>(
         }
         _ => Ok(None),
     }
+}
+
+// Whether a cell of this kind refers to a binary.
+fn refers(kind: Option<Kind>) -> bool
+    ensures { result ≡ refers kind }
+{
+    matches!(kind, Some(Kind::RefBin | Kind::SubBin))
 }
 
 // The entry of the cell with a number, where it refers to a binary.
@@ -135,9 +143,13 @@ fn read_entry<D: Dumps>(
     ensures failed { OnErr result (DeviceFailed (used D.files D.now D.faults D.taken dumps.old dumps.new)) }
     ensures stated { IfOk result (λ entry. option_map stating entry ≡ option_and_then (stated n) (form_at heap.now.cells n)) }
     ensures entry { IfOk result (λ entry. (dump : List ℕ) → D.now dumps.old ≡ told dump
-        → entry ≡ option_and_then (entry_of dump index.now heap.now n) (form_at heap.now.cells n)) }
+        → entry ≡ option_and_then (entry_of dump index.now heap.now.enc heap.now.cells n) (form_at heap.now.cells n)) }
 {
-    match heap.form(heap.cell(n)) {
+    let ix = heap.cell(n);
+    if !refers(heap.kind(ix)) {
+        return Ok(None);
+    }
+    match heap.form(ix) {
         Some(form) => read_form(dumps, index, places, heap, n, &form),
         None => Ok(None),
     }
@@ -159,7 +171,7 @@ fn push_entry<D: Dumps>(
     ensures fault { IfErr result (IsCauseOf (used D.files D.now D.faults D.taken dumps.old dumps.new)) }
     ensures stated { OnOk result (map stating entries.new.items ≡ map stating entries.old.items ++ option_to_list (option_and_then (stated n) (form_at heap.now.cells n))) }
     ensures entry { OnOk result ((dump : List ℕ) → D.now dumps.old ≡ told dump
-        → entries.new.items ≡ entries.old.items ++ option_to_list (option_and_then (entry_of dump index.now heap.now n) (form_at heap.now.cells n))) }
+        → entries.new.items ≡ entries.old.items ++ option_to_list (option_and_then (entry_of dump index.now heap.now.enc heap.now.cells n) (form_at heap.now.cells n))) }
 {
     let Ok(entry) = read_entry(dumps, index, places, heap, n) else {
         return Err(PreviewFault::Read);
@@ -185,7 +197,7 @@ fn read_entries<D: Dumps>(
     ensures reads { ReadsAtMost (used D.files D.now D.faults D.taken dumps.old dumps.new) (128 * length (binaries heap.now.cells)) }
     ensures fault { IfErr result (IsCauseOf (used D.files D.now D.faults D.taken dumps.old dumps.new)) }
     ensures stated { IfOk result (λ entries. map stating entries.items ≡ binaries heap.now.cells) }
-    ensures entries { IfOk result (λ entries. (dump : List ℕ) → D.now dumps.old ≡ told dump → entries.items ≡ previews_of dump index.now heap.now) }
+    ensures entries { IfOk result (λ entries. (dump : List ℕ) → D.now dumps.old ≡ told dump → entries.items ≡ previews_of dump index.now heap.now.enc heap.now.cells) }
 {
     let mut entries = Vec::new(alloc);
     for n in 0..heap.cells() {
@@ -258,7 +270,7 @@ impl Previews {
     ) -> Result<Previews, PreviewFault>
         requires { IsBuiltOver (D.now dumps.old) index.now }
         ensures reads { ReadsAtMost (used D.files D.now D.faults D.taken dumps.old dumps.new) (128 * length (binaries heap.now.cells)) }
-        ensures previews { IfOk result (λ previews. (dump : List ℕ) → D.now dumps.old ≡ told dump → previews ≡ previews_of dump index.now heap.now) }
+        ensures previews { IfOk result (λ previews. (dump : List ℕ) → D.now dumps.old ≡ told dump → previews ≡ previews_of dump index.now heap.now.enc heap.now.cells) }
         ensures stated { IfOk result (λ previews. map stating previews ≡ binaries heap.now.cells) }
         ensures each { IfOk result (AreFor heap.now.cells) }
         ensures fault { IfErr result (IsCauseOf (used D.files D.now D.faults D.taken dumps.old dumps.new)) }

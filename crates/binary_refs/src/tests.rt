@@ -170,6 +170,30 @@ fn a_preview_reads_few_bytes(rt: HostRuntime) -> Result<(), Fail> {
     Ok(())
 }
 
+#[test]
+fn a_failed_read_gives_no_previews(rt: HostRuntime) -> Result<(), Fail> {
+    let alloc = rt.alloc();
+    let text = "=proc_heap:<0.1.0>\n10:YcA0:0:5\n11:YcA0:5:0\n=binary:a0\n5:68656C6C6F\n";
+    let mut answers = Vec::new(alloc);
+    for call in 1..10 {
+        let mut dumps = device(alloc, "0.4", text, &[call])?;
+        let Ok(index) = build(alloc, &mut dumps, "V", &Limits::usual()) else {
+            continue;
+        };
+        let Ok(heap) = Heap::load(alloc, &mut dumps, &index, b"<0.1.0>", &Limits::usual()) else {
+            continue;
+        };
+        answers.push(match Previews::load(alloc, &mut dumps, &index, &heap) {
+            Ok(_) => b'.',
+            Err(PreviewFault::Read) => b'r',
+            Err(PreviewFault::Memory) => b'm',
+        })?;
+    }
+    // The front of the body twice, and the characters of 5 bytes.
+    assert_eq!(rt; answers.as_slice(), b"rrr...".as_slice());
+    Ok(())
+}
+
 // The bytes of the binary at A0, or the name of a refusal with its numbers.
 fn draw_whole(alloc: Global, dumps: &mut MemDumps, limits: &Limits) -> Result<Vec<u8>, Fail> {
     let index = build(alloc, dumps, "V", &Limits::usual())?;

@@ -8,7 +8,7 @@ use crate::held::Held;
 use process_table::Procs;
 use report_text::{RootKind, Tally, count_roots};
 use std::alloc::{AllocError, Global};
-use term_unfold::{Previews, Walker};
+use term_unfold::Walker;
 
 // A root is judged by so many of its nodes.
 const JUDGED_NODES: u32 = 1_000;
@@ -48,8 +48,7 @@ fn count_process(alloc: Global, held: &mut Held, pid: &[u8]) -> Result<Tally, Al
     ensures held { held.new ≡ held.old }
 {
     let heap = held.heap(alloc, pid)?;
-    let _previews = held.previews(alloc, &heap)?;
-    let previews = Previews::unknown();
+    let previews = held.previews(alloc, &heap)?;
     let mut walker = Walker::new(alloc, &heap, &previews)?;
     let stack = count_kind(alloc, held, pid, RootKind::Stack, &mut walker)?;
     let dict = count_kind(alloc, held, pid, RootKind::Dict, &mut walker)?;

@@ -6,11 +6,11 @@ use Rattle.term_forms.specs.Elements.{Element, Nil, Small, Atom, Pid, Port, Ref}
 use Rattle.term_forms.specs.Forms.{HeapForm, Cons, Tuple, Float, Long, Flat, Hash, Node, RefBin}
 use Rattle.heap_cells.specs.Cells.{Cell}
 use Rattle.heap_cells.specs.declared.cells.Why.TheVariants.{Missing, Malformed, OnPath}
-use Rattle.term_unfold.specs.declared.node.NodeKind.TheVariants as kinds
 use Rattle.term_unfold.specs.declared.verdict.Verdict.{Verdict}
 use Rattle.term_unfold.specs.declared.verdict.Verdict.TheVariants.{Clean, Bad}
-use Rattle.term_unfold.specs.Trees.{Value, Immediate, OfCell, verdict}
+use Rattle.term_unfold.specs.Trees.{Value, Immediate, verdict}
 use Rattle.term_forms.specs.declared.enc.Enc.TheVariants.{Hex}
+use Rattle.binary_refs.specs.Previews.{entry}
 use Rattle.term_unfold.specs.Leaves.{leaf_text}
 use Rattle.term_unfold.specs.Text.{show}
 use Rattle.term_unfold.specs.Walks.{answer}
@@ -281,7 +281,7 @@ hash-hash = refl
 -- the texts of leaves, and whole answers, where no bytes of a binary are known
 
 abbrev written : List Cell → List ℕ
-written heap = show (leaf_text Hex []) (unfolding_of heap (Ref 16)) 10
+written heap = show (leaf_text Hex heap []) (unfolding_of heap (Ref 16)) 10
 
 atoms : written (at 16 (Tuple (Atom (codes "ok") ∷ Atom (codes "Hello") ∷ Atom (codes "a'b") ∷ Atom [] ∷ [])) ∷ []) ≡ codes "{ok,'Hello','a\\'b',''}"
 unfolding unfolded unfold_by digits
@@ -299,7 +299,7 @@ binary : written (at 16 (RefBin 2304 0 40) ∷ []) ≡ codes "#Bin<40:?>"
 unfolding unfolded unfold_by digits
 binary = refl
 
-previewed : show (leaf_text Hex ((16, Some (104 ∷ 101 ∷ [])) ∷ [])) (unfolding_of (at 16 (RefBin 2304 0 2) ∷ []) (Ref 16)) 10 ≡ codes "#Bin<2:6865>"
+previewed : show (leaf_text Hex (at 16 (RefBin 2304 0 2) ∷ []) (entry 0 2 (Some (104 ∷ 101 ∷ [])) ∷ [])) (unfolding_of (at 16 (RefBin 2304 0 2) ∷ []) (Ref 16)) 10 ≡ codes "#Bin<2:6865>"
 unfolding unfolded unfold_by digits
 previewed = refl
 

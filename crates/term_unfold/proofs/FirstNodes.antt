@@ -2,7 +2,6 @@
 use Rattle.std.proofs.Common.{◌≡◌, ℕ, zero, suc, Bool, true, false, List, [], ◌∷◌, ◌++◌, take, map, refl, sym, ◌∙◌, ap, subst, append_assoc, append-nil}
 use Rattle.std.specs.Prelude.{codes}
 use Rattle.std.proofs.lemmas.List.{take-map, map-append}
-use Rattle.heap_cells.specs.declared.cells.Why.{Why}
 use Rattle.term_unfold.specs.declared.node.NodeKind.{NodeKind}
 use Rattle.term_unfold.specs.declared.node.NodeKind.TheVariants as kinds
 use Rattle.term_unfold.specs.Places.{Face, LeafFace, BadFace, BranchFace, Placed, placed, placed_all, nodes_of}

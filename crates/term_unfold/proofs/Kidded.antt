@@ -1,26 +1,25 @@
 -- The children of an open cell by their places.
-use Rattle.std.proofs.Common.{◌≡◌, ◌⊎◌, ℕ, zero, suc, ◌+◌, ◌<◌, ◌≤◌, ◌/◌, ◌%◌, List, [], ◌∷◌, length, map, take, drop, get_or, Option, Some, None, refl, sym, ◌∙◌, ap, subst, inl, inr, arith}
-use Rattle.std.specs.Prelude.{slice_get, IfSome, All}
-use Rattle.std.specs.Option.{option_map, option_and_then}
-use Rattle.std.specs.List.{sum_by}
+use Rattle.std.proofs.Common.{◌≡◌, ℕ, zero, suc, ◌+◌, ◌<◌, ◌≤◌, ◌/◌, ◌%◌, List, [], ◌∷◌, length, map, take, drop, get_or, Option, Some, None, refl, sym, ◌∙◌, ap, inl, inr, arith}
+use Rattle.std.specs.Prelude.{slice_get, IfSome}
+use Rattle.std.specs.Option.{option_map}
 use Rattle.std.proofs.lemmas.Bool.{cases_lt}
 use Rattle.std.proofs.lemmas.List.{length-map}
 use Rattle.std.proofs.lemmas.List.Sums.{sum_by-cons}
 use Rattle.std.proofs.lemmas.Option.{slice_get-map, slice_get-get_or, slice_get_past}
 use Rattle.std.proofs.Math.Nat.{div-add-mod}
-use Rattle.term_forms.specs.Elements.{Element, Nil, Small, Atom, Pid, Port, Ref}
-use Rattle.term_forms.specs.Forms.{HeapForm, Cons, Tuple, Float, Long, Pid as PidForm, Port as PortForm, Ext, HeapBin, RefBin, SubBin, Flat, Hash, Node}
-use Rattle.heap_cells.specs.Cells.{Cell, cell_weight, weight_of, elements_in, kind_of}
+use Rattle.term_forms.specs.Elements.{Element, Nil}
+use Rattle.term_forms.specs.Forms.{HeapForm, Cons, Tuple, Flat, Hash, Node}
+use Rattle.heap_cells.specs.Cells.{Cell, cell_weight, weight_of, elements_in}
 use Rattle.heap_cells.specs.declared.cells.CellIx.{CellIx}
 use Rattle.heap_cells.specs.declared.cells.Slot.{Slot}
 use Rattle.heap_cells.specs.declared.cells.Slot.TheVariants as slot
 use Rattle.heap_cells.specs.HeapMap.{HeapMap, IsBounded, form_at, elements_at}
 use Rattle.heap_cells.specs.Targets.{At, number, target, slot_target, IsWithin}
 use Rattle.map_nodes.specs.Laws.Targets.{slot-leads, leads-at}
-use Rattle.map_nodes.specs.Rules.{address_of, element_at, form_with}
+use Rattle.map_nodes.specs.Rules.{address_of}
 use Rattle.term_unfold.specs.declared.children.Child.{Child as Kid}
 use Rattle.term_unfold.specs.declared.children.Child.TheVariants as kid
-use Rattle.term_unfold.specs.Inner.Kids.{members_in, HasMembers, found_elements, flat_kids, child_shown, IsTermAt, IsKid, IsKidAt}
+use Rattle.term_unfold.specs.Inner.Kids.{members_in, HasMembers, found_elements, flat_kids, child_shown, IsKidAt}
 use Rattle.term_unfold.specs.Rules.{Child, Term, Item, terms, items, pairs}
 
 -- a cell has no more elements than the heap weighs

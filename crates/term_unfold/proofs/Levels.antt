@@ -1,9 +1,9 @@
 -- More levels than cells that are no ancestors change nothing, so the unfolding follows the rules with no number of levels.
-use Rattle.std.proofs.Common.{◌≡◌, ℕ, zero, suc, ◌+◌, ◌-◌, ◌<◌, ◌≤◌, Bool, true, false, cond, ◌||◌, eqb, List, [], ◌∷◌, length, map, get_or, Option, None, Some, refl, sym, ◌∙◌, ap, subst, inl, inr, arith}
+use Rattle.std.proofs.Common.{◌≡◌, ℕ, zero, suc, ◌+◌, ◌-◌, ◌<◌, ◌≤◌, Bool, true, false, cond, ◌||◌, eqb, List, [], ◌∷◌, length, get_or, Option, None, Some, refl, sym, ◌∙◌, ap, subst, inl, inr, arith}
 use Rattle.std.specs.Prelude.{IsSome}
-use Rattle.std.specs.Cmp.{IsEquivalence, nat_eq_equiv}
+use Rattle.std.specs.Cmp.{nat_eq_equiv}
 use Rattle.std.specs.Option.{option_map}
-use Rattle.std.specs.List.{list_any, IsDistinct, AllByRecursion, position}
+use Rattle.std.specs.List.{list_any, IsDistinct, AllByRecursion}
 use Rattle.std.proofs.lemmas.Bool.{false≢true, or_parts, or_cases, eqb-true}
 use Rattle.std.proofs.lemmas.List.{length-map}
 use Rattle.std.proofs.lemmas.List.Quantifiers.{position-Some}
@@ -12,12 +12,10 @@ use Rattle.term_forms.specs.Elements.{Element, Nil, Small, Atom, Pid, Port, Ref}
 use Rattle.term_forms.specs.Forms.{HeapForm, Cons, Tuple, Float, Long, Pid as PidForm, Port as PortForm, Ext, HeapBin, RefBin, SubBin, Flat, Hash, Node}
 use Rattle.heap_cells.specs.Cells.{Cell, addresses}
 use Rattle.heap_cells.specs.HeapMap.{number_at, form_at}
-use Rattle.heap_cells.specs.declared.cells.Why.{Why}
 use Rattle.heap_cells.specs.declared.cells.Why.TheVariants.{OnPath}
-use Rattle.map_nodes.specs.Rules.{Keys, no_keys, keys_at, bad_keys, tuple_keys, cell_keys, keys_of_map, Member, pair_at, inner_at, bad_member, form_member, cell_member, form_with}
-use Rattle.term_unfold.specs.declared.node.NodeKind.{NodeKind}
+use Rattle.map_nodes.specs.Rules.{Keys, no_keys, keys_at, bad_keys, keys_of_map, form_member, cell_member, form_with}
 use Rattle.term_unfold.specs.Laws.{IsPath}
-use Rattle.term_unfold.specs.Rules.{Child, Term, Item, Opening, leaf, bad, node, is_on, unless_on, keyed, flat_opening, form_opening, cell_opening, term_opening, item_opening, opening}
+use Rattle.term_unfold.specs.Rules.{Child, Term, Item, Opening, leaf, bad, node, is_on, unless_on, keyed, form_opening, cell_opening, item_opening, opening}
 use Rattle.term_unfold.specs.Trees.{Tree, Branch, more}
 use Rattle.term_unfold.specs.Unfolding.{trees, grown, unfold_by, unfolded}
 

@@ -4,6 +4,7 @@ pub mod FirstNodes
 pub mod Levels
 pub mod Lines
 pub mod Opens
+pub mod Previewed
 pub mod Sized
 pub mod Stepping
 pub mod Suiting

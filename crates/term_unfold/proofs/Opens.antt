@@ -1,7 +1,6 @@
 -- What a child opens, by what the walk sees of its cell.
-use Rattle.std.proofs.Common.{◌≡◌, ◌⊎◌, ℕ, zero, suc, ◌+◌, ◌-◌, ◌<◌, ◌≤◌, Bool, true, false, cond, ◌||◌, not, eqb, ltb, List, [], ◌∷◌, length, map, take, drop, get_or, Option, Some, None, refl, sym, ◌∙◌, ap, subst, inl, inr, arith}
-use Rattle.std.specs.Prelude.{slice_get}
-use Rattle.std.specs.Option.{option_map, option_and_then, unwrap_or}
+use Rattle.std.proofs.Common.{◌≡◌, ℕ, ◌-◌, ◌<◌, ◌≤◌, Bool, true, false, cond, ◌||◌, not, eqb, ltb, List, [], ◌∷◌, length, take, drop, get_or, Option, Some, None, refl, sym, ◌∙◌, ap, inl, inr, arith}
+use Rattle.std.specs.Option.{option_map, unwrap_or}
 use Rattle.std.specs.List.{IsDistinct, position_or_len}
 use Rattle.std.proofs.lemmas.Bool.{cases_eq, cases_lt, eq-eqb, ne_eqb, lt-ltb, ltb-false}
 use Rattle.std.proofs.lemmas.List.{length-map}
@@ -16,15 +15,15 @@ use Rattle.heap_cells.specs.declared.cells.Kind.{Kind}
 use Rattle.heap_cells.specs.declared.cells.Kind.TheVariants as cell_kind
 use Rattle.heap_cells.specs.declared.cells.Why.{Why}
 use Rattle.heap_cells.specs.declared.cells.Why.TheVariants.{Missing, Malformed, OnPath}
-use Rattle.heap_cells.specs.HeapMap.{number_at, form_at, elements_at}
-use Rattle.heap_cells.specs.Targets.{Plain, At, Missing as Gone, number, target}
-use Rattle.map_nodes.specs.Laws.Targets.{IsRefTo, leads-at, leads-missing, leads-nowhere}
-use Rattle.map_nodes.specs.Rules.{Keys, no_keys, keys_at, bad_keys, tuple_keys, cell_keys, element_keys, form_keys, keys_of_map, Member, pair_at, inner_at, bad_member, form_member, cell_member, member_of, address_of, form_with}
+use Rattle.heap_cells.specs.HeapMap.{number_at, form_at}
+use Rattle.heap_cells.specs.Targets.{Plain, At, number, target}
+use Rattle.map_nodes.specs.Laws.Targets.{leads-at, leads-nowhere}
+use Rattle.map_nodes.specs.Rules.{no_keys, keys_at, bad_keys, tuple_keys, cell_keys, element_keys, form_keys, pair_at, inner_at, form_member, cell_member, member_of, address_of, form_with}
 use Rattle.term_unfold.specs.declared.node.NodeKind.TheVariants as kinds
 use Rattle.term_unfold.specs.declared.path.Entry.{Entry}
 use Rattle.term_unfold.specs.Inner.Entries.{numbers_of, path_of, IsLine}
 use Rattle.term_unfold.specs.Inner.Kids.{members_in, found_elements, flat_kids}
-use Rattle.term_unfold.specs.Rules.{Child, Term, Item, Opening, leaf, bad, node, is_on, unless_on, terms, items, pairs, keyed, flat_opening, form_opening, cell_opening, term_opening, item_opening, opening}
+use Rattle.term_unfold.specs.Rules.{Term, Item, leaf, bad, node, is_on, unless_on, terms, items, pairs, keyed, form_opening, cell_opening, term_opening, item_opening, opening}
 use Rattle.term_unfold.specs.Trees.{Immediate, OfCell}
 use Rattle.term_unfold.proofs.Kidded.{flat_kids-at}
 
@@ -146,7 +145,7 @@ item-missing heap path parent e b is off none =
 
 -- each cell is found by its address
 
-number-is : (heap : List Cell) (n : ℕ) → IsDistinct eqb (addresses heap) → n < length heap → number_at heap (address_of heap n) ≡ Some n
+pub number-is : (heap : List Cell) (n : ℕ) → IsDistinct eqb (addresses heap) → n < length heap → number_at heap (address_of heap n) ≡ Some n
 number-is heap n distinct within =
     let a = address_of heap n in
     let p = λ (c : Cell). eqb c.address a in

@@ -1,5 +1,5 @@
 -- The text of a sized leaf, in three parts.
-use Rattle.std.proofs.Common.{◌≡◌, ℕ, List, [], ◌∷◌, ◌++◌, refl, sym, ◌∙◌, ap, append_assoc, append-nil}
+use Rattle.std.proofs.Common.{◌≡◌, ℕ, List, [], ◌++◌, ◌∙◌, ap, append_assoc}
 use Rattle.std.specs.Prelude.{codes, decimal, Option}
 use Rattle.term_unfold.specs.Leaves.{preview_text, sized_text}
 

@@ -1,5 +1,5 @@
 -- What the open cells still have to write, where a child is visited.
-use Rattle.std.proofs.Common.{◌≡◌, ℕ, zero, suc, ◌+◌, ◌<◌, ◌≤◌, Bool, true, false, not, cond, List, [], ◌∷◌, ◌++◌, length, take, drop, Some, None, refl, sym, ◌∙◌, ap, subst, inl, inr, append_assoc, arith, add-one}
+use Rattle.std.proofs.Common.{◌≡◌, ℕ, zero, suc, ◌+◌, ◌≤◌, Bool, true, false, not, cond, List, [], ◌∷◌, ◌++◌, length, take, Some, None, refl, sym, ◌∙◌, ap, inl, inr, append_assoc, arith, add-one}
 use Rattle.std.specs.Prelude.{codes, slice_get}
 use Rattle.term_forms.specs.Elements.{Element, Nil, Small, Atom, Pid, Port, Ref}
 use Rattle.term_forms.specs.Forms.{HeapForm}
@@ -14,15 +14,15 @@ use Rattle.term_unfold.specs.declared.openings.Opened.{Opened}
 use Rattle.term_unfold.specs.declared.openings.Opened.TheVariants as opened
 use Rattle.term_unfold.specs.declared.path.Entry.{Entry}
 use Rattle.term_unfold.specs.Inner.Coming.{left_of, entered_by}
-use Rattle.term_unfold.specs.Inner.Entries.{path_of, next_of, told, is_item, came_of}
+use Rattle.term_unfold.specs.Inner.Entries.{path_of, next_of, is_item}
 use Rattle.term_unfold.specs.Inner.Kids.{kids_of, members_in, found_elements, flat_kids}
 use Rattle.term_unfold.specs.Inner.Openings.{element_of, is_item_child, is_nil_term, is_list, IsOpened}
 use Rattle.term_unfold.specs.Inner.Rest.{closing, list_rest, is_value, flat_rest, term_rest, pair_rest, item_rest, run, run_items, resume, rest, to_show, to_list, bracket, cell_text, own_text, HasItems}
 use Rattle.term_unfold.specs.Rules.{Child, Term, Item, terms, items, pairs}
-use Rattle.term_unfold.specs.Text.{Shown, shown, led, ◌then◌, Stand, Cut, At, Listed, listed, go_on, ◌followed◌, left_at, closed, comma, cut, bad_text, is_nil, leaf_tail, barred, node_text, head_text, tail_text, elements_text, keys_text, values_text, items_text, item_text, pair_text, value_text}
+use Rattle.term_unfold.specs.Text.{Shown, shown, ◌then◌, Stand, Cut, At, Listed, listed, go_on, ◌followed◌, closed, comma, bad_text, is_nil, leaf_tail, barred, node_text, head_text, tail_text, elements_text, keys_text, values_text, items_text, item_text, pair_text, value_text}
 use Rattle.term_unfold.specs.Trees.{Value, Immediate, OfCell, Tree, Leaf, Bad, Branch, Trees, none, more}
 use Rattle.term_unfold.specs.Unfolding.{trees, unfolded}
-use Rattle.term_unfold.proofs.Turning.{run-then, run-led, run-barred, left-more, left-none, term-at, item-at, rest-told, HasChild}
+use Rattle.term_unfold.proofs.Turning.{run-then, run-led, run-barred, left-more, left-none, term-at, item-at, HasChild}
 use Rattle.term_unfold.proofs.Visited.{unfolded-as}
 
 -- a visited child, by what it opens

@@ -1,12 +1,12 @@
 -- What ties marks, stack and line, under each step.
-use Rattle.std.proofs.Common.{◌≡◌, ℕ, ◌+◌, ◌-◌, ◌<◌, ◌≤◌, Bool, true, false, ◌||◌, eqb, List, [], ◌∷◌, ◌++◌, length, get_or, set, refl, sym, ◌∙◌, ap, subst, inl, inr, arith, length-append}
+use Rattle.std.proofs.Common.{◌≡◌, ℕ, ◌-◌, ◌<◌, ◌≤◌, Bool, true, false, ◌||◌, eqb, List, [], ◌∷◌, ◌++◌, length, get_or, set, refl, sym, ◌∙◌, ap, subst, inl, inr, arith, length-append}
 use Rattle.std.specs.Prelude.{reverse}
 use Rattle.std.proofs.lemmas.List.{length-set, length-map, length-reverse, get_or-set_same, get_or-set_other, get_or_at, set_at, reverse-append, reverse-reverse}
 use Rattle.std.proofs.lemmas.Grind.{reverse_onto}
 use Rattle.std.proofs.lemmas.Bool.{cases_eq, eq-eqb, ne_eqb}
 use Rattle.heap_cells.specs.Targets.{number}
 use Rattle.term_unfold.specs.declared.path.Entry.{Entry}
-use Rattle.term_unfold.specs.Inner.Entries.{Entered, numbers_of, altered, next_of, told_of, IsLine, IsTied}
+use Rattle.term_unfold.specs.Inner.Entries.{Entered, numbers_of, altered, IsLine, IsTied}
 use Rattle.term_unfold.specs.Rules.{is_on}
 use Rattle.term_unfold.proofs.Lines.{length-line}
 

@@ -1,28 +1,21 @@
 -- What the open cells still have to write, step by step.
-use Rattle.std.proofs.Common.{◌≡◌, ℕ, zero, suc, ◌+◌, ◌<◌, ◌≤◌, ◌%◌, ◌/◌, Bool, true, false, not, cond, List, [], ◌∷◌, ◌++◌, length, take, drop, Some, None, refl, sym, ◌∙◌, ap, subst, append_assoc, append-nil, arith, add-one}
+use Rattle.std.proofs.Common.{◌≡◌, ℕ, zero, suc, ◌+◌, ◌<◌, ◌%◌, ◌/◌, Bool, true, false, not, cond, List, [], ◌∷◌, ◌++◌, Some, None, refl, sym, ◌∙◌, ap, append_assoc, arith}
 use Rattle.std.specs.Prelude.{codes, slice_get}
 use Rattle.std.proofs.Math.Nat.{div-add-mod}
-use Rattle.term_forms.specs.Elements.{Element, Nil}
 use Rattle.heap_cells.specs.Cells.{Cell}
-use Rattle.heap_cells.specs.HeapMap.{form_at, elements_at}
 use Rattle.heap_cells.specs.Targets.{number}
-use Rattle.heap_cells.specs.declared.cells.CellIx.{CellIx}
-use Rattle.map_nodes.specs.Rules.{address_of}
 use Rattle.term_unfold.specs.declared.node.NodeKind.{NodeKind}
 use Rattle.term_unfold.specs.declared.node.NodeKind.TheVariants as kinds
-use Rattle.term_unfold.specs.declared.openings.Opened.{Opened}
-use Rattle.term_unfold.specs.declared.openings.Opened.TheVariants as opened
 use Rattle.term_unfold.specs.declared.path.Entry.{Entry}
-use Rattle.term_unfold.specs.Inner.Coming.{left_of, entered_by}
-use Rattle.term_unfold.specs.Inner.Entries.{path_of, next_of, told, is_item, came_of, outside}
+use Rattle.term_unfold.specs.Inner.Coming.{left_of}
+use Rattle.term_unfold.specs.Inner.Entries.{path_of, next_of, told, is_item, outside}
 use Rattle.term_unfold.specs.Inner.Kids.{kids_of}
-use Rattle.term_unfold.specs.Inner.Openings.{element_of, is_item_child, IsOpened}
-use Rattle.term_unfold.specs.Inner.Rest.{closing, list_rest, is_value, flat_rest, term_rest, pair_rest, item_rest, run, run_items, resume, rest, to_show, to_list, bracket, cell_text, own_text}
-use Rattle.term_unfold.specs.Rules.{Child, terms}
-use Rattle.term_unfold.specs.Text.{Shown, shown, led, ◌then◌, Stand, Cut, At, Listed, listed, go_on, ◌followed◌, left_at, closed, comma, cut, valued, key_then, bad_text, is_nil, leaf_tail, barred, node_text, head_text, tail_text, elements_text, keys_text, values_text, items_text, item_text, pair_text, value_text}
-use Rattle.term_unfold.specs.Trees.{Value, Immediate, OfCell, Tree, Leaf, Bad, Branch, Trees, none, more}
+use Rattle.term_unfold.specs.Inner.Rest.{closing, list_rest, is_value, flat_rest, term_rest, pair_rest, item_rest, run, run_items, resume, rest}
+use Rattle.term_unfold.specs.Rules.{Child}
+use Rattle.term_unfold.specs.Text.{Shown, shown, led, ◌then◌, Cut, At, listed, closed, comma, barred, tail_text, elements_text, items_text}
+use Rattle.term_unfold.specs.Trees.{Value, Tree, Leaf, Bad, Branch, Trees, none, more}
 use Rattle.term_unfold.specs.Unfolding.{trees, unfolded}
-use Rattle.term_unfold.proofs.Visited.{unfolded-as, drop-at_get, drop-past_get}
+use Rattle.term_unfold.proofs.Visited.{drop-at_get, drop-past_get}
 
 -- texts and what follows them
 

@@ -1,5 +1,5 @@
 -- Turns, by what the walk writes and where it stands then.
-use Rattle.std.proofs.Common.{◌≡◌, ℕ, zero, suc, ◌+◌, ◌-◌, ◌<◌, ◌≤◌, Bool, true, false, cond, List, [], ◌∷◌, ◌++◌, length, drop, refl, sym, ◌∙◌, ap, subst, append_assoc, append-nil, arith}
+use Rattle.std.proofs.Common.{◌≡◌, ℕ, suc, ◌+◌, ◌<◌, ◌≤◌, Bool, true, false, cond, List, [], ◌∷◌, ◌++◌, length, drop, refl, sym, ◌∙◌, ap, subst, append_assoc, append-nil, arith}
 use Rattle.heap_cells.specs.Cells.{Cell}
 use Rattle.heap_cells.specs.declared.cells.Why.{Why}
 use Rattle.term_unfold.specs.declared.openings.Opened.{Opened}
@@ -9,9 +9,9 @@ use Rattle.term_unfold.specs.declared.turns.Turn.{Turn}
 use Rattle.term_unfold.specs.Inner.Coming.{entered_by}
 use Rattle.term_unfold.specs.Inner.Entries.{path_of, next_of, stepped, outside, is_item}
 use Rattle.term_unfold.specs.Inner.Openings.{is_item_child, IsOpened}
-use Rattle.term_unfold.specs.Inner.Rest.{rest, resume, to_show, own_text, turn_text, LeafWithin, IsTurn, HasItems}
+use Rattle.term_unfold.specs.Inner.Rest.{rest, to_show, own_text, turn_text, LeafWithin, IsTurn, HasItems}
 use Rattle.term_unfold.specs.Rules.{Child}
-use Rattle.term_unfold.specs.Text.{At, comma, bad_text}
+use Rattle.term_unfold.specs.Text.{comma}
 use Rattle.term_unfold.specs.Trees.{Value}
 use Rattle.term_unfold.proofs.Turning.{HasChild}
 use Rattle.term_unfold.proofs.Stepping.{show-opened, step-items, list-bad, list-opened, items-child}

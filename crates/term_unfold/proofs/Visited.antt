@@ -5,21 +5,18 @@ use Rattle.std.proofs.lemmas.List.{drop_more, length-map}
 use Rattle.std.proofs.lemmas.Option.{slice_get_within, get_or_from_slice_get}
 use Rattle.heap_cells.specs.Cells.{Cell}
 use Rattle.heap_cells.specs.Targets.{number}
-use Rattle.heap_cells.specs.declared.cells.CellIx.{CellIx}
-use Rattle.heap_cells.specs.declared.cells.Why.{Why}
 use Rattle.map_nodes.specs.Rules.{address_of}
-use Rattle.term_unfold.specs.declared.node.NodeKind.{NodeKind}
 use Rattle.term_unfold.specs.declared.openings.Opened.{Opened}
 use Rattle.term_unfold.specs.declared.openings.Opened.TheVariants as opened
 use Rattle.term_unfold.specs.declared.path.Entry.{Entry}
 use Rattle.term_unfold.specs.declared.verdict.Verdict.{Verdict}
 use Rattle.term_unfold.specs.declared.verdict.Verdict.TheVariants as verdicts
-use Rattle.term_unfold.specs.Inner.Coming.{left_of, to_come, entered_by, verdict_on, Visits}
+use Rattle.term_unfold.specs.Inner.Coming.{to_come, entered_by, verdict_on, Visits}
 use Rattle.term_unfold.specs.Inner.Entries.{path_of, stepped}
 use Rattle.term_unfold.specs.Inner.Kids.{kids_of}
 use Rattle.term_unfold.specs.Inner.Openings.{element_of, IsOpened}
-use Rattle.term_unfold.specs.Rules.{Child, Opening, leaf, bad, node, opening}
-use Rattle.term_unfold.specs.Trees.{Value, Immediate, OfCell, Tree, Leaf, Bad, Branch, pre, pre_all, seen, or_else, first_bad}
+use Rattle.term_unfold.specs.Rules.{Child, Opening, opening}
+use Rattle.term_unfold.specs.Trees.{Immediate, OfCell, Tree, Leaf, Bad, Branch, pre, pre_all, seen, or_else, first_bad}
 use Rattle.term_unfold.specs.Unfolding.{trees, grown, unfolded}
 use Rattle.term_unfold.proofs.Levels.{unfolded-rule}
 

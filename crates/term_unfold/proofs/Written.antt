@@ -1,8 +1,8 @@
 -- Steps of a text that is written.
-use Rattle.std.proofs.Common.{◌≡◌, ℕ, ◌+◌, ◌*◌, ◌<◌, ◌≤◌, List, [], ◌++◌, length, Option, Result, Ok, Err, refl, sym, ◌∙◌, ap, subst, append_assoc, append-nil, arith}
+use Rattle.std.proofs.Common.{◌≡◌, ℕ, ◌+◌, ◌*◌, ◌<◌, ◌≤◌, List, [], ◌++◌, length, Option, Result, Ok, Err, refl, sym, ◌∙◌, ap, subst, append_assoc, append-nil}
 use Rattle.std.specs.Prelude.{IsErr}
-use Rattle.dump_io.specs.Sinks.{grown, Change, change, GainsFront, WritesAll, SinkFailed, Puts}
-use Rattle.dump_io.specs.Laws.Puts.{grown-grown, grown-nil, Puts-stopped, Puts-then, Puts-failed}
+use Rattle.dump_io.specs.Sinks.{grown, change, GainsFront, Puts}
+use Rattle.dump_io.specs.Laws.Puts.{grown-grown, Puts-stopped, Puts-then}
 use Rattle.term_unfold.specs.declared.path.Entry.{Entry}
 use Rattle.term_unfold.specs.Inner.Steps.{IsPart, Steps, Falls, counted_of}
 

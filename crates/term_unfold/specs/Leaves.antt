@@ -1,19 +1,26 @@
 -- The texts of leaves.
-use Rattle.std.specs.Prelude.{ℕ, ◌==◌, List, [], ◌∷◌, ◌++◌, take, min, nat_lt, codes, decimal, Option, None, Some, if◌then◌else◌}
+use Rattle.std.specs.Prelude.{ℕ, List, [], ◌++◌, take, min, nat_lt, codes, decimal, Option, None, Some, if◌then◌else◌}
 use Rattle.std.specs.List.{flat_map}
-use Rattle.std.specs.Option.{option_map}
+use Rattle.std.specs.Option.{option_map, option_and_then}
 use Rattle.dump_io.specs.Atoms.{atom_text}
 use Rattle.dump_io.specs.Numbers.{hex_byte}
 use Rattle.term_forms.specs.declared.enc.Enc.{Enc}
 use Rattle.term_forms.specs.Elements.{Element, Nil, Small, Atom, Pid, Port, Ref}
 use Rattle.term_forms.specs.Forms.{HeapForm, Cons, Tuple, Float, Long, Pid as PidForm, Port as PortForm, Ext, HeapBin, RefBin, SubBin, Flat, Hash, Node}
 use Rattle.term_forms.specs.ReadingPayloads.{payload_bytes}
+use Rattle.heap_cells.specs.Cells.{Cell}
+use Rattle.heap_cells.specs.HeapMap.{number_at}
+use Rattle.binary_refs.specs.declared.entries.Entry.{Entry}
+use Rattle.binary_refs.specs.Previews.{entry_at}
 use Rattle.term_unfold.specs.Trees.{Value, Immediate, OfCell}
 
--- the first bytes of a binary, 32 at most, where they are known, by the address of the cell that refers to it
-abbrev pub preview_at : List (ℕ × Option (List ℕ)) → ℕ → Option (List ℕ)
-preview_at [] a = None
-preview_at (p ∷ ps) a = if p.0 == a then p.1 else preview_at ps a
+-- the first bytes of what the cell with a number refers to, 32 at most, where they are known
+abbrev pub preview_of : List Entry → ℕ → Option (List ℕ)
+preview_of entries n = option_and_then (λ e. e.bytes) (entry_at entries n)
+
+-- the same by the cell's address
+abbrev pub preview_at : List Cell → List Entry → ℕ → Option (List ℕ)
+preview_at cells entries a = option_and_then (preview_of entries) (number_at cells a)
 
 -- `#Port` and the port's text
 abbrev pub port_text : List ℕ → List ℕ
@@ -63,7 +70,7 @@ form_text enc preview (Flat keys values) = []
 form_text enc preview (Hash size children) = []
 form_text enc preview (Node children) = []
 
--- the text of a leaf, by the encoding of payloads and by the previews
-abbrev pub leaf_text : Enc → List (ℕ × Option (List ℕ)) → Value → List ℕ
-leaf_text enc previews (Immediate element) = element_text element
-leaf_text enc previews (OfCell a form) = form_text enc (preview_at previews a) form
+-- the text of a leaf of a heap with these cells, by the encoding of payloads and by the previews
+abbrev pub leaf_text : Enc → List Cell → List Entry → Value → List ℕ
+leaf_text enc cells previews (Immediate element) = element_text element
+leaf_text enc cells previews (OfCell a form) = form_text enc (preview_at cells previews a) form

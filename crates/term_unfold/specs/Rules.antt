@@ -1,7 +1,7 @@
 -- What an element opens below its ancestors: the rules of the unfolding, one level deep.
 use Rattle.std.specs.Prelude.{ℕ, Bool, eqb, List, [], ◌∷◌, map, Option, None, Some, if◌then◌else◌}
 use Rattle.std.specs.List.{list_any}
-use Rattle.term_forms.specs.Elements.{Element, Nil, Small, Atom, Pid, Port, Ref}
+use Rattle.term_forms.specs.Elements.{Element, Ref}
 use Rattle.term_forms.specs.Forms.{HeapForm, Cons, Tuple, Flat, Hash, Node}
 use Rattle.heap_cells.specs.Cells.{Cell}
 use Rattle.heap_cells.specs.declared.cells.Why.{Why}

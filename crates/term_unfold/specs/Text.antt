@@ -1,11 +1,11 @@
 -- The text of a tree, over the nodes that a count allows.
 use Rattle.std.specs.Prelude.{ℕ, zero, suc, Bool, true, false, List, [], ◌++◌, codes}
 use Rattle.std.specs.Fmt.{digits}
-use Rattle.term_forms.specs.Elements.{Nil, Small, Atom, Pid, Port, Ref}
+use Rattle.term_forms.specs.Elements.{Nil}
 use Rattle.heap_cells.specs.declared.cells.Why.{Why}
 use Rattle.heap_cells.specs.declared.cells.Why.TheVariants.{Missing, Malformed, OnPath}
 use Rattle.term_unfold.specs.declared.node.NodeKind.TheVariants as kinds
-use Rattle.term_unfold.specs.Trees.{Value, Immediate, OfCell, Tree, Leaf, Bad, Branch, Trees, none, more}
+use Rattle.term_unfold.specs.Trees.{Value, Immediate, Tree, Leaf, Bad, Branch, Trees, none, more}
 
 -- a text, and the count of nodes that remains behind it
 pub record Shown : Type 0 where

@@ -1,24 +1,25 @@
 -- What a walker goes over, and the answer to a root.
-use Rattle.std.specs.Prelude.{ℕ, Bool, true, false, List, ◌++◌, codes, Option}
+use Rattle.std.specs.Prelude.{ℕ, Bool, true, false, List, ◌++◌, codes}
 use Rattle.dump_io.specs.Numbers.{hexadecimal}
 use Rattle.term_forms.specs.declared.enc.Enc.{Enc}
 use Rattle.term_forms.specs.Elements.{Element}
 use Rattle.heap_cells.specs.Cells.{Cell}
 use Rattle.heap_cells.specs.HeapMap.{HeapMap}
+use Rattle.binary_refs.specs.declared.entries.Entry.{Entry}
 use Rattle.term_unfold.specs.declared.verdict.Verdict.{Verdict}
 use Rattle.term_unfold.specs.declared.verdict.Verdict.TheVariants.{Clean, Bad}
 use Rattle.term_unfold.specs.Leaves.{leaf_text}
 use Rattle.term_unfold.specs.Text.{reason, show}
-use Rattle.term_unfold.specs.Trees.{Tree, verdict}
+use Rattle.term_unfold.specs.Trees.{verdict}
 use Rattle.term_unfold.specs.Unfolding.{unfolding_of}
 
--- a heap, and the previews of its binary references by the addresses of their cells
+-- a heap, and the previews of its references to binaries
 pub record Walk : Type 0 where
   pub heap : HeapMap
-  pub previews : List (ℕ × Option (List ℕ))
+  pub previews : List Entry
 
 -- the two as one value
-abbrev pub walk : HeapMap → List (ℕ × Option (List ℕ)) → Walk
+abbrev pub walk : HeapMap → List Entry → Walk
 walk heap previews = record { heap = heap; previews = previews }
 
 -- the first bad address, or the text where none is bad
@@ -27,6 +28,6 @@ judged_text Clean text = text
 judged_text (Bad address why) text = codes "! " ++ (reason why ++ (codes " " ++ hexadecimal address))
 
 -- the answer to a root: its text with bad addresses in their places, or, where they aren't marked, the first of them in place of the text
-abbrev pub answer : Enc → List (ℕ × Option (List ℕ)) → List Cell → Element → ℕ → Bool → List ℕ
-answer enc previews heap root n true = show (leaf_text enc previews) (unfolding_of heap root) n
-answer enc previews heap root n false = judged_text (verdict (unfolding_of heap root) n) (show (leaf_text enc previews) (unfolding_of heap root) n)
+abbrev pub answer : Enc → List Entry → List Cell → Element → ℕ → Bool → List ℕ
+answer enc previews heap root n true = show (leaf_text enc heap previews) (unfolding_of heap root) n
+answer enc previews heap root n false = judged_text (verdict (unfolding_of heap root) n) (show (leaf_text enc heap previews) (unfolding_of heap root) n)

@@ -1,5 +1,5 @@
 // The texts of leaves and of bad addresses.
-ghost use Rattle.std.specs.Prelude.{◌≡◌, ◌<◌, ◌++◌, length};
+ghost use Rattle.std.specs.Prelude.{◌≡◌, ◌<◌, ◌++◌, length, codes, IsSome};
 ghost use Rattle.std.specs.List.{flat_map};
 ghost use Rattle.std.specs.Option.{option_map};
 ghost use Rattle.dump_io.specs.Sinks.{changed, Puts};
@@ -10,11 +10,12 @@ ghost use Rattle.map_nodes.specs.Rules.{address_of};
 ghost use Rattle.term_forms.specs.Payload.{IsPayloadOf};
 ghost use Rattle.term_forms.specs.Seen.{element};
 ghost use Rattle.term_forms.specs.SeenForms.{heap_form};
+ghost use Rattle.binary_refs.specs.Previews.{entry_at, stated, stating, AreFor};
 ghost use Rattle.term_unfold.specs.Inner.Rest.{cell_text};
-ghost use Rattle.term_unfold.specs.Leaves.{element_text, port_text, dots, preview_text, sized_text, own_preview, form_text, leaf_text};
+ghost use Rattle.term_unfold.specs.Leaves.{element_text, port_text, dots, preview_text, preview_of, sized_text, own_preview, form_text, leaf_text};
 ghost use Rattle.term_unfold.specs.Text.{reason, bad_text};
 
-use crate::previews::Previews;
+use binary_refs::{Preview, Previews};
 use dump_io::{Failed, Piece, Sink, put_atom, put_hex_bytes, put_pieces, write_all};
 use heap_cells::{CellIx, Heap, Why};
 use term_forms::shapes::{Elem, Form};
@@ -121,15 +122,41 @@ fn put_payload<K: Sink>(
     put_sized(sink, word, size, Some(first))
 }
 
-// Writes a cell that has no children, by the preview of what it refers to.
+// The first bytes of what a cell refers to, where they are known.
+fn preview_of<'a>(previews: &'a Previews, ix: CellIx) -> Option<&'a [u8]>
+    requires { IsSome (entry_at previews.now (number ix)) }
+    ensures { option_map (λ bytes. bytes.now) result ≡ preview_of previews.now (number ix) }
+{
+    match previews.get(ix) {
+        Preview::Bytes(bytes, _) => Some(bytes),
+        Preview::Unknown(_) => None,
+    }
+}
+
+// Writes a cell that refers to a binary of this size.
+fn put_reference<K: Sink>(
+    sink: &mut K,
+    previews: &Previews,
+    ix: CellIx,
+    size: u64,
+) -> Result<(), Failed>
+    requires { IsSome (entry_at previews.now (number ix)) }
+    ensures { Puts (changed K.written K.faults sink.old sink.new) (sized_text (codes "#Bin<") size (preview_of previews.now (number ix))) result }
+{
+    put_sized(sink, b"#Bin<", size, preview_of(previews, ix))
+}
+
+// Writes a cell that has no children; a cell that refers to a binary has a preview.
 fn put_form<K: Sink>(
     sink: &mut K,
     enc: Enc,
     form: &Form<'_>,
-    preview: Option<&[u8]>,
+    previews: &Previews,
+    ix: CellIx,
 ) -> Result<(), Failed>
-    requires { IsSpelled enc (heap_form form.now) }
-    ensures { Puts (changed K.written K.faults sink.old sink.new) (form_text enc (option_map (λ bytes. bytes.now) preview.entry) (heap_form form.now)) result }
+    requires spelled { IsSpelled enc (heap_form form.now) }
+    requires stated { option_map stating (entry_at previews.now (number ix)) ≡ stated (number ix) (heap_form form.now) }
+    ensures { Puts (changed K.written K.faults sink.old sink.new) (form_text enc (preview_of previews.now (number ix)) (heap_form form.now)) result }
 {
     match form {
         Form::Float(bytes) => write_all(sink, bytes),
@@ -138,8 +165,8 @@ fn put_form<K: Sink>(
         Form::Port(port) => put_port(sink, port),
         Form::Ext(size, chars) => put_payload(sink, b"#Ext<", enc, *size, chars),
         Form::HeapBin(size, chars) => put_payload(sink, b"#Bin<", enc, *size, chars),
-        Form::RefBin(_, _, size) => put_sized(sink, b"#Bin<", *size, preview),
-        Form::SubBin(_, _, size) => put_sized(sink, b"#Bin<", *size, preview),
+        Form::RefBin(_, _, size) => put_reference(sink, previews, ix, *size),
+        Form::SubBin(_, _, size) => put_reference(sink, previews, ix, *size),
         Form::List(_, _) => write_all(sink, b""),
         Form::Tuple(_) => write_all(sink, b""),
         Form::Flat(_, _) => write_all(sink, b""),
@@ -155,12 +182,14 @@ pub(crate) fn put_cell<K: Sink>(
     previews: &Previews,
     ix: CellIx,
 ) -> Result<(), Failed>
-    requires { number ix < length heap.now.cells }
+    requires cell { number ix < length heap.now.cells }
+    requires previews { AreFor heap.now.cells previews.now }
     ensures { Puts (changed K.written K.faults sink.old sink.new)
-        (cell_text (leaf_text heap.now.enc previews.now) (address_of heap.now.cells (number ix)) (form_at heap.now.cells (number ix))) result }
+        (cell_text (leaf_text heap.now.enc heap.now.cells previews.now) (address_of heap.now.cells (number ix)) (form_at heap.now.cells (number ix))) result }
 {
+    let _count = heap.cells();
     match heap.form(ix) {
-        Some(form) => put_form(sink, heap.enc(), &form, previews.get(heap, ix)),
+        Some(form) => put_form(sink, heap.enc(), &form, previews, ix),
         None => write_all(sink, b""),
     }
 }

@@ -8,7 +8,6 @@ mod leaves;
 mod node;
 mod openings;
 mod path;
-mod previews;
 mod printing;
 mod turns;
 mod verdict;
@@ -16,6 +15,5 @@ mod walker;
 
 pub use laws::{text_is_of_first_nodes, unfolding_is_finite};
 pub use node::NodeKind;
-pub use previews::Previews;
 pub use verdict::Verdict;
 pub use walker::Walker;

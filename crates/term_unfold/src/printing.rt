@@ -2,6 +2,7 @@
 ghost use Rattle.std.specs.Prelude.{◌≡◌, ◌<◌, ◌≤◌, ◌-◌, [], ◌∷◌, length, drop, if◌then◌else◌};
 ghost use Rattle.dump_io.specs.Sinks.{changed, Puts};
 ghost use Rattle.term_forms.specs.Seen.{element};
+ghost use Rattle.binary_refs.specs.Previews.{AreFor};
 ghost use Rattle.term_unfold.specs.Inner.Entries.{Serves};
 ghost use Rattle.heap_cells.specs.Targets.{number};
 ghost use Rattle.map_nodes.specs.Rules.{element_at};
@@ -20,8 +21,8 @@ use crate::leaves::{put_bad, put_cell, put_element};
 use crate::node::NodeKind;
 use crate::openings::{Opened, open_root};
 use crate::path::{Entry, Path};
-use crate::previews::Previews;
 use crate::turns::{Turn, close, cut, visit_next};
+use binary_refs::Previews;
 use dump_io::{Failed, Sink, write_all};
 use heap_cells::{CellIx, Heap, Kid};
 use term_forms::shapes::Elem;
@@ -70,10 +71,11 @@ fn put_own<K: Sink>(
     child: Child,
     opened: Opened,
 ) -> Result<(), Failed>
+    requires previews { AreFor heap.now.cells previews.now }
     requires kid { IsKid heap.now.cells child }
     requires cell { LeafWithin heap.now.cells opened }
     ensures { Puts (changed K.written K.faults sink.old sink.new)
-        (own_text (leaf_text heap.now.enc previews.now) heap.now.cells (child_shown heap.now.cells child) opened) result }
+        (own_text (leaf_text heap.now.enc heap.now.cells previews.now) heap.now.cells (child_shown heap.now.cells child) opened) result }
 {
     match opened {
         Opened::Immediate => put_immediate(sink, heap, child),
@@ -90,10 +92,11 @@ fn put_own_if<K: Sink>(
     child: Child,
     turn: &Turn,
 ) -> Result<(), Failed>
+    requires previews { AreFor heap.now.cells previews.now }
     requires kid { IsKid heap.now.cells child }
     requires cell { LeafWithin heap.now.cells turn.now.opened }
     ensures { Puts (changed K.written K.faults sink.old sink.new)
-        (if turn.now.own then own_text (leaf_text heap.now.enc previews.now) heap.now.cells (child_shown heap.now.cells child) turn.now.opened else []) result }
+        (if turn.now.own then own_text (leaf_text heap.now.enc heap.now.cells previews.now) heap.now.cells (child_shown heap.now.cells child) turn.now.opened else []) result }
 {
     if turn.own {
         put_own(sink, heap, previews, child, turn.opened)
@@ -110,10 +113,11 @@ fn put_turn<K: Sink>(
     child: Child,
     turn: &Turn,
 ) -> Result<(), Failed>
+    requires previews { AreFor heap.now.cells previews.now }
     requires kid { IsKid heap.now.cells child }
     requires cell { LeafWithin heap.now.cells turn.now.opened }
     ensures { Puts (changed K.written K.faults sink.old sink.new)
-        (turn_text (leaf_text heap.now.enc previews.now) heap.now.cells (child_shown heap.now.cells child) turn.now) result }
+        (turn_text (leaf_text heap.now.enc heap.now.cells previews.now) heap.now.cells (child_shown heap.now.cells child) turn.now) result }
 {
     write_all(sink, turn.front)?;
     put_own_if(sink, heap, previews, child, turn)
@@ -138,6 +142,7 @@ fn step<K: Sink>(
     left: u32,
     sink: &mut K,
 ) -> Result<u32, Failed>
+    requires previews { AreFor heap.now.cells previews.now }
     requires serves { Serves heap.now path.old.cells }
     requires top { path.old.entries ≡ entry ∷ drop 1 path.old.entries }
     requires cell { number entry.cell < length heap.now.cells }
@@ -145,8 +150,8 @@ fn step<K: Sink>(
     ensures cells { path.new.cells ≡ path.old.cells }
     ensures falls { Falls path.old.entries path.new.entries left result }
     ensures step { Steps (changed K.written K.faults sink.old sink.new)
-        (rest (leaf_text heap.now.enc previews.now) heap.now.cells path.old.entries left)
-        (rest (leaf_text heap.now.enc previews.now) heap.now.cells path.new.entries) result }
+        (rest (leaf_text heap.now.enc heap.now.cells previews.now) heap.now.cells path.old.entries left)
+        (rest (leaf_text heap.now.enc heap.now.cells previews.now) heap.now.cells path.new.entries) result }
 {
     let Some(child) = child_at(heap, entry.cell, entry.kind, entry.next) else {
         let text = close(path, entry);
@@ -168,9 +173,10 @@ fn put_root<K: Sink>(
     root: &Elem<'_>,
     opened: Opened,
 ) -> Result<(), Failed>
+    requires previews { AreFor heap.now.cells previews.now }
     requires cell { LeafWithin heap.now.cells opened }
     ensures { Puts (changed K.written K.faults sink.old sink.new)
-        (own_text (leaf_text heap.now.enc previews.now) heap.now.cells (Term (element root.now)) opened) result }
+        (own_text (leaf_text heap.now.enc heap.now.cells previews.now) heap.now.cells (Term (element root.now)) opened) result }
 {
     match opened {
         Opened::Immediate => put_element(sink, root),
@@ -189,13 +195,14 @@ fn print_root<K: Sink>(
     budget: u32,
     sink: &mut K,
 ) -> Result<u32, Failed>
+    requires previews { AreFor heap.now.cells previews.now }
     requires serves { Serves heap.now path.old.cells }
     requires empty { path.old.entries ≡ [] }
     requires budget { 0 < budget }
     ensures cells { path.new.cells ≡ path.old.cells }
     ensures step { Steps (changed K.written K.faults sink.old sink.new)
-        (show (leaf_text heap.now.enc previews.now) (unfolding_of heap.now.cells (element root.now)) budget)
-        (rest (leaf_text heap.now.enc previews.now) heap.now.cells path.new.entries) result }
+        (show (leaf_text heap.now.enc heap.now.cells previews.now) (unfolding_of heap.now.cells (element root.now)) budget)
+        (rest (leaf_text heap.now.enc heap.now.cells previews.now) heap.now.cells path.new.entries) result }
 {
     let opened = open_root(heap, path, root);
     enter(path, opened, false);
@@ -211,12 +218,13 @@ pub(crate) fn print_all<K: Sink>(
     budget: u32,
     sink: &mut K,
 ) -> Result<(), Failed>
+    requires previews { AreFor heap.now.cells previews.now }
     requires serves { Serves heap.now path.old.cells }
     requires empty { path.old.entries ≡ [] }
     requires budget { 0 < budget }
     ensures cells { path.new.cells ≡ path.old.cells }
     ensures puts { Puts (changed K.written K.faults sink.old sink.new)
-        (show (leaf_text heap.now.enc previews.now) (unfolding_of heap.now.cells (element root.now)) budget) result }
+        (show (leaf_text heap.now.enc heap.now.cells previews.now) (unfolding_of heap.now.cells (element root.now)) budget) result }
 {
     let mut left = print_root(heap, previews, path, root, budget, sink)?;
     while let Some(entry) = path.top() {

@@ -2,6 +2,7 @@
 ghost use Rattle.std.specs.Prelude.{◌≡◌, ◌<◌, false, IfOk};
 ghost use Rattle.dump_io.specs.Sinks.{changed, Puts};
 ghost use Rattle.term_forms.specs.Seen.{element};
+ghost use Rattle.binary_refs.specs.Previews.{AreFor};
 ghost use Rattle.term_unfold.specs.Leaves.{leaf_text};
 ghost use Rattle.term_unfold.specs.Text.{show};
 ghost use Rattle.term_unfold.specs.Trees.{verdict};
@@ -10,9 +11,9 @@ ghost use Rattle.term_unfold.specs.Walks.{walk};
 
 use crate::judging::first_bad;
 use crate::path::Path;
-use crate::previews::Previews;
 use crate::printing::print_all;
 use crate::verdict::Verdict;
+use binary_refs::Previews;
 use dump_io::{Failed, Sink};
 use heap_cells::Heap;
 use std::alloc::{AllocError, Global};
@@ -27,9 +28,11 @@ pub struct Walker<'h> {
     path: Path,
 }
 
-// Between two calls the walk is in no cell, and there is room for a path through all cells.
+// Between two calls the walk is in no cell, and there is room for a path through all cells. The previews are those of the
+// heap's cells.
 impl<'h> Model for Walker<'h> {
     ghost use Rattle.std.specs.Prelude.{◌≡◌, []};
+    ghost use Rattle.binary_refs.specs.Previews.{AreFor};
     ghost use Rattle.term_unfold.specs.Inner.Entries.{Serves};
     ghost use Rattle.term_unfold.specs.Walks.{Walk, walk};
 
@@ -37,17 +40,18 @@ impl<'h> Model for Walker<'h> {
 
     ghost view = { λ w. walk w.heap.now w.previews.now };
 
-    ghost invariant = { λ w. Serves w.heap.now w.path.cells × (w.path.entries ≡ []) };
+    ghost invariant = { λ w. Serves w.heap.now w.path.cells × (w.path.entries ≡ []) × AreFor w.heap.now.cells w.previews.now };
 }
 
 impl<'h> Walker<'h> {
-    /// A walker over a heap and its previews. It takes all the memory that the walks need: a stack of one entry more than
-    /// there are cells, and one mark a cell.
+    /// A walker over a heap and its previews, which have an entry for exactly the cells that refer to a binary. It takes
+    /// all the memory that the walks need: a stack of one entry more than there are cells, and one mark a cell.
     pub fn new(
         alloc: Global,
         heap: &'h Heap,
         previews: &'h Previews,
     ) -> Result<Walker<'h>, AllocError>
+        requires { AreFor heap.now.cells previews.now }
         ensures { IfOk result (λ walker. walker ≡ walk heap.now previews.now) }
     {
         let path = Path::new(alloc, heap.cells() as usize)?;
@@ -84,7 +88,7 @@ impl<'h> Walker<'h> {
         requires budget { 0 < budget }
         requires clean { marked ≡ false → verdict (unfolding_of self.old.heap.cells (element root)) budget ≡ Verdict.Clean }
         ensures puts { Puts (changed K.written K.faults sink.old sink.new)
-            (show (leaf_text self.old.heap.enc self.old.previews) (unfolding_of self.old.heap.cells (element root.entry)) budget) result }
+            (show (leaf_text self.old.heap.enc self.old.heap.cells self.old.previews) (unfolding_of self.old.heap.cells (element root.entry)) budget) result }
         ensures same { self.new ≡ self.old }
     {
         let _shown = marked;

@@ -1,5 +1,5 @@
 -- What the walk finds where it comes to a child.
-use Rattle.std.specs.Prelude.{◌≡◌, ℕ, ◌<◌, Bool, true, false, List, [], ◌∷◌, length, Option, Some}
+use Rattle.std.specs.Prelude.{◌≡◌, ℕ, ◌<◌, Bool, true, false, List, ◌∷◌, length, Some}
 use Rattle.term_forms.specs.Elements.{Element}
 use Rattle.term_forms.specs.Forms.{HeapForm}
 use Rattle.heap_cells.specs.Cells.{Cell}
@@ -12,7 +12,7 @@ use Rattle.term_unfold.specs.declared.openings.Opened.{Opened}
 use Rattle.term_unfold.specs.declared.openings.Opened.TheVariants as opened
 use Rattle.term_unfold.specs.Inner.Entries.{Entered, numbers_of, path_of, is_item, IsLine}
 use Rattle.term_unfold.specs.Inner.Kids.{kids_of}
-use Rattle.term_unfold.specs.Rules.{Child, Term, Item, Opening, leaf, bad, node, opening}
+use Rattle.term_unfold.specs.Rules.{Child, Term, Item, leaf, bad, node, opening}
 use Rattle.term_unfold.specs.Text.{is_nil}
 use Rattle.term_unfold.specs.Trees.{Immediate, OfCell}
 

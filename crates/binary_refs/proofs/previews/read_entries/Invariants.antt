@@ -10,5 +10,5 @@ invariant-loop-n g l =
     record {
       reads : ReadsAtMost (used d.files d.now d.faults d.taken l.initial.dumps l.dumps) (128 * length (by_number stated l.heap.cells l.n));
       stated : map stating l.entries.items ≡ by_number stated l.heap.cells l.n;
-      entries : (dump : List ℕ) → d.now l.initial.dumps ≡ told dump → l.entries.items ≡ by_number (entry_of dump l.index l.heap) l.heap.cells l.n;
+      entries : (dump : List ℕ) → d.now l.initial.dumps ≡ told dump → l.entries.items ≡ by_number (entry_of dump l.index l.heap.enc l.heap.cells) l.heap.cells l.n;
     }

@@ -1,5 +1,5 @@
-use Rattle.std.proofs.Common.{arith, ap, ◌∙◌, length, ◌≤◌, subst, sym}
-use Rattle.heap_cells.specs.HeapMap.{elements_at, form_at}
+use Rattle.std.proofs.Common.{arith}
+use Rattle.heap_cells.specs.HeapMap.{form_at}
 use Rattle.heap_cells.specs.Targets.{number}
 use Rattle.term_unfold.proofs.Kidded.{item-kid, members-are}
 use Rattle.term_unfold.proofs.children.item_at.Goals as goal

@@ -1,8 +1,6 @@
-use Rattle.std.proofs.Common.{arith, ◌+◌, ◌/◌, subst, sym}
+use Rattle.std.proofs.Common.{arith}
 use Rattle.heap_cells.specs.HeapMap.{elements_at}
 use Rattle.heap_cells.specs.Targets.{number}
-use Rattle.term_unfold.specs.Rules.{terms}
-use Rattle.term_unfold.specs.Inner.Kids.{IsKidAt}
 use Rattle.term_unfold.proofs.Kidded.{key-none, value-none, key-kid, value-kid}
 use Rattle.term_unfold.proofs.children.key_or_value.Goals as goal
 

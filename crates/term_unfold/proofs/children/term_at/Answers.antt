@@ -1,7 +1,5 @@
-use Rattle.std.proofs.Common.{arith, rules, length, ap}
+use Rattle.std.proofs.Common.{arith, length, ap}
 use Rattle.std.proofs.lemmas.List.{length-map}
-use Rattle.heap_cells.specs.HeapMap.{elements_at}
-use Rattle.heap_cells.specs.Targets.{number}
 use Rattle.heap_cells.specs.declared.cells.Slot.TheVariants as slot
 use Rattle.term_unfold.proofs.Kidded.{term-kid}
 use Rattle.term_unfold.proofs.children.term_at.Goals as goal

@@ -1,4 +1,4 @@
-use Rattle.std.proofs.Common.{◌≡◌, ◌-◌, [], length, take}
+use Rattle.std.proofs.Common.{◌≡◌, ◌-◌, take}
 use Rattle.term_forms.specs.Seen.{element}
 use Rattle.term_unfold.specs.Inner.Coming.{to_come}
 use Rattle.term_unfold.specs.Trees.{or_else, first_bad, verdict}

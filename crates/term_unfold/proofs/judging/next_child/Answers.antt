@@ -1,6 +1,4 @@
 use Rattle.std.proofs.Common.{◌∷◌, sym, ◌∙◌, ap}
-use Rattle.std.specs.Option.{option_map}
-use Rattle.term_unfold.specs.Inner.Coming.{to_come}
 use Rattle.term_unfold.specs.Inner.Entries.{Entered}
 use Rattle.term_unfold.specs.Inner.Kids.{child_shown}
 use Rattle.term_unfold.proofs.Visited.{to_come-step, to_come-pop}

@@ -2,7 +2,6 @@ use Rattle.std.proofs.Common.{false, sym, ap, subst}
 use Rattle.term_forms.specs.Seen.{element}
 use Rattle.term_unfold.specs.Inner.Coming.{Visits}
 use Rattle.term_unfold.specs.Inner.Entries.{Entered}
-use Rattle.term_unfold.specs.Inner.Kids.{child_shown}
 use Rattle.term_unfold.specs.Rules.{Term}
 use Rattle.term_unfold.proofs.Visited.{visits-opened}
 use Rattle.term_unfold.proofs.judging.visit_root.Goals as goal

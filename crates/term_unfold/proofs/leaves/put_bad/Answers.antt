@@ -1,5 +1,5 @@
-use Rattle.std.proofs.Common.{List, [], ◌∷◌, ◌++◌, length, refl, sym, ◌∙◌, ap, append-nil, append_assoc, arith}
-use Rattle.dump_io.specs.Laws.Puts.{Puts-then, Puts-stopped, Puts-as}
+use Rattle.std.proofs.Common.{[], ◌++◌, ◌∙◌, ap, append-nil}
+use Rattle.dump_io.specs.Laws.Puts.{Puts-as}
 use Rattle.std.specs.Prelude.{codes}
 use Rattle.dump_io.specs.Numbers.{hexadecimal}
 use Rattle.term_unfold.specs.Text.{reason}

@@ -1,4 +1,3 @@
-use Rattle.std.proofs.Common.{List, [], ◌∷◌, ◌++◌, length, refl, sym, ◌∙◌, ap, append-nil, append_assoc, arith}
 use Rattle.dump_io.specs.Laws.Puts.{Puts-then, Puts-stopped, Puts-as}
 use Rattle.term_unfold.proofs.leaves.put_known.Goals as goal
 

@@ -1,19 +1,11 @@
-use Rattle.std.proofs.Common.{◌≡◌, ℕ, ◌+◌, ◌-◌, ◌<◌, ◌≤◌, zero, suc, false, List, [], ◌∷◌, ◌++◌, length, drop, Ok, Err, refl, sym, ◌∙◌, ap, subst, append-nil, arith}
-use Rattle.std.specs.Option.{option_map}
+use Rattle.std.proofs.Common.{◌≡◌, [], ◌∙◌, ap, subst, arith}
 use Rattle.term_forms.specs.Seen.{element}
-use Rattle.term_unfold.specs.Inner.Entries.{Entered, path_of}
-use Rattle.term_unfold.specs.Inner.Coming.{entered_by}
-use Rattle.term_unfold.specs.Inner.Kids.{child_shown}
-use Rattle.term_unfold.specs.Inner.Openings.{IsOpened}
-use Rattle.term_unfold.specs.Inner.Rest.{rest, own_text, turn_text}
+use Rattle.term_unfold.specs.Inner.Rest.{rest}
 use Rattle.term_unfold.specs.Leaves.{leaf_text}
-use Rattle.term_unfold.specs.Rules.{Term}
 use Rattle.term_unfold.specs.Text.{show}
 use Rattle.term_unfold.specs.Unfolding.{unfolding_of}
-use Rattle.term_unfold.proofs.Turning.{left-none}
-use Rattle.term_unfold.proofs.Stepping.{show-opened}
 use Rattle.term_unfold.specs.Inner.Steps.{IsPart}
-use Rattle.term_unfold.proofs.Written.{Steps-text, IsPart-next, Puts-part, Puts-broken_step, Puts-whole}
+use Rattle.term_unfold.proofs.Written.{IsPart-next, Puts-part, Puts-broken_step, Puts-whole}
 use Rattle.term_unfold.proofs.printing.print_all.Goals as goal
 
 pub loop-entry-preserved : goal.loop-entry-preserved
@@ -38,7 +30,7 @@ returns-in_err-left-2-clause-puts g c =
 pub returns-clause-puts : goal.returns-clause-puts
 returns-clause-puts g c =
     let heap = c.args.heap.now.cells in
-    let leaf = leaf_text c.args.heap.now.enc c.args.previews.now in
+    let leaf = leaf_text c.args.heap.now.enc c.args.heap.now.cells c.args.previews.now in
     let inv = c.loop-entry.invariant in
     let whole = show leaf (unfolding_of heap (element c.args.root.now)) c.args.budget in
     let end : rest leaf heap c.loop-entry.path.entries c.loop-entry.left ≡ [] = ap (λ es. rest leaf heap es c.loop-entry.left) c.in_default.ensures.top in

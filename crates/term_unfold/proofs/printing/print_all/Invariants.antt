@@ -13,8 +13,8 @@ invariant-loop-entry g l = record {
   cells : l.path.cells ≡ l.fn.path.cells;
   later : g.K.Sink.faults l.fn.sink ≤ g.K.Sink.faults l.sink;
   part : IsPart (g.K.Sink.written l.fn.sink) (g.K.Sink.written l.sink)
-      (show (leaf_text l.heap.enc l.previews) (unfolding_of l.heap.cells (element l.fn.root)) l.fn.budget)
-      (rest (leaf_text l.heap.enc l.previews) l.heap.cells l.path.entries l.left);
+      (show (leaf_text l.heap.enc l.heap.cells l.previews) (unfolding_of l.heap.cells (element l.fn.root)) l.fn.budget)
+      (rest (leaf_text l.heap.enc l.heap.cells l.previews) l.heap.cells l.path.entries l.left);
 }
 
 abbrev pub decreases-loop-entry : goal.decreases-loop-entry

@@ -1,25 +1,22 @@
-use Rattle.std.proofs.Common.{◌≡◌, ℕ, ◌+◌, ◌-◌, ◌<◌, ◌≤◌, zero, suc, false, List, [], ◌∷◌, ◌++◌, length, drop, Ok, Err, refl, sym, ◌∙◌, ap, subst, append-nil, arith}
-use Rattle.std.specs.Option.{option_map}
+use Rattle.std.proofs.Common.{◌≡◌, ◌-◌, ◌≤◌, suc, false, List, [], ◌++◌, length, refl, sym, ◌∙◌, ap, subst, append-nil, arith}
 use Rattle.term_forms.specs.Seen.{element}
 use Rattle.term_unfold.specs.Inner.Entries.{Entered, path_of}
 use Rattle.term_unfold.specs.declared.path.Entry.{Entry}
 use Rattle.term_unfold.specs.Inner.Coming.{entered_by}
-use Rattle.term_unfold.specs.Inner.Kids.{child_shown}
 use Rattle.term_unfold.specs.Inner.Openings.{IsOpened}
-use Rattle.term_unfold.specs.Inner.Rest.{rest, own_text, turn_text}
+use Rattle.term_unfold.specs.Inner.Rest.{rest, own_text}
 use Rattle.term_unfold.specs.Leaves.{leaf_text}
 use Rattle.term_unfold.specs.Rules.{Term}
 use Rattle.term_unfold.specs.Text.{show}
 use Rattle.term_unfold.specs.Unfolding.{unfolding_of}
-use Rattle.term_unfold.proofs.Turning.{left-none}
 use Rattle.term_unfold.proofs.Stepping.{show-opened}
-use Rattle.term_unfold.proofs.Written.{Steps-text, IsPart-next, Puts-part, Puts-broken_step, Puts-whole}
+use Rattle.term_unfold.proofs.Written.{Steps-text}
 use Rattle.term_unfold.proofs.printing.print_root.Goals as goal
 
 pub returns-clause-step : goal.returns-clause-step
 returns-clause-step g c =
     let heap = c.args.heap.now.cells in
-    let leaf = leaf_text c.args.heap.now.enc c.args.previews.now in
+    let leaf = leaf_text c.args.heap.now.enc c.args.heap.now.cells c.args.previews.now in
     let o = c.open_root-opened.result in
     let child = Term (element c.args.root.now) in
     let m = c.args.budget - 1 in

@@ -1,24 +1,16 @@
-use Rattle.std.proofs.Common.{◌≡◌, ℕ, ◌+◌, ◌-◌, ◌<◌, ◌≤◌, zero, suc, false, List, [], ◌∷◌, ◌++◌, length, drop, Ok, Err, refl, sym, ◌∙◌, ap, subst, append-nil, arith}
+use Rattle.std.proofs.Common.{◌≡◌, ◌-◌, suc, drop, sym, ◌∙◌, ap, arith}
 use Rattle.std.specs.Option.{option_map}
-use Rattle.term_forms.specs.Seen.{element}
-use Rattle.term_unfold.specs.Inner.Entries.{Entered, path_of}
-use Rattle.term_unfold.specs.Inner.Coming.{entered_by}
 use Rattle.term_unfold.specs.Inner.Kids.{child_shown}
-use Rattle.term_unfold.specs.Inner.Openings.{IsOpened}
-use Rattle.term_unfold.specs.Inner.Rest.{rest, own_text, turn_text}
+use Rattle.term_unfold.specs.Inner.Rest.{rest, turn_text}
 use Rattle.term_unfold.specs.Leaves.{leaf_text}
-use Rattle.term_unfold.specs.Rules.{Term}
-use Rattle.term_unfold.specs.Text.{show}
-use Rattle.term_unfold.specs.Unfolding.{unfolding_of}
 use Rattle.term_unfold.proofs.Turning.{left-none}
-use Rattle.term_unfold.proofs.Stepping.{show-opened}
-use Rattle.term_unfold.proofs.Written.{Steps-text, IsPart-next, Puts-part, Puts-broken_step, Puts-whole}
+use Rattle.term_unfold.proofs.Written.{Steps-text}
 use Rattle.term_unfold.proofs.printing.step.Goals as goal
 
 pub returns-in_default-clause-step : goal.returns-in_default-clause-step
 returns-in_default-clause-step g c =
     let heap = c.args.heap.now.cells in
-    let leaf = leaf_text c.args.heap.now.enc c.args.previews.now in
+    let leaf = leaf_text c.args.heap.now.enc c.args.heap.now.cells c.args.previews.now in
     let before = c.args.path.now.entries in
     let e = c.args.entry in
     let none = sym c.child_at.ensures.child ∙ ap (option_map (child_shown heap)) c.in_default.is in
@@ -28,7 +20,7 @@ returns-in_default-clause-step g c =
 pub returns-then-left-eq0-clause-step : goal.returns-then-left-eq0-clause-step
 returns-then-left-eq0-clause-step g c =
     let heap = c.args.heap.now.cells in
-    let leaf = leaf_text c.args.heap.now.enc c.args.previews.now in
+    let leaf = leaf_text c.args.heap.now.enc c.args.heap.now.cells c.args.previews.now in
     let before = c.args.path.now.entries in
     let e = c.args.entry in
     let has = sym c.child_at.ensures.child ∙ ap (option_map (child_shown heap)) c.in-Some.is in
@@ -39,7 +31,7 @@ returns-then-left-eq0-clause-step g c =
 pub returns-clause-step : goal.returns-clause-step
 returns-clause-step g c =
     let heap = c.args.heap.now.cells in
-    let leaf = leaf_text c.args.heap.now.enc c.args.previews.now in
+    let leaf = leaf_text c.args.heap.now.enc c.args.heap.now.cells c.args.previews.now in
     let before = c.args.path.now.entries in
     let e = c.args.entry in
     let count : c.args.left ≡ suc (c.args.left - 1) = omega (arith, c.if-left-eq0.false) in

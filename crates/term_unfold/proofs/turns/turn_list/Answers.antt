@@ -1,13 +1,9 @@
-use Rattle.std.proofs.Common.{◌≡◌, ◌+◌, ◌-◌, ◌<◌, ◌≤◌, zero, suc, true, false, ◌∷◌, ◌++◌, length, drop, refl, sym, ◌∙◌, ap, subst, inl, inr, arith}
+use Rattle.std.proofs.Common.{false, drop, refl, ap, arith}
 use Rattle.std.specs.Prelude.{codes}
-use Rattle.term_unfold.specs.declared.node.NodeKind.TheVariants as kinds
-use Rattle.term_unfold.specs.Inner.Entries.{Entered, outside, path_of, next_of}
+use Rattle.term_unfold.specs.Inner.Entries.{Entered}
 use Rattle.term_unfold.specs.Inner.Kids.{child_shown}
-use Rattle.term_unfold.specs.Inner.Rest.{rest}
-use Rattle.term_unfold.specs.Text.{comma}
-use Rattle.term_unfold.proofs.Turning.{outside-item, outside-term, cut-tuple, cut-key, cut-value, cut-hash, cut-inner, cut-pair_key, cut-pair_value, even-key, odd-value}
-use Rattle.term_unfold.proofs.Stepping.{step-tuple, step-key, step-value, step-head, step-nil, step-cons, step-tail, step-pair_key, step-pair_value, cons-term, tuple-term, pair-term, map-term}
-use Rattle.term_unfold.proofs.Turns_made.{IsTurn-own, IsTurn-none, IsTurn-bad, items-turn, few-top, opens-top, advanced-top, advanced-few, popped-more, outside-fewer}
+use Rattle.term_unfold.proofs.Stepping.{step-head, cons-term}
+use Rattle.term_unfold.proofs.Turns_made.{IsTurn-own}
 use Rattle.term_unfold.proofs.turns.turn_list.Goals as goal
 
 pub returns-clause-turn : goal.returns-clause-turn

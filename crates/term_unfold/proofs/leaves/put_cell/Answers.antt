@@ -1,0 +1,27 @@
+use Rattle.std.proofs.Common.{sym, ◌∙◌, ap}
+use Rattle.std.specs.Option.{option_and_then}
+use Rattle.dump_io.specs.Laws.Puts.{Puts-as}
+use Rattle.heap_cells.specs.Targets.{number}
+use Rattle.map_nodes.specs.Rules.{address_of}
+use Rattle.binary_refs.specs.Previews.{stated}
+use Rattle.term_forms.specs.SeenForms.{heap_form}
+use Rattle.term_unfold.specs.Inner.Rest.{cell_text}
+use Rattle.term_unfold.specs.Leaves.{form_text, leaf_text, preview_of}
+use Rattle.term_unfold.proofs.Previewed.{preview-is}
+use Rattle.term_unfold.proofs.leaves.put_cell.Goals as goal
+
+pub put_form-requires-clause-stated : goal.put_form-requires-clause-stated
+put_form-requires-clause-stated g c =
+    let n = number c.args.ix in
+    c.requires.previews n ∙ ap (option_and_then (stated n)) (sym c.in-Some.ensures.form)
+
+pub returns-in-Some : goal.returns-in-Some
+returns-in-Some g c =
+    let heap = c.args.heap.now in
+    let n = number c.args.ix in
+    let previews = c.args.previews.now in
+    let address = address_of heap.cells n in
+    let form = heap_form c.in-Some.form in
+    Puts-as (ap (λ enc. form_text enc (preview_of previews n) form) c.enc.ensures
+    ∙ (ap (λ preview. form_text heap.enc preview form) (preview-is heap.cells previews n c.cells-count.ensures.bounded.distinct c.requires.cell)
+    ∙ ap (cell_text (leaf_text heap.enc heap.cells previews) address) c.in-Some.ensures.form)) c.put_form.ensures
