@@ -1,10 +1,10 @@
 -- Nothing but want of memory stops the reading of a good dump, where the device doesn't fail.
-use Rattle.std.proofs.Common.{◌≡◌, ℕ, ◌+◌, ◌≤◌, ◌<◌, List, Option, None, Some, refl, sym, ◌∙◌, ap, subst, arith}
-use Rattle.std.specs.Prelude.{All, Result, Err}
+use Rattle.std.proofs.Common.{◌≡◌, ℕ, ◌≤◌, List, None, refl, sym, ◌∙◌, ap, arith}
+use Rattle.std.specs.Prelude.{All, Err}
 use Rattle.std.specs.Option.{option_map, option_or}
 use Rattle.std.proofs.lemmas.Option.{none-some}
 use Rattle.dump_io.specs.Dumps.{Use, DeviceFailed}
-use Rattle.dump_io.specs.Limits.{Numbers, usual}
+use Rattle.dump_io.specs.Limits.{usual}
 use Rattle.section_index.specs.declared.opening.OpenFault.{OpenFault}
 use Rattle.section_index.specs.declared.opening.OpenFault.TheVariants as opening_faults
 use Rattle.section_index.specs.declared.bodies.BodyFault.{BodyFault}
@@ -13,11 +13,10 @@ use Rattle.section_index.specs.Bodies.{body_length, section_at, IsCauseOf}
 use Rattle.section_index.specs.Index.{Contents, IsAnswerFor, sections_in}
 use Rattle.section_index.specs.Opening.{IsAccepted, IsRefusedFor}
 use Rattle.section_index.specs.Sections.{Section}
-use Rattle.section_rows.specs.Loading.{AreRefused, first_large, large_fault}
+use Rattle.section_rows.specs.Loading.{AreRefused}
 use Rattle.process_table.specs.Records.{record_sections}
 use Rattle.heap_cells.specs.Cells.{weight}
-use Rattle.heap_cells.specs.HeapMap.{HeapMap}
-use Rattle.heap_cells.specs.Loading.{enc_of, heap_section, literals_section, body_in, section_fault, too_large} 
+use Rattle.heap_cells.specs.Loading.{enc_of, heap_section, literals_section, body_in, section_fault, too_large}
 use Rattle.heap_cells.specs.Loading as heaps
 use Rattle.heap_cells.specs.declared.faults.HeapFault.{HeapFault}
 use Rattle.heap_cells.specs.declared.faults.HeapFault.TheVariants as heap_faults

@@ -1,26 +1,25 @@
 -- What is known of a good dump that is open and held in memory.
-use Rattle.std.proofs.Common.{◌≡◌, ℕ, ◌≤◌, List, Option, None, Some, refl, sym, ◌∙◌, ap, subst, inl, inr, arith}
+use Rattle.std.proofs.Common.{◌≡◌, ℕ, List, Option, Some, sym, ◌∙◌, ap, subst, arith}
 use Rattle.std.specs.Prelude.{All, Err, position, unwrap_or, length}
 use Rattle.std.specs.List.{between}
 use Rattle.std.proofs.lemmas.Bool.{cond-true}
 use Rattle.std.specs.Str.{bytes_eq}
 use Rattle.std.proofs.lemmas.Slice.Eq.{bytes_eq-Decides}
-use Rattle.std.proofs.lemmas.Option.{none-some}
-use Rattle.dump_io.specs.Dumps.{Now, told, Use, DeviceFailed}
-use Rattle.dump_io.specs.HeldDump.{files_of}
+use Rattle.dump_io.specs.Dumps.{Now, told, Use, used, DeviceFailed}
+use Rattle.dump_io.specs.HeldDump.{files_of, file_of, now_of, taken_of}
+use Rattle.dump_io.specs.declared.held_dump.HeldDump.{HeldDump}
 use Rattle.dump_io.specs.File.{name_of, bytes_of}
 use Rattle.dump_io.specs.declared.file.DumpFile.{DumpFile}
-use Rattle.dump_io.specs.Limits.{Numbers, usual}
+use Rattle.dump_io.specs.Limits.{Numbers}
 use Rattle.dump_io.specs.Lines.{Header, headers}
 use Rattle.section_index.specs.declared.bodies.BodyFault.{BodyFault}
 use Rattle.section_index.specs.declared.bodies.BodyFault.TheVariants as body_faults
 use Rattle.section_index.specs.declared.opening.Version.{Version}
 use Rattle.section_index.specs.declared.opening.Version.TheVariants.{V05}
 use Rattle.section_index.specs.Bodies.{section_at, IsBodyOf, IsCauseOf}
-use Rattle.section_index.specs.Index.{Contents, IsIndexOf, sections_in}
+use Rattle.section_index.specs.Index.{Contents, sections_in}
 use Rattle.section_index.specs.Lookups.{is_named}
-use Rattle.section_index.specs.Opening.{version_named, first_id}
-use Rattle.section_index.specs.Sections.{Section, sections, sections_of}
+use Rattle.section_index.specs.Sections.{Section}
 use Rattle.section_rows.specs.Loading.{AreRefused}
 use Rattle.process_table.specs.Records.{record_sections}
 use Rattle.heap_cells.specs.declared.faults.HeapFault.{HeapFault}
@@ -49,31 +48,39 @@ small-opened : (now : Now) (index : Contents) (limits : Numbers) → IsOpened no
 small-opened now index limits held =
     subst (λ i. All IsSmall (sections_in i)) (sym (index-opened now index limits held)) held.good.bodies
 
+-- what a call does to the device
+abbrev around : HeldDump → HeldDump → Use
+around old new = used (λ d. Some (files_of (file_of d))) now_of (λ _. 0) taken_of old new
+
+-- its count of faults is always 0
+never-fails : (old new : HeldDump) → DeviceFailed (around old new) → ⊥
+never-fails old new failed = omega (arith, failed)
+
 -- only memory may lack for the processes
-pub records-opened : (now : Now) (index : Contents) (limits : Numbers) (device : Use) (fault : BodyFault) → IsOpened now index limits
-    → AreRefused (record_sections (sections_in index)) limits.section device fault → (DeviceFailed device → ⊥) → fault ≡ body_faults.Memory
-records-opened now index limits device fault held cause works =
-    memory-records (sections_in index) device fault (small-opened now index limits held) works
-    (subst (λ (l : Numbers). AreRefused (record_sections (sections_in index)) l.section device fault) held.bounds cause)
+pub records-opened : (old new : HeldDump) (index : Contents) (limits : Numbers) (fault : BodyFault) → IsOpened (now_of old) index limits
+    → AreRefused (record_sections (sections_in index)) limits.section (around old new) fault → fault ≡ body_faults.Memory
+records-opened old new index limits fault held cause =
+    memory-records (sections_in index) (around old new) fault (small-opened (now_of old) index limits held) (never-fails old new)
+    (subst (λ (l : Numbers). AreRefused (record_sections (sections_in index)) l.section (around old new) fault) held.bounds cause)
 
 -- for a body
-pub body-opened : (now : Now) (index : Contents) (limits : Numbers) (i : ℕ) (device : Use) (fault : BodyFault) → IsOpened now index limits
-    → IsCauseOf (section_at index i) limits.section device fault → (DeviceFailed device → ⊥) → fault ≡ body_faults.Memory
-body-opened now index limits i device fault held cause works =
-    memory-body index i device fault (small-opened now index limits held) works
-    (subst (λ (l : Numbers). IsCauseOf (section_at index i) l.section device fault) held.bounds cause)
+pub body-opened : (old new : HeldDump) (index : Contents) (limits : Numbers) (i : ℕ) (fault : BodyFault) → IsOpened (now_of old) index limits
+    → IsCauseOf (section_at index i) limits.section (around old new) fault → fault ≡ body_faults.Memory
+body-opened old new index limits i fault held cause =
+    memory-body index i (around old new) fault (small-opened (now_of old) index limits held) (never-fails old new)
+    (subst (λ (l : Numbers). IsCauseOf (section_at index i) l.section (around old new) fault) held.bounds cause)
 
 -- for a heap
-pub heap-opened : (now : Now) (index : Contents) (limits : Numbers) (pid : List ℕ) (device : Use) (fault : HeapFault) → IsOpened now index limits
-    → ((dump : List ℕ) → now ≡ told dump
+pub heap-opened : (old new : HeldDump) (index : Contents) (limits : Numbers) (pid : List ℕ) (fault : HeapFault) → IsOpened (now_of old) index limits
+    → ((dump : List ℕ) → now_of old ≡ told dump
     → heaps.IsAnswerFor (enc_of index.version) (body_in dump (heap_section index pid)) (body_in dump (literals_section index)) limits.dense (Err fault))
-    → heaps.IsCauseOf (section_fault limits.section index pid) limits.dense device fault → (DeviceFailed device → ⊥) → fault ≡ heap_faults.Memory
-heap-opened now index limits pid device fault held answer cause works =
-    let bytes = bytes_in now in
-    memory-heap bytes index pid device fault (small-opened now index limits held) (held.good.heaps index pid) works
+    → heaps.IsCauseOf (section_fault limits.section index pid) limits.dense (around old new) fault → fault ≡ heap_faults.Memory
+heap-opened old new index limits pid fault held answer cause =
+    let bytes = bytes_in (now_of old) in
+    memory-heap bytes index pid (around old new) fault (small-opened (now_of old) index limits held) (held.good.heaps index pid) (never-fails old new)
     (subst (λ (l : Numbers). heaps.IsAnswerFor (enc_of index.version) (body_in bytes (heap_section index pid)) (body_in bytes (literals_section index)) l.dense (Err fault))
     held.bounds (answer bytes held.opened))
-    (subst (λ (l : Numbers). heaps.IsCauseOf (section_fault l.section index pid) l.dense device fault) held.bounds cause)
+    (subst (λ (l : Numbers). heaps.IsCauseOf (section_fault l.section index pid) l.dense (around old new) fault) held.bounds cause)
 
 -- the body of roots, by the place of its section
 pub root-at : (bytes : List ℕ) (index : Contents) (kind : RootKind) (tag pid : List ℕ) (place : Option ℕ) → index ≡ index_of bytes → tag ≡ tag_for kind

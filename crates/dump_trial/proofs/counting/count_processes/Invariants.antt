@@ -1,4 +1,4 @@
-use Rattle.std.proofs.Common.{◌≡◌, ◌*◌, ◌≤◌, take}
+use Rattle.std.proofs.Common.{◌≡◌, ◌*◌, take}
 use Rattle.dump_trial.specs.Trial.{tally_of}
 use Rattle.dump_trial.specs.Inner.Tallies.{AreAtMost}
 use Rattle.dump_trial.proofs.counting.count_processes.Given as goal

@@ -1,4 +1,4 @@
-use Rattle.std.proofs.Common.{◌≡◌, Some, sym, ◌∙◌, ap, subst, inl, inr, arith}
+use Rattle.std.proofs.Common.{sym, ◌∙◌, ap, subst, inl, inr, arith}
 use Rattle.std.specs.Prelude.{Err}
 use Rattle.std.proofs.lemmas.Option.{none-some}
 use Rattle.dump_io.specs.HeldDump.{files_of}
@@ -14,5 +14,6 @@ of_opening-requires c =
     memory-opening bytes c.in-Err.fault c.requires.accepted
     (subst (λ limits. IsAnswerFor bytes limits (Err c.in-Err.fault)) c.usual-limits.ensures (c.in-Err.ensures.answer bytes (inl there)))
     (λ unread. elim (c.in-Err.ensures.read (ap Err unread)) [
-      inl failed ↦ absurd (omega (arith, failed))
-    | inr gone ↦ absurd (none-some _ (sym gone ∙ there)) ])
+      | inl failed ↦ absurd (omega (arith, failed))
+      | inr gone ↦ absurd (none-some _ (sym gone ∙ there))
+    ])
