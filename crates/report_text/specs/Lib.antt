@@ -5,3 +5,4 @@ pub mod Refusals
 pub mod Reports
 pub mod Roots
 pub mod Tables
+pub mod Tallies

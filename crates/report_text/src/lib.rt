@@ -19,6 +19,7 @@ mod process_report;
 mod refusals;
 mod root_report;
 mod table_report;
+mod tally;
 
 pub use audit_report::put_findings;
 pub use binary_report::put_binary;
@@ -30,3 +31,4 @@ pub use process_report::put_procs;
 pub use refusals::{Refusal, put_refusal};
 pub use root_report::{RootKind, put_roots, put_term};
 pub use table_report::put_rows;
+pub use tally::{Summary, Tally, count_roots, put_trial};

@@ -31,13 +31,13 @@ pub enum RootKind {
 
 // The roots of a body that are still to come.
 #[derive(Drop)]
-enum Roots<'a> {
+pub(crate) enum Roots<'a> {
     Stack(StackRoots<'a>),
     Dict(DictRoots<'a>),
     Mail(MailRoots<'a>),
 }
 
-fn roots_of(kind: RootKind, body: &[u8]) -> Roots<'_>
+pub(crate) fn roots_of(kind: RootKind, body: &[u8]) -> Roots<'_>
     ensures value { left result ≡ roots_in kind body.now }
     ensures inside { All (IsInside body.now) (left result) }
 {
@@ -48,7 +48,7 @@ fn roots_of(kind: RootKind, body: &[u8]) -> Roots<'_>
     }
 }
 
-fn next_root<'a>(roots: &mut Roots<'a>) -> Option<Root<'a>>
+pub(crate) fn next_root<'a>(roots: &mut Roots<'a>) -> Option<Root<'a>>
     ensures { YieldsFirstBy root left roots.old result roots.new }
 {
     match roots {
@@ -59,7 +59,7 @@ fn next_root<'a>(roots: &mut Roots<'a>) -> Option<Root<'a>>
 }
 
 // A body has at most one line a byte, and a line has at most two roots.
-fn few_roots(kind: RootKind, body: &[u8])
+pub(crate) fn few_roots(kind: RootKind, body: &[u8])
     ensures { length (roots_in kind body.now) ≤ 2 * length body.now }
 {
     let _lines = lines(body);

@@ -1,0 +1,62 @@
+-- What holds of all sections holds of those that are looked up.
+use Rattle.std.proofs.Common.{◌≡◌, ℕ, zero, suc, ◌+◌, ◌≤◌, List, [], ◌∷◌, Option, None, Some, refl, ◌∙◌, arith, nat_lt, not}
+use Rattle.std.specs.Prelude.{All, slice_get, unwrap_or}
+use Rattle.std.specs.List.{enumerate_from}
+use Rattle.std.proofs.lemmas.Bool.{cond-false, le-ltb}
+use Rattle.std.proofs.lemmas.List.Elements.{All-nil, All-cons, All-head, All-tail, All-filter, All-map}
+use Rattle.dump_io.specs.Limits.{usual}
+use Rattle.section_index.specs.Sections.{Section}
+use Rattle.section_index.specs.Bodies.{body_length, section_at}
+use Rattle.section_index.specs.Index.{Contents, sections_in}
+use Rattle.section_rows.specs.Loading.{first_large}
+use Rattle.process_table.specs.Records.{Placed, is_process, first_of_each, has_same_pid, placed, process_sections, records, record_sections}
+use Rattle.heap_cells.specs.Loading.{section_in, too_large}
+
+-- the body of a section is within the usual limit
+abbrev pub IsSmall : Section → Type 0
+IsSmall section = body_length section ≤ usual.section
+
+small-get : (sections : List Section) (i : ℕ) (default : Section) → IsSmall default → All IsSmall sections → IsSmall (unwrap_or (slice_get sections i) default)
+small-get [] i default small all = small
+small-get (s ∷ sections) zero default small all = All-head IsSmall s sections all
+small-get (s ∷ sections) (suc i) default small all = small-get sections i default small (All-tail IsSmall s sections all)
+
+-- the section at a place
+pub small-at : (index : Contents) (i : ℕ) → All IsSmall (sections_in index) → IsSmall (section_at index i)
+small-at index i all = small-get (sections_in index) i _ (omega arith) all
+
+-- a section that may be there
+pub small-in : (index : Contents) (place : Option ℕ) → All IsSmall (sections_in index) → too_large usual.section (section_in index place) ≡ None
+small-in index None all = refl
+small-in index (Some i) all =
+    cond-false (nat_lt usual.section (body_length (section_at index i))) _ _ (le-ltb usual.section (body_length (section_at index i)) (small-at index i all))
+
+-- the same with a place
+abbrev pub IsSmallPlaced : Placed → Type 0
+IsSmallPlaced p = IsSmall p.1
+
+small-placed : (n : ℕ) (sections : List Section) → All IsSmall sections → All IsSmallPlaced (enumerate_from n sections)
+small-placed n [] all = All-nil IsSmallPlaced
+small-placed n (s ∷ sections) all =
+    All-cons IsSmallPlaced (n, s) (enumerate_from (n + 1) sections) (All-head IsSmall s sections all) (small-placed (n + 1) sections (All-tail IsSmall s sections all))
+
+small-first : (ps : List Placed) → All IsSmallPlaced ps → All IsSmallPlaced (first_of_each ps)
+small-first [] all = All-nil IsSmallPlaced
+small-first (p ∷ ps) all =
+    All-cons IsSmallPlaced p _ (All-head IsSmallPlaced p ps all)
+    (All-filter (λ other. not (has_same_pid p other)) IsSmallPlaced (first_of_each ps) (small-first ps (All-tail IsSmallPlaced p ps all)))
+
+small-records : (sections : List Section) → All IsSmall sections → All IsSmall (record_sections sections)
+small-records sections all =
+    All-map IsSmall (λ (r : Placed). r.1) (records sections)
+    (small-first (process_sections (placed sections)) (All-filter (λ (p : Placed). is_process p.1) IsSmallPlaced (placed sections) (small-placed 0 sections all)))
+
+none-large : (sections : List Section) → All IsSmall sections → first_large usual.section sections ≡ None
+none-large [] all = refl
+none-large (s ∷ sections) all =
+    cond-false (nat_lt usual.section (body_length s)) _ _ (le-ltb usual.section (body_length s) (All-head IsSmall s sections all))
+    ∙ none-large sections (All-tail IsSmall s sections all)
+
+-- no section of a process is too large
+pub records-small : (sections : List Section) → All IsSmall sections → first_large usual.section (record_sections sections) ≡ None
+records-small sections all = none-large (record_sections sections) (small-records sections all)

@@ -1,0 +1,4 @@
+pub mod Contained
+pub mod Memory
+pub mod Opened
+pub mod Sums

@@ -1,0 +1,28 @@
+-- A dump that is held in memory.
+use Rattle.std.specs.Prelude.{◌≡◌, ℕ, ◌≤◌, List, [], All}
+use Rattle.dump_io.specs.Dumps.{Now, closed, told, sized}
+use Rattle.dump_io.specs.Limits.{Numbers, usual}
+use Rattle.section_index.specs.Bodies.{body_length}
+use Rattle.section_index.specs.Index.{Contents, IsIndexOf}
+use Rattle.section_index.specs.Opening.{IsAccepted}
+use Rattle.section_index.specs.Sections.{sections}
+use Rattle.dump_write.specs.Heaps.{heap_weight}
+
+-- the bytes of a dump are accepted under the usual limits, and no body and no heap of it passes one
+pub record IsGood (bytes : List ℕ) : Type 0 where
+  pub accepted : IsAccepted bytes usual
+  pub bodies : All (λ section. body_length section ≤ usual.section) (sections bytes)
+  pub heaps : (index : Contents) (pid : List ℕ) → heap_weight bytes index pid ≤ usual.dense
+
+-- the bytes of what is open, where they are told
+abbrev pub bytes_in : Now → List ℕ
+bytes_in closed = []
+bytes_in (told bytes) = bytes
+bytes_in (sized size) = []
+
+-- a good dump is open, this is its index, and the limits are the usual ones
+pub record IsOpened (now : Now) (index : Contents) (limits : Numbers) : Type 0 where
+  pub opened : now ≡ told (bytes_in now)
+  pub good : IsGood (bytes_in now)
+  pub of : IsIndexOf (bytes_in now) index
+  pub bounds : limits ≡ usual

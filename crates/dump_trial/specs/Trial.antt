@@ -1,0 +1,93 @@
+-- What a trial says of a made dump: how much there is in it, and what is bad or one-sided.
+use Rattle.std.specs.Prelude.{ℕ, ◌++◌, List, length, Option, None, Some, position, unwrap_or, codes}
+use Rattle.std.specs.List.{sum_by}
+use Rattle.dump_io.specs.Lines.{headers}
+use Rattle.section_index.specs.declared.opening.Version.TheVariants.{V05}
+use Rattle.section_index.specs.Index.{Contents, sections_in}
+use Rattle.section_index.specs.Lookups.{is_named}
+use Rattle.section_index.specs.Opening.{version_named, first_id}
+use Rattle.section_index.specs.Sections.{Section, sections}
+use Rattle.process_table.specs.Processes.{Process, process_table}
+use Rattle.heap_cells.specs.Cells.{Cell, cells_of}
+use Rattle.heap_cells.specs.Loading.{enc_of, section_in, heap_section, literals_section, body_in}
+use Rattle.root_views.specs.Roots.{BodyRoot}
+use Rattle.dump_audit.specs.Findings.{audit_of, findings}
+use Rattle.dump_write.specs.Made.{made}
+use Rattle.report_text.specs.declared.root_report.RootKind.{RootKind}
+use Rattle.report_text.specs.declared.root_report.RootKind.TheVariants.{Stack, Dict, Mail}
+use Rattle.report_text.specs.declared.tally.Tally.{Tally}
+use Rattle.report_text.specs.declared.tally.Summary.{Summary}
+use Rattle.report_text.specs.Roots.{roots_in}
+use Rattle.report_text.specs.Tallies.{bad_roots}
+
+-- a root is judged by its first 1,000 nodes
+abbrev pub judged_nodes : ℕ
+judged_nodes = 1000
+
+-- a message queue is told where its length is above 8
+abbrev pub queue_limit : ℕ
+queue_limit = 8
+
+-- the index of the bytes of a dump, whose first line names a version that is read
+abbrev pub index_of : List ℕ → Contents
+index_of bytes = record { headers = headers bytes; size = length bytes; version = unwrap_or (version_named (first_id bytes)) V05 }
+
+-- ---- the roots of a process
+
+-- the cells of the heap of a pid, with the literals behind them
+abbrev pub cells_in : List ℕ → List ℕ → List Cell
+cells_in bytes pid =
+    let index = index_of bytes in
+    cells_of (enc_of index.version) (body_in bytes (heap_section index pid)) (body_in bytes (literals_section index))
+
+-- the tag of the sections that hold roots of a kind
+abbrev pub tag_for : RootKind → List ℕ
+tag_for Stack = codes "proc_stack"
+tag_for Dict = codes "proc_dictionary"
+tag_for Mail = codes "proc_messages"
+
+-- the first of them whose id is this pid
+abbrev pub root_section : Contents → RootKind → List ℕ → Option Section
+root_section index kind pid = section_in index (position (λ section. is_named (tag_for kind) (Some pid) section.text) (sections_in index))
+
+-- its body; a section that isn't there is empty
+abbrev pub root_body : List ℕ → RootKind → List ℕ → List ℕ
+root_body bytes kind pid = body_in bytes (root_section (index_of bytes) kind pid)
+
+-- the roots of a pid: those of its stack, of its dictionary and of its mailbox
+abbrev pub process_roots : List ℕ → List ℕ → List BodyRoot
+process_roots bytes pid =
+    roots_in Stack (root_body bytes Stack pid)
+    ++ (roots_in Dict (root_body bytes Dict pid) ++ roots_in Mail (root_body bytes Mail pid))
+
+-- how many of these roots there are, and how many are bad over these cells
+abbrev pub tally_in : List Cell → List BodyRoot → Tally
+tally_in cells roots = record { roots = length roots; bad = bad_roots cells judged_nodes roots }
+
+-- the same of the roots of a pid
+abbrev pub process_tally : List ℕ → List ℕ → Tally
+process_tally bytes pid = tally_in (cells_in bytes pid) (process_roots bytes pid)
+
+-- the sums over some processes
+abbrev pub tally_of : List ℕ → List Process → Tally
+tally_of bytes processes = record {
+  roots = sum_by (λ process. (process_tally bytes process.pid).roots) processes;
+  bad = sum_by (λ process. (process_tally bytes process.pid).bad) processes;
+}
+
+-- ---- the whole
+
+-- what a trial says of the bytes of a dump
+abbrev pub summary_of : List ℕ → Summary
+summary_of bytes =
+    let processes = (process_table bytes).processes in
+    record {
+      sections = length (sections bytes);
+      processes = length processes;
+      tally = tally_of bytes processes;
+      findings = length (findings (audit_of (index_of bytes) processes queue_limit None));
+    }
+
+-- what it says of the dump that is made of a seed and a count of processes
+abbrev pub trial_of : ℕ → ℕ → Summary
+trial_of seed count = summary_of (made seed count)

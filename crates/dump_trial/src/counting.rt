@@ -1,0 +1,74 @@
+// The roots of processes are counted, and those that are bad.
+ghost use Rattle.std.specs.Prelude.{◌≡◌, ◌+◌, ◌<◌, ◌^◌, IfOk};
+ghost use Rattle.report_text.specs.Roots.{roots_in};
+ghost use Rattle.dump_trial.specs.Trial.{root_body, tally_in, process_tally, tally_of};
+ghost use Rattle.dump_trial.specs.Inner.Tallies.{plus, AreAtMost};
+
+use crate::held::Held;
+use process_table::Procs;
+use report_text::{RootKind, Tally, count_roots};
+use std::alloc::{AllocError, Global};
+use term_unfold::Walker;
+
+// A root is judged by so many of its nodes.
+const JUDGED_NODES: u32 = 1_000;
+
+fn plus(a: Tally, b: Tally) -> Tally
+    requires roots { a.roots + b.roots < 2 ^ 64 }
+    requires bad { a.bad + b.bad < 2 ^ 64 }
+    ensures { result ≡ plus a b }
+{
+    Tally {
+        roots: a.roots + b.roots,
+        bad: a.bad + b.bad,
+    }
+}
+
+// Counts the roots of one kind. A body has at most 512 MiB, and so at most 1,073,741,824 roots.
+fn count_kind(
+    alloc: Global,
+    held: &mut Held,
+    pid: &[u8],
+    kind: RootKind,
+    walker: &mut Walker<'_>,
+) -> Result<Tally, AllocError>
+    ensures tally { IfOk result (λ tally. tally ≡ tally_in walker.old.heap.cells (roots_in kind (root_body held.old kind pid.now))) }
+    ensures few { IfOk result (AreAtMost 1073741824) }
+    ensures walker { walker.new ≡ walker.old }
+    ensures held { held.new ≡ held.old }
+{
+    let body = held.root_body(alloc, kind, pid)?;
+    Ok(count_roots(walker, kind, body.as_slice(), JUDGED_NODES))
+}
+
+// Counts the roots of one process.
+fn count_process(alloc: Global, held: &mut Held, pid: &[u8]) -> Result<Tally, AllocError>
+    ensures tally { IfOk result (λ tally. tally ≡ process_tally held.old pid.now) }
+    ensures few { IfOk result (AreAtMost 3221225472) }
+    ensures held { held.new ≡ held.old }
+{
+    let heap = held.heap(alloc, pid)?;
+    let previews = held.previews(alloc, &heap)?;
+    let mut walker = Walker::new(alloc, &heap, &previews)?;
+    let stack = count_kind(alloc, held, pid, RootKind::Stack, &mut walker)?;
+    let dict = count_kind(alloc, held, pid, RootKind::Dict, &mut walker)?;
+    let mail = count_kind(alloc, held, pid, RootKind::Mail, &mut walker)?;
+    Ok(plus(stack, plus(dict, mail)))
+}
+
+/// Counts the roots of all processes.
+pub(crate) fn count_processes(
+    alloc: Global,
+    held: &mut Held,
+    procs: &Procs,
+) -> Result<Tally, AllocError>
+    ensures tally { IfOk result (λ tally. tally ≡ tally_of held.old procs.now.processes) }
+    ensures held { held.new ≡ held.old }
+{
+    let mut all = Tally { roots: 0, bad: 0 };
+    for p in 0..procs.len() {
+        let one = count_process(alloc, held, procs.at(p).pid)?;
+        all = plus(all, one);
+    }
+    Ok(all)
+}

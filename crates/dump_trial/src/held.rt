@@ -1,0 +1,133 @@
+// A good dump that is held in memory, with its index.
+ghost use Rattle.std.specs.Prelude.{◌≡◌, ◌≤◌, length, All, IfOk};
+ghost use Rattle.dump_io.specs.Limits.{usual};
+ghost use Rattle.process_table.specs.Processes.{IsIn, process_table};
+ghost use Rattle.heap_cells.specs.Cells.{cells_of};
+ghost use Rattle.binary_refs.specs.Previews.{AreFor};
+ghost use Rattle.dump_trial.specs.Trial.{index_of, cells_in, tag_for, root_body};
+ghost use Rattle.dump_trial.specs.Inner.Held.{IsGood};
+
+use crate::only_memory;
+use binary_refs::Previews;
+use dump_io::{DumpFile, HeldDump, Limits};
+use heap_cells::Heap;
+use process_table::Procs;
+use report_text::RootKind;
+use section_index::{Index, build, read_body};
+use std::alloc::{AllocError, Global};
+use std::marker::Model;
+
+// The name under which the dump is held.
+const NAME: &str = "made";
+
+/// A good dump that is held in memory and open, with its index. Contracts see its bytes.
+#[derive(Drop)]
+pub(crate) struct Held {
+    dumps: HeldDump,
+    index: Index,
+    limits: Limits,
+}
+
+impl Model for Held {
+    ghost use Rattle.std.specs.Prelude.{ℕ, List};
+    ghost use Rattle.dump_io.specs.HeldDump.{now_of};
+    ghost use Rattle.dump_trial.specs.Inner.Held.{bytes_in, IsOpened};
+
+    ghost Value = { List ℕ };
+
+    ghost view = { λ held. bytes_in (now_of held.dumps) };
+
+    ghost invariant = { λ held. IsOpened (now_of held.dumps) held.index held.limits };
+}
+
+// The tag of the sections that hold roots of a kind.
+fn tag_for(kind: RootKind) -> &'static [u8]
+    ensures { result.now ≡ tag_for kind }
+{
+    match kind {
+        RootKind::Stack => b"proc_stack",
+        RootKind::Dict => b"proc_dictionary",
+        RootKind::Mail => b"proc_messages",
+    }
+}
+
+impl Held {
+    /// Holds the bytes of a good dump and opens it.
+    pub(crate) fn open(alloc: Global, bytes: Vec<u8>) -> Result<Held, AllocError>
+        requires { IsGood bytes.items }
+        ensures { IfOk result (λ held. held ≡ bytes.items) }
+    {
+        let limits = Limits::usual();
+        let name = String::from_str(alloc, NAME)?;
+        let mut dumps = HeldDump::new(DumpFile::new(name, bytes));
+        match build(alloc, &mut dumps, NAME, &limits) {
+            Ok(index) => Ok(Held {
+                dumps,
+                index,
+                limits,
+            }),
+            Err(fault) => Err(only_memory::of_opening(fault)),
+        }
+    }
+
+    /// The index of the dump.
+    pub(crate) fn index(&self) -> &Index
+        ensures { result.now ≡ index_of self.now }
+    {
+        &self.index
+    }
+
+    /// The processes of the dump.
+    pub(crate) fn procs(&mut self, alloc: Global) -> Result<Procs, AllocError>
+        ensures table { IfOk result (λ procs. procs ≡ process_table self.old) }
+        ensures named { IfOk result (λ procs. All (IsIn (index_of self.old)) procs.processes) }
+        ensures same { self.new ≡ self.old }
+    {
+        match Procs::load(alloc, &mut self.dumps, &self.index, &self.limits) {
+            Ok(procs) => Ok(procs),
+            Err(fault) => Err(only_memory::of_body(fault)),
+        }
+    }
+
+    /// The body of the first section that holds the roots of this kind and pid. One that isn't there is empty.
+    pub(crate) fn root_body(
+        &mut self,
+        alloc: Global,
+        kind: RootKind,
+        pid: &[u8],
+    ) -> Result<Vec<u8>, AllocError>
+        ensures body { IfOk result (λ body. body.items ≡ root_body self.old kind pid.now) }
+        ensures few { IfOk result (λ body. length body.items ≤ usual.section) }
+        ensures same { self.new ≡ self.old }
+    {
+        let Some(i) = self.index.first(tag_for(kind), Some(pid)) else {
+            return Ok(Vec::new(alloc));
+        };
+        match read_body(alloc, &mut self.dumps, &self.index, i, &self.limits) {
+            Ok(body) => Ok(body),
+            Err(fault) => Err(only_memory::of_body(fault)),
+        }
+    }
+
+    /// The heap of a pid.
+    pub(crate) fn heap(&mut self, alloc: Global, pid: &[u8]) -> Result<Heap, AllocError>
+        ensures cells { IfOk result (λ heap. heap.cells ≡ cells_in self.old pid.now) }
+        ensures same { self.new ≡ self.old }
+    {
+        match Heap::load(alloc, &mut self.dumps, &self.index, pid, &self.limits) {
+            Ok(heap) => Ok(heap),
+            Err(fault) => Err(only_memory::of_heap(fault)),
+        }
+    }
+
+    /// The previews of a heap.
+    pub(crate) fn previews(&mut self, alloc: Global, heap: &Heap) -> Result<Previews, AllocError>
+        ensures each { IfOk result (AreFor heap.now.cells) }
+        ensures same { self.new ≡ self.old }
+    {
+        match Previews::load(alloc, &mut self.dumps, &self.index, heap) {
+            Ok(previews) => Ok(previews),
+            Err(fault) => Err(only_memory::of_previews(fault)),
+        }
+    }
+}

@@ -1,0 +1,56 @@
+// A made dump is held in memory and read.
+ghost use Rattle.std.specs.Prelude.{◌≡◌, ◌≤◌, length, All, None, IfOk};
+ghost use Rattle.process_table.specs.Processes.{IsIn};
+ghost use Rattle.dump_audit.specs.Findings.{audit_of, findings};
+ghost use Rattle.dump_trial.specs.Trial.{queue_limit, summary_of, trial_of};
+
+use crate::counting::count_processes;
+use crate::held::Held;
+use dump_audit::audit;
+use dump_write::{made_dump_is_accepted, make};
+use link_graph::Graph;
+use process_table::Procs;
+use report_text::Summary;
+use section_index::Index;
+use std::alloc::{AllocError, Global};
+
+// A message queue is told where its length is above this one.
+const QUEUE_LIMIT: u64 = 8;
+
+// How much an audit finds.
+fn count_findings(alloc: Global, index: &Index, procs: &Procs) -> Result<u64, AllocError>
+    requires { All (IsIn index.now) procs.now.processes }
+    ensures { IfOk result (λ count. count ≡ length (findings (audit_of index.now procs.now.processes queue_limit None))) }
+{
+    let graph = Graph::build(alloc, procs)?;
+    let found = audit(alloc, index, procs, &graph, QUEUE_LIMIT)?;
+    Ok(found.len() as u64)
+}
+
+fn summarize(alloc: Global, held: &mut Held) -> Result<Summary, AllocError>
+    ensures { IfOk result (λ summary. summary ≡ summary_of held.old) }
+{
+    let procs = held.procs(alloc)?;
+    let tally = count_processes(alloc, held, &procs)?;
+    let findings = count_findings(alloc, held.index(), &procs)?;
+    Ok(Summary {
+        sections: held.index().len() as u64,
+        processes: procs.len() as u64,
+        tally,
+        findings,
+    })
+}
+
+/// Makes the dump of a seed and a count of processes, from 1 to 200,000, holds it in memory and reads it under the usual
+/// limits: how many sections, processes and roots it has, how many roots have a bad address within 1,000 nodes, and how
+/// much an audit finds that names message queues of more than 8. An error comes only where memory lacks.
+pub fn trial(alloc: Global, seed: u64, count: u32) -> Result<Summary, AllocError>
+    requires some { 1 ≤ count }
+    requires few { count ≤ 200000 }
+    ensures { IfOk result (λ summary. summary ≡ trial_of seed count) }
+{
+    made_dump_is_accepted(seed, count);
+    let bytes = make(alloc, seed, count)?;
+    let mut held = Held::open(alloc, bytes)?;
+    summarize(alloc, &mut held)
+}
