@@ -8,7 +8,7 @@ use Rattle.report_text.specs.declared.root_report.RootKind.TheVariants as bodies
 use Rattle.table_sections.specs.declared.kinds.TableKind.{TableKind}
 use Rattle.table_sections.specs.declared.kinds.TableKind.TheVariants as kinds
 use Rattle.dump_command.specs.declared.words.Cmd.{Cmd}
-use Rattle.dump_command.specs.declared.words.Cmd.TheVariants.{Index, Info, Procs, Proc, Memory, Ets, Ports, Nodes, Mods, Stack, Dict, Mail, Term, Binary, Links, Audit, Make}
+use Rattle.dump_command.specs.declared.words.Cmd.TheVariants.{Index, Info, Procs, Proc, Memory, Ets, Ports, Nodes, Mods, Stack, Dict, Mail, Term, Binary, Links, Audit, Make, Trial}
 use Rattle.dump_command.specs.Budgets.{budget_of}
 use Rattle.dump_command.specs.MadeWords.{seed_and_count}
 
@@ -32,6 +32,8 @@ pub data Command : Type 0 where
   audit : List ℕ → ℕ → Bool → Command
   -- a dump is made of a seed and a count of processes
   make : ℕ → ℕ → Command
+  -- the reports on such a dump are summed up
+  trial : ℕ → ℕ → Command
 
 -- what a command is, where its words are lent
 abbrev pub shown : Cmd → Command
@@ -52,6 +54,7 @@ shown (Binary file addr) = binary file.now addr
 shown (Links file) = links file.now
 shown (Audit file limit full) = audit file.now limit full
 shown (Make seed count) = make seed count
+shown (Trial seed count) = trial seed count
 
 -- a command of one word, which is the name of a file
 abbrev pub file_command : List ℕ → List ℕ → Option Command
@@ -98,7 +101,8 @@ process_command name file word words =
 -- a command of two numbers
 abbrev pub number_command : List ℕ → List ℕ → List ℕ → Option Command
 number_command name seed count =
-    if bytes_eq name (codes "make") then option_map (λ numbers. make numbers.0 numbers.1) (seed_and_count seed count) else None
+    if bytes_eq name (codes "make") then option_map (λ numbers. make numbers.0 numbers.1) (seed_and_count seed count)
+    else (if bytes_eq name (codes "trial") then option_map (λ numbers. trial numbers.0 numbers.1) (seed_and_count seed count) else None)
 
 -- a command of the name of a file and another word, or of two numbers
 abbrev pub word_command : List ℕ → List ℕ → List ℕ → Option Command
@@ -106,7 +110,8 @@ word_command name file word =
     if bytes_eq name (codes "proc") then Some (proc file word)
     else (if bytes_eq name (codes "binary") then option_map (binary file) (hex_number word)
     else (if bytes_eq name (codes "make") then number_command name file word
-    else process_command name file word []))
+    else (if bytes_eq name (codes "trial") then number_command name file word
+    else process_command name file word [])))
 
 -- the command of the words behind the program's name, or none
 abbrev pub command : List (List ℕ) → Option Command
@@ -130,10 +135,12 @@ file_of (binary file addr) = Some file
 file_of (links file) = Some file
 file_of (audit file limit full) = Some file
 file_of (make seed count) = None
+file_of (trial seed count) = None
 
 -- the numbers of a command are those that it takes
 abbrev pub IsInRange : Command → Type 0
 IsInRange (roots kind file pid nodes marked) = 0 < nodes
 IsInRange (term file pid addr nodes marked) = 0 < nodes
 IsInRange (make seed count) = (1 ≤ count) × (count ≤ 200000)
+IsInRange (trial seed count) = (1 ≤ count) × (count ≤ 200000)
 IsInRange cmd = Unit {0}

@@ -13,6 +13,7 @@ use Rattle.report_text.specs.declared.refusals.Refusal.{Refusal}
 use Rattle.report_text.specs.declared.refusals.Refusal.TheVariants.{Open, NoProcess, SectionTooLarge}
 use Rattle.report_text.specs.Reports.{index_report, info_report}
 use Rattle.report_text.specs.Tables.{fields_report, procs_report, rows_report}
+use Rattle.report_text.specs.Tallies.{trial_report}
 use Rattle.report_text.specs.Links.{links_report}
 use Rattle.report_text.specs.Findings.{audit_report}
 use Rattle.dump_audit.specs.Findings.{findings}
@@ -22,8 +23,9 @@ use Rattle.section_index.specs.Lookups.{has_tag, is_named}
 use Rattle.section_rows.specs.Loading.{first_large}
 use Rattle.table_sections.specs.Tables.{listed, table_of}
 use Rattle.dump_write.specs.Made.{made}
+use Rattle.dump_trial.specs.Trial.{trial_of}
 use Rattle.dump_command.specs.Audits.{audit_in, audited_sections, status_of}
-use Rattle.dump_command.specs.Command.{Command, index, info, procs, proc, memory, table, roots, term, binary, links, audit, make, file_of}
+use Rattle.dump_command.specs.Command.{Command, index, info, procs, proc, memory, table, roots, term, binary, links, audit, make, trial, file_of}
 use Rattle.dump_command.specs.Terms.{binary_at, binary_cause, bad_binary, binary_count, binary_of, heap_of, literals_of, no_address, roots_of, roots_section, term_of, too_dense}
 use Rattle.dump_command.specs.declared.status.TheConstants.{DONE}
 
@@ -62,6 +64,7 @@ bodies (binary file addr) sections = one_of (binary_at addr sections)
 bodies (links file) sections = record_sections sections
 bodies (audit file limit full) sections = audited_sections full sections
 bodies (make seed count) sections = []
+bodies (trial seed count) sections = []
 
 -- the bytes of a section's body
 abbrev pub body_of : List ℕ → Section → List ℕ
@@ -92,6 +95,7 @@ report (binary file addr) bytes = binary_of addr bytes
 report (links file) bytes = links_report (process_table bytes).processes
 report (audit file limit full) bytes = audit_report (audit_in limit full bytes)
 report (make seed count) bytes = made seed count
+report (trial seed count) bytes = trial_report (trial_of seed count)
 
 -- the status of a run that has written its whole report
 abbrev pub report_status : Command → List ℕ → ℕ

@@ -17,6 +17,7 @@ mod roots;
 mod subjects;
 mod tables;
 mod term;
+mod trials;
 
 use crate::budgets::Budget;
 use crate::stop::Stop;
@@ -36,6 +37,7 @@ use std::alloc::Global;
 use table_sections::TableKind;
 use tables::run_table;
 use term::run_term;
+use trials::run_trial;
 
 /// Runs a command from a device to the sink of its report, and answers its status.
 pub(crate) fn run_command<D: Dumps, K: Sink>(
@@ -113,5 +115,6 @@ pub(crate) fn run_command<D: Dumps, K: Sink>(
             run_audit(alloc, file, *limit, *full, limits, dumps, out)
         }
         Cmd::Make { seed, count } => run_make(alloc, *seed, *count, out),
+        Cmd::Trial { seed, count } => run_trial(alloc, *seed, *count, out),
     }
 }

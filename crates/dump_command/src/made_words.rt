@@ -30,6 +30,10 @@ pub(crate) fn number_command<'a>(name: &str, seed: &str, count: &str) -> Option<
             let (seed, count) = seed_and_count(seed, count)?;
             Some(Cmd::Make { seed, count })
         }
+        "trial" => {
+            let (seed, count) = seed_and_count(seed, count)?;
+            Some(Cmd::Trial { seed, count })
+        }
         _ => None,
     }
 }

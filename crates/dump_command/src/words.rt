@@ -102,6 +102,11 @@ pub enum Cmd<'a> {
         seed: u64,
         count: u32,
     },
+    /// `trial SEED COUNT`: how much there is in such a dump, and what is bad or one-sided. No file is opened.
+    Trial {
+        seed: u64,
+        count: u32,
+    },
 }
 
 /// The command of the words behind the program's name. `None` comes exactly where they are no command.
@@ -145,6 +150,7 @@ fn word_command<'a>(name: &str, file: &'a str, word: &'a str) -> Option<Cmd<'a>>
         "proc" => Some(Cmd::Proc { file, pid: word }),
         "binary" => binary_command(file, word),
         "make" => number_command(name, file, word),
+        "trial" => number_command(name, file, word),
         _ => process_command(name, file, word, &[]),
     }
 }

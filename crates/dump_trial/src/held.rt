@@ -2,7 +2,6 @@
 ghost use Rattle.std.specs.Prelude.{◌≡◌, ◌≤◌, length, All, IfOk};
 ghost use Rattle.dump_io.specs.Limits.{usual};
 ghost use Rattle.process_table.specs.Processes.{IsIn, process_table};
-ghost use Rattle.heap_cells.specs.Cells.{cells_of};
 ghost use Rattle.binary_refs.specs.Previews.{AreFor};
 ghost use Rattle.dump_trial.specs.Trial.{index_of, cells_in, tag_for, root_body};
 ghost use Rattle.dump_trial.specs.Inner.Held.{IsGood};
