@@ -4,6 +4,7 @@ pub mod BinaryLoads
 pub mod Endings
 pub mod Info
 pub mod Loads
+pub mod LongWords
 pub mod MailPlaces
 pub mod Opened
 pub mod Runs

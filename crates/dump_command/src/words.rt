@@ -117,9 +117,12 @@ pub fn read_words(words: &[String]) -> Option<Cmd<'_>>
     match words {
         [name, file] => file_command(name.as_str(), file.as_str()),
         [name, file, word] => word_command(name.as_str(), file.as_str(), word.as_str()),
-        [name, file, word, rest @ ..] => {
-            process_command(name.as_str(), file.as_str(), word.as_str(), rest)
-        }
+        [name, file, pid, _, ..] => process_command(
+            name.as_str(),
+            file.as_str(),
+            pid.as_str(),
+            &words[3..],
+        ),
         _ => None,
     }
 }
