@@ -32,6 +32,7 @@ mailbox_place sections pid = position (λ s. is_named (codes "proc_messages") (S
 abbrev pub pids_in : List Section → List (List ℕ)
 pids_in sections = map (λ r. pid_of r.1) (records sections)
 
+-- the places of the mailboxes, in the order of the processes
 abbrev pub mailbox_places : List Section → List (Option ℕ)
 mailbox_places sections = map (mailbox_place sections) (pids_in sections)
 
@@ -45,6 +46,7 @@ mail_at bytes state sections place =
     if is_cut state place then None
     else Some (message_count (between (section_in sections place).body (section_in sections place).end bytes))
 
+-- the same where there is a mailbox
 abbrev pub mail_in : List ℕ → State → List Section → Option ℕ → Option ℕ
 mail_in bytes state sections place = option_and_then (mail_at bytes state sections) place
 
@@ -56,6 +58,7 @@ mails bytes = map (mail_in bytes (state_of (headers bytes)) (sections bytes)) (m
 abbrev pub more_sections : Bool → List Section → List Section
 more_sections full sections = if full then mailboxes_at sections (mailbox_places sections) else []
 
+-- the bodies that an audit loads, in the order in which they are judged
 abbrev pub audited_sections : Bool → List Section → List Section
 audited_sections full sections = record_sections sections ++ more_sections full sections
 

@@ -13,9 +13,11 @@ budget marked nodes = record { nodes = nodes; marked = marked }
 abbrev pub allowed_nodes : ℕ → Option ℕ
 allowed_nodes n = if nat_le 1 n && nat_le n 1000000000 then Some n else None
 
+-- the same of a word, which is decimal
 abbrev pub nodes_of : List ℕ → Option ℕ
 nodes_of word = option_and_then allowed_nodes (dec_number word)
 
+-- whether a word is `marked`
 abbrev pub is_mark : List ℕ → Bool
 is_mark word = bytes_eq word (codes "marked")
 

@@ -6,6 +6,7 @@ use Rattle.dump_io.specs.Numbers.{dec_number}
 abbrev pub is_count : ℕ → Bool
 is_count count = nat_le 1 count && nat_le count 200000
 
+-- a seed and a count, where both are numbers and the count is one of a made dump
 abbrev pub counted : Option ℕ → Option ℕ → Option (ℕ × ℕ)
 counted None count = None
 counted (Some seed) None = None

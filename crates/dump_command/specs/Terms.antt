@@ -44,9 +44,11 @@ tagged_section tag sections = find (λ s. has_tag tag s.text) sections
 abbrev pub roots_section : RootKind → List ℕ → List Section → Option Section
 roots_section kind pid sections = named_section (roots_tag kind) pid sections
 
+-- the heap of the process with this pid
 abbrev pub heap_of : List ℕ → List Section → Option Section
 heap_of pid sections = named_section (codes "proc_heap") pid sections
 
+-- the literals
 abbrev pub literals_of : List Section → Option Section
 literals_of sections = tagged_section (codes "literals") sections
 
@@ -58,6 +60,7 @@ payloads_of bytes = enc_of (index_of bytes).version
 abbrev pub heap_body : List ℕ → List ℕ → List ℕ
 heap_body pid bytes = body_in bytes (heap_of pid (sections bytes))
 
+-- the body of the literals
 abbrev pub literals_body : List ℕ → List ℕ
 literals_body bytes = body_in bytes (literals_of (sections bytes))
 
@@ -109,6 +112,7 @@ term_of pid addr nodes marked bytes = term_report (answer_in pid nodes marked by
 abbrev pub dense_cause : ℕ → ℕ → Option Refusal
 dense_cause limit count = if nat_lt limit count then Some (TooDense count) else None
 
+-- why the heap of a process is too dense, or none
 abbrev pub too_dense : ℕ → List ℕ → List ℕ → Option Refusal
 too_dense limit pid bytes = dense_cause limit (weight (payloads_of bytes) (heap_body pid bytes) (literals_body bytes))
 
@@ -116,6 +120,7 @@ too_dense limit pid bytes = dense_cause limit (weight (payloads_of bytes) (heap_
 abbrev pub address_cause : ℕ → Option ℕ → Option Refusal
 address_cause addr found = if is_some found then None else Some (NoAddress addr)
 
+-- why a term isn't there: its heap has no cell at the address
 abbrev pub no_address : ℕ → List ℕ → List ℕ → Option Refusal
 no_address addr pid bytes = address_cause addr (number_at (heap_map pid bytes).cells addr)
 
@@ -136,6 +141,7 @@ abbrev pub bad_cause : Option Section → Option (List ℕ) → Option Refusal
 bad_cause found (Some bytes) = None
 bad_cause found None = option_map (λ s. BadBinary s.at) found
 
+-- why a binary can't be written, or none
 abbrev pub bad_binary : ℕ → List ℕ → Option Refusal
 bad_binary addr bytes = bad_cause (binary_at addr (sections bytes)) (whole_bytes bytes (index_of bytes) addr)
 

@@ -20,32 +20,38 @@ abbrev pub kind_in : Option LinkEntry → Kind
 kind_in None = Other
 kind_in (Some entry) = entry.kind
 
+-- what an entry of a process says, by the places of both
 abbrev pub kind_at : List Process → ℕ → ℕ → Kind
 kind_at processes p entry = kind_in (slice_get (links_of (process_at processes p).links).entries entry)
 
--- the pid that it speaks of, and its reference
+-- the pid that an entry of this kind speaks of
 abbrev pub partner_in : Kind → List ℕ
 partner_in kind = unwrap_or (partner_pid kind) []
 
+-- the pid that an entry speaks of
 abbrev pub partner_at : List Process → ℕ → ℕ → List ℕ
 partner_at processes p entry = partner_in (kind_at processes p entry)
 
+-- the reference of a monitor
 abbrev pub reference_in : Kind → List ℕ
 reference_in (To pid reference) = reference
 reference_in (From pid reference) = reference
 reference_in kind = []
 
+-- the reference of an entry
 abbrev pub reference_at : List Process → ℕ → ℕ → List ℕ
 reference_at processes p entry = reference_in (kind_at processes p entry)
 
--- the lines of findings with one, two and three texts between their word and their offsets
+-- the line of a finding with one text between its word and its offsets
 abbrev pub one_line : List ℕ → List ℕ → ℕ → ℕ → List ℕ
 one_line word first at other = concat (word ∷ space ∷ first ∷ space ∷ decimal at ∷ space ∷ decimal other ∷ newline ∷ [])
 
+-- with two
 abbrev pub two_line : List ℕ → List ℕ → List ℕ → ℕ → ℕ → List ℕ
 two_line word first second at other =
     concat (word ∷ space ∷ first ∷ space ∷ second ∷ space ∷ decimal at ∷ space ∷ decimal other ∷ newline ∷ [])
 
+-- with three
 abbrev pub three_line : List ℕ → List ℕ → List ℕ → List ℕ → ℕ → ℕ → List ℕ
 three_line word first second third at other =
     concat (word ∷ space ∷ first ∷ space ∷ second ∷ space ∷ third ∷ space ∷ decimal at ∷ space ∷ decimal other ∷ newline ∷ [])

@@ -35,10 +35,11 @@ process_links process =
     if (links_of process.links).unread then unread_line process.pid process.links
     else flat_map (entry_line process.pid) (links_of process.links).entries
 
--- the last line: how many entries all processes have
+-- how many entries a process has
 abbrev pub entry_count : Process → ℕ
 entry_count process = length (links_of process.links).entries
 
+-- the last line: how many entries all processes have
 abbrev pub entries_line : ℕ → List ℕ
 entries_line count = concat (codes "entries " ∷ decimal count ∷ newline ∷ [])
 

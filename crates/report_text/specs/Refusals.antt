@@ -20,6 +20,7 @@ open_cause (HeadersTooLarge at) = codes "headers too large at " ∷ decimal at �
 open_cause Read = []
 open_cause Memory = []
 
+-- what stands behind `refused: `: the cause, and the place, the size or the text that it speaks of
 abbrev pub cause_of : Refusal → List (List ℕ)
 cause_of (Open fault) = open_cause fault
 cause_of (NoProcess pid) = codes "no process " ∷ pid ∷ []
@@ -29,6 +30,7 @@ cause_of (NoAddress addr) = codes "no address " ∷ hexadecimal addr ∷ []
 cause_of (NoBinary addr) = codes "no binary " ∷ hexadecimal addr ∷ []
 cause_of (BadBinary at) = codes "bad binary at " ∷ decimal at ∷ []
 
+-- the line of a refusal
 abbrev pub refusal_line : Refusal → List ℕ
 refusal_line refusal = concat ((codes "refused: " ∷ cause_of refusal) ++ newline ∷ [])
 
@@ -38,6 +40,7 @@ IsRefusing Read = ⊥
 IsRefusing Memory = ⊥
 IsRefusing fault = Unit {0}
 
+-- a refusal that has a line
 abbrev pub IsRefusal : Refusal → Type 0
 IsRefusal (Open fault) = IsRefusing fault
 IsRefusal refusal = Unit {0}

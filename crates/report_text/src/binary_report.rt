@@ -1,5 +1,5 @@
 // The report of a whole binary.
-ghost use Rattle.std.specs.Prelude.{◌≡◌, ◌++◌, length, take, drop};
+ghost use Rattle.std.specs.Prelude.{◌≡◌, ◌++◌, take, drop};
 ghost use Rattle.std.specs.List.{flat_map};
 ghost use Rattle.dump_io.specs.Numbers.{hex_byte};
 ghost use Rattle.dump_io.specs.Sinks.{changed, Puts};

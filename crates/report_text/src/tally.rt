@@ -1,6 +1,5 @@
 // How many roots there are, how many of them are bad, and what a trial says of them.
 ghost use Rattle.std.specs.Prelude.{◌≡◌, ◌<◌, ◌≤◌, ◌+◌, ◌*◌, length};
-ghost use Rattle.std.specs.List.{sum_by};
 ghost use Rattle.dump_io.specs.Sinks.{changed, Puts};
 ghost use Rattle.root_views.specs.Seen.{content};
 ghost use Rattle.report_text.specs.Roots.{roots_in};

@@ -1,5 +1,5 @@
 // `audit`: what there is to find in links, monitors and message queues.
-ghost use Rattle.std.specs.Prelude.{◌≡◌, ℕ, List, true, length, map, All, Some, None, IfOk, IfErr, IfSome, OnOk, if◌then◌else◌};
+ghost use Rattle.std.specs.Prelude.{◌≡◌, ℕ, List, length, map, All, Some, None, IfOk, IfErr, IfSome, OnOk, if◌then◌else◌};
 ghost use Rattle.std.specs.Option.{option_map};
 ghost use Rattle.dump_io.specs.Dumps.{told, used, ReadsAtMost};
 ghost use Rattle.dump_io.specs.Sinks.{changed};

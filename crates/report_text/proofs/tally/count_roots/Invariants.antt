@@ -1,4 +1,4 @@
-use Rattle.std.proofs.Common.{◌≡◌, ℕ, ◌+◌, ◌≤◌, length}
+use Rattle.std.proofs.Common.{◌≡◌, ◌+◌, ◌≤◌, length}
 use Rattle.report_text.specs.Roots.{roots_in}
 use Rattle.report_text.specs.Tallies.{bad_roots}
 use Rattle.report_text.specs.Inner.Coming.{left as coming}
