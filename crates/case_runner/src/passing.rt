@@ -4,16 +4,27 @@ use crate::outcome::{Hindrance, NONE, run_case, run_on};
 use dump_command::status::{DONE, FOUND, UNREAD, UNWRITTEN};
 use std::alloc::{AllocError, Global};
 
-// To what the reads are cut; 0 cuts nothing.
+// To how many bytes reads and writes are cut; 0 cuts nothing.
 const CUTS: [usize; 5] = [0, 1, 2, 3, 7];
+
+// How many of the first calls fail in turn where each read gives one byte.
+const FIRST_CALLS: u64 = 8;
 
 // The most calls and writes that fail in turn.
 const MOST: usize = 1_000;
 
-// Whether the case ends alike with reads of some sizes, and takes no more bytes than it may.
+// Whether the case ends alike with reads and writes of some sizes, and takes no more bytes than it may.
 fn passes_cuts(alloc: Global, case: &Case) -> Result<bool, AllocError> {
     for cut in CUTS {
-        let end = run_case(alloc, case, &Hindrance { cut, ..NONE })?;
+        let end = run_case(
+            alloc,
+            case,
+            &Hindrance {
+                cut,
+                step: cut,
+                ..NONE
+            },
+        )?;
         if !end.is(case.status, &case.out, &case.err) || end.taken > case.taken {
             return Ok(false);
         }
@@ -55,6 +66,23 @@ fn passes_calls(alloc: Global, case: &Case) -> Result<bool, AllocError> {
         match failing_calls(alloc, case, cut)? {
             Some(count) if count >= 2 || !reads_all(case) => {}
             _ => return Ok(false),
+        }
+    }
+    Ok(true)
+}
+
+// The same with reads of one byte, for the first calls: where none of them fails the case ends alike.
+fn passes_first_calls(alloc: Global, case: &Case) -> Result<bool, AllocError> {
+    for failing_call in 1..=FIRST_CALLS {
+        let failing = Hindrance {
+            cut: 1,
+            failing_call,
+            ..NONE
+        };
+        let end = run_case(alloc, case, &failing)?;
+        let is_unread = end.is(u64::from(UNREAD), b"", b"");
+        if !is_unread && (reads_all(case) || !end.is(case.status, &case.out, &case.err)) {
+            return Ok(false);
         }
     }
     Ok(true)
@@ -143,6 +171,7 @@ pub fn passes(alloc: Global, case: &Case) -> Result<bool, AllocError> {
     }
     let passes = passes_cuts(alloc, case)?
         && passes_calls(alloc, case)?
+        && passes_first_calls(alloc, case)?
         && passes_writes(alloc, case)?
         && passes_lines(alloc, case)?;
     Ok(passes)
