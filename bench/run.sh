@@ -94,7 +94,7 @@ for shape in "list 1000000 0" "list 10000000 1" "tuples 1000000"; do
         round term /dev/null "$edump" term "$dump" "<0.1.0>" 10 1000000000
     done
     echo "a heap of $2 cells, $1${3:+, in order $3}, $size bytes of text:"
-    tell lines "lines"
+    tell lines "lines" lines "itself"
     tell load "load" lines "the lines"
     awk -v most="$(memory load)" -v size="$size" 'BEGIN { printf "the load had %.2f times the text\n", most * 1000000 / size }'
     [ "$2" -gt 1000000 ] && continue
