@@ -8,7 +8,8 @@
 //                                     each with their LF; with ORDER 1 their addresses stand in no order
 //   bench tuples FILE CELLS           the same with tuples, each inside the one before
 //   bench binaries FILE CELLS BINS    the same with references to binaries, over so many sections of binaries
-//   bench links FILE PROCESSES        writes a dump of so many processes with five links and monitors each
+//   bench links FILE BYTES PROCESSES  writes a dump of so many bytes and processes, each with five links and monitors
+//                                     and a heap
 //   bench star FILE LINKS             writes a dump of a process with so many links, whose partners have one each
 //   bench scan FILE                   counts the headers: reads of 64 KiB, memchr for `=`, the byte before
 //   bench measure OUT COMMAND WORDS.. runs a command, its output into the file OUT, and prints the seconds that it
@@ -107,15 +108,19 @@ static int write_binaries(const char *name, long cells, long bins) {
     return end_dump(f);
 }
 
-static int write_links(const char *name, long count) {
+static int write_links(const char *name, long bytes, long count) {
     FILE *f = fopen(name, "w");
     if (!f) return 1;
-    fprintf(f, "=erl_crash_dump:0.5\n");
-    for (long i = 1; i <= count; i++)
-        fprintf(f, "=proc:<0.%ld.0>\nState: Waiting\nMessage queue length: 0\nLink list: [<0.%ld.0>, <0.%ld.0>, "
+    long at = fprintf(f, "=erl_crash_dump:0.5\nSlogan: a benchmark\n");
+    for (long i = 1; i <= count; i++) {
+        long until = bytes / count * i, next = i % count + 1, previous = (i + count - 2) % count + 1;
+        at += fprintf(f, "=proc:<0.%ld.0>\nState: Waiting\nMessage queue length: 0\nLink list: [<0.%ld.0>, <0.%ld.0>, "
             "{to,<0.%ld.0>,#Ref<0.1.2.%ld>}, {from,<0.%ld.0>,#Ref<0.1.2.%ld>}, #Port<0.%ld>]\nMemory: 2640\n",
-            i, i % count + 1, (i + count - 2) % count + 1, i % count + 1, i, (i + count - 2) % count + 1,
-            (i + count - 2) % count + 1, i);
+            i, next, previous, next, i, previous, previous, i);
+        at += fprintf(f, "=proc_heap:<0.%ld.0>\n", i);
+        while (at < until)
+            at += fprintf(f, "%012lX:lI%08ld|H%012lX\n", at, at % 100000000, at + 16);
+    }
     return end_dump(f);
 }
 
@@ -166,7 +171,7 @@ int main(int count, char **words) {
     if (count == 5 && !strcmp(words[1], "list")) return write_list(words[2], atol(words[3]), atoi(words[4]));
     if (count == 4 && !strcmp(words[1], "tuples")) return write_tuples(words[2], atol(words[3]));
     if (count == 5 && !strcmp(words[1], "binaries")) return write_binaries(words[2], atol(words[3]), atol(words[4]));
-    if (count == 4 && !strcmp(words[1], "links")) return write_links(words[2], atol(words[3]));
+    if (count == 5 && !strcmp(words[1], "links")) return write_links(words[2], atol(words[3]), atol(words[4]));
     if (count == 4 && !strcmp(words[1], "star")) return write_star(words[2], atol(words[3]));
     if (count == 3 && !strcmp(words[1], "scan")) return scan(words[2]);
     if (count > 3 && !strcmp(words[1], "measure")) return measure(words[2], words + 3);

@@ -116,17 +116,17 @@ for sections in 10000 100000; do
     tell previews "and previews" load "the load"
 done
 
-# Links: five entries a process, and one process with a million.
-for shape in "links 200000" "star 1000000"; do
+# Links: five entries a process in 1 GiB and with nothing else beside them, and one process with a million.
+for shape in "links 1073741824 200000" "links 0 200000" "star 1000000"; do
     rm -f "$folder"/*.times
     # shellcheck disable=SC2086
     set -- $shape
-    "$bench" "$1" "$dump" "$2" || exit 1
+    "$bench" "$1" "$dump" "$2" $3 || exit 1
     for _ in $(seq "$rounds"); do
         round procs /dev/null "$edump" procs "$dump"
         round audit /dev/null "$edump" audit "$dump" 1000
     done
-    echo "a dump of $2 processes or links, $1:"
+    echo "a dump of $(wc -c <"$dump") bytes, $shape:"
     tell procs "edump procs" procs "itself"
     tell audit "edump audit" procs "edump procs"
 done
