@@ -2,7 +2,7 @@ ghost use Rattle.std.specs.Prelude.{IfOk};
 ghost use Rattle.binary_refs.specs.Previews.{AreFor};
 
 use crate::{BinFault, Preview, PreviewFault, Previews, whole};
-use dump_io::{DumpFile, Dumps, Limits, MemDumps};
+use dump_io::{Dumps, Limits, MemDumps};
 use heap_cells::{Heap, Kind};
 use section_index::build;
 use std::alloc::{AllocError, Global};
@@ -16,12 +16,7 @@ fn device(
     fails: &[u64],
 ) -> Result<MemDumps, AllocError> {
     let text = format!(in alloc; "=erl_crash_dump:{version}\n{sections}")?;
-    let file = DumpFile::new(String::from_str(alloc, "V")?, text.into_bytes());
-    Ok(MemDumps::new(
-        vec![in alloc; file]?,
-        Vec::new(alloc),
-        Vec::from_slice(alloc, fails)?,
-    ))
+    MemDumps::holding(alloc, "V", text.as_bytes(), &[], fails)
 }
 
 // The stated size, `:`, and the bytes, or `?` where they are unknown.

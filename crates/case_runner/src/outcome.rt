@@ -1,7 +1,7 @@
 // A run of a case, and what it leaves.
 use crate::case::Case;
 use dump_command::run;
-use dump_io::{DumpFile, MemDumps, MemSink};
+use dump_io::{MemDumps, MemSink};
 use std::alloc::{AllocError, Global};
 
 /// How a run is hindered: to how many bytes its reads are cut, which call of the device fails, how many bytes a write to
@@ -40,14 +40,11 @@ impl Outcome {
 }
 
 fn dumps_of(alloc: Global, dump: &[u8], hindrance: &Hindrance) -> Result<MemDumps, AllocError> {
-    let file = DumpFile::new(String::from_str(alloc, "F")?, Vec::from_slice(alloc, dump)?);
-    let cuts = if hindrance.cut == 0 {
-        Vec::new(alloc)
-    } else {
-        vec![in alloc; hindrance.cut]?
-    };
-    let fails = vec![in alloc; hindrance.failing_call]?;
-    Ok(MemDumps::new(vec![in alloc; file]?, cuts, fails))
+    let fails = [hindrance.failing_call];
+    match hindrance.cut {
+        0 => MemDumps::holding(alloc, "F", dump, &[], &fails),
+        cut => MemDumps::holding(alloc, "F", dump, &[cut], &fails),
+    }
 }
 
 /// Runs a case, hindered so.

@@ -1,5 +1,5 @@
 use crate::{Finding, audit, audit_full};
-use dump_io::{DumpFile, Dumps, HeldDump, Limits};
+use dump_io::{Dumps, Limits, MemDumps};
 use link_graph::Graph;
 use process_table::Procs;
 use section_index::build;
@@ -32,11 +32,8 @@ fn findings(
     mails: Option<&[Option<u64>]>,
 ) -> Result<Vec<Finding>, Fail> {
     let text = format!(in alloc; "=erl_crash_dump:0.5\n{sections}")?;
-    let file = DumpFile::new(
-        String::from_str(alloc, "F")?,
-        Vec::from_slice(alloc, text.as_bytes())?,
-    );
-    findings_of(alloc, &mut HeldDump::new(file), limit, mails)
+    let mut dumps = MemDumps::holding(alloc, "F", text.as_bytes(), &[], &[])?;
+    findings_of(alloc, &mut dumps, limit, mails)
 }
 
 // The monitored name of the first process answers the monitor of the second, a link to itself is none, and a link to

@@ -1,5 +1,5 @@
 -- A device whose files are in memory.
-use Rattle.std.specs.Prelude.{ℕ, ◌^◌, ◌<◌, ◌%◌, ◌==◌, Bool, List, [], ◌∷◌, Option, None, Some, length, min, max, slice_get, slice_index, if◌then◌else◌}
+use Rattle.std.specs.Prelude.{◌≡◌, ℕ, ◌^◌, ◌<◌, ◌%◌, ◌==◌, Bool, List, [], ◌∷◌, Option, None, Some, length, min, max, slice_get, slice_index, if◌then◌else◌}
 use Rattle.std.specs.List.{list_any}
 use Rattle.std.specs.Str.{bytes_eq}
 use Rattle.std.proofs.Common.{lit<}
@@ -78,3 +78,13 @@ opened (Some bytes) = told bytes
 abbrev pub cut_at : List ℕ → ℕ → ℕ → ℕ
 cut_at [] k most = most
 cut_at (cut ∷ cuts) k most = min most (max 1 (slice_index (cut ∷ cuts) (k % length (cut ∷ cuts))))
+
+-- nothing was called yet, no file is open, and these are the cuts and the numbers of the calls that fail
+pub record IsUnused (cuts fails : List ℕ) (device : MemDumps) : Type 0 where
+  pub cut : cuts_of device ≡ cuts
+  pub failing : fails_of device ≡ fails
+  pub now : now_of device ≡ closed
+  pub calls : calls_of device ≡ 0
+  pub reads : reads_of device ≡ 0
+  pub faults : faults_of device ≡ 0
+  pub taken : taken_of device ≡ 0

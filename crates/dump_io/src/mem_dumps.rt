@@ -1,13 +1,15 @@
 // A device whose files are in memory, which can cut its reads and fail.
 ghost use Rattle.std.specs.Prelude.{◌≡◌, ℕ, ◌-◌, ◌<◌, ◌≤◌, List, length, None, Some, min, is_err, is_ok, MatchOption, IfOk, if◌then◌else◌};
+ghost use Rattle.std.specs.Str.{bytes_eq};
 ghost use Rattle.dump_io.specs.Count.{number_in-small};
 ghost use Rattle.dump_io.specs.Counts.{plus_capped};
 ghost use Rattle.dump_io.specs.Dumps.{closed, told, size_of, used, Opens, ReadsSome};
-ghost use Rattle.dump_io.specs.MemDumps.{find_file, now_at, now_at-small, cut_at, files_of, now_of, calls_of, reads_of, faults_of, taken_of, fails_of, cuts_of, is_failing, opened};
+ghost use Rattle.dump_io.specs.MemDumps.{IsUnused, find_file, now_at, now_at-small, cut_at, files_of, now_of, calls_of, reads_of, faults_of, taken_of, fails_of, cuts_of, is_failing, opened};
 
 use crate::count::Count;
 use crate::dumps::{Dumps, Failed};
 use crate::file::DumpFile;
+use std::alloc::{AllocError, Global};
 
 /// A device that tells its files. Of two files with one name the first counts.
 ///
@@ -30,13 +32,7 @@ impl MemDumps {
     /// A device of these files, with no open file and counts of 0.
     pub fn new(files: Vec<DumpFile>, cuts: Vec<usize>, fails: Vec<u64>) -> MemDumps
         ensures files { (name : List ℕ) → files_of result name ≡ find_file files.items name }
-        ensures cuts { cuts_of result ≡ cuts.items }
-        ensures fails { fails_of result ≡ fails.items }
-        ensures now { now_of result ≡ closed }
-        ensures calls { calls_of result ≡ 0 }
-        ensures reads { reads_of result ≡ 0 }
-        ensures faults { faults_of result ≡ 0 }
-        ensures taken { taken_of result ≡ 0 }
+        ensures unused { IsUnused cuts.items fails.items result }
     {
         MemDumps {
             files,
@@ -48,6 +44,29 @@ impl MemDumps {
             faults: Count::new(),
             taken: Count::new(),
         }
+    }
+
+    /// A device with copies of one file's name and bytes, and of the cuts and the failing numbers. `AllocError`
+    /// comes where memory lacks.
+    pub fn holding(
+        alloc: Global,
+        name: &str,
+        bytes: &[u8],
+        cuts: &[usize],
+        fails: &[u64],
+    ) -> Result<MemDumps, AllocError>
+        ensures file { IfOk result (λ device. (asked : List ℕ) → files_of device asked ≡ (if bytes_eq name.now asked then Some bytes.now else None)) }
+        ensures unused { IfOk result (IsUnused cuts.now fails.now) }
+    {
+        let file = DumpFile::new(
+            String::from_str(alloc, name)?,
+            Vec::from_slice(alloc, bytes)?,
+        );
+        Ok(MemDumps::new(
+            vec![in alloc; file]?,
+            Vec::from_slice(alloc, cuts)?,
+            Vec::from_slice(alloc, fails)?,
+        ))
     }
 
     /// How many bytes were given.

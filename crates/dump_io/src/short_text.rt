@@ -1,5 +1,6 @@
 // A short text that is put together on the stack.
-ghost use Rattle.std.specs.Prelude.{◌≡◌, ◌+◌, ◌≤◌, [], ◌++◌, length, take, if◌then◌else◌};
+ghost use Rattle.std.specs.Prelude.{◌≡◌, ◌+◌, ◌≤◌, [], ◌++◌, length, take, true, if◌then◌else◌};
+ghost use Rattle.dump_io.specs.declared.short_text.TheConstants.{ROOM};
 
 use std::marker::Model;
 
@@ -43,7 +44,8 @@ impl ShortText {
 
     // Puts more bytes behind those that stand, and says whether they had room.
     pub fn push(&mut self, more: &[u8]) -> bool
-        ensures { self.new ≡ (if result then self.old ++ more.now else self.old) }
+        ensures text { self.new ≡ (if result then self.old ++ more.now else self.old) }
+        ensures room { length self.old + length more.now ≤ ROOM → result ≡ true }
     {
         if more.len() > ROOM - self.len {
             return false;

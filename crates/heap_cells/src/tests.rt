@@ -3,7 +3,7 @@ ghost use Rattle.std.specs.Prelude.{◌<◌, length};
 ghost use Rattle.heap_cells.specs.Targets.{number};
 
 use crate::{CellIx, Heap, HeapFault, Kid, Kind, Seat, Slot};
-use dump_io::{DumpFile, Limits, MemDumps};
+use dump_io::{Limits, MemDumps};
 use section_index::build;
 use std::alloc::{AllocError, Global};
 use std::test::Fail;
@@ -20,12 +20,7 @@ fn device(
     let text = format!(in alloc;
         "=erl_crash_dump:{version}\n=proc_heap:<0.1.0>\n{heap}=literals\n{literals}=end\n"
     )?;
-    let file = DumpFile::new(String::from_str(alloc, "V")?, text.into_bytes());
-    Ok(MemDumps::new(
-        vec![in alloc; file]?,
-        Vec::new(alloc),
-        Vec::from_slice(alloc, fails)?,
-    ))
+    MemDumps::holding(alloc, "V", text.as_bytes(), &[], fails)
 }
 
 fn load(

@@ -2,7 +2,7 @@
 ghost use Rattle.std.specs.Prelude.{◌≤◌, length};
 
 use crate::{EntryKind, Graph};
-use dump_io::{DumpFile, Dumps, HeldDump, Limits};
+use dump_io::{Dumps, Limits, MemDumps};
 use process_table::Procs;
 use section_index::build;
 use std::alloc::Global;
@@ -63,8 +63,8 @@ fn finds_entries(rt: &impl Abort, graph: &Graph<'_>)
 #[test]
 fn a_graph_has_the_entries_of_a_dump(rt: HostRuntime) -> Result<(), Fail> {
     let alloc = rt.alloc();
-    let file = DumpFile::new(String::from_str(alloc, "F")?, Vec::from_slice(alloc, DUMP)?);
-    let procs = procs_of(alloc, &mut HeldDump::new(file))?;
+    let mut dumps = MemDumps::holding(alloc, "F", DUMP, &[], &[])?;
+    let procs = procs_of(alloc, &mut dumps)?;
     let graph = Graph::build(alloc, &procs)?;
     assert_eq!(&rt; procs.len(), 4);
     if procs.len() < 4 {

@@ -1,20 +1,11 @@
 use crate::{Kept, Procs};
-use dump_io::{DumpFile, Failed, Limits, MemDumps, MemSink, Sink, put_dec, write_all};
+use dump_io::{Failed, Limits, MemDumps, MemSink, Sink, put_dec, write_all};
 use section_index::{BodyFault, build};
-use std::alloc::{AllocError, Global};
+use std::alloc::Global;
 use std::test::Fail;
 
 const DUMP: &[u8] =
     b"=erl_crash_dump:0.5\n=proc:<0.1.0>\nName: a\nState: b\nLink list: []\n=proc\n=proc:<0.1.0>\nName: c\n=proc:<0.2.0>\nMemory: 9\nMessage queue length:\n=end";
-
-fn device(alloc: Global, fails: &[u64]) -> Result<MemDumps, AllocError> {
-    let file = DumpFile::new(String::from_str(alloc, "V")?, Vec::from_slice(alloc, DUMP)?);
-    Ok(MemDumps::new(
-        vec![in alloc; file]?,
-        Vec::new(alloc),
-        Vec::from_slice(alloc, fails)?,
-    ))
-}
 
 fn print_field<K: Sink>(sink: &mut K, field: Option<Kept<'_>>) -> Result<(), Failed> {
     let Some(kept) = field else {
@@ -47,7 +38,7 @@ fn print<K: Sink>(sink: &mut K, procs: &Procs) -> Result<(), Failed> {
 
 #[test]
 fn processes_are_loaded(rt: HostRuntime) -> Result<(), Fail> {
-    let mut dumps = device(rt.alloc(), &[])?;
+    let mut dumps = MemDumps::holding(rt.alloc(), "V", DUMP, &[], &[])?;
     let usual = Limits::usual();
     let index = build(rt.alloc(), &mut dumps, "V", &usual)?;
     let procs = Procs::load(rt.alloc(), &mut dumps, &index, &usual)?;
@@ -64,7 +55,7 @@ fn processes_are_loaded(rt: HostRuntime) -> Result<(), Fail> {
 
 #[test]
 fn a_body_that_is_not_read_is_a_fault(rt: HostRuntime) -> Result<(), Fail> {
-    let mut dumps = device(rt.alloc(), &[4])?;
+    let mut dumps = MemDumps::holding(rt.alloc(), "V", DUMP, &[], &[4])?;
     let usual = Limits::usual();
     let index = build(rt.alloc(), &mut dumps, "V", &usual)?;
     match Procs::load(rt.alloc(), &mut dumps, &index, &usual) {

@@ -1,19 +1,10 @@
 use crate::{BodyFault, Tags, build, read_body};
-use dump_io::{DumpFile, Dumps, Limits, MemDumps};
-use std::alloc::{AllocError, Global};
+use dump_io::{Dumps, Limits, MemDumps};
+use std::alloc::Global;
 use std::test::Fail;
 
 const DUMP: &[u8] =
     b"=erl_crash_dump:0.5\nSlogan: x\r\n=proc:<0.1.0>\r\nA: 1\n=proc\n=node:1f\nB\n=node:01F\n=proc:<0.1.0>\n=end";
-
-fn device(alloc: Global) -> Result<MemDumps, AllocError> {
-    let file = DumpFile::new(String::from_str(alloc, "V")?, Vec::from_slice(alloc, DUMP)?);
-    Ok(MemDumps::new(
-        vec![in alloc; file]?,
-        Vec::from_slice(alloc, &[3])?,
-        Vec::from_slice(alloc, &[])?,
-    ))
-}
 
 fn body_of<D: Dumps>(
     alloc: Global,
@@ -30,7 +21,7 @@ fn body_of<D: Dumps>(
 
 #[test]
 fn sections_are_found(rt: HostRuntime) -> Result<(), Fail> {
-    let mut dumps = device(rt.alloc())?;
+    let mut dumps = MemDumps::holding(rt.alloc(), "V", DUMP, &[3], &[])?;
     let index = build(rt.alloc(), &mut dumps, "V", &Limits::usual())?;
     let pid = b"<0.1.0>".as_slice();
     assert_eq!(rt; index.first(b"proc".as_slice(), Some(pid)), Some(1));
@@ -48,7 +39,7 @@ fn sections_are_found(rt: HostRuntime) -> Result<(), Fail> {
 
 #[test]
 fn tags_are_counted(rt: HostRuntime) -> Result<(), Fail> {
-    let mut dumps = device(rt.alloc())?;
+    let mut dumps = MemDumps::holding(rt.alloc(), "V", DUMP, &[3], &[])?;
     let index = build(rt.alloc(), &mut dumps, "V", &Limits::usual())?;
     let tags = Tags::count(rt.alloc(), &index)?;
     assert_eq!(rt; tags.len(), 4);
@@ -70,7 +61,7 @@ fn tags_are_counted(rt: HostRuntime) -> Result<(), Fail> {
 
 #[test]
 fn bodies_are_read(rt: HostRuntime) -> Result<(), Fail> {
-    let mut dumps = device(rt.alloc())?;
+    let mut dumps = MemDumps::holding(rt.alloc(), "V", DUMP, &[3], &[])?;
     let usual = Limits::usual();
     let body = body_of(rt.alloc(), &mut dumps, 1, &usual)??;
     assert_eq!(rt; body.as_slice(), b"A: 1\n".as_slice());
@@ -82,7 +73,7 @@ fn bodies_are_read(rt: HostRuntime) -> Result<(), Fail> {
 
 #[test]
 fn a_body_above_the_limit_is_not_read(rt: HostRuntime) -> Result<(), Fail> {
-    let mut dumps = device(rt.alloc())?;
+    let mut dumps = MemDumps::holding(rt.alloc(), "V", DUMP, &[3], &[])?;
     let small = Limits::new(100, 100, 100, 100, 4, 100).ok_or("refused")?;
     match body_of(rt.alloc(), &mut dumps, 1, &small)? {
         Err(BodyFault::SectionTooLarge { at, len }) => assert_eq!(rt; (at, len), (31, 5)),

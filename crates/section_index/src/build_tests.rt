@@ -1,23 +1,11 @@
 use crate::{State, Version, build};
-use dump_io::{DumpFile, Limits, MemDumps};
-use std::alloc::{AllocError, Global};
+use dump_io::{Limits, MemDumps};
+use std::alloc::Global;
 use std::test::Fail;
-
-fn device(alloc: Global, bytes: &[u8]) -> Result<MemDumps, AllocError> {
-    let file = DumpFile::new(
-        String::from_str(alloc, "V")?,
-        Vec::from_slice(alloc, bytes)?,
-    );
-    Ok(MemDumps::new(
-        vec![in alloc; file]?,
-        Vec::from_slice(alloc, &[7])?,
-        Vec::from_slice(alloc, &[])?,
-    ))
-}
 
 // What is said of these bytes under these limits.
 fn answer(alloc: Global, bytes: &[u8], limits: &Limits) -> Result<String, Fail> {
-    let mut dumps = device(alloc, bytes)?;
+    let mut dumps = MemDumps::holding(alloc, "V", bytes, &[7], &[])?;
     match build(alloc, &mut dumps, "V", limits) {
         Ok(_) => Ok(String::from_str(alloc, "accepted")?),
         Err(fault) => Ok(format!(in alloc; "{fault}")?),
@@ -89,7 +77,7 @@ fn a_header_at_a_seam_is_found(rt: HostRuntime) -> Result<(), Fail> {
     let mut bytes = Vec::from_slice(rt.alloc(), b"=erl_crash_dump:0.4\r\n".as_slice())?;
     bytes.resize(65_535, b'x')?;
     bytes.extend_from_slice(b"\n=end".as_slice())?;
-    let mut dumps = device(rt.alloc(), bytes.as_slice())?;
+    let mut dumps = MemDumps::holding(rt.alloc(), "V", bytes.as_slice(), &[7], &[])?;
     let index = build(rt.alloc(), &mut dumps, "V", &Limits::usual())?;
     if index.len() != 2 {
         return Err("another number of sections".into());

@@ -1,20 +1,11 @@
 use crate::{Column, Kept, SectionRows};
-use dump_io::{DumpFile, Dumps, Failed, Limits, MemDumps, MemSink, Sink, put_dec, write_all};
+use dump_io::{Dumps, Failed, Limits, MemDumps, MemSink, Sink, put_dec, write_all};
 use section_index::{BodyFault, build};
-use std::alloc::{AllocError, Global};
+use std::alloc::Global;
 use std::test::Fail;
 
 const DUMP: &[u8] =
     b"=erl_crash_dump:0.5\nA: 0\n=node:b:1\nA:  x\nB: 2\n=ets\nB:\nA\n=node:c\nA: y\nA: z";
-
-fn device(alloc: Global) -> Result<MemDumps, AllocError> {
-    let file = DumpFile::new(String::from_str(alloc, "V")?, Vec::from_slice(alloc, DUMP)?);
-    Ok(MemDumps::new(
-        vec![in alloc; file]?,
-        Vec::from_slice(alloc, &[3])?,
-        Vec::new(alloc),
-    ))
-}
 
 // The rows of the sections behind the first one.
 fn rows_of<D: Dumps>(
@@ -61,7 +52,7 @@ fn print_cell<K: Sink>(sink: &mut K, kept: &Kept<'_>) -> Result<(), Failed> {
 
 #[test]
 fn rows_are_loaded(rt: HostRuntime) -> Result<(), Fail> {
-    let mut dumps = device(rt.alloc())?;
+    let mut dumps = MemDumps::holding(rt.alloc(), "V", DUMP, &[3], &[])?;
     let rows = rows_of(rt.alloc(), &mut dumps, &Limits::usual())??;
     let mut sink = MemSink::new(rt.alloc(), 0, Vec::new(rt.alloc()));
     print(&mut sink, &rows).map_err(|_| "a write failed")?;
@@ -74,7 +65,7 @@ fn rows_are_loaded(rt: HostRuntime) -> Result<(), Fail> {
 
 #[test]
 fn a_body_that_is_too_large_is_refused_before_a_read(rt: HostRuntime) -> Result<(), Fail> {
-    let mut dumps = device(rt.alloc())?;
+    let mut dumps = MemDumps::holding(rt.alloc(), "V", DUMP, &[3], &[])?;
     let small = Limits::new(100, 100, 100, 100, 8, 100).ok_or("refused")?;
     match rows_of(rt.alloc(), &mut dumps, &small)? {
         Err(BodyFault::SectionTooLarge { at, len }) => assert_eq!(rt; (at, len), (25, 11)),

@@ -1,5 +1,5 @@
 use crate::{Rows, TableKind};
-use dump_io::{DumpFile, Failed, HeldDump, Limits, MemSink, Sink, put_dec, write_all};
+use dump_io::{Failed, Limits, MemDumps, MemSink, Sink, put_dec, write_all};
 use section_index::build;
 use std::alloc::Global;
 use std::test::Fail;
@@ -21,8 +21,7 @@ fn print<K: Sink>(sink: &mut K, rows: &Rows) -> Result<(), Failed> {
 }
 
 fn print_table<K: Sink>(alloc: Global, sink: &mut K, kind: TableKind) -> Result<(), Fail> {
-    let name = String::from_str(alloc, "V")?;
-    let mut dumps = HeldDump::new(DumpFile::new(name, Vec::from_slice(alloc, DUMP)?));
+    let mut dumps = MemDumps::holding(alloc, "V", DUMP, &[], &[])?;
     let usual = Limits::usual();
     let index = build(alloc, &mut dumps, "V", &usual)?;
     let rows = Rows::load(alloc, &mut dumps, &index, kind, &usual)?;
