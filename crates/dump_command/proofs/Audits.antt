@@ -5,16 +5,16 @@ use Rattle.std.specs.Prelude.{IsTrue}
 use Rattle.dump_io.specs.Dumps.{Use, DeviceFailed}
 use Rattle.dump_io.specs.Limits.{Numbers}
 use Rattle.dump_io.specs.Lines.{headers}
-use Rattle.section_index.specs.Index.{Contents, IsIndexOf, sections_in, state_of}
+use Rattle.section_index.specs.Index.{Contents, IsIndexOf, index_of, sections_in, state_of}
+use Rattle.section_index.specs.Laws.{index-is}
 use Rattle.section_index.specs.Sections.{Section}
 use Rattle.section_index.specs.declared.bodies.BodyFault.{BodyFault}
 use Rattle.section_index.specs.declared.bodies.BodyFault.TheVariants as body_faults
-use Rattle.section_index.specs.declared.opening.Version.TheVariants.{V05}
 use Rattle.section_rows.specs.Loading.{first_large, AreRefused}
 use Rattle.process_table.specs.Processes.{Process, process_table}
 use Rattle.dump_audit.specs.Findings.{Audit, audit_of, findings}
 use Rattle.report_text.specs.declared.refusals.Refusal.TheVariants.{SectionTooLarge}
-use Rattle.dump_command.specs.Audits.{audit_in, index_of, mail_in, mailbox_places, mails, status_of}
+use Rattle.dump_command.specs.Audits.{audit_in, mail_in, mailbox_places, mails, status_of}
 use Rattle.dump_command.specs.Command.{Command, file_of}
 use Rattle.dump_command.specs.Report.{report, report_status, refusal_opened, too_large, finds}
 use Rattle.dump_command.specs.Run.{is_one_of}
@@ -23,13 +23,6 @@ use Rattle.dump_command.specs.Inner.Opened.{HasOpened, IsIndexed}
 use Rattle.dump_command.specs.Inner.Stops.{stop_of_body}
 use Rattle.dump_command.specs.declared.status.TheConstants.{DONE, FOUND}
 use Rattle.dump_command.proofs.Loads.{IsAllowed, IsStopped-unread, IsStopped-no_memory, IsStopped-refused, TakesAtMost-opened, file-of, large-refused, none_refused, refusal-accepted, sections-index, there-opened, too_large-append}
-
--- the index of a dump
-pub index-told : (bytes : List ℕ) (index : Contents) → IsIndexOf bytes index → index ≡ index_of bytes
-index-told bytes index of =
-    ap (λ h. record { headers = h; size = index.size; version = index.version }) of.headers
-    ∙ ap (λ n. record { headers = headers bytes; size = n; version = index.version }) of.size
-    ∙ ap (λ v. record { headers = headers bytes; size = length bytes; version = unwrap_or v V05 }) (sym of.version)
 
 -- the numbers of messages
 pub mails-told : (bytes : List ℕ) (index : Contents) → IsIndexOf bytes index
@@ -44,7 +37,7 @@ pub audit-told : (bytes : List ℕ) (index : Contents) (processes : List Process
     → counts ≡ (if full then Some (map (mail_in bytes (state_of index.headers) (sections_in index)) (mailbox_places (sections_in index))) else None)
     → audit_of index processes limit counts ≡ audit_in limit full bytes
 audit-told bytes index processes limit full counts of table counted =
-    ap (λ i. audit_of i processes limit counts) (index-told bytes index of)
+    ap (λ i. audit_of i processes limit counts) (index-is bytes index of)
     ∙ ap (λ ps. audit_of (index_of bytes) ps limit counts) table
     ∙ ap (λ m. audit_of (index_of bytes) (process_table bytes).processes limit m) (counted ∙ ap (λ m. if full then Some m else None) (mails-told bytes index of))
 

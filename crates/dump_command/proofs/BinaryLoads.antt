@@ -10,7 +10,8 @@ use Rattle.std.proofs.lemmas.List.Quantifiers.{position-Some}
 use Rattle.dump_io.specs.Dumps.{Use, DeviceFailed}
 use Rattle.dump_io.specs.Limits.{Numbers}
 use Rattle.section_index.specs.Bodies.{body_length}
-use Rattle.section_index.specs.Index.{Contents, IsIndexOf, sections_in}
+use Rattle.section_index.specs.Index.{Contents, IsIndexOf, index_of, sections_in}
+use Rattle.section_index.specs.Laws.{index-is}
 use Rattle.section_index.specs.Lookups.{has_hex}
 use Rattle.section_index.specs.Sections.{Section, section, sections}
 use Rattle.binary_refs.specs.Previews.{binary_section}
@@ -20,11 +21,10 @@ use Rattle.binary_refs.specs.declared.faults.BinFault.TheVariants as faults
 use Rattle.report_text.specs.declared.refusals.Refusal.TheVariants.{SectionTooLarge, NoBinary, BadBinary}
 use Rattle.dump_command.specs.Command.{binary}
 use Rattle.dump_command.specs.Report.{bytes_in, one_of, refusal_opened, too_large}
-use Rattle.dump_command.specs.Terms.{bad_binary, bad_cause, binary_at, binary_cause, index_of}
+use Rattle.dump_command.specs.Terms.{bad_binary, bad_cause, binary_at, binary_cause}
 use Rattle.dump_command.specs.Inner.Loads.{IsStopped}
 use Rattle.dump_command.specs.Inner.Opened.{HasOpened, IsIndexed}
 use Rattle.dump_command.specs.Inner.TermStops.{stop_of_binary}
-use Rattle.dump_command.proofs.Heaps.{index-of}
 use Rattle.dump_command.proofs.Loads.{IsAllowed, IsAllowed-bodies, IsStopped-no_memory, IsStopped-refused, IsStopped-unread, sections-index, too_large-first, too_large-index}
 use Rattle.dump_command.proofs.Places.{found-at, not-found}
 use Rattle.dump_command.proofs.TermLoads.{refused-loaded, refused-subject}
@@ -54,7 +54,7 @@ IsAllowed-binary file addr limits device index more few =
 
 -- the binary is there, and its bytes are those of the dump's
 pub bytes-index : (bytes : List ℕ) (index : Contents) (addr : ℕ) → IsIndexOf bytes index → whole_bytes bytes index addr ≡ whole_bytes bytes (index_of bytes) addr
-bytes-index bytes index addr of = ap (λ i. whole_bytes bytes i addr) (index-of bytes index of)
+bytes-index bytes index addr of = ap (λ i. whole_bytes bytes i addr) (index-is bytes index of)
 
 there-small : (b : Bool) (s : Section) → (if b then Some (faults.SectionTooLarge s.at (body_length s)) else None) ≡ None → b ≡ false
 there-small true s none = absurd (let no : ⊥ = cc (none) in no)

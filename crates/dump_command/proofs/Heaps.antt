@@ -6,7 +6,8 @@ use Rattle.std.proofs.lemmas.Bool.{ltb-false}
 use Rattle.std.proofs.lemmas.List.Sums.{sum_by-cons}
 use Rattle.dump_io.specs.Lines.{Header, headers}
 use Rattle.section_index.specs.Bodies.{body_length}
-use Rattle.section_index.specs.Index.{Contents, IsIndexOf, sections_in}
+use Rattle.section_index.specs.Index.{Contents, IsIndexOf, index_of, sections_in}
+use Rattle.section_index.specs.Laws.{index-is}
 use Rattle.section_index.specs.Lookups.{has_tag, is_named}
 use Rattle.section_index.specs.Sections.{Section, section}
 use Rattle.section_index.specs.declared.opening.Version.{Version}
@@ -20,21 +21,11 @@ use Rattle.report_text.specs.declared.refusals.Refusal.{Refusal}
 use Rattle.report_text.specs.declared.refusals.Refusal.TheVariants.{SectionTooLarge}
 use Rattle.section_rows.specs.Loading.{first_large}
 use Rattle.dump_command.specs.Report.{bytes_in, heap_bodies, one_of, too_large}
-use Rattle.dump_command.specs.Terms.{heap_body, heap_map, heap_of, index_of, literals_body, literals_of, payloads_of}
+use Rattle.dump_command.specs.Terms.{heap_body, heap_map, heap_of, literals_body, literals_of, payloads_of}
 use Rattle.dump_command.specs.Inner.TermStops.{stop_of_heap}
 use Rattle.dump_command.specs.declared.stop.Stop.TheVariants.{Refused}
 use Rattle.dump_command.proofs.Loads.{sections-index, too_large-append}
 use Rattle.dump_command.proofs.Places.{found-at, not-found}
-
-abbrev contents : List Header → ℕ → Version → Contents
-contents hs size version = record { headers = hs; size = size; version = version }
-
--- the index of accepted bytes is the one that they have
-pub index-of : (bytes : List ℕ) (index : Contents) → IsIndexOf bytes index → index ≡ index_of bytes
-index-of bytes index of =
-    ap (λ hs. contents hs index.size index.version) of.headers
-    ∙ ap (λ n. contents (headers bytes) n index.version) of.size
-    ∙ ap (λ v. contents (headers bytes) (length bytes) (unwrap_or v V05)) (sym of.version)
 
 -- the section at the first place of a test is the first section that passes it
 section-found : (p : Section → Bool) (index : Contents) (place : Option ℕ) → position p (sections_in index) ≡ place → section_in index place ≡ find p (sections_in index)
@@ -158,7 +149,7 @@ small-one limit (Some s) none = ltb-false limit (body_length s) (small-test (nat
 -- ---- what they hold
 
 pub payloads-index : (bytes : List ℕ) (index : Contents) → IsIndexOf bytes index → enc_of index.version ≡ payloads_of bytes
-payloads-index bytes index of = ap (λ i. enc_of i.version) (index-of bytes index of)
+payloads-index bytes index of = ap (λ i. enc_of i.version) (index-is bytes index of)
 
 pub heap_body-index : (pid bytes : List ℕ) (index : Contents) → IsIndexOf bytes index → body_in bytes (heap_section index pid) ≡ heap_body pid bytes
 heap_body-index pid bytes index of = ap (body_in bytes) (heap-found pid index ∙ ap (heap_of pid) (sections-index bytes index of))

@@ -5,7 +5,8 @@ use Rattle.std.specs.Option.{option_or}
 use Rattle.std.proofs.lemmas.Bool.{lt-ltb, le-ltb}
 use Rattle.dump_io.specs.Dumps.{Use, DeviceFailed}
 use Rattle.dump_io.specs.Limits.{Numbers}
-use Rattle.section_index.specs.Index.{Contents, IsIndexOf, sections_in}
+use Rattle.section_index.specs.Index.{Contents, IsIndexOf, index_of, sections_in}
+use Rattle.section_index.specs.Laws.{index-is}
 use Rattle.section_index.specs.Sections.{sections}
 use Rattle.heap_cells.specs.Cells.{weight}
 use Rattle.heap_cells.specs.HeapMap.{HeapMap}
@@ -24,13 +25,13 @@ use Rattle.report_text.specs.declared.root_report.RootKind.{RootKind}
 use Rattle.report_text.specs.Roots.{answer_over, roots_in, roots_report, term_report}
 use Rattle.dump_command.specs.Command.{Command, file_of, roots, term}
 use Rattle.dump_command.specs.Report.{bytes_in, heap_bodies, no_subject, one_of, refusal_loaded, refusal_opened, too_large}
-use Rattle.dump_command.specs.Terms.{base_of, binary_count, dense_cause, heap_map, index_of, no_address, previews_in, roots_of, roots_section, term_of, too_dense}
+use Rattle.dump_command.specs.Terms.{base_of, binary_count, dense_cause, heap_map, no_address, previews_in, roots_of, roots_section, term_of, too_dense}
 use Rattle.dump_command.specs.Inner.Loads.{IsStopped}
 use Rattle.dump_command.specs.Inner.Opened.{HasOpened, IsIndexed}
 use Rattle.dump_command.specs.Inner.TermStops.{IsReadStop, Judges, stop_of_heap, stop_of_previews}
 use Rattle.dump_command.specs.declared.stop.Stop.{Stop}
 use Rattle.dump_command.specs.declared.stop.Stop.TheVariants.{Refused, NotRead, NotWritten, NoMemory}
-use Rattle.dump_command.proofs.Heaps.{bytes-heap, bytes-roots, dense-small, heap-too-large, index-of, weight-index}
+use Rattle.dump_command.proofs.Heaps.{bytes-heap, bytes-roots, dense-small, heap-too-large, weight-index}
 use Rattle.dump_command.proofs.Loads.{IsAllowed, IsStopped-no_memory, IsStopped-refused, IsStopped-unread, bodies-index, sections-index, too_large-append, too_large-index}
 
 -- ---- the causes of a refusal, in their order
@@ -195,7 +196,7 @@ pub previews-index : (pid bytes : List ℕ) (index : Contents) (heap : HeapMap) 
     → previews_of bytes index heap.enc heap.cells ≡ previews_in bytes (heap_map pid bytes)
 previews-index pid bytes index heap of enc cells =
     let right = heap_map pid bytes in
-    ap (λ i. previews_of bytes i heap.enc heap.cells) (index-of bytes index of)
+    ap (λ i. previews_of bytes i heap.enc heap.cells) (index-is bytes index of)
     ∙ ap (λ e. previews_of bytes (index_of bytes) e heap.cells) enc
     ∙ ap (previews_of bytes (index_of bytes) right.enc) cells
 

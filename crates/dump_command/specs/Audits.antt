@@ -3,22 +3,16 @@ use Rattle.std.specs.Prelude.{ℕ, Bool, List, [], ◌∷◌, ◌++◌, length, 
 use Rattle.std.specs.List.{between, filter_map}
 use Rattle.std.specs.Option.{option_and_then, option_map}
 use Rattle.dump_io.specs.Lines.{headers}
-use Rattle.section_index.specs.Index.{Contents, state_of}
+use Rattle.section_index.specs.Index.{index_of, state_of}
 use Rattle.section_index.specs.Lookups.{is_named}
-use Rattle.section_index.specs.Opening.{first_id, version_named}
 use Rattle.section_index.specs.Sections.{Section, section, sections}
 use Rattle.section_index.specs.declared.index.State.{State}
-use Rattle.section_index.specs.declared.opening.Version.TheVariants.{V05}
 use Rattle.process_table.specs.Processes.{process_table}
 use Rattle.process_table.specs.Records.{record_sections, records, pid_of}
 use Rattle.root_views.specs.Roots.{message_count}
 use Rattle.dump_audit.specs.Findings.{Audit, audit_of, is_cut}
 use Rattle.dump_audit.specs.declared.finding.Finding.{Finding}
 use Rattle.dump_command.specs.declared.status.TheConstants.{DONE, FOUND}
-
--- the index of the bytes of an accepted dump
-abbrev pub index_of : List ℕ → Contents
-index_of bytes = record { headers = headers bytes; size = length bytes; version = unwrap_or (version_named (first_id bytes)) V05 }
 
 -- the section at a place, and past the last one an empty section
 abbrev pub section_in : List Section → ℕ → Section

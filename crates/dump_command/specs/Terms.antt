@@ -1,12 +1,9 @@
 -- What the commands on the terms of a process, and on a binary, say of the bytes of an accepted dump.
 use Rattle.std.specs.Prelude.{ℕ, Bool, List, [], length, Option, None, Some, codes, find, is_some, nat_lt, unwrap_or, if◌then◌else◌}
 use Rattle.std.specs.Option.{option_map}
-use Rattle.dump_io.specs.Lines.{headers}
-use Rattle.section_index.specs.Index.{Contents}
+use Rattle.section_index.specs.Index.{index_of}
 use Rattle.section_index.specs.Lookups.{has_hex, has_tag, is_named}
-use Rattle.section_index.specs.Opening.{first_id, version_named}
 use Rattle.section_index.specs.Sections.{Section, sections}
-use Rattle.section_index.specs.declared.opening.Version.TheVariants.{V05}
 use Rattle.term_forms.specs.declared.enc.Enc.{Enc}
 use Rattle.term_forms.specs.Elements.{Element}
 use Rattle.heap_cells.specs.Cells.{cells_of, own_count, weight}
@@ -19,18 +16,7 @@ use Rattle.term_unfold.specs.Walks.{Walk, walk}
 use Rattle.report_text.specs.declared.refusals.Refusal.{Refusal}
 use Rattle.report_text.specs.declared.refusals.Refusal.TheVariants.{TooDense, NoAddress, NoBinary, BadBinary}
 use Rattle.report_text.specs.declared.root_report.RootKind.{RootKind}
-use Rattle.report_text.specs.declared.root_report.RootKind.TheVariants.{Stack, Dict, Mail}
-use Rattle.report_text.specs.Roots.{answer_over, binary_report, roots_in, roots_report, term_report}
-
--- the index of the bytes
-abbrev pub index_of : List ℕ → Contents
-index_of bytes = record { headers = headers bytes; size = length bytes; version = unwrap_or (version_named (first_id bytes)) V05 }
-
--- the tag of the sections with roots of a kind
-abbrev pub roots_tag : RootKind → List ℕ
-roots_tag Stack = codes "proc_stack"
-roots_tag Dict = codes "proc_dictionary"
-roots_tag Mail = codes "proc_messages"
+use Rattle.report_text.specs.Roots.{answer_over, binary_report, roots_in, roots_report, roots_tag, term_report}
 
 -- the first section with this tag of the process with this pid
 abbrev pub named_section : List ℕ → List ℕ → List Section → Option Section

@@ -11,13 +11,11 @@ use Rattle.dump_io.specs.declared.held_dump.HeldDump.{HeldDump}
 use Rattle.dump_io.specs.File.{name_of, bytes_of}
 use Rattle.dump_io.specs.declared.file.DumpFile.{DumpFile}
 use Rattle.dump_io.specs.Limits.{Numbers}
-use Rattle.dump_io.specs.Lines.{Header, headers}
 use Rattle.section_index.specs.declared.bodies.BodyFault.{BodyFault}
 use Rattle.section_index.specs.declared.bodies.BodyFault.TheVariants as body_faults
-use Rattle.section_index.specs.declared.opening.Version.{Version}
-use Rattle.section_index.specs.declared.opening.Version.TheVariants.{V05}
 use Rattle.section_index.specs.Bodies.{section_at, IsBodyOf, IsCauseOf}
-use Rattle.section_index.specs.Index.{Contents, sections_in}
+use Rattle.section_index.specs.Index.{Contents, index_of, sections_in}
+use Rattle.section_index.specs.Laws.{index-is}
 use Rattle.section_index.specs.Lookups.{is_named}
 use Rattle.section_index.specs.Sections.{Section}
 use Rattle.section_rows.specs.Loading.{AreRefused}
@@ -27,21 +25,15 @@ use Rattle.heap_cells.specs.declared.faults.HeapFault.TheVariants as heap_faults
 use Rattle.heap_cells.specs.Loading.{enc_of, section_in, body_in, heap_section, literals_section, section_fault}
 use Rattle.heap_cells.specs.Loading as heaps
 use Rattle.report_text.specs.declared.root_report.RootKind.{RootKind}
-use Rattle.dump_trial.specs.Trial.{index_of, tag_for, root_body}
+use Rattle.report_text.specs.Roots.{roots_tag}
+use Rattle.dump_trial.specs.Trial.{root_body}
 use Rattle.dump_trial.specs.Inner.Held.{bytes_in, IsOpened}
 use Rattle.dump_trial.proofs.Contained.{IsSmall}
 use Rattle.dump_trial.proofs.Memory.{memory-records, memory-body, memory-heap}
 
-abbrev contents : List Header → ℕ → Version → Contents
-contents headers size version = record { headers = headers; size = size; version = version }
-
 -- the index is that of the bytes
 pub index-opened : (now : Now) (index : Contents) (limits : Numbers) → IsOpened now index limits → index ≡ index_of (bytes_in now)
-index-opened now index limits held =
-    let bytes = bytes_in now in
-    ap (λ hs. contents hs index.size index.version) held.of.headers
-    ∙ ap (λ n. contents (headers bytes) n index.version) held.of.size
-    ∙ ap (contents (headers bytes) (length bytes)) (sym (ap (λ v. unwrap_or v V05) held.of.version))
+index-opened now index limits held = index-is (bytes_in now) index held.of
 
 -- each body is within the limit
 small-opened : (now : Now) (index : Contents) (limits : Numbers) → IsOpened now index limits → All IsSmall (sections_in index)
@@ -83,11 +75,11 @@ heap-opened old new index limits pid fault held answer cause =
     (subst (λ (l : Numbers). heaps.IsCauseOf (section_fault l.section index pid) l.dense (around old new) fault) held.bounds cause)
 
 -- the body of roots, by the place of its section
-pub root-at : (bytes : List ℕ) (index : Contents) (kind : RootKind) (tag pid : List ℕ) (place : Option ℕ) → index ≡ index_of bytes → tag ≡ tag_for kind
+pub root-at : (bytes : List ℕ) (index : Contents) (kind : RootKind) (tag pid : List ℕ) (place : Option ℕ) → index ≡ index_of bytes → tag ≡ roots_tag kind
     → place ≡ position (λ (section : Section). is_named tag (Some pid) section.text) (sections_in index)
     → root_body bytes kind pid ≡ body_in bytes (section_in index place)
 root-at bytes index kind tag pid place same tagged found =
-    ap (λ (i : Contents). body_in bytes (section_in i (position (λ (section : Section). is_named (tag_for kind) (Some pid) section.text) (sections_in i)))) (sym same)
+    ap (λ (i : Contents). body_in bytes (section_in i (position (λ (section : Section). is_named (roots_tag kind) (Some pid) section.text) (sections_in i)))) (sym same)
     ∙ ap (λ t. body_in bytes (section_in index (position (λ (section : Section). is_named t (Some pid) section.text) (sections_in index)))) (sym tagged)
     ∙ ap (λ p. body_in bytes (section_in index p)) (sym found)
 

@@ -1,11 +1,8 @@
 -- What a trial says of a made dump: how much there is in it, and what is bad or one-sided.
 use Rattle.std.specs.Prelude.{ℕ, ◌++◌, List, length, Option, None, Some, position, unwrap_or, codes}
 use Rattle.std.specs.List.{sum_by}
-use Rattle.dump_io.specs.Lines.{headers}
-use Rattle.section_index.specs.declared.opening.Version.TheVariants.{V05}
-use Rattle.section_index.specs.Index.{Contents, sections_in}
+use Rattle.section_index.specs.Index.{Contents, index_of, sections_in}
 use Rattle.section_index.specs.Lookups.{is_named}
-use Rattle.section_index.specs.Opening.{version_named, first_id}
 use Rattle.section_index.specs.Sections.{Section, sections}
 use Rattle.process_table.specs.Processes.{Process, process_table}
 use Rattle.heap_cells.specs.Cells.{Cell, cells_of}
@@ -17,7 +14,7 @@ use Rattle.report_text.specs.declared.root_report.RootKind.{RootKind}
 use Rattle.report_text.specs.declared.root_report.RootKind.TheVariants.{Stack, Dict, Mail}
 use Rattle.report_text.specs.declared.tally.Tally.{Tally}
 use Rattle.report_text.specs.declared.tally.Summary.{Summary}
-use Rattle.report_text.specs.Roots.{roots_in}
+use Rattle.report_text.specs.Roots.{roots_in, roots_tag}
 use Rattle.report_text.specs.Tallies.{bad_roots}
 
 -- a root is judged by its first 1,000 nodes
@@ -28,10 +25,6 @@ judged_nodes = 1000
 abbrev pub queue_limit : ℕ
 queue_limit = 8
 
--- the index of the bytes of a dump, whose first line names a version that is read
-abbrev pub index_of : List ℕ → Contents
-index_of bytes = record { headers = headers bytes; size = length bytes; version = unwrap_or (version_named (first_id bytes)) V05 }
-
 -- ---- the roots of a process
 
 -- the cells of the heap of a pid, with the literals behind them
@@ -40,15 +33,9 @@ cells_in bytes pid =
     let index = index_of bytes in
     cells_of (enc_of index.version) (body_in bytes (heap_section index pid)) (body_in bytes (literals_section index))
 
--- the tag of the sections that hold roots of a kind
-abbrev pub tag_for : RootKind → List ℕ
-tag_for Stack = codes "proc_stack"
-tag_for Dict = codes "proc_dictionary"
-tag_for Mail = codes "proc_messages"
-
 -- the first of them whose id is this pid
 abbrev pub root_section : Contents → RootKind → List ℕ → Option Section
-root_section index kind pid = section_in index (position (λ section. is_named (tag_for kind) (Some pid) section.text) (sections_in index))
+root_section index kind pid = section_in index (position (λ section. is_named (roots_tag kind) (Some pid) section.text) (sections_in index))
 
 -- its body; a section that isn't there is empty
 abbrev pub root_body : List ℕ → RootKind → List ℕ → List ℕ

@@ -3,7 +3,8 @@ ghost use Rattle.std.specs.Prelude.{◌≡◌, ◌≤◌, length, All, IfOk};
 ghost use Rattle.dump_io.specs.Limits.{usual};
 ghost use Rattle.process_table.specs.Processes.{IsIn, process_table};
 ghost use Rattle.binary_refs.specs.Previews.{AreFor};
-ghost use Rattle.dump_trial.specs.Trial.{index_of, cells_in, tag_for, root_body};
+ghost use Rattle.section_index.specs.Index.{index_of};
+ghost use Rattle.dump_trial.specs.Trial.{cells_in, root_body};
 ghost use Rattle.dump_trial.specs.Inner.Held.{IsGood};
 
 use crate::only_memory;
@@ -37,17 +38,6 @@ impl Model for Held {
     ghost view = { λ held. bytes_in (now_of held.dumps) };
 
     ghost invariant = { λ held. IsOpened (now_of held.dumps) held.index held.limits };
-}
-
-// The tag of the sections that hold roots of a kind.
-fn tag_for(kind: RootKind) -> &'static [u8]
-    ensures { result.now ≡ tag_for kind }
-{
-    match kind {
-        RootKind::Stack => b"proc_stack",
-        RootKind::Dict => b"proc_dictionary",
-        RootKind::Mail => b"proc_messages",
-    }
 }
 
 impl Held {
@@ -99,7 +89,7 @@ impl Held {
         ensures few { IfOk result (λ body. length body.items ≤ usual.section) }
         ensures same { self.new ≡ self.old }
     {
-        let Some(i) = self.index.first(tag_for(kind), Some(pid)) else {
+        let Some(i) = self.index.first(kind.tag(), Some(pid)) else {
             return Ok(Vec::new(alloc));
         };
         match read_body(alloc, &mut self.dumps, &self.index, i, &self.limits) {

@@ -9,6 +9,12 @@ use Rattle.report_text.specs.declared.root_report.RootKind.{RootKind}
 use Rattle.report_text.specs.declared.root_report.RootKind.TheVariants.{Stack, Dict, Mail}
 use Rattle.report_text.specs.Reports.{space, newline}
 
+-- the tag of the sections with roots of a kind
+abbrev pub roots_tag : RootKind → List ℕ
+roots_tag Stack = codes "proc_stack"
+roots_tag Dict = codes "proc_dictionary"
+roots_tag Mail = codes "proc_messages"
+
 -- the roots of a body of this kind
 abbrev pub roots_in : RootKind → List ℕ → List BodyRoot
 roots_in Stack body = stack_roots body

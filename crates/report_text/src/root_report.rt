@@ -8,7 +8,7 @@ ghost use Rattle.root_views.specs.Seen.{content, root};
 ghost use Rattle.term_forms.specs.Seen.{element};
 ghost use Rattle.term_unfold.specs.Text.{reason};
 ghost use Rattle.term_unfold.specs.Walks.{judged_text};
-ghost use Rattle.report_text.specs.Roots.{answer_over, content_text, root_heading, root_line, roots_in, roots_line, roots_report, term_report};
+ghost use Rattle.report_text.specs.Roots.{answer_over, content_text, root_heading, root_line, roots_in, roots_line, roots_report, roots_tag, term_report};
 ghost use Rattle.report_text.specs.Inner.Coming.{left};
 
 use dump_io::{Failed, Piece, Sink, put_pieces, write_all};
@@ -27,6 +27,19 @@ pub enum RootKind {
     Dict,
     /// Those of its mailbox, in a `proc_messages` section.
     Mail,
+}
+
+impl RootKind {
+    /// The tag of the sections that hold roots of this kind.
+    pub fn tag(self) -> &'static [u8]
+        ensures { result.now ≡ roots_tag self }
+    {
+        match self {
+            RootKind::Stack => b"proc_stack",
+            RootKind::Dict => b"proc_dictionary",
+            RootKind::Mail => b"proc_messages",
+        }
+    }
 }
 
 // The roots of a body that are still to come.

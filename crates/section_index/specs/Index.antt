@@ -1,5 +1,5 @@
 -- What an index says of a dump.
-use Rattle.std.specs.Prelude.{◌≡◌, ◌⊎◌, ℕ, ◌+◌, ◌-◌, ◌<◌, ◌≤◌, List, [], ◌∷◌, length, None, Some, Result, Ok, Err, codes, if◌then◌else◌, Option}
+use Rattle.std.specs.Prelude.{◌≡◌, ◌⊎◌, ℕ, ◌+◌, ◌-◌, ◌<◌, ◌≤◌, List, [], ◌∷◌, length, None, Some, Result, Ok, Err, codes, unwrap_or, if◌then◌else◌, Option}
 use Rattle.std.specs.Str.{bytes_eq}
 use Rattle.dump_io.specs.Counts.{plus_capped}
 use Rattle.dump_io.specs.Dumps.{IsNamed, Files, Now, closed, told, sized, size_of, Use}
@@ -10,6 +10,7 @@ use Rattle.section_index.specs.declared.index.State.TheVariants.{Whole, Truncate
 use Rattle.section_index.specs.declared.opening.OpenFault.{OpenFault}
 use Rattle.section_index.specs.declared.opening.OpenFault.TheVariants.{TooLarge, Read, Memory}
 use Rattle.section_index.specs.declared.opening.Version.{Version}
+use Rattle.section_index.specs.declared.opening.Version.TheVariants.{V05}
 use Rattle.section_index.specs.Opening.{IsAccepted, IsRefusedFor, first_id, version_named}
 use Rattle.section_index.specs.Sections.{Section, sections_of, tag_of}
 use Rattle.section_index.specs.Tiling.{Tile}
@@ -46,6 +47,10 @@ state_of headers = if bytes_eq (tag_of (last_text headers)) (codes "end") then W
 abbrev pub IsLastPlace : State → ℕ → Type 0
 IsLastPlace Whole count = Unit {0}
 IsLastPlace (TruncatedIn i) count = i + 1 ≡ count
+
+-- the index of the bytes of an accepted dump, whose first line names a version that is read
+abbrev pub index_of : List ℕ → Contents
+index_of bytes = record { headers = headers bytes; size = length bytes; version = unwrap_or (version_named (first_id bytes)) V05 }
 
 -- the index is that of these bytes
 pub record IsIndexOf (bytes : List ℕ) (index : Contents) : Type 0 where

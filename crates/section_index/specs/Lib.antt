@@ -2,6 +2,7 @@ pub mod Bodies
 pub mod Cuts
 pub mod Index
 pub mod Inner
+pub mod Laws
 pub mod Lookups
 pub mod Opening
 pub mod Sections

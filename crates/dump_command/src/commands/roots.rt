@@ -4,7 +4,6 @@ ghost use Rattle.binary_refs.specs.Previews.{AreFor};
 ghost use Rattle.dump_io.specs.Dumps.{used};
 ghost use Rattle.dump_io.specs.Sinks.{changed};
 ghost use Rattle.dump_command.specs.Command.{roots};
-ghost use Rattle.dump_command.specs.Terms.{roots_tag};
 ghost use Rattle.dump_command.specs.Inner.Loads.{Loads, Runs};
 ghost use Rattle.dump_command.specs.Inner.TermLoads.{HasPlaces, roots_text};
 
@@ -28,16 +27,6 @@ struct Loaded {
     previews: Previews,
 }
 
-fn roots_tag(kind: RootKind) -> &'static [u8]
-    ensures { result.now ≡ roots_tag kind }
-{
-    match kind {
-        RootKind::Stack => b"proc_stack",
-        RootKind::Dict => b"proc_dictionary",
-        RootKind::Mail => b"proc_messages",
-    }
-}
-
 // Each body is judged before any is read.
 fn load<D: Dumps>(
     alloc: Global,
@@ -54,7 +43,7 @@ fn load<D: Dumps>(
 {
     let index = open(alloc, file, limits, dumps)?;
     find_process(alloc, &index, pid)?;
-    let place = index.first(roots_tag(kind), Some(pid));
+    let place = index.first(kind.tag(), Some(pid));
     judge_body(&index, place, limits)?;
     let heap = Heap::load(alloc, dumps, &index, pid, limits)?;
     let previews = Previews::load(alloc, dumps, &index, &heap)?;

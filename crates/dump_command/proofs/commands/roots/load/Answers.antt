@@ -36,7 +36,7 @@ returns-in_err-judge_body-clause-loads g c = λ nodes marked.
     let index = c.in_ok-index.index in
     let place = c.first-place.result in
     let here : section_in index place ≡ roots_section c.args.kind pid (sections_in index) =
-    section-named c.roots_tag.result.now pid index place c.first-place.ensures.place ∙ ap (λ t. named_section t pid (sections_in index)) c.roots_tag.ensures in
+    section-named c.tag.result.now pid index place c.first-place.ensures.place ∙ ap (λ t. named_section t pid (sections_in index)) c.tag.ensures in
     rw (p.1, p.2) (IsStopped-judged cmd c.args.file.now _ _ index 0 (too_large limits.section (one_of (section_in index place))) _ refl c.in_ok-index.ensures
     (record { most = λ bytes all. omega arith }) c.in_err-judge_body.ensures
     (λ why bytes is all. refused-loaded cmd bytes limits index all.of c.in_ok-find_process.ensures
@@ -53,7 +53,7 @@ returns-in_err-heap-clause-loads g c = λ nodes marked.
     let index = c.in_ok-index.index in
     let place = c.first-place.result in
     let here : section_in index place ≡ roots_section c.args.kind pid (sections_in index) =
-    section-named c.roots_tag.result.now pid index place c.first-place.ensures.place ∙ ap (λ t. named_section t pid (sections_in index)) c.roots_tag.ensures in
+    section-named c.tag.result.now pid index place c.first-place.ensures.place ∙ ap (λ t. named_section t pid (sections_in index)) c.tag.ensures in
     let small : too_large limits.section (one_of (roots_section c.args.kind pid (sections_in index))) ≡ None =
     ap (λ s. too_large limits.section (one_of s)) (sym here) ∙ c.in_ok-judge_body.ensures in
     let opened = HasOpened-read d.files d.now d.faults d.taken c.args.dumps.now c.open.new.dumps c.load.new.dumps _ _ index 0 _ c.in_ok-index.ensures read.reads in
@@ -100,7 +100,7 @@ returns-in_err-body-clause-loads g c = λ nodes marked.
     let heap = c.in_ok-heap.heap in
     let place = c.first-place.result in
     let here : section_in index place ≡ roots_section c.args.kind pid (sections_in index) =
-    section-named c.roots_tag.result.now pid index place c.first-place.ensures.place ∙ ap (λ t. named_section t pid (sections_in index)) c.roots_tag.ensures in
+    section-named c.tag.result.now pid index place c.first-place.ensures.place ∙ ap (λ t. named_section t pid (sections_in index)) c.tag.ensures in
     let opened = HasOpened-read d.files d.now d.faults d.taken c.args.dumps.now c.open.new.dumps c.load.new.dumps _ _ index 0 _ c.in_ok-index.ensures read.reads in
     let opened_then = HasOpened-read d.files d.now d.faults d.taken c.args.dumps.now c.load.new.dumps c.load-2.new.dumps _ _ index _ _ opened shown.reads in
     let opened_last = HasOpened-read d.files d.now d.faults d.taken c.args.dumps.now c.load-2.new.dumps c.read_or_empty.new.dumps _ _ index _ _ opened_then last.reads in
@@ -125,7 +125,7 @@ returns-clause-loads g c = λ nodes marked.
     let body = c.in_ok-body.body in
     let place = c.first-place.result in
     let here : section_in index place ≡ roots_section kind pid (sections_in index) =
-    section-named c.roots_tag.result.now pid index place c.first-place.ensures.place ∙ ap (λ t. named_section t pid (sections_in index)) c.roots_tag.ensures in
+    section-named c.tag.result.now pid index place c.first-place.ensures.place ∙ ap (λ t. named_section t pid (sections_in index)) c.tag.ensures in
     let small : too_large limits.section (one_of (roots_section kind pid (sections_in index))) ≡ None =
     ap (λ s. too_large limits.section (one_of s)) (sym here) ∙ c.in_ok-judge_body.ensures in
     let opened = HasOpened-read d.files d.now d.faults d.taken c.args.dumps.now c.open.new.dumps c.load.new.dumps _ _ index 0 _ c.in_ok-index.ensures read.reads in

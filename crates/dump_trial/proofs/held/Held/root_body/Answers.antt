@@ -7,7 +7,7 @@ pub returns-in_default-clause-body : goal.returns-in_default-clause-body
 returns-in_default-clause-body c =
     let same = index-opened _ _ _ c.self.invariant in
     rw (sym c.self.view_is)
-    (c.new.ensures.items ∙ sym (root-at _ c.self.inside.index c.args.kind _ c.args.pid.now _ same c.tag_for.ensures (sym c.in_default.is ∙ c.first.ensures.place)))
+    (c.new.ensures.items ∙ sym (root-at _ c.self.inside.index c.args.kind _ c.args.pid.now _ same c.tag.ensures (sym c.in_default.is ∙ c.first.ensures.place)))
 
 pub of_body-requires : goal.of_body-requires
 of_body-requires c =
@@ -19,6 +19,6 @@ returns-clause-body c =
     elim c.match-read_body.branch [
       | in-Ok w ↦ rw (w.result-is, sym c.self.view_is)
           (read-opened _ _ _ _ _ c.self.invariant w.in-Ok.ensures.body
-          ∙ sym (root-at _ c.self.inside.index c.args.kind _ c.args.pid.now _ (index-opened _ _ _ c.self.invariant) c.tag_for.ensures (sym c.in-Some.is ∙ c.first.ensures.place)))
+          ∙ sym (root-at _ c.self.inside.index c.args.kind _ c.args.pid.now _ (index-opened _ _ _ c.self.invariant) c.tag.ensures (sym c.in-Some.is ∙ c.first.ensures.place)))
       | in-Err w ↦ rw w.result-is tt
     ]
