@@ -2,6 +2,7 @@
 use Rattle.std.specs.Prelude.{ℕ, Bool, List, [], ◌∷◌, ◌++◌, length, map, position, slice_get, Option, None, Some, codes, unwrap_or, if◌then◌else◌}
 use Rattle.std.specs.List.{between, filter_map}
 use Rattle.std.specs.Option.{option_and_then, option_map}
+use Rattle.dump_io.specs.Lines.{headers}
 use Rattle.section_index.specs.Index.{index_of, state_of}
 use Rattle.section_index.specs.Lookups.{is_named}
 use Rattle.section_index.specs.Sections.{Section, section, sections}
