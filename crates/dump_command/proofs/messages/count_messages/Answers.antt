@@ -6,7 +6,7 @@ use Rattle.dump_io.specs.Laws.Reads.{ReadsAtMost-then, ReadsAtMost-both}
 use Rattle.section_index.specs.Index.{sections_in, state_of}
 use Rattle.dump_command.specs.Audits.{mail_in}
 use Rattle.dump_command.proofs.MailPlaces.{bodies-more, bodies-upto}
-use Rattle.dump_command.proofs.messages.count_each.Goals as goal
+use Rattle.dump_command.proofs.messages.count_messages.Goals as goal
 
 pub returns-in_err-count-clause-reads : goal.returns-in_err-count-clause-reads
 returns-in_err-count-clause-reads g c =
