@@ -49,25 +49,6 @@ status-whole a = of (findings a)
     of [] = refl
     of (f ∷ fs) = refl
 
--- the first of two lists of bodies wasn't loaded
-pub IsStopped-bodies_first : (cmd : Command) (name : List ℕ) (limits : Numbers) (device step : Use) (index : Contents) (more : ℕ) (ss rest : List Section) (fault : BodyFault) → file_of cmd ≡ Some name
-    → HasOpened name limits device index more → IsAllowed cmd limits device index more
-    → AreRefused ss limits.section step fault → (DeviceFailed step → DeviceFailed device)
-    → ((bytes : List ℕ) → IsIndexed bytes limits index device.now_after → refusal_opened cmd bytes limits ≡ too_large limits.section (ss ++ rest))
-    → IsStopped cmd limits device (stop_of_body fault)
-IsStopped-bodies_first cmd name limits device step index more ss rest body_faults.Read named opened few cause later large =
-    IsStopped-unread cmd name limits device index more named opened few (later cause.0)
-IsStopped-bodies_first cmd name limits device step index more ss rest body_faults.Memory named opened few cause later large =
-    IsStopped-no_memory cmd name limits device index more named opened few
-IsStopped-bodies_first cmd name limits device step index more ss rest (body_faults.SectionTooLarge at len) named opened few cause later large =
-    IsStopped-refused cmd name limits device index more (SectionTooLarge at len) named opened few tt
-    (λ bytes all. large bytes all ∙ too_large-append limits.section ss rest
-    ∙ ap (λ o. option_or o (too_large limits.section rest)) (large-refused (first_large limits.section ss) at len cause))
-
--- where none of the first is too large the second decides
-pub too_large-second : (limit : ℕ) (ss rest : List Section) → first_large limit ss ≡ None → too_large limit (ss ++ rest) ≡ too_large limit rest
-too_large-second limit ss rest none = too_large-append limit ss rest ∙ ap (λ o. option_or o (too_large limit rest)) (none_refused limit ss none)
-
 -- all was loaded, for a report with this status
 pub IsReady-with : (cmd : Command) (name : List ℕ) (limits : Numbers) (device : Use) (index : Contents) (more : ℕ) (text : List ℕ) (status : ℕ) → file_of cmd ≡ Some name
     → HasOpened name limits device index more → IsAllowed cmd limits device index more

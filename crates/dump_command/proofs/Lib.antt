@@ -1,4 +1,5 @@
 pub mod Alone
+pub mod AuditBodies
 pub mod Audits
 pub mod BinaryLoads
 pub mod Endings

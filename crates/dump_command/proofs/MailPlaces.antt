@@ -70,7 +70,7 @@ or-none : {X : Type 0} (o : Option X) → option_or o None ≡ o
 or-none None = refl
 or-none (Some x) = refl
 
-or-some : {X : Type 0} (o more : Option X) → is_some o ≡ true → option_or o more ≡ o
+pub or-some : {X : Type 0} (o more : Option X) → is_some o ≡ true → option_or o more ≡ o
 or-some None more is = absurd (let no : ⊥ = cc (is) in no)
 or-some (Some x) more is = refl
 

@@ -11,6 +11,7 @@
 //! to which the faults of all layers come by `?`; [`run`] makes a status of [`status`] and a line of it.
 #![tactic(auto)]
 
+mod audit_bodies;
 mod budgets;
 mod commands;
 mod ending;

@@ -7,7 +7,7 @@ ghost use Rattle.dump_command.specs.Audits.{mailbox_place};
 ghost use Rattle.dump_command.specs.Inner.Mailboxes.{AreMailboxes, IsWithin, mailbox_id};
 
 use indexmap::IndexMap;
-use process_table::Procs;
+use process_table::ProcSections;
 use section_index::Index;
 use std::alloc::{AllocError, Global};
 
@@ -58,19 +58,20 @@ fn find(alloc: Global, index: &Index) -> Result<IndexMap<Vec<u8>, usize>, AllocE
     Ok(places)
 }
 
-/// The place of the mailbox of each process, in the order of the table.
+/// The place of the mailbox of each process, in the order of the processes.
 pub(crate) fn mailboxes(
     alloc: Global,
     index: &Index,
-    procs: &Procs,
+    found: &ProcSections,
 ) -> Result<Vec<Option<usize>>, AllocError>
-    ensures places { IfOk result (λ places. places.items ≡ map (mailbox_place (sections_in index.now)) (map (λ p. p.pid) procs.now.processes)) }
+    ensures places { IfOk result (λ places. places.items ≡ map (mailbox_place (sections_in index.now)) (map (λ p. p.0) found.now.places)) }
     ensures within { IfOk result (λ places. All (IsWithin index.now) places.items) }
 {
-    let found = find(alloc, index)?;
+    let firsts = find(alloc, index)?;
     let mut places = Vec::new(alloc);
-    for p in 0..procs.len() {
-        let place = found.get(procs.at(p).pid).copied();
+    for p in 0..found.len() {
+        let (pid, _section) = found.at(p);
+        let place = firsts.get(pid).copied();
         places.push(place)?;
     }
     Ok(places)

@@ -1,16 +1,14 @@
 // The messages of processes are counted, one mailbox after another.
-ghost use Rattle.std.specs.Prelude.{◌≡◌, ℕ, List, [], ◌∷◌, ◌<◌, ◌≤◌, true, length, map, All, None, IfOk, IfErr, OnOk};
+ghost use Rattle.std.specs.Prelude.{◌≡◌, ℕ, List, [], ◌∷◌, ◌<◌, ◌≤◌, length, map, All, IfOk, IfErr};
 ghost use Rattle.dump_io.specs.Dumps.{told, used, ReadsAtMost};
 ghost use Rattle.section_index.specs.Bodies.{section_at, body_length};
 ghost use Rattle.section_index.specs.Index.{IsBuiltOver, sections_in, state_of};
-ghost use Rattle.section_rows.specs.Loading.{bodies_length, first_large, large_fault, AreRefused};
+ghost use Rattle.section_rows.specs.Loading.{bodies_length, large_fault};
 ghost use Rattle.dump_audit.specs.Findings.{is_cut};
-ghost use Rattle.dump_command.specs.Audits.{mail_at, mail_in, mailbox_places, mailboxes_at, more_sections, pids_in};
+ghost use Rattle.dump_command.specs.Audits.{mail_at, mail_in, mailboxes_at};
 ghost use Rattle.dump_command.specs.Inner.Mailboxes.{IsSmall, IsUncounted, IsWithin};
 
-use crate::mailboxes::mailboxes;
 use dump_io::{Dumps, Limits};
-use process_table::Procs;
 use root_views::messages;
 use section_index::{BodyFault, Index, State, read_body};
 use std::alloc::Global;
@@ -41,8 +39,8 @@ fn large_at(index: &Index, place: Option<usize>, limits: &Limits) -> Option<Body
     })
 }
 
-// The refusal of the first mailbox that is too large.
-fn large(index: &Index, places: &[Option<usize>], limits: &Limits) -> Option<BodyFault>
+/// The refusal of the first of the mailboxes at some places that is too large.
+pub(crate) fn large(index: &Index, places: &[Option<usize>], limits: &Limits) -> Option<BodyFault>
     requires { All (IsWithin index.now) places.now }
     ensures { result ≡ large_fault limits.now.section (mailboxes_at (sections_in index.now) places.now) }
 {
@@ -98,8 +96,9 @@ fn count_in<D: Dumps>(
     }
 }
 
-// Counts the messages of mailboxes that are none of them too large, one after another.
-fn count_each<D: Dumps>(
+/// Counts the messages of the mailboxes at some places, of which none is too large. Each is loaded, counted and given up
+/// in turn.
+pub(crate) fn count_messages<D: Dumps>(
     alloc: Global,
     dumps: &mut D,
     index: &Index,
@@ -122,30 +121,4 @@ fn count_each<D: Dumps>(
         }
     }
     Ok(counts)
-}
-
-/// Counts the messages of each process of the table. All mailboxes are judged before one is read, and each is loaded,
-/// counted and given up in turn.
-pub(crate) fn count_messages<D: Dumps>(
-    alloc: Global,
-    dumps: &mut D,
-    index: &Index,
-    procs: &Procs,
-    limits: &Limits,
-) -> Result<Vec<Option<u64>>, BodyFault>
-    requires over { IsBuiltOver (D.now dumps.old) index.now }
-    requires pids { map (λ p. p.pid) procs.now.processes ≡ pids_in (sections_in index.now) }
-    ensures reads { ReadsAtMost (used D.files D.now D.faults D.taken dumps.old dumps.new) (bodies_length (more_sections true (sections_in index.now))) }
-    ensures counts { IfOk result (λ counts. (bytes : List ℕ) → D.now dumps.old ≡ told bytes → counts.items ≡ map (mail_in bytes (state_of index.now.headers) (sections_in index.now)) (mailbox_places (sections_in index.now))) }
-    ensures all { IfOk result (λ counts. length counts.items ≡ length procs.now.processes) }
-    ensures loaded { OnOk result (first_large limits.now.section (more_sections true (sections_in index.now)) ≡ None) }
-    ensures fault { IfErr result (AreRefused (more_sections true (sections_in index.now)) limits.now.section (used D.files D.now D.faults D.taken dumps.old dumps.new)) }
-{
-    let Ok(places) = mailboxes(alloc, index, procs) else {
-        return Err(BodyFault::Memory);
-    };
-    if let Some(fault) = large(index, places.as_slice(), limits) {
-        return Err(fault);
-    }
-    count_each(alloc, dumps, index, places.as_slice(), limits)
 }

@@ -14,17 +14,17 @@ use Rattle.section_index.specs.Lookups.{has_tag, is_named}
 use Rattle.section_index.specs.Sections.{Section, id_of, sections, sections_of}
 use Rattle.section_rows.specs.Loading.{sections_at}
 use Rattle.section_rows.specs.Rows.{Row, rows_of, body_of}
-use Rattle.process_table.specs.Records.{Placed, placed, is_process, pid_of, records, record_sections, repeated}
+use Rattle.process_table.specs.Records.{Placed, ProcPlaces, placed, is_process, named_place, proc_places, pid_of, records, record_sections, repeated}
 use Rattle.process_table.specs.Processes.{Process, ProcessTable, process_in, process_table, IsIn, IsOver}
-use Rattle.process_table.specs.Inner.Finding.{named_places, named_place, AreFound, IsRecordOf}
+use Rattle.process_table.specs.Inner.Finding.{Places, named_places, AreFound, IsRecordOf}
 use Rattle.process_table.specs.declared.finding.Found.{Found}
 use Rattle.process_table.specs.Inner.Joined.{joined, all_joined, field_columns}
-use Rattle.process_table.proofs.Joining.{pids-all_joined}
+use Rattle.process_table.proofs.Joining.{length-named, pids-all_joined}
 
--- the sections at the places that the map keeps are those of the records
-pub sections_at-records : (index : Contents) (rs : List Placed) (entries : List (Vec ℕ × ℕ)) → map (λ (e : Vec ℕ × ℕ). (e.0.items, e.1)) entries ≡ map named_place rs
-    → All (IsRecordOf index) rs → sections_at index (map (λ (e : Vec ℕ × ℕ). e.1) entries) ≡ map (λ (r : Placed). r.1) rs
-sections_at-records index rs entries same all = ap (sections_at index) (places_of entries rs same) ∙ sections rs all
+-- the places that the map keeps are those of the records
+pub places-records : (rs : List Placed) (entries : List (Vec ℕ × ℕ)) → map (λ (e : Vec ℕ × ℕ). (e.0.items, e.1)) entries ≡ map named_place rs
+    → map (λ (e : Vec ℕ × ℕ). e.1) entries ≡ map (λ (r : Placed). r.0) rs
+places-records rs entries same = kept entries ∙ ap (map (λ (e : List ℕ × ℕ). e.1)) same ∙ named rs
   where
     named : (rs : List Placed) → map (λ (e : List ℕ × ℕ). e.1) (map named_place rs) ≡ map (λ (r : Placed). r.0) rs
     named [] = refl
@@ -34,30 +34,19 @@ sections_at-records index rs entries same all = ap (sections_at index) (places_o
     kept [] = refl
     kept (e ∷ entries) = ap (λ l. e.1 ∷ l) (kept entries)
 
-    places_of : (entries : List (Vec ℕ × ℕ)) (rs : List Placed) → map (λ (e : Vec ℕ × ℕ). (e.0.items, e.1)) entries ≡ map named_place rs
-        → map (λ (e : Vec ℕ × ℕ). e.1) entries ≡ map (λ (r : Placed). r.0) rs
-    places_of entries rs same = kept entries ∙ ap (map (λ (e : List ℕ × ℕ). e.1)) same ∙ named rs
-
-    sections : (rs : List Placed) → All (IsRecordOf index) rs → sections_at index (map (λ (r : Placed). r.0) rs) ≡ map (λ (r : Placed). r.1) rs
-    sections [] all = refl
-    sections (r ∷ rs) all =
-        ap (λ s. s ∷ sections_at index (map (λ (p : Placed). p.0) rs)) (All-head (IsRecordOf index) r rs all).section
-        ∙ ap (λ l. r.1 ∷ l) (sections rs (All-tail (IsRecordOf index) r rs all))
+-- the sections at these places are those of the records
+pub sections_at-records : (index : Contents) (rs : List Placed) → All (IsRecordOf index) rs → sections_at index (map (λ (r : Placed). r.0) rs) ≡ map (λ (r : Placed). r.1) rs
+sections_at-records index [] all = refl
+sections_at-records index (r ∷ rs) all =
+    ap (λ s. s ∷ sections_at index (map (λ (p : Placed). p.0) rs)) (All-head (IsRecordOf index) r rs all).section
+    ∙ ap (λ l. r.1 ∷ l) (sections_at-records index rs (All-tail (IsRecordOf index) r rs all))
 
 -- and these places are within the index
-pub places-within : (index : Contents) (rs : List Placed) (entries : List (Vec ℕ × ℕ)) → map (λ (e : Vec ℕ × ℕ). (e.0.items, e.1)) entries ≡ map named_place rs
-    → All (IsRecordOf index) rs → All (λ place. place < length index.headers) (map (λ (e : Vec ℕ × ℕ). e.1) entries)
-places-within index rs entries same all = subst (All (λ place. place < length index.headers)) (sym (places_named entries ∙ ap (map (λ (e : List ℕ × ℕ). e.1)) same)) (inside rs all)
-  where
-    places_named : (entries : List (Vec ℕ × ℕ)) → map (λ (e : Vec ℕ × ℕ). e.1) entries ≡ map (λ (e : List ℕ × ℕ). e.1) (map (λ (e : Vec ℕ × ℕ). (e.0.items, e.1)) entries)
-    places_named [] = refl
-    places_named (e ∷ entries) = ap (λ l. e.1 ∷ l) (places_named entries)
-
-    inside : (rs : List Placed) → All (IsRecordOf index) rs → All (λ place. place < length index.headers) (map (λ (e : List ℕ × ℕ). e.1) (map named_place rs))
-    inside [] all = All-nil (λ place. place < length index.headers)
-    inside (r ∷ rs) all =
-        All-cons (λ place. place < length index.headers) r.0 (map (λ (e : List ℕ × ℕ). e.1) (map named_place rs)) (All-head (IsRecordOf index) r rs all).place
-        (inside rs (All-tail (IsRecordOf index) r rs all))
+pub places-within : (index : Contents) (rs : List Placed) → All (IsRecordOf index) rs → All (λ place. place < length index.headers) (map (λ (r : Placed). r.0) rs)
+places-within index [] all = All-nil (λ place. place < length index.headers)
+places-within index (r ∷ rs) all =
+    All-cons (λ place. place < length index.headers) r.0 (map (λ (p : Placed). p.0) rs) (All-head (IsRecordOf index) r rs all).place
+    (places-within index rs (All-tail (IsRecordOf index) r rs all))
 
 -- the processes of a dump whose bytes are told: places and rows are those of its records
 pub all_joined-records : (bytes : List ℕ) (rs : List Placed)
@@ -128,29 +117,39 @@ sections_told now index bytes over same =
     let is : IsIndexOf bytes index = subst (λ (n : Now). IsBuiltOver n index) same over in
     ap (λ hs. sections_of hs index.size) is.headers ∙ ap (λ n. sections_of (headers bytes) n) is.size
 
--- a table that is put together of what was found among the sections of an index, and of the rows of the records
-module _ (index : Contents) (found : Found) (rows : List Row) (are : AreFound found (placed (sections_in index)))
-    (places : map (λ (row : Row). row.at) rows ≡ map (λ (s : Section). s.at) (record_sections (sections_in index))) where
-  pub count_of_rows : length rows ≡ length (records (sections_in index))
+-- a table that is put together of what an index tells of its processes, and of the rows of the records
+module _ (index : Contents) (found : ProcPlaces) (places : Places) (passed : ℕ) (rows : List Row)
+    (same_found : found ≡ proc_places (sections_in index)) (same_places : named_places places ≡ found.places) (same_passed : passed ≡ found.repeated)
+    (in_rows : map (λ (row : Row). row.at) rows ≡ map (λ (s : Section). s.at) (record_sections (sections_in index))) where
+  are : named_places places ≡ map named_place (records (sections_in index))
+  are = same_places ∙ ap (λ (t : ProcPlaces). t.places) same_found
+
+  others : passed ≡ repeated (sections_in index)
+  others = same_passed ∙ ap (λ (t : ProcPlaces). t.repeated) same_found
+
+  count_of_rows : length rows ≡ length (records (sections_in index))
   count_of_rows =
-      sym (length-map rows (λ (row : Row). row.at)) ∙ ap length places ∙ length-map (record_sections (sections_in index)) (λ (s : Section). s.at)
+      sym (length-map rows (λ (row : Row). row.at)) ∙ ap length in_rows ∙ length-map (record_sections (sections_in index)) (λ (s : Section). s.at)
       ∙ length-map (records (sections_in index)) (λ (r : Placed). r.1)
 
-  pub IsOver-built : IsOver index (let t : ProcessTable = record { processes = all_joined (named_places found.places) rows; repeated = found.repeated } in t)
+  pub count_of_places : length rows ≡ length places.entries
+  count_of_places = count_of_rows ∙ sym (length-map (records (sections_in index)) named_place) ∙ sym (ap length are) ∙ length-named places
+
+  pub IsOver-built : IsOver index (let t : ProcessTable = record { processes = all_joined (named_places places) rows; repeated = passed } in t)
   IsOver-built = record {
-    sections = ap (λ l. map (λ (p : Process). p.section) (all_joined l rows)) are.records ∙ sections-records (records (sections_in index)) rows count_of_rows;
-    pids = ap (λ l. map (λ (p : Process). p.pid) (all_joined l rows)) are.records ∙ pids-records (records (sections_in index)) rows count_of_rows;
-    repeated = repeated_of found (sections_in index) are;
+    sections = ap (λ l. map (λ (p : Process). p.section) (all_joined l rows)) are ∙ sections-records (records (sections_in index)) rows count_of_rows;
+    pids = ap (λ l. map (λ (p : Process). p.pid) (all_joined l rows)) are ∙ pids-records (records (sections_in index)) rows count_of_rows;
+    repeated = others;
   }
 
-  pub All-named-built : All (IsRecordOf index) (records (sections_in index)) → All (IsIn index) (all_joined (named_places found.places) rows)
-  All-named-built all = subst (λ l. All (IsIn index) (all_joined l rows)) (sym are.records) (All-named index (records (sections_in index)) rows all)
+  pub All-named-built : All (IsRecordOf index) (records (sections_in index)) → All (IsIn index) (all_joined (named_places places) rows)
+  All-named-built all = subst (λ l. All (IsIn index) (all_joined l rows)) (sym are) (All-named index (records (sections_in index)) rows all)
 
   pub built_told : (bytes : List ℕ) → sections_in index ≡ sections bytes → rows ≡ rows_of bytes field_columns (record_sections (sections_in index))
-      → (let t : ProcessTable = record { processes = all_joined (named_places found.places) rows; repeated = found.repeated } in t) ≡ process_table bytes
+      → (let t : ProcessTable = record { processes = all_joined (named_places places) rows; repeated = passed } in t) ≡ process_table bytes
   built_told bytes same told_rows =
-      let processes : all_joined (named_places found.places) rows ≡ map (λ (r : Placed). process_in r (body_of bytes r.1)) (records (sections bytes)) =
-      ap (λ l. all_joined l rows) are.records ∙ ap (all_joined (map named_place (records (sections_in index)))) told_rows
+      let processes : all_joined (named_places places) rows ≡ map (λ (r : Placed). process_in r (body_of bytes r.1)) (records (sections bytes)) =
+      ap (λ l. all_joined l rows) are ∙ ap (all_joined (map named_place (records (sections_in index)))) told_rows
       ∙ all_joined-records bytes (records (sections_in index)) ∙ ap (λ l. map (λ (r : Placed). process_in r (body_of bytes r.1)) (records l)) same in
-      let others : found.repeated ≡ repeated (sections bytes) = repeated_of found (sections_in index) are ∙ ap repeated same in
-      λ i. record { processes = processes i; repeated = others i }
+      let passed_over : passed ≡ repeated (sections bytes) = others ∙ ap repeated same in
+      λ i. record { processes = processes i; repeated = passed_over i }

@@ -12,8 +12,8 @@ use Rattle.indexmap.specs.IndexMap.{get_by}
 use Rattle.section_index.specs.Lookups.{has_tag}
 use Rattle.section_index.specs.Sections.{Section, id_of}
 use Rattle.process_table.specs.declared.finding.Found.{Found}
-use Rattle.process_table.specs.Records.{Placed, is_process, pid_of, process_sections, first_of_each}
-use Rattle.process_table.specs.Inner.Finding.{Places, named_places, named_place, pid_in, AreFound}
+use Rattle.process_table.specs.Records.{Placed, is_process, named_place, pid_of, process_sections, first_of_each}
+use Rattle.process_table.specs.Inner.Finding.{Places, named_places, pid_in, AreFound}
 use Rattle.process_table.proofs.Firsts.{first_of_each-more, process_sections-more}
 
 pub pid_in-none : (s : Section) → pid_in s ≡ None → is_process s ≡ false

@@ -45,3 +45,16 @@ record_sections sections = map (λ r. r.1) (records sections)
 -- how many sections of processes were passed over
 abbrev pub repeated : List Section → ℕ
 repeated sections = length (process_sections (placed sections)) - length (records sections)
+
+-- the pid of a record, with the place of its section
+abbrev pub named_place : Placed → List ℕ × ℕ
+named_place r = (pid_of r.1, r.0)
+
+-- where the processes are: the pid and the place of each, and how many sections were passed over
+pub record ProcPlaces : Type 0 where
+  pub places : List (List ℕ × ℕ)
+  pub repeated : ℕ
+
+-- the processes of some sections, whatever their bodies hold
+abbrev pub proc_places : List Section → ProcPlaces
+proc_places sections = record { places = map named_place (records sections); repeated = repeated sections }

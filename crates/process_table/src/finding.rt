@@ -1,11 +1,11 @@
 // The first section of each process is found.
-ghost use Rattle.std.specs.Prelude.{◌≡◌, ◌+◌, ◌<◌, ◌≤◌, ◌^◌, length, take, slice_get, Some, OnOk, IfOk, All};
+ghost use Rattle.std.specs.Prelude.{◌≡◌, ◌+◌, ◌<◌, ◌≤◌, ◌^◌, length, take, slice_get, Some, OnOk, IfOk};
 ghost use Rattle.std.specs.Option.{option_copied};
 ghost use Rattle.dump_io.specs.Limits.{usual};
 ghost use Rattle.section_index.specs.Index.{sections_in};
 ghost use Rattle.section_index.specs.Bodies.{section_at};
-ghost use Rattle.process_table.specs.Records.{placed, records};
-ghost use Rattle.process_table.specs.Inner.Finding.{AreFound, IsRecordOf, pid_in};
+ghost use Rattle.process_table.specs.Records.{placed};
+ghost use Rattle.process_table.specs.Inner.Finding.{AreFound, pid_in};
 
 use indexmap::IndexMap;
 use section_index::Index;
@@ -54,7 +54,6 @@ fn find_at(alloc: Global, found: &mut Found, index: &Index, i: usize) -> Result<
 pub(crate) fn find(alloc: Global, index: &Index) -> Result<Found, AllocError>
     ensures found { IfOk result (λ found. AreFound found (placed (sections_in index.now))) }
     ensures count { IfOk result (λ found. length found.places.entries ≤ usual.sections) }
-    ensures records { OnOk result (All (IsRecordOf index.now) (records (sections_in index.now))) }
 {
     let mut found = Found {
         places: IndexMap::new(alloc),

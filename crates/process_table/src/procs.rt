@@ -1,23 +1,22 @@
 // The process table.
 ghost use Rattle.std.specs.Prelude.{◌≡◌, ℕ, List, ◌<◌, length, map, slice_get, None, Some, IfSome, IsSome, IfOk, OnOk, IfErr, All, position};
 ghost use Rattle.std.specs.Str.{bytes_eq};
-ghost use Rattle.indexmap.specs.IndexMap.{values};
 ghost use Rattle.dump_io.specs.Dumps.{told, used, ReadsAtMost};
 ghost use Rattle.section_index.specs.Index.{IsBuiltOver, sections_in};
 ghost use Rattle.section_rows.specs.Loading.{bodies_length, first_large, AreRefused};
 ghost use Rattle.section_rows.specs.Rows.{rows_of};
-ghost use Rattle.process_table.specs.Records.{records, record_sections};
+ghost use Rattle.process_table.specs.Records.{proc_places, records, record_sections};
 ghost use Rattle.process_table.specs.Processes.{AreBounded, IsIn, IsOver, process_table};
 ghost use Rattle.process_table.specs.Shown.{shown_process};
-ghost use Rattle.process_table.specs.Inner.Finding.{named_places, named_place, IsRecordOf};
+ghost use Rattle.process_table.specs.Inner.Finding.{named_places, IsRecordOf};
 ghost use Rattle.process_table.specs.Inner.Joined.{all_joined, AreJoined, field_columns};
 
-use crate::finding::find;
+use crate::proc_sections::{ProcSections, place_at};
 use dump_io::{Dumps, Limits};
 use indexmap::IndexMap;
 use section_index::{BodyFault, Index};
 use section_rows::{Column, Kept, SectionRows};
-use std::alloc::{AllocError, Global};
+use std::alloc::Global;
 use std::marker::Model;
 
 /// A process of a dump. A field is `None` exactly where the section's body has no such line.
@@ -59,24 +58,6 @@ impl Model for Procs {
     ghost invariant = { λ t. AreJoined t.places t.fields };
 }
 
-// The pid at a place, and the place of its section.
-fn place_at(places: &IndexMap<Vec<u8>, usize>, i: usize) -> (&[u8], usize)
-    requires { i < length places.now.entries }
-    ensures { slice_get (named_places places.now) i ≡ Some (result.0.now, result.1) }
-{
-    let Some((pid, section)) = places.get_index(i) else {
-        unreachable!()
-    };
-    (pid.as_slice(), *section)
-}
-
-// The places of the sections, in the order of the entries.
-fn sections_of(alloc: Global, places: &IndexMap<Vec<u8>, usize>) -> Result<Vec<usize>, AllocError>
-    ensures { IfOk result (λ sections. sections.items ≡ values places.now) }
-{
-    places.values().copied().collect(alloc)
-}
-
 // The process of the entry and the row at a place.
 fn joined_at<'a>(
     places: &'a IndexMap<Vec<u8>, usize>,
@@ -113,11 +94,11 @@ fn load_fields<D: Dumps>(
     alloc: Global,
     dumps: &mut D,
     index: &Index,
-    places: &IndexMap<Vec<u8>, usize>,
+    sections: &[usize],
     limits: &Limits,
 ) -> Result<SectionRows, BodyFault>
     requires over { IsBuiltOver (D.now dumps.old) index.now }
-    requires found { named_places places.now ≡ map named_place (records (sections_in index.now)) }
+    requires found { sections.now ≡ map (λ r. r.0) (records (sections_in index.now)) }
     requires records { All (IsRecordOf index.now) (records (sections_in index.now)) }
     ensures reads { ReadsAtMost (used D.files D.now D.faults D.taken dumps.old dumps.new) (bodies_length (record_sections (sections_in index.now))) }
     ensures rows { IfOk result (λ table. (bytes : List ℕ) → D.now dumps.old ≡ told bytes
@@ -128,10 +109,7 @@ fn load_fields<D: Dumps>(
     ensures fault { IfErr result (AreRefused (record_sections (sections_in index.now)) limits.now.section (used D.files D.now D.faults D.taken dumps.old dumps.new)) }
     ensures unread { IsSome (first_large limits.now.section (record_sections (sections_in index.now))) → dumps.new ≡ dumps.old }
 {
-    let Ok(sections) = sections_of(alloc, places) else {
-        return Err(BodyFault::Memory);
-    };
-    SectionRows::load(alloc, dumps, index, &sections, &FIELDS, limits)
+    SectionRows::load(alloc, dumps, index, sections, &FIELDS, limits)
 }
 
 impl Procs {
@@ -157,14 +135,41 @@ impl Procs {
         ensures fault { IfErr result (AreRefused (record_sections (sections_in index.now)) limits.now.section (used D.files D.now D.faults D.taken dumps.old dumps.new)) }
         ensures unread { IsSome (first_large limits.now.section (record_sections (sections_in index.now))) → dumps.new ≡ dumps.old }
     {
-        let Ok(found) = find(alloc, index) else {
+        let Ok(found) = ProcSections::find(alloc, index) else {
             return Err(BodyFault::Memory);
         };
-        let fields = load_fields(alloc, dumps, index, &found.places, limits)?;
+        Procs::read(alloc, dumps, index, found, limits)
+    }
+
+    /// Reads the bodies of the sections of processes that were found in an index, one after another. The index is one
+    /// that was built over the file that is open, and the file stays open.
+    ///
+    /// It gives what [`Procs::load`] does, which finds the processes first. A caller that has more to judge on the
+    /// index finds them by [`ProcSections::find`], and reads once it has judged.
+    pub fn read<D: Dumps>(
+        alloc: Global,
+        dumps: &mut D,
+        index: &Index,
+        found: ProcSections,
+        limits: &Limits,
+    ) -> Result<Procs, BodyFault>
+        requires over { IsBuiltOver (D.now dumps.old) index.now }
+        requires found { found ≡ proc_places (sections_in index.now) }
+        ensures reads { ReadsAtMost (used D.files D.now D.faults D.taken dumps.old dumps.new) (bodies_length (record_sections (sections_in index.now))) }
+        ensures table { IfOk result (λ procs. (bytes : List ℕ) → D.now dumps.old ≡ told bytes → procs ≡ process_table bytes) }
+        ensures over { IfOk result (IsOver index.now) }
+        ensures named { IfOk result (λ procs. All (IsIn index.now) procs.processes) }
+        ensures loaded { OnOk result (first_large limits.now.section (record_sections (sections_in index.now)) ≡ None) }
+        ensures fault { IfErr result (AreRefused (record_sections (sections_in index.now)) limits.now.section (used D.files D.now D.faults D.taken dumps.old dumps.new)) }
+        ensures unread { IsSome (first_large limits.now.section (record_sections (sections_in index.now))) → dumps.new ≡ dumps.old }
+    {
+        let _count = index.len();
+        let (places, sections, repeated) = found.into_parts();
+        let fields = load_fields(alloc, dumps, index, sections.as_slice(), limits)?;
         Ok(Procs {
-            places: found.places,
+            places,
             fields,
-            repeated: found.repeated,
+            repeated,
         })
     }
 

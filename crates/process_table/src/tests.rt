@@ -1,4 +1,4 @@
-use crate::{Kept, Procs};
+use crate::{Kept, ProcSections, Procs};
 use dump_io::{Failed, Limits, MemDumps, MemSink, Sink, put_dec, write_all};
 use section_index::{BodyFault, build};
 use std::alloc::Global;
@@ -62,4 +62,16 @@ fn a_body_that_is_not_read_is_a_fault(rt: HostRuntime) -> Result<(), Fail> {
         Err(BodyFault::Read) => Ok(()),
         _ => Err("no fault".into()),
     }
+}
+
+#[test]
+fn processes_are_found_without_a_read(rt: HostRuntime) -> Result<(), Fail> {
+    let mut dumps = MemDumps::holding(rt.alloc(), "V", DUMP, &[], &[4])?;
+    let usual = Limits::usual();
+    let index = build(rt.alloc(), &mut dumps, "V", &usual)?;
+    let found = ProcSections::find(rt.alloc(), &index)?;
+    assert_eq!(rt; found.len(), 2);
+    assert_eq!(rt; found.at(1), (b"<0.2.0>".as_slice(), 4usize));
+    assert!(rt; found.large(&index, &usual).is_none());
+    Ok(())
 }

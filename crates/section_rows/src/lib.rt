@@ -11,6 +11,7 @@ mod rows;
 mod store;
 
 pub use columns::{Column, Kept};
+pub use loading::large;
 pub use rows::SectionRows;
 
 #[cfg(test)]

@@ -15,8 +15,9 @@ use dump_io::{Dumps, Limits};
 use section_index::{BodyFault, Index, Section, read_body};
 use std::alloc::Global;
 
-// The refusal of the first section whose body is too large.
-pub(crate) fn large(index: &Index, sections: &[usize], limits: &Limits) -> Option<BodyFault>
+/// The refusal of the first of the sections at some places whose body has more bytes than the limit on sections.
+/// `None` comes exactly where each keeps to it. Nothing is read.
+pub fn large(index: &Index, sections: &[usize], limits: &Limits) -> Option<BodyFault>
     requires { All (λ i. i < length index.now.headers) sections.now }
     ensures { result ≡ large_fault limits.now.section (sections_at index.now sections.now) }
 {

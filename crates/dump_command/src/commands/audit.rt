@@ -1,20 +1,17 @@
 // `audit`: what there is to find in links, monitors and message queues.
-ghost use Rattle.std.specs.Prelude.{◌≡◌, ℕ, List, length, map, All, Some, None, IfOk, IfErr, IfSome, OnOk, if◌then◌else◌};
-ghost use Rattle.std.specs.Option.{option_map};
-ghost use Rattle.dump_io.specs.Dumps.{told, used, ReadsAtMost};
+ghost use Rattle.std.specs.Prelude.{◌≡◌, ℕ, All, IfOk};
+ghost use Rattle.dump_io.specs.Dumps.{used};
 ghost use Rattle.dump_io.specs.Sinks.{changed};
-ghost use Rattle.section_index.specs.Index.{IsBuiltOver, sections_in, state_of};
-ghost use Rattle.section_rows.specs.Loading.{bodies_length, first_large, AreRefused};
 ghost use Rattle.link_graph.specs.Graph.{graph_of};
 ghost use Rattle.dump_audit.specs.Findings.{findings};
 ghost use Rattle.dump_audit.specs.Fitting.{Fits};
-ghost use Rattle.dump_command.specs.Audits.{mail_in, mailbox_places, more_sections, pids_in, status_of};
+ghost use Rattle.dump_command.specs.Audits.{status_of};
 ghost use Rattle.dump_command.specs.Command.{audit};
 ghost use Rattle.dump_command.specs.Inner.Audits.{loaded_audit, IsAuditable, LoadsAudit};
 ghost use Rattle.dump_command.specs.Inner.Loads.{Runs};
 
+use crate::audit_bodies::load_bodies;
 use crate::ending::done_with;
-use crate::messages::count_messages;
 use crate::open::open;
 use crate::status::{DONE, FOUND};
 use crate::stop::Stop;
@@ -23,7 +20,7 @@ use dump_io::{Dumps, Limits, Sink};
 use link_graph::Graph;
 use process_table::Procs;
 use report_text::put_findings;
-use section_index::{BodyFault, Index};
+use section_index::Index;
 use std::alloc::{AllocError, Global};
 
 // What is audited, and in a full audit the numbers of messages of the processes.
@@ -32,31 +29,6 @@ struct Loaded {
     index: Index,
     procs: Procs,
     mails: Option<Vec<Option<u64>>>,
-}
-
-// The numbers of messages, for a full audit.
-fn load_mails<D: Dumps>(
-    alloc: Global,
-    dumps: &mut D,
-    index: &Index,
-    procs: &Procs,
-    full: bool,
-    limits: &Limits,
-) -> Result<Option<Vec<Option<u64>>>, BodyFault>
-    requires over { IsBuiltOver (D.now dumps.old) index.now }
-    requires pids { map (λ p. p.pid) procs.now.processes ≡ pids_in (sections_in index.now) }
-    ensures reads { ReadsAtMost (used D.files D.now D.faults D.taken dumps.old dumps.new) (bodies_length (more_sections full (sections_in index.now))) }
-    ensures counts { IfOk result (λ mails. (bytes : List ℕ) → D.now dumps.old ≡ told bytes → option_map (λ counts. counts.items) mails
-        ≡ (if full then Some (map (mail_in bytes (state_of index.now.headers) (sections_in index.now)) (mailbox_places (sections_in index.now))) else None)) }
-    ensures all { IfOk result (λ mails. IfSome mails (λ counts. length counts.items ≡ length procs.now.processes)) }
-    ensures loaded { OnOk result (first_large limits.now.section (more_sections full (sections_in index.now)) ≡ None) }
-    ensures fault { IfErr result (AreRefused (more_sections full (sections_in index.now)) limits.now.section (used D.files D.now D.faults D.taken dumps.old dumps.new)) }
-{
-    if !full {
-        return Ok(None);
-    }
-    let counts = count_messages(alloc, dumps, index, procs, limits)?;
-    Ok(Some(counts))
 }
 
 fn load<D: Dumps>(
@@ -70,12 +42,11 @@ fn load<D: Dumps>(
     ensures auditable { IfOk result IsAuditable }
 {
     let index = open(alloc, file, limits, dumps)?;
-    let procs = Procs::load(alloc, dumps, &index, limits)?;
-    let mails = load_mails(alloc, dumps, &index, &procs, full, limits)?;
+    let bodies = load_bodies(alloc, dumps, &index, full, limits)?;
     Ok(Loaded {
         index,
-        procs,
-        mails,
+        procs: bodies.procs,
+        mails: bodies.mails,
     })
 }
 

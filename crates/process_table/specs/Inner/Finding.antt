@@ -1,15 +1,16 @@
 -- Processes are found one section after another.
-use Rattle.std.specs.Prelude.{◌≡◌, ℕ, ◌+◌, ◌<◌, true, List, length, map, Option, None, codes, if◌then◌else◌}
+use Rattle.std.specs.Prelude.{◌≡◌, ℕ, ◌+◌, ◌<◌, ◌≤◌, true, List, length, map, Option, None, codes, if◌then◌else◌}
 use Rattle.std.specs.Global.{Vec}
 use Rattle.std.specs.declared.hash.FoldHasher.{FoldHasher}
 use Rattle.std.specs.declared.hash.BuildHasherDefault.{BuildHasherDefault}
-use Rattle.indexmap.specs.IndexMap.{IndexMap}
+use Rattle.indexmap.specs.IndexMap.{IndexMap, values}
+use Rattle.dump_io.specs.Limits.{usual}
 use Rattle.section_index.specs.Bodies.{section_at}
 use Rattle.section_index.specs.Index.{Contents}
 use Rattle.section_index.specs.Lookups.{has_tag}
 use Rattle.section_index.specs.Sections.{Section, id_of}
 use Rattle.process_table.specs.declared.finding.Found.{Found}
-use Rattle.process_table.specs.Records.{Placed, is_process, process_sections, first_of_each, pid_of}
+use Rattle.process_table.specs.Records.{Placed, is_process, process_sections, first_of_each, named_place}
 
 -- the pid, where the section is that of a process
 abbrev pub pid_in : Section → Option (List ℕ)
@@ -22,8 +23,10 @@ Places = IndexMap (Vec ℕ) ℕ (BuildHasherDefault FoldHasher)
 abbrev pub named_places : Places → List (List ℕ × ℕ)
 named_places places = map (λ entry. (entry.0.items, entry.1)) places.entries
 
-abbrev pub named_place : Placed → List ℕ × ℕ
-named_place p = (pid_of p.1, p.0)
+-- these are the places of the sections, of which there are no more than an index has
+pub record AreListed (places : Places) (sections : List ℕ) : Type 0 where
+  pub listed : sections ≡ values places
+  pub count : length places.entries ≤ usual.sections
 
 -- these are the first sections of the processes among some sections, and the number of the others
 pub record AreFound (found : Found) (among : List Placed) : Type 0 where

@@ -5,4 +5,4 @@ use Rattle.dump_command.proofs.mailboxes.mailboxes.Given as goal
 
 -- the places of the processes so far
 abbrev pub invariant-loop-p : goal.invariant-loop-p
-invariant-loop-p l = l.places.items ≡ map (mailbox_place (sections_in l.index)) (map (λ p. p.pid) (take l.p l.procs.processes))
+invariant-loop-p l = l.places.items ≡ map (mailbox_place (sections_in l.index)) (map (λ p. p.0) (take l.p l.found.places))

@@ -1,10 +1,9 @@
-use Rattle.std.proofs.Common.{take, subst, sym, ◌∙◌, arith}
+use Rattle.std.proofs.Common.{take, subst, arith}
 use Rattle.std.proofs.lemmas.List.{take_all, length-take}
 use Rattle.std.proofs.lemmas.List.FromFn.{length-enumerate_from}
 use Rattle.section_index.specs.Index.{sections_in}
 use Rattle.process_table.specs.Records.{placed}
 use Rattle.process_table.specs.Inner.Finding.{AreFound}
-use Rattle.process_table.proofs.Placing.{All-records}
 use Rattle.process_table.proofs.Hearing.{entries-few}
 use Rattle.process_table.proofs.finding.find.Goals as goal
 
@@ -17,6 +16,3 @@ pub returns-clause-count : goal.returns-clause-count
 returns-clause-count c =
     let sections = placed (sections_in c.args.index.now) in
     omega (arith, entries-few c.loop-i.found (take c.loop-i.i sections) c.loop-i.invariant, length-take c.loop-i.i sections, c.len-i-end.ensures.value, c.len-i-end.ensures.bounded.sections)
-
-pub returns-clause-records : goal.returns-clause-records
-returns-clause-records c = All-records c.args.index.now (sym c.len-i-end.ensures.sections ∙ c.len-i-end.ensures.value)

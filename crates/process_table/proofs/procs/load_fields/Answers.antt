@@ -13,15 +13,13 @@ use Rattle.process_table.proofs.procs.load_fields.Goals as goal
 pub load-requires-clause-places : goal.load-requires-clause-places
 load-requires-clause-places g c =
     let index = c.args.index.now in
-    subst (All (λ place. place < length index.headers)) (sym (c.deref.ensures.value ∙ c.in-Ok.ensures))
-    (places-within index (records (sections_in index)) c.args.places.now.entries c.requires.found c.requires.records)
+    subst (All (λ place. place < length index.headers)) (sym c.requires.found) (places-within index (records (sections_in index)) c.requires.records)
 
--- the sections that were loaded are those of the records
-are : (g : _) (c : goal.After-drop-sections g) → sections_at c.args.index.now c.deref.result.now ≡ record_sections (sections_in c.args.index.now)
+-- the sections that are loaded are those of the records
+are : (g : _) (c : goal.After-load g) → sections_at c.args.index.now c.args.sections.now ≡ record_sections (sections_in c.args.index.now)
 are g c =
     let index = c.args.index.now in
-    ap (sections_at index) (c.deref.ensures.value ∙ c.in-Ok.ensures)
-    ∙ sections_at-records index (records (sections_in index)) c.args.places.now.entries c.requires.found c.requires.records
+    ap (sections_at index) c.requires.found ∙ sections_at-records index (records (sections_in index)) c.requires.records
 
 pub returns-clause-reads : goal.returns-clause-reads
 returns-clause-reads g c =

@@ -3,7 +3,7 @@ use Rattle.dump_io.specs.Dumps.{told, used, ReadsAtMost}
 use Rattle.section_index.specs.Index.{sections_in, state_of}
 use Rattle.section_rows.specs.Loading.{bodies_length}
 use Rattle.dump_command.specs.Audits.{mail_in, mailboxes_at}
-use Rattle.dump_command.proofs.messages.count_each.Given as goal
+use Rattle.dump_command.proofs.messages.count_messages.Given as goal
 
 -- the messages of the mailboxes so far were counted
 abbrev pub invariant-loop-place : goal.invariant-loop-place
