@@ -44,7 +44,7 @@ impl<'a> Graph<'a> {
     pub fn build(alloc: Global, procs: &'a Procs) -> Result<Graph<'a>, AllocError>
         ensures { IfOk result (λ graph. graph ≡ graph_of procs.now.processes) }
     {
-        let mut lists = Vec::new(alloc);
+        let mut lists = Vec::with_capacity(alloc, procs.len())?;
         for p in 0..procs.len() {
             lists.push(links(alloc, procs.at(p).links)?)?;
         }

@@ -43,6 +43,8 @@ fn collected<'a>(alloc: Global, found: Entries<'a>) -> Result<Vec<Entry<'a>>, Al
     for entry in found {
         entries.push(entry)?;
     }
+    // Most lists are short, and the room that a vector takes ahead would outweigh their entries.
+    entries.shrink_to_fit();
     Ok(entries)
 }
 
