@@ -7,4 +7,5 @@ pub mod Examples
 pub mod Fronts
 pub mod KindLaws
 pub mod Sets
+pub mod Spans
 pub mod Taken
