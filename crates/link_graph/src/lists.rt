@@ -15,6 +15,7 @@ use crate::cutting::{Parts, Piece};
 use crate::kind_set::KindSet;
 use crate::kinds::kind;
 use crate::shapes::{Entry, EntryKind};
+use crate::spelling::says;
 use process_table::Kept;
 use std::alloc::{AllocError, Global};
 
@@ -85,12 +86,6 @@ fn push_kinds_from<'a>(
     ensures { OnOk result (KeepsKinds (piece_entries (drop from pieces.now)) sets.old.items sets.new.items) }
 {
     push_kinds(alloc, sets, &pieces[from..])
-}
-
-fn says(text: &[u8], wanted: &EntryKind<'_>) -> bool
-    ensures { result ≡ is_same_kind (shown_kind wanted.now) (kind_of text.now) }
-{
-    *wanted == kind(text)
 }
 
 fn is_among(pieces: &[Piece<'_>], wanted: &EntryKind<'_>) -> bool
