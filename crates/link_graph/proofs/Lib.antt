@@ -6,5 +6,7 @@ pub mod Cuts
 pub mod Examples
 pub mod Fronts
 pub mod KindLaws
+pub mod Said
 pub mod Sets
+pub mod Spans
 pub mod Taken

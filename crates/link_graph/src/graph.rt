@@ -1,14 +1,12 @@
 // The link lists of all processes of a dump.
 ghost use Rattle.std.specs.Prelude.{◌≡◌, ◌<◌, length, slice_get, Some, IfOk};
-ghost use Rattle.section_rows.specs.Rows.{IsBoundedCell};
-ghost use Rattle.section_rows.specs.Shown.{shown_cell};
 ghost use Rattle.link_graph.specs.Kinds.{Link, To, ToName, From};
-ghost use Rattle.link_graph.specs.Graph.{links_of, graph_of, links_at, has_kind};
+ghost use Rattle.link_graph.specs.Graph.{graph_of, links_at, has_kind};
 ghost use Rattle.link_graph.specs.Seen.{shown_kind, shown_entry};
 
-use crate::lists::LinkList;
+use crate::lists::Lists;
 use crate::shapes::{Entry, EntryKind};
-use process_table::{Kept, Procs};
+use process_table::Procs;
 use std::alloc::{AllocError, Global};
 use std::marker::Model;
 
@@ -16,27 +14,19 @@ use std::marker::Model;
 /// place in the process table, from 0.
 #[derive(Drop)]
 pub struct Graph<'a> {
-    lists: Vec<LinkList<'a>>,
+    lists: Lists<'a>,
 }
 
 impl<'a> Model for Graph<'a> {
     ghost use Rattle.std.specs.Prelude.{List};
     ghost use Rattle.link_graph.specs.Graph.{Links};
+    ghost use Rattle.link_graph.specs.Inner.Spans.{lists_in, AreSpans};
 
     ghost Value = { List Links };
 
-    ghost view = { λ graph. graph.lists.items };
-}
+    ghost view = { λ graph. lists_in graph.lists };
 
-// What a process with this link list holds.
-fn links<'a>(alloc: Global, list: Option<Kept<'a>>) -> Result<LinkList<'a>, AllocError>
-    requires { IsBoundedCell (shown_cell list) }
-    ensures { IfOk result (λ links. links ≡ links_of (shown_cell list.entry)) }
-{
-    match list {
-        None => Ok(LinkList::none(alloc)),
-        Some(list) => LinkList::read(alloc, list.value_at, list.text),
-    }
+    ghost invariant = { λ graph. AreSpans graph.lists };
 }
 
 impl<'a> Graph<'a> {
@@ -44,9 +34,9 @@ impl<'a> Graph<'a> {
     pub fn build(alloc: Global, procs: &'a Procs) -> Result<Graph<'a>, AllocError>
         ensures { IfOk result (λ graph. graph ≡ graph_of procs.now.processes) }
     {
-        let mut lists = Vec::new(alloc);
+        let mut lists = Lists::new(alloc, procs.len())?;
         for p in 0..procs.len() {
-            lists.push(links(alloc, procs.at(p).links)?)?;
+            lists.push(alloc, procs.at(p).links)?;
         }
         Ok(Graph { lists })
     }
@@ -58,8 +48,7 @@ impl<'a> Graph<'a> {
         requires { p < length self.now }
         ensures { result ≡ length (links_at self.now p).entries }
     {
-        let list = &self.lists[p];
-        list.len()
+        self.lists.count(p)
     }
 
     /// An entry of a process, by its number from 0.
@@ -68,8 +57,7 @@ impl<'a> Graph<'a> {
         requires number { n < length (links_at self.now p).entries }
         ensures { slice_get (links_at self.now p).entries n ≡ Some (shown_entry result) }
     {
-        let list = &self.lists[p];
-        list.entry(n)
+        self.lists.entry(p, n)
     }
 
     /// Whether a process has a link list that [`entries`](crate::reading::entries) doesn't read.
@@ -77,16 +65,14 @@ impl<'a> Graph<'a> {
         requires { p < length self.now }
         ensures { result ≡ (links_at self.now p).unread }
     {
-        let list = &self.lists[p];
-        list.is_unread()
+        self.lists.is_unread(p)
     }
 
     fn has(&self, p: usize, kind: &EntryKind<'_>) -> bool
         requires { p < length self.now }
         ensures { result ≡ has_kind (shown_kind kind.now) (links_at self.now p).entries }
     {
-        let list = &self.lists[p];
-        list.has(kind)
+        self.lists.has(p, kind)
     }
 
     /// Whether a process has a link to this pid. Pids and references are compared byte for byte, here and below.

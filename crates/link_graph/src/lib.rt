@@ -9,6 +9,7 @@ mod laws;
 mod lists;
 pub mod reading;
 pub mod shapes;
+mod spelling;
 mod texts;
 
 pub use graph::Graph;

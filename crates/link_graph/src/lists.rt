@@ -1,145 +1,205 @@
-// The link list of one process.
-ghost use Rattle.std.specs.Prelude.{◌≡◌, ◌+◌, ◌^◌, ◌<◌, length, map, slice_get, Some, IfOk};
+// The link lists of all processes, with their entries in one pool.
+ghost use Rattle.std.specs.Prelude.{◌≡◌, ◌+◌, ◌^◌, ◌<◌, ◌≤◌, [], length, map, drop, slice_get, Some, IfOk, OnOk};
+ghost use Rattle.section_rows.specs.Rows.{IsBoundedCell};
+ghost use Rattle.section_rows.specs.Shown.{shown_cell};
 ghost use Rattle.std.specs.List.{list_any};
 ghost use Rattle.link_graph.specs.Kinds.{is_same_kind};
 ghost use Rattle.link_graph.specs.Entries.{entries_at};
-ghost use Rattle.link_graph.specs.Graph.{links_in, no_links, has_kind};
+ghost use Rattle.link_graph.specs.Reading.{kind_of};
+ghost use Rattle.link_graph.specs.Graph.{links_of, links_in, no_links, links_at, has_kind};
 ghost use Rattle.link_graph.specs.Seen.{shown_kind, shown_entry};
-ghost use Rattle.link_graph.specs.Inner.Sets.{AreKindsOf, AreFound};
+ghost use Rattle.link_graph.specs.Inner.Sets.{AreKindsOf};
+ghost use Rattle.link_graph.specs.Inner.Spans.{piece_entries, Gains, KeepsKinds, lists_in, AreSpans, HasGained};
 
+use crate::cutting::{Parts, Piece};
 use crate::kind_set::KindSet;
-use crate::shapes::{Entries, Entry, EntryKind};
+use crate::kinds::kind;
+use crate::shapes::{Entry, EntryKind};
+use crate::spelling::says;
+use process_table::Kept;
 use std::alloc::{AllocError, Global};
-use std::marker::Model;
 
 // A list of no more entries is looked through; the kinds of a longer one are kept in a set.
 const SHORT: usize = 16;
 
-#[derive(Drop)]
-pub(crate) struct LinkList<'a> {
-    entries: Vec<Entry<'a>>,
-    // The kinds of the entries of a long list.
-    kinds: KindSet<'a>,
+// Where the entries of a process stand among those of all, and the place of their kinds, where they are many.
+#[derive(Clone, Copy)]
+pub(crate) struct Span {
+    from: usize,
+    upto: usize,
+    kinds: usize,
     unread: bool,
 }
 
-impl<'a> Model for LinkList<'a> {
-    ghost use Rattle.std.specs.Prelude.{map};
-    ghost use Rattle.link_graph.specs.Graph.{Links};
-    ghost use Rattle.link_graph.specs.Seen.{shown_entry};
-    ghost use Rattle.link_graph.specs.Inner.Sets.{HoldsEntries};
-
-    ghost Value = { Links };
-
-    ghost view = { λ list. record { unread = list.unread; entries = map shown_entry list.entries.items } };
-
-    ghost invariant = { λ list. HoldsEntries (map shown_entry list.entries.items) list.kinds };
+// The link lists of processes. Most lists are short, so that a vector for each would cost more than what it holds. An
+// entry is kept as its text, since what it says is read again faster than it is fetched from memory.
+#[derive(Drop)]
+pub(crate) struct Lists<'a> {
+    pieces: Vec<Piece<'a>>,
+    spans: Vec<Span>,
+    // The kinds of the entries of each long list.
+    sets: Vec<KindSet<'a>>,
 }
 
-fn collected<'a>(alloc: Global, found: Entries<'a>) -> Result<Vec<Entry<'a>>, AllocError>
-    ensures { IfOk result (λ entries. map shown_entry entries.items ≡ found.entry) }
+// Puts the parts of a list behind the pieces.
+fn push_parts<'a>(pieces: &mut Vec<Piece<'a>>, parts: Parts<'a>) -> Result<(), AllocError>
+    ensures { OnOk result (Gains pieces.old.items pieces.new.items parts.entry) }
 {
-    let mut entries = Vec::new(alloc);
-    for entry in found {
-        entries.push(entry)?;
+    for piece in parts {
+        pieces.push(piece)?;
     }
-    Ok(entries)
+    Ok(())
 }
 
-fn all_kinds<'a>(alloc: Global, entries: &[Entry<'a>]) -> Result<KindSet<'a>, AllocError>
-    ensures { IfOk result (AreKindsOf (map shown_entry entries.now)) }
+fn all_kinds<'a>(alloc: Global, pieces: &[Piece<'a>]) -> Result<KindSet<'a>, AllocError>
+    ensures { IfOk result (AreKindsOf (piece_entries pieces.now)) }
 {
     let mut kinds = KindSet::new(alloc);
-    for entry in entries {
-        kinds.insert(entry.kind)?;
+    for piece in pieces {
+        kinds.insert(kind(piece.text))?;
     }
     Ok(kinds)
 }
 
-// The kinds of the entries of a long list, and of a short one none.
-fn kinds_of<'a>(alloc: Global, entries: &[Entry<'a>]) -> Result<KindSet<'a>, AllocError>
-    ensures { IfOk result (AreFound (map shown_entry entries.now)) }
+// Puts the kinds of the entries of a long list behind the sets, and of a short one nothing.
+fn push_kinds<'a>(
+    alloc: Global,
+    sets: &mut Vec<KindSet<'a>>,
+    pieces: &[Piece<'a>],
+) -> Result<(), AllocError>
+    ensures { OnOk result (KeepsKinds (piece_entries pieces.now) sets.old.items sets.new.items) }
 {
-    if entries.len() > SHORT {
-        all_kinds(alloc, entries)
-    } else {
-        Ok(KindSet::new(alloc))
+    if pieces.len() > SHORT {
+        sets.push(all_kinds(alloc, pieces)?)?;
     }
+    Ok(())
 }
 
-fn says(entry: &Entry<'_>, wanted: &EntryKind<'_>) -> bool
-    ensures { result ≡ is_same_kind (shown_kind wanted.now) (shown_kind entry.now.kind) }
+// The same of the entries that stand behind a place.
+fn push_kinds_from<'a>(
+    alloc: Global,
+    sets: &mut Vec<KindSet<'a>>,
+    pieces: &[Piece<'a>],
+    from: usize,
+) -> Result<(), AllocError>
+    requires { from ≤ length pieces.now }
+    ensures { OnOk result (KeepsKinds (piece_entries (drop from pieces.now)) sets.old.items sets.new.items) }
 {
-    *wanted == entry.kind
+    push_kinds(alloc, sets, &pieces[from..])
 }
 
-fn is_among(entries: &[Entry<'_>], wanted: &EntryKind<'_>) -> bool
-    ensures { result ≡ list_any (λ entry. is_same_kind (shown_kind wanted.now) (shown_kind entry.kind)) entries.now }
+fn is_among(pieces: &[Piece<'_>], wanted: &EntryKind<'_>) -> bool
+    ensures { result ≡ list_any (λ piece. is_same_kind (shown_kind wanted.now) (kind_of piece.text.now)) pieces.now }
 {
-    entries.iter().any(|entry| says(entry, wanted))
+    pieces.iter().any(|piece| says(piece.text, wanted))
 }
 
-impl<'a> LinkList<'a> {
-    // The list of a process that has none.
-    pub fn none(alloc: Global) -> LinkList<'a>
-        ensures { result ≡ no_links }
+impl<'a> Lists<'a> {
+    // No lists, with room for those of so many processes.
+    pub fn new(alloc: Global, processes: usize) -> Result<Lists<'a>, AllocError>
+        ensures lists { IfOk result (λ lists. lists_in lists ≡ []) }
+        ensures within { IfOk result AreSpans }
     {
-        LinkList {
-            entries: Vec::new(alloc),
-            kinds: KindSet::new(alloc),
-            unread: false,
-        }
-    }
-
-    // The list of this text, which stands at the offset in the file.
-    pub fn read(alloc: Global, at: u64, text: &'a [u8]) -> Result<LinkList<'a>, AllocError>
-        requires place { at + length text.now < 2 ^ 64 }
-        requires short { length text.now < 2 ^ 32 }
-        ensures { IfOk result (λ list. list ≡ links_in (entries_at at text.now)) }
-    {
-        let Some(found) = Entries::new(at, text) else {
-            return Ok(LinkList {
-                entries: Vec::new(alloc),
-                kinds: KindSet::new(alloc),
-                unread: true,
-            });
-        };
-        let entries = collected(alloc, found)?;
-        let kinds = kinds_of(alloc, &entries)?;
-        Ok(LinkList {
-            entries,
-            kinds,
-            unread: false,
+        Ok(Lists {
+            pieces: Vec::new(alloc),
+            spans: Vec::with_capacity(alloc, processes)?,
+            sets: Vec::new(alloc),
         })
     }
 
-    pub fn is_unread(&self) -> bool
-        ensures { result ≡ self.now.unread }
+    // Puts a list without entries behind the lists.
+    fn push_none(&mut self, unread: bool) -> Result<(), AllocError>
+        requires { AreSpans self.old }
+        ensures { OnOk result (HasGained self.old self.new (record { unread = unread; entries = [] })) }
     {
-        self.unread
+        self.spans.push(Span {
+            from: 0,
+            upto: 0,
+            kinds: 0,
+            unread,
+        })?;
+        Ok(())
     }
 
-    pub fn len(&self) -> u32
-        ensures { result ≡ length self.now.entries }
+    // Puts the list of this text behind the lists. The text stands at the offset in the file.
+    fn push_text(&mut self, alloc: Global, at: u64, text: &'a [u8]) -> Result<(), AllocError>
+        requires within { AreSpans self.old }
+        requires place { at + length text.now < 2 ^ 64 }
+        requires short { length text.now < 2 ^ 32 }
+        ensures { OnOk result (HasGained self.old self.new (links_in (entries_at at text.now))) }
     {
-        self.entries.len() as u32
+        let Some(parts) = Parts::new(at, text) else {
+            return self.push_none(true);
+        };
+        let from = self.pieces.len();
+        let kinds = self.sets.len();
+        push_parts(&mut self.pieces, parts)?;
+        push_kinds_from(alloc, &mut self.sets, &self.pieces, from)?;
+        self.spans.push(Span {
+            from,
+            upto: self.pieces.len(),
+            kinds,
+            unread: false,
+        })?;
+        Ok(())
     }
 
-    pub fn entry(&self, n: u32) -> Entry<'a>
-        requires { n < length self.now.entries }
-        ensures { slice_get self.now.entries n ≡ Some (shown_entry result) }
+    // Puts what a process with this link list holds behind the lists.
+    pub fn push(&mut self, alloc: Global, list: Option<Kept<'a>>) -> Result<(), AllocError>
+        requires within { AreSpans self.old }
+        requires bounded { IsBoundedCell (shown_cell list) }
+        ensures { OnOk result (HasGained self.old self.new (links_of (shown_cell list.entry))) }
     {
-        self.entries[n as usize]
+        match list {
+            None => self.push_none(false),
+            Some(list) => self.push_text(alloc, list.value_at, list.text),
+        }
     }
 
-    // Whether an entry says this.
-    pub fn has(&self, wanted: &EntryKind<'_>) -> bool
-        ensures { result ≡ has_kind (shown_kind wanted.now) self.now.entries }
+    pub fn is_unread(&self, p: usize) -> bool
+        requires { p < length (lists_in self.now) }
+        ensures { result ≡ (links_at (lists_in self.now) p).unread }
     {
-        if self.entries.len() > SHORT {
-            self.kinds.has(wanted)
+        self.spans[p].unread
+    }
+
+    // How many entries the list at a place has.
+    pub fn count(&self, p: usize) -> u32
+        requires within { AreSpans self.now }
+        requires place { p < length (lists_in self.now) }
+        ensures { result ≡ length (links_at (lists_in self.now) p).entries }
+    {
+        let span = self.spans[p];
+        (span.upto - span.from) as u32
+    }
+
+    // The entry with a number of the list at a place.
+    pub fn entry(&self, p: usize, n: u32) -> Entry<'a>
+        requires within { AreSpans self.now }
+        requires place { p < length (lists_in self.now) }
+        requires number { n < length (links_at (lists_in self.now) p).entries }
+        ensures { slice_get (links_at (lists_in self.now) p).entries n ≡ Some (shown_entry result) }
+    {
+        let from = self.spans[p].from;
+        let piece = self.pieces[from + n as usize];
+        Entry {
+            at: piece.at,
+            text: piece.text,
+            kind: kind(piece.text),
+        }
+    }
+
+    // Whether an entry of the list at a place says this.
+    pub fn has(&self, p: usize, wanted: &EntryKind<'_>) -> bool
+        requires within { AreSpans self.now }
+        requires place { p < length (lists_in self.now) }
+        ensures { result ≡ has_kind (shown_kind wanted.now) (links_at (lists_in self.now) p).entries }
+    {
+        let span = self.spans[p];
+        if span.upto - span.from > SHORT {
+            self.sets[span.kinds].has(wanted)
         } else {
-            is_among(&self.entries, wanted)
+            is_among(&self.pieces[span.from..span.upto], wanted)
         }
     }
 }

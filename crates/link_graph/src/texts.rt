@@ -6,7 +6,8 @@ ghost use Rattle.std.specs.Char.{is_ascii_digit};
 ghost use Rattle.link_graph.specs.Texts.{behind, before, inside, is_dot, is_digits, is_dotted, at_first_dot, is_pair, is_triple, is_pid, is_local, is_port, is_reference, is_braced};
 ghost use Rattle.link_graph.specs.Seen.{both};
 
-fn behind<'a>(text: &'a [u8], front: &[u8]) -> Option<&'a [u8]>
+// What stands behind a front, where the text begins with it.
+pub(crate) fn behind<'a>(text: &'a [u8], front: &[u8]) -> Option<&'a [u8]>
     ensures value { option_copied result ≡ behind front.now text.now }
     ensures lengths { IfSome result (λ rest. length front.now + length rest.now ≡ length text.now) }
 {

@@ -1,5 +1,5 @@
 -- The set of the kinds of a long list.
-use Rattle.std.specs.Prelude.{◌≡◌, ◌<◌, ◌^◌, List, length}
+use Rattle.std.specs.Prelude.{◌≡◌, List}
 use Rattle.std.specs.List.{list_any}
 use Rattle.link_graph.specs.Kinds.{Kind, is_same_kind}
 use Rattle.link_graph.specs.Entries.{LinkEntry}
@@ -10,12 +10,3 @@ use Rattle.link_graph.specs.declared.shapes.EntryKind.{EntryKind}
 -- the set has a kind exactly where an entry is of it
 abbrev pub AreKindsOf : List LinkEntry → List Kind → Type 0
 AreKindsOf entries kinds = (wanted : EntryKind) → list_any (is_same_kind (shown_kind wanted)) kinds ≡ has_kind (shown_kind wanted) entries
-
--- the kinds of a long list are in the set
-abbrev pub AreFound : List LinkEntry → List Kind → Type 0
-AreFound entries kinds = 16 < length entries → AreKindsOf entries kinds
-
--- and there are not too many entries to be counted by 32 bits
-pub record HoldsEntries (entries : List LinkEntry) (kinds : List Kind) : Type 0 where
-  pub found : AreFound entries kinds
-  pub few : length entries < 2 ^ 32

@@ -7,8 +7,9 @@ use Rattle.link_graph.proofs.graph.Graph.build.Goals as goal
 pub loop-p-preserved : goal.loop-p-preserved
 loop-p-preserved c =
     let processes = c.args.procs.now.processes in
-    let process = shown_process c.at.result in
-    c.in_ok-push.ensures.items
-    ∙ ap (λ lists. lists ++ c.in_ok-links.field-0 ∷ []) c.loop-p.invariant
-    ∙ ap (λ links. graph_of (take c.loop-p.p processes) ++ links ∷ []) c.in_ok-links.ensures
-    ∙ sym (map-at (λ process. links_of process.links) processes c.loop-p.p process c.at.ensures)
+    let process = shown_process c.at.result in (
+      c.in_ok-push.ensures.lists
+          ∙ ap (λ lists. lists ++ links_of process.links ∷ []) c.loop-p.invariant.0
+          ∙ sym (map-at (λ process. links_of process.links) processes c.loop-p.p process c.at.ensures),
+      c.in_ok-push.ensures.within,
+    )
