@@ -1,9 +1,9 @@
 // Rows of cells, kept with their texts in one pool.
-ghost use Rattle.std.specs.Prelude.{◌≡◌, ◌+◌, ◌<◌, ◌≤◌, [], ◌∷◌, ◌^◌, length, map, All, Some, IfSome, OnOk, slice_get};
+ghost use Rattle.std.specs.Prelude.{◌≡◌, ◌+◌, ◌<◌, ◌≤◌, [], ◌∷◌, ◌^◌, length, map, All, Some, IfSome, IsSome, OnOk, slice_get};
 ghost use Rattle.section_rows.specs.Shown.{shown_kept, shown_cell, shown_column};
 ghost use Rattle.section_rows.specs.Rows.{IsBoundedCell, kept as kept_text, IsBounded, cell_of, row_of, row_at};
 ghost use Rattle.section_rows.specs.Inner.Lent.{IsLent, shown_section};
-ghost use Rattle.section_rows.specs.Inner.Places.{Gained, HasGained, AreWithin, rows_in, cell_in, cells_in, place_len, text_len};
+ghost use Rattle.section_rows.specs.Inner.Places.{Gained, HasGained, IsNear, AreWithin, rows_in, cell_in, cells_in, place_len, text_len};
 
 use crate::columns::{Column, Kept, cell};
 use section_index::Section;
@@ -44,7 +44,8 @@ pub(crate) struct Store {
 
 // How far an offset lies behind another one, where that has room in 32 bits.
 fn distance(from: u64, at: u64) -> Option<u32>
-    ensures { IfSome result (λ behind. from + behind ≡ at) }
+    ensures behind { IfSome result (λ behind. from + behind ≡ at) }
+    ensures room { from ≤ at → at < from + 2 ^ 32 → IsSome result }
 {
     u32::try_from(at.checked_sub(from)?).ok()
 }
@@ -54,6 +55,7 @@ fn place_of(base: u64, found: &Kept<'_>) -> Option<Place>
     ensures shown { IfSome result (λ p. kept_text (base + p.at) (base + p.value) found.now.text.now ≡ shown_kept found.now) }
     ensures len { IfSome result (λ p. p.len ≡ length found.now.text.now) }
     ensures bounded { IfSome result (λ _. IsBounded (shown_kept found.now)) }
+    ensures room { IsNear base (shown_kept found.now) → IsBounded (shown_kept found.now) → IsSome result }
 {
     let len = found.text.len();
     if found.at > LARGEST_DUMP || found.value_at > LARGEST_DUMP || len > LARGEST_TEXT {

@@ -1,5 +1,5 @@
 -- Cells that are kept with their texts in one pool. The texts of a row stand there one behind the other.
-use Rattle.std.specs.Prelude.{◌≡◌, ℕ, ◌+◌, ◌≤◌, List, [], ◌∷◌, ◌++◌, length, take, drop, map, Option, None, Some, All}
+use Rattle.std.specs.Prelude.{◌≡◌, ℕ, ◌+◌, ◌^◌, ◌<◌, ◌≤◌, List, [], ◌∷◌, ◌++◌, length, take, drop, map, Option, None, Some, All}
 use Rattle.std.specs.List.{between, sum_by}
 use Rattle.section_rows.specs.declared.store.Place.{Place}
 use Rattle.section_rows.specs.declared.store.Head.{Head}
@@ -59,3 +59,10 @@ pub record Gained (base : ℕ) (places_before places_after : List (Option Place)
   pub exact : text_len places ≡ length texts
   pub shown : cells_in base texts places ≡ cells
   pub bounded : All IsBoundedCell cells
+
+-- a text and its line begin no earlier than this offset, and so near behind it that 32 bits count the distance
+pub record IsNear (base : ℕ) (k : Kept) : Type 0 where
+  pub line : base ≤ k.at
+  pub near_line : k.at < base + 2 ^ 32
+  pub text : base ≤ k.value_at
+  pub near_text : k.value_at < base + 2 ^ 32
