@@ -88,6 +88,7 @@ impl ProcSections {
         requires { self.now ≡ proc_places (sections_in index.now) }
         ensures { result ≡ large_fault limits.now.section (record_sections (sections_in index.now)) }
     {
+        // For what `len` ensures: there are as many sections as headers, so that each place is that of a section.
         let _count = index.len();
         large(index, self.sections.as_slice(), limits)
     }
