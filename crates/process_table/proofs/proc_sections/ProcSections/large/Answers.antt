@@ -1,4 +1,4 @@
-use Rattle.std.proofs.Common.{◌≡◌, ◌<◌, List, length, map, All, sym, ◌∙◌, ap, subst}
+use Rattle.std.proofs.Common.{◌≡◌, ◌<◌, length, map, All, sym, ◌∙◌, ap, subst}
 use Rattle.section_index.specs.Index.{sections_in}
 use Rattle.section_rows.specs.Loading.{sections_at, large_fault}
 use Rattle.process_table.specs.Inner.Finding.{IsRecordOf}
