@@ -1,5 +1,5 @@
 -- The bodies of an audit are judged in a row, and then read one after another.
-use Rattle.std.proofs.Common.{◌≡◌, ◌⊎◌, ℕ, Bool, true, false, List, [], ◌∷◌, ◌++◌, length, map, Option, None, Some, refl, sym, ◌∙◌, ap, subst, inl, inr, if◌then◌else◌}
+use Rattle.std.proofs.Common.{◌≡◌, ℕ, Bool, true, false, List, [], ◌∷◌, ◌++◌, length, map, Option, None, Some, refl, sym, ◌∙◌, ap, subst, inl, inr, if◌then◌else◌}
 use Rattle.std.specs.Prelude.{Err, IfSome, Ok, OnOk, Result, cond, is_some, nat_lt}
 use Rattle.std.specs.Bool.{then_some}
 use Rattle.std.specs.Global.{Vec}

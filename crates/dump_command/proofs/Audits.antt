@@ -1,28 +1,21 @@
 -- What an audit is written of is what it says of the dump.
-use Rattle.std.proofs.Common.{◌≡◌, ℕ, Bool, true, List, [], ◌∷◌, ◌++◌, length, map, Option, None, Some, refl, sym, ◌∙◌, ap, if◌then◌else◌}
-use Rattle.std.specs.Option.{option_or, unwrap_or}
+use Rattle.std.proofs.Common.{◌≡◌, ℕ, Bool, true, List, [], ◌∷◌, map, Option, None, Some, refl, ◌∙◌, ap, if◌then◌else◌}
 use Rattle.std.specs.Prelude.{IsTrue}
-use Rattle.dump_io.specs.Dumps.{Use, DeviceFailed}
+use Rattle.dump_io.specs.Dumps.{Use}
 use Rattle.dump_io.specs.Limits.{Numbers}
 use Rattle.dump_io.specs.Lines.{headers}
 use Rattle.section_index.specs.Index.{Contents, IsIndexOf, index_of, sections_in, state_of}
 use Rattle.section_index.specs.Laws.{index-is}
-use Rattle.section_index.specs.Sections.{Section}
-use Rattle.section_index.specs.declared.bodies.BodyFault.{BodyFault}
-use Rattle.section_index.specs.declared.bodies.BodyFault.TheVariants as body_faults
-use Rattle.section_rows.specs.Loading.{first_large, AreRefused}
 use Rattle.process_table.specs.Processes.{Process, process_table}
 use Rattle.dump_audit.specs.Findings.{Audit, audit_of, findings}
-use Rattle.report_text.specs.declared.refusals.Refusal.TheVariants.{SectionTooLarge}
 use Rattle.dump_command.specs.Audits.{audit_in, mail_in, mailbox_places, mails, status_of}
 use Rattle.dump_command.specs.Command.{Command, file_of}
-use Rattle.dump_command.specs.Report.{report, report_status, refusal_opened, too_large, finds}
+use Rattle.dump_command.specs.Report.{report, report_status, refusal_opened, finds}
 use Rattle.dump_command.specs.Run.{is_one_of}
-use Rattle.dump_command.specs.Inner.Loads.{IsReady, IsStopped}
+use Rattle.dump_command.specs.Inner.Loads.{IsReady}
 use Rattle.dump_command.specs.Inner.Opened.{HasOpened, IsIndexed}
-use Rattle.dump_command.specs.Inner.Stops.{stop_of_body}
 use Rattle.dump_command.specs.declared.status.TheConstants.{DONE, FOUND}
-use Rattle.dump_command.proofs.Loads.{IsAllowed, IsStopped-unread, IsStopped-no_memory, IsStopped-refused, TakesAtMost-opened, file-of, large-refused, none_refused, refusal-accepted, sections-index, there-opened, too_large-append}
+use Rattle.dump_command.proofs.Loads.{IsAllowed, TakesAtMost-opened, file-of, refusal-accepted, sections-index, there-opened}
 
 -- the numbers of messages
 pub mails-told : (bytes : List ℕ) (index : Contents) → IsIndexOf bytes index

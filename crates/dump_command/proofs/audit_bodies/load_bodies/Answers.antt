@@ -1,12 +1,10 @@
-use Rattle.std.proofs.Common.{◌≡◌, List, ◌++◌, None, Some, sym, ◌∙◌, ap, subst}
-use Rattle.std.specs.Prelude.{IfErr, is_some}
+use Rattle.std.proofs.Common.{◌≡◌, None, sym, ◌∙◌, ap, subst}
+use Rattle.std.specs.Prelude.{is_some}
 use Rattle.std.proofs.lemmas.Result.{IfErr-weaker}
 use Rattle.dump_io.specs.Dumps.{used, ReadsAtMost}
 use Rattle.section_index.specs.Index.{sections_in}
-use Rattle.section_index.specs.Sections.{Section}
-use Rattle.section_rows.specs.Loading.{bodies_length, first_large, large_fault, AreRefused}
-use Rattle.process_table.specs.Records.{record_sections}
-use Rattle.dump_command.specs.Audits.{audited_sections, mailboxes_at}
+use Rattle.section_rows.specs.Loading.{bodies_length, first_large, large_fault}
+use Rattle.dump_command.specs.Audits.{audited_sections}
 use Rattle.dump_command.proofs.AuditBodies.{AreRefused-large, AreRefused-small, bodies-found, none-large, on-ok}
 use Rattle.dump_command.proofs.audit_bodies.load_bodies.Goals as goal
 
