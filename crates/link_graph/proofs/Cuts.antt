@@ -3,7 +3,7 @@ use Rattle.std.proofs.Common.{◌≡◌, ◌≢◌, ℕ, zero, suc, ◌+◌, ◌
 use Rattle.std.specs.Prelude.{slice_index}
 use Rattle.std.proofs.lemmas.Bool.{eqb-true, false_from_ne_true, ne_eqb}
 use Rattle.std.proofs.lemmas.List.{drop_more, drop-drop, length-drop, get_or-drop, append-nil, take-append-drop}
-use Rattle.std.proofs.Math.Seq.{take-add, take-suc, take-length, drop-length}
+use Rattle.std.proofs.Math.Seq.{take-add, take-suc}
 use Rattle.memchr.specs.Find.{Passes, is_byte, Nowhere, NoneBefore}
 use Rattle.link_graph.specs.Entries.{is_gap, led_by, cut}
 
