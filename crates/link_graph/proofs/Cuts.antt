@@ -1,11 +1,11 @@
 -- The parts of a text, from a place on.
-use Rattle.std.proofs.Common.{◌≡◌, ◌≢◌, ℕ, zero, suc, ◌+◌, ◌-◌, ◌<◌, ◌≤◌, ◌==◌, ◌&&◌, false, List, [], ◌∷◌, ◌++◌, length, take, drop, refl, sym, ◌∙◌, ap, subst, arith, if◌then◌else◌}
+use Rattle.std.proofs.Common.{◌≡◌, ◌≢◌, ℕ, zero, suc, ◌+◌, ◌-◌, ◌<◌, ◌≤◌, ◌==◌, ◌&&◌, Bool, true, false, List, [], ◌∷◌, ◌++◌, length, take, drop, refl, sym, ◌∙◌, ap, subst, arith, if◌then◌else◌}
 use Rattle.std.specs.Prelude.{slice_index}
 use Rattle.std.proofs.lemmas.Bool.{eqb-true, false_from_ne_true, ne_eqb}
 use Rattle.std.proofs.lemmas.List.{drop_more, drop-drop, length-drop, get_or-drop, append-nil, take-append-drop}
-use Rattle.std.proofs.Math.Seq.{take-add, take-suc, take-length, drop-length}
+use Rattle.std.proofs.Math.Seq.{take-add, take-suc}
 use Rattle.memchr.specs.Find.{Passes, is_byte, Nowhere, NoneBefore}
-use Rattle.link_graph.specs.Entries.{led_by, cut}
+use Rattle.link_graph.specs.Entries.{is_gap, led_by, cut}
 
 -- parts with a front before the first of them
 abbrev pub lead : List ℕ → List (List ℕ) → List (List ℕ)
@@ -20,107 +20,141 @@ pub lead-append : (front more : List ℕ) (parts : List (List ℕ)) → lead (fr
 lead-append [] more parts = refl
 lead-append (c ∷ front) more parts = ap (led_by c) (lead-append front more parts)
 
+-- no gap, since the second byte is no space
+no_gap : (c d : ℕ) → (d == 32) ≡ false → is_gap c d ≡ false
+no_gap c d h = of (c == 44)
+  where
+    of : (b : Bool) → (b && (d == 32)) ≡ false
+    of true = h
+    of false = refl
+
+-- a byte and the next one that are no gap
+cut-byte : (c d : ℕ) (text : List ℕ) → is_gap c d ≡ false → cut (c ∷ d ∷ text) ≡ led_by c (cut (d ∷ text))
+unfolding cut
+cut-byte c d text h = ap (λ b. if b then [] ∷ cut text else led_by c (cut (d ∷ text))) h
+
 -- a byte that is no comma begins the first part
-cut-byte : (c : ℕ) (text : List ℕ) → (c == 44) ≡ false → cut (c ∷ text) ≡ led_by c (cut text)
+cut-other : (c : ℕ) (text : List ℕ) → (c == 44) ≡ false → cut (c ∷ text) ≡ led_by c (cut text)
 unfolding cut
-cut-byte c [] h = refl
-cut-byte c (d ∷ text) h = ap (λ b. if b && (d == 32) then [] ∷ cut text else led_by c (cut (d ∷ text))) h
+cut-other c [] h = refl
+cut-other c (d ∷ text) h = ap (λ b. if b && (d == 32) then [] ∷ cut text else led_by c (cut (d ∷ text))) h
 
--- and so does a comma that has no space behind it
-cut-comma : (text : List ℕ) → (0 < length text → (slice_index text 0 == 32) ≡ false) → cut (44 ∷ text) ≡ led_by 44 (cut text)
-unfolding cut
-cut-comma [] h = refl
-cut-comma (d ∷ text) h = ap (λ b. if b then [] ∷ cut text else led_by 44 (cut (d ∷ text))) (h (omega arith))
+not_space : (text : List ℕ) (k : ℕ) → (Passes (is_byte 32) text k → ⊥) → (slice_index text k == 32) ≡ false
+not_space text k none = false_from_ne_true _ none
 
--- bytes without a comma
-cut-free : (n : ℕ) (text : List ℕ) → n ≤ length text → Nowhere (Passes (is_byte 44) text) 0 n → cut text ≡ lead (take n text) (cut (drop n text))
+-- bytes without a space, and one more of them
+cut-free : (n : ℕ) (text : List ℕ) → n < length text → Nowhere (Passes (is_byte 32) text) 0 (suc n) → cut text ≡ lead (take n text) (cut (drop n text))
 cut-free zero text fits none = refl
 cut-free (suc n) [] fits none = absurd (omega (arith, fits))
-cut-free (suc n) (c ∷ text) fits none =
-    cut-byte c text (false_from_ne_true _ (none 0 (omega arith) (omega arith)))
-    ∙ ap (led_by c) (cut-free n text (omega (arith, fits)) (λ k low high. none (suc k) (omega arith) (omega (arith, high))))
+cut-free (suc n) (c ∷ []) fits none = absurd (omega (arith, fits))
+cut-free (suc n) (c ∷ d ∷ text) fits none =
+    cut-byte c d text (no_gap c d (not_space (c ∷ d ∷ text) 1 (none 1 (omega arith) (omega arith))))
+    ∙ ap (led_by c) (cut-free n (d ∷ text) (omega (arith, fits)) (λ k low high. none (suc k) (omega arith) (omega (arith, high))))
 
--- a comma at this place, and none before it
-cut-at : (n : ℕ) (text : List ℕ) → n < length text → Nowhere (Passes (is_byte 44) text) 0 n → Passes (is_byte 44) text n
-    → cut text ≡ lead (take n text) (cut (44 ∷ drop (n + 1) text))
-cut-at n text fits none here =
-    let split : drop n text ≡ 44 ∷ drop (n + 1) text = drop_more text n 0 fits ∙ ap (λ c. c ∷ drop (n + 1) text) (eqb-true (slice_index text n) 44 here) in
-    cut-free n text (omega arith) none ∙ ap (λ rest. lead (take n text) (cut rest)) split
+-- bytes without a space are one part
+cut-none : (text : List ℕ) → Nowhere (Passes (is_byte 32) text) 0 (length text) → cut text ≡ text ∷ []
+unfolding cut
+cut-none [] none = refl
+cut-none (c ∷ []) none = refl
+cut-none (c ∷ d ∷ text) none =
+    cut-byte c d text (no_gap c d (not_space (c ∷ d ∷ text) 1 (none 1 (omega arith) (omega arith))))
+    ∙ ap (led_by c) (cut-none (d ∷ text) (λ k low high. none (suc k) (omega arith) (omega (arith, high))))
 
 -- the parts as far as a place
 abbrev pub IsCutTo : List ℕ → ℕ → Type 0
 IsCutTo text from = cut text ≡ lead (take from text) (cut (drop from text))
 
--- the first comma behind a place
-pub record IsComma (text : List ℕ) (from k : ℕ) : Type 0 where
+-- the first space behind a place
+pub record IsSpace (text : List ℕ) (from k : ℕ) : Type 0 where
   pub fits : from + k < length text
-  pub before : Nowhere (Passes (is_byte 44) (drop from text)) 0 k
-  pub here : Passes (is_byte 44) (drop from text) k
+  pub before : Nowhere (Passes (is_byte 32) (drop from text)) 0 k
+  pub here : Passes (is_byte 32) (drop from text) k
 
 -- what a search of the rest found
-pub found_comma : (text rest : List ℕ) (from k : ℕ) → rest ≡ drop from text → NoneBefore (Passes (is_byte 44) rest) 0 (length rest) k × Passes (is_byte 44) rest k → IsComma text from k
-found_comma text rest from k e found =
+pub found_space : (text rest : List ℕ) (from k : ℕ) → rest ≡ drop from text → NoneBefore (Passes (is_byte 32) rest) 0 (length rest) k × Passes (is_byte 32) rest k → IsSpace text from k
+found_space text rest from k e found =
     let fits : k < length (drop from text) = subst (λ l. k < length l) e found.0.high in
     record {
       fits = omega (arith, fits, length-drop from text);
-      before = subst (λ l. Nowhere (Passes (is_byte 44) l) 0 k) e found.0.before;
-      here = subst (λ l. Passes (is_byte 44) l k) e found.1;
+      before = subst (λ l. Nowhere (Passes (is_byte 32) l) 0 k) e found.0.before;
+      here = subst (λ l. Passes (is_byte 32) l k) e found.1;
     }
 
-to_comma : (text : List ℕ) (from k : ℕ) → IsCutTo text from → IsComma text from k → cut text ≡ lead (take (from + k) text) (cut (44 ∷ drop (from + k + 1) text))
-to_comma text from k cut_to comma =
+-- further on to a place
+cut_to-place : (text : List ℕ) (from n : ℕ) → IsCutTo text from → cut (drop from text) ≡ lead (take n (drop from text)) (cut (drop n (drop from text))) → IsCutTo text (from + n)
+cut_to-place text from n cut_to more =
     let rest = drop from text in
-    let inside : k < length rest = omega (arith, comma.fits, length-drop from text) in
-    let front : take from text ++ take k rest ≡ take (from + k) text = sym (take-add from k text) in
-    let order : from + (k + 1) ≡ from + k + 1 = omega arith in
-    let behind : drop (k + 1) rest ≡ drop (from + k + 1) text = drop-drop (k + 1) from text ∙ ap (λ n. drop n text) order in
-    cut_to ∙ ap (lead (take from text)) (cut-at k rest inside comma.before comma.here)
-    ∙ sym (lead-append (take from text) (take k rest) (cut (44 ∷ drop (k + 1) rest)))
-    ∙ ap (λ t. lead t (cut (44 ∷ drop (k + 1) rest))) front
-    ∙ ap (λ t. lead (take (from + k) text) (cut (44 ∷ t))) behind
+    let order : n + from ≡ from + n = omega arith in
+    cut_to ∙ ap (lead (take from text)) more
+    ∙ sym (lead-append (take from text) (take n rest) (cut (drop n rest)))
+    ∙ ap (λ t. lead t (cut (drop n rest))) (sym (take-add from n text))
+    ∙ ap (λ t. lead (take (from + n) text) (cut t)) (drop-drop n from text)
+
+-- a byte further
+cut_to-byte : (text : List ℕ) (from : ℕ) → IsCutTo text from → from < length text → (slice_index text from == 44) ≡ false → IsCutTo text (from + 1)
+cut_to-byte text from cut_to fits other =
+    let split : drop from text ≡ slice_index text from ∷ drop (from + 1) text = drop_more text from 0 fits in
+    let one : from + 1 ≡ suc from = omega arith in
+    let front : take from text ++ slice_index text from ∷ [] ≡ take (from + 1) text = sym (take-suc text from 0 fits) ∙ ap (λ n. take n text) (sym one) in
+    cut_to ∙ ap (λ t. lead (take from text) (cut t)) split
+    ∙ ap (lead (take from text)) (cut-other (slice_index text from) (drop (from + 1) text) other)
+    ∙ sym (lead-append (take from text) (slice_index text from ∷ []) (cut (drop (from + 1) text)))
+    ∙ ap (λ t. lead t (cut (drop (from + 1) text))) front
+
+space_at : (text : List ℕ) (from k : ℕ) → IsSpace text from k → slice_index text (from + k) ≡ 32
+space_at text from k space = sym (get_or-drop from text k 0) ∙ eqb-true (slice_index (drop from text) k) 32 space.here
+
+-- as far as the byte before the space
+to_before : (text : List ℕ) (from n : ℕ) → IsCutTo text from → IsSpace text from (n + 1) → IsCutTo text (from + n)
+to_before text from n cut_to space =
+    cut_to-place text from n cut_to
+    (cut-free n (drop from text) (omega (arith, space.fits, length-drop from text)) (λ k low high. space.before k low (omega (arith, high))))
 
 -- at a gap the first part ends
-pub cut-gap : (text : List ℕ) (from k : ℕ) → IsCutTo text from → IsComma text from k → from + k + 1 < length text → slice_index text (from + k + 1) ≡ 32
-    → cut text ≡ take (from + k) text ∷ cut (drop (from + k + 2) text)
+cut-gap : (text : List ℕ) (from n : ℕ) → IsCutTo text from → IsSpace text from (n + 1) → slice_index text (from + n) ≡ 44
+    → cut text ≡ take (from + n) text ∷ cut (drop (from + n + 2) text)
 unfolding cut
-cut-gap text from k cut_to comma fits space =
-    let order : from + k + 1 + 1 ≡ from + k + 2 = omega arith in
-    let split : drop (from + k + 1) text ≡ 32 ∷ drop (from + k + 2) text =
-    drop_more text (from + k + 1) 0 fits ∙ ap (λ c. c ∷ drop (from + k + 1 + 1) text) space ∙ ap (λ n. 32 ∷ drop n text) order in
-    to_comma text from k cut_to comma
-    ∙ ap (λ t. lead (take (from + k) text) (cut (44 ∷ t))) split
-    ∙ lead-part (take (from + k) text) [] (cut (drop (from + k + 2) text))
-    ∙ ap (λ t. t ∷ cut (drop (from + k + 2) text)) (append-nil (take (from + k) text))
+cut-gap text from n cut_to space comma =
+    let at = from + n in
+    let order : from + (n + 1) ≡ at + 1 = omega arith in
+    let order-2 : at + 1 + 1 ≡ at + 2 = omega arith in
+    let split : drop at text ≡ 44 ∷ drop (at + 1) text = drop_more text at 0 (omega (arith, space.fits)) ∙ ap (λ c. c ∷ drop (at + 1) text) comma in
+    let split-2 : drop (at + 1) text ≡ 32 ∷ drop (at + 2) text =
+    drop_more text (at + 1) 0 (omega (arith, space.fits)) ∙ ap (λ c. c ∷ drop (at + 1 + 1) text) (ap (slice_index text) (sym order) ∙ space_at text from (n + 1) space) ∙ ap (λ n. 32 ∷ drop n text) order-2 in
+    to_before text from n cut_to space
+    ∙ ap (λ t. lead (take at text) (cut t)) (split ∙ ap (λ t. 44 ∷ t) split-2)
+    ∙ lead-part (take at text) [] (cut (drop (at + 2) text))
+    ∙ ap (λ t. t ∷ cut (drop (at + 2) text)) (append-nil (take at text))
 
--- and goes on at another comma
-pub cut_to-more : (text : List ℕ) (from k : ℕ) → IsCutTo text from → IsComma text from k → (from + k + 1 < length text → slice_index text (from + k + 1) ≢ 32) → IsCutTo text (from + k + 1)
-cut_to-more text from k cut_to comma other =
-    let at = from + k in
-    let rest = drop (at + 1) text in
-    let same : at + 1 + 0 ≡ at + 1 = omega arith in
-    let first : slice_index rest 0 ≡ slice_index text (at + 1) = get_or-drop (at + 1) text 0 0 ∙ ap (slice_index text) same in
-    let passed : cut (44 ∷ rest) ≡ led_by 44 (cut rest) =
-    cut-comma rest (λ some. ap (λ c. c == 32) first ∙ ne_eqb (slice_index text (at + 1)) 32 (other (omega (arith, some, length-drop (at + 1) text)))) in
-    let byte : slice_index text at ≡ 44 = sym (get_or-drop from text k 0) ∙ eqb-true (slice_index (drop from text) k) 44 comma.here in
-    let one : at + 1 ≡ suc at = omega arith in
-    let front : take at text ++ 44 ∷ [] ≡ take (at + 1) text =
-    ap (λ c. take at text ++ c ∷ []) (sym byte) ∙ sym (take-suc text at 0 comma.fits) ∙ ap (λ n. take n text) (sym one) in
-    to_comma text from k cut_to comma
-    ∙ ap (lead (take at text)) passed
-    ∙ sym (lead-append (take at text) (44 ∷ []) (cut rest))
-    ∙ ap (λ t. lead t (cut rest)) front
+pub gap-at : (text : List ℕ) (from k : ℕ) → IsCutTo text from → IsSpace text from k → 0 < k → slice_index text (from + k - 1) ≡ 44
+    → (from + k - 1 + 2 ≤ length text) × (cut text ≡ take (from + k - 1) text ∷ cut (drop (from + k - 1 + 2) text))
+gap-at text from zero cut_to space some comma = absurd (omega (arith, some))
+gap-at text from (suc n) cut_to space some comma =
+    let one : suc n ≡ n + 1 = omega arith in
+    let near : from + suc n - 1 ≡ from + n = omega arith in (
+      omega (arith, space.fits),
+      subst (λ at. cut text ≡ take at text ∷ cut (drop (at + 2) text)) (sym near)
+          (cut-gap text from n cut_to (subst (IsSpace text from) one space) (ap (slice_index text) (sym near) ∙ comma)),
+    )
 
-cut-end : (text : List ℕ) (from : ℕ) → IsCutTo text from → Nowhere (Passes (is_byte 44) (drop from text)) 0 (length (drop from text)) → cut text ≡ text ∷ []
-unfolding cut
-cut-end text from cut_to none =
-    let rest = drop from text in
-    cut_to ∙ ap (lead (take from text)) (cut-free (length rest) rest (omega arith) none)
-    ∙ ap (λ t. lead (take from text) (lead t (cut (drop (length rest) rest)))) (take-length rest)
-    ∙ ap (λ t. lead (take from text) (lead rest (cut t))) (drop-length rest)
-    ∙ ap (lead (take from text)) (lead-part rest [] [] ∙ ap (λ t. t ∷ []) (append-nil rest))
-    ∙ lead-part (take from text) rest []
-    ∙ ap (λ t. t ∷ []) (take-append-drop from text)
+-- and goes on at a space without a comma before it
+pub cut_to-more : (text : List ℕ) (from k : ℕ) → IsCutTo text from → IsSpace text from k → (0 < k → slice_index text (from + k - 1) ≢ 44) → IsCutTo text (from + k + 1)
+cut_to-more text from zero cut_to space other =
+    let same : from + 0 ≡ from = omega arith in
+    let here : slice_index text from ≡ 32 = ap (slice_index text) (sym same) ∙ space_at text from 0 space in
+    subst (λ n. IsCutTo text (n + 1)) (sym same) (cut_to-byte text from cut_to (omega (arith, space.fits)) (ap (λ c. c == 44) here))
+cut_to-more text from (suc n) cut_to space other =
+    let one : suc n ≡ n + 1 = omega arith in
+    let near : from + suc n - 1 ≡ from + n = omega arith in
+    let next : from + suc n ≡ from + n + 1 = omega arith in
+    let before : IsCutTo text (from + n) = to_before text from n cut_to (subst (IsSpace text from) one space) in
+    let byte : (slice_index text (from + n) == 44) ≡ false = ap (λ i. slice_index text i == 44) (sym near) ∙ ne_eqb (slice_index text (from + suc n - 1)) 44 (other (omega arith)) in
+    let at : IsCutTo text (from + n + 1) = cut_to-byte text (from + n) before (omega (arith, space.fits)) byte in
+    let here : slice_index text (from + n + 1) ≡ 32 = ap (slice_index text) (sym next) ∙ space_at text from (suc n) space in
+    subst (λ i. IsCutTo text (i + 1)) (sym next) (cut_to-byte text (from + n + 1) at (omega (arith, space.fits)) (ap (λ c. c == 44) here))
 
--- where no comma is left, the rest is one part
-pub cut-last : (text rest : List ℕ) (from : ℕ) → rest ≡ drop from text → IsCutTo text from → Nowhere (Passes (is_byte 44) rest) 0 (length rest) → cut text ≡ text ∷ []
-cut-last text rest from e cut_to none = cut-end text from cut_to (subst (λ l. Nowhere (Passes (is_byte 44) l) 0 (length l)) e none)
+-- where no space is left, the rest is one part
+pub cut-last : (text rest : List ℕ) (from : ℕ) → rest ≡ drop from text → IsCutTo text from → Nowhere (Passes (is_byte 32) rest) 0 (length rest) → cut text ≡ text ∷ []
+cut-last text rest from e cut_to none =
+    let all : cut (drop from text) ≡ drop from text ∷ [] = subst (λ l. cut l ≡ l ∷ []) e (cut-none rest none) in
+    cut_to ∙ ap (lead (take from text)) all ∙ lead-part (take from text) (drop from text) [] ∙ ap (λ t. t ∷ []) (take-append-drop from text)

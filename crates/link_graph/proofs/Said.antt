@@ -1,5 +1,5 @@
 -- A text says what is wanted of it exactly where it is spelled so.
-use Rattle.std.proofs.Common.{◌≡◌, ℕ, Bool, true, false, ◌&&◌, List, ◌++◌, Option, Some, None, refl, sym, ◌∙◌, ap}
+use Rattle.std.proofs.Common.{◌≡◌, ℕ, ◌+◌, Bool, true, false, ◌&&◌, List, ◌++◌, length, Option, Some, None, refl, sym, ◌∙◌, ap, arith, length-append}
 use Rattle.std.specs.Prelude.{codes}
 use Rattle.std.specs.Str.{bytes_eq}
 use Rattle.std.specs.Option.{option_map_or}
@@ -107,6 +107,18 @@ spelled_is opening pid reference text h = of (spelled_rest opening pid reference
     of : (o : Option (List ℕ)) → spelled_rest opening pid reference text ≡ o → option_map_or (λ rest. bytes_eq rest (codes "}")) o false ≡ true → text ≡ spelled opening pid reference (codes "}")
     of None e h = absurd (false≢true h)
     of (Some rest) e h = rest_parts opening pid reference text rest e ∙ ap (spelled opening pid reference) ((bytes_eq-Decides rest (codes "}")).0 h)
+
+-- a text of another length isn't spelled so
+pub other_length : (opening pid reference text : List ℕ) (b : Bool) → (length text ≡ length opening + length pid + length reference + 2 → b ≡ true) → b ≡ false
+    → is_spelled opening pid reference text ≡ false
+other_length opening pid reference text b passes fails = of (is_spelled opening pid reference text) refl
+  where
+    of : (s : Bool) → is_spelled opening pid reference text ≡ s → is_spelled opening pid reference text ≡ false
+    of false e = e
+    of true e =
+        let long : length text ≡ length opening + length pid + length reference + 2 =
+        omega (arith, ap length (spelled_is opening pid reference text e), length-append opening (pid ++ (codes "," ++ (reference ++ codes "}"))), length-append pid (codes "," ++ (reference ++ codes "}")), length-append reference (codes "}")) in
+        absurd (false≢true (sym fails ∙ passes long))
 
 monitor_is : (opening pid reference text : List ℕ) → (is_spelled opening pid reference text && (is_pid pid && is_reference reference)) ≡ true → IsMonitor opening is_pid text pid reference
 monitor_is opening pid reference text h =

@@ -1,9 +1,9 @@
 -- Lists that are put one behind another, with their entries in one pool.
-use Rattle.std.proofs.Common.{◌≡◌, ℕ, zero, suc, ◌+◌, ◌-◌, ◌≤◌, ◌<◌, Bool, false, List, [], ◌∷◌, ◌++◌, length, take, drop, map, Option, Some, None, refl, sym, ◌∙◌, ap, subst, arith, length-append}
+use Rattle.std.proofs.Common.{◌≡◌, ℕ, zero, suc, ◌-◌, ◌≤◌, ◌<◌, Bool, false, List, [], ◌∷◌, ◌++◌, length, take, drop, map, Some, refl, sym, ◌∙◌, ap, subst, arith, length-append}
 use Rattle.std.specs.Prelude.{◌^◌, All, IsSomeAnd, IfSome, slice_get}
 use Rattle.std.specs.Option.{option_map}
 use Rattle.std.specs.List.{between}
-use Rattle.std.proofs.lemmas.List.{drop-append-le, take-append-le, drop_at, take_all, length-drop, length-map, map-append, append-nil}
+use Rattle.std.proofs.lemmas.List.{drop-append-le, take-append-le, drop_at, take_all, length-drop, length-map, map-append}
 use Rattle.std.proofs.lemmas.List.Elements.{All-head, All-tail, All-nil, All-cons, All-push}
 use Rattle.link_graph.specs.Kinds.{Kind}
 use Rattle.link_graph.specs.Entries.{Part, LinkEntry, entry_of, list_parts, entries_at}

@@ -17,16 +17,16 @@ pub(crate) struct Piece<'a> {
     pub text: &'a [u8],
 }
 
-// Where the first comma stands that has a space behind it.
+// Where the first comma stands that has a space behind it. A list has fewer spaces than commas, so they are looked for.
 fn first_gap(text: &[u8]) -> Option<usize>
     ensures { MatchOption result (cut text.now ≡ text.now ∷ [])
         (λ gap. (gap + 2 ≤ length text.now) × (cut text.now ≡ take gap text.now ∷ cut (drop (gap + 2) text.now))) }
 {
     let mut from = 0;
-    while let Some(comma) = memchr(b',', &text[from..]) {
-        let at = from + comma;
-        if at + 1 < text.len() && text[at + 1] == b' ' {
-            return Some(at);
+    while let Some(space) = memchr(b' ', &text[from..]) {
+        let at = from + space;
+        if space > 0 && text[at - 1] == b',' {
+            return Some(at - 1);
         }
         from = at + 1;
     }

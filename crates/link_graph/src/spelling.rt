@@ -1,5 +1,5 @@
 // Whether a text says what is wanted of it, without reading all that it says.
-ghost use Rattle.std.specs.Prelude.{◌≡◌, ◌&&◌};
+ghost use Rattle.std.specs.Prelude.{◌≡◌, ◌+◌, ◌&&◌, length, true};
 ghost use Rattle.std.specs.Option.{option_copied};
 ghost use Rattle.std.specs.Str.{bytes_eq};
 ghost use Rattle.link_graph.specs.Texts.{is_pid, is_reference};
@@ -28,15 +28,30 @@ fn spelled_rest<'a>(
     )
 }
 
-// Whether the text is an opening, a pid, a comma, a reference and `}`.
+// Whether the text is as long as the opening, the pid, a comma, the reference and `}` are together.
+fn is_as_long(text: &[u8], opening: &[u8], pid: &[u8], reference: &[u8]) -> bool
+    ensures { length text.now ≡ length opening.now + length pid.now + length reference.now + 2 → result ≡ true }
+{
+    let front = opening.len() + 2;
+    front <= text.len() && text.len() - front == pid.len() + reference.len()
+}
+
+// Whether the text is an opening, a pid, a comma, a reference and `}`, front by front.
 #[tactic(auto, unfolding(crate::specs::Inner::Spelling::is_spelled))]
-fn is_spelled(text: &[u8], opening: &[u8], pid: &[u8], reference: &[u8]) -> bool
+fn is_spelled_by_fronts(text: &[u8], opening: &[u8], pid: &[u8], reference: &[u8]) -> bool
     ensures { result ≡ is_spelled opening.now pid.now reference.now text.now }
 {
     match spelled_rest(text, opening, pid, reference) {
         None => false,
         Some(rest) => rest == b"}".as_slice(),
     }
+}
+
+// The same, where the length is looked at first, which tells most texts apart.
+fn is_spelled(text: &[u8], opening: &[u8], pid: &[u8], reference: &[u8]) -> bool
+    ensures { result ≡ is_spelled opening.now pid.now reference.now text.now }
+{
+    is_as_long(text, opening, pid, reference) && is_spelled_by_fronts(text, opening, pid, reference)
 }
 
 fn is_link(text: &[u8], pid: &[u8]) -> bool

@@ -1,5 +1,5 @@
 -- Link lists whose entries stand in one pool, as the pieces of text that they are.
-use Rattle.std.specs.Prelude.{◌≡◌, ℕ, ◌-◌, ◌<◌, ◌≤◌, ◌^◌, List, [], ◌∷◌, ◌++◌, length, map, slice_get, All, IsSomeAnd}
+use Rattle.std.specs.Prelude.{◌≡◌, ◌-◌, ◌<◌, ◌≤◌, ◌^◌, List, [], ◌∷◌, ◌++◌, length, map, slice_get, All, IsSomeAnd}
 use Rattle.std.specs.List.{between}
 use Rattle.link_graph.specs.Kinds.{Kind}
 use Rattle.link_graph.specs.Entries.{Part, LinkEntry, entry_of}

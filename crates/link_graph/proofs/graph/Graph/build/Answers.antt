@@ -1,6 +1,6 @@
-use Rattle.std.proofs.Common.{sym, ◌∙◌, ap, take, ◌++◌, ◌∷◌, []}
+use Rattle.std.proofs.Common.{sym, ◌∙◌, ap, ◌++◌, ◌∷◌, []}
 use Rattle.process_table.specs.Shown.{shown_process}
-use Rattle.link_graph.specs.Graph.{links_of, graph_of}
+use Rattle.link_graph.specs.Graph.{links_of}
 use Rattle.link_graph.proofs.Taken.{map-at}
 use Rattle.link_graph.proofs.graph.Graph.build.Goals as goal
 
