@@ -1,7 +1,8 @@
 -- What the real devices show of themselves: the size of what is open, and their counts.
-use Rattle.std.specs.Prelude.{ℕ, Bool, ◌^◌, ◌<◌, ◌-◌, min, Option, None, Some}
+use Rattle.std.specs.Prelude.{ℕ, Bool, ◌^◌, ◌<◌, ◌-◌, min, List, Option, None, Some}
 use Rattle.std.proofs.Common.{lit<, arith}
 use Rattle.std.specs.declared.io.traits.Write.{Ghosts}
+use Rattle.std.specs.Io.KnownBytes.{append_known}
 use Rattle.dump_io.specs.Count.{number_in}
 use Rattle.dump_io.specs.Dumps.{Now, closed, sized, size_of}
 use Rattle.dump_command.specs.declared.file_dumps.OpenDump.{OpenDump}
@@ -40,3 +41,7 @@ is_broken_in sink = sink.is_broken
 -- the stream behind the buffer
 abbrev pub stream_of : {W : Type 0} {w : Ghosts W} → StdSink W w → W
 stream_of sink = sink.stream
+
+-- the bytes that the stream holds, where it tells them, and behind them those that are gathered
+abbrev pub held_by : {W : Type 0} {w : Ghosts W} → StdSink W w → Option (List ℕ)
+held_by {W} {w} sink = append_known (w.contents sink.stream) sink.gathered.items

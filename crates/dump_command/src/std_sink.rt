@@ -1,5 +1,6 @@
 // The streams of the machine.
-ghost use Rattle.std.specs.Prelude.{◌≡◌, ◌≤◌, ◌<◌, true, false, length, None, is_err, vec_len, vec_capacity, IsErr, IfOk, OnErr, OnOk, [], if◌then◌else◌};
+ghost use Rattle.std.specs.Prelude.{◌≡◌, ◌≤◌, ◌<◌, true, false, length, take, None, is_err, vec_len, vec_capacity, IsErr, IfOk, OnErr, OnOk, [], if◌then◌else◌};
+ghost use Rattle.std.specs.Io.KnownBytes.{Appends, Keeps};
 ghost use Rattle.dump_io.specs.Counts.{Rose, plus_capped};
 ghost use Rattle.dump_io.specs.Sinks.{changed, TakesSome};
 
@@ -12,7 +13,8 @@ const GATHERED: usize = 65_536;
 
 /// A stream of the machine. It gathers what is written and hands it on when 64 KiB have come together
 /// and at `flush`. It doesn't tell what was written, and counts each error as a fault, a write that takes
-/// nothing among them. After a fault it hands on nothing more, and each later call fails.
+/// nothing among them. After a fault it hands on nothing more, and each later call fails. Until then what the
+/// stream got and what is gathered are all that was taken, in order.
 #[derive(Drop)]
 pub struct StdSink<W: Write + Drop> {
     stream: W,
@@ -24,13 +26,14 @@ pub struct StdSink<W: Write + Drop> {
 }
 
 impl<W: Write + Drop> StdSink<W> {
-    ghost use Rattle.dump_command.specs.Devices.{count_of, is_broken_in, stream_of};
+    ghost use Rattle.dump_command.specs.Devices.{count_of, held_by, is_broken_in, stream_of};
 
     /// A sink over a stream. Its buffer is all the memory that it takes.
     pub fn new(alloc: Global, stream: W) -> Result<StdSink<W>, AllocError>
         ensures faults { IfOk result (λ sink. count_of sink ≡ 0) }
         ensures sound { IfOk result (λ sink. is_broken_in sink ≡ false) }
         ensures stream { IfOk result (λ sink. stream_of sink ≡ stream) }
+        ensures empty { IfOk result (λ sink. sink.gathered.items ≡ []) }
     {
         Ok(StdSink {
             stream,
@@ -50,6 +53,9 @@ impl<W: Write + Drop> StdSink<W> {
         ensures failing { is_broken_in self.old ≡ true → IsErr result }
         ensures silent { is_broken_in self.old ≡ true → stream_of self.new ≡ stream_of self.old }
         ensures empty { OnOk result (self.new.gathered.items ≡ []) }
+
+        // The stream then holds what was gathered, where it tells its bytes.
+        ensures held { OnOk result (Keeps (held_by self.old) (held_by self.new)) }
     {
         if !self.is_broken && self.hand_on() {
             self.gathered.clear();
@@ -64,13 +70,14 @@ impl<W: Write + Drop> StdSink<W> {
         ensures gathered { self.new.gathered ≡ self.old.gathered }
         ensures broken { self.new.is_broken ≡ self.old.is_broken }
         ensures count { self.new.faults ≡ self.old.faults }
+        ensures handed { result ≡ true → Appends (W.contents self.old.stream) (W.contents self.new.stream) self.old.gathered.items }
     {
         self.stream.write_all(self.gathered.as_slice()).is_ok() && self.stream.flush().is_ok()
     }
 }
 
 impl<W: Write + Drop> Sink for StdSink<W> {
-    ghost use Rattle.dump_command.specs.Devices.{count_of, is_broken_in, stream_of};
+    ghost use Rattle.dump_command.specs.Devices.{count_of, held_by, is_broken_in, stream_of};
 
     ghost written = { λ _. None };
 
@@ -84,6 +91,9 @@ impl<W: Write + Drop> Sink for StdSink<W> {
         ensures broken { is_broken_in self.new ≡ is_err result }
         ensures failing { is_broken_in self.old ≡ true → IsErr result }
         ensures silent { is_broken_in self.old ≡ true → stream_of self.new ≡ stream_of self.old }
+
+        // What it takes stands behind all that it took before, where the stream tells its bytes.
+        ensures held { IfOk result (λ n. Appends (held_by self.old) (held_by self.new) (take n piece.now)) }
     {
         if self.is_broken || self.gathered.len() == GATHERED {
             self.flush()?;
