@@ -1,6 +1,6 @@
 -- What is known of a good dump that is open and held in memory.
 use Rattle.std.proofs.Common.{◌≡◌, ℕ, List, Option, Some, sym, ◌∙◌, ap, subst, arith}
-use Rattle.std.specs.Prelude.{All, Err, position, unwrap_or, length}
+use Rattle.std.specs.Prelude.{All, Err, position}
 use Rattle.std.specs.List.{between}
 use Rattle.std.proofs.lemmas.Bool.{cond-true}
 use Rattle.std.specs.Str.{bytes_eq}

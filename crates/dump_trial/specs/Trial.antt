@@ -1,5 +1,5 @@
 -- What a trial says of a made dump: how much there is in it, and what is bad or one-sided.
-use Rattle.std.specs.Prelude.{ℕ, ◌++◌, List, length, Option, None, Some, position, unwrap_or, codes}
+use Rattle.std.specs.Prelude.{ℕ, ◌++◌, List, length, Option, None, Some, position}
 use Rattle.std.specs.List.{sum_by}
 use Rattle.section_index.specs.Index.{Contents, index_of, sections_in}
 use Rattle.section_index.specs.Lookups.{is_named}

@@ -1,12 +1,12 @@
 // The link lists of all processes, with their entries in one pool.
-ghost use Rattle.std.specs.Prelude.{◌≡◌, ◌+◌, ◌^◌, ◌<◌, ◌≤◌, [], length, map, drop, slice_get, Some, IfOk, OnOk};
+ghost use Rattle.std.specs.Prelude.{◌≡◌, ◌+◌, ◌^◌, ◌<◌, ◌≤◌, [], length, drop, slice_get, Some, IfOk, OnOk};
 ghost use Rattle.section_rows.specs.Rows.{IsBoundedCell};
 ghost use Rattle.section_rows.specs.Shown.{shown_cell};
 ghost use Rattle.std.specs.List.{list_any};
 ghost use Rattle.link_graph.specs.Kinds.{is_same_kind};
 ghost use Rattle.link_graph.specs.Entries.{entries_at};
 ghost use Rattle.link_graph.specs.Reading.{kind_of};
-ghost use Rattle.link_graph.specs.Graph.{links_of, links_in, no_links, links_at, has_kind};
+ghost use Rattle.link_graph.specs.Graph.{links_of, links_in, links_at, has_kind};
 ghost use Rattle.link_graph.specs.Seen.{shown_kind, shown_entry};
 ghost use Rattle.link_graph.specs.Inner.Sets.{AreKindsOf};
 ghost use Rattle.link_graph.specs.Inner.Spans.{piece_entries, Gains, KeepsKinds, lists_in, AreSpans, HasGained};

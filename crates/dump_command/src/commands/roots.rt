@@ -1,5 +1,5 @@
 // `stack`, `dict` and `mail`: the roots of a process.
-ghost use Rattle.std.specs.Prelude.{◌≡◌, ◌<◌, ℕ, Bool, IfOk};
+ghost use Rattle.std.specs.Prelude.{◌<◌, ℕ, Bool, IfOk};
 ghost use Rattle.binary_refs.specs.Previews.{AreFor};
 ghost use Rattle.dump_io.specs.Dumps.{used};
 ghost use Rattle.dump_io.specs.Sinks.{changed};
