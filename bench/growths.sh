@@ -38,4 +38,5 @@ try trial 0 10
 try term "$folder/dump" "<0.4.0>" 4000
 try mail "$folder/dump" "<0.4.0>"
 try audit "$folder/dump" 8
+try audit "$folder/dump" 8 full
 exit "$failed"
