@@ -18,6 +18,4 @@ pub use shapes::{Entry, EntryKind};
 pub use texts::is_local;
 
 #[cfg(test)]
-mod graph_tests;
-#[cfg(test)]
 mod tests;

@@ -37,6 +37,4 @@ pub use opening::{OpenFault, Version};
 pub use tags::Tags;
 
 #[cfg(test)]
-mod body_tests;
-#[cfg(test)]
-mod build_tests;
+mod tests;

@@ -1,0 +1,171 @@
+use crate::{BodyFault, State, Tags, Version, build, read_body};
+use dump_io::{Dumps, Limits, MemDumps};
+use std::alloc::Global;
+use std::test::Fail;
+
+// What is said of these bytes under these limits.
+fn answer(alloc: Global, bytes: &[u8], limits: &Limits) -> Result<String, Fail> {
+    let mut dumps = MemDumps::holding(alloc, "V", bytes, &[7], &[])?;
+    match build(alloc, &mut dumps, "V", limits) {
+        Ok(_) => Ok(String::from_str(alloc, "accepted")?),
+        Err(fault) => Ok(format!(in alloc; "{fault}")?),
+    }
+}
+
+#[test]
+fn a_dump_is_refused_by_its_first_cause(rt: HostRuntime) -> Result<(), Fail> {
+    let two = b"=erl_crash_dump:0.5\n=abc\n".as_slice();
+    for (bytes, dump, header, sections, pool, want) in [
+        (two, 24, 1, 0, 0, "a dump of 25 bytes is too large"),
+        (b"\x1F\x8B".as_slice(), 99, 1, 0, 0, "compressed"),
+        (b"=erl_crash_dump".as_slice(), 99, 1, 0, 0, "not a dump"),
+        (
+            b"=erl_crash_dump:0.55".as_slice(),
+            99,
+            20,
+            0,
+            0,
+            "a version that isn't read",
+        ),
+        (
+            b"=erl_crash_dump:0.5\r".as_slice(),
+            99,
+            20,
+            0,
+            0,
+            "a version that isn't read",
+        ),
+        // a first line that is too long names no version
+        (
+            b"=erl_crash_dump:0.55".as_slice(),
+            99,
+            19,
+            0,
+            0,
+            "the header at 0 is too long",
+        ),
+        // of three causes at one header, the first that is named
+        (
+            b"=erl_crash_dump:0.5\n=bcdefghijklmnopqrstuvw".as_slice(),
+            99,
+            19,
+            1,
+            19,
+            "the header at 20 is too long",
+        ),
+        (two, 25, 19, 1, 19, "the section at 20 is one too many"),
+        (
+            two,
+            25,
+            19,
+            2,
+            22,
+            "the headers up to 20 are too large together",
+        ),
+        (two, 25, 19, 2, 23, "accepted"),
+    ] {
+        let limits = Limits::new(dump, header, sections, pool, 0, 0).ok_or("refused")?;
+        let found = answer(rt.alloc(), bytes, &limits)?;
+        assert_eq!(rt; found.as_str(), want);
+    }
+    Ok(())
+}
+
+#[test]
+fn a_header_at_a_seam_is_found(rt: HostRuntime) -> Result<(), Fail> {
+    // The LF is the last byte of the first piece.
+    let mut bytes = Vec::from_slice(rt.alloc(), b"=erl_crash_dump:0.4\r\n".as_slice())?;
+    bytes.resize(65_535, b'x')?;
+    bytes.extend_from_slice(b"\n=end".as_slice())?;
+    let mut dumps = MemDumps::holding(rt.alloc(), "V", bytes.as_slice(), &[7], &[])?;
+    let index = build(rt.alloc(), &mut dumps, "V", &Limits::usual())?;
+    if index.len() != 2 {
+        return Err("another number of sections".into());
+    }
+    let end = index.section(1);
+    assert_eq!(rt; (end.at, end.body, end.end), (65_536, 65_540, 65_540));
+    assert_eq!(rt; index.version(), Version::V04);
+    assert_eq!(rt; index.state(), State::Whole);
+    assert_eq!(rt; dumps.taken(), 65_540);
+    Ok(())
+}
+
+const DUMP: &[u8] =
+    b"=erl_crash_dump:0.5\nSlogan: x\r\n=proc:<0.1.0>\r\nA: 1\n=proc\n=node:1f\nB\n=node:01F\n=proc:<0.1.0>\n=end";
+
+fn body_of<D: Dumps>(
+    alloc: Global,
+    dumps: &mut D,
+    i: usize,
+    limits: &Limits,
+) -> Result<Result<Vec<u8>, BodyFault>, Fail> {
+    let index = build(alloc, dumps, "V", &Limits::usual())?;
+    if index.len() <= i {
+        return Err("no section".into());
+    }
+    Ok(read_body(alloc, dumps, &index, i, limits))
+}
+
+#[test]
+fn sections_are_found(rt: HostRuntime) -> Result<(), Fail> {
+    let mut dumps = MemDumps::holding(rt.alloc(), "V", DUMP, &[3], &[])?;
+    let index = build(rt.alloc(), &mut dumps, "V", &Limits::usual())?;
+    let pid = b"<0.1.0>".as_slice();
+    assert_eq!(rt; index.first(b"proc".as_slice(), Some(pid)), Some(1));
+    assert_eq!(rt; index.first(b"proc".as_slice(), None), Some(2));
+    assert_eq!(rt;
+        index.first(b"proc".as_slice(), Some(b"<0.1".as_slice())),
+        None
+    );
+    assert_eq!(rt; index.first_tag(b"proc".as_slice()), Some(1));
+    assert_eq!(rt; index.first_tag(b"pro".as_slice()), None);
+    assert_eq!(rt; index.first_hex(b"node".as_slice(), 31), Some(3));
+    assert_eq!(rt; index.first_hex(b"proc".as_slice(), 31), None);
+    Ok(())
+}
+
+#[test]
+fn tags_are_counted(rt: HostRuntime) -> Result<(), Fail> {
+    let mut dumps = MemDumps::holding(rt.alloc(), "V", DUMP, &[3], &[])?;
+    let index = build(rt.alloc(), &mut dumps, "V", &Limits::usual())?;
+    let tags = Tags::count(rt.alloc(), &index)?;
+    assert_eq!(rt; tags.len(), 4);
+    for (i, tag, count) in [
+        (0, "erl_crash_dump", 1),
+        (1, "proc", 3),
+        (2, "node", 2),
+        (3, "end", 1),
+    ] {
+        if tags.len() <= i {
+            return Err("no tag".into());
+        }
+        let (found, number) = tags.at(i);
+        assert_eq!(rt; found, tag.as_bytes());
+        assert_eq!(rt; number, count);
+    }
+    Ok(())
+}
+
+#[test]
+fn bodies_are_read(rt: HostRuntime) -> Result<(), Fail> {
+    let mut dumps = MemDumps::holding(rt.alloc(), "V", DUMP, &[3], &[])?;
+    let usual = Limits::usual();
+    let body = body_of(rt.alloc(), &mut dumps, 1, &usual)??;
+    assert_eq!(rt; body.as_slice(), b"A: 1\n".as_slice());
+    assert_eq!(rt; dumps.taken(), (DUMP.len() as u64).saturating_add(5));
+    let last = body_of(rt.alloc(), &mut dumps, 6, &usual)??;
+    assert!(rt; last.is_empty());
+    Ok(())
+}
+
+#[test]
+fn a_body_above_the_limit_is_not_read(rt: HostRuntime) -> Result<(), Fail> {
+    let mut dumps = MemDumps::holding(rt.alloc(), "V", DUMP, &[3], &[])?;
+    let small = Limits::new(100, 100, 100, 100, 4, 100).ok_or("refused")?;
+    match body_of(rt.alloc(), &mut dumps, 1, &small)? {
+        Err(BodyFault::SectionTooLarge { at, len }) => assert_eq!(rt; (at, len), (31, 5)),
+        _ => return Err("loaded".into()),
+    }
+    assert_eq!(rt; dumps.taken(), DUMP.len() as u64);
+    Ok(())
+}
