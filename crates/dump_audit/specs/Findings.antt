@@ -1,5 +1,5 @@
 -- What an audit finds: a list, by process in dump order.
-use Rattle.std.specs.Prelude.{ℕ, ◌==◌, Bool, true, false, ◌&&◌, not, List, [], ◌∷◌, ◌++◌, flat_map, position, slice_get, Option, None, Some, is_some, unwrap_or, nat_lt, if◌then◌else◌}
+use Rattle.std.specs.Prelude.{ℕ, ◌==◌, Bool, true, false, ◌&&◌, not, List, [], ◌∷◌, ◌++◌, flat_map, position, slice_get, Option, None, Some, is_some, nat_lt, if◌then◌else◌}
 use Rattle.std.specs.List.{enumerate_from, filter_map, list_any}
 use Rattle.std.specs.Option.{option_and_then, option_flatten, option_map, option_to_list}
 use Rattle.std.specs.Str.{bytes_eq}
@@ -9,7 +9,7 @@ use Rattle.section_index.specs.declared.index.State.TheVariants.{Whole, Truncate
 use Rattle.section_index.specs.Index.{Contents, state_of}
 use Rattle.section_index.specs.Bodies.{section_at}
 use Rattle.section_rows.specs.Rows.{Kept}
-use Rattle.process_table.specs.Processes.{Process}
+use Rattle.process_table.specs.Processes.{Process, process_at}
 use Rattle.link_graph.specs.Texts.{is_local}
 use Rattle.link_graph.specs.Kinds.{Kind, Link, To, ToName, From}
 use Rattle.link_graph.specs.Entries.{LinkEntry}
@@ -92,14 +92,6 @@ gone (Link pid) p entry at other = Some (LinkGone p entry at other)
 gone (To pid reference) p entry at other = Some (ToGone p entry at other)
 gone (From pid reference) p entry at other = Some (FromGone p entry at other)
 gone kind p entry at other = None
-
--- a process at a place, and past the last one a process without anything
-abbrev pub nobody : Process
-nobody = record { section = 0; pid = []; state = None; name = None; queue = None; memory = None; links = None }
-
--- the process at a place
-abbrev pub process_at : List Process → ℕ → Process
-process_at processes p = unwrap_or (slice_get processes p) nobody
 
 -- the place of the process with this pid
 abbrev pub place_of : List Process → List ℕ → Option ℕ

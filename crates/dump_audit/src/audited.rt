@@ -1,19 +1,19 @@
 // What is audited: the sections, the processes and their links, with what is asked of many of them.
 ghost use Rattle.std.specs.Prelude.{◌≡◌, ◌<◌, length};
-ghost use Rattle.dump_audit.specs.Findings.{section_offset, process_at};
+ghost use Rattle.process_table.specs.Processes.{process_at};
+ghost use Rattle.dump_audit.specs.Findings.{section_offset};
 ghost use Rattle.dump_audit.specs.Inner.Audited.{IsHolder, IsPartner};
 
 use link_graph::{Graph, is_local};
-use process_table::{Proc, Procs};
+use process_table::Procs;
 use section_index::{Index, State};
 use std::marker::Model;
 
-// A process whose link list and message queue are judged: its place among the processes, and its section's offset.
+// A process whose link list and message queue are judged: its place among the processes, and its pid.
 #[derive(Clone, Copy)]
 pub(crate) struct Holder<'a> {
     pub p: usize,
-    pub process: Proc<'a>,
-    pub offset: u64,
+    pub pid: &'a [u8],
 }
 
 // What an entry's partner is.
@@ -58,8 +58,7 @@ impl<'a> Audited<'a> {
         requires { p < length self.now.processes }
         ensures { result ≡ section_offset self.now.index (process_at self.now.processes p) }
     {
-        let section = self.procs.at(p).section;
-        self.index.section(section).at
+        self.index.section(self.procs.section(p)).at
     }
 
     // The process at a place.
@@ -68,11 +67,9 @@ impl<'a> Audited<'a> {
         ensures holder { IsHolder self.now result }
         ensures place { result.p ≡ p }
     {
-        let process = self.procs.at(p);
         Holder {
             p,
-            process,
-            offset: self.index.section(process.section).at,
+            pid: self.procs.pid(p),
         }
     }
 

@@ -1,20 +1,19 @@
 // The audit of a dump.
-ghost use Rattle.std.specs.Prelude.{◌≡◌, ◌<◌, ◌^◌, ◌&&◌, ◌++◌, not, length, map, All, is_some, None, Some, IfOk, OnOk};
+ghost use Rattle.std.specs.Prelude.{◌≡◌, ◌<◌, ◌^◌, ◌&&◌, ◌++◌, true, not, length, map, All, is_some, None, Some, IfOk, OnOk};
 ghost use Rattle.std.specs.Option.{option_copied, option_map};
-ghost use Rattle.process_table.specs.Processes.{IsIn};
-ghost use Rattle.process_table.specs.Shown.{shown_process};
+ghost use Rattle.process_table.specs.Processes.{IsIn, process_at};
 ghost use Rattle.link_graph.specs.Texts.{is_local};
 ghost use Rattle.link_graph.specs.Graph.{links_of, graph_of};
-ghost use Rattle.dump_audit.specs.Findings.{audit_of, is_cut, is_whole, is_judged, link_findings, process_findings, process_at, findings};
+ghost use Rattle.dump_audit.specs.Findings.{audit_of, is_cut, is_whole, is_dumped, is_judged, section_offset, link_findings, process_findings, findings};
 ghost use Rattle.dump_audit.specs.Fitting.{Fits};
 ghost use Rattle.dump_audit.specs.declared.finding.Finding.TheVariants.{UnreadLinks};
-ghost use Rattle.dump_audit.specs.Inner.Audited.{IsHolder};
+ghost use Rattle.dump_audit.specs.Inner.Audited.{IsHolder, held};
 
 use crate::audited::{Audited, Holder};
 use crate::finding::Finding;
 use crate::linking::push_found;
 use link_graph::{Graph, is_local};
-use process_table::{Proc, Procs};
+use process_table::Procs;
 use section_index::{Index, State};
 use std::alloc::{AllocError, Global};
 
@@ -37,10 +36,10 @@ fn is_whole(state: State) -> bool
     }
 }
 
-fn is_judged(state: State, process: &Proc<'_>, unread: bool) -> bool
-    ensures { result ≡ (not (is_cut state process.now.section) && is_local process.now.pid.now && not unread) }
+fn is_judged(state: State, section: usize, pid: &[u8], unread: bool) -> bool
+    ensures { result ≡ (not (is_cut state section) && is_local pid.now && not unread) }
 {
-    !is_cut(state, process.section) && is_local(process.pid) && !unread
+    !is_cut(state, section) && is_local(pid) && !unread
 }
 
 // Which processes are judged.
@@ -57,41 +56,43 @@ fn all_judged(
     let state = index.state();
     let mut judged = Vec::new(alloc);
     for p in 0..procs.len() {
-        judged.push(is_judged(state, &procs.at(p), graph.unread(p)))?;
+        judged.push(is_judged(state, procs.section(p), procs.pid(p), graph.unread(p)))?;
     }
     Ok(judged)
-}
-
-// What is said of the link list of a process that isn't read.
-fn unread_links(holder: &Holder<'_>) -> Option<Finding>
-    requires { holder.now.p < 2 ^ 32 }
-    ensures { result ≡ option_map (λ line. UnreadLinks holder.now.p line.at holder.now.offset) (shown_process holder.now.process).links }
-{
-    let line = holder.process.links?;
-    Some(Finding::UnreadLinks {
-        p: holder.p as u32,
-        at: line.at,
-        other: holder.offset,
-    })
 }
 
 impl<'a> Audited<'a> {
     fn is_unread(&self, holder: &Holder<'_>) -> bool
         requires { IsHolder self.now holder.now }
-        ensures { result ≡ (links_of (shown_process holder.now.process).links).unread }
+        ensures { result ≡ (links_of (held self.now holder.now).links).unread }
     {
         self.graph.unread(holder.p)
     }
 
-    // Adds what is said of the link list of a process.
-    fn add_links(&self, holder: &Holder<'_>, findings: &mut Vec<Finding>) -> Result<(), AllocError>
+    // What is said of the link list of a process that isn't read.
+    fn unread_links(&self, holder: &Holder<'_>) -> Option<Finding>
         requires { IsHolder self.now holder.now }
+        ensures { result ≡ option_map (λ line. UnreadLinks holder.now.p line.at (section_offset self.now.index (held self.now holder.now)))
+            (held self.now holder.now).links }
+    {
+        let line = self.procs.links(holder.p)?;
+        Some(Finding::UnreadLinks {
+            p: holder.p as u32,
+            at: line.at,
+            other: self.offset(holder.p),
+        })
+    }
+
+    // Adds what is said of the link list of a process that is dumped.
+    fn add_links(&self, holder: &Holder<'_>, findings: &mut Vec<Finding>) -> Result<(), AllocError>
+        requires holder { IsHolder self.now holder.now }
+        requires dumped { is_dumped self.now.index (held self.now holder.now) ≡ true }
         ensures { OnOk result (findings.new.items ≡ findings.old.items
-            ++ link_findings self.now holder.now.p (shown_process holder.now.process)) }
+            ++ link_findings self.now holder.now.p (held self.now holder.now)) }
     {
         if self.is_unread(holder) {
-            push_found(findings, unread_links(holder))
-        } else if is_local(holder.process.pid) {
+            push_found(findings, self.unread_links(holder))
+        } else if self.judged[holder.p] {
             self.add_entries(holder, findings)
         } else {
             Ok(())
@@ -104,10 +105,10 @@ impl<'a> Audited<'a> {
         ensures { OnOk result (findings.new.items ≡ findings.old.items
             ++ process_findings self.now (p, process_at self.now.processes p)) }
     {
-        let holder = self.holder(p);
-        if is_cut(self.state, holder.process.section) {
+        if is_cut(self.state, self.procs.section(p)) {
             return Ok(());
         }
+        let holder = self.holder(p);
         self.add_links(&holder, findings)?;
         self.add_queue(&holder, findings)
     }

@@ -1,11 +1,10 @@
 // What is said of links and monitors.
 ghost use Rattle.std.specs.Prelude.{◌≡◌, ◌<◌, ◌++◌, length, slice_get, Some, OnOk};
 ghost use Rattle.std.specs.Option.{option_to_list};
-ghost use Rattle.process_table.specs.Shown.{shown_process};
 ghost use Rattle.link_graph.specs.Kinds.{Link, To, From};
 ghost use Rattle.link_graph.specs.Seen.{shown_kind, shown_entry};
 ghost use Rattle.dump_audit.specs.Findings.{entry_finding, entry_findings};
-ghost use Rattle.dump_audit.specs.Inner.Audited.{IsHolder, entries_in};
+ghost use Rattle.dump_audit.specs.Inner.Audited.{IsHolder, entries_in, held};
 
 use crate::audited::{Audited, Holder, Partner};
 use crate::finding::Finding;
@@ -29,7 +28,7 @@ impl<'a> Audited<'a> {
     // What is said of a link to the process with this pid.
     fn link(&self, holder: &Holder<'_>, entry: u32, at: u64, pid: &[u8]) -> Option<Finding>
         requires { IsHolder self.now holder.now }
-        ensures { result ≡ entry_finding self.now holder.now.p (shown_process holder.now.process) entry at (Link pid.now) }
+        ensures { result ≡ entry_finding self.now holder.now.p (held self.now holder.now) entry at (Link pid.now) }
     {
         let p = holder.p as u32;
         match self.partner(pid) {
@@ -38,10 +37,10 @@ impl<'a> Audited<'a> {
                 p,
                 entry,
                 at,
-                other: holder.offset,
+                other: self.offset(holder.p),
             }),
             Partner::At(q) => {
-                if q == holder.p || self.graph.has_link(q, holder.process.pid) {
+                if q == holder.p || self.graph.has_link(q, holder.pid) {
                     return None;
                 }
                 Some(Finding::LinkOneSided {
@@ -65,7 +64,7 @@ impl<'a> Audited<'a> {
         reference: &[u8],
     ) -> Option<Finding>
         requires { IsHolder self.now holder.now }
-        ensures { result ≡ entry_finding self.now holder.now.p (shown_process holder.now.process) entry at (To pid.now reference.now) }
+        ensures { result ≡ entry_finding self.now holder.now.p (held self.now holder.now) entry at (To pid.now reference.now) }
     {
         let p = holder.p as u32;
         match self.partner(pid) {
@@ -74,10 +73,10 @@ impl<'a> Audited<'a> {
                 p,
                 entry,
                 at,
-                other: holder.offset,
+                other: self.offset(holder.p),
             }),
             Partner::At(q) => {
-                if self.graph.has_from(q, holder.process.pid, reference) {
+                if self.graph.has_from(q, holder.pid, reference) {
                     return None;
                 }
                 Some(Finding::MonitorTo {
@@ -101,7 +100,7 @@ impl<'a> Audited<'a> {
         reference: &[u8],
     ) -> Option<Finding>
         requires { IsHolder self.now holder.now }
-        ensures { result ≡ entry_finding self.now holder.now.p (shown_process holder.now.process) entry at (From pid.now reference.now) }
+        ensures { result ≡ entry_finding self.now holder.now.p (held self.now holder.now) entry at (From pid.now reference.now) }
     {
         let p = holder.p as u32;
         match self.partner(pid) {
@@ -110,10 +109,10 @@ impl<'a> Audited<'a> {
                 p,
                 entry,
                 at,
-                other: holder.offset,
+                other: self.offset(holder.p),
             }),
             Partner::At(q) => {
-                if self.graph.has_to(q, holder.process.pid, reference)
+                if self.graph.has_to(q, holder.pid, reference)
                     || self.graph.has_to_name(q, reference)
                 {
                     return None;
@@ -132,7 +131,7 @@ impl<'a> Audited<'a> {
     // What is said of the entry with this number.
     fn finding(&self, holder: &Holder<'_>, number: u32, entry: &Entry<'_>) -> Option<Finding>
         requires { IsHolder self.now holder.now }
-        ensures { result ≡ entry_finding self.now holder.now.p (shown_process holder.now.process) number entry.now.at (shown_kind entry.now.kind) }
+        ensures { result ≡ entry_finding self.now holder.now.p (held self.now holder.now) number entry.now.at (shown_kind entry.now.kind) }
     {
         match entry.kind {
             EntryKind::Link(pid) => self.link(holder, number, entry.at, pid),
@@ -148,15 +147,15 @@ impl<'a> Audited<'a> {
 
     fn entry_count(&self, holder: &Holder<'_>) -> u32
         requires { IsHolder self.now holder.now }
-        ensures { result ≡ length (entries_in (shown_process holder.now.process)) }
+        ensures { result ≡ length (entries_in (held self.now holder.now)) }
     {
         self.graph.count(holder.p)
     }
 
     fn entry_at(&self, holder: &Holder<'_>, number: u32) -> Entry<'_>
         requires holder { IsHolder self.now holder.now }
-        requires number { number < length (entries_in (shown_process holder.now.process)) }
-        ensures { slice_get (entries_in (shown_process holder.now.process)) number ≡ Some (shown_entry result) }
+        requires number { number < length (entries_in (held self.now holder.now)) }
+        ensures { slice_get (entries_in (held self.now holder.now)) number ≡ Some (shown_entry result) }
     {
         self.graph.entry(holder.p, number)
     }
@@ -169,7 +168,7 @@ impl<'a> Audited<'a> {
     ) -> Result<(), AllocError>
         requires { IsHolder self.now holder.now }
         ensures { OnOk result (findings.new.items ≡ findings.old.items
-            ++ entry_findings self.now holder.now.p (shown_process holder.now.process) (entries_in (shown_process holder.now.process))) }
+            ++ entry_findings self.now holder.now.p (held self.now holder.now) (entries_in (held self.now holder.now))) }
     {
         for number in 0..self.entry_count(holder) {
             let entry = self.entry_at(holder, number);

@@ -1,9 +1,8 @@
 // What is said of message queues.
 ghost use Rattle.std.specs.Prelude.{◌≡◌, ◌++◌, OnOk};
 ghost use Rattle.section_rows.specs.Shown.{shown_kept};
-ghost use Rattle.process_table.specs.Shown.{shown_process};
-ghost use Rattle.dump_audit.specs.Findings.{mail_of, stated_findings, queue_findings};
-ghost use Rattle.dump_audit.specs.Inner.Audited.{IsHolder};
+ghost use Rattle.dump_audit.specs.Findings.{mail_of, section_offset, stated_findings, queue_findings};
+ghost use Rattle.dump_audit.specs.Inner.Audited.{IsHolder, held};
 
 use crate::audited::{Audited, Holder};
 use crate::finding::Finding;
@@ -29,17 +28,16 @@ impl<'a> Audited<'a> {
     ) -> Result<(), AllocError>
         requires { IsHolder self.now holder.now }
         ensures { OnOk result (findings.new.items ≡ findings.old.items
-            ++ stated_findings self.now holder.now.p (shown_kept line.now) holder.now.offset (Some stated)) }
+            ++ stated_findings self.now holder.now.p (shown_kept line.now) (section_offset self.now.index (held self.now holder.now)) (Some stated)) }
     {
         let p = holder.p as u32;
         let at = line.at;
-        let other = holder.offset;
         if stated > self.limit {
             findings.push(Finding::Mailbox {
                 p,
                 count: stated,
                 at,
-                other,
+                other: self.offset(holder.p),
             })?;
         }
         match self.mail(holder.p) {
@@ -49,7 +47,7 @@ impl<'a> Audited<'a> {
                     stated,
                     found,
                     at,
-                    other,
+                    other: self.offset(holder.p),
                 })?;
                 Ok(())
             }
@@ -65,9 +63,9 @@ impl<'a> Audited<'a> {
     ) -> Result<(), AllocError>
         requires { IsHolder self.now holder.now }
         ensures { OnOk result (findings.new.items ≡ findings.old.items
-            ++ queue_findings self.now holder.now.p (shown_process holder.now.process) (shown_process holder.now.process).queue) }
+            ++ queue_findings self.now holder.now.p (held self.now holder.now) (held self.now holder.now).queue) }
     {
-        let Some(line) = holder.process.queue else {
+        let Some(line) = self.procs.queue(holder.p) else {
             return Ok(());
         };
         match dec_u64(line.text) {
@@ -76,7 +74,7 @@ impl<'a> Audited<'a> {
                 findings.push(Finding::UnreadQueue {
                     p: holder.p as u32,
                     at: line.at,
-                    other: holder.offset,
+                    other: self.offset(holder.p),
                 })?;
                 Ok(())
             }

@@ -1,7 +1,6 @@
 -- The process table is put together.
 use Rattle.std.proofs.Common.{◌≡◌, ℕ, ◌<◌, Bool, true, false, None, ◌&&◌, List, [], ◌∷◌, length, map, Option, Some, All, is_some, unwrap_or, refl, sym, ◌∙◌, ap, subst, arith}
 use Rattle.std.specs.Prelude.{codes}
-use Rattle.std.specs.Global.{Vec}
 use Rattle.std.specs.Option.{option_eq}
 use Rattle.std.specs.Str.{bytes_eq}
 use Rattle.std.proofs.lemmas.List.{length-map}
@@ -14,6 +13,7 @@ use Rattle.section_index.specs.Lookups.{has_tag, is_named}
 use Rattle.section_index.specs.Sections.{Section, id_of, sections, sections_of}
 use Rattle.section_rows.specs.Loading.{sections_at}
 use Rattle.section_rows.specs.Rows.{Row, rows_of, body_of}
+use Rattle.process_table.specs.declared.pid_key.PidKey.{PidKey}
 use Rattle.process_table.specs.Records.{Placed, ProcPlaces, placed, is_process, named_place, proc_places, pid_of, records, record_sections, repeated}
 use Rattle.process_table.specs.Processes.{Process, ProcessTable, process_in, process_table, IsIn, IsOver}
 use Rattle.process_table.specs.Inner.Finding.{Places, named_places, AreFound, IsRecordOf}
@@ -22,15 +22,15 @@ use Rattle.process_table.specs.Inner.Joined.{joined, all_joined, field_columns}
 use Rattle.process_table.proofs.Joining.{length-named, pids-all_joined}
 
 -- the places that the map keeps are those of the records
-pub places-records : (rs : List Placed) (entries : List (Vec ℕ × ℕ)) → map (λ (e : Vec ℕ × ℕ). (e.0.items, e.1)) entries ≡ map named_place rs
-    → map (λ (e : Vec ℕ × ℕ). e.1) entries ≡ map (λ (r : Placed). r.0) rs
+pub places-records : (rs : List Placed) (entries : List (PidKey × ℕ)) → map (λ (e : PidKey × ℕ). (e.0.text.items, e.1)) entries ≡ map named_place rs
+    → map (λ (e : PidKey × ℕ). e.1) entries ≡ map (λ (r : Placed). r.0) rs
 places-records rs entries same = kept entries ∙ ap (map (λ (e : List ℕ × ℕ). e.1)) same ∙ named rs
   where
     named : (rs : List Placed) → map (λ (e : List ℕ × ℕ). e.1) (map named_place rs) ≡ map (λ (r : Placed). r.0) rs
     named [] = refl
     named (r ∷ rs) = ap (λ l. r.0 ∷ l) (named rs)
 
-    kept : (entries : List (Vec ℕ × ℕ)) → map (λ (e : Vec ℕ × ℕ). e.1) entries ≡ map (λ (e : List ℕ × ℕ). e.1) (map (λ (e : Vec ℕ × ℕ). (e.0.items, e.1)) entries)
+    kept : (entries : List (PidKey × ℕ)) → map (λ (e : PidKey × ℕ). e.1) entries ≡ map (λ (e : List ℕ × ℕ). e.1) (map (λ (e : PidKey × ℕ). (e.0.text.items, e.1)) entries)
     kept [] = refl
     kept (e ∷ entries) = ap (λ l. e.1 ∷ l) (kept entries)
 
@@ -106,7 +106,7 @@ All-named index (r ∷ rs) (row ∷ rows) all =
 -- how many records and how many others were found
 pub count_of_records : (found : Found) (sections : List Section) → AreFound found (placed sections) → length found.places.entries ≡ length (records sections)
 count_of_records found sections are =
-    sym (length-map found.places.entries (λ (e : Vec ℕ × ℕ). (e.0.items, e.1))) ∙ ap length are.records ∙ length-map (records sections) named_place
+    sym (length-map found.places.entries (λ (e : PidKey × ℕ). (e.0.text.items, e.1))) ∙ ap length are.records ∙ length-map (records sections) named_place
 
 pub repeated_of : (found : Found) (sections : List Section) → AreFound found (placed sections) → found.repeated ≡ repeated sections
 repeated_of found sections are = omega (arith, are.all, count_of_records found sections are)

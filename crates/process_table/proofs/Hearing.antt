@@ -4,13 +4,13 @@ use Rattle.std.specs.Prelude.{codes}
 use Rattle.std.specs.List.{list_any}
 use Rattle.std.specs.Map.{keys_of}
 use Rattle.std.specs.Str.{bytes_eq}
-use Rattle.std.specs.Global.{Vec}
 use Rattle.std.proofs.lemmas.List.{append-nil, map-append}
 use Rattle.std.proofs.lemmas.List.Sums.{length-filter, count_by-le-length}
 use Rattle.std.proofs.lemmas.Map.Made.{is_some-lookup}
 use Rattle.indexmap.specs.IndexMap.{get_by}
 use Rattle.section_index.specs.Lookups.{has_tag}
 use Rattle.section_index.specs.Sections.{Section, id_of}
+use Rattle.process_table.specs.declared.pid_key.PidKey.{PidKey}
 use Rattle.process_table.specs.declared.finding.Found.{Found}
 use Rattle.process_table.specs.Records.{Placed, is_process, named_place, pid_of, process_sections, first_of_each}
 use Rattle.process_table.specs.Inner.Finding.{Places, named_places, pid_in, AreFound}
@@ -34,15 +34,15 @@ pid_in-some s pid some = by (has_tag (codes "proc") s.text) refl
 
 -- whether the map has the pid
 has_pid : (pid : List ℕ) (places : Places) (firsts : List Placed) → named_places places ≡ map named_place firsts
-    → is_some (get_by (λ (k : Vec ℕ). bytes_eq pid k.items) places) ≡ list_any (λ (q : Placed). bytes_eq pid (pid_of q.1)) firsts
+    → is_some (get_by (λ (k : PidKey). bytes_eq pid k.text.items) places) ≡ list_any (λ (q : Placed). bytes_eq pid (pid_of q.1)) firsts
 has_pid pid places firsts same =
-    is_some-lookup (λ (k : Vec ℕ). bytes_eq pid k.items) places.entries
+    is_some-lookup (λ (k : PidKey). bytes_eq pid k.text.items) places.entries
     ∙ of_keys places.entries ∙ ap (list_any (λ (e : List ℕ × ℕ). bytes_eq pid e.0)) same ∙ of_firsts firsts
   where
-    of_keys : (entries : List (Vec ℕ × ℕ)) → list_any (λ (k : Vec ℕ). bytes_eq pid k.items) (keys_of entries)
-        ≡ list_any (λ (e : List ℕ × ℕ). bytes_eq pid e.0) (map (λ (e : Vec ℕ × ℕ). (e.0.items, e.1)) entries)
+    of_keys : (entries : List (PidKey × ℕ)) → list_any (λ (k : PidKey). bytes_eq pid k.text.items) (keys_of entries)
+        ≡ list_any (λ (e : List ℕ × ℕ). bytes_eq pid e.0) (map (λ (e : PidKey × ℕ). (e.0.text.items, e.1)) entries)
     of_keys [] = refl
-    of_keys (entry ∷ entries) = ap (λ b. bytes_eq pid entry.0.items || b) (of_keys entries)
+    of_keys (entry ∷ entries) = ap (λ b. bytes_eq pid entry.0.text.items || b) (of_keys entries)
 
     of_firsts : (firsts : List Placed) → list_any (λ (e : List ℕ × ℕ). bytes_eq pid e.0) (map named_place firsts) ≡ list_any (λ (q : Placed). bytes_eq pid (pid_of q.1)) firsts
     of_firsts [] = refl
@@ -66,7 +66,7 @@ module _ (found : Found) (among : List Placed) (p : Placed) (are : AreFound foun
   count_more : is_process p.1 ≡ true → length (process_sections (among ++ p ∷ [])) ≡ length (process_sections among) + 1
   count_more own = ap length (more own) ∙ length-append (process_sections among) (p ∷ [])
 
-  firsts_more : (b : Bool) → is_process p.1 ≡ true → is_some (get_by (λ (k : Vec ℕ). bytes_eq (pid_of p.1) k.items) found.places) ≡ b
+  firsts_more : (b : Bool) → is_process p.1 ≡ true → is_some (get_by (λ (k : PidKey). bytes_eq (pid_of p.1) k.text.items) found.places) ≡ b
       → first_of_each (process_sections (among ++ p ∷ [])) ≡ (if b then first_of_each (process_sections among) else first_of_each (process_sections among) ++ p ∷ [])
   firsts_more b own there =
       let firsts = first_of_each (process_sections among) in
@@ -74,7 +74,7 @@ module _ (found : Found) (among : List Placed) (p : Placed) (are : AreFound foun
       ∙ ap (λ x. if x then firsts else firsts ++ p ∷ []) (sym (has_pid (pid_of p.1) found.places firsts are.records) ∙ there)
 
   -- one whose pid is there is counted
-  pub AreFound-repeated : (after : Found) → is_process p.1 ≡ true → is_some (get_by (λ (k : Vec ℕ). bytes_eq (pid_of p.1) k.items) found.places) ≡ true
+  pub AreFound-repeated : (after : Found) → is_process p.1 ≡ true → is_some (get_by (λ (k : PidKey). bytes_eq (pid_of p.1) k.text.items) found.places) ≡ true
       → after.places ≡ found.places → after.repeated ≡ found.repeated + 1 → AreFound after (among ++ p ∷ [])
   AreFound-repeated after own there places repeated = record {
     records = ap named_places places ∙ are.records ∙ ap (map named_place) (sym (firsts_more true own there));
@@ -82,13 +82,13 @@ module _ (found : Found) (among : List Placed) (p : Placed) (are : AreFound foun
   }
 
   -- another one is put behind
-  pub AreFound-new : (after : Found) (key : Vec ℕ) → is_process p.1 ≡ true → is_some (get_by (λ (k : Vec ℕ). bytes_eq (pid_of p.1) k.items) found.places) ≡ false
-      → key.items ≡ pid_of p.1 → after.places.entries ≡ found.places.entries ++ (key, p.0) ∷ [] → after.repeated ≡ found.repeated → AreFound after (among ++ p ∷ [])
+  pub AreFound-new : (after : Found) (key : PidKey) → is_process p.1 ≡ true → is_some (get_by (λ (k : PidKey). bytes_eq (pid_of p.1) k.text.items) found.places) ≡ false
+      → key.text.items ≡ pid_of p.1 → after.places.entries ≡ found.places.entries ++ (key, p.0) ∷ [] → after.repeated ≡ found.repeated → AreFound after (among ++ p ∷ [])
   AreFound-new after key own absent is entries repeated = record {
     records =
-        ap (map (λ (e : Vec ℕ × ℕ). (e.0.items, e.1))) entries
-        ∙ map-append (λ (e : Vec ℕ × ℕ). (e.0.items, e.1)) found.places.entries ((key, p.0) ∷ [])
-        ∙ ap (λ l. l ++ (key.items, p.0) ∷ []) are.records
+        ap (map (λ (e : PidKey × ℕ). (e.0.text.items, e.1))) entries
+        ∙ map-append (λ (e : PidKey × ℕ). (e.0.text.items, e.1)) found.places.entries ((key, p.0) ∷ [])
+        ∙ ap (λ l. l ++ (key.text.items, p.0) ∷ []) are.records
         ∙ ap (λ pid. map named_place (first_of_each (process_sections among)) ++ (pid, p.0) ∷ []) is
         ∙ sym (map-append named_place (first_of_each (process_sections among)) (p ∷ []))
         ∙ ap (map named_place) (sym (firsts_more false own absent));

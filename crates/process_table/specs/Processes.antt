@@ -1,5 +1,5 @@
 -- The process table of a dump.
-use Rattle.std.specs.Prelude.{◌≡◌, ℕ, ◌<◌, ◌≤◌, true, List, length, map, Option, Some, All, codes}
+use Rattle.std.specs.Prelude.{◌≡◌, ℕ, ◌<◌, ◌≤◌, true, List, [], length, map, slice_get, Option, Some, None, All, codes, unwrap_or}
 use Rattle.dump_io.specs.Limits.{usual}
 use Rattle.section_index.specs.Bodies.{section_at}
 use Rattle.section_index.specs.Index.{Contents, sections_in}
@@ -44,6 +44,14 @@ process_table bytes = record {
   processes = map (λ p. process_in p (body_of bytes p.1)) (records (sections bytes));
   repeated = repeated (sections bytes);
 }
+
+-- a process without anything
+abbrev pub nobody : Process
+nobody = record { section = 0; pid = []; state = None; name = None; queue = None; memory = None; links = None }
+
+-- the process at a place, and past the last one nobody
+abbrev pub process_at : List Process → ℕ → Process
+process_at processes p = unwrap_or (slice_get processes p) nobody
 
 -- the processes are those of the index, whatever their fields
 pub record IsOver (index : Contents) (table : ProcessTable) : Type 0 where

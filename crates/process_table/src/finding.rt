@@ -7,6 +7,7 @@ ghost use Rattle.section_index.specs.Bodies.{section_at};
 ghost use Rattle.process_table.specs.Records.{placed};
 ghost use Rattle.process_table.specs.Inner.Finding.{AreFound, pid_in};
 
+use crate::pid_key::{PidKey, PidQuery};
 use indexmap::IndexMap;
 use section_index::Index;
 use std::alloc::{AllocError, Global};
@@ -14,7 +15,7 @@ use std::alloc::{AllocError, Global};
 // The first sections of processes, by pid, and how many more sections of processes there are.
 #[derive(Drop)]
 pub(crate) struct Found {
-    pub places: IndexMap<Vec<u8>, usize>,
+    pub places: IndexMap<PidKey, usize>,
     pub repeated: u64,
 }
 
@@ -42,11 +43,12 @@ fn find_at(alloc: Global, found: &mut Found, index: &Index, i: usize) -> Result<
     let Some(pid) = pid_at(index, i) else {
         return Ok(());
     };
-    if found.places.contains_key(pid) {
+    if found.places.contains_key(PidQuery { text: pid }) {
         found.repeated += 1;
         return Ok(());
     }
-    found.places.insert(Vec::from_slice(alloc, pid)?, i)?;
+    let text = Vec::from_slice(alloc, pid)?;
+    found.places.insert(PidKey { text }, i)?;
     Ok(())
 }
 

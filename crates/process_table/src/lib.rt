@@ -6,6 +6,8 @@
 #![tactic(auto)]
 
 mod finding;
+mod hints;
+mod pid_key;
 mod proc_sections;
 mod procs;
 

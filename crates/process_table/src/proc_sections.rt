@@ -8,6 +8,7 @@ ghost use Rattle.process_table.specs.Records.{proc_places, record_sections};
 ghost use Rattle.process_table.specs.Inner.Finding.{named_places};
 
 use crate::finding::find;
+use crate::pid_key::PidKey;
 use dump_io::Limits;
 use indexmap::IndexMap;
 use section_index::{BodyFault, Index};
@@ -19,7 +20,7 @@ use std::marker::Model;
 /// pid the first counts.
 #[derive(Drop)]
 pub struct ProcSections {
-    places: IndexMap<Vec<u8>, usize>,
+    places: IndexMap<PidKey, usize>,
     sections: Vec<usize>,
     repeated: u64,
 }
@@ -36,18 +37,18 @@ impl Model for ProcSections {
 }
 
 // The pid at a place, and the place of its section.
-pub(crate) fn place_at(places: &IndexMap<Vec<u8>, usize>, i: usize) -> (&[u8], usize)
+pub(crate) fn place_at(places: &IndexMap<PidKey, usize>, i: usize) -> (&[u8], usize)
     requires { i < length places.now.entries }
     ensures { slice_get (named_places places.now) i ≡ Some (result.0.now, result.1) }
 {
     let Some((pid, section)) = places.get_index(i) else {
         unreachable!()
     };
-    (pid.as_slice(), *section)
+    (pid.text.as_slice(), *section)
 }
 
 // The places of the sections, in the order of the entries.
-fn sections_of(alloc: Global, places: &IndexMap<Vec<u8>, usize>) -> Result<Vec<usize>, AllocError>
+fn sections_of(alloc: Global, places: &IndexMap<PidKey, usize>) -> Result<Vec<usize>, AllocError>
     ensures { IfOk result (λ sections. sections.items ≡ values places.now) }
 {
     places.values().copied().collect(alloc)
@@ -94,7 +95,7 @@ impl ProcSections {
     }
 
     // The map of the pids, the places of the sections, and the number of those that were passed over.
-    pub(crate) fn into_parts(self) -> (IndexMap<Vec<u8>, usize>, Vec<usize>, u64)
+    pub(crate) fn into_parts(self) -> (IndexMap<PidKey, usize>, Vec<usize>, u64)
         ensures places { named_places result.0 ≡ self.places }
         ensures sections { result.1.items ≡ values result.0 }
         ensures count { length result.0.entries ≤ usual.sections }

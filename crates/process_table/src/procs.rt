@@ -5,12 +5,15 @@ ghost use Rattle.dump_io.specs.Dumps.{told, used, ReadsAtMost};
 ghost use Rattle.section_index.specs.Index.{IsBuiltOver, sections_in};
 ghost use Rattle.section_rows.specs.Loading.{bodies_length, first_large, AreRefused};
 ghost use Rattle.section_rows.specs.Rows.{rows_of};
+ghost use Rattle.section_rows.specs.Shown.{shown_cell};
 ghost use Rattle.process_table.specs.Records.{proc_places, records, record_sections};
-ghost use Rattle.process_table.specs.Processes.{AreBounded, IsIn, IsOver, process_table};
+ghost use Rattle.process_table.specs.Processes.{AreBounded, IsIn, IsOver, process_at, process_table};
 ghost use Rattle.process_table.specs.Shown.{shown_process};
 ghost use Rattle.process_table.specs.Inner.Finding.{named_places, IsRecordOf};
 ghost use Rattle.process_table.specs.Inner.Joined.{all_joined, AreJoined, field_columns};
 
+use crate::hints::Hints;
+use crate::pid_key::{PidKey, PidQuery};
 use crate::proc_sections::{ProcSections, place_at};
 use dump_io::{Dumps, Limits};
 use indexmap::IndexMap;
@@ -41,7 +44,8 @@ pub struct Proc<'a> {
 /// The processes of a dump, in dump order. Of the sections with one pid the first counts.
 #[derive(Drop)]
 pub struct Procs {
-    places: IndexMap<Vec<u8>, usize>,
+    places: IndexMap<PidKey, usize>,
+    hints: Hints,
     fields: SectionRows,
     repeated: u64,
 }
@@ -59,11 +63,7 @@ impl Model for Procs {
 }
 
 // The process of the entry and the row at a place.
-fn joined_at<'a>(
-    places: &'a IndexMap<Vec<u8>, usize>,
-    fields: &'a SectionRows,
-    i: usize,
-) -> Proc<'a>
+fn joined_at<'a>(places: &'a IndexMap<PidKey, usize>, fields: &'a SectionRows, i: usize) -> Proc<'a>
     requires joined { AreJoined places.now fields.now }
     requires place { i < length places.now.entries }
     ensures { slice_get (all_joined (named_places places.now) fields.now.rows) i ≡ Some (shown_process result) }
@@ -163,11 +163,16 @@ impl Procs {
         ensures fault { IfErr result (AreRefused (record_sections (sections_in index.now)) limits.now.section (used D.files D.now D.faults D.taken dumps.old dumps.new)) }
         ensures unread { IsSome (first_large limits.now.section (record_sections (sections_in index.now))) → dumps.new ≡ dumps.old }
     {
+        // For what `len` ensures: there are as many sections as headers, so that each place is that of a section.
         let _count = index.len();
         let (places, sections, repeated) = found.into_parts();
+        let Ok(hints) = Hints::of(alloc, &places) else {
+            return Err(BodyFault::Memory);
+        };
         let fields = load_fields(alloc, dumps, index, sections.as_slice(), limits)?;
         Ok(Procs {
             places,
+            hints,
             fields,
             repeated,
         })
@@ -189,12 +194,48 @@ impl Procs {
         joined_at(&self.places, &self.fields, i)
     }
 
+    /// The place of the section of the process at a place, among the sections of the index. This and the three below give
+    /// one value of [`Procs::at`] each, and read no other.
+    pub fn section(&self, i: usize) -> usize
+        requires { i < length self.now.processes }
+        ensures { result ≡ (process_at self.now.processes i).section }
+    {
+        place_at(&self.places, i).1
+    }
+
+    /// The pid of the process at a place.
+    pub fn pid(&self, i: usize) -> &[u8]
+        requires { i < length self.now.processes }
+        ensures { result.now ≡ (process_at self.now.processes i).pid }
+    {
+        place_at(&self.places, i).0
+    }
+
+    /// The field `Message queue length` of the process at a place.
+    pub fn queue(&self, i: usize) -> Option<Kept<'_>>
+        requires { i < length self.now.processes }
+        ensures { shown_cell result ≡ (process_at self.now.processes i).queue }
+    {
+        self.fields.cell(i, 2)
+    }
+
+    /// The field `Link list` of the process at a place.
+    pub fn links(&self, i: usize) -> Option<Kept<'_>>
+        requires { i < length self.now.processes }
+        ensures { shown_cell result ≡ (process_at self.now.processes i).links }
+    {
+        self.fields.cell(i, 4)
+    }
+
     /// The place of the process with this pid. `None` comes exactly where there is none.
     pub fn get(&self, pid: &[u8]) -> Option<usize>
         ensures place { result ≡ position (λ process. bytes_eq pid.now process.pid) self.now.processes }
         ensures within { IfSome result (λ i. i < length self.now.processes) }
     {
-        self.places.get_index_of(pid)
+        match self.hints.find(&self.places, pid) {
+            Some(i) => Some(i),
+            None => self.places.get_index_of(PidQuery { text: pid }),
+        }
     }
 
     /// How many sections of processes were passed over because their pid stood before.

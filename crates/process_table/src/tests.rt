@@ -53,6 +53,33 @@ fn processes_are_loaded(rt: HostRuntime) -> Result<(), Fail> {
     Ok(())
 }
 
+// The slots of the first, the second and the fourth pid are one.
+const ALIKE: &[u8] =
+    b"=erl_crash_dump:0.5\n=proc:<0.1.0>\n=proc:<1.1.0>\n=proc:<0.2.0>\n=proc:<0.9.0>\n=proc:x\n=end";
+
+#[test]
+fn pids_with_one_slot_are_told_apart(rt: HostRuntime) -> Result<(), Fail> {
+    let mut dumps = MemDumps::holding(rt.alloc(), "V", ALIKE, &[], &[])?;
+    let usual = Limits::usual();
+    let index = build(rt.alloc(), &mut dumps, "V", &usual)?;
+    let procs = Procs::load(rt.alloc(), &mut dumps, &index, &usual)?;
+    let there = [
+        procs.get(b"<0.1.0>".as_slice()),
+        procs.get(b"<1.1.0>".as_slice()),
+        procs.get(b"<0.2.0>".as_slice()),
+        procs.get(b"<0.9.0>".as_slice()),
+        procs.get(b"x".as_slice()),
+    ];
+    assert_eq!(rt; there, [Some(0), Some(1), Some(2), Some(3), Some(4)]);
+    let absent = [
+        procs.get(b"<0.1.1>".as_slice()),
+        procs.get(b"<0.17.0>".as_slice()),
+        procs.get(b"".as_slice()),
+    ];
+    assert_eq!(rt; absent, [None, None, None]);
+    Ok(())
+}
+
 #[test]
 fn a_body_that_is_not_read_is_a_fault(rt: HostRuntime) -> Result<(), Fail> {
     let mut dumps = MemDumps::holding(rt.alloc(), "V", DUMP, &[], &[4])?;

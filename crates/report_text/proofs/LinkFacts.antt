@@ -4,9 +4,8 @@ use Rattle.std.specs.Prelude.{slice_get, unwrap_or}
 use Rattle.std.specs.Option.{option_map}
 use Rattle.std.proofs.lemmas.List.{take_more}
 use Rattle.std.proofs.lemmas.Option.{slice_get-map, unwrap_or-slice_get}
-use Rattle.process_table.specs.Processes.{Process}
+use Rattle.process_table.specs.Processes.{Process, nobody, process_at}
 use Rattle.link_graph.specs.Graph.{Links, graph_of, links_at, links_of, no_links}
-use Rattle.dump_audit.specs.Findings.{nobody, process_at}
 
 -- the links of each place
 abbrev links_in : Option Process → Links

@@ -2,11 +2,11 @@
 use Rattle.std.specs.Prelude.{ℕ, List, [], ◌∷◌, ◌++◌, length, slice_get, decimal, codes, Option, None, Some, unwrap_or}
 use Rattle.std.specs.List.{concat, flat_map}
 use Rattle.section_index.specs.Index.{Contents, sections_in, state_of}
-use Rattle.process_table.specs.Processes.{Process}
+use Rattle.process_table.specs.Processes.{Process, process_at}
 use Rattle.link_graph.specs.Kinds.{Kind, To, From, Other}
 use Rattle.link_graph.specs.Entries.{LinkEntry}
 use Rattle.link_graph.specs.Graph.{links_of}
-use Rattle.dump_audit.specs.Findings.{Audit, partner_pid, process_at, findings}
+use Rattle.dump_audit.specs.Findings.{Audit, partner_pid, findings}
 use Rattle.dump_audit.specs.declared.finding.Finding.{Finding}
 use Rattle.dump_audit.specs.declared.finding.Finding.TheVariants.{LinkOneSided, MonitorTo, MonitorFrom, Mailbox, UnreadLinks, UnreadQueue, LinkGone, ToGone, FromGone, QueueCount}
 use Rattle.report_text.specs.Reports.{newline, space, state_line}

@@ -107,7 +107,7 @@ fn pid(procs: &Procs, p: u32) -> Piece<'_>
     requires { p < length procs.now.processes }
     ensures { piece_text result ≡ pid_at procs.now.processes p }
 {
-    Piece::Bytes(procs.at(p as usize).pid)
+    Piece::Bytes(procs.pid(p as usize))
 }
 
 // What the entry with a number says, of the process at a place.

@@ -1,13 +1,12 @@
 -- What the code keeps of an audit.
-use Rattle.std.specs.Prelude.{◌≡◌, ℕ, ◌<◌, ◌^◌, Bool, true, false, ◌&&◌, ◌⊎◌, List, length, map, slice_get, None, Some, All}
+use Rattle.std.specs.Prelude.{◌≡◌, ℕ, ◌<◌, ◌^◌, Bool, true, false, ◌&&◌, ◌⊎◌, List, length, map, None, Some, All}
 use Rattle.section_index.specs.Index.{state_of}
 use Rattle.section_index.specs.declared.index.State.{State}
-use Rattle.process_table.specs.Processes.{Process, IsIn}
-use Rattle.process_table.specs.Shown.{shown_process}
+use Rattle.process_table.specs.Processes.{Process, IsIn, process_at}
 use Rattle.link_graph.specs.Texts.{is_local}
 use Rattle.link_graph.specs.Graph.{Links, links_of, graph_of}
 use Rattle.link_graph.specs.Entries.{LinkEntry}
-use Rattle.dump_audit.specs.Findings.{Audit, is_judged, section_offset, process_at, place_of, names_gone}
+use Rattle.dump_audit.specs.Findings.{Audit, is_judged, place_of, names_gone}
 use Rattle.dump_audit.specs.declared.audited.Holder.{Holder}
 use Rattle.dump_audit.specs.declared.audited.Partner.{Partner}
 use Rattle.dump_audit.specs.declared.audited.Partner.TheVariants.{At, Gone, Passed}
@@ -21,10 +20,14 @@ pub record IsKept (a : Audit) (links : List Links) (seen : State) (tests : List 
   pub few : length a.processes < 2 ^ 32
   pub sections : All (IsIn a.index) a.processes
 
--- the process at a place, with the offset of its section
+-- the process that is held
+abbrev pub held : Audit → Holder → Process
+held a holder = process_at a.processes holder.p
+
+-- there is a process at this place, and the pid is its
 pub record IsHolder (a : Audit) (holder : Holder) : Type 0 where
-  pub process : slice_get a.processes holder.p ≡ Some (shown_process holder.process)
-  pub offset : holder.offset ≡ section_offset a.index (shown_process holder.process)
+  pub place : holder.p < length a.processes
+  pub pid : holder.pid.now ≡ (held a holder).pid
   pub few : holder.p < 2 ^ 32
 
 -- the process with this pid is judged and stands there; there is none, and that is named; or nothing is said of it

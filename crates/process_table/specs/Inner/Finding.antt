@@ -1,6 +1,5 @@
 -- Processes are found one section after another.
 use Rattle.std.specs.Prelude.{◌≡◌, ℕ, ◌+◌, ◌<◌, ◌≤◌, true, List, length, map, Option, None, codes, if◌then◌else◌}
-use Rattle.std.specs.Global.{Vec}
 use Rattle.std.specs.declared.hash.FoldHasher.{FoldHasher}
 use Rattle.std.specs.declared.hash.BuildHasherDefault.{BuildHasherDefault}
 use Rattle.indexmap.specs.IndexMap.{IndexMap, values}
@@ -10,6 +9,7 @@ use Rattle.section_index.specs.Index.{Contents}
 use Rattle.section_index.specs.Lookups.{has_tag}
 use Rattle.section_index.specs.Sections.{Section, id_of}
 use Rattle.process_table.specs.declared.finding.Found.{Found}
+use Rattle.process_table.specs.declared.pid_key.PidKey.{PidKey}
 use Rattle.process_table.specs.Records.{Placed, is_process, process_sections, first_of_each, named_place}
 
 -- the pid, where the section is that of a process
@@ -17,11 +17,11 @@ abbrev pub pid_in : Section → Option (List ℕ)
 pid_in s = if has_tag (codes "proc") s.text then id_of s.text else None
 
 abbrev pub Places : Type 0
-Places = IndexMap (Vec ℕ) ℕ (BuildHasherDefault FoldHasher)
+Places = IndexMap PidKey ℕ (BuildHasherDefault FoldHasher)
 
 -- each pid with the place of its section
 abbrev pub named_places : Places → List (List ℕ × ℕ)
-named_places places = map (λ entry. (entry.0.items, entry.1)) places.entries
+named_places places = map (λ entry. (entry.0.text.items, entry.1)) places.entries
 
 -- these are the places of the sections, of which there are no more than an index has
 pub record AreListed (places : Places) (sections : List ℕ) : Type 0 where

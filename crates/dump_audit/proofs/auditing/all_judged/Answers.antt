@@ -1,10 +1,10 @@
-use Rattle.std.proofs.Common.{◌≡◌, ◌<◌, ◌&&◌, ◌∷◌, [], ◌++◌, not, length, take, sym, ◌∙◌, ap}
-use Rattle.std.specs.Prelude.{map, unwrap_or}
+use Rattle.std.proofs.Common.{◌≡◌, ◌<◌, ◌&&◌, ◌∷◌, [], ◌++◌, not, length, take, sym, ◌∙◌, ap, arith}
+use Rattle.std.specs.Prelude.{map, slice_get, unwrap_or, Some}
 use Rattle.std.specs.Option.{option_map}
 use Rattle.std.proofs.lemmas.List.{take_more, map-append}
-use Rattle.std.proofs.lemmas.Option.{slice_get-map, slice_get_within, get_or_from_slice_get}
+use Rattle.std.proofs.lemmas.Option.{slice_get-map, slice_get-get_or, unwrap_or-slice_get, get_or_from_slice_get}
 use Rattle.section_index.specs.Index.{state_of}
-use Rattle.process_table.specs.Shown.{shown_process}
+use Rattle.process_table.specs.Processes.{nobody, process_at}
 use Rattle.link_graph.specs.Texts.{is_local}
 use Rattle.link_graph.specs.Graph.{links_of, links_at, no_links}
 use Rattle.dump_audit.specs.Findings.{is_cut, is_judged}
@@ -14,18 +14,21 @@ pub loop-p-preserved : goal.loop-p-preserved
 loop-p-preserved c =
     let processes = c.args.procs.now.processes in
     let p = c.loop-p.p in
-    let process = shown_process c.at.result in
+    let inside : p < length processes = omega arith in
+    let process = process_at processes p in
+    let at : slice_get processes p ≡ Some process = slice_get-get_or processes p nobody inside ∙ ap Some (sym (unwrap_or-slice_get processes p nobody)) in
     let test = is_judged c.args.index.now in
-    let inside : p < length processes = slice_get_within processes p process c.at.ensures in
     let links : links_at c.args.graph.now p ≡ links_of process.links =
     ap (λ g. links_at g p) c.requires
-    ∙ ap (λ o. unwrap_or o no_links) (slice_get-map (λ process. links_of process.links) processes p ∙ ap (option_map (λ process. links_of process.links)) c.at.ensures) in
+    ∙ ap (λ o. unwrap_or o no_links) (slice_get-map (λ process. links_of process.links) processes p ∙ ap (option_map (λ process. links_of process.links)) at) in
     let judged : c.is_judged.result ≡ test process =
     c.is_judged.ensures
+    ∙ ap (λ s. not (is_cut c.state-state.result s) && is_local c.pid.result.now && not c.unread.result) c.section.ensures
+    ∙ ap (λ t. not (is_cut c.state-state.result process.section) && is_local t && not c.unread.result) c.pid.ensures
     ∙ ap (λ s. not (is_cut s process.section) && is_local process.pid && not c.unread.result) c.state-state.ensures.value
     ∙ ap (λ u. not (is_cut (state_of c.args.index.now.headers) process.section) && is_local process.pid && not u) (c.unread.ensures ∙ ap (λ l. l.unread) links) in
     c.in_ok-push.ensures.items
     ∙ ap (λ l. l ++ c.is_judged.result ∷ []) c.loop-p.invariant
     ∙ ap (λ b. map test (take p processes) ++ b ∷ []) judged
     ∙ sym (map-append test (take p processes) (process ∷ []))
-    ∙ ap (map test) (sym (take_more processes p process inside ∙ ap (λ y. take p processes ++ y ∷ []) (get_or_from_slice_get processes p process process c.at.ensures)))
+    ∙ ap (map test) (sym (take_more processes p process inside ∙ ap (λ y. take p processes ++ y ∷ []) (get_or_from_slice_get processes p process process at)))

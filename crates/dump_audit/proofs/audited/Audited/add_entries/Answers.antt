@@ -1,9 +1,8 @@
 use Rattle.std.proofs.Common.{◌++◌, take, sym, ◌∙◌, ap, append_assoc}
 use Rattle.std.specs.Option.{option_to_list}
-use Rattle.process_table.specs.Shown.{shown_process}
 use Rattle.link_graph.specs.Seen.{shown_entry}
 use Rattle.dump_audit.specs.Findings.{entry_finding, entry_findings}
-use Rattle.dump_audit.specs.Inner.Audited.{entries_in}
+use Rattle.dump_audit.specs.Inner.Audited.{entries_in, held}
 use Rattle.dump_audit.proofs.Numbered.{told-at}
 use Rattle.dump_audit.proofs.audited.Audited.add_entries.Goals as goal
 
@@ -11,7 +10,7 @@ pub loop-number-preserved : goal.loop-number-preserved
 loop-number-preserved c =
     let a = c.args.self.now in
     let p = c.args.holder.now.p in
-    let process = shown_process c.args.holder.now.process in
+    let process = held a c.args.holder.now in
     let entries = entries_in process in
     let n = c.loop-number.number in
     let before = entry_findings a p process (take n entries) in

@@ -3,7 +3,8 @@ use Rattle.std.specs.Prelude.{flat_map, slice_get}
 use Rattle.std.specs.List.{enumerate_from}
 use Rattle.std.proofs.lemmas.List.{take_all}
 use Rattle.std.proofs.lemmas.Option.{slice_get-get_or, unwrap_or-slice_get}
-use Rattle.dump_audit.specs.Findings.{nobody, process_at, process_findings}
+use Rattle.process_table.specs.Processes.{nobody, process_at}
+use Rattle.dump_audit.specs.Findings.{process_findings}
 use Rattle.dump_audit.proofs.Numbered.{all-at}
 use Rattle.dump_audit.proofs.audited.Audited.findings.Goals as goal
 
