@@ -3,7 +3,7 @@ use Rattle.std.proofs.Common.{◌≡◌, ℕ, zero, suc, ◌+◌, ◌<◌, Bool,
 use Rattle.std.specs.Option.{option_map, option_or}
 use Rattle.std.proofs.lemmas.Bool.{eqb-true, false_from_ne_true}
 use Rattle.std.proofs.lemmas.Option.{some_pair_parts}
-use Rattle.memchr.specs.Find.{Passes, is_byte, Nowhere}
+use Rattle.link_graph.specs.Inner.Searching.{Holds, Nowhere}
 use Rattle.link_graph.specs.Reading.{is_comma, at_last_comma}
 
 -- the last comma, from what is found behind the first byte and whether that byte is one
@@ -11,7 +11,7 @@ abbrev led_comma : ℕ → List ℕ → Option (List ℕ × List ℕ) → Bool �
 led_comma c text o b = option_or (option_map (λ found. (c ∷ found.0, found.1)) o) (if b then Some ([], text) else None)
 
 -- a text without a comma
-pub at_last_comma-none : (text : List ℕ) → Nowhere (Passes (is_byte 44) text) 0 (length text) → at_last_comma text ≡ None
+pub at_last_comma-none : (text : List ℕ) → Nowhere 44 text 0 (length text) → at_last_comma text ≡ None
 unfolding at_last_comma
 at_last_comma-none [] none = refl
 at_last_comma-none (c ∷ text) none =
@@ -21,7 +21,7 @@ at_last_comma-none (c ∷ text) none =
     ∙ ap (led_comma c text None) first
 
 -- a comma at this place and none behind it
-pub at_last_comma-at : (text : List ℕ) (k : ℕ) → k < length text → Nowhere (Passes (is_byte 44) text) (k + 1) (length text) → Passes (is_byte 44) text k
+pub at_last_comma-at : (text : List ℕ) (k : ℕ) → k < length text → Nowhere 44 text (k + 1) (length text) → Holds 44 text k
     → at_last_comma text ≡ Some (take k text, drop (suc k) text)
 unfolding at_last_comma
 at_last_comma-at [] k fits none here = absurd (omega (arith, fits))

@@ -4,7 +4,7 @@ use Rattle.std.specs.Prelude.{slice_index}
 use Rattle.std.proofs.lemmas.Bool.{eqb-true, false_from_ne_true, ne_eqb}
 use Rattle.std.proofs.lemmas.List.{drop_more, drop-drop, length-drop, get_or-drop, append-nil, take-append-drop}
 use Rattle.std.proofs.Math.Seq.{take-add, take-suc}
-use Rattle.memchr.specs.Find.{Passes, is_byte, Nowhere, NoneBefore}
+use Rattle.link_graph.specs.Inner.Searching.{Holds, Nowhere}
 use Rattle.link_graph.specs.Entries.{is_gap, led_by, cut}
 
 -- parts with a front before the first of them
@@ -39,11 +39,11 @@ unfolding cut
 cut-other c [] h = refl
 cut-other c (d ∷ text) h = ap (λ b. if b && (d == 32) then [] ∷ cut text else led_by c (cut (d ∷ text))) h
 
-not_space : (text : List ℕ) (k : ℕ) → (Passes (is_byte 32) text k → ⊥) → (slice_index text k == 32) ≡ false
+not_space : (text : List ℕ) (k : ℕ) → (Holds 32 text k → ⊥) → (slice_index text k == 32) ≡ false
 not_space text k none = false_from_ne_true _ none
 
 -- bytes without a space, and one more of them
-cut-free : (n : ℕ) (text : List ℕ) → n < length text → Nowhere (Passes (is_byte 32) text) 0 (suc n) → cut text ≡ lead (take n text) (cut (drop n text))
+cut-free : (n : ℕ) (text : List ℕ) → n < length text → Nowhere 32 text 0 (suc n) → cut text ≡ lead (take n text) (cut (drop n text))
 cut-free zero text fits none = refl
 cut-free (suc n) [] fits none = absurd (omega (arith, fits))
 cut-free (suc n) (c ∷ []) fits none = absurd (omega (arith, fits))
@@ -52,7 +52,7 @@ cut-free (suc n) (c ∷ d ∷ text) fits none =
     ∙ ap (led_by c) (cut-free n (d ∷ text) (omega (arith, fits)) (λ k low high. none (suc k) (omega arith) (omega (arith, high))))
 
 -- bytes without a space are one part
-cut-none : (text : List ℕ) → Nowhere (Passes (is_byte 32) text) 0 (length text) → cut text ≡ text ∷ []
+cut-none : (text : List ℕ) → Nowhere 32 text 0 (length text) → cut text ≡ text ∷ []
 unfolding cut
 cut-none [] none = refl
 cut-none (c ∷ []) none = refl
@@ -67,17 +67,17 @@ IsCutTo text from = cut text ≡ lead (take from text) (cut (drop from text))
 -- the first space behind a place
 pub record IsSpace (text : List ℕ) (from k : ℕ) : Type 0 where
   pub fits : from + k < length text
-  pub before : Nowhere (Passes (is_byte 32) (drop from text)) 0 k
-  pub here : Passes (is_byte 32) (drop from text) k
+  pub before : Nowhere 32 (drop from text) 0 k
+  pub here : Holds 32 (drop from text) k
 
 -- what a search of the rest found
-pub found_space : (text rest : List ℕ) (from k : ℕ) → rest ≡ drop from text → NoneBefore (Passes (is_byte 32) rest) 0 (length rest) k × Passes (is_byte 32) rest k → IsSpace text from k
+pub found_space : (text rest : List ℕ) (from k : ℕ) → rest ≡ drop from text → (k < length rest) × Nowhere 32 rest 0 k × Holds 32 rest k → IsSpace text from k
 found_space text rest from k e found =
-    let fits : k < length (drop from text) = subst (λ l. k < length l) e found.0.high in
+    let fits : k < length (drop from text) = subst (λ l. k < length l) e found.0 in
     record {
       fits = omega (arith, fits, length-drop from text);
-      before = subst (λ l. Nowhere (Passes (is_byte 32) l) 0 k) e found.0.before;
-      here = subst (λ l. Passes (is_byte 32) l k) e found.1;
+      before = subst (λ l. Nowhere 32 l 0 k) e found.1;
+      here = subst (λ l. Holds 32 l k) e found.2;
     }
 
 -- further on to a place
@@ -154,7 +154,7 @@ cut_to-more text from (suc n) cut_to space other =
     subst (λ i. IsCutTo text (i + 1)) (sym next) (cut_to-byte text (from + n + 1) at (omega (arith, space.fits)) (ap (λ c. c == 44) here))
 
 -- where no space is left, the rest is one part
-pub cut-last : (text rest : List ℕ) (from : ℕ) → rest ≡ drop from text → IsCutTo text from → Nowhere (Passes (is_byte 32) rest) 0 (length rest) → cut text ≡ text ∷ []
+pub cut-last : (text rest : List ℕ) (from : ℕ) → rest ≡ drop from text → IsCutTo text from → Nowhere 32 rest 0 (length rest) → cut text ≡ text ∷ []
 cut-last text rest from e cut_to none =
     let all : cut (drop from text) ≡ drop from text ∷ [] = subst (λ l. cut l ≡ l ∷ []) e (cut-none rest none) in
     cut_to ∙ ap (lead (take from text)) all ∙ lead-part (take from text) (drop from text) [] ∙ ap (λ t. t ∷ []) (take-append-drop from text)

@@ -6,7 +6,10 @@ pub mod Cuts
 pub mod Examples
 pub mod Fronts
 pub mod KindLaws
-pub mod Said
+pub mod Laying
+pub mod Numbers
+pub mod Opening
+pub mod Searching
 pub mod Sets
 pub mod Spans
 pub mod Taken

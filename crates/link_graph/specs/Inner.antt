@@ -1,3 +1,6 @@
+pub mod Layouts
+pub mod Numbers
+pub mod Opening
+pub mod Searching
 pub mod Sets
 pub mod Spans
-pub mod Spelling

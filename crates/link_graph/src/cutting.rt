@@ -4,9 +4,9 @@ ghost use Rattle.std.specs.Option.{option_copied};
 ghost use Rattle.std.specs.Iterator.{YieldsFirstBy, item_count};
 ghost use Rattle.link_graph.specs.Entries.{cut, cut_rest, list_parts};
 ghost use Rattle.link_graph.specs.Seen.{shown_piece};
+ghost use Rattle.link_graph.specs.Inner.Searching.{IsFirst};
 
 use crate::texts::inside;
-use memchr::memchr;
 use std::marker::Model;
 
 /// A part of a list's text.
@@ -17,13 +17,25 @@ pub(crate) struct Piece<'a> {
     pub text: &'a [u8],
 }
 
+// Where the first space stands. A part is short, and a search byte by byte finds its end before one by vectors has begun.
+fn first_space(text: &[u8]) -> Option<usize>
+    ensures { IsFirst 32 text.now result }
+{
+    for i in 0..text.len() {
+        if text[i] == b' ' {
+            return Some(i);
+        }
+    }
+    None
+}
+
 // Where the first comma stands that has a space behind it. A list has fewer spaces than commas, so they are looked for.
 fn first_gap(text: &[u8]) -> Option<usize>
     ensures { MatchOption result (cut text.now ≡ text.now ∷ [])
         (λ gap. (gap + 2 ≤ length text.now) × (cut text.now ≡ take gap text.now ∷ cut (drop (gap + 2) text.now))) }
 {
     let mut from = 0;
-    while let Some(space) = memchr(b' ', &text[from..]) {
+    while let Some(space) = first_space(&text[from..]) {
         let at = from + space;
         if space > 0 && text[at - 1] == b',' {
             return Some(at - 1);

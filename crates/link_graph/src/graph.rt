@@ -36,7 +36,7 @@ impl<'a> Graph<'a> {
     {
         let mut lists = Lists::new(alloc, procs.len())?;
         for p in 0..procs.len() {
-            lists.push(alloc, procs.at(p).links)?;
+            lists.push(alloc, procs.links(p))?;
         }
         Ok(Graph { lists })
     }

@@ -1,17 +1,34 @@
 // The kind of an entry.
-ghost use Rattle.std.specs.Prelude.{◌≡◌};
-ghost use Rattle.std.specs.Option.{option_map, option_copied};
+ghost use Rattle.std.specs.Prelude.{◌≡◌, codes};
+ghost use Rattle.std.specs.Option.{option_map};
 ghost use Rattle.link_graph.specs.Reading.{at_last_comma, parties, to_kind, from_kind, monitor_kind, kind_of};
 ghost use Rattle.link_graph.specs.Seen.{both, shown_kind};
+ghost use Rattle.link_graph.specs.Texts.{inside};
+ghost use Rattle.link_graph.specs.Kinds.{to_opening, from_opening};
+ghost use Rattle.link_graph.specs.Inner.Opening.{is_opened};
+ghost use Rattle.link_graph.specs.Inner.Searching.{IsLast};
 
 use crate::shapes::EntryKind;
 use crate::texts::{inside, is_braced, is_pid, is_port, is_reference};
-use memchr::memrchr;
+
+// Where the last comma stands. The reference behind it is short.
+fn last_comma(text: &[u8]) -> Option<usize>
+    ensures { IsLast 44 text.now result }
+{
+    let mut end = text.len();
+    while end > 0 {
+        end -= 1;
+        if text[end] == b',' {
+            return Some(end);
+        }
+    }
+    None
+}
 
 fn at_last_comma(text: &[u8]) -> Option<(&[u8], &[u8])>
     ensures { option_map both result ≡ at_last_comma text.now }
 {
-    let comma = memrchr(b',', text)?;
+    let comma = last_comma(text)?;
     Some((&text[..comma], &text[comma + 1..]))
 }
 
@@ -58,16 +75,16 @@ fn from_kind<'a>(partner: &'a [u8], reference: &'a [u8]) -> EntryKind<'a>
 
 // The kind of a text, by the monitor that it opens as.
 #[tactic(auto, unfolding(crate::specs::Reading::monitor_kind))]
-fn monitor_kind<'a>(to: Option<&'a [u8]>, from: Option<&'a [u8]>) -> EntryKind<'a>
-    ensures { shown_kind result ≡ monitor_kind (option_copied to.entry) (option_copied from.entry) }
+fn monitor_kind(text: &[u8]) -> EntryKind<'_>
+    ensures { shown_kind result ≡ monitor_kind (inside to_opening (codes "}") text.now) (inside from_opening (codes "}") text.now) }
 {
-    if let Some(to) = to {
+    if let Some(to) = inside(text, b"{to,", b"}") {
         return match parties(to) {
             None => EntryKind::Other,
             Some((partner, reference)) => to_kind(partner, reference),
         };
     }
-    if let Some(from) = from {
+    if let Some(from) = inside(text, b"{from,", b"}") {
         return match parties(from) {
             None => EntryKind::Other,
             Some((partner, reference)) => from_kind(partner, reference),
@@ -76,16 +93,25 @@ fn monitor_kind<'a>(to: Option<&'a [u8]>, from: Option<&'a [u8]>) -> EntryKind<'
     EntryKind::Other
 }
 
-// What a text says as an entry.
-#[tactic(auto, unfolding(crate::specs::Reading::kind_of))]
+// Whether the text begins as each monitor does.
+fn is_opened(text: &[u8]) -> bool
+    ensures { result ≡ is_opened text.now }
+{
+    !text.is_empty() && text[0] == b'{'
+}
+
+// What a text says as an entry. Its first byte tells a monitor from all others.
 pub(crate) fn kind(text: &[u8]) -> EntryKind<'_>
     ensures { shown_kind result ≡ kind_of text.now }
 {
+    if is_opened(text) {
+        return monitor_kind(text);
+    }
     if is_pid(text) {
         return EntryKind::Link(text);
     }
     if is_port(text) {
         return EntryKind::LinkPort;
     }
-    monitor_kind(inside(text, b"{to,", b"}"), inside(text, b"{from,", b"}"))
+    EntryKind::Other
 }

@@ -6,10 +6,10 @@ mod graph;
 mod kind_set;
 mod kinds;
 mod laws;
+mod listed;
 mod lists;
 pub mod reading;
 pub mod shapes;
-mod spelling;
 mod texts;
 
 pub use graph::Graph;

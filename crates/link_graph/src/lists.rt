@@ -1,21 +1,17 @@
 // The link lists of all processes, with their entries in one pool.
-ghost use Rattle.std.specs.Prelude.{◌≡◌, ◌+◌, ◌^◌, ◌<◌, ◌≤◌, [], length, drop, slice_get, Some, IfOk, OnOk};
+ghost use Rattle.std.specs.Prelude.{◌≡◌, ◌+◌, ◌^◌, ◌<◌, ◌≤◌, ◌++◌, [], length, map, drop, slice_get, Some, IfOk, OnOk};
 ghost use Rattle.section_rows.specs.Rows.{IsBoundedCell};
 ghost use Rattle.section_rows.specs.Shown.{shown_cell};
-ghost use Rattle.std.specs.List.{list_any};
-ghost use Rattle.link_graph.specs.Kinds.{is_same_kind};
-ghost use Rattle.link_graph.specs.Entries.{entries_at};
-ghost use Rattle.link_graph.specs.Reading.{kind_of};
+ghost use Rattle.link_graph.specs.Entries.{entry_of, entries_at};
 ghost use Rattle.link_graph.specs.Graph.{links_of, links_in, links_at, has_kind};
 ghost use Rattle.link_graph.specs.Seen.{shown_kind, shown_entry};
 ghost use Rattle.link_graph.specs.Inner.Sets.{AreKindsOf};
-ghost use Rattle.link_graph.specs.Inner.Spans.{piece_entries, Gains, KeepsKinds, lists_in, AreSpans, HasGained};
+ghost use Rattle.link_graph.specs.Inner.Spans.{KeepsKinds, lists_in, AreSpans, HasGained};
 
-use crate::cutting::{Parts, Piece};
+use crate::cutting::Parts;
 use crate::kind_set::KindSet;
-use crate::kinds::kind;
+use crate::listed::Listed;
 use crate::shapes::{Entry, EntryKind};
-use crate::spelling::says;
 use process_table::Kept;
 use std::alloc::{AllocError, Global};
 
@@ -31,32 +27,31 @@ pub(crate) struct Span {
     unread: bool,
 }
 
-// The link lists of processes. Most lists are short, so that a vector for each would cost more than what it holds. An
-// entry is kept as its text, since what it says is read again faster than it is fetched from memory.
+// The link lists of processes. Most lists are short, so that a vector for each would cost more than what it holds.
 #[derive(Drop)]
 pub(crate) struct Lists<'a> {
-    pieces: Vec<Piece<'a>>,
+    entries: Vec<Listed<'a>>,
     spans: Vec<Span>,
     // The kinds of the entries of each long list.
     sets: Vec<KindSet<'a>>,
 }
 
-// Puts the parts of a list behind the pieces.
-fn push_parts<'a>(pieces: &mut Vec<Piece<'a>>, parts: Parts<'a>) -> Result<(), AllocError>
-    ensures { OnOk result (Gains pieces.old.items pieces.new.items parts.entry) }
+// Puts the parts of a list behind the entries.
+fn push_parts<'a>(entries: &mut Vec<Listed<'a>>, parts: Parts<'a>) -> Result<(), AllocError>
+    ensures { OnOk result (entries.new.items ≡ entries.old.items ++ map entry_of parts.entry) }
 {
     for piece in parts {
-        pieces.push(piece)?;
+        entries.push(Listed::new(&piece))?;
     }
     Ok(())
 }
 
-fn all_kinds<'a>(alloc: Global, pieces: &[Piece<'a>]) -> Result<KindSet<'a>, AllocError>
-    ensures { IfOk result (AreKindsOf (piece_entries pieces.now)) }
+fn all_kinds<'a>(alloc: Global, entries: &[Listed<'a>]) -> Result<KindSet<'a>, AllocError>
+    ensures { IfOk result (AreKindsOf entries.now) }
 {
     let mut kinds = KindSet::new(alloc);
-    for piece in pieces {
-        kinds.insert(kind(piece.text))?;
+    for entry in entries {
+        kinds.insert(entry.kind())?;
     }
     Ok(kinds)
 }
@@ -65,12 +60,12 @@ fn all_kinds<'a>(alloc: Global, pieces: &[Piece<'a>]) -> Result<KindSet<'a>, All
 fn push_kinds<'a>(
     alloc: Global,
     sets: &mut Vec<KindSet<'a>>,
-    pieces: &[Piece<'a>],
+    entries: &[Listed<'a>],
 ) -> Result<(), AllocError>
-    ensures { OnOk result (KeepsKinds (piece_entries pieces.now) sets.old.items sets.new.items) }
+    ensures { OnOk result (KeepsKinds entries.now sets.old.items sets.new.items) }
 {
-    if pieces.len() > SHORT {
-        sets.push(all_kinds(alloc, pieces)?)?;
+    if entries.len() > SHORT {
+        sets.push(all_kinds(alloc, entries)?)?;
     }
     Ok(())
 }
@@ -79,19 +74,19 @@ fn push_kinds<'a>(
 fn push_kinds_from<'a>(
     alloc: Global,
     sets: &mut Vec<KindSet<'a>>,
-    pieces: &[Piece<'a>],
+    entries: &[Listed<'a>],
     from: usize,
 ) -> Result<(), AllocError>
-    requires { from ≤ length pieces.now }
-    ensures { OnOk result (KeepsKinds (piece_entries (drop from pieces.now)) sets.old.items sets.new.items) }
+    requires { from ≤ length entries.now }
+    ensures { OnOk result (KeepsKinds (drop from entries.now) sets.old.items sets.new.items) }
 {
-    push_kinds(alloc, sets, &pieces[from..])
+    push_kinds(alloc, sets, &entries[from..])
 }
 
-fn is_among(pieces: &[Piece<'_>], wanted: &EntryKind<'_>) -> bool
-    ensures { result ≡ list_any (λ piece. is_same_kind (shown_kind wanted.now) (kind_of piece.text.now)) pieces.now }
+fn is_among(entries: &[Listed<'_>], wanted: &EntryKind<'_>) -> bool
+    ensures { result ≡ has_kind (shown_kind wanted.now) entries.now }
 {
-    pieces.iter().any(|piece| says(piece.text, wanted))
+    entries.iter().any(|entry| entry.says(wanted))
 }
 
 impl<'a> Lists<'a> {
@@ -101,7 +96,7 @@ impl<'a> Lists<'a> {
         ensures within { IfOk result AreSpans }
     {
         Ok(Lists {
-            pieces: Vec::new(alloc),
+            entries: Vec::new(alloc),
             spans: Vec::with_capacity(alloc, processes)?,
             sets: Vec::new(alloc),
         })
@@ -131,13 +126,13 @@ impl<'a> Lists<'a> {
         let Some(parts) = Parts::new(at, text) else {
             return self.push_none(true);
         };
-        let from = self.pieces.len();
+        let from = self.entries.len();
         let kinds = self.sets.len();
-        push_parts(&mut self.pieces, parts)?;
-        push_kinds_from(alloc, &mut self.sets, &self.pieces, from)?;
+        push_parts(&mut self.entries, parts)?;
+        push_kinds_from(alloc, &mut self.sets, &self.entries, from)?;
         self.spans.push(Span {
             from,
-            upto: self.pieces.len(),
+            upto: self.entries.len(),
             kinds,
             unread: false,
         })?;
@@ -181,12 +176,7 @@ impl<'a> Lists<'a> {
         ensures { slice_get (links_at (lists_in self.now) p).entries n ≡ Some (shown_entry result) }
     {
         let from = self.spans[p].from;
-        let piece = self.pieces[from + n as usize];
-        Entry {
-            at: piece.at,
-            text: piece.text,
-            kind: kind(piece.text),
-        }
+        self.entries[from + n as usize].entry()
     }
 
     // Whether an entry of the list at a place says this.
@@ -199,7 +189,7 @@ impl<'a> Lists<'a> {
         if span.upto - span.from > SHORT {
             self.sets[span.kinds].has(wanted)
         } else {
-            is_among(&self.pieces[span.from..span.upto], wanted)
+            is_among(&self.entries[span.from..span.upto], wanted)
         }
     }
 }

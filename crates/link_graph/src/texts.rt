@@ -1,10 +1,10 @@
 // The texts of pids, ports and references.
-ghost use Rattle.std.specs.Prelude.{◌≡◌, ◌+◌, ◌||◌, length, IfSome};
+ghost use Rattle.std.specs.Prelude.{◌≡◌, ◌+◌, ◌||◌, not, length, IfSome};
 ghost use Rattle.std.specs.List.{list_all, position};
-ghost use Rattle.std.specs.Option.{option_map, option_copied};
+ghost use Rattle.std.specs.Option.{option_copied};
 ghost use Rattle.std.specs.Char.{is_ascii_digit};
-ghost use Rattle.link_graph.specs.Texts.{behind, before, inside, is_dot, is_digits, is_dotted, at_first_dot, is_pair, is_triple, is_pid, is_local, is_port, is_reference, is_braced};
-ghost use Rattle.link_graph.specs.Seen.{both};
+ghost use Rattle.link_graph.specs.Texts.{behind, before, inside, is_dot, is_digits, is_dotted, is_pair, is_triple, is_pid, is_local, is_port, is_reference, is_braced};
+ghost use Rattle.link_graph.specs.Inner.Numbers.{behind_number};
 
 // What stands behind a front, where the text begins with it.
 pub(crate) fn behind<'a>(text: &'a [u8], front: &[u8]) -> Option<&'a [u8]>
@@ -54,38 +54,40 @@ fn is_dotted(text: &[u8]) -> bool
     !text.is_empty() && all_dotted(text)
 }
 
-fn first_dot(text: &[u8]) -> Option<usize>
-    ensures { result ≡ position is_dot text.now }
+// Where the first byte stands that is no digit.
+fn first_other(text: &[u8]) -> Option<usize>
+    ensures { result ≡ position (λ c. not (is_ascii_digit c)) text.now }
 {
-    text.iter().position(|c| *c == b'.')
+    text.iter().position(|c| !c.is_ascii_digit())
 }
 
-// What stands before and behind the first dot.
-#[tactic(auto, unfolding(crate::specs::Texts::at_first_dot))]
-fn at_first_dot(text: &[u8]) -> Option<(&[u8], &[u8])>
-    ensures { option_map both result ≡ at_first_dot text.now }
+// What stands behind a number and its dot, where the text begins with them.
+fn behind_number(text: &[u8]) -> Option<&[u8]>
+    ensures { option_copied result ≡ behind_number text.now }
 {
-    let dot = first_dot(text)?;
-    Some((&text[..dot], &text[dot + 1..]))
-}
-
-#[tactic(auto, unfolding(crate::specs::Texts::is_pair))]
-fn is_pair(text: &[u8]) -> bool
-    ensures { result ≡ is_pair text.now }
-{
-    match at_first_dot(text) {
-        None => false,
-        Some((first, second)) => is_digits(first) && is_digits(second),
+    let end = first_other(text)?;
+    if end > 0 && text[end] == b'.' {
+        Some(&text[end + 1..])
+    } else {
+        None
     }
 }
 
-#[tactic(auto, unfolding(crate::specs::Texts::is_triple))]
+fn is_pair(text: &[u8]) -> bool
+    ensures { result ≡ is_pair text.now }
+{
+    match behind_number(text) {
+        None => false,
+        Some(second) => is_digits(second),
+    }
+}
+
 fn is_triple(text: &[u8]) -> bool
     ensures { result ≡ is_triple text.now }
 {
-    match at_first_dot(text) {
+    match behind_number(text) {
         None => false,
-        Some((first, others)) => is_digits(first) && is_pair(others),
+        Some(others) => is_pair(others),
     }
 }
 

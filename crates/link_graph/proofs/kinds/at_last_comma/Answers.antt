@@ -15,4 +15,4 @@ returns c =
     let k = c.in_ok-comma.comma in
     let rest : take (length text - (k + 1)) (drop (k + 1) text) ≡ drop (k + 1) text = grind (arith, common_steps) in
     let one : k + 1 ≡ suc k = omega arith in
-    ap (λ t. Some (take k text, t)) rest ∙ ap (λ n. Some (take k text, drop n text)) one ∙ sym (at_last_comma-at text k comma.0.high comma.0.after comma.1)
+    ap (λ t. Some (take k text, t)) rest ∙ ap (λ n. Some (take k text, drop n text)) one ∙ sym (at_last_comma-at text k comma.0 comma.1 comma.2)

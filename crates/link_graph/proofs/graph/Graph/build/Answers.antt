@@ -1,15 +1,31 @@
-use Rattle.std.proofs.Common.{sym, ◌∙◌, ap, ◌++◌, ◌∷◌, []}
-use Rattle.process_table.specs.Shown.{shown_process}
-use Rattle.link_graph.specs.Graph.{links_of}
+use Rattle.std.proofs.Common.{◌≡◌, ◌<◌, Some, length, sym, ◌∙◌, ap, arith, subst, take, ◌++◌, ◌∷◌, []}
+use Rattle.std.specs.Prelude.{slice_get}
+use Rattle.std.proofs.lemmas.Option.{slice_get-get_or, unwrap_or-slice_get}
+use Rattle.section_rows.specs.Rows.{IsBoundedCell}
+use Rattle.section_rows.specs.Shown.{shown_cell}
+use Rattle.process_table.specs.Processes.{Process, nobody, process_at}
+use Rattle.link_graph.specs.Graph.{links_of, graph_of}
 use Rattle.link_graph.proofs.Taken.{map-at}
 use Rattle.link_graph.proofs.graph.Graph.build.Goals as goal
+
+pub push-requires-clause-bounded : goal.push-requires-clause-bounded
+push-requires-clause-bounded c =
+    let processes = c.args.procs.now.processes in
+    let p = c.loop-p.p in
+    let inside : p < length processes = omega arith in
+    subst IsBoundedCell (sym (c.links.ensures ∙ ap (λ (process : Process). process.links) (unwrap_or-slice_get processes p nobody)))
+    (c.len-p-end.ensures.bounded.fields p nobody inside).links
 
 pub loop-p-preserved : goal.loop-p-preserved
 loop-p-preserved c =
     let processes = c.args.procs.now.processes in
-    let process = shown_process c.at.result in (
+    let p = c.loop-p.p in
+    let inside : p < length processes = omega arith in
+    let process = process_at processes p in
+    let at : slice_get processes p ≡ Some process = slice_get-get_or processes p nobody inside ∙ ap Some (sym (unwrap_or-slice_get processes p nobody)) in (
       c.in_ok-push.ensures.lists
-          ∙ ap (λ lists. lists ++ links_of process.links ∷ []) c.loop-p.invariant.0
-          ∙ sym (map-at (λ process. links_of process.links) processes c.loop-p.p process c.at.ensures),
+          ∙ ap (λ lists. lists ++ links_of (shown_cell c.links.result) ∷ []) c.loop-p.invariant.0
+          ∙ ap (λ line. graph_of (take p processes) ++ links_of line ∷ []) c.links.ensures
+          ∙ sym (map-at (λ process. links_of process.links) processes p process at),
       c.in_ok-push.ensures.within,
     )
