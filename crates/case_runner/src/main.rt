@@ -23,8 +23,8 @@
 //! `taken` is the most bytes that the device gives.
 //!
 //! Each case runs with reads and writes of several sizes, and must end alike. Then each call of the device fails once, which must
-//! end with the status of a read fault and nothing written; and each write of a single byte fails once, which must leave the
-//! bytes before it. With the line `once` a case runs once, as it is; with `fronts 19 936` it runs once on each front of the dump
+//! end with the status of a read fault and nothing written, the first eight of them where a read gives a single byte too; and
+//! each write of a single byte fails once, which must leave the bytes before it. With the line `once` a case runs once, as it is; with `fronts 19 936` it runs once on each front of the dump
 //! from 19 to 935 bytes, and what it writes must end with a line that begins as is expected.
 #![tactic(auto)]
 

@@ -36,9 +36,11 @@ pub record IsAuditable (loaded : Loaded) : Type 0 where
   pub sections : All (IsIn loaded.index) loaded.procs.processes
   pub counts : IfSome loaded.mails (λ counts. length counts.items ≡ length loaded.procs.processes)
 
+-- the report of what is found
 abbrev pub audit_text : ℕ → Loaded → List ℕ
 audit_text limit loaded = audit_report (loaded_audit limit loaded)
 
+-- whether there is something to find
 abbrev pub audit_status : ℕ → Loaded → ℕ
 audit_status limit loaded = status_of (findings (loaded_audit limit loaded))
 
