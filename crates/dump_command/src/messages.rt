@@ -28,15 +28,7 @@ fn large_at(index: &Index, place: Option<usize>, limits: &Limits) -> Option<Body
     requires { IsWithin index.now place }
     ensures { result ≡ large_fault limits.now.section (mailboxes_at (sections_in index.now) (place ∷ [])) }
 {
-    let section = index.section(place?);
-    let len = section.end - section.body;
-    if len <= u64::from(limits.section()) {
-        return None;
-    }
-    Some(BodyFault::SectionTooLarge {
-        at: section.at,
-        len,
-    })
+    section_rows::large(index, &[place?], limits)
 }
 
 /// The refusal of the first of the mailboxes at some places that is too large.
