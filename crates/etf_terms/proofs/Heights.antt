@@ -1,0 +1,98 @@
+-- How many heads are open at once, step by step.
+use Rattle.std.proofs.Common.{◌≡◌, ℕ, suc, ◌+◌, ◌-◌, ◌≤◌, max, List, [], ◌∷◌, ◌++◌, length, Ok, Err, refl, sym, ap, ◌∙◌, subst, arith, append-nil, length-append}
+use Rattle.etf_terms.specs.Depth.{depth, deepest}
+use Rattle.etf_terms.specs.Heads.{Head, kids}
+use Rattle.etf_terms.specs.Layouts.{IsLaid}
+use Rattle.etf_terms.specs.Table.{head_layout}
+use Rattle.etf_terms.specs.Terms.{Term, node, Terms, none, more, count, IsTerm, AreTerms}
+use Rattle.etf_terms.specs.Inner.Awaiting.{Awaits, Goes}
+use Rattle.etf_terms.specs.Inner.Parts.{head_of}
+use Rattle.etf_terms.proofs.Firsts.{first-of, same-head, not-both}
+
+-- ---- a term is no deeper than it has bytes
+
+laid-some : (front : List ℕ) (h : Head) → IsLaid head_layout front h → 1 ≤ length front
+laid-some [] h p = absurd p
+laid-some (b ∷ front) h p = omega arith
+
+mutual
+  pub depth-few : (t : Term) (bytes : List ℕ) → IsTerm bytes t → depth t ≤ length bytes
+  depth-few (node h ts) bytes p =
+      let sizes : length bytes ≡ length p.0 + length p.1 = ap length p.2 ∙ length-append p.0 p.1 in
+      omega (arith, sizes, laid-some p.0 h p.3, deepest-few ts p.1 p.5)
+
+  pub deepest-few : (ts : Terms) (bytes : List ℕ) → AreTerms bytes ts → deepest ts ≤ length bytes
+  deepest-few none bytes p = omega arith
+  deepest-few (more t ts) bytes p =
+      let sizes : length bytes ≡ length p.0 + length p.1 = ap length p.2 ∙ length-append p.0 p.1 in
+      omega (arith, sizes, depth-few t p.0 p.3, deepest-few ts p.1 p.4)
+
+-- ---- a head that wants no more
+
+closes-terms : (n : ℕ) (ns rest : List ℕ) (most : ℕ) (terms : Terms) (front behind : List ℕ) (below : ℕ) → n ≡ 0 → rest ≡ front ++ behind
+    → AreTerms front terms → count terms ≡ n → most ≡ max (suc (length ns) + deepest terms) below → Awaits ns behind below → Goes (suc (length ns)) most ns rest
+closes-terms n ns rest most none front behind below ended r are counts m s =
+    record { later = below; awaits = subst (λ l. Awaits ns l below) (sym (r ∙ ap (λ l. l ++ behind) are)) s; reaches = omega (arith, m) }
+closes-terms n ns rest most (more u us) front behind below ended r are counts m s = absurd (omega (arith, ended, counts))
+
+pub closes-one : (n : ℕ) (ns rest : List ℕ) (most : ℕ) → n ≡ 0 → Awaits (n ∷ ns) rest most → Goes (suc (length ns)) most ns rest
+closes-one n ns rest most ended s = closes-terms n ns rest most s.0 s.1 s.2 s.3 ended s.4 s.5 s.6 s.7 s.8
+
+-- ---- a head that wants one more
+
+opens-terms : (n : ℕ) (ns rest : List ℕ) (most : ℕ) (terms : Terms) (front behind : List ℕ) (below : ℕ) (h : Head) (after : List ℕ) → (n ≡ 0 → ⊥) → head_of rest ≡ Ok (h, after)
+    → rest ≡ front ++ behind → AreTerms front terms → count terms ≡ n → most ≡ max (suc (length ns) + deepest terms) below → Awaits ns behind below
+    → Goes (suc (length ns)) most (kids h ∷ (n - 1) ∷ ns) after
+opens-terms n ns rest most none front behind below h after wants read r are counts m s = absurd (wants (sym counts))
+opens-terms n ns rest most (more (node k ks) us) front behind below h after wants read r are counts m s =
+    let f = first-of k ks us rest front behind r are in
+    let same = same-head rest k h (f.front ++ (f.rest ++ behind)) after f.read read in
+    let left : count us ≡ n - 1 = omega (arith, counts) in
+    let all : count ks ≡ kids h = f.count_own ∙ ap kids same.0 in
+    let wide = suc (length ns) in
+    let most_is : most ≡ max (suc wide + deepest ks) (max (wide + deepest us) below) = omega (arith, m) in
+    record {
+      later = most;
+      awaits = (
+        ks,
+        f.front,
+        f.rest ++ behind,
+        max (wide + deepest us) below,
+        sym same.1,
+        f.are_own,
+        all,
+        most_is,
+        (us, f.rest, behind, below, refl, f.are_others, left, refl, s),
+      );
+      reaches = omega (arith, most_is);
+    }
+
+pub opens-one : (n : ℕ) (ns rest : List ℕ) (most : ℕ) (h : Head) (after : List ℕ) → (n ≡ 0 → ⊥) → head_of rest ≡ Ok (h, after) → Awaits (n ∷ ns) rest most
+    → Goes (suc (length ns)) most (kids h ∷ (n - 1) ∷ ns) after
+opens-one n ns rest most h after wants read s = opens-terms n ns rest most s.0 s.1 s.2 s.3 h after wants read s.4 s.5 s.6 s.7 s.8
+
+off-terms : (n : ℕ) (rest : List ℕ) (terms : Terms) (front behind : List ℕ) (left : ℕ) → (n ≡ 0 → ⊥) → head_of rest ≡ Err left → rest ≡ front ++ behind
+    → AreTerms front terms → count terms ≡ n → ⊥
+off-terms n rest none front behind left wants off r are counts = wants (sym counts)
+off-terms n rest (more (node k ks) us) front behind left wants off r are counts =
+    let f = first-of k ks us rest front behind r are in
+    not-both rest k (f.front ++ (f.rest ++ behind)) left f.read off
+
+pub off-none : (n : ℕ) (ns rest : List ℕ) (most left : ℕ) → (n ≡ 0 → ⊥) → head_of rest ≡ Err left → Awaits (n ∷ ns) rest most → ⊥
+off-none n ns rest most left wants off s = off-terms n rest s.0 s.1 s.2 left wants off s.4 s.5 s.6
+
+-- ---- the whole
+
+pub awaits-whole : (t : Term) (bytes : List ℕ) → IsTerm bytes t → Awaits (1 ∷ []) bytes (suc (depth t))
+awaits-whole t bytes p =
+    let same : suc (depth t) ≡ max (1 + max (depth t) 0) 0 = omega arith in
+    (more t none, bytes, [], 0, sym (append-nil bytes), (bytes, [], sym (append-nil bytes), p, refl), refl, same, (refl, refl))
+
+-- the most so far and later, after one step more
+pub most-on : (so_far wide most now later all : ℕ) → wide ≤ so_far → max wide most ≡ max wide (max now later) → max so_far most ≡ all → max (max so_far now) later ≡ all
+most-on so_far wide most now later all within step sum = omega (arith, within, step, sum)
+
+pub most-whole : (counts rest : List ℕ) (so_far later all : ℕ) → counts ≡ [] → Awaits counts rest later → max so_far later ≡ all → so_far ≡ all
+most-whole counts rest so_far later all empty s sum =
+    let ended : Awaits [] rest later = subst (λ l. Awaits l rest later) empty s in
+    omega (arith, ended.1, sum)

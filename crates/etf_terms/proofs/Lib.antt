@@ -1,0 +1,14 @@
+pub mod Completing
+pub mod Digits
+pub mod Firsts
+pub mod Heights
+pub mod Joins
+pub mod Loops
+pub mod Placing
+pub mod Readings
+pub mod Stands
+pub mod Stepping
+pub mod Unique
+pub mod Whole
+pub mod Words
+pub mod Written

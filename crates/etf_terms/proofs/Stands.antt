@@ -1,0 +1,180 @@
+-- Each step of the writing, as one equation on what is still to come.
+use Rattle.std.proofs.Common.{◌≡◌, ℕ, suc, ◌+◌, ◌<◌, ◌≤◌, max, List, [], ◌∷◌, ◌++◌, length, Option, Ok, Err, refl, sym, ap, ap₂, ◌∙◌, subst, arith, append_assoc, append-nil, Bor}
+use Rattle.dump_io.specs.Sinks.{change, grown, Puts, GainsFront}
+use Rattle.dump_io.specs.Laws.Puts.{Puts-stopped, Puts-then, grown-grown, grown-nil}
+use Rattle.etf_terms.specs.declared.stack.Kind.{Kind}
+use Rattle.etf_terms.specs.declared.stack.Kind.TheVariants as kinds
+use Rattle.etf_terms.specs.declared.stack.Entry.{Entry}
+use Rattle.etf_terms.specs.Depth.{depth, deepest}
+use Rattle.etf_terms.specs.Heads.{Head, kids}
+use Rattle.etf_terms.specs.Terms.{Term, node, Terms, none, more, count, IsTerm, AreTerms}
+use Rattle.etf_terms.specs.Text.{kind_of, closing, own_text, inner, text}
+use Rattle.etf_terms.specs.Inner.Parts.{head_of}
+use Rattle.etf_terms.specs.Inner.Open.{Open}
+use Rattle.etf_terms.specs.Inner.Standing.{entry_of, next_of, Stands, IsPart, Moves}
+use Rattle.etf_terms.proofs.Firsts.{first-of, regroup, same-head, not-both}
+
+-- ---- an entry that wants no more
+
+pub record Closes (room : ℕ) (e : Entry) (es : List Entry) (rest to_come : List ℕ) : Type 0 where
+  pub below : List ℕ
+  pub splits : to_come ≡ closing e.kind e.kids ++ below
+  pub stands : Stands room es rest below
+
+closes-none : (room : ℕ) (e : Entry) (es : List Entry) (rest to_come : List ℕ) (terms : Terms) (front behind below : List ℕ) → e.kids ≤ e.next → rest ≡ front ++ behind
+    → AreTerms front terms → count terms + e.next ≡ e.kids → to_come ≡ inner e.kind e.kids e.next terms ++ below → Stands room es behind below → Closes room e es rest to_come
+closes-none room e es rest to_come none front behind below ended r are counts t s =
+    record { below = below; splits = t; stands = subst (λ l. Stands room es l below) (sym (r ∙ ap (λ l. l ++ behind) are)) s }
+closes-none room e es rest to_come (more u us) front behind below ended r are counts t s = absurd (omega (arith, ended, counts))
+
+pub closes : (room : ℕ) (e : Entry) (es : List Entry) (rest to_come : List ℕ) → e.kids ≤ e.next → Stands room (e ∷ es) rest to_come → Closes room e es rest to_come
+closes room e es rest to_come ended s = closes-none room e es rest to_come s.0 s.1 s.2 s.3 ended s.4 s.5 s.6 s.7 s.9
+
+-- ---- an entry that wants one more
+
+pub record Opens (room : ℕ) (e : Entry) (es : List Entry) (rest to_come : List ℕ) : Type 0 where
+  pub head : Head
+  pub behind : List ℕ
+  pub read : head_of rest ≡ Ok (head, behind)
+  pub later : List ℕ
+  pub splits : to_come ≡ own_text e.kind e.kids e.next head ++ later
+  pub stands : Stands room (entry_of head ∷ next_of e ∷ es) behind later
+
+opens-more : (room : ℕ) (e : Entry) (es : List Entry) (rest to_come : List ℕ) (terms : Terms) (front behind below : List ℕ) → e.next < e.kids → rest ≡ front ++ behind
+    → AreTerms front terms → count terms + e.next ≡ e.kids → to_come ≡ inner e.kind e.kids e.next terms ++ below → suc (length es) + deepest terms ≤ room → Stands room es behind below
+    → Opens room e es rest to_come
+opens-more room e es rest to_come none front behind below wants r are counts t fits s = absurd (omega (arith, wants, counts))
+opens-more room e es rest to_come (more (node h ks) us) front behind below wants r are counts t fits s =
+    let f = first-of h ks us rest front behind r are in
+    let left : count us + (e.next + 1) ≡ e.kids = omega (arith, counts) in
+    let all : count ks + 0 ≡ kids h = omega (arith, f.count_own) in
+    let own_fits : suc (suc (length es)) + deepest ks ≤ room = omega (arith, fits) in
+    let others_fit : suc (length es) + deepest us ≤ room = omega (arith, fits) in
+    record {
+      head = h;
+      behind = f.front ++ (f.rest ++ behind);
+      read = f.read;
+      later = inner (kind_of h) (kids h) 0 ks ++ (inner e.kind e.kids (e.next + 1) us ++ below);
+      splits = t ∙ regroup (own_text e.kind e.kids e.next h) (inner (kind_of h) (kids h) 0 ks) (inner e.kind e.kids (e.next + 1) us) below;
+      stands = (
+        ks,
+        f.front,
+        f.rest ++ behind,
+        inner e.kind e.kids (e.next + 1) us ++ below,
+        refl,
+        f.are_own,
+        all,
+        refl,
+        own_fits,
+        (us, f.rest, behind, below, refl, f.are_others, left, refl, others_fit, s),
+      );
+    }
+
+pub opens : (room : ℕ) (e : Entry) (es : List Entry) (rest to_come : List ℕ) → e.next < e.kids → Stands room (e ∷ es) rest to_come → Opens room e es rest to_come
+opens room e es rest to_come wants s = opens-more room e es rest to_come s.0 s.1 s.2 s.3 wants s.4 s.5 s.6 s.7 s.8 s.9
+
+-- the same, where the head was read
+pub opened : (room : ℕ) (e : Entry) (es : List Entry) (rest to_come : List ℕ) (h : Head) (behind : List ℕ) → e.next < e.kids → head_of rest ≡ Ok (h, behind) → Stands room (e ∷ es) rest to_come
+    → (later : List ℕ) × (to_come ≡ own_text e.kind e.kids e.next h ++ later) × Stands room (entry_of h ∷ next_of e ∷ es) behind later
+opened room e es rest to_come h behind wants read s =
+    let o = opens room e es rest to_come wants s in
+    let same = same-head rest o.head h o.behind behind o.read read in (
+      o.later,
+      o.splits ∙ ap (λ x. own_text e.kind e.kids e.next x ++ o.later) same.0,
+      subst (λ x. Stands room (entry_of x ∷ next_of e ∷ es) behind o.later) same.0 (subst (λ l. Stands room (entry_of o.head ∷ next_of e ∷ es) l o.later) same.1 o.stands),
+    )
+
+-- and there is room for both
+pub room-for_two : (room : ℕ) (e : Entry) (es : List Entry) (rest to_come : List ℕ) → e.next < e.kids → Stands room (e ∷ es) rest to_come → suc (suc (length es)) ≤ room
+room-for_two room e es rest to_come wants s = omega (arith, (opens room e es rest to_come wants s).stands.8)
+
+pub not-off : (room : ℕ) (e : Entry) (es : List Entry) (rest to_come : List ℕ) (left : ℕ) → e.next < e.kids → head_of rest ≡ Err left → Stands room (e ∷ es) rest to_come → ⊥
+not-off room e es rest to_come left wants off s =
+    let o = opens room e es rest to_come wants s in not-both rest o.head o.behind left o.read off
+
+pub pushed : (one two : Open) (r : ℕ) (e : Entry) (es : List Entry) (k : Kind) (n : ℕ) (h : Head) → one ≡ record { room = r; entries = next_of e ∷ es }
+    → two ≡ record { room = one.room; entries = record { kind = k; kids = n; next = 0 } ∷ one.entries } → k ≡ kind_of h → n ≡ kids h → two.entries ≡ entry_of h ∷ next_of e ∷ es
+pushed one two r e es k n h p q kind-is kids-is =
+    ap (λ (o : Open). o.entries) q ∙ ap₂ (λ x y. record { kind = x; kids = y; next = 0 } ∷ one.entries) kind-is kids-is ∙ ap (λ (o : Open). entry_of h ∷ o.entries) p
+
+-- ---- the whole
+
+-- before it is begun a term is the one that an entry of its own wants
+abbrev pub root_entry : Entry
+root_entry = record { kind = kinds.Plain; kids = 1; next = 0 }
+
+pub stands-root : (t : Term) (bytes : List ℕ) (room : ℕ) → IsTerm bytes t → room ≡ suc (depth t) → Stands room (root_entry ∷ []) bytes (text t)
+stands-root (node h ks) bytes room p exact = (
+  more (node h ks) none,
+  bytes,
+  [],
+  [],
+  sym (append-nil bytes),
+  (bytes, [], sym (append-nil bytes), p, refl),
+  refl,
+  sym (append-nil ((text (node h ks) ++ []) ++ []) ∙ append-nil (text (node h ks) ++ []) ∙ append-nil (text (node h ks)))
+      ∙ ends,
+  fits,
+  (refl, refl),
+) where
+  ends : ((text (node h ks) ++ []) ++ []) ++ [] ≡ ((text (node h ks)) ++ []) ++ []
+  ends = ap (λ l. (l ++ []) ++ []) (append-nil (text (node h ks)))
+
+  fits : 1 + max (suc (deepest ks)) 0 ≤ room
+  fits = omega (arith, exact)
+
+-- the innermost entry was taken off
+pub stands-popped : (room same_room : ℕ) (entries entries_left : List Entry) (rest : List ℕ) {e : Entry} {to_come : List ℕ} → entries ≡ e ∷ entries_left → same_room ≡ room
+    → Stands room entries rest to_come → Stands same_room (e ∷ entries_left) rest to_come
+stands-popped room same_room entries entries_left rest {e} {to_come} top same s =
+    subst (λ r. Stands r (e ∷ entries_left) rest to_come) (sym same) (subst (λ es. Stands room es rest to_come) top s)
+
+-- ---- what is written
+
+pub moves-ok : {T E : Type 0} (w u : Option (List ℕ)) (f h : ℕ) (bytes whole later : List ℕ) (room : ℕ) (es : List Entry) (rest : Bor (List ℕ)) (x : T)
+    → Puts {E = E} (change w u f h) bytes (Ok x) → whole ≡ bytes ++ later → Stands room es rest.now later → Moves {E = E} (change w u f h) whole room es (Ok rest)
+moves-ok w u f h bytes whole later room es rest x puts splits stands =
+    record { later = puts.later; writes = (later, record { part = bytes; wrote = puts.writes.whole; splits = splits }, stands); failed = tt }
+
+pub moves-err : {T E F : Type 0} (w u : Option (List ℕ)) (f h : ℕ) (bytes whole later : List ℕ) (room : ℕ) (es : List Entry) (e : E) (d : F)
+    → Puts {T = T} (change w u f h) bytes (Err e) → whole ≡ bytes ++ later → Moves (change w u f h) whole room es (Err d)
+moves-err {T} {E} {F} w u f h bytes whole later room es e d puts splits =
+    let broken : Puts {T = T} {E = E} (change w u f h) (bytes ++ later) (Err e) = Puts-stopped later refl puts in
+    record { later = puts.later; writes = subst (GainsFront w u) (sym splits) broken.writes.front; failed = puts.failed }
+
+-- a part behind a part
+pub IsPart-next : (w v u : Option (List ℕ)) (whole later last : List ℕ) → IsPart w v whole later → IsPart v u later last → IsPart w u whole last
+IsPart-next w v u whole later last first second =
+    record {
+      part = first.part ++ second.part;
+      wrote = second.wrote ∙ ap (λ z. grown z second.part) first.wrote ∙ grown-grown w first.part second.part;
+      splits = first.splits ∙ ap (λ l. first.part ++ l) second.splits ∙ sym (append_assoc first.part second.part last);
+    }
+
+pub IsPart-none : (w : Option (List ℕ)) (whole : List ℕ) → IsPart w w whole whole
+IsPart-none w whole = record { part = []; wrote = sym (grown-nil w); splits = refl }
+
+-- a move behind those that went well
+pub moves-on : {E : Type 0} (w v u : Option (List ℕ)) (f g h : ℕ) (whole later : List ℕ) (room : ℕ) (es : List Entry) (rest : Bor (List ℕ)) → IsPart w v whole later
+    → Moves {E = E} (change v u g h) later room es (Ok rest) → (to_come : List ℕ) × IsPart w u whole to_come × Stands room es rest.now to_come
+moves-on w v u f g h whole later room es rest part move =
+    (move.writes.0, IsPart-next w v u whole later move.writes.0 part move.writes.1, move.writes.2)
+
+-- one that failed
+pub moves-broken : {T E F : Type 0} (w v u : Option (List ℕ)) (f g h : ℕ) (whole later : List ℕ) (room : ℕ) (es : List Entry) (e : E) (d : F) → f ≤ g → IsPart w v whole later
+    → Moves (change v u g h) later room es (Err e) → Puts {T = T} (change w u f h) whole (Err d)
+moves-broken {T} {E} {F} w v u f g h whole later room es e d le part move =
+    let done : Puts {T = Unit {0}} {E = F} (change w v f g) part.part (Ok tt) = record { later = le; writes = record { whole = part.wrote; front = tt }; failed = tt } in
+    let broken : Puts {T = T} {E = F} (change v u g h) later (Err d) = record { later = move.later; writes = record { whole = tt; front = move.writes }; failed = move.failed } in
+    subst (λ l. Puts {T = T} {E = F} (change w u f h) l (Err d)) (sym part.splits) (Puts-then done broken)
+
+-- all was written
+pub moves-whole : {T E : Type 0} (w u : Option (List ℕ)) (f h : ℕ) (whole to_come rest : List ℕ) (room : ℕ) (es : List Entry) (x : T) → f ≤ h → IsPart w u whole to_come → es ≡ []
+    → Stands room es rest to_come → Puts {E = E} (change w u f h) whole (Ok x)
+moves-whole w u f h whole to_come rest room es x le part empty stands =
+    let ended : Stands room [] rest to_come = subst (λ l. Stands room l rest to_come) empty stands in
+    record {
+      later = le;
+      writes = record { whole = part.wrote ∙ ap (λ l. grown w l) (sym (append-nil part.part) ∙ ap (λ l. part.part ++ l) (sym ended.1) ∙ sym part.splits); front = tt };
+      failed = tt;
+    }

@@ -1,0 +1,17 @@
+-- How many heads are open at once while a term is written.
+use Rattle.std.specs.Prelude.{◌≡◌, ℕ, suc, ◌+◌, max, List, [], ◌∷◌, ◌++◌, length}
+use Rattle.etf_terms.specs.Terms.{Terms, count, AreTerms}
+use Rattle.etf_terms.specs.Depth.{deepest}
+
+-- the bytes are the terms that the open heads still want, from the innermost out, and from now on at most so many are open
+abbrev pub Awaits : List ℕ → List ℕ → ℕ → Type 0
+Awaits [] rest most = (rest ≡ []) × (most ≡ 0)
+Awaits (n ∷ ns) rest most =
+    (terms : Terms) × (front : List ℕ) × (behind : List ℕ) × (below : ℕ) × (rest ≡ front ++ behind) × AreTerms front terms
+    × (count terms ≡ n) × (most ≡ max (suc (length ns) + deepest terms) below) × Awaits ns behind below
+
+-- a step leaves these counts and bytes, and the most that are open are those now or later
+pub record Goes (wide most : ℕ) (counts rest : List ℕ) : Type 0 where
+  pub later : ℕ
+  pub awaits : Awaits counts rest later
+  pub reaches : max wide most ≡ max wide (max (length counts) later)

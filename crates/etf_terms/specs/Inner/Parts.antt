@@ -1,0 +1,179 @@
+-- How the readers go: each takes what it reads off the front, or says how many bytes are left from the first that can't
+-- stand there.
+use Rattle.std.specs.Prelude.{◌≡◌, ℕ, suc, ◌*◌, ◌==◌, ◌&&◌, nat_le, List, [], ◌∷◌, length, take, drop, Result, Ok, Err, if◌then◌else◌}
+use Rattle.std.specs.Int.{w16, w32, w64, from_be_bytes}
+use Rattle.etf_terms.specs.Heads.{Head, Float, Bits, Pid, Port, Ref, Small, Int, Atom, Tuple, Nil, Chars, Linked, Bin, Big, Fun, Export, Pairs}
+use Rattle.etf_terms.specs.declared.heads.HeadRead.{HeadRead}
+use Rattle.etf_terms.specs.declared.heads.HeadRead.TheVariants as heads
+
+-- a value and the bytes behind it
+abbrev pub Parsed : Type 0 → Type 0
+Parsed A = Result (A × List ℕ) ℕ
+
+infixl 10 ◌>>=◌
+abbrev pub ◌>>=◌ : {A B : Type 0} → Parsed A → (A × List ℕ → Parsed B) → Parsed B
+(Ok x) >>= f = f x
+(Err left) >>= f = Err left
+
+-- what a function returned, seen by view, is what was read
+abbrev pub Gives : {X Y : Type 0} → (X → Y) → Result X ℕ → Result Y ℕ → Type 0
+Gives view (Ok x) read = read ≡ Ok (view x)
+Gives view (Err left) read = read ≡ Err left
+
+-- a head without where it lies in memory
+abbrev pub head : HeadRead → Head
+head (heads.Float bytes) = Float bytes.now
+head (heads.Bits bits bytes) = Bits bits bytes.now
+head (heads.Pid name id serial creation) = Pid name.now id serial creation
+head (heads.Port name id creation) = Port name.now id creation
+head (heads.Ref name creation words) = Ref name.now creation words.now
+head (heads.Small value) = Small value
+head (heads.Int value) = Int value
+head (heads.Atom name) = Atom name.now
+head (heads.Tuple n) = Tuple n
+head heads.Nil = Nil
+head (heads.Chars bytes) = Chars bytes.now
+head (heads.Linked n) = Linked n
+head (heads.Bin bytes) = Bin bytes.now
+head (heads.Big sign digits) = Big sign digits.now
+head (heads.Fun name index arity n) = Fun name.now index arity n
+head (heads.Export name function arity) = Export name.now function.now arity
+head (heads.Pairs n) = Pairs n
+
+unfoldable pub byte_of : List ℕ → Parsed ℕ
+byte_of [] = Err 0
+byte_of (b ∷ bytes) = Ok (b, bytes)
+
+unfoldable pub run_of : ℕ → List ℕ → Parsed (List ℕ)
+run_of n bytes = if nat_le n (length bytes) then Ok (take n bytes, drop n bytes) else Err 0
+
+unfoldable pub number2_of : List ℕ → Parsed ℕ
+number2_of bytes = run_of 2 bytes >>= λ two. Ok (from_be_bytes w16 two.0, two.1)
+
+unfoldable pub number4_of : List ℕ → Parsed ℕ
+number4_of bytes = run_of 4 bytes >>= λ four. Ok (from_be_bytes w32 four.0, four.1)
+
+-- a count in one, two or four bytes, and so many bytes
+unfoldable pub sized1_of : List ℕ → Parsed (List ℕ)
+sized1_of bytes = byte_of bytes >>= λ n. run_of n.0 n.1
+
+unfoldable pub sized2_of : List ℕ → Parsed (List ℕ)
+sized2_of bytes = number2_of bytes >>= λ n. run_of n.0 n.1
+
+unfoldable pub sized4_of : List ℕ → Parsed (List ℕ)
+sized4_of bytes = number4_of bytes >>= λ n. run_of n.0 n.1
+
+unfoldable pub number8_of : List ℕ → Parsed ℕ
+number8_of bytes = run_of 8 bytes >>= λ eight. Ok (from_be_bytes w64 eight.0, eight.1)
+
+unfoldable pub atom_of : List ℕ → Parsed (List ℕ)
+atom_of [] = Err 0
+atom_of (tag ∷ bytes) =
+    if tag == 100 then sized2_of bytes
+    else (if tag == 115 then sized1_of bytes
+    else (if tag == 118 then sized2_of bytes
+    else (if tag == 119 then sized1_of bytes else Err (suc (length bytes)))))
+
+unfoldable pub small_of : List ℕ → Parsed ℕ
+small_of [] = Err 0
+small_of (tag ∷ bytes) = if tag == 97 then byte_of bytes else Err (suc (length bytes))
+
+unfoldable pub integer_of : List ℕ → Parsed (List ℕ)
+integer_of [] = Err 0
+integer_of (tag ∷ bytes) = if tag == 97 then run_of 1 bytes else (if tag == 98 then run_of 4 bytes else Err (suc (length bytes)))
+
+unfoldable pub pid88_of : List ℕ → Parsed Head
+pid88_of bytes =
+    atom_of bytes >>= λ name. number4_of name.1 >>= λ id. number4_of id.1 >>= λ serial. number4_of serial.1 >>= λ creation.
+    Ok (Pid name.0 id.0 serial.0 creation.0, creation.1)
+
+unfoldable pub pid103_of : List ℕ → Parsed Head
+pid103_of bytes =
+    atom_of bytes >>= λ name. number4_of name.1 >>= λ id. number4_of id.1 >>= λ serial. byte_of serial.1 >>= λ creation.
+    Ok (Pid name.0 id.0 serial.0 creation.0, creation.1)
+
+unfoldable pub pid_of : List ℕ → Parsed Head
+pid_of [] = Err 0
+pid_of (tag ∷ bytes) = if tag == 88 then pid88_of bytes else (if tag == 103 then pid103_of bytes else Err (suc (length bytes)))
+
+unfoldable pub sign_of : List ℕ → Parsed ℕ
+sign_of [] = Err 0
+sign_of (b ∷ bytes) = if nat_le b 1 then Ok (b, bytes) else Err (suc (length bytes))
+
+unfoldable pub part_of : List ℕ → Parsed ℕ
+part_of [] = Err 0
+part_of (b ∷ bytes) = if nat_le 1 b && nat_le b 8 then Ok (b, bytes) else Err (suc (length bytes))
+
+unfoldable pub float_of : List ℕ → Parsed Head
+float_of bytes = run_of 8 bytes >>= λ eight. Ok (Float eight.0, eight.1)
+
+unfoldable pub bits_of : List ℕ → Parsed Head
+bits_of bytes = number4_of bytes >>= λ n. part_of n.1 >>= λ b. run_of n.0 b.1 >>= λ found. Ok (Bits b.0 found.0, found.1)
+
+unfoldable pub port89_of : List ℕ → Parsed Head
+port89_of bytes = atom_of bytes >>= λ name. number4_of name.1 >>= λ id. number4_of id.1 >>= λ creation. Ok (Port name.0 id.0 creation.0, creation.1)
+
+unfoldable pub port102_of : List ℕ → Parsed Head
+port102_of bytes = atom_of bytes >>= λ name. number4_of name.1 >>= λ id. byte_of id.1 >>= λ creation. Ok (Port name.0 id.0 creation.0, creation.1)
+
+unfoldable pub port120_of : List ℕ → Parsed Head
+port120_of bytes = atom_of bytes >>= λ name. number8_of name.1 >>= λ id. number4_of id.1 >>= λ creation. Ok (Port name.0 id.0 creation.0, creation.1)
+
+unfoldable pub ref90_of : List ℕ → Parsed Head
+ref90_of bytes =
+    number2_of bytes >>= λ n. atom_of n.1 >>= λ name. number4_of name.1 >>= λ creation. run_of (4 * n.0) creation.1 >>= λ words.
+    Ok (Ref name.0 creation.0 words.0, words.1)
+
+unfoldable pub ref114_of : List ℕ → Parsed Head
+ref114_of bytes =
+    number2_of bytes >>= λ n. atom_of n.1 >>= λ name. byte_of name.1 >>= λ creation. run_of (4 * n.0) creation.1 >>= λ words.
+    Ok (Ref name.0 creation.0 words.0, words.1)
+
+unfoldable pub big110_of : List ℕ → Parsed Head
+big110_of bytes = byte_of bytes >>= λ n. sign_of n.1 >>= λ s. run_of n.0 s.1 >>= λ digits. Ok (Big s.0 digits.0, digits.1)
+
+unfoldable pub big111_of : List ℕ → Parsed Head
+big111_of bytes = number4_of bytes >>= λ n. sign_of n.1 >>= λ s. run_of n.0 s.1 >>= λ digits. Ok (Big s.0 digits.0, digits.1)
+
+-- the two integers and the pid behind a function's name
+unfoldable pub owner_of : List ℕ → Parsed Head
+owner_of bytes = integer_of bytes >>= λ old_index. integer_of old_index.1 >>= λ old_unique. pid_of old_unique.1
+
+unfoldable pub closure_of : List ℕ → Parsed Head
+closure_of bytes =
+    number4_of bytes >>= λ size. byte_of size.1 >>= λ arity. run_of 16 arity.1 >>= λ unique. number4_of unique.1 >>= λ index. number4_of index.1 >>= λ n.
+    atom_of n.1 >>= λ name. owner_of name.1 >>= λ owner. Ok (Fun name.0 index.0 arity.0 n.0, owner.1)
+
+unfoldable pub export_of : List ℕ → Parsed Head
+export_of bytes = atom_of bytes >>= λ name. atom_of name.1 >>= λ function. small_of function.1 >>= λ arity. Ok (Export name.0 function.0 arity.0, arity.1)
+
+unfoldable pub head_of : List ℕ → Parsed Head
+head_of [] = Err 0
+head_of (tag ∷ bytes) =
+    if tag == 70 then float_of bytes
+    else (if tag == 77 then bits_of bytes
+    else (if tag == 88 then pid88_of bytes
+    else (if tag == 89 then port89_of bytes
+    else (if tag == 90 then ref90_of bytes
+    else (if tag == 97 then (byte_of bytes >>= λ b. Ok (Small b.0, b.1))
+    else (if tag == 98 then (number4_of bytes >>= λ n. Ok (Int n.0, n.1))
+    else (if tag == 100 then (sized2_of bytes >>= λ name. Ok (Atom name.0, name.1))
+    else (if tag == 102 then port102_of bytes
+    else (if tag == 103 then pid103_of bytes
+    else (if tag == 104 then (byte_of bytes >>= λ n. Ok (Tuple n.0, n.1))
+    else (if tag == 105 then (number4_of bytes >>= λ n. Ok (Tuple n.0, n.1))
+    else (if tag == 106 then Ok (Nil, bytes)
+    else (if tag == 107 then (sized2_of bytes >>= λ chars. Ok (Chars chars.0, chars.1))
+    else (if tag == 108 then (number4_of bytes >>= λ n. Ok (Linked n.0, n.1))
+    else (if tag == 109 then (sized4_of bytes >>= λ bin. Ok (Bin bin.0, bin.1))
+    else (if tag == 110 then big110_of bytes
+    else (if tag == 111 then big111_of bytes
+    else (if tag == 112 then closure_of bytes
+    else (if tag == 113 then export_of bytes
+    else (if tag == 114 then ref114_of bytes
+    else (if tag == 115 then (sized1_of bytes >>= λ name. Ok (Atom name.0, name.1))
+    else (if tag == 116 then (number4_of bytes >>= λ n. Ok (Pairs n.0, n.1))
+    else (if tag == 118 then (sized2_of bytes >>= λ name. Ok (Atom name.0, name.1))
+    else (if tag == 119 then (sized1_of bytes >>= λ name. Ok (Atom name.0, name.1))
+    else (if tag == 120 then port120_of bytes
+    else Err (suc (length bytes)))))))))))))))))))))))))))

@@ -1,0 +1,11 @@
+pub mod Depth
+pub mod Faults
+pub mod Heads
+pub mod Held
+pub mod Inner
+pub mod Laws
+pub mod Layouts
+pub mod Place
+pub mod Table
+pub mod Terms
+pub mod Text

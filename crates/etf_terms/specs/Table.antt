@@ -1,0 +1,102 @@
+-- The table of tags. Each row is what stands behind its tag, up to the terms that follow.
+use Rattle.std.specs.Prelude.{ℕ, ◌*◌, ◌==◌, ◌||◌, ◌&&◌, nat_le, Bool, List, [], ◌∷◌, Option, None, Some, is_some, unwrap_or, if◌then◌else◌}
+use Rattle.etf_terms.specs.Heads.{Head, Float, Bits, Pid, Port, Ref, Small, Int, Atom, Tuple, Nil, Chars, Linked, Bin, Big, Fun, Export, Pairs}
+use Rattle.etf_terms.specs.Layouts.{Layout, end, byte, any_byte, run, number2, number4, number8}
+
+-- a count in one, two or four bytes, and so many bytes
+abbrev pub sized1 : (List ℕ → Layout) → Layout
+sized1 next = any_byte (λ n. run n next)
+
+abbrev pub sized2 : (List ℕ → Layout) → Layout
+sized2 next = number2 (λ n. run n next)
+
+abbrev pub sized4 : (List ℕ → Layout) → Layout
+sized4 next = number4 (λ n. run n next)
+
+-- a term of tag 100, 115, 118 or 119
+abbrev pub atom : (List ℕ → Layout) → Layout
+atom next =
+    byte (λ tag. tag == 100 || (tag == 115 || (tag == 118 || tag == 119)))
+    (λ tag. if tag == 100 then sized2 next else (if tag == 115 then sized1 next else (if tag == 118 then sized2 next else sized1 next)))
+
+-- a term of tag 97
+abbrev pub small : (ℕ → Layout) → Layout
+small next = byte (λ tag. tag == 97) (λ tag. any_byte next)
+
+-- a term of tag 97 or 98
+abbrev pub integer : (List ℕ → Layout) → Layout
+integer next = byte (λ tag. tag == 97 || tag == 98) (λ tag. if tag == 97 then run 1 next else run 4 next)
+
+-- what stands behind tag 88
+abbrev pub pid88 : (Head → Layout) → Layout
+pid88 next = atom (λ name. number4 (λ id. number4 (λ serial. number4 (λ creation. next (Pid name id serial creation)))))
+
+-- what stands behind tag 103
+abbrev pub pid103 : (Head → Layout) → Layout
+pid103 next = atom (λ name. number4 (λ id. number4 (λ serial. any_byte (λ creation. next (Pid name id serial creation)))))
+
+-- a term of tag 88 or 103
+abbrev pub pid : (Head → Layout) → Layout
+pid next = byte (λ tag. tag == 88 || tag == 103) (λ tag. if tag == 88 then pid88 next else pid103 next)
+
+-- 0 or 1
+abbrev pub sign : (ℕ → Layout) → Layout
+sign next = byte (λ b. nat_le b 1) next
+
+-- from 1 to 8
+abbrev pub bits : (ℕ → Layout) → Layout
+bits next = byte (λ b. nat_le 1 b && nat_le b 8) next
+
+-- what stands behind tag 112
+abbrev pub closure : Layout
+closure =
+    number4 (λ size. any_byte (λ arity. run 16 (λ unique. number4 (λ index. number4 (λ n.
+    atom (λ name. integer (λ old_index. integer (λ old_unique. pid (λ owner. end (Fun name index arity n))))))))))
+
+-- the tags, each with what stands behind it
+abbrev pub table : List (ℕ × Layout)
+table =
+    (70, run 8 (λ bytes. end (Float bytes))) ∷
+    (77, number4 (λ n. bits (λ b. run n (λ bytes. end (Bits b bytes))))) ∷
+    (88, pid88 (λ found. end found)) ∷
+    (89, atom (λ name. number4 (λ id. number4 (λ creation. end (Port name id creation))))) ∷
+    (90, number2 (λ n. atom (λ name. number4 (λ creation. run (4 * n) (λ words. end (Ref name creation words)))))) ∷
+    (97, any_byte (λ b. end (Small b))) ∷
+    (98, number4 (λ n. end (Int n))) ∷
+    (100, sized2 (λ name. end (Atom name))) ∷
+    (102, atom (λ name. number4 (λ id. any_byte (λ creation. end (Port name id creation))))) ∷
+    (103, pid103 (λ found. end found)) ∷
+    (104, any_byte (λ n. end (Tuple n))) ∷
+    (105, number4 (λ n. end (Tuple n))) ∷
+    (106, end Nil) ∷
+    (107, sized2 (λ bytes. end (Chars bytes))) ∷
+    (108, number4 (λ n. end (Linked n))) ∷
+    (109, sized4 (λ bytes. end (Bin bytes))) ∷
+    (110, any_byte (λ n. sign (λ s. run n (λ digits. end (Big s digits))))) ∷
+    (111, number4 (λ n. sign (λ s. run n (λ digits. end (Big s digits))))) ∷
+    (112, closure) ∷
+    (113, atom (λ name. atom (λ function. small (λ arity. end (Export name function arity))))) ∷
+    (114, number2 (λ n. atom (λ name. any_byte (λ creation. run (4 * n) (λ words. end (Ref name creation words)))))) ∷
+    (115, sized1 (λ name. end (Atom name))) ∷
+    (116, number4 (λ n. end (Pairs n))) ∷
+    (118, sized2 (λ name. end (Atom name))) ∷
+    (119, sized1 (λ name. end (Atom name))) ∷
+    (120, atom (λ name. number8 (λ id. number4 (λ creation. end (Port name id creation))))) ∷
+    []
+
+-- what stands behind a tag by a list of rows, where it has one
+abbrev pub row_in : List (ℕ × Layout) → ℕ → Option Layout
+row_in [] tag = None
+row_in (row ∷ rows) tag = if tag == row.0 then Some row.1 else row_in rows tag
+
+-- whether a byte is a tag
+unfoldable pub is_tag : ℕ → Bool
+is_tag tag = is_some (row_in table tag)
+
+-- what stands behind a tag; no byte that isn't one is asked for it
+unfoldable pub row : ℕ → Layout
+row tag = unwrap_or (row_in table tag) (end Nil)
+
+-- a tag and its row
+abbrev pub head_layout : Layout
+head_layout = byte is_tag row

@@ -1,0 +1,144 @@
+-- The text of a term.
+use Rattle.std.specs.Prelude.{ℕ, ◌+◌, ◌-◌, ◌^◌, ◌%◌, ◌==◌, ◌&&◌, nat_lt, Bool, false, List, [], ◌∷◌, ◌++◌, length, take, reverse, codes, decimal, if◌then◌else◌}
+use Rattle.std.specs.Int.{w32, from_be_bytes}
+use Rattle.std.specs.List.{flat_map}
+use Rattle.dump_io.specs.Atoms.{atom_text}
+use Rattle.dump_io.specs.Numbers.{hex_byte}
+use Rattle.etf_terms.specs.declared.stack.Kind.{Kind}
+use Rattle.etf_terms.specs.declared.stack.Kind.TheVariants as kinds
+use Rattle.etf_terms.specs.Heads.{Head, Float, Bits, Pid, Port, Ref, Small, Int, Atom, Tuple, Nil, Chars, Linked, Bin, Big, Fun, Export, Pairs, kids}
+use Rattle.etf_terms.specs.Terms.{Term, node, Terms, none, more}
+
+-- how the terms behind a head are written
+abbrev pub kind_of : Head → Kind
+kind_of (Float bytes) = kinds.Plain
+kind_of (Bits bits bytes) = kinds.Plain
+kind_of (Pid name id serial creation) = kinds.Plain
+kind_of (Port name id creation) = kinds.Plain
+kind_of (Ref name creation words) = kinds.Plain
+kind_of (Small value) = kinds.Plain
+kind_of (Int value) = kinds.Plain
+kind_of (Atom name) = kinds.Plain
+kind_of (Tuple n) = kinds.Tuple
+kind_of Nil = kinds.Plain
+kind_of (Chars bytes) = kinds.Plain
+kind_of (Linked n) = kinds.Linked
+kind_of (Bin bytes) = kinds.Plain
+kind_of (Big sign digits) = kinds.Plain
+kind_of (Fun name index arity n) = kinds.Fun
+kind_of (Export name function arity) = kinds.Plain
+kind_of (Pairs n) = kinds.Pairs
+
+-- the first 32 bytes of a binary, in upper-case hex
+abbrev pub preview_text : List ℕ → List ℕ
+preview_text bytes = flat_map hex_byte (take 32 bytes) ++ ((if nat_lt 32 (length bytes) then codes ".." else []) ++ codes ">")
+
+-- the size of a binary, and its first bytes
+abbrev pub bin_text : List ℕ → List ℕ
+bin_text bytes = codes "#Bin<" ++ (decimal (length bytes) ++ (codes ":" ++ preview_text bytes))
+
+abbrev pub bits_text : ℕ → List ℕ → List ℕ
+bits_text bits bytes = codes "#Bits<" ++ (decimal (length bytes) ++ (codes "/" ++ (decimal bits ++ (codes ":" ++ preview_text bytes))))
+
+abbrev pub float_text : List ℕ → List ℕ
+float_text bytes = codes "#Float<" ++ (flat_map hex_byte bytes ++ codes ">")
+
+-- a `.` and a number
+abbrev pub dotted : ℕ → List ℕ
+dotted n = codes "." ++ decimal n
+
+abbrev pub pid_text : List ℕ → ℕ → ℕ → ℕ → List ℕ
+pid_text name id serial creation = codes "#Pid<" ++ (atom_text name ++ (dotted id ++ (dotted serial ++ (dotted creation ++ codes ">"))))
+
+abbrev pub port_text : List ℕ → ℕ → ℕ → List ℕ
+port_text name id creation = codes "#Port<" ++ (atom_text name ++ (dotted id ++ (dotted creation ++ codes ">")))
+
+-- each word of four bytes
+abbrev pub words_text : List ℕ → List ℕ
+words_text (a ∷ b ∷ c ∷ d ∷ bytes) = dotted (from_be_bytes w32 (a ∷ b ∷ c ∷ d ∷ [])) ++ words_text bytes
+words_text bytes = []
+
+abbrev pub ref_text : List ℕ → ℕ → List ℕ → List ℕ
+ref_text name creation words = codes "#Ref<" ++ (atom_text name ++ (dotted creation ++ (words_text words ++ codes ">")))
+
+-- four bytes in two's complement
+abbrev pub int_text : ℕ → List ℕ
+int_text n = if nat_lt n (2 ^ 31) then decimal n else codes "-" ++ decimal (2 ^ 32 - n)
+
+-- a comma and a number
+abbrev pub comma_number : ℕ → List ℕ
+comma_number n = codes "," ++ decimal n
+
+-- a list of bytes as numbers
+abbrev pub chars_text : List ℕ → List ℕ
+chars_text [] = codes "[]"
+chars_text (b ∷ bytes) = codes "[" ++ (decimal b ++ (flat_map comma_number bytes ++ codes "]"))
+
+abbrev pub fun_text : List ℕ → ℕ → ℕ → List ℕ
+fun_text name index arity = codes "#Fun<" ++ (atom_text name ++ (codes "/" ++ (decimal index ++ (codes "/" ++ (decimal arity ++ codes ":")))))
+
+-- the digits of base 256 from the last to the first
+abbrev pub big_text : ℕ → List ℕ → List ℕ
+big_text sign digits =
+    (if sign == 1 then codes "-" else []) ++ (codes "16#" ++ (if length digits == 0 then codes "00" else flat_map hex_byte (reverse digits)))
+
+-- a head's own text, before its terms
+abbrev pub opening : Head → List ℕ
+opening (Float bytes) = float_text bytes
+opening (Bits bits bytes) = bits_text bits bytes
+opening (Pid name id serial creation) = pid_text name id serial creation
+opening (Port name id creation) = port_text name id creation
+opening (Ref name creation words) = ref_text name creation words
+opening (Small value) = decimal value
+opening (Int value) = int_text value
+opening (Atom name) = atom_text name
+opening (Tuple n) = codes "{"
+opening Nil = codes "[]"
+opening (Chars bytes) = chars_text bytes
+-- without elements it is the tail alone
+opening (Linked n) = if n == 0 then [] else codes "["
+opening (Bin bytes) = bin_text bytes
+opening (Big sign digits) = big_text sign digits
+opening (Fun name index arity n) = fun_text name index arity
+opening (Export name function arity) =
+    codes "fun " ++ (atom_text name ++ (codes ":" ++ (atom_text function ++ (codes "/" ++ decimal arity))))
+opening (Pairs n) = codes "#{"
+
+-- what stands behind so many terms
+abbrev pub closing : Kind → ℕ → List ℕ
+closing kinds.Plain count = []
+closing kinds.Tuple count = codes "}"
+closing kinds.Linked count = if count == 1 then [] else codes "]"
+closing kinds.Fun count = codes ">"
+closing kinds.Pairs count = codes "}"
+
+-- what stands before the term with the number i
+abbrev pub between : Kind → ℕ → ℕ → List ℕ
+between kinds.Plain count i = []
+between kinds.Tuple count i = if i == 0 then [] else codes ","
+-- the last is the tail
+between kinds.Linked count i = if i == 0 then [] else (if i + 1 == count then codes "|" else codes ",")
+between kinds.Fun count i = if i == 0 then [] else codes ","
+between kinds.Pairs count i = if i == 0 then [] else (if i % 2 == 1 then codes "=>" else codes ",")
+
+-- a tail of tag 106 behind elements isn't written
+abbrev pub is_end : Kind → ℕ → ℕ → Head → Bool
+is_end kinds.Linked count i Nil = nat_lt 0 i && i + 1 == count
+is_end kind count i head = false
+
+-- what stands before the terms of the term with the number i
+abbrev pub own_text : Kind → ℕ → ℕ → Head → List ℕ
+own_text kind count i head = if is_end kind count i head then [] else between kind count i ++ opening head
+
+abbrev mutual
+  pub text : Term → List ℕ
+  text (node head terms) = opening head ++ inner (kind_of head) (kids head) 0 terms
+
+  -- the terms of a head from the number i on
+  pub inner : Kind → ℕ → ℕ → Terms → List ℕ
+  inner kind count i none = closing kind count
+  inner kind count i (more term terms) = placed kind count i term ++ inner kind count (i + 1) terms
+
+  -- the term with the number i, and what stands before it
+  pub placed : Kind → ℕ → ℕ → Term → List ℕ
+  placed kind count i (node head terms) = own_text kind count i head ++ inner (kind_of head) (kids head) 0 terms

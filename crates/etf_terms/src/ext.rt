@@ -1,0 +1,83 @@
+// A term that was read, and how it is written.
+ghost use Rattle.std.specs.Prelude.{◌≡◌, suc, ◌≤◌, length, IfOk, IfErr};
+ghost use Rattle.dump_io.specs.Sinks.{changed, Puts};
+ghost use Rattle.etf_terms.specs.Depth.{depth};
+ghost use Rattle.etf_terms.specs.Faults.{IsFault};
+ghost use Rattle.etf_terms.specs.Terms.{Term, IsTerm, IsExternal};
+ghost use Rattle.etf_terms.specs.Text.{text};
+
+use crate::nesting::height;
+use crate::printing::put_term;
+use crate::reading::term_bytes;
+use crate::stack::Stack;
+use dump_io::{Failed, Sink};
+use std::alloc::{AllocError, Global};
+use std::marker::Model;
+
+/// Why bytes aren't read.
+#[derive(Debug, Drop)]
+pub enum ExtFault {
+    /// They aren't 131 and one term; `at` is the length of the longest prefix that begins some 131 and term.
+    Bad { at: u64 },
+    /// There was no memory for the stack.
+    Memory,
+}
+
+/// A term in the External Term Format.
+#[derive(Drop)]
+pub struct Ext<'a> {
+    bytes: &'a [u8],
+    stack: Stack,
+}
+
+// The bytes are a term's, and there is room for all heads that are open at once.
+impl<'a> Model for Ext<'a> {
+    ghost use Rattle.std.specs.Prelude.{◌∷◌};
+    ghost use Rattle.etf_terms.specs.Held.{Held};
+    ghost use Rattle.etf_terms.specs.Inner.Serving.{Serves};
+
+    ghost Value = { Held };
+
+    ghost view = { λ e. record { bytes = 131 ∷ e.bytes.now; room = e.stack.room } };
+
+    ghost invariant = { λ e. Serves e.bytes.now e.stack.room };
+}
+
+// A stack for the term that these bytes are.
+fn stack_for(alloc: Global, bytes: &[u8]) -> Result<Stack, AllocError>
+    ensures { IfOk result (λ stack. (term : Term) → IsTerm bytes.now term → stack.room ≡ suc (depth term)) }
+{
+    Stack::new(alloc, height(alloc, bytes)?)
+}
+
+impl<'a> Ext<'a> {
+    /// The term that the bytes are, 131 before it.
+    ///
+    /// `Bad` comes exactly where they aren't 131 and one term, and before any memory is taken. The memory that the writing
+    /// needs is taken here: a stack of one entry more than the term is deep.
+    pub fn read(alloc: Global, bytes: &'a [u8]) -> Result<Ext<'a>, ExtFault>
+        ensures same { IfOk result (λ ext. ext.bytes ≡ bytes.now) }
+        ensures ok { IfOk result (λ ext. (term : Term) × IsExternal bytes.now term) }
+        ensures room { IfOk result (λ ext. (term : Term) → IsExternal bytes.now term → ext.room ≡ suc (depth term)) }
+        ensures few { IfOk result (λ ext. ext.room ≤ length bytes.now) }
+        ensures fault { IfErr result (λ fault. IsFault fault bytes.now) }
+    {
+        let rest = match term_bytes(bytes) {
+            Ok(rest) => rest,
+            Err(at) => return Err(ExtFault::Bad { at }),
+        };
+        match stack_for(alloc, rest) {
+            Ok(stack) => Ok(Ext { bytes: rest, stack }),
+            Err(_) => Err(ExtFault::Memory),
+        }
+    }
+
+    /// Writes the term's text. It takes no memory. `Failed` comes only where the sink's count of faults rose, and a proper
+    /// front of the text was written then.
+    pub fn put<K: Sink>(&mut self, sink: &mut K) -> Result<(), Failed>
+        ensures same { self.new ≡ self.old }
+        ensures puts { (term : Term) → IsExternal self.old.bytes term → Puts (changed K.written K.faults sink.old sink.new) (text term) result }
+    {
+        put_term(self.bytes, &mut self.stack, sink)
+    }
+}

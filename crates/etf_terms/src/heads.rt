@@ -1,0 +1,437 @@
+// Heads: what a term is, but for the terms behind it.
+ghost use Rattle.std.specs.Prelude.{◌≡◌, ◌≤◌, ◌^◌, List, length, Ok};
+ghost use Rattle.etf_terms.specs.Heads.{kids};
+ghost use Rattle.etf_terms.specs.Inner.Parts.{Gives, head, byte_of, run_of, number2_of, number4_of, number8_of, sized1_of, sized2_of, sized4_of, atom_of, small_of, integer_of, pid88_of, pid103_of, pid_of, sign_of, part_of, float_of, bits_of, port89_of, port102_of, port120_of, ref90_of, ref114_of, big110_of, big111_of, owner_of, closure_of, export_of, head_of};
+
+#[derive(Clone, Copy)]
+pub(crate) enum HeadRead<'a> {
+    Float(&'a [u8]),
+    Bits(u8, &'a [u8]),
+    Pid(&'a [u8], u32, u32, u32),
+    Port(&'a [u8], u64, u32),
+    Ref(&'a [u8], u32, &'a [u8]),
+    Small(u8),
+    Int(u32),
+    Atom(&'a [u8]),
+    Tuple(u32),
+    Nil,
+    Chars(&'a [u8]),
+    Linked(u32),
+    Bin(&'a [u8]),
+    Big(u8, &'a [u8]),
+    Fun(&'a [u8], u32, u8, u32),
+    Export(&'a [u8], &'a [u8], u8),
+    Pairs(u32),
+}
+
+// Each reader takes what it reads off the front, or says how many bytes are left from the first that can't stand there.
+#[tactic(auto, unfolding(crate::specs::Inner::Parts::byte_of))]
+fn byte(bytes: &[u8]) -> Result<(u8, &[u8]), usize>
+    ensures { Gives (λ x. (x.0, x.1.now)) result (byte_of bytes.now) }
+{
+    match bytes {
+        [] => Err(0),
+        [b, rest @ ..] => Ok((*b, rest)),
+    }
+}
+
+#[tactic(auto, unfolding(crate::specs::Inner::Parts::run_of))]
+fn run(bytes: &[u8], n: usize) -> Result<(&[u8], &[u8]), usize>
+    ensures { Gives (λ x. (x.0.now, x.1.now)) result (run_of n bytes.now) }
+{
+    if n <= bytes.len() {
+        Ok(bytes.split_at(n))
+    } else {
+        Err(0)
+    }
+}
+
+#[tactic(auto, unfolding(crate::specs::Inner::Parts::number2_of, crate::specs::Inner::Parts::run_of))]
+fn number2(bytes: &[u8]) -> Result<(u16, &[u8]), usize>
+    ensures { Gives (λ x. (x.0, x.1.now)) result (number2_of bytes.now) }
+{
+    if 2 <= bytes.len() {
+        let (front, rest) = bytes.split_at(2);
+        Ok((u16::from_be_bytes([front[0], front[1]]), rest))
+    } else {
+        Err(0)
+    }
+}
+
+#[tactic(auto, unfolding(crate::specs::Inner::Parts::number4_of, crate::specs::Inner::Parts::run_of))]
+pub(crate) fn number4(bytes: &[u8]) -> Result<(u32, &[u8]), usize>
+    ensures { Gives (λ x. (x.0, x.1.now)) result (number4_of bytes.now) }
+{
+    if 4 <= bytes.len() {
+        let (front, rest) = bytes.split_at(4);
+        Ok((
+            u32::from_be_bytes([front[0], front[1], front[2], front[3]]),
+            rest,
+        ))
+    } else {
+        Err(0)
+    }
+}
+
+#[tactic(auto, unfolding(crate::specs::Inner::Parts::number8_of, crate::specs::Inner::Parts::run_of))]
+fn number8(bytes: &[u8]) -> Result<(u64, &[u8]), usize>
+    ensures { Gives (λ x. (x.0, x.1.now)) result (number8_of bytes.now) }
+{
+    if 8 <= bytes.len() {
+        let (front, rest) = bytes.split_at(8);
+        Ok((
+            u64::from_be_bytes([
+                front[0], front[1], front[2], front[3], front[4], front[5], front[6], front[7],
+            ]),
+            rest,
+        ))
+    } else {
+        Err(0)
+    }
+}
+
+#[tactic(auto, unfolding(crate::specs::Inner::Parts::sized1_of))]
+fn sized1(bytes: &[u8]) -> Result<(&[u8], &[u8]), usize>
+    ensures { Gives (λ x. (x.0.now, x.1.now)) result (sized1_of bytes.now) }
+{
+    let (n, rest) = byte(bytes)?;
+    run(rest, n as usize)
+}
+
+#[tactic(auto, unfolding(crate::specs::Inner::Parts::sized2_of))]
+fn sized2(bytes: &[u8]) -> Result<(&[u8], &[u8]), usize>
+    ensures { Gives (λ x. (x.0.now, x.1.now)) result (sized2_of bytes.now) }
+{
+    let (n, rest) = number2(bytes)?;
+    run(rest, n as usize)
+}
+
+#[tactic(auto, unfolding(crate::specs::Inner::Parts::sized4_of))]
+fn sized4(bytes: &[u8]) -> Result<(&[u8], &[u8]), usize>
+    ensures { Gives (λ x. (x.0.now, x.1.now)) result (sized4_of bytes.now) }
+{
+    let (n, rest) = number4(bytes)?;
+    run(rest, n as usize)
+}
+
+// A term of tag 100, 115, 118 or 119.
+#[tactic(auto, unfolding(crate::specs::Inner::Parts::atom_of))]
+fn atom(bytes: &[u8]) -> Result<(&[u8], &[u8]), usize>
+    ensures { Gives (λ x. (x.0.now, x.1.now)) result (atom_of bytes.now) }
+{
+    match bytes {
+        [] => Err(0),
+        [100, rest @ ..] => sized2(rest),
+        [115, rest @ ..] => sized1(rest),
+        [118, rest @ ..] => sized2(rest),
+        [119, rest @ ..] => sized1(rest),
+        [_, ..] => Err(bytes.len()),
+    }
+}
+
+// A term of tag 97.
+#[tactic(auto, unfolding(crate::specs::Inner::Parts::small_of))]
+fn small(bytes: &[u8]) -> Result<(u8, &[u8]), usize>
+    ensures { Gives (λ x. (x.0, x.1.now)) result (small_of bytes.now) }
+{
+    match bytes {
+        [] => Err(0),
+        [97, rest @ ..] => byte(rest),
+        [_, ..] => Err(bytes.len()),
+    }
+}
+
+// A term of tag 97 or 98.
+#[tactic(auto, unfolding(crate::specs::Inner::Parts::integer_of))]
+fn integer(bytes: &[u8]) -> Result<(&[u8], &[u8]), usize>
+    ensures { Gives (λ x. (x.0.now, x.1.now)) result (integer_of bytes.now) }
+{
+    match bytes {
+        [] => Err(0),
+        [97, rest @ ..] => run(rest, 1),
+        [98, rest @ ..] => run(rest, 4),
+        [_, ..] => Err(bytes.len()),
+    }
+}
+
+#[tactic(auto, unfolding(crate::specs::Inner::Parts::pid88_of))]
+fn pid88(bytes: &[u8]) -> Result<(HeadRead<'_>, &[u8]), usize>
+    ensures { Gives (λ x. (head x.0, x.1.now)) result (pid88_of bytes.now) }
+{
+    let (name, rest) = atom(bytes)?;
+    let (id, rest) = number4(rest)?;
+    let (serial, rest) = number4(rest)?;
+    let (creation, rest) = number4(rest)?;
+    Ok((HeadRead::Pid(name, id, serial, creation), rest))
+}
+
+#[tactic(auto, unfolding(crate::specs::Inner::Parts::pid103_of))]
+fn pid103(bytes: &[u8]) -> Result<(HeadRead<'_>, &[u8]), usize>
+    ensures { Gives (λ x. (head x.0, x.1.now)) result (pid103_of bytes.now) }
+{
+    let (name, rest) = atom(bytes)?;
+    let (id, rest) = number4(rest)?;
+    let (serial, rest) = number4(rest)?;
+    let (creation, rest) = byte(rest)?;
+    Ok((HeadRead::Pid(name, id, serial, creation as u32), rest))
+}
+
+// A term of tag 88 or 103.
+#[tactic(auto, unfolding(crate::specs::Inner::Parts::pid_of))]
+fn pid(bytes: &[u8]) -> Result<(HeadRead<'_>, &[u8]), usize>
+    ensures { Gives (λ x. (head x.0, x.1.now)) result (pid_of bytes.now) }
+{
+    match bytes {
+        [] => Err(0),
+        [88, rest @ ..] => pid88(rest),
+        [103, rest @ ..] => pid103(rest),
+        [_, ..] => Err(bytes.len()),
+    }
+}
+
+// 0 or 1.
+#[tactic(auto, unfolding(crate::specs::Inner::Parts::sign_of))]
+fn sign(bytes: &[u8]) -> Result<(u8, &[u8]), usize>
+    ensures { Gives (λ x. (x.0, x.1.now)) result (sign_of bytes.now) }
+{
+    match bytes {
+        [] => Err(0),
+        [b, rest @ ..] => {
+            if *b <= 1 {
+                Ok((*b, rest))
+            } else {
+                Err(bytes.len())
+            }
+        }
+    }
+}
+
+// From 1 to 8.
+#[tactic(auto, unfolding(crate::specs::Inner::Parts::part_of))]
+fn part(bytes: &[u8]) -> Result<(u8, &[u8]), usize>
+    ensures { Gives (λ x. (x.0, x.1.now)) result (part_of bytes.now) }
+{
+    match bytes {
+        [] => Err(0),
+        [b, rest @ ..] => {
+            if 1 <= *b && *b <= 8 {
+                Ok((*b, rest))
+            } else {
+                Err(bytes.len())
+            }
+        }
+    }
+}
+
+#[tactic(auto, unfolding(crate::specs::Inner::Parts::float_of))]
+fn float(bytes: &[u8]) -> Result<(HeadRead<'_>, &[u8]), usize>
+    ensures { Gives (λ x. (head x.0, x.1.now)) result (float_of bytes.now) }
+{
+    let (eight, rest) = run(bytes, 8)?;
+    Ok((HeadRead::Float(eight), rest))
+}
+
+#[tactic(auto, unfolding(crate::specs::Inner::Parts::bits_of))]
+fn bits(bytes: &[u8]) -> Result<(HeadRead<'_>, &[u8]), usize>
+    ensures { Gives (λ x. (head x.0, x.1.now)) result (bits_of bytes.now) }
+{
+    let (n, rest) = number4(bytes)?;
+    let (b, rest) = part(rest)?;
+    let (found, rest) = run(rest, n as usize)?;
+    Ok((HeadRead::Bits(b, found), rest))
+}
+
+#[tactic(auto, unfolding(crate::specs::Inner::Parts::port89_of))]
+fn port89(bytes: &[u8]) -> Result<(HeadRead<'_>, &[u8]), usize>
+    ensures { Gives (λ x. (head x.0, x.1.now)) result (port89_of bytes.now) }
+{
+    let (name, rest) = atom(bytes)?;
+    let (id, rest) = number4(rest)?;
+    let (creation, rest) = number4(rest)?;
+    Ok((HeadRead::Port(name, id as u64, creation), rest))
+}
+
+#[tactic(auto, unfolding(crate::specs::Inner::Parts::port102_of))]
+fn port102(bytes: &[u8]) -> Result<(HeadRead<'_>, &[u8]), usize>
+    ensures { Gives (λ x. (head x.0, x.1.now)) result (port102_of bytes.now) }
+{
+    let (name, rest) = atom(bytes)?;
+    let (id, rest) = number4(rest)?;
+    let (creation, rest) = byte(rest)?;
+    Ok((HeadRead::Port(name, id as u64, creation as u32), rest))
+}
+
+#[tactic(auto, unfolding(crate::specs::Inner::Parts::port120_of))]
+fn port120(bytes: &[u8]) -> Result<(HeadRead<'_>, &[u8]), usize>
+    ensures { Gives (λ x. (head x.0, x.1.now)) result (port120_of bytes.now) }
+{
+    let (name, rest) = atom(bytes)?;
+    let (id, rest) = number8(rest)?;
+    let (creation, rest) = number4(rest)?;
+    Ok((HeadRead::Port(name, id, creation), rest))
+}
+
+#[tactic(auto, unfolding(crate::specs::Inner::Parts::ref90_of))]
+fn ref90(bytes: &[u8]) -> Result<(HeadRead<'_>, &[u8]), usize>
+    ensures { Gives (λ x. (head x.0, x.1.now)) result (ref90_of bytes.now) }
+{
+    let (n, rest) = number2(bytes)?;
+    let (name, rest) = atom(rest)?;
+    let (creation, rest) = number4(rest)?;
+    let (words, rest) = run(rest, 4 * n as usize)?;
+    Ok((HeadRead::Ref(name, creation, words), rest))
+}
+
+#[tactic(auto, unfolding(crate::specs::Inner::Parts::ref114_of))]
+fn ref114(bytes: &[u8]) -> Result<(HeadRead<'_>, &[u8]), usize>
+    ensures { Gives (λ x. (head x.0, x.1.now)) result (ref114_of bytes.now) }
+{
+    let (n, rest) = number2(bytes)?;
+    let (name, rest) = atom(rest)?;
+    let (creation, rest) = byte(rest)?;
+    let (words, rest) = run(rest, 4 * n as usize)?;
+    Ok((HeadRead::Ref(name, creation as u32, words), rest))
+}
+
+#[tactic(auto, unfolding(crate::specs::Inner::Parts::big110_of))]
+fn big110(bytes: &[u8]) -> Result<(HeadRead<'_>, &[u8]), usize>
+    ensures { Gives (λ x. (head x.0, x.1.now)) result (big110_of bytes.now) }
+{
+    let (n, rest) = byte(bytes)?;
+    let (s, rest) = sign(rest)?;
+    let (digits, rest) = run(rest, n as usize)?;
+    Ok((HeadRead::Big(s, digits), rest))
+}
+
+#[tactic(auto, unfolding(crate::specs::Inner::Parts::big111_of))]
+fn big111(bytes: &[u8]) -> Result<(HeadRead<'_>, &[u8]), usize>
+    ensures { Gives (λ x. (head x.0, x.1.now)) result (big111_of bytes.now) }
+{
+    let (n, rest) = number4(bytes)?;
+    let (s, rest) = sign(rest)?;
+    let (digits, rest) = run(rest, n as usize)?;
+    Ok((HeadRead::Big(s, digits), rest))
+}
+
+// The two integers and the pid behind a function's name.
+#[tactic(auto, unfolding(crate::specs::Inner::Parts::owner_of))]
+fn owner(bytes: &[u8]) -> Result<(HeadRead<'_>, &[u8]), usize>
+    ensures { Gives (λ x. (head x.0, x.1.now)) result (owner_of bytes.now) }
+{
+    let (_old_index, rest) = integer(bytes)?;
+    let (_old_unique, rest) = integer(rest)?;
+    pid(rest)
+}
+
+#[tactic(auto, unfolding(crate::specs::Inner::Parts::closure_of))]
+fn closure(bytes: &[u8]) -> Result<(HeadRead<'_>, &[u8]), usize>
+    ensures { Gives (λ x. (head x.0, x.1.now)) result (closure_of bytes.now) }
+{
+    let (_size, rest) = number4(bytes)?;
+    let (arity, rest) = byte(rest)?;
+    let (_unique, rest) = run(rest, 16)?;
+    let (index, rest) = number4(rest)?;
+    let (n, rest) = number4(rest)?;
+    let (name, rest) = atom(rest)?;
+    let (_owner, rest) = owner(rest)?;
+    Ok((HeadRead::Fun(name, index, arity, n), rest))
+}
+
+#[tactic(auto, unfolding(crate::specs::Inner::Parts::export_of))]
+fn export(bytes: &[u8]) -> Result<(HeadRead<'_>, &[u8]), usize>
+    ensures { Gives (λ x. (head x.0, x.1.now)) result (export_of bytes.now) }
+{
+    let (name, rest) = atom(bytes)?;
+    let (function, rest) = atom(rest)?;
+    let (arity, rest) = small(rest)?;
+    Ok((HeadRead::Export(name, function, arity), rest))
+}
+
+// The head at the front.
+#[tactic(auto, unfolding(crate::specs::Inner::Parts::head_of))]
+pub(crate) fn read_head(bytes: &[u8]) -> Result<(HeadRead<'_>, &[u8]), usize>
+    ensures { Gives (λ x. (head x.0, x.1.now)) result (head_of bytes.now) }
+{
+    match bytes {
+        [] => Err(0),
+        [70, rest @ ..] => float(rest),
+        [77, rest @ ..] => bits(rest),
+        [88, rest @ ..] => pid88(rest),
+        [89, rest @ ..] => port89(rest),
+        [90, rest @ ..] => ref90(rest),
+        [97, rest @ ..] => {
+            let (value, rest) = byte(rest)?;
+            Ok((HeadRead::Small(value), rest))
+        }
+        [98, rest @ ..] => {
+            let (value, rest) = number4(rest)?;
+            Ok((HeadRead::Int(value), rest))
+        }
+        [100, rest @ ..] => {
+            let (name, rest) = sized2(rest)?;
+            Ok((HeadRead::Atom(name), rest))
+        }
+        [102, rest @ ..] => port102(rest),
+        [103, rest @ ..] => pid103(rest),
+        [104, rest @ ..] => {
+            let (n, rest) = byte(rest)?;
+            Ok((HeadRead::Tuple(n as u32), rest))
+        }
+        [105, rest @ ..] => {
+            let (n, rest) = number4(rest)?;
+            Ok((HeadRead::Tuple(n), rest))
+        }
+        [106, rest @ ..] => Ok((HeadRead::Nil, rest)),
+        [107, rest @ ..] => {
+            let (chars, rest) = sized2(rest)?;
+            Ok((HeadRead::Chars(chars), rest))
+        }
+        [108, rest @ ..] => {
+            let (n, rest) = number4(rest)?;
+            Ok((HeadRead::Linked(n), rest))
+        }
+        [109, rest @ ..] => {
+            let (bin, rest) = sized4(rest)?;
+            Ok((HeadRead::Bin(bin), rest))
+        }
+        [110, rest @ ..] => big110(rest),
+        [111, rest @ ..] => big111(rest),
+        [112, rest @ ..] => closure(rest),
+        [113, rest @ ..] => export(rest),
+        [114, rest @ ..] => ref114(rest),
+        [115, rest @ ..] => {
+            let (name, rest) = sized1(rest)?;
+            Ok((HeadRead::Atom(name), rest))
+        }
+        [116, rest @ ..] => {
+            let (n, rest) = number4(rest)?;
+            Ok((HeadRead::Pairs(n), rest))
+        }
+        [118, rest @ ..] => {
+            let (name, rest) = sized2(rest)?;
+            Ok((HeadRead::Atom(name), rest))
+        }
+        [119, rest @ ..] => {
+            let (name, rest) = sized1(rest)?;
+            Ok((HeadRead::Atom(name), rest))
+        }
+        [120, rest @ ..] => port120(rest),
+        [_, ..] => Err(bytes.len()),
+    }
+}
+
+impl<'a> HeadRead<'a> {
+    /// How many terms stand behind it.
+    pub fn kids(&self) -> u64
+        ensures value { result ≡ kids (head self.now) }
+        ensures few { result ≤ 2 ^ 33 }
+    {
+        match *self {
+            HeadRead::Tuple(n) => n as u64,
+            HeadRead::Linked(n) => n as u64 + 1,
+            HeadRead::Fun(_, _, _, n) => n as u64,
+            HeadRead::Pairs(n) => 2 * n as u64,
+            _ => 0,
+        }
+    }
+}

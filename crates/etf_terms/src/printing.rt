@@ -1,0 +1,415 @@
+// Writing a term.
+ghost use Rattle.std.specs.Prelude.{◌≡◌, ℕ, ◌+◌, ◌≤◌, ◌<◌, List, [], ◌∷◌, ◌++◌, length, take, reverse, codes, decimal, if◌then◌else◌, nat_lt, ◌==◌};
+ghost use Rattle.std.specs.List.{flat_map};
+ghost use Rattle.dump_io.specs.Sinks.{changed, Puts};
+ghost use Rattle.dump_io.specs.Atoms.{atom_text};
+ghost use Rattle.dump_io.specs.Numbers.{hex_byte};
+ghost use Rattle.etf_terms.specs.Inner.Parts.{head};
+ghost use Rattle.etf_terms.specs.Inner.Serving.{Serves};
+ghost use Rattle.etf_terms.specs.Inner.Standing.{entry_of, next_of, Stands, Moves, Falls};
+ghost use Rattle.etf_terms.specs.Terms.{Term, IsTerm};
+ghost use Rattle.etf_terms.specs.Text.{kind_of, dotted, float_text, bits_text, pid_text, port_text, words_text, ref_text, int_text, comma_number, chars_text, fun_text, preview_text, bin_text, big_text, opening, closing, between, is_end, own_text, text};
+
+use crate::heads::{HeadRead, number4, read_head};
+use crate::stack::{Entry, Kind, Stack};
+use dump_io::{Failed, Sink, hex_pair, put_atom, put_dec, put_hex_bytes, write_all};
+
+fn closing_text(kind: Kind, kids: u64) -> &'static [u8]
+    ensures { result.now ≡ closing kind kids }
+{
+    match kind {
+        Kind::Plain => b"",
+        Kind::Tuple => b"}",
+        Kind::Fun => b">",
+        Kind::Linked => { if kids == 1 { b"" } else { b"]" } }
+        Kind::Pairs => b"}",
+    }
+}
+
+fn between_text(kind: Kind, kids: u64, i: u64) -> &'static [u8]
+    requires { i < kids }
+    ensures { result.now ≡ between kind kids i }
+{
+    match kind {
+        Kind::Plain => b"",
+        Kind::Tuple => { if i == 0 { b"" } else { b"," } }
+        Kind::Fun => { if i == 0 { b"" } else { b"," } }
+        Kind::Linked => {
+            if i == 0 {
+                b""
+            } else if i + 1 == kids {
+                b"|"
+            } else {
+                b","
+            }
+        }
+        Kind::Pairs => {
+            if i == 0 {
+                b""
+            } else if i % 2 == 1 {
+                b"=>"
+            } else {
+                b","
+            }
+        }
+    }
+}
+
+// Whether it is the end of a list.
+fn ends(kind: Kind, kids: u64, i: u64, found: &HeadRead<'_>) -> bool
+    requires { i < kids }
+    ensures { result ≡ is_end kind kids i (head found.now) }
+{
+    match (kind, *found) {
+        (Kind::Linked, HeadRead::Nil) => 0 < i && i + 1 == kids,
+        _ => false,
+    }
+}
+
+fn kind(found: &HeadRead<'_>) -> Kind
+    ensures { result ≡ kind_of (head found.now) }
+{
+    match *found {
+        HeadRead::Tuple(_) => Kind::Tuple,
+        HeadRead::Linked(_) => Kind::Linked,
+        HeadRead::Fun(_, _, _, _) => Kind::Fun,
+        HeadRead::Pairs(_) => Kind::Pairs,
+        _ => Kind::Plain,
+    }
+}
+
+fn dots(size: usize) -> &'static [u8]
+    ensures { result.now ≡ (if nat_lt 32 size then codes ".." else []) }
+{
+    if size > 32 { b".." } else { b"" }
+}
+
+fn first_bytes(bytes: &[u8]) -> &[u8]
+    ensures { result.now ≡ take 32 bytes.now }
+{
+    if bytes.len() > 32 {
+        &bytes[..32]
+    } else {
+        bytes
+    }
+}
+
+// The first bytes of a binary, and its end.
+fn put_preview<K: Sink>(sink: &mut K, bytes: &[u8]) -> Result<(), Failed>
+    ensures { Puts (changed K.written K.faults sink.old sink.new)
+        (flat_map hex_byte (take 32 bytes.now) ++ ((if nat_lt 32 (length bytes.now) then codes ".." else []) ++ codes ">")) result }
+{
+    put_hex_bytes(sink, first_bytes(bytes))?;
+    write_all(sink, dots(bytes.len()))?;
+    write_all(sink, b">")
+}
+
+fn put_bin<K: Sink>(sink: &mut K, bytes: &[u8]) -> Result<(), Failed>
+    ensures { Puts (changed K.written K.faults sink.old sink.new) (bin_text bytes.now) result }
+{
+    write_all(sink, b"#Bin<")?;
+    put_dec(sink, bytes.len() as u64)?;
+    write_all(sink, b":")?;
+    put_preview(sink, bytes)
+}
+
+// The digits from the last to the first.
+fn put_digits<K: Sink>(sink: &mut K, digits: &[u8]) -> Result<(), Failed>
+    ensures { Puts (changed K.written K.faults sink.old sink.new) (flat_map hex_byte (reverse digits.now)) result }
+{
+    let mut left = digits.len();
+    while left > 0 {
+        left -= 1;
+        write_all(sink, &hex_pair(digits[left]))?;
+    }
+    Ok(())
+}
+
+fn minus(sign: u8) -> &'static [u8]
+    ensures { result.now ≡ (if sign == 1 then codes "-" else []) }
+{
+    if sign == 1 { b"-" } else { b"" }
+}
+
+fn put_number<K: Sink>(sink: &mut K, digits: &[u8]) -> Result<(), Failed>
+    ensures { Puts (changed K.written K.faults sink.old sink.new) (if length digits.now == 0 then codes "00" else flat_map hex_byte (reverse digits.now)) result }
+{
+    if digits.len() == 0 {
+        write_all(sink, b"00")
+    } else {
+        put_digits(sink, digits)
+    }
+}
+
+fn put_big<K: Sink>(sink: &mut K, sign: u8, digits: &[u8]) -> Result<(), Failed>
+    ensures { Puts (changed K.written K.faults sink.old sink.new) (big_text sign digits.now) result }
+{
+    write_all(sink, minus(sign))?;
+    write_all(sink, b"16#")?;
+    put_number(sink, digits)
+}
+
+fn put_export<K: Sink>(sink: &mut K, name: &[u8], function: &[u8], arity: u8) -> Result<(), Failed>
+    ensures { Puts (changed K.written K.faults sink.old sink.new)
+        (codes "fun " ++ (atom_text name.now ++ (codes ":" ++ (atom_text function.now ++ (codes "/" ++ decimal arity))))) result }
+{
+    write_all(sink, b"fun ")?;
+    put_atom(sink, name)?;
+    write_all(sink, b":")?;
+    put_atom(sink, function)?;
+    write_all(sink, b"/")?;
+    put_dec(sink, arity as u64)
+}
+
+fn put_dotted<K: Sink>(sink: &mut K, n: u64) -> Result<(), Failed>
+    ensures { Puts (changed K.written K.faults sink.old sink.new) (dotted n) result }
+{
+    write_all(sink, b".")?;
+    put_dec(sink, n)
+}
+
+fn put_float<K: Sink>(sink: &mut K, bytes: &[u8]) -> Result<(), Failed>
+    ensures { Puts (changed K.written K.faults sink.old sink.new) (float_text bytes.now) result }
+{
+    write_all(sink, b"#Float<")?;
+    put_hex_bytes(sink, bytes)?;
+    write_all(sink, b">")
+}
+
+fn put_bits<K: Sink>(sink: &mut K, bits: u8, bytes: &[u8]) -> Result<(), Failed>
+    ensures { Puts (changed K.written K.faults sink.old sink.new) (bits_text bits bytes.now) result }
+{
+    write_all(sink, b"#Bits<")?;
+    put_dec(sink, bytes.len() as u64)?;
+    write_all(sink, b"/")?;
+    put_dec(sink, bits as u64)?;
+    write_all(sink, b":")?;
+    put_preview(sink, bytes)
+}
+
+fn put_pid<K: Sink>(
+    sink: &mut K,
+    name: &[u8],
+    id: u32,
+    serial: u32,
+    creation: u32,
+) -> Result<(), Failed>
+    ensures { Puts (changed K.written K.faults sink.old sink.new) (pid_text name.now id serial creation) result }
+{
+    write_all(sink, b"#Pid<")?;
+    put_atom(sink, name)?;
+    put_dotted(sink, id as u64)?;
+    put_dotted(sink, serial as u64)?;
+    put_dotted(sink, creation as u64)?;
+    write_all(sink, b">")
+}
+
+fn put_port<K: Sink>(sink: &mut K, name: &[u8], id: u64, creation: u32) -> Result<(), Failed>
+    ensures { Puts (changed K.written K.faults sink.old sink.new) (port_text name.now id creation) result }
+{
+    write_all(sink, b"#Port<")?;
+    put_atom(sink, name)?;
+    put_dotted(sink, id)?;
+    put_dotted(sink, creation as u64)?;
+    write_all(sink, b">")
+}
+
+// Each word of four bytes.
+fn put_words<K: Sink>(sink: &mut K, words: &[u8]) -> Result<(), Failed>
+    ensures { Puts (changed K.written K.faults sink.old sink.new) (words_text words.now) result }
+{
+    let mut rest = words;
+    while let Ok((word, behind)) = number4(rest) {
+        put_dotted(sink, word as u64)?;
+        rest = behind;
+    }
+    Ok(())
+}
+
+fn put_ref<K: Sink>(sink: &mut K, name: &[u8], creation: u32, words: &[u8]) -> Result<(), Failed>
+    ensures { Puts (changed K.written K.faults sink.old sink.new) (ref_text name.now creation words.now) result }
+{
+    write_all(sink, b"#Ref<")?;
+    put_atom(sink, name)?;
+    put_dotted(sink, creation as u64)?;
+    put_words(sink, words)?;
+    write_all(sink, b">")
+}
+
+fn put_negative<K: Sink>(sink: &mut K, n: u64) -> Result<(), Failed>
+    ensures { Puts (changed K.written K.faults sink.old sink.new) (codes "-" ++ decimal n) result }
+{
+    write_all(sink, b"-")?;
+    put_dec(sink, n)
+}
+
+fn put_int<K: Sink>(sink: &mut K, n: u32) -> Result<(), Failed>
+    ensures { Puts (changed K.written K.faults sink.old sink.new) (int_text n) result }
+{
+    if n < 2147483648 {
+        put_dec(sink, n as u64)
+    } else {
+        put_negative(sink, 4294967296 - n as u64)
+    }
+}
+
+fn put_comma_number<K: Sink>(sink: &mut K, n: u8) -> Result<(), Failed>
+    ensures { Puts (changed K.written K.faults sink.old sink.new) (comma_number n) result }
+{
+    write_all(sink, b",")?;
+    put_dec(sink, n as u64)
+}
+
+fn put_numbers<K: Sink>(sink: &mut K, bytes: &[u8]) -> Result<(), Failed>
+    ensures { Puts (changed K.written K.faults sink.old sink.new) (flat_map comma_number bytes.now) result }
+{
+    for c in bytes {
+        put_comma_number(sink, *c)?;
+    }
+    Ok(())
+}
+
+fn put_some<K: Sink>(sink: &mut K, first: u8, others: &[u8]) -> Result<(), Failed>
+    ensures { Puts (changed K.written K.faults sink.old sink.new) (codes "[" ++ (decimal first ++ (flat_map comma_number others.now ++ codes "]"))) result }
+{
+    write_all(sink, b"[")?;
+    put_dec(sink, first as u64)?;
+    put_numbers(sink, others)?;
+    write_all(sink, b"]")
+}
+
+fn put_chars<K: Sink>(sink: &mut K, bytes: &[u8]) -> Result<(), Failed>
+    ensures { Puts (changed K.written K.faults sink.old sink.new) (chars_text bytes.now) result }
+{
+    match bytes.split_first() {
+        None => write_all(sink, b"[]"),
+        Some((first, others)) => put_some(sink, *first, others),
+    }
+}
+
+fn put_fun<K: Sink>(sink: &mut K, name: &[u8], index: u32, arity: u8) -> Result<(), Failed>
+    ensures { Puts (changed K.written K.faults sink.old sink.new) (fun_text name.now index arity) result }
+{
+    write_all(sink, b"#Fun<")?;
+    put_atom(sink, name)?;
+    write_all(sink, b"/")?;
+    put_dec(sink, index as u64)?;
+    write_all(sink, b"/")?;
+    put_dec(sink, arity as u64)?;
+    write_all(sink, b":")
+}
+
+fn bracket(n: u32) -> &'static [u8]
+    ensures { result.now ≡ (if n == 0 then [] else codes "[") }
+{
+    if n == 0 { b"" } else { b"[" }
+}
+
+fn put_opening<K: Sink>(sink: &mut K, found: &HeadRead<'_>) -> Result<(), Failed>
+    ensures { Puts (changed K.written K.faults sink.old sink.new) (opening (head found.now)) result }
+{
+    match *found {
+        HeadRead::Float(bytes) => put_float(sink, bytes),
+        HeadRead::Bits(bits, bytes) => put_bits(sink, bits, bytes),
+        HeadRead::Pid(name, id, serial, creation) => put_pid(sink, name, id, serial, creation),
+        HeadRead::Port(name, id, creation) => put_port(sink, name, id, creation),
+        HeadRead::Ref(name, creation, words) => put_ref(sink, name, creation, words),
+        HeadRead::Int(value) => put_int(sink, value),
+        HeadRead::Chars(bytes) => put_chars(sink, bytes),
+        HeadRead::Fun(name, index, arity, _) => put_fun(sink, name, index, arity),
+        HeadRead::Small(value) => put_dec(sink, value as u64),
+        HeadRead::Atom(name) => put_atom(sink, name),
+        HeadRead::Tuple(_) => write_all(sink, b"{"),
+        HeadRead::Nil => write_all(sink, b"[]"),
+        HeadRead::Linked(n) => write_all(sink, bracket(n)),
+        HeadRead::Bin(bytes) => put_bin(sink, bytes),
+        HeadRead::Big(sign, digits) => put_big(sink, sign, digits),
+        HeadRead::Export(name, function, arity) => put_export(sink, name, function, arity),
+        HeadRead::Pairs(_) => write_all(sink, b"#{"),
+    }
+}
+
+fn put_placed<K: Sink>(sink: &mut K, front: &[u8], found: &HeadRead<'_>) -> Result<(), Failed>
+    ensures { Puts (changed K.written K.faults sink.old sink.new) (front.now ++ opening (head found.now)) result }
+{
+    write_all(sink, front)?;
+    put_opening(sink, found)
+}
+
+// A head as the next of a term's.
+fn put_own<K: Sink>(sink: &mut K, entry: Entry, found: &HeadRead<'_>) -> Result<(), Failed>
+    requires { entry.next < entry.kids }
+    ensures { Puts (changed K.written K.faults sink.old sink.new) (own_text entry.kind entry.kids entry.next (head found.now)) result }
+{
+    if ends(entry.kind, entry.kids, entry.next, found) {
+        return write_all(sink, b"");
+    }
+    put_placed(
+        sink,
+        between_text(entry.kind, entry.kids, entry.next),
+        found,
+    )
+}
+
+// Goes on with an entry that was taken off the stack.
+fn visit<'a, K: Sink>(
+    rest: &'a [u8],
+    stack: &mut Stack,
+    entry: Entry,
+    sink: &mut K,
+) -> Result<&'a [u8], Failed>
+    requires stands { (to_come : List ℕ) × Stands stack.old.room (entry ∷ stack.old.entries) rest.now to_come }
+    ensures room { stack.new.room ≡ stack.old.room }
+    ensures falls { Falls rest.now stack.old stack.new result }
+    ensures later { K.faults sink.old ≤ K.faults sink.new }
+    ensures moves { (to_come : List ℕ) → Stands stack.old.room (entry ∷ stack.old.entries) rest.now to_come
+        → Moves (changed K.written K.faults sink.old sink.new) to_come stack.new.room stack.new.entries result }
+{
+    if entry.next >= entry.kids {
+        return match write_all(sink, closing_text(entry.kind, entry.kids)) {
+            Ok(()) => Ok(rest),
+            Err(failed) => Err(failed),
+        };
+    }
+    let (found, behind) = match read_head(rest) {
+        Ok(found) => found,
+        // What stands on the stack is a term's.
+        Err(_) => return Ok(rest),
+    };
+    stack.push(Entry {
+        kind: entry.kind,
+        kids: entry.kids,
+        next: entry.next + 1,
+    });
+    stack.push(Entry {
+        kind: kind(&found),
+        kids: found.kids(),
+        next: 0,
+    });
+    match put_own(sink, entry, &found) {
+        Ok(()) => Ok(behind),
+        Err(failed) => Err(failed),
+    }
+}
+
+// Writes the term whose bytes these are.
+pub(crate) fn put_term<K: Sink>(bytes: &[u8], stack: &mut Stack, sink: &mut K) -> Result<(), Failed>
+    requires { Serves bytes.now stack.old.room }
+    ensures room { stack.new.room ≡ stack.old.room }
+    ensures puts { (term : Term) → IsTerm bytes.now term → Puts (changed K.written K.faults sink.old sink.new) (text term) result }
+{
+    stack.clear();
+    stack.push(Entry {
+        kind: Kind::Plain,
+        kids: 1,
+        next: 0,
+    });
+    let mut rest = bytes;
+    while let Some(entry) = stack.pop() {
+        match visit(rest, stack, entry, sink) {
+            Ok(behind) => rest = behind,
+            Err(failed) => return Err(failed),
+        }
+    }
+    Ok(())
+}
