@@ -1,8 +1,9 @@
 -- The first of some terms: its head is read, and behind it stand its own terms and the others.
-use Rattle.std.proofs.Common.{◌≡◌, ℕ, List, [], ◌++◌, Result, Ok, Err, sym, ap, ◌∙◌, append_assoc}
+use Rattle.std.proofs.Common.{◌≡◌, ℕ, suc, true, false, List, [], ◌++◌, Result, Ok, Err, refl, sym, ap, ◌∙◌, arith, append_assoc}
+use Rattle.etf_terms.specs.Depth.{depth, deepest}
 use Rattle.etf_terms.specs.Heads.{Head, kids}
 use Rattle.etf_terms.specs.Table.{head_layout}
-use Rattle.etf_terms.specs.Terms.{node, Terms, more, count, AreTerms}
+use Rattle.etf_terms.specs.Terms.{node, Terms, none, more, count, AreTerms}
 use Rattle.etf_terms.specs.Inner.Parts.{head_of}
 use Rattle.etf_terms.specs.Inner.Walks.{reading}
 use Rattle.etf_terms.proofs.Readings.{laid-reading}
@@ -50,3 +51,20 @@ pub not-both : (bytes : List ℕ) (h : Head) (r : List ℕ) (left : ℕ) → hea
 not-both bytes h r left p q = never (h, r) left (sym p ∙ q) where
   never : (x : Head × List ℕ) (left : ℕ) → Ok x ≡ Err left → ⊥
   never x left e = cc
+
+-- ---- a head has terms, or it has none
+
+pub true≢false : true ≡ false → ⊥
+true≢false e = cc
+
+pub depth-own : (h : Head) (ks : Terms) → (count ks ≡ 0 → ⊥) → depth (node h ks) ≡ suc (deepest ks)
+depth-own h none some = absurd (some refl)
+depth-own h (more t ts) some = refl
+
+pub depth-leaf : (h : Head) (ks : Terms) → count ks ≡ 0 → depth (node h ks) ≡ 0
+depth-leaf h none e = refl
+depth-leaf h (more t ts) e = absurd (omega (arith, e))
+
+pub no-terms : (ks : Terms) (bytes : List ℕ) → count ks ≡ 0 → AreTerms bytes ks → bytes ≡ []
+no-terms none bytes e are = are
+no-terms (more t ts) bytes e are = absurd (omega (arith, e))

@@ -1,13 +1,14 @@
 -- How many heads are open at once, step by step.
-use Rattle.std.proofs.Common.{◌≡◌, ℕ, suc, ◌+◌, ◌-◌, ◌≤◌, max, List, [], ◌∷◌, ◌++◌, length, Ok, Err, refl, sym, ap, ◌∙◌, subst, arith, append-nil, length-append}
+use Rattle.std.proofs.Common.{◌≡◌, ℕ, suc, ◌+◌, ◌-◌, ◌≤◌, ◌==◌, ◌⊎◌, ⊎_elim, Bool, true, false, cond, max, List, [], ◌∷◌, ◌++◌, length, Ok, Err, refl, sym, ap, ◌∙◌, subst, arith, append-nil, length-append}
+use Rattle.std.proofs.lemmas.Bool.Decides.{eqb_tells}
 use Rattle.etf_terms.specs.Depth.{depth, deepest}
 use Rattle.etf_terms.specs.Heads.{Head, kids}
 use Rattle.etf_terms.specs.Layouts.{IsLaid}
 use Rattle.etf_terms.specs.Table.{head_layout}
 use Rattle.etf_terms.specs.Terms.{Term, node, Terms, none, more, count, IsTerm, AreTerms}
-use Rattle.etf_terms.specs.Inner.Awaiting.{Awaits, Goes}
+use Rattle.etf_terms.specs.Inner.Awaiting.{opened, Awaits, Goes}
 use Rattle.etf_terms.specs.Inner.Parts.{head_of}
-use Rattle.etf_terms.proofs.Firsts.{first-of, same-head, not-both}
+use Rattle.etf_terms.proofs.Firsts.{depth-own, depth-leaf, no-terms, true≢false, first-of, same-head, not-both}
 
 -- ---- a term is no deeper than it has bytes
 
@@ -17,9 +18,10 @@ laid-some (b ∷ front) h p = omega arith
 
 mutual
   pub depth-few : (t : Term) (bytes : List ℕ) → IsTerm bytes t → depth t ≤ length bytes
-  depth-few (node h ts) bytes p =
+  depth-few (node h none) bytes p = omega arith
+  depth-few (node h (more t ts)) bytes p =
       let sizes : length bytes ≡ length p.0 + length p.1 = ap length p.2 ∙ length-append p.0 p.1 in
-      omega (arith, sizes, laid-some p.0 h p.3, deepest-few ts p.1 p.5)
+      omega (arith, sizes, laid-some p.0 h p.3, deepest-few (more t ts) p.1 p.5)
 
   pub deepest-few : (ts : Terms) (bytes : List ℕ) → AreTerms bytes ts → deepest ts ≤ length bytes
   deepest-few none bytes p = omega arith
@@ -40,35 +42,64 @@ closes-one n ns rest most ended s = closes-terms n ns rest most s.0 s.1 s.2 s.3 
 
 -- ---- a head that wants one more
 
+pub opened-few : (n : ℕ) (counts : List ℕ) → length (opened n counts) ≤ suc (length counts)
+opened-few n counts = few (n == 0) where
+  few : (t : Bool) → length (cond t counts (n ∷ counts)) ≤ suc (length counts)
+  few true = omega arith
+  few false = omega arith
+
+-- a head that was read has terms, or it has none
+opens-by : (t : Bool) (h : Head) (ks us : Terms) (m : ℕ) (ns own others behind : List ℕ) (most below : ℕ)
+    → ((t ≡ true) × (kids h ≡ 0)) ⊎ ((t ≡ false) × (kids h ≡ 0 → ⊥)) → AreTerms own ks → count ks ≡ kids h → AreTerms others us → count us ≡ m
+    → most ≡ max (suc (length ns) + max (depth (node h ks)) (deepest us)) below → Awaits ns behind below
+    → Goes (suc (length ns)) most (cond t (m ∷ ns) (kids h ∷ m ∷ ns)) (own ++ (others ++ behind))
+opens-by true h ks us m ns own others behind most below is are_own count_own are_others left m_is s =
+    let leaf : kids h ≡ 0 = ⊎_elim (λ p. p.1) (λ p. absurd (true≢false p.0)) is in
+    let none_own = count_own ∙ leaf in
+    let wide = suc (length ns) in
+    let later = max (wide + deepest us) below in
+    let most_is : most ≡ later = omega (arith, m_is, depth-leaf h ks none_own) in
+    record {
+      later = later;
+      awaits = subst (λ l. Awaits (m ∷ ns) (l ++ (others ++ behind)) later) (sym (no-terms ks own none_own are_own))
+          (us, others, behind, below, refl, are_others, left, refl, s);
+      reaches = omega (arith, most_is);
+    }
+opens-by false h ks us m ns own others behind most below is are_own count_own are_others left m_is s =
+    let some : kids h ≡ 0 → ⊥ = ⊎_elim (λ p. absurd (true≢false (sym p.0))) (λ p. p.1) is in
+    let wide = suc (length ns) in
+    let deep = depth-own h ks (λ e. some (sym count_own ∙ e)) in
+    let most_is : most ≡ max (suc wide + deepest ks) (max (wide + deepest us) below) = omega (arith, m_is, deep) in
+    record {
+      later = most;
+      awaits = (
+        ks,
+        own,
+        others ++ behind,
+        max (wide + deepest us) below,
+        refl,
+        are_own,
+        count_own,
+        most_is,
+        (us, others, behind, below, refl, are_others, left, refl, s),
+      );
+      reaches = omega (arith, most_is);
+    }
+
 opens-terms : (n : ℕ) (ns rest : List ℕ) (most : ℕ) (terms : Terms) (front behind : List ℕ) (below : ℕ) (h : Head) (after : List ℕ) → (n ≡ 0 → ⊥) → head_of rest ≡ Ok (h, after)
     → rest ≡ front ++ behind → AreTerms front terms → count terms ≡ n → most ≡ max (suc (length ns) + deepest terms) below → Awaits ns behind below
-    → Goes (suc (length ns)) most (kids h ∷ (n - 1) ∷ ns) after
+    → Goes (suc (length ns)) most (opened (kids h) ((n - 1) ∷ ns)) after
 opens-terms n ns rest most none front behind below h after wants read r are counts m s = absurd (wants (sym counts))
 opens-terms n ns rest most (more (node k ks) us) front behind below h after wants read r are counts m s =
     let f = first-of k ks us rest front behind r are in
     let same = same-head rest k h (f.front ++ (f.rest ++ behind)) after f.read read in
     let left : count us ≡ n - 1 = omega (arith, counts) in
-    let all : count ks ≡ kids h = f.count_own ∙ ap kids same.0 in
-    let wide = suc (length ns) in
-    let most_is : most ≡ max (suc wide + deepest ks) (max (wide + deepest us) below) = omega (arith, m) in
-    record {
-      later = most;
-      awaits = (
-        ks,
-        f.front,
-        f.rest ++ behind,
-        max (wide + deepest us) below,
-        sym same.1,
-        f.are_own,
-        all,
-        most_is,
-        (us, f.rest, behind, below, refl, f.are_others, left, refl, s),
-      );
-      reaches = omega (arith, most_is);
-    }
+    subst (λ x. Goes (suc (length ns)) most (opened (kids x) ((n - 1) ∷ ns)) after) same.0
+    (subst (Goes (suc (length ns)) most (opened (kids k) ((n - 1) ∷ ns))) same.1
+    (opens-by (kids k == 0) k ks us (n - 1) ns f.front f.rest behind most below (eqb_tells (kids k) 0) f.are_own f.count_own f.are_others left m s))
 
 pub opens-one : (n : ℕ) (ns rest : List ℕ) (most : ℕ) (h : Head) (after : List ℕ) → (n ≡ 0 → ⊥) → head_of rest ≡ Ok (h, after) → Awaits (n ∷ ns) rest most
-    → Goes (suc (length ns)) most (kids h ∷ (n - 1) ∷ ns) after
+    → Goes (suc (length ns)) most (opened (kids h) ((n - 1) ∷ ns)) after
 opens-one n ns rest most h after wants read s = opens-terms n ns rest most s.0 s.1 s.2 s.3 h after wants read s.4 s.5 s.6 s.7 s.8
 
 off-terms : (n : ℕ) (rest : List ℕ) (terms : Terms) (front behind : List ℕ) (left : ℕ) → (n ≡ 0 → ⊥) → head_of rest ≡ Err left → rest ≡ front ++ behind

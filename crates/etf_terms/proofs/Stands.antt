@@ -1,5 +1,6 @@
 -- Each step of the writing, as one equation on what is still to come.
-use Rattle.std.proofs.Common.{◌≡◌, ℕ, suc, ◌+◌, ◌<◌, ◌≤◌, max, List, [], ◌∷◌, ◌++◌, length, Option, Ok, Err, refl, sym, ap, ap₂, ◌∙◌, subst, arith, append_assoc, append-nil, Bor}
+use Rattle.std.proofs.Common.{◌≡◌, ℕ, suc, ◌+◌, ◌<◌, ◌≤◌, ◌==◌, ◌⊎◌, ⊎_elim, Bool, true, false, cond, max, List, [], ◌∷◌, ◌++◌, length, Option, Ok, Err, refl, sym, ap, ◌∙◌, subst, arith, append_assoc, append-nil, Bor}
+use Rattle.std.proofs.lemmas.Bool.Decides.{eqb_tells}
 use Rattle.dump_io.specs.Sinks.{change, grown, Puts, GainsFront}
 use Rattle.dump_io.specs.Laws.Puts.{Puts-stopped, Puts-then, grown-grown, grown-nil}
 use Rattle.etf_terms.specs.declared.stack.Kind.{Kind}
@@ -10,9 +11,8 @@ use Rattle.etf_terms.specs.Heads.{Head, kids}
 use Rattle.etf_terms.specs.Terms.{Term, node, Terms, none, more, count, IsTerm, AreTerms}
 use Rattle.etf_terms.specs.Text.{kind_of, closing, own_text, inner, text}
 use Rattle.etf_terms.specs.Inner.Parts.{head_of}
-use Rattle.etf_terms.specs.Inner.Open.{Open}
-use Rattle.etf_terms.specs.Inner.Standing.{entry_of, next_of, Stands, IsPart, Moves}
-use Rattle.etf_terms.proofs.Firsts.{first-of, regroup, same-head, not-both}
+use Rattle.etf_terms.specs.Inner.Standing.{entry_of, entered, ended, next_of, Stands, IsPart, Moves}
+use Rattle.etf_terms.proofs.Firsts.{first-of, regroup, same-head, not-both, true≢false, depth-own, no-terms}
 
 -- ---- an entry that wants no more
 
@@ -32,13 +32,35 @@ closes room e es rest to_come ended s = closes-none room e es rest to_come s.0 s
 
 -- ---- an entry that wants one more
 
+inner-none : (kind : Kind) (n i : ℕ) (ks : Terms) → count ks ≡ 0 → inner kind n i ks ≡ closing kind n
+inner-none kind n i none e = refl
+inner-none kind n i (more t ts) e = absurd (omega (arith, e))
+
+-- a head that was read has terms, or it has none
+enters-by : (room : ℕ) (t : Bool) (h : Head) (ks : Terms) (es : List Entry) (own others later : List ℕ) → ((t ≡ true) × (kids h ≡ 0)) ⊎ ((t ≡ false) × (kids h ≡ 0 → ⊥))
+    → AreTerms own ks → count ks ≡ kids h → length es + depth (node h ks) ≤ room → Stands room es others later
+    → (after : List ℕ) × (inner (kind_of h) (kids h) 0 ks ++ later ≡ cond t (closing (kind_of h) (kids h)) [] ++ after) × Stands room (cond t es (entry_of h ∷ es)) (own ++ others) after
+enters-by room true h ks es own others later is are counts fits s =
+    let leaf : kids h ≡ 0 = ⊎_elim (λ p. p.1) (λ p. absurd (true≢false p.0)) is in (
+      later,
+      ap (λ l. l ++ later) (inner-none (kind_of h) (kids h) 0 ks (counts ∙ leaf)),
+      subst (λ l. Stands room es (l ++ others) later) (sym (no-terms ks own (counts ∙ leaf) are)) s,
+    )
+enters-by room false h ks es own others later is are counts fits s =
+    let some : kids h ≡ 0 → ⊥ = ⊎_elim (λ p. absurd (true≢false (sym p.0))) (λ p. p.1) is in
+    let deep = depth-own h ks (λ e. some (sym counts ∙ e)) in
+    let all : count ks + 0 ≡ kids h = omega (arith, counts) in
+    let own_fits : suc (length es) + deepest ks ≤ room = omega (arith, fits, deep) in
+    (inner (kind_of h) (kids h) 0 ks ++ later, refl, (ks, own, others, later, refl, are, all, refl, own_fits, s))
+
 pub record Opens (room : ℕ) (e : Entry) (es : List Entry) (rest to_come : List ℕ) : Type 0 where
   pub head : Head
   pub behind : List ℕ
   pub read : head_of rest ≡ Ok (head, behind)
   pub later : List ℕ
-  pub splits : to_come ≡ own_text e.kind e.kids e.next head ++ later
-  pub stands : Stands room (entry_of head ∷ next_of e ∷ es) behind later
+  pub splits : to_come ≡ (own_text e.kind e.kids e.next head ++ ended head) ++ later
+  pub stands : Stands room (entered head (next_of e ∷ es)) behind later
+  pub fits : 0 < kids head → suc (suc (length es)) ≤ room
 
 opens-more : (room : ℕ) (e : Entry) (es : List Entry) (rest to_come : List ℕ) (terms : Terms) (front behind below : List ℕ) → e.next < e.kids → rest ≡ front ++ behind
     → AreTerms front terms → count terms + e.next ≡ e.kids → to_come ≡ inner e.kind e.kids e.next terms ++ below → suc (length es) + deepest terms ≤ room → Stands room es behind below
@@ -47,27 +69,22 @@ opens-more room e es rest to_come none front behind below wants r are counts t f
 opens-more room e es rest to_come (more (node h ks) us) front behind below wants r are counts t fits s =
     let f = first-of h ks us rest front behind r are in
     let left : count us + (e.next + 1) ≡ e.kids = omega (arith, counts) in
-    let all : count ks + 0 ≡ kids h = omega (arith, f.count_own) in
-    let own_fits : suc (suc (length es)) + deepest ks ≤ room = omega (arith, fits) in
+    let own_fits : suc (length es) + depth (node h ks) ≤ room = omega (arith, fits) in
     let others_fit : suc (length es) + deepest us ≤ room = omega (arith, fits) in
+    let others_text = inner e.kind e.kids (e.next + 1) us ++ below in
+    let own = own_text e.kind e.kids e.next h in
+    let enters = enters-by room (kids h == 0) h ks (next_of e ∷ es) f.front (f.rest ++ behind) others_text (eqb_tells (kids h) 0) f.are_own f.count_own own_fits
+    (us, f.rest, behind, below, refl, f.are_others, left, refl, others_fit, s) in
     record {
       head = h;
       behind = f.front ++ (f.rest ++ behind);
       read = f.read;
-      later = inner (kind_of h) (kids h) 0 ks ++ (inner e.kind e.kids (e.next + 1) us ++ below);
-      splits = t ∙ regroup (own_text e.kind e.kids e.next h) (inner (kind_of h) (kids h) 0 ks) (inner e.kind e.kids (e.next + 1) us) below;
-      stands = (
-        ks,
-        f.front,
-        f.rest ++ behind,
-        inner e.kind e.kids (e.next + 1) us ++ below,
-        refl,
-        f.are_own,
-        all,
-        refl,
-        own_fits,
-        (us, f.rest, behind, below, refl, f.are_others, left, refl, others_fit, s),
-      );
+      later = enters.0;
+      splits = t ∙ regroup own (inner (kind_of h) (kids h) 0 ks) (inner e.kind e.kids (e.next + 1) us) below ∙ ap (λ l. own ++ l) enters.1 ∙ sym (append_assoc own (ended h) enters.0);
+      stands = enters.2;
+      fits = λ some.
+          let deep = depth-own h ks (λ none_left. omega (arith, some, f.count_own, none_left)) in
+          omega (arith, own_fits, deep);
     }
 
 pub opens : (room : ℕ) (e : Entry) (es : List Entry) (rest to_come : List ℕ) → e.next < e.kids → Stands room (e ∷ es) rest to_come → Opens room e es rest to_come
@@ -75,27 +92,34 @@ opens room e es rest to_come wants s = opens-more room e es rest to_come s.0 s.1
 
 -- the same, where the head was read
 pub opened : (room : ℕ) (e : Entry) (es : List Entry) (rest to_come : List ℕ) (h : Head) (behind : List ℕ) → e.next < e.kids → head_of rest ≡ Ok (h, behind) → Stands room (e ∷ es) rest to_come
-    → (later : List ℕ) × (to_come ≡ own_text e.kind e.kids e.next h ++ later) × Stands room (entry_of h ∷ next_of e ∷ es) behind later
+    → (later : List ℕ) × (to_come ≡ (own_text e.kind e.kids e.next h ++ ended h) ++ later) × Stands room (entered h (next_of e ∷ es)) behind later
 opened room e es rest to_come h behind wants read s =
     let o = opens room e es rest to_come wants s in
     let same = same-head rest o.head h o.behind behind o.read read in (
       o.later,
-      o.splits ∙ ap (λ x. own_text e.kind e.kids e.next x ++ o.later) same.0,
-      subst (λ x. Stands room (entry_of x ∷ next_of e ∷ es) behind o.later) same.0 (subst (λ l. Stands room (entry_of o.head ∷ next_of e ∷ es) l o.later) same.1 o.stands),
+      o.splits ∙ ap (λ x. (own_text e.kind e.kids e.next x ++ ended x) ++ o.later) same.0,
+      subst (λ x. Stands room (entered x (next_of e ∷ es)) behind o.later) same.0 (subst (λ l. Stands room (entered o.head (next_of e ∷ es)) l o.later) same.1 o.stands),
     )
 
--- and there is room for both
-pub room-for_two : (room : ℕ) (e : Entry) (es : List Entry) (rest to_come : List ℕ) → e.next < e.kids → Stands room (e ∷ es) rest to_come → suc (suc (length es)) ≤ room
-room-for_two room e es rest to_come wants s = omega (arith, (opens room e es rest to_come wants s).stands.8)
+-- there is room for it one of its terms further, and for the head if that has terms
+pub room-for_next : (room : ℕ) (e : Entry) (es : List Entry) (rest to_come : List ℕ) → Stands room (e ∷ es) rest to_come → suc (length es) ≤ room
+room-for_next room e es rest to_come s = omega (arith, s.8)
+
+pub room-for_own : (room : ℕ) (e : Entry) (es : List Entry) (rest to_come : List ℕ) (h : Head) (behind : List ℕ) → e.next < e.kids → head_of rest ≡ Ok (h, behind) → Stands room (e ∷ es) rest to_come
+    → 0 < kids h → suc (suc (length es)) ≤ room
+room-for_own room e es rest to_come h behind wants read s some =
+    let o = opens room e es rest to_come wants s in
+    o.fits (subst (λ x. 0 < kids x) (sym (same-head rest o.head h o.behind behind o.read read).0) some)
 
 pub not-off : (room : ℕ) (e : Entry) (es : List Entry) (rest to_come : List ℕ) (left : ℕ) → e.next < e.kids → head_of rest ≡ Err left → Stands room (e ∷ es) rest to_come → ⊥
 not-off room e es rest to_come left wants off s =
     let o = opens room e es rest to_come wants s in not-both rest o.head o.behind left o.read off
 
-pub pushed : (one two : Open) (r : ℕ) (e : Entry) (es : List Entry) (k : Kind) (n : ℕ) (h : Head) → one ≡ record { room = r; entries = next_of e ∷ es }
-    → two ≡ record { room = one.room; entries = record { kind = k; kids = n; next = 0 } ∷ one.entries } → k ≡ kind_of h → n ≡ kids h → two.entries ≡ entry_of h ∷ next_of e ∷ es
-pushed one two r e es k n h p q kind-is kids-is =
-    ap (λ (o : Open). o.entries) q ∙ ap₂ (λ x y. record { kind = x; kids = y; next = 0 } ∷ one.entries) kind-is kids-is ∙ ap (λ (o : Open). entry_of h ∷ o.entries) p
+pub entered-few : (h : Head) (es : List Entry) → length (entered h es) ≤ suc (length es)
+entered-few h es = few (kids h == 0) where
+  few : (t : Bool) → length (cond t es (entry_of h ∷ es)) ≤ suc (length es)
+  few true = omega arith
+  few false = omega arith
 
 -- ---- the whole
 
@@ -120,7 +144,7 @@ stands-root (node h ks) bytes room p exact = (
   ends : ((text (node h ks) ++ []) ++ []) ++ [] ≡ ((text (node h ks)) ++ []) ++ []
   ends = ap (λ l. (l ++ []) ++ []) (append-nil (text (node h ks)))
 
-  fits : 1 + max (suc (deepest ks)) 0 ≤ room
+  fits : 1 + max (depth (node h ks)) 0 ≤ room
   fits = omega (arith, exact)
 
 -- the innermost entry was taken off

@@ -3,9 +3,10 @@ use Rattle.std.specs.Prelude.{ℕ, suc, max}
 use Rattle.etf_terms.specs.Terms.{Term, node, Terms, none, more}
 
 abbrev mutual
-  -- how many terms stand one within another, from the whole to the innermost
+  -- how many terms that have terms behind their heads stand one within another
   pub depth : Term → ℕ
-  depth (node head terms) = suc (deepest terms)
+  depth (node head none) = 0
+  depth (node head (more term terms)) = suc (max (depth term) (deepest terms))
 
   -- the depth of the deepest of some terms
   pub deepest : Terms → ℕ

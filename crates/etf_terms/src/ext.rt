@@ -54,7 +54,7 @@ impl<'a> Ext<'a> {
     /// The term that the bytes are, 131 before it.
     ///
     /// `Bad` comes exactly where they aren't 131 and one term, and before any memory is taken. The memory that the writing
-    /// needs is taken here: a stack of one entry more than the term is deep.
+    /// needs is taken here: a stack of one entry more than the term is deep, where one without terms behind its head is 0 deep.
     pub fn read(alloc: Global, bytes: &'a [u8]) -> Result<Ext<'a>, ExtFault>
         ensures same { IfOk result (λ ext. ext.bytes ≡ bytes.now) }
         ensures ok { IfOk result (λ ext. (term : Term) × IsExternal bytes.now term) }

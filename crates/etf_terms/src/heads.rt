@@ -348,6 +348,7 @@ fn export(bytes: &[u8]) -> Result<(HeadRead<'_>, &[u8]), usize>
 }
 
 // The head at the front.
+#[inline(always)]
 #[tactic(auto, unfolding(crate::specs::Inner::Parts::head_of))]
 pub(crate) fn read_head(bytes: &[u8]) -> Result<(HeadRead<'_>, &[u8]), usize>
     ensures { Gives (λ x. (head x.0, x.1.now)) result (head_of bytes.now) }

@@ -1,4 +1,12 @@
-//! Terms in the External Term Format.
+//! Terms in the External Term Format: read, judged and written as text.
+//!
+//! ```text
+//! let mut ext = Ext::read(alloc, b"\x83h\x02a\x01w\x02ok")?;
+//! ext.put(&mut out)?; // `{1,ok}`
+//! ```
+//!
+//! A term is a *head* and so many terms behind it. The table of tags stands in `specs/Table.antt`, and the text of each
+//! head in `specs/Text.antt`.
 #![tactic(auto)]
 
 mod ext;

@@ -2,7 +2,7 @@
 ghost use Rattle.std.specs.Prelude.{◌≡◌, ℕ, suc, ◌+◌, ◌*◌, ◌<◌, max, [], ◌∷◌, length, IfOk, OnOk, MatchOption};
 ghost use Rattle.etf_terms.specs.Depth.{depth};
 ghost use Rattle.etf_terms.specs.Terms.{Term, IsTerm};
-ghost use Rattle.etf_terms.specs.Inner.Awaiting.{Awaits, Goes};
+ghost use Rattle.etf_terms.specs.Inner.Awaiting.{opened, Awaits, Goes};
 
 use crate::heads::read_head;
 use std::alloc::{AllocError, Global};
@@ -40,6 +40,16 @@ impl Wanted {
         }
     }
 
+    // Opens a head with so many terms, if it has any.
+    fn enter(&mut self, count: u64) -> Result<(), AllocError>
+        ensures { OnOk result (self.new ≡ opened count self.old) }
+    {
+        if count == 0 {
+            return Ok(());
+        }
+        self.push(count)
+    }
+
     fn pop(&mut self) -> Option<u64>
         ensures { MatchOption result (self.old ≡ []) (λ count. self.old ≡ count ∷ self.new) }
     {
@@ -65,7 +75,7 @@ fn step<'a>(rest: &'a [u8], wanted: &mut Wanted, count: u64) -> Result<&'a [u8],
     match read_head(rest) {
         Ok((head, behind)) => {
             wanted.push(count - 1)?;
-            wanted.push(head.kids())?;
+            wanted.enter(head.kids())?;
             Ok(behind)
         }
         // What the open heads want is a term's.

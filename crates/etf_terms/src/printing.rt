@@ -4,9 +4,10 @@ ghost use Rattle.std.specs.List.{flat_map};
 ghost use Rattle.dump_io.specs.Sinks.{changed, Puts};
 ghost use Rattle.dump_io.specs.Atoms.{atom_text};
 ghost use Rattle.dump_io.specs.Numbers.{hex_byte};
+ghost use Rattle.etf_terms.specs.Heads.{kids};
 ghost use Rattle.etf_terms.specs.Inner.Parts.{head};
 ghost use Rattle.etf_terms.specs.Inner.Serving.{Serves};
-ghost use Rattle.etf_terms.specs.Inner.Standing.{entry_of, next_of, Stands, Moves, Falls};
+ghost use Rattle.etf_terms.specs.Inner.Standing.{entered, ended, next_of, Stands, Moves, Falls};
 ghost use Rattle.etf_terms.specs.Terms.{Term, IsTerm};
 ghost use Rattle.etf_terms.specs.Text.{kind_of, dotted, float_text, bits_text, pid_text, port_text, words_text, ref_text, int_text, comma_number, chars_text, fun_text, preview_text, bin_text, big_text, opening, closing, between, is_end, own_text, text};
 
@@ -351,6 +352,43 @@ fn put_own<K: Sink>(sink: &mut K, entry: Entry, found: &HeadRead<'_>) -> Result<
     )
 }
 
+// What ends a head that has no terms.
+fn end_text(found: &HeadRead<'_>) -> &'static [u8]
+    ensures { result.now ≡ ended (head found.now) }
+{
+    let kids = found.kids();
+    if kids == 0 {
+        closing_text(kind(found), kids)
+    } else {
+        b""
+    }
+}
+
+// A head as the next of a term's, and its end if it has no terms.
+fn put_begun<K: Sink>(sink: &mut K, entry: Entry, found: &HeadRead<'_>) -> Result<(), Failed>
+    requires { entry.next < entry.kids }
+    ensures { Puts (changed K.written K.faults sink.old sink.new)
+        (own_text entry.kind entry.kids entry.next (head found.now) ++ ended (head found.now)) result }
+{
+    put_own(sink, entry, found)?;
+    write_all(sink, end_text(found))
+}
+
+// Enters a head that has terms.
+fn enter(stack: &mut Stack, found: &HeadRead<'_>)
+    requires { 0 < kids (head found.now) → length stack.old.entries < stack.old.room }
+    ensures { stack.new ≡ record stack.old { entries = entered (head found.now) stack.old.entries } }
+{
+    let count = found.kids();
+    if count > 0 {
+        stack.push(Entry {
+            kind: kind(found),
+            kids: count,
+            next: 0,
+        });
+    }
+}
+
 // Goes on with an entry that was taken off the stack.
 fn visit<'a, K: Sink>(
     rest: &'a [u8],
@@ -381,12 +419,8 @@ fn visit<'a, K: Sink>(
         kids: entry.kids,
         next: entry.next + 1,
     });
-    stack.push(Entry {
-        kind: kind(&found),
-        kids: found.kids(),
-        next: 0,
-    });
-    match put_own(sink, entry, &found) {
+    enter(stack, &found);
+    match put_begun(sink, entry, &found) {
         Ok(()) => Ok(behind),
         Err(failed) => Err(failed),
     }

@@ -1,7 +1,11 @@
 -- How many heads are open at once while a term is written.
-use Rattle.std.specs.Prelude.{◌≡◌, ℕ, suc, ◌+◌, max, List, [], ◌∷◌, ◌++◌, length}
+use Rattle.std.specs.Prelude.{◌≡◌, ℕ, suc, ◌+◌, ◌==◌, max, List, [], ◌∷◌, ◌++◌, length, if◌then◌else◌}
 use Rattle.etf_terms.specs.Terms.{Terms, count, AreTerms}
 use Rattle.etf_terms.specs.Depth.{deepest}
+
+-- a head is open if it has terms
+abbrev pub opened : ℕ → List ℕ → List ℕ
+opened count counts = if count == 0 then counts else count ∷ counts
 
 -- the bytes are the terms that the open heads still want, from the innermost out, and from now on at most so many are open
 abbrev pub Awaits : List ℕ → List ℕ → ℕ → Type 0

@@ -1,17 +1,25 @@
 -- What is still to be written.
-use Rattle.std.specs.Prelude.{◌≡◌, ℕ, suc, ◌+◌, ◌*◌, ◌<◌, ◌≤◌, List, [], ◌∷◌, ◌++◌, length, Option, Result, MatchResult, IfOk, OnErr}
+use Rattle.std.specs.Prelude.{◌≡◌, ℕ, suc, ◌+◌, ◌*◌, ◌<◌, ◌≤◌, List, [], ◌∷◌, ◌++◌, ◌==◌, length, Option, Result, MatchResult, IfOk, OnErr, if◌then◌else◌}
 use Rattle.std.specs.Borrow.{Bor}
 use Rattle.dump_io.specs.Sinks.{grown, Change, GainsFront, SinkFailed}
 use Rattle.etf_terms.specs.declared.stack.Entry.{Entry}
 use Rattle.etf_terms.specs.Depth.{deepest}
 use Rattle.etf_terms.specs.Heads.{Head, kids}
 use Rattle.etf_terms.specs.Terms.{Terms, count, AreTerms}
-use Rattle.etf_terms.specs.Text.{kind_of, inner}
+use Rattle.etf_terms.specs.Text.{kind_of, closing, inner}
 use Rattle.etf_terms.specs.Inner.Open.{Open}
 
 -- a head that was just read
 abbrev pub entry_of : Head → Entry
 entry_of head = record { kind = kind_of head; kids = kids head; next = 0 }
+
+-- it stands in front of the entries if it has terms
+abbrev pub entered : Head → List Entry → List Entry
+entered head entries = if kids head == 0 then entries else entry_of head ∷ entries
+
+-- and it ends where it begins if it has none
+abbrev pub ended : Head → List ℕ
+ended head = if kids head == 0 then closing (kind_of head) (kids head) else []
 
 -- one of its terms further
 abbrev pub next_of : Entry → Entry

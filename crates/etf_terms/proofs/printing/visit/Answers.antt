@@ -1,9 +1,9 @@
 use Rattle.std.proofs.Common.{◌++◌, length, ap, sym, ◌∙◌, subst, arith}
 use Rattle.etf_terms.specs.Inner.Open.{Open}
 use Rattle.etf_terms.specs.Inner.Parts.{head}
-use Rattle.etf_terms.specs.Inner.Standing.{Stands}
+use Rattle.etf_terms.specs.Inner.Standing.{entered, Stands}
 use Rattle.etf_terms.proofs.Loops.{head-is_shorter}
-use Rattle.etf_terms.proofs.Stands.{closes, opened, room-for_two, not-off, pushed, moves-ok, moves-err}
+use Rattle.etf_terms.proofs.Stands.{closes, opened, room-for_next, room-for_own, entered-few, not-off, moves-ok, moves-err}
 use Rattle.etf_terms.proofs.printing.visit.Goals as goal
 
 pub returns-in-Ok-clause-moves : goal.returns-in-Ok-clause-moves
@@ -22,36 +22,37 @@ returns-in-Err-read_head-clause-moves g c to_come s =
 
 pub push-requires : goal.push-requires
 push-requires g c =
-    let two = room-for_two c.args.stack.now.room c.args.entry c.args.stack.now.entries c.args.rest.now c.requires.stands.0 c.if-entry.false c.requires.stands.1 in
-    omega (arith, two)
+    let next = room-for_next c.args.stack.now.room c.args.entry c.args.stack.now.entries c.args.rest.now c.requires.stands.0 c.requires.stands.1 in
+    omega (arith, next)
 
-pub push-requires-2 : goal.push-requires-2
-push-requires-2 g c =
-    let two = room-for_two c.args.stack.now.room c.args.entry c.args.stack.now.entries c.args.rest.now c.requires.stands.0 c.if-entry.false c.requires.stands.1 in
+pub enter-requires : goal.enter-requires
+enter-requires g c some =
+    let own = room-for_own c.args.stack.now.room c.args.entry c.args.stack.now.entries c.args.rest.now c.requires.stands.0 (head c.in-Ok-read_head.found.0) c.in-Ok-read_head.found.1.now
+    c.if-entry.false c.in-Ok-read_head.ensures c.requires.stands.1 some in
     let count = ap (λ (o : Open). length o.entries) c.push.ensures in
     let room = ap (λ (o : Open). o.room) c.push.ensures in
-    omega (arith, two, count, room)
+    omega (arith, own, count, room)
 
-pub returns-in-Ok-put_own-clause-falls : goal.returns-in-Ok-put_own-clause-falls
-returns-in-Ok-put_own-clause-falls g c =
-    let shorter = head-is_shorter c.args.rest.now (head c.in-Ok-read_head.found.0) c.in-Ok-read_head.found.1.now c.in-Ok-read_head.ensures in
+pub returns-in-Ok-put_begun-clause-falls : goal.returns-in-Ok-put_begun-clause-falls
+returns-in-Ok-put_begun-clause-falls g c =
+    let h = head c.in-Ok-read_head.found.0 in
+    let shorter = head-is_shorter c.args.rest.now h c.in-Ok-read_head.found.1.now c.in-Ok-read_head.ensures in
+    let few = entered-few h c.push.new.self.entries in
     let one = ap (λ (o : Open). length o.entries) c.push.ensures in
-    let two = ap (λ (o : Open). length o.entries) c.push-2.ensures in
-    omega (arith, shorter, one, two)
+    let two = ap (λ (o : Open). length o.entries) c.enter.ensures in
+    omega (arith, shorter, few, one, two)
 
-pub returns-in-Ok-put_own-clause-moves : goal.returns-in-Ok-put_own-clause-moves
-returns-in-Ok-put_own-clause-moves g c to_come s =
-    let e = c.args.entry in
-    let es = c.args.stack.now.entries in
+pub returns-in-Ok-put_begun-clause-moves : goal.returns-in-Ok-put_begun-clause-moves
+returns-in-Ok-put_begun-clause-moves g c to_come s =
     let h = head c.in-Ok-read_head.found.0 in
     let behind = c.in-Ok-read_head.found.1 in
-    let o = opened c.args.stack.now.room e es c.args.rest.now to_come h behind.now c.if-entry.false c.in-Ok-read_head.ensures s in
-    let room = ap (λ (o : Open). o.room) c.push-2.ensures ∙ ap (λ (o : Open). o.room) c.push.ensures in
-    let entries = pushed c.push.new.self c.push-2.new.self c.args.stack.now.room e es c.kind.result c.kids.result h c.push.ensures c.push-2.ensures c.kind.ensures c.kids.ensures.value in
-    moves-ok _ _ _ _ _ to_come o.0 _ _ behind _ c.in-Ok-put_own.ensures o.1
-    (subst (λ r. Stands r c.push-2.new.self.entries behind.now o.0) (sym room) (subst (λ l. Stands c.args.stack.now.room l behind.now o.0) (sym entries) o.2))
+    let o = opened c.args.stack.now.room c.args.entry c.args.stack.now.entries c.args.rest.now to_come h behind.now c.if-entry.false c.in-Ok-read_head.ensures s in
+    let room = ap (λ (o : Open). o.room) c.enter.ensures ∙ ap (λ (o : Open). o.room) c.push.ensures in
+    let entries = ap (λ (o : Open). o.entries) c.enter.ensures ∙ ap (λ (o : Open). entered h o.entries) c.push.ensures in
+    moves-ok _ _ _ _ _ to_come o.0 _ _ behind _ c.in-Ok-put_begun.ensures o.1
+    (subst (λ r. Stands r c.enter.new.stack.entries behind.now o.0) (sym room) (subst (λ l. Stands c.args.stack.now.room l behind.now o.0) (sym entries) o.2))
 
-pub returns-in-Err-put_own-clause-moves : goal.returns-in-Err-put_own-clause-moves
-returns-in-Err-put_own-clause-moves g c to_come s =
+pub returns-in-Err-put_begun-clause-moves : goal.returns-in-Err-put_begun-clause-moves
+returns-in-Err-put_begun-clause-moves g c to_come s =
     let o = opened c.args.stack.now.room c.args.entry c.args.stack.now.entries c.args.rest.now to_come (head c.in-Ok-read_head.found.0) c.in-Ok-read_head.found.1.now c.if-entry.false c.in-Ok-read_head.ensures s in
-    moves-err _ _ _ _ _ to_come o.0 _ _ _ c.in-Err-put_own.failed c.in-Err-put_own.ensures o.1
+    moves-err _ _ _ _ _ to_come o.0 _ _ _ c.in-Err-put_begun.failed c.in-Err-put_begun.ensures o.1
