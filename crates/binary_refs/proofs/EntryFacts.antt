@@ -15,8 +15,8 @@ use Rattle.section_index.specs.Index.{Contents}
 use Rattle.heap_cells.specs.Cells.{Cell, kind_of}
 use Rattle.heap_cells.specs.HeapMap.{form_at}
 use Rattle.binary_refs.specs.declared.entries.Entry.{Entry}
-use Rattle.binary_refs.specs.Previews.{own_binary, previews_of, entry_of, by_number, stated, stating, binaries, entry_at, AreFor}
-use Rattle.binary_refs.specs.Inner.Kinds.{is_own, refers}
+use Rattle.binary_refs.specs.Previews.{previews_of, entry_of, by_number, stated, stating, binaries, entry_at, AreFor}
+use Rattle.binary_refs.specs.Inner.Kinds.{refers}
 
 -- ---- looking entries up
 
@@ -291,24 +291,6 @@ no-entry dump index enc cells n (Some (SubBin address offset size)) other = absu
 no-entry dump index enc cells n (Some (Flat keys values)) other = refl
 no-entry dump index enc cells n (Some (Hash size children)) other = refl
 no-entry dump index enc cells n (Some (Node children)) other = refl
-
--- ---- cells that are no binary
-
-pub not-own : (o : Option HeapForm) → is_own (option_map kind_of o) ≡ false → option_and_then own_binary o ≡ None
-not-own None other = refl
-not-own (Some (Cons head tail)) other = refl
-not-own (Some (Tuple elements)) other = refl
-not-own (Some (Float bytes)) other = refl
-not-own (Some (Long number)) other = refl
-not-own (Some (Pid pid)) other = refl
-not-own (Some (Port port)) other = refl
-not-own (Some (Ext size chars)) other = refl
-not-own (Some (HeapBin size chars)) other = absurd (true≢false other)
-not-own (Some (RefBin address offset size)) other = refl
-not-own (Some (SubBin address offset size)) other = refl
-not-own (Some (Flat keys values)) other = refl
-not-own (Some (Hash size children)) other = refl
-not-own (Some (Node children)) other = refl
 
 -- ---- heaps without a reference to a binary
 
