@@ -1,6 +1,6 @@
 -- The entries of a heap's cells.
 use Rattle.std.proofs.Common.{◌≡◌, ℕ, zero, suc, ◌+◌, ◌-◌, ◌*◌, ◌<◌, ◌≤◌, ◌==◌, ◌⊎◌, ⊎_elim, inl, inr, Bool, true, false, ltb, List, [], ◌∷◌, ◌++◌, length, get_or, map, Option, None, Some, if◌then◌else◌, refl, sym, ◌∙◌, ap, subst, arith, append-nil, length-append}
-use Rattle.std.specs.Prelude.{All, IsSome}
+use Rattle.std.specs.Prelude.{All, IsSome, is_some}
 use Rattle.std.specs.Option.{option_map, option_and_then, option_or, option_to_list}
 use Rattle.std.specs.List.Sorted.{IsNonDecreasingBy, IsPartitionPoint}
 use Rattle.std.proofs.lemmas.Bool.{true≢false, cases_lt, false_from_ne_true, eq-eqb, eqb-true, ltb-true, ltb-false}
@@ -15,7 +15,7 @@ use Rattle.section_index.specs.Index.{Contents}
 use Rattle.heap_cells.specs.Cells.{Cell, kind_of}
 use Rattle.heap_cells.specs.HeapMap.{form_at}
 use Rattle.binary_refs.specs.declared.entries.Entry.{Entry}
-use Rattle.binary_refs.specs.Previews.{entry_of, by_number, stated, stating, binaries, entry_at, AreFor}
+use Rattle.binary_refs.specs.Previews.{previews_of, entry_of, by_number, stated, stating, binaries, entry_at, AreFor}
 use Rattle.binary_refs.specs.Inner.Kinds.{refers}
 
 -- ---- looking entries up
@@ -175,8 +175,13 @@ form-past [] k past = refl
 form-past (cell ∷ cells) zero past = absurd (omega (arith, past))
 form-past (cell ∷ cells) (suc k) past = form-past cells k (omega (arith, past))
 
+some-mapped : {X Y : Type 0} (f : X → Y) (o : Option X) → is_some (option_map f o) ≡ is_some o
+some-mapped f None = refl
+some-mapped f (Some x) = refl
+
 pub are-for : (cells : List Cell) (es : List Entry) → map stating es ≡ binaries cells → AreFor cells es
-are-for cells es is n = stating-at es n ∙ (ap (λ ps. pair_at ps n) is ∙ by (cases_lt n (length cells)))
+are-for cells es is n =
+    sym (some-mapped stating (entry_at es n)) ∙ ap is_some (stating-at es n ∙ (ap (λ ps. pair_at ps n) is ∙ by (cases_lt n (length cells))))
   where
     by : (n < length cells) ⊎ (length cells ≤ n) → pair_at (binaries cells) n ≡ one_stated cells n
     by (inl inside) = (pairs-upto cells (length cells) n).0 inside
@@ -286,3 +291,49 @@ no-entry dump index enc cells n (Some (SubBin address offset size)) other = absu
 no-entry dump index enc cells n (Some (Flat keys values)) other = refl
 no-entry dump index enc cells n (Some (Hash size children)) other = refl
 no-entry dump index enc cells n (Some (Node children)) other = refl
+
+-- ---- heaps without a reference to a binary
+
+pub none-more : (cells : List Cell) (n : ℕ) → refers (option_map kind_of (form_at cells n)) ≡ false → by_number stated cells n ≡ [] → by_number stated cells (n + 1) ≡ []
+none-more cells n other none =
+    by_number-more stated cells n
+    ∙ (ap (λ l. l ++ option_to_list (one_stated cells n)) none ∙ ap option_to_list (not-stated n (form_at cells n) other))
+
+stated-of : (dump : List ℕ) (index : Contents) (enc : Enc) (cells : List Cell) (n : ℕ) (form : HeapForm) → stated n form ≡ None → entry_of dump index enc cells n form ≡ None
+stated-of dump index enc cells n (Cons head tail) none = refl
+stated-of dump index enc cells n (Tuple elements) none = refl
+stated-of dump index enc cells n (Float bytes) none = refl
+stated-of dump index enc cells n (Long number) none = refl
+stated-of dump index enc cells n (Pid pid) none = refl
+stated-of dump index enc cells n (Port port) none = refl
+stated-of dump index enc cells n (Ext size chars) none = refl
+stated-of dump index enc cells n (HeapBin size chars) none = refl
+stated-of dump index enc cells n (RefBin address offset size) none = absurd (let e : Some (n, size) ≡ None = none in cc)
+stated-of dump index enc cells n (SubBin address offset size) none = absurd (let e : Some (n, size) ≡ None = none in cc)
+stated-of dump index enc cells n (Flat keys values) none = refl
+stated-of dump index enc cells n (Hash size children) none = refl
+stated-of dump index enc cells n (Node children) none = refl
+
+none-of : (dump : List ℕ) (index : Contents) (enc : Enc) (cells : List Cell) (n : ℕ) (o : Option HeapForm) → option_to_list (option_and_then (stated n) o) ≡ [] → option_to_list (option_and_then (entry_of dump index enc cells n) o) ≡ []
+none-of dump index enc cells n None none = refl
+none-of dump index enc cells n (Some form) none = ap option_to_list (stated-of dump index enc cells n form (no-list (stated n form) none))
+  where
+    no-list : (o : Option (ℕ × ℕ)) → option_to_list o ≡ [] → o ≡ None
+    no-list None e = refl
+    no-list (Some x) e = absurd (let e : x ∷ [] ≡ [] = e in cc)
+
+-- two lists of which nothing is left
+both-none : {X : Type 0} (xs ys : List X) → xs ++ ys ≡ [] → (xs ≡ []) × (ys ≡ [])
+both-none [] ys none = (refl, none)
+both-none (x ∷ xs) ys none = absurd (let e : x ∷ (xs ++ ys) ≡ [] = none in cc)
+
+upto-none : (dump : List ℕ) (index : Contents) (enc : Enc) (cells : List Cell) (n : ℕ) → by_number stated cells n ≡ [] → by_number (entry_of dump index enc cells) cells n ≡ []
+upto-none dump index enc cells zero none = refl
+upto-none dump index enc cells (suc n) none =
+    let parts = both-none (by_number stated cells n) (option_to_list (one_stated cells n)) none in
+    ap (λ l. l ++ option_to_list (option_and_then (entry_of dump index enc cells n) (form_at cells n))) (upto-none dump index enc cells n parts.0)
+    ∙ none-of dump index enc cells n (form_at cells n) parts.1
+
+-- where no cell refers to a binary there are no previews
+pub no-previews : (dump : List ℕ) (index : Contents) (enc : Enc) (cells : List Cell) → binaries cells ≡ [] → previews_of dump index enc cells ≡ []
+no-previews dump index enc cells none = upto-none dump index enc cells (length cells) none

@@ -1,6 +1,6 @@
 -- The previews of a heap's references to binaries: the first bytes of the range to which a cell refers, 32 at most, or
 -- that they are unknown.
-use Rattle.std.specs.Prelude.{◌≡◌, ℕ, zero, suc, ◌+◌, ◌==◌, List, [], ◌∷◌, ◌++◌, length, take, drop, min, nat_le, position, slice_get, codes, Option, None, Some, if◌then◌else◌}
+use Rattle.std.specs.Prelude.{◌≡◌, ℕ, zero, suc, ◌+◌, ◌==◌, ◌≤◌, List, [], ◌∷◌, ◌++◌, length, take, drop, min, nat_le, position, slice_get, codes, is_some, Option, None, Some, if◌then◌else◌}
 use Rattle.std.specs.Option.{option_map, option_and_then, option_to_list}
 use Rattle.std.specs.List.{between}
 use Rattle.section_index.specs.Index.{Contents, sections_in}
@@ -122,11 +122,16 @@ abbrev pub entry_at : List Entry → ℕ → Option Entry
 entry_at [] n = None
 entry_at (e ∷ entries) n = if e.cell == n then Some e else entry_at entries n
 
--- each cell that refers to a binary has an entry with the size that it states, and no other cell has one
+-- each cell that refers to a binary has an entry, and no other cell has one
 abbrev pub AreFor : List Cell → List Entry → Type 0
-AreFor cells entries = (n : ℕ) → option_map stating (entry_at entries n) ≡ option_and_then (stated n) (form_at cells n)
+AreFor cells entries = (n : ℕ) → is_some (entry_at entries n) ≡ is_some (option_and_then (stated n) (form_at cells n))
 
 -- the entry of a cell that a preview tells
 abbrev pub told_entry : ℕ → Preview → Entry
 told_entry cell (Bytes bytes size) = entry cell size (Some bytes.now)
 told_entry cell (Unknown size) = entry cell size None
+
+-- a preview has 32 bytes at most
+abbrev pub IsFew : Preview → Type 0
+IsFew (Bytes bytes size) = length bytes.now ≤ 32
+IsFew (Unknown size) = Unit {0}

@@ -38,7 +38,8 @@ impl FewBytes {
 
     // The bytes.
     pub fn bytes(&self) -> &[u8]
-        ensures { result.now ≡ self.now }
+        ensures value { result.now ≡ self.now }
+        ensures few { length result.now ≤ 32 }
     {
         &self.bytes[..self.len as usize]
     }

@@ -1,5 +1,5 @@
 // The previews of a heap's references to binaries.
-ghost use Rattle.std.specs.Prelude.{◌≡◌, ℕ, ◌+◌, ◌*◌, ◌<◌, ◌≤◌, ◌++◌, List, length, map, nat_lt, true, false, Some, None, IsSome, OnOk, OnErr, IfOk, IfErr, IfSome};
+ghost use Rattle.std.specs.Prelude.{◌≡◌, ℕ, ◌+◌, ◌*◌, ◌<◌, ◌≤◌, ◌++◌, [], List, length, map, nat_lt, true, false, Some, None, IsSome, OnOk, OnErr, IfOk, IfErr, IfSome};
 ghost use Rattle.std.specs.Option.{option_map, option_and_then, option_to_list};
 ghost use Rattle.std.specs.List.Sorted.{IsNonDecreasingBy, IsPartitionPoint};
 ghost use Rattle.dump_io.specs.Dumps.{told, used, DeviceFailed, ReadsAtMost};
@@ -10,8 +10,8 @@ ghost use Rattle.term_forms.specs.SeenForms.{heap_form};
 ghost use Rattle.heap_cells.specs.HeapMap.{form_at};
 ghost use Rattle.heap_cells.specs.Targets.{number};
 ghost use Rattle.binary_refs.specs.Loading.{IsCauseOf};
-ghost use Rattle.binary_refs.specs.Previews.{own_binary, heap_binary, in_heap, in_part, entry, entry_of, previews_of, stated, stating, binaries, entry_at, AreFor, told_entry};
-ghost use Rattle.binary_refs.specs.Inner.Kinds.{refers};
+ghost use Rattle.binary_refs.specs.Previews.{own_binary, heap_binary, in_heap, in_part, entry, entry_of, previews_of, stated, stating, binaries, entry_at, AreFor, IsFew, told_entry};
+ghost use Rattle.binary_refs.specs.Inner.Kinds.{is_own, refers};
 ghost use Rattle.binary_refs.specs.Inner.Places.{AreOrdered};
 
 use crate::entries::{Entry, Preview};
@@ -37,7 +37,14 @@ fn own_binary<'a>(form: &Form<'a>) -> Option<(u64, &'a [u8])>
     }
 }
 
-// Those of the heap's binary with this address.
+// Whether a cell of this kind is a binary on the heap.
+fn is_own(kind: Option<Kind>) -> bool
+    ensures { result ≡ is_own kind }
+{
+    matches!(kind, Some(Kind::HeapBin))
+}
+
+// Those of the heap's binary with this address. The kind is asked first, so that no more of another cell is read.
 fn heap_binary(heap: &Heap, address: u64) -> Option<(u64, &[u8])>
     ensures found { option_map number_rest result ≡ heap_binary heap.now.cells address }
     ensures payload { IfSome result (λ binary. IsPayloadOf heap.now.enc binary.1.now binary.0) }
@@ -45,6 +52,9 @@ fn heap_binary(heap: &Heap, address: u64) -> Option<(u64, &[u8])>
     let Seat::Cell(ix) = heap.at(address) else {
         return None;
     };
+    if !is_own(heap.kind(ix)) {
+        return None;
+    }
     let form = heap.form(ix)?;
     own_binary(&form)
 }
@@ -206,6 +216,18 @@ fn read_entries<D: Dumps>(
     Ok(entries)
 }
 
+// Whether a cell of the heap refers to a binary.
+fn has_reference(heap: &Heap) -> bool
+    ensures { result ≡ false → binaries heap.now.cells ≡ [] }
+{
+    for n in 0..heap.cells() {
+        if refers(heap.kind(heap.cell(n))) {
+            return true;
+        }
+    }
+    false
+}
+
 // How many of the entries are those of cells with lesser numbers: these come first.
 fn count_below(entries: &[Entry], n: u32) -> usize
     requires { IsNonDecreasingBy (λ e. e.cell) entries.now }
@@ -227,7 +249,8 @@ fn entry_with(entries: &[Entry], n: u32) -> &Entry
 
 // What an entry tells.
 fn shown(entry: &Entry) -> Preview<'_>
-    ensures { told_entry entry.now.cell result ≡ entry.now }
+    ensures told { told_entry entry.now.cell result ≡ entry.now }
+    ensures few { IsFew result }
 {
     match &entry.bytes {
         Some(bytes) => Preview::Bytes(bytes.bytes(), entry.size),
@@ -262,6 +285,7 @@ impl Previews {
     ///
     /// `Read` comes only where the device's count of faults rose; `Memory` may come where memory is taken for the
     /// previews. At most 128 bytes are read for each cell that refers to a binary, also where the previews aren't loaded.
+    /// The `binary` sections are sorted only where there is such a cell.
     pub fn load<D: Dumps>(
         alloc: Global,
         dumps: &mut D,
@@ -275,6 +299,12 @@ impl Previews {
         ensures each { IfOk result (AreFor heap.now.cells) }
         ensures fault { IfErr result (IsCauseOf (used D.files D.now D.faults D.taken dumps.old dumps.new)) }
     {
+        // A heap without a reference to a binary needs no order of the sections.
+        if !has_reference(heap) {
+            return Ok(Previews {
+                entries: Vec::new(alloc),
+            });
+        }
         let Ok(places) = places_of(alloc, index) else {
             return Err(PreviewFault::Memory);
         };
@@ -285,7 +315,8 @@ impl Previews {
     /// The preview of a cell that has one.
     pub fn get(&self, ix: CellIx) -> Preview<'_>
         requires { IsSome (entry_at self.now (number ix)) }
-        ensures { Some (told_entry (number ix) result) ≡ entry_at self.now (number ix) }
+        ensures told { Some (told_entry (number ix) result) ≡ entry_at self.now (number ix) }
+        ensures few { IsFew result }
     {
         shown(entry_with(&self.entries, ix.number()))
     }

@@ -23,9 +23,8 @@ use dump_io::{Dumps, Limits};
 use section_index::Index;
 use std::alloc::Global;
 use std::marker::Model;
-use term_forms::Enc;
-use term_forms::reading::form;
 use term_forms::shapes::Form;
+use term_forms::{Enc, spelled_form};
 
 /// The cells of a process's heap, and those of the literals behind them. Contracts see the list of the cells by number.
 #[derive(Drop)]
@@ -198,17 +197,21 @@ impl Heap {
         kid_of(&self.texts, slot, (cell.at + cell.len) as usize)
     }
 
-    /// The form of a cell. `None` comes exactly where the cell is malformed.
+    /// The form of a cell, whose text is only split: that it spells a form was judged when the heap was loaded. `None`
+    /// comes exactly where the cell is malformed.
     pub fn form(&self, ix: CellIx) -> Option<Form<'_>>
         requires { number ix < length self.now.cells }
         ensures form { option_map heap_form result ≡ form_at self.now.cells (number ix) }
         ensures spelled { IfSome result (λ form. IsSpelled self.now.enc (heap_form form)) }
     {
         let cell = &self.arena.cells[ix.number() as usize];
-        form(
-            part(&self.texts, cell.at as usize, (cell.at + cell.len) as usize),
-            self.texts.enc,
-        )
+        match cell.kind {
+            None => None,
+            Some(_) => Some(spelled_form(
+                part(&self.texts, cell.at as usize, (cell.at + cell.len) as usize),
+                self.texts.enc,
+            )),
+        }
     }
 
     /// The elements of a cell's form as they are kept, as many as `kids` says and numbered as in `kid`.

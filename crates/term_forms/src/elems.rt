@@ -1,5 +1,5 @@
 // Elements joined by commas.
-ghost use Rattle.std.specs.Prelude.{◌≡◌, ◌-◌, ◌<◌, List, [], ◌^◌, length, is_some, IsTrue, Some, IfSome, IfNone};
+ghost use Rattle.std.specs.Prelude.{◌≡◌, ◌-◌, ◌<◌, List, [], ◌^◌, length, true, is_some, IsTrue, Some, IsSome, IfSome, IfNone};
 ghost use Rattle.std.specs.Option.{option_map, option_copied};
 ghost use Rattle.std.specs.Iterator.{YieldsFirstBy, item_count};
 ghost use Rattle.term_forms.specs.Elements.{Element, IsElem};
@@ -68,9 +68,14 @@ fn split_elem(count: u64, text: &[u8]) -> Option<(Elem<'_>, &[u8])>
     }
 }
 
-fn are_joined(count: u64, text: &[u8]) -> bool
+// Whether the text spells so many elements, which isn't judged where that is known.
+fn are_joined(count: u64, text: &[u8], spelled: bool) -> bool
+    requires { spelled ≡ true → IsSome (joined_of count text.now) }
     ensures { result ≡ is_some (joined_of count text.now) }
 {
+    if spelled {
+        return true;
+    }
     let mut left = count;
     let mut rest = text;
     while left > 0 {
@@ -101,10 +106,11 @@ impl<'a> Model for Elems<'a> {
 
 impl<'a> Elems<'a> {
     // So many elements, where the whole text spells them.
-    pub(crate) fn new(count: u64, text: &'a [u8]) -> Option<Elems<'a>>
+    pub(crate) fn new(count: u64, text: &'a [u8], spelled: bool) -> Option<Elems<'a>>
+        requires { spelled ≡ true → IsSome (joined_of count text.now) }
         ensures { result ≡ joined_of count text.now }
     {
-        if are_joined(count, text) {
+        if are_joined(count, text, spelled) {
             Some(Elems { text, left: count })
         } else {
             None

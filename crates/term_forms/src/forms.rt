@@ -1,9 +1,10 @@
 // Reading forms.
-ghost use Rattle.std.specs.Prelude.{◌≡◌, IfSome, IfNone};
+ghost use Rattle.std.specs.Prelude.{◌≡◌, true, Some, IsSome, IfSome, IfNone};
 ghost use Rattle.std.specs.Option.{option_map, option_copied};
 ghost use Rattle.term_forms.specs.Forms.{HeapForm, IsForm};
 ghost use Rattle.term_forms.specs.ReadingForms.{form_of};
 ghost use Rattle.term_forms.specs.Inner.FormParts.{cons_of, counted_of, float_of, bracketed_of, port_of, payload_of, range_of, binary_of, flat_of, hash_of, map_of};
+ghost use Rattle.term_forms.specs.Inner.PayloadTest.{payload_test};
 ghost use Rattle.term_forms.specs.Seen.{number_rest};
 ghost use Rattle.term_forms.specs.SeenForms.{heap_form};
 
@@ -25,11 +26,12 @@ fn list(text: &[u8]) -> Option<Form<'_>>
 
 // A number, and so many elements.
 #[tactic(auto, unfolding(crate::specs::Inner::FormParts::counted_of))]
-fn counted(text: &[u8]) -> Option<Elems<'_>>
+fn counted(text: &[u8], spelled: bool) -> Option<Elems<'_>>
+    requires { spelled ≡ true → IsSome (counted_of text.now) }
     ensures { result ≡ counted_of text.now }
 {
     let (count, rest) = split_number(text)?;
-    Elems::new(count, rest)
+    Elems::new(count, rest, spelled)
 }
 
 #[tactic(auto, unfolding(crate::specs::Inner::FormParts::float_of))]
@@ -62,13 +64,22 @@ fn port(text: &[u8]) -> Option<Form<'_>>
     Some(Form::Port(number))
 }
 
+// Whether the characters are the payload of so many bytes, which isn't judged where that is known.
+fn has_payload(chars: &[u8], enc: Enc, size: u64, spelled: bool) -> bool
+    requires { spelled ≡ true → payload_test enc size chars.now ≡ true }
+    ensures { result ≡ payload_test enc size chars.now }
+{
+    spelled || judge_payload(chars, enc, size)
+}
+
 // A length, and the characters of so many bytes.
 #[tactic(auto, unfolding(crate::specs::Inner::FormParts::payload_of))]
-fn sized(text: &[u8], enc: Enc) -> Option<(u64, &[u8])>
+fn sized(text: &[u8], enc: Enc, spelled: bool) -> Option<(u64, &[u8])>
+    requires { spelled ≡ true → IsSome (payload_of enc text.now) }
     ensures { option_map number_rest result ≡ payload_of enc text.now }
 {
     let (size, chars) = split_number(text)?;
-    if judge_payload(chars, enc, size) {
+    if has_payload(chars, enc, size, spelled) {
         Some((size, chars))
     } else {
         None
@@ -87,13 +98,14 @@ fn range(text: &[u8]) -> Option<(u64, u64, u64)>
 }
 
 #[tactic(auto, unfolding(crate::specs::Inner::FormParts::binary_of))]
-fn binary(text: &[u8], enc: Enc) -> Option<Form<'_>>
+fn binary(text: &[u8], enc: Enc, spelled: bool) -> Option<Form<'_>>
+    requires { spelled ≡ true → IsSome (binary_of enc text.now) }
     ensures { option_map heap_form result ≡ binary_of enc text.now }
 {
     let (kind, rest) = text.split_first()?;
     match *kind {
         b'h' => {
-            let (size, chars) = sized(rest, enc)?;
+            let (size, chars) = sized(rest, enc, spelled)?;
             Some(Form::HeapBin(size, chars))
         }
         b'c' => {
@@ -109,49 +121,54 @@ fn binary(text: &[u8], enc: Enc) -> Option<Form<'_>>
 }
 
 #[tactic(auto, unfolding(crate::specs::Inner::FormParts::flat_of))]
-fn flat(text: &[u8]) -> Option<Form<'_>>
+fn flat(text: &[u8], spelled: bool) -> Option<Form<'_>>
+    requires { spelled ≡ true → IsSome (flat_of text.now) }
     ensures { option_map heap_form result ≡ flat_of text.now }
 {
     let (size, rest) = split_number(text)?;
     let (keys, rest) = elem_until(rest, b':')?;
-    let values = Elems::new(size, rest)?;
+    let values = Elems::new(size, rest, spelled)?;
     Some(Form::Flat(keys, values))
 }
 
 #[tactic(auto, unfolding(crate::specs::Inner::FormParts::hash_of))]
-fn hash(text: &[u8]) -> Option<Form<'_>>
+fn hash(text: &[u8], spelled: bool) -> Option<Form<'_>>
+    requires { spelled ≡ true → IsSome (hash_of text.now) }
     ensures { option_map heap_form result ≡ hash_of text.now }
 {
     let (size, rest) = split_number(text)?;
-    let children = counted(rest)?;
+    let children = counted(rest, spelled)?;
     Some(Form::Hash(size, children))
 }
 
 #[tactic(auto, unfolding(crate::specs::Inner::FormParts::map_of))]
-fn map(text: &[u8]) -> Option<Form<'_>>
+fn map(text: &[u8], spelled: bool) -> Option<Form<'_>>
+    requires { spelled ≡ true → IsSome (map_of text.now) }
     ensures { option_map heap_form result ≡ map_of text.now }
 {
     let (kind, rest) = text.split_first()?;
     match *kind {
-        b'f' => flat(rest),
-        b'h' => hash(rest),
+        b'f' => flat(rest, spelled),
+        b'h' => hash(rest, spelled),
         b'n' => {
-            let children = counted(rest)?;
+            let children = counted(rest, spelled)?;
             Some(Form::Node(children))
         }
         _ => None,
     }
 }
 
+// The form of a text, whose elements and payload aren't judged where it is known to spell one.
 #[tactic(auto, unfolding(crate::specs::ReadingForms::form_of))]
-fn read_form(text: &[u8], enc: Enc) -> Option<Form<'_>>
+fn read_form(text: &[u8], enc: Enc, spelled: bool) -> Option<Form<'_>>
+    requires { spelled ≡ true → IsSome (form_of enc text.now) }
     ensures { option_map heap_form result ≡ form_of enc text.now }
 {
     let (tag, rest) = text.split_first()?;
     match *tag {
         b'l' => list(rest),
         b't' => {
-            let elements = counted(rest)?;
+            let elements = counted(rest, spelled)?;
             Some(Form::Tuple(elements))
         }
         b'F' => float(rest),
@@ -162,11 +179,11 @@ fn read_form(text: &[u8], enc: Enc) -> Option<Form<'_>>
         }
         b'p' => port(rest),
         b'E' => {
-            let (size, chars) = sized(rest, enc)?;
+            let (size, chars) = sized(rest, enc, spelled)?;
             Some(Form::Ext(size, chars))
         }
-        b'Y' => binary(rest, enc),
-        b'M' => map(rest),
+        b'Y' => binary(rest, enc, spelled),
+        b'M' => map(rest, spelled),
         _ => None,
     }
 }
@@ -180,5 +197,18 @@ pub fn form(text: &[u8], enc: Enc) -> Option<Form<'_>>
     // The same, as the function with which definitions compute.
     ensures exact { option_map heap_form result ≡ form_of enc text.now }
 {
-    read_form(text, enc)
+    read_form(text, enc, false)
+}
+
+/// The form of a text that is known to spell one, with payloads in the encoding. The text is only split: its elements
+/// and the characters of its payload were judged when that became known, and aren't judged again.
+pub fn spelled_form(text: &[u8], enc: Enc) -> Form<'_>
+    requires { IsSome (form_of enc text.now) }
+    ensures form { Some (heap_form result) ≡ form_of enc text.now }
+    ensures spelled { IsForm enc text.now (heap_form result) }
+{
+    let Some(found) = read_form(text, enc, true) else {
+        unreachable!()
+    };
+    found
 }

@@ -34,6 +34,7 @@ mod writing;
 pub use covering::{cover_holds_range, payload_part};
 pub use elems::{Elems, whole_elem};
 pub use enc::Enc;
+pub use forms::spelled_form;
 pub use laws::{
     form_is_read, front_is_longest, front_of_element, number_is_read, plain_spelling_of_elements,
     plain_spelling_of_forms, unique_reading_of_elements, unique_reading_of_forms, whole_is_read,

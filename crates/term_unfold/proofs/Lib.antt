@@ -1,5 +1,7 @@
 pub mod Kidded
 mod Examples
+pub mod HexTexts
+pub mod InnerNodes
 pub mod FirstNodes
 pub mod Levels
 pub mod Lines

@@ -31,7 +31,7 @@ is_on-pop marks path c d lt off was within =
           get_or-set_other marks c d false false other ∙ was within ∙ ap (λ b. b || is_on d path) here
     ]
 
-pub IsTied-push : (marks : List Bool) (capacity room : ℕ) (before after : List Entry) (e : Entry) → IsTied marks capacity before → capacity ≤ room → IsLine (length marks) (number e.cell ∷ numbers_of before)
+pub IsTied-push : (marks : List Bool) (capacity room : ℕ) (before after : List Entry) (e : Entry) → IsTied marks capacity before → room ≡ capacity → IsLine (length marks) (number e.cell ∷ numbers_of before)
     → after ≡ e ∷ before → IsTied (set marks (number e.cell) true) room after
 IsTied-push marks capacity room before after e tied more is pushed =
     let c = number e.cell in
@@ -43,7 +43,7 @@ IsTied-push marks capacity room before after e tied more is pushed =
       marked = λ d within. is_on-push marks (numbers_of before) c d is.0 (tied.marked d) (omega (arith, size, within));
     })
 
-pub IsTied-pop : (marks : List Bool) (capacity room : ℕ) (e : Entry) (before after : List Entry) → IsTied marks capacity before → capacity ≤ room → before ≡ e ∷ after
+pub IsTied-pop : (marks : List Bool) (capacity room : ℕ) (e : Entry) (before after : List Entry) → IsTied marks capacity before → room ≡ capacity → before ≡ e ∷ after
     → IsTied (set marks (number e.cell) false) room after
 IsTied-pop marks capacity room e before after tied more was =
     let size : length (set marks (number e.cell) false) ≡ length marks = length-set marks (number e.cell) false in
@@ -99,11 +99,11 @@ altered-last f items (e ∷ es) x place is some size at =
     ∙ reverse-set_last es items e (f x) was
     ∙ ap (λ z. f z ∷ es) same
 
-abbrev pub entered : ℕ → List Entry → Entered
-entered cells entries = record { cells = cells; entries = entries }
+abbrev pub entered : ℕ → ℕ → List Entry → Entered
+entered cells reserved entries = record { cells = cells; reserved = reserved; entries = entries }
 
-pub Entered-same : (m n : ℕ) (xs ys : List Entry) → m ≡ n → xs ≡ ys → entered m xs ≡ entered n ys
-Entered-same m n xs ys e f = ap (λ k. entered k xs) e ∙ ap (entered n) f
+pub Entered-same : (m n r s : ℕ) (xs ys : List Entry) → m ≡ n → r ≡ s → xs ≡ ys → entered m r xs ≡ entered n s ys
+Entered-same m n r s xs ys e room f = ap (λ k. entered k r xs) e ∙ ap (λ k. entered n k xs) room ∙ ap (entered n s) f
 
 -- there are no more entries than cells
 pub IsTied-few : (marks : List Bool) (capacity : ℕ) (entries : List Entry) → IsTied marks capacity entries → length entries ≤ length marks
@@ -111,12 +111,12 @@ IsTied-few marks capacity entries tied =
     omega (arith, length-line (length marks) (numbers_of entries) tied.line, length-map entries (λ (e : Entry). number e.cell))
 
 -- the same at a place that is the cell's number
-pub IsTied-pushed : (marks : List Bool) (capacity room p : ℕ) (before after : List Entry) (e : Entry) → p ≡ number e.cell → IsTied marks capacity before → capacity ≤ room
+pub IsTied-pushed : (marks : List Bool) (capacity room p : ℕ) (before after : List Entry) (e : Entry) → p ≡ number e.cell → IsTied marks capacity before → room ≡ capacity
     → IsLine (length marks) (number e.cell ∷ numbers_of before) → after ≡ e ∷ before → IsTied (set marks p true) room after
 IsTied-pushed marks capacity room p before after e at tied more is pushed =
     subst (λ q. IsTied (set marks q true) room after) (sym at) (IsTied-push marks capacity room before after e tied more is pushed)
 
-pub IsTied-popped : (marks : List Bool) (capacity room p : ℕ) (e : Entry) (before after : List Entry) → p ≡ number e.cell → IsTied marks capacity before → capacity ≤ room → before ≡ e ∷ after
+pub IsTied-popped : (marks : List Bool) (capacity room p : ℕ) (e : Entry) (before after : List Entry) → p ≡ number e.cell → IsTied marks capacity before → room ≡ capacity → before ≡ e ∷ after
     → IsTied (set marks p false) room after
 IsTied-popped marks capacity room p e before after at tied more was =
     subst (λ q. IsTied (set marks q false) room after) (sym at) (IsTied-pop marks capacity room e before after tied more was)

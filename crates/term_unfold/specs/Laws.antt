@@ -4,7 +4,7 @@ use Rattle.heap_cells.specs.Cells.{Cell}
 use Rattle.heap_cells.specs.HeapMap.{number_at}
 use Rattle.term_unfold.specs.Rules.{Child, Term, Item, is_on, opening}
 use Rattle.term_unfold.specs.Terms.{IsTerm, IsItem}
-use Rattle.term_unfold.specs.Trees.{Tree}
+use Rattle.term_unfold.specs.Trees.{Tree, Trees, none, more}
 use Rattle.term_unfold.specs.Unfolding.{grown, unfold_by, unfolded}
 
 -- different addresses of the heap
@@ -26,3 +26,8 @@ IsEnough = (levels : ℕ) (heap : List Cell) (path : List ℕ) (child : Child) �
 abbrev pub Suits : Child → Tree → Type 0
 Suits (Term element) tree = IsTerm tree
 Suits (Item parent element) tree = IsItem tree
+
+-- trees, and others behind them
+abbrev pub joined : Trees → Trees → Trees
+joined none others = others
+joined (more tree trees) others = more tree (joined trees others)

@@ -1,5 +1,5 @@
 -- What a walker goes over, and the answer to a root.
-use Rattle.std.specs.Prelude.{ℕ, Bool, true, false, List, ◌++◌, codes}
+use Rattle.std.specs.Prelude.{ℕ, ◌+◌, Bool, true, false, List, ◌++◌, length, codes}
 use Rattle.dump_io.specs.Numbers.{hexadecimal}
 use Rattle.term_forms.specs.declared.enc.Enc.{Enc}
 use Rattle.term_forms.specs.Elements.{Element}
@@ -13,14 +13,15 @@ use Rattle.term_unfold.specs.Text.{reason, show}
 use Rattle.term_unfold.specs.Trees.{verdict}
 use Rattle.term_unfold.specs.Unfolding.{unfolding_of}
 
--- a heap, and the previews of its references to binaries
+-- a heap, the previews of its references to binaries, and for how many entries of the walks' stack memory is taken
 pub record Walk : Type 0 where
   pub heap : HeapMap
   pub previews : List Entry
+  pub reserved : ℕ
 
--- the two as one value
+-- a walker over the two, with room for exactly one entry more than there are cells
 abbrev pub walk : HeapMap → List Entry → Walk
-walk heap previews = record { heap = heap; previews = previews }
+walk heap previews = record { heap = heap; previews = previews; reserved = length heap.cells + 1 }
 
 -- the first bad address, or the text where none is bad
 abbrev pub judged_text : Verdict → List ℕ → List ℕ

@@ -1,13 +1,15 @@
 // The laws of the definitions. Each is the contract of a function that does nothing.
-ghost use Rattle.std.specs.Prelude.{◌≡◌, ℕ, List, take};
+ghost use Rattle.std.specs.Prelude.{◌≡◌, ℕ, ◌+◌, List, take};
 ghost use Rattle.heap_cells.specs.Cells.{Cell};
-ghost use Rattle.term_unfold.specs.Laws.{FollowsRules, IsEnough, Suits};
+ghost use Rattle.term_unfold.specs.Laws.{FollowsRules, IsEnough, Suits, joined};
 ghost use Rattle.term_unfold.specs.Places.{nodes_of};
 ghost use Rattle.term_unfold.specs.Rules.{Child};
 ghost use Rattle.term_unfold.specs.Terms.{IsTerm};
 ghost use Rattle.term_unfold.specs.Text.{show};
-ghost use Rattle.term_unfold.specs.Trees.{Value, Tree};
+ghost use Rattle.term_unfold.specs.Trees.{Value, Tree, Trees, Branch, more};
 ghost use Rattle.term_unfold.specs.Unfolding.{unfolded};
+
+use crate::node::NodeKind;
 
 /// The unfolding follows the rules with no number of levels; more levels than there are cells change nothing; a term
 /// unfolds to a term, and a child of a hash map to an item.
@@ -21,4 +23,11 @@ pub fn unfolding_is_finite()
 /// same places have the same text, whatever the texts of leaves are.
 pub fn text_is_of_first_nodes()
     ensures { (leaf : Value → List ℕ) (t u : Tree) (n : ℕ) → IsTerm t → IsTerm u → take n (nodes_of leaf t) ≡ take n (nodes_of leaf u) → show leaf t n ≡ show leaf u n }
+{}
+
+/// A hash map with an inner node in front has the text of the map with that node's children in front, where one node more
+/// is visited: the inner node itself.
+pub fn inner_node_is_its_children()
+    ensures { (leaf : Value → List ℕ) (children rest : Trees) (n : ℕ)
+        → show leaf (Branch NodeKind.Hash (more (Branch NodeKind.Inner children) rest)) (n + 2) ≡ show leaf (Branch NodeKind.Hash (joined children rest)) (n + 1) }
 {}

@@ -1,5 +1,5 @@
 // The texts of leaves and of bad addresses.
-ghost use Rattle.std.specs.Prelude.{◌≡◌, ◌<◌, ◌++◌, length, codes, IsSome};
+ghost use Rattle.std.specs.Prelude.{◌≡◌, ◌<◌, ◌≤◌, ◌*◌, ◌++◌, length, codes, is_some, IsSome, IfSome};
 ghost use Rattle.std.specs.List.{flat_map};
 ghost use Rattle.std.specs.Option.{option_map};
 ghost use Rattle.dump_io.specs.Sinks.{changed, Puts};
@@ -10,14 +10,15 @@ ghost use Rattle.map_nodes.specs.Rules.{address_of};
 ghost use Rattle.term_forms.specs.Payload.{IsPayloadOf};
 ghost use Rattle.term_forms.specs.Seen.{element};
 ghost use Rattle.term_forms.specs.SeenForms.{heap_form};
-ghost use Rattle.binary_refs.specs.Previews.{entry_at, stated, stating, AreFor};
+ghost use Rattle.binary_refs.specs.Previews.{entry_at, stated, AreFor};
 ghost use Rattle.term_unfold.specs.Inner.Rest.{cell_text};
 ghost use Rattle.term_unfold.specs.Leaves.{element_text, port_text, dots, preview_text, preview_of, sized_text, own_preview, form_text, leaf_text};
 ghost use Rattle.term_unfold.specs.Text.{reason, bad_text};
 
 use binary_refs::{Preview, Previews};
-use dump_io::{Failed, Piece, Sink, put_atom, put_hex_bytes, put_pieces, write_all};
+use dump_io::{Failed, Piece, Sink, put_atom, put_pieces, write_all};
 use heap_cells::{CellIx, Heap, Why};
+use hex::encode_to_slice;
 use term_forms::shapes::{Elem, Form};
 use term_forms::{Enc, payload_part};
 
@@ -72,14 +73,36 @@ fn dots_text(size: u64) -> &'static [u8]
     if size > 32 { b".." } else { b"" }
 }
 
+// The digits of bytes in upper-case hex.
+fn write_digits(bytes: &[u8], into: &mut [u8])
+    requires { length into.old ≡ 2 * length bytes.now }
+    ensures { into.new ≡ flat_map hex_byte bytes.now }
+{
+    let _ = encode_to_slice(bytes, into);
+    into.make_ascii_uppercase();
+}
+
+// Writes 32 bytes or less in upper-case hex.
+fn put_digits<K: Sink>(sink: &mut K, bytes: &[u8]) -> Result<(), Failed>
+    requires { length bytes.now ≤ 32 }
+    ensures { Puts (changed K.written K.faults sink.old sink.new) (flat_map hex_byte bytes.now) result }
+{
+    let mut buffer = [0; 64];
+    let digits = &mut buffer[..2 * bytes.len()];
+    write_digits(bytes, digits);
+    write_all(sink, digits)
+}
+
 fn put_known<K: Sink>(sink: &mut K, size: u64, bytes: &[u8]) -> Result<(), Failed>
+    requires { length bytes.now ≤ 32 }
     ensures { Puts (changed K.written K.faults sink.old sink.new) (flat_map hex_byte bytes.now ++ dots size) result }
 {
-    put_hex_bytes(sink, bytes)?;
+    put_digits(sink, bytes)?;
     write_all(sink, dots_text(size))
 }
 
 fn put_preview<K: Sink>(sink: &mut K, size: u64, preview: Option<&[u8]>) -> Result<(), Failed>
+    requires { IfSome preview (λ bytes. length bytes.now ≤ 32) }
     ensures { Puts (changed K.written K.faults sink.old sink.new) (preview_text size (option_map (λ bytes. bytes.now) preview.entry)) result }
 {
     match preview {
@@ -95,6 +118,7 @@ fn put_sized<K: Sink>(
     size: u64,
     preview: Option<&[u8]>,
 ) -> Result<(), Failed>
+    requires { IfSome preview (λ bytes. length bytes.now ≤ 32) }
     ensures { Puts (changed K.written K.faults sink.old sink.new) (sized_text word.now size (option_map (λ bytes. bytes.now) preview.entry)) result }
 {
     put_pieces(
@@ -125,7 +149,8 @@ fn put_payload<K: Sink>(
 // The first bytes of what a cell refers to, where they are known.
 fn preview_of<'a>(previews: &'a Previews, ix: CellIx) -> Option<&'a [u8]>
     requires { IsSome (entry_at previews.now (number ix)) }
-    ensures { option_map (λ bytes. bytes.now) result ≡ preview_of previews.now (number ix) }
+    ensures bytes { option_map (λ bytes. bytes.now) result ≡ preview_of previews.now (number ix) }
+    ensures few { IfSome result (λ bytes. length bytes.now ≤ 32) }
 {
     match previews.get(ix) {
         Preview::Bytes(bytes, _) => Some(bytes),
@@ -155,7 +180,7 @@ fn put_form<K: Sink>(
     ix: CellIx,
 ) -> Result<(), Failed>
     requires spelled { IsSpelled enc (heap_form form.now) }
-    requires stated { option_map stating (entry_at previews.now (number ix)) ≡ stated (number ix) (heap_form form.now) }
+    requires entry { is_some (entry_at previews.now (number ix)) ≡ is_some (stated (number ix) (heap_form form.now)) }
     ensures { Puts (changed K.written K.faults sink.old sink.new) (form_text enc (preview_of previews.now (number ix)) (heap_form form.now)) result }
 {
     match form {

@@ -13,7 +13,7 @@ mod turns;
 mod verdict;
 mod walker;
 
-pub use laws::{text_is_of_first_nodes, unfolding_is_finite};
+pub use laws::{inner_node_is_its_children, text_is_of_first_nodes, unfolding_is_finite};
 pub use node::NodeKind;
 pub use verdict::Verdict;
 pub use walker::Walker;

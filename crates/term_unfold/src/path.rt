@@ -33,16 +33,16 @@ impl Model for Path {
 
     ghost Value = { Entered };
 
-    ghost view = { λ p. record { cells = length p.marks.items; entries = reverse p.stack.items } };
+    ghost view = { λ p. record { cells = length p.marks.items; reserved = vec_capacity p.stack; entries = reverse p.stack.items } };
 
     ghost invariant = { λ p. IsTied p.marks.items (vec_capacity p.stack) (reverse p.stack.items) };
 }
 
 impl Path {
-    /// Room for a walk over so many cells.
+    /// Room for a walk over so many cells: a mark for each, and one entry more than there are cells.
     pub fn new(alloc: Global, cells: usize) -> Result<Path, AllocError>
         requires { cells < 2 ^ 32 }
-        ensures { IfOk result (λ path. path ≡ record { cells = cells; entries = [] }) }
+        ensures { IfOk result (λ path. path ≡ record { cells = cells; reserved = cells + 1; entries = [] }) }
     {
         let stack = Vec::with_capacity(alloc, cells + 1)?;
         let marks = vec![in alloc; false; cells]?;
@@ -70,6 +70,7 @@ impl Path {
         ensures top { MatchOption result (self.now.entries ≡ []) (λ e. self.now.entries ≡ e ∷ drop 1 self.now.entries) }
         ensures inside { IfSome result (λ e. number e.cell < self.now.cells) }
         ensures few { length self.now.entries ≤ self.now.cells }
+        ensures reserved { self.now.reserved ≡ self.now.cells + 1 }
     {
         self.stack.last().copied()
     }
@@ -132,9 +133,10 @@ impl Path {
         }
     }
 
-    /// Leaves each cell.
+    /// Leaves each cell. The room stays what it was made with.
     pub fn clear(&mut self)
-        ensures { self.new ≡ record self.old { entries = [] } }
+        ensures left { self.new ≡ record self.old { entries = [] } }
+        ensures reserved { self.new.reserved ≡ self.new.cells + 1 }
     {
         while let Some(_) = self.top() {
             self.pop();

@@ -28,24 +28,25 @@ pub struct Walker<'h> {
     path: Path,
 }
 
-// Between two calls the walk is in no cell, and there is room for a path through all cells. The previews are those of the
-// heap's cells.
+// Between two calls the walk is in no cell, and there is room for one entry more than the heap has cells. The previews have
+// an entry for exactly the cells that refer to a binary.
 impl<'h> Model for Walker<'h> {
-    ghost use Rattle.std.specs.Prelude.{◌≡◌, []};
+    ghost use Rattle.std.specs.Prelude.{◌≡◌, ◌+◌, []};
     ghost use Rattle.binary_refs.specs.Previews.{AreFor};
     ghost use Rattle.term_unfold.specs.Inner.Entries.{Serves};
-    ghost use Rattle.term_unfold.specs.Walks.{Walk, walk};
+    ghost use Rattle.term_unfold.specs.Walks.{Walk};
 
     ghost Value = { Walk };
 
-    ghost view = { λ w. walk w.heap.now w.previews.now };
+    ghost view = { λ w. record { heap = w.heap.now; previews = w.previews.now; reserved = w.path.reserved } };
 
-    ghost invariant = { λ w. Serves w.heap.now w.path.cells × (w.path.entries ≡ []) × AreFor w.heap.now.cells w.previews.now };
+    ghost invariant = { λ w. Serves w.heap.now w.path.cells × (w.path.entries ≡ []) × (w.path.reserved ≡ w.path.cells + 1) × AreFor w.heap.now.cells w.previews.now };
 }
 
 impl<'h> Walker<'h> {
-    /// A walker over a heap and its previews, which have an entry for exactly the cells that refer to a binary. It takes
-    /// all the memory that the walks need: a stack of one entry more than there are cells, and one mark a cell.
+    /// A walker over a heap and its previews, which have an entry for exactly the cells that refer to a binary; the sizes
+    /// that they state play no part. It takes all the memory that the walks need: room for exactly one entry more than
+    /// there are cells, and one mark a cell.
     pub fn new(
         alloc: Global,
         heap: &'h Heap,

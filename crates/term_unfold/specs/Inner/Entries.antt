@@ -12,6 +12,8 @@ use Rattle.term_unfold.specs.Rules.{is_on}
 pub record Entered : Type 0 where
   -- how many cells there are
   pub cells : ℕ
+  -- for how many entries memory is taken
+  pub reserved : ℕ
   pub entries : List Entry
 
 abbrev pub numbers_of : List Entry → List ℕ
@@ -62,9 +64,9 @@ abbrev pub IsLine : ℕ → List ℕ → Type 0
 IsLine cells [] = Unit {0}
 IsLine cells (n ∷ ns) = (n < cells) × (is_on n ns ≡ false) × IsLine cells ns
 
--- the marked cells are those of the entries, each once, and the stack has room for all cells
+-- the marked cells are those of the entries, each once, and the stack has room for one entry more than there are cells
 pub record IsTied (marks : List Bool) (capacity : ℕ) (entries : List Entry) : Type 0 where
-  pub room : length marks < capacity
+  pub room : capacity ≡ length marks + 1
   pub line : IsLine (length marks) (numbers_of entries)
   pub marked : (n : ℕ) → n < length marks → slice_index_or marks n false ≡ is_on n (numbers_of entries)
 

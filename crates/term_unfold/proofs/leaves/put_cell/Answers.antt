@@ -1,5 +1,5 @@
 use Rattle.std.proofs.Common.{sym, ◌∙◌, ap}
-use Rattle.std.specs.Option.{option_and_then}
+use Rattle.std.specs.Option.{is_some, option_and_then}
 use Rattle.dump_io.specs.Laws.Puts.{Puts-as}
 use Rattle.heap_cells.specs.Targets.{number}
 use Rattle.map_nodes.specs.Rules.{address_of}
@@ -10,10 +10,10 @@ use Rattle.term_unfold.specs.Leaves.{form_text, leaf_text, preview_of}
 use Rattle.term_unfold.proofs.Previewed.{preview-is}
 use Rattle.term_unfold.proofs.leaves.put_cell.Goals as goal
 
-pub put_form-requires-clause-stated : goal.put_form-requires-clause-stated
-put_form-requires-clause-stated g c =
+pub put_form-requires-clause-entry : goal.put_form-requires-clause-entry
+put_form-requires-clause-entry g c =
     let n = number c.args.ix in
-    c.requires.previews n ∙ ap (option_and_then (stated n)) (sym c.in-Some.ensures.form)
+    c.requires.previews n ∙ ap (λ form. is_some (option_and_then (stated n) form)) (sym c.in-Some.ensures.form)
 
 pub returns-in-Some : goal.returns-in-Some
 returns-in-Some g c =

@@ -6,6 +6,7 @@ use Rattle.term_unfold.proofs.turns.leave_node.Given as goal
 abbrev pub invariant-loop-entry : goal.invariant-loop-entry
 invariant-loop-entry l = record {
   cells : l.path.cells ≡ l.initial.path.cells;
+  reserved : l.path.reserved ≡ l.initial.path.reserved;
   out : outside l.path.entries ≡ outside l.initial.path.entries;
 }
 

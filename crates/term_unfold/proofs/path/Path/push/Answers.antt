@@ -27,5 +27,6 @@ pub returns : goal.returns
 returns c =
     let inside = c.self.inside in
     let entry : Entry = record { cell = c.args.cell; next = 0; kind = c.args.kind; came = c.args.came } in
-    Entered-same _ _ _ _ (length-set inside.marks.items c.number.result true ∙ ap (λ (o : Entered). o.cells) c.self.view_is)
+    Entered-same _ _ _ _ _ _ (length-set inside.marks.items c.number.result true ∙ ap (λ (o : Entered). o.cells) c.self.view_is)
+    (c.push_reserved.ensures.capacity ∙ ap (λ (o : Entered). o.reserved) c.self.view_is)
     (ap reverse c.push_reserved.ensures.items ∙ reverse-push inside.stack.items entry ∙ ap (λ (o : Entered). entry ∷ o.entries) c.self.view_is)

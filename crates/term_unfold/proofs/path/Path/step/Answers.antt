@@ -18,6 +18,6 @@ returns c =
     let inside = c.self.inside in
     let entries : reverse inside.stack.items ≡ c.args.self.now.entries = ap (λ (o : Entered). o.entries) c.self.view_is in
     let some : 0 < length (reverse inside.stack.items) = subst (λ (es : List Entry). 0 < length es) (sym entries) c.requires.entry in
-    Entered-same _ _ _ _ (ap (λ (o : Entered). o.cells) c.self.view_is)
+    Entered-same _ _ _ _ _ _ (ap (λ (o : Entered). o.cells) c.self.view_is) (ap (λ (o : Entered). o.reserved) c.self.view_is)
     (altered-last (next_of c.args.came) inside.stack.items (reverse inside.stack.items) c.index-entry.result.now c.len-last.result refl some (c.len-last.ensures ∙ inside.stack.ok.0) c.index-entry.ensures
     ∙ ap (altered (next_of c.args.came)) entries)

@@ -18,6 +18,6 @@ returns c =
     let inside = c.self.inside in
     let entries : reverse inside.stack.items ≡ c.args.self.now.entries = ap (λ (o : Entered). o.entries) c.self.view_is in
     let some : 0 < length (reverse inside.stack.items) = omega (arith, length-reverse inside.stack.items, inside.stack.ok.0, c.len-count.ensures, c.if-count-eq0.false) in
-    Entered-same _ _ _ _ (ap (λ (o : Entered). o.cells) c.self.view_is)
+    Entered-same _ _ _ _ _ _ (ap (λ (o : Entered). o.cells) c.self.view_is) (ap (λ (o : Entered). o.reserved) c.self.view_is)
     (altered-last (told_of c.args.came) inside.stack.items (reverse inside.stack.items) c.index-entry.result.now c.len-count.result refl some (c.len-count.ensures ∙ inside.stack.ok.0) c.index-entry.ensures
     ∙ ap (altered (told_of c.args.came)) entries)
