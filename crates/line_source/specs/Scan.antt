@@ -2,6 +2,10 @@
 use Rattle.std.specs.Prelude.{◌≡◌, ℕ, Bool, List, [], length}
 use Rattle.line_source.specs.Streams.{LastLine, last_line, too_long}
 
+-- the most bytes of a line that begins with an equals sign that a scan keeps
+abbrev pub most_kept : ℕ
+most_kept = 4096
+
 -- a scan of a stream
 pub record Scan : Type 0 where
   -- the most bytes of a line that begins with an equals sign, before its LF

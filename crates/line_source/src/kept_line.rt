@@ -1,10 +1,11 @@
 // The bytes of a line that has no LF yet.
 ghost use Rattle.std.specs.Prelude.{◌≡◌, ◌+◌, ◌≤◌, List, [], ◌∷◌, ◌++◌, length, take};
+ghost use Rattle.line_source.specs.Scan.{most_kept};
 
 use std::marker::Model;
 
-/// The most bytes of a header's line that a scan keeps.
-pub const MOST: usize = 4_096;
+// As many as the definition says, which the invariant holds it to.
+const MOST: usize = 4_096;
 
 /// The bytes of a header's line that have come, at most 4,096.
 #[derive(Drop)]
@@ -14,14 +15,14 @@ pub struct KeptLine {
 }
 
 impl Model for KeptLine {
-    ghost use Rattle.std.specs.Prelude.{ℕ, ◌≤◌, List, take};
-    ghost use Rattle.line_source.specs.declared.kept_line.TheConstants.{MOST};
+    ghost use Rattle.std.specs.Prelude.{◌≡◌, ℕ, ◌≤◌, List, length, take};
+    ghost use Rattle.line_source.specs.Scan.{most_kept};
 
     ghost Value = { List ℕ };
 
     ghost view = { λ line. take line.len line.bytes };
 
-    ghost invariant = { λ line. line.len ≤ MOST };
+    ghost invariant = { λ line. (length line.bytes ≡ most_kept) × (line.len ≤ most_kept) };
 }
 
 impl KeptLine {
@@ -38,7 +39,7 @@ impl KeptLine {
     /// How many bytes there are.
     pub fn len(&self) -> usize
         ensures count { result ≡ length self.now }
-        ensures most { result ≤ MOST }
+        ensures most { result ≤ most_kept }
     {
         self.len
     }
@@ -60,7 +61,7 @@ impl KeptLine {
 
     /// Puts more bytes behind those that have come.
     pub fn extend(&mut self, more: &[u8])
-        requires { length self.old + length more.now ≤ MOST }
+        requires { length self.old + length more.now ≤ most_kept }
         ensures { self.new ≡ self.old ++ more.now }
     {
         put(&mut self.bytes, self.len, more);

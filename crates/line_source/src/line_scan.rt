@@ -2,7 +2,7 @@
 ghost use Rattle.std.specs.Prelude.{◌≡◌, ◌+◌, ◌-◌, ◌<◌, ◌≤◌, ◌^◌, ◌++◌, ◌∷◌, [], ℕ, true, false, is_err, length, take, List, None, Some, Ok, Err, OnOk, OnErr, IfOk, IfErr, IsErrOf, All, ◌↔◌, slice_index, ◌==◌, if◌then◌else◌};
 ghost use Rattle.dump_io.specs.Lines.{Header, lf, equals_sign, text_of};
 ghost use Rattle.line_source.specs.Streams.{ended, plain, header, too_long, new_headers, open_headers, headers_before};
-ghost use Rattle.line_source.specs.Scan.{Scan, StandsFor};
+ghost use Rattle.line_source.specs.Scan.{Scan, StandsFor, most_kept};
 ghost use Rattle.line_source.specs.declared.header_sink.RefusedHeader.{RefusedHeader};
 ghost use Rattle.line_source.specs.Receiver.{Hears};
 ghost use Rattle.line_source.specs.Feeding.{first_too_long, stop_of, IsStop, StopsAmong};
@@ -11,7 +11,7 @@ ghost use Rattle.line_source.specs.Inner.LastLine.{header_bytes, is_header_line}
 ghost use Rattle.line_source.specs.Receiver.{stop_value};
 
 use crate::header_sink::{HeaderSink, HeaderStop};
-use crate::kept_line::{KeptLine, MOST};
+use crate::kept_line::KeptLine;
 use crate::scan_fault::ScanFault;
 use crate::starts::header_start;
 use dump_io::text_before_lf;
@@ -46,8 +46,7 @@ pub struct LineScan {
 
 impl Model for LineScan {
     ghost use Rattle.std.specs.Prelude.{ℕ, ◌≤◌, length};
-    ghost use Rattle.line_source.specs.Scan.{Scan};
-    ghost use Rattle.line_source.specs.declared.kept_line.TheConstants.{MOST};
+    ghost use Rattle.line_source.specs.Scan.{Scan, most_kept};
 
     ghost Value = { Scan };
 
@@ -62,7 +61,7 @@ impl Model for LineScan {
 
     ghost invariant = { λ scan.
         (1 ≤ scan.limit)
-        × (scan.limit ≤ MOST)
+        × (scan.limit ≤ most_kept)
         × (length scan.kept ≤ scan.limit)
         × (length scan.kept ≤ scan.offset) };
 }
@@ -72,7 +71,7 @@ impl LineScan {
     /// its LF. It takes no memory.
     pub fn new(limit: u16) -> LineScan
         requires some { 1 ≤ limit }
-        requires most { limit ≤ MOST }
+        requires most { limit ≤ most_kept }
         ensures stands { StandsFor result [] }
         ensures limit { result.limit ≡ limit }
         ensures spent { result.spent ≡ false }

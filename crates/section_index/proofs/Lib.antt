@@ -11,5 +11,6 @@ pub mod Kept
 pub mod Parts
 pub mod Places
 pub mod Rising
-pub mod TagExamples
+pub mod ShortLines
+mod TagExamples
 pub mod Tiling

@@ -1,5 +1,5 @@
 -- What an index says of a dump.
-use Rattle.std.specs.Prelude.{◌≡◌, ◌⊎◌, ℕ, ◌+◌, ◌-◌, ◌<◌, ◌≤◌, List, [], ◌∷◌, length, None, Some, Result, Ok, Err, codes, unwrap_or, if◌then◌else◌, Option}
+use Rattle.std.specs.Prelude.{◌≡◌, ◌⊎◌, ℕ, ◌+◌, ◌-◌, ◌<◌, ◌≤◌, List, [], ◌∷◌, length, None, Some, Result, Ok, Err, All, codes, unwrap_or, if◌then◌else◌, Option}
 use Rattle.std.specs.Str.{bytes_eq}
 use Rattle.dump_io.specs.Counts.{plus_capped}
 use Rattle.dump_io.specs.Dumps.{IsNamed, Files, Now, closed, told, sized, size_of, Use}
@@ -25,12 +25,18 @@ pub record Contents : Type 0 where
 abbrev pub sections_in : Contents → List Section
 sections_in index = sections_of index.headers index.size
 
--- there is a section, there are no more sections and bytes than the usual limits allow, and the sections tile
--- the whole dump
+-- the line of a header has its text, and is no longer than the usual limit on headers and its LF
+pub record HasShortLine (header : Header) : Type 0 where
+  pub text : header.at + length header.text ≤ header.body
+  pub short : header.body ≤ header.at + usual.header + 1
+
+-- there is a section, there are no more sections and bytes than the usual limits allow, no header's line is too
+-- long, and the sections tile the whole dump
 pub record AreBounded (index : Contents) : Type 0 where
   pub some : 1 ≤ length index.headers
   pub sections : length index.headers ≤ usual.sections
   pub size : index.size ≤ usual.dump
+  pub lines : All HasShortLine index.headers
   pub tiled : Tile 0 index.size (sections_in index)
 
 -- the text of the last header

@@ -1,5 +1,6 @@
 -- What only private functions cite.
 pub mod Beginning
+pub mod Counting
 pub mod Headers
 pub mod Reading
 pub mod Receiver

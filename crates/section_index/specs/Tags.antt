@@ -1,10 +1,6 @@
 -- How many sections have each tag.
 use Rattle.std.specs.Prelude.{ℕ, List, [], ◌∷◌, map, filter, count_by, not}
 use Rattle.std.specs.Str.{bytes_eq}
-use Rattle.std.specs.Global.{Vec}
-use Rattle.std.specs.declared.hash.FoldHasher.{FoldHasher}
-use Rattle.std.specs.declared.hash.BuildHasherDefault.{BuildHasherDefault}
-use Rattle.indexmap.specs.IndexMap.{IndexMap}
 use Rattle.section_index.specs.Index.{Contents, sections_in}
 use Rattle.section_index.specs.Sections.{tag_of}
 
@@ -20,7 +16,3 @@ tag_counts tags = map (λ tag. (tag, count_by (bytes_eq tag) tags)) (distinct ta
 -- the tags of the sections of an index
 abbrev pub tags_in : Contents → List (List ℕ)
 tags_in index = map (λ section. tag_of section.text) (sections_in index)
-
--- the counts that a map keeps
-abbrev pub counts_of : IndexMap (Vec ℕ) ℕ (BuildHasherDefault FoldHasher) → List (List ℕ × ℕ)
-counts_of counts = map (λ entry. (entry.0.items, entry.1)) counts.entries

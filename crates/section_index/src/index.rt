@@ -1,9 +1,9 @@
 // The index of a dump.
-ghost use Rattle.std.specs.Prelude.{◌≡◌, ◌<◌, ◌≤◌, length, slice_get, Some};
+ghost use Rattle.std.specs.Prelude.{◌≡◌, ◌+◌, ◌<◌, ◌≤◌, length, slice_get, Some, All};
 ghost use Rattle.std.specs.Option.{option_copied};
 ghost use Rattle.dump_io.specs.Limits.{usual};
 ghost use Rattle.section_index.specs.Bodies.{section_at};
-ghost use Rattle.section_index.specs.Index.{Contents, AreBounded, sections_in, state_of, IsLastPlace};
+ghost use Rattle.section_index.specs.Index.{Contents, AreBounded, HasShortLine, sections_in, state_of, IsLastPlace};
 ghost use Rattle.section_index.specs.Sections.{section, sections_of, end_at, tag_of, id_of};
 ghost use Rattle.section_index.specs.Tiling.{Tile};
 
@@ -73,6 +73,7 @@ impl Index {
         requires some { 1 ≤ length headers }
         requires sections { length headers ≤ usual.sections }
         requires size { size ≤ usual.dump }
+        requires lines { All HasShortLine headers }
         requires tiled { Tile 0 size (sections_of headers size) }
         ensures { result ≡ record { headers = headers; size = size; version = version } }
     {
@@ -130,6 +131,8 @@ impl Index {
         ensures tag { result.tag.now ≡ tag_of result.text.now }
         ensures id { option_copied result.id ≡ id_of result.text.now }
         ensures begins { result.at < result.body }
+        ensures line { result.at + length result.text.now ≤ result.body }
+        ensures short { result.body ≤ result.at + usual.header + 1 }
         ensures ends { result.body ≤ result.end }
         ensures within { result.end ≤ self.now.size }
     {

@@ -1,4 +1,5 @@
 pub mod Cells
+pub mod Colons
 mod Examples
 pub mod Heads
 pub mod Loaded

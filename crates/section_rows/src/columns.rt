@@ -1,8 +1,10 @@
 // What a column shows of a section.
-ghost use Rattle.std.specs.Prelude.{◌≡◌, ◌+◌, ◌^◌, ◌<◌, ◌≤◌, length};
-ghost use Rattle.section_rows.specs.Rows.{cell_of, field_kept, id_kept};
+ghost use Rattle.std.specs.Prelude.{◌≡◌, ◌+◌, ◌≤◌, length, Some};
+ghost use Rattle.dump_io.specs.Limits.{usual};
+ghost use Rattle.section_rows.specs.Rows.{cell_of, field_kept, id_kept, tag_kept};
 ghost use Rattle.section_rows.specs.Shown.{shown_cell, shown_column};
 ghost use Rattle.section_rows.specs.Inner.Lent.{IsLent, shown_section};
+ghost use Rattle.section_rows.specs.Inner.Places.{HasRoom};
 
 use field_lines::find;
 use section_index::Section;
@@ -31,7 +33,8 @@ pub enum Column<'a> {
 
 fn id<'a>(section: &Section<'a>) -> Option<Kept<'a>>
     requires { IsLent section.now }
-    ensures { shown_cell result ≡ id_kept (shown_section section.now) }
+    ensures value { shown_cell result ≡ id_kept (shown_section section.now) }
+    ensures room { HasRoom section.now.at (shown_cell result) }
 {
     let text = section.id?;
     Some(Kept {
@@ -41,16 +44,32 @@ fn id<'a>(section: &Section<'a>) -> Option<Kept<'a>>
     })
 }
 
-// The first field with a key in a body that begins at an offset of the file.
-fn field<'a>(base: u64, body: &'a [u8], key: &[u8]) -> Option<Kept<'a>>
-    requires { base + length body.now < 2 ^ 64 }
-    ensures { shown_cell result ≡ field_kept base body.now key.now }
+// The first field with a key in the body of a section.
+fn field<'a>(section: &Section<'_>, body: &'a [u8], key: &[u8]) -> Option<Kept<'a>>
+    requires lent { IsLent section.now }
+    requires body { section.now.body + length body.now ≤ section.now.end }
+    requires small { length body.now ≤ usual.section }
+    ensures value { shown_cell result ≡ field_kept section.now.body body.now key.now }
+    ensures room { HasRoom section.now.at (shown_cell result) }
 {
     let found = find(body, key)?;
     Some(Kept {
-        at: base + found.at as u64,
-        value_at: base + found.from as u64,
+        at: section.body + found.at as u64,
+        value_at: section.body + found.from as u64,
         text: &body[found.from..found.upto],
+    })
+}
+
+// The tag, which each section has.
+fn tag<'a>(section: &Section<'a>) -> Option<Kept<'a>>
+    requires { IsLent section.now }
+    ensures value { shown_cell result ≡ Some (tag_kept (shown_section section.now)) }
+    ensures room { HasRoom section.now.at (shown_cell result) }
+{
+    Some(Kept {
+        at: section.at,
+        value_at: section.at + 1,
+        text: section.tag,
     })
 }
 
@@ -62,15 +81,13 @@ pub(crate) fn cell<'a>(
 ) -> Option<Kept<'a>>
     requires lent { IsLent section.now }
     requires body { section.now.body + length body.now ≤ section.now.end }
-    ensures { shown_cell result ≡ cell_of (shown_section section.now) body.now (shown_column column.now) }
+    requires small { length body.now ≤ usual.section }
+    ensures value { shown_cell result ≡ cell_of (shown_section section.now) body.now (shown_column column.now) }
+    ensures room { HasRoom section.now.at (shown_cell result) }
 {
     match column {
-        Column::Tag => Some(Kept {
-            at: section.at,
-            value_at: section.at + 1,
-            text: section.tag,
-        }),
+        Column::Tag => tag(section),
         Column::Id => id(section),
-        Column::Field(key) => field(section.body, body, key),
+        Column::Field(key) => field(section, body, key),
     }
 }

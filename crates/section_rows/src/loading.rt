@@ -63,6 +63,8 @@ fn load_row<D: Dumps>(
     ensures row { OnOk result (GainsRow (D.now dumps.old) (map shown_column columns.now) (section_at index.now i) store.old store.new) }
     ensures fault { IfErr result (IsUnread (used D.files D.now D.faults D.taken dumps.old dumps.new)) }
 {
+    // For what `section` ensures: no limit is above the usual one.
+    let _most = limits.section();
     let section = lent(index, i);
     let body = read_body(alloc, dumps, index, i, limits)?;
     store

@@ -1,19 +1,14 @@
 // Rows of cells, kept with their texts in one pool.
-ghost use Rattle.std.specs.Prelude.{◌≡◌, ◌+◌, ◌<◌, ◌≤◌, [], ◌∷◌, ◌^◌, length, map, All, Some, IfSome, IsSome, OnOk, slice_get};
+ghost use Rattle.std.specs.Prelude.{◌≡◌, ◌+◌, ◌<◌, ◌≤◌, [], ◌∷◌, ◌^◌, length, map, All, Some, OnOk, slice_get};
+ghost use Rattle.dump_io.specs.Limits.{usual};
 ghost use Rattle.section_rows.specs.Shown.{shown_kept, shown_cell, shown_column};
-ghost use Rattle.section_rows.specs.Rows.{IsBoundedCell, kept as kept_text, IsBounded, cell_of, row_of, row_at};
+ghost use Rattle.section_rows.specs.Rows.{IsBoundedCell, kept as kept_text, cell_of, row_of, row_at};
 ghost use Rattle.section_rows.specs.Inner.Lent.{IsLent, shown_section};
-ghost use Rattle.section_rows.specs.Inner.Places.{Gained, HasGained, IsNear, AreWithin, rows_in, cell_in, cells_in, place_len, text_len};
+ghost use Rattle.section_rows.specs.Inner.Places.{Gained, HasGained, HasRoom, AreWithin, rows_in, cell_in, cells_in, place_len, text_len};
 
 use crate::columns::{Column, Kept, cell};
 use section_index::Section;
 use std::alloc::{AllocError, Global};
-
-// The size of the largest dump, in bytes.
-const LARGEST_DUMP: u64 = 68_719_476_736;
-
-// The length of the largest body.
-const LARGEST_TEXT: usize = 536_870_912;
 
 // Where the text of a cell stands: the offsets of its line and of the text itself, counted from its section,
 // and the number of its bytes. A table has many cells, so that each has few bytes.
@@ -42,30 +37,26 @@ pub(crate) struct Store {
     pool: Vec<u8>,
 }
 
-// How far an offset lies behind another one, where that has room in 32 bits.
-fn distance(from: u64, at: u64) -> Option<u32>
-    ensures behind { IfSome result (λ behind. from + behind ≡ at) }
-    ensures room { from ≤ at → at < from + 2 ^ 32 → IsSome result }
+// How far an offset lies behind another one.
+fn distance(from: u64, at: u64) -> u32
+    requires behind { from ≤ at }
+    requires near { at < from + 2 ^ 32 }
+    ensures { from + result ≡ at }
 {
-    u32::try_from(at.checked_sub(from)?).ok()
+    (at - from) as u32
 }
 
-// The place of a text behind its section, where it has room. Each text of an index and of a loaded body has.
-fn place_of(base: u64, found: &Kept<'_>) -> Option<Place>
-    ensures shown { IfSome result (λ p. kept_text (base + p.at) (base + p.value) found.now.text.now ≡ shown_kept found.now) }
-    ensures len { IfSome result (λ p. p.len ≡ length found.now.text.now) }
-    ensures bounded { IfSome result (λ _. IsBounded (shown_kept found.now)) }
-    ensures room { IsNear base (shown_kept found.now) → IsBounded (shown_kept found.now) → IsSome result }
+// The place of a text behind its section.
+fn place_of(base: u64, found: &Kept<'_>) -> Place
+    requires { HasRoom base (Some (shown_kept found.now)) }
+    ensures shown { kept_text (base + result.at) (base + result.value) found.now.text.now ≡ shown_kept found.now }
+    ensures len { result.len ≡ length found.now.text.now }
 {
-    let len = found.text.len();
-    if found.at > LARGEST_DUMP || found.value_at > LARGEST_DUMP || len > LARGEST_TEXT {
-        return None;
+    Place {
+        at: distance(base, found.at),
+        value: distance(base, found.value_at),
+        len: found.text.len() as u32,
     }
-    Some(Place {
-        at: distance(base, found.at)?,
-        value: distance(base, found.value_at)?,
-        len: len as u32,
-    })
 }
 
 // Puts a cell behind the places, and its text behind the pool.
@@ -75,13 +66,14 @@ fn push_cell(
     base: u64,
     cell: Option<Kept<'_>>,
 ) -> Result<(), AllocError>
+    requires { HasRoom base (shown_cell cell) }
     ensures { OnOk result (Gained base places.old.items places.new.items pool.old.items pool.new.items (shown_cell cell.entry ∷ [])) }
 {
     let Some(found) = cell else {
         places.push(None)?;
         return Ok(());
     };
-    let place = place_of(base, &found).ok_or(AllocError)?;
+    let place = place_of(base, &found);
     pool.extend_from_slice(found.text)?;
     places.push(Some(place))?;
     Ok(())
@@ -97,6 +89,7 @@ fn push_cells<'a>(
 ) -> Result<(), AllocError>
     requires lent { IsLent section.now }
     requires body { section.now.body + length body.now ≤ section.now.end }
+    requires small { length body.now ≤ usual.section }
     ensures { OnOk result (Gained section.now.at places.old.items places.new.items pool.old.items pool.new.items
         (map (cell_of (shown_section section.now) body.now) (map shown_column columns.now))) }
 {
@@ -168,6 +161,7 @@ impl Store {
     ) -> Result<(), AllocError>
         requires lent { IsLent section.now }
         requires body { section.now.body + length body.now ≤ section.now.end }
+        requires small { length body.now ≤ usual.section }
         requires width { self.old.width ≡ length columns.now }
         requires within { AreWithin self.old }
         ensures { OnOk result (HasGained self.old self.new (row_of (map shown_column columns.now) (shown_section section.now) body.now)) }

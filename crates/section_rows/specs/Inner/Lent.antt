@@ -1,5 +1,5 @@
 -- A section as an index lends it.
-use Rattle.std.specs.Prelude.{◌≡◌, ◌≤◌}
+use Rattle.std.specs.Prelude.{◌≡◌, ◌+◌, ◌<◌, ◌≤◌, length}
 use Rattle.std.specs.Option.{option_copied}
 use Rattle.dump_io.specs.Limits.{usual}
 use Rattle.section_index.specs.declared.index.Section.{Section as LentSection}
@@ -8,10 +8,13 @@ use Rattle.section_index.specs.Sections.{Section, section, tag_of, id_of}
 abbrev pub shown_section : LentSection → Section
 shown_section s = section s.at s.body s.end s.text.now
 
--- its tag and its id are those of its header's text, and it ends within the largest dump
+-- its tag and its id are those of its header's text, which its line has, the line isn't too long, and the section
+-- ends within the largest dump
 pub record IsLent (s : LentSection) : Type 0 where
   pub tag : s.tag.now ≡ tag_of s.text.now
   pub id : option_copied s.id ≡ id_of s.text.now
-  pub begins : s.at ≤ s.body
+  pub begins : s.at < s.body
+  pub line : s.at + length s.text.now ≤ s.body
+  pub short : s.body ≤ s.at + usual.header + 1
   pub ends : s.body ≤ s.end
   pub bounded : s.end ≤ usual.dump

@@ -1,10 +1,10 @@
 -- Cells that are kept with their texts in one pool. The texts of a row stand there one behind the other.
-use Rattle.std.specs.Prelude.{◌≡◌, ℕ, ◌+◌, ◌^◌, ◌<◌, ◌≤◌, List, [], ◌∷◌, ◌++◌, length, take, drop, map, Option, None, Some, All}
+use Rattle.std.specs.Prelude.{◌≡◌, ℕ, ◌+◌, ◌^◌, ◌<◌, ◌≤◌, List, [], ◌∷◌, ◌++◌, length, take, drop, map, Option, None, Some, IfSome, All}
 use Rattle.std.specs.List.{between, sum_by}
 use Rattle.section_rows.specs.declared.store.Place.{Place}
 use Rattle.section_rows.specs.declared.store.Head.{Head}
 use Rattle.section_rows.specs.declared.store.Store.{Store}
-use Rattle.section_rows.specs.Rows.{Kept, kept, Row, IsBoundedCell}
+use Rattle.section_rows.specs.Rows.{Kept, kept, Row, IsBounded, IsBoundedCell}
 
 -- how many bytes the text of a cell has
 abbrev pub place_len : Option Place → ℕ
@@ -66,3 +66,7 @@ pub record IsNear (base : ℕ) (k : Kept) : Type 0 where
   pub near_line : k.at < base + 2 ^ 32
   pub text : base ≤ k.value_at
   pub near_text : k.value_at < base + 2 ^ 32
+
+-- the text of a cell that is there has room in the numbers of a place, and is within the bounds
+abbrev pub HasRoom : ℕ → Option Kept → Type 0
+HasRoom base cell = IfSome cell (λ k. IsNear base k × IsBounded k)

@@ -10,6 +10,7 @@ use Rattle.section_index.proofs.Beginnings.{headers-some}
 use Rattle.section_index.proofs.Answering.{IsFirstPiece, IsFirstPiece-read, judged-whole, signed-first, answer-judged, answer-header, answer-index, answer-rest, small-by-bytes, Gives-all, built-over}
 use Rattle.section_index.specs.Sections.{sections_of}
 use Rattle.section_index.specs.Tiling.{Tile}
+use Rattle.section_index.proofs.ShortLines.{headers-short}
 use Rattle.section_index.proofs.Tiling.{sections_tile}
 use Rattle.section_index.proofs.builder.index_of.Goals as goal
 
@@ -102,6 +103,12 @@ new-requires-clause-some g c =
     let begun = c.in_ok-feed_rest.ensures.begun in
     let heard = (c.in_ok-headers.ensures.heard begun.bytes begun.heard).0 in
     omega (arith, ap length heard, headers-some begun.bytes begun.signed)
+
+pub new-requires-clause-lines : goal.new-requires-clause-lines
+new-requires-clause-lines g c =
+    let begun = c.in_ok-feed_rest.ensures.begun in
+    let heard = (c.in_ok-headers.ensures.heard begun.bytes begun.heard).0 in
+    rw heard (headers-short _ begun.bytes (omega (arith, c.in_ok-feed_rest.ensures.limit)) begun.heard.stands.short)
 
 pub new-requires-clause-tiled : goal.new-requires-clause-tiled
 new-requires-clause-tiled g c =

@@ -1,15 +1,13 @@
-use Rattle.std.proofs.Common.{◌≡◌, ℕ, ◌+◌, List, sym, ◌∙◌, ap, Some, None, slice_get, take, map, arith}
+use Rattle.std.proofs.Common.{◌≡◌, ◌+◌, ◌<◌, ◌≤◌, ◌^◌, ℕ, List, All, sym, ◌∙◌, ap, subst, Some, slice_get, take, length, arith}
 use Rattle.std.specs.Prelude.{option_map}
-use Rattle.std.specs.Map.{lookup}
-use Rattle.std.specs.Global.{Vec}
-use Rattle.std.specs.Str.{bytes_eq}
 use Rattle.std.proofs.lemmas.Option.{slice_get-map}
 use Rattle.std.proofs.lemmas.List.{length-take}
-use Rattle.indexmap.specs.IndexMap.{insert_entry}
+use Rattle.std.proofs.lemmas.List.Elements.{All-weaker}
 use Rattle.section_index.specs.Index.{Contents, sections_in}
 use Rattle.section_index.specs.Sections.{Section, section, tag_of}
-use Rattle.section_index.specs.Tags.{tags_in}
-use Rattle.section_index.proofs.Counts.{shown, same_key, one_more, tag_counts-more, one_more-there, one_more-new, tag_counts-small}
+use Rattle.section_index.specs.Tags.{tags_in, tag_counts}
+use Rattle.section_index.specs.Inner.Counting.{counts_of, one_more, AreApart, place_in}
+use Rattle.section_index.proofs.Counts.{tag_counts-more, tag_counts-apart, tag_counts-few, place-stays}
 use Rattle.section_index.proofs.tags.count_section.Goals as goal
 
 -- the tag of the section at the place
@@ -18,30 +16,36 @@ tag_at : (index : Contents) (i at body end : ℕ) (text tag : List ℕ) → slic
 tag_at index i at body end text tag place is =
     slice_get-map (λ (s : Section). tag_of s.text) (sections_in index) i ∙ ap (option_map (λ (s : Section). tag_of s.text)) place ∙ ap Some (sym is)
 
-pub overflow_add-count : goal.overflow_add-count
-overflow_add-count c =
-    let tags = tags_in c.args.index.now in
-    omega (arith, tag_counts-small c.section.result.tag.now c.args.counts.now.entries (take c.args.i tags) c.in-Some.count.now (sym c.in-Some.ensures.value) c.requires.before, length-take c.args.i tags)
+-- the counts with the section
+counted : (index : Contents) (i at body end : ℕ) (text tag : List ℕ) (before after : List (List ℕ × ℕ)) → slice_get (sections_in index) i ≡ Some (section at body end text) → tag ≡ tag_of text
+    → before ≡ tag_counts (take i (tags_in index)) → after ≡ one_more tag before → after ≡ tag_counts (take (i + 1) (tags_in index))
+counted index i at body end text tag before after place is were more =
+    more ∙ ap (one_more tag) were ∙ sym (tag_counts-more (tags_in index) i tag (tag_at index i at body end text tag place is))
+
+pub number_of-requires-clause-apart : goal.number_of-requires-clause-apart
+number_of-requires-clause-apart c =
+    subst AreApart (sym (ap counts_of c.deref.ensures.value ∙ c.requires.before.counted)) (tag_counts-apart (take c.args.i (tags_in c.args.index.now)))
+
+pub add_one-requires-clause-few : goal.add_one-requires-clause-few
+add_one-requires-clause-few c =
+    let tags = take c.args.i (tags_in c.args.index.now) in
+    subst (All (λ (count : List ℕ × ℕ). count.1 + 1 < 2 ^ 64)) (sym c.requires.before.counted)
+    (All-weaker (λ (count : List ℕ × ℕ). count.1 ≤ length tags) (λ count. count.1 + 1 < 2 ^ 64)
+    (λ count few. omega (arith, few, length-take c.args.i (tags_in c.args.index.now), c.requires.fits)) (tag_counts tags) (tag_counts-few tags))
 
 pub returns-in-Some : goal.returns-in-Some
-returns-in-Some c =
-    let tag = c.section.result.tag.now in
-    ap (map shown) (c.get_mut.follows.holds (c.in-Some.count.now + 1)).0
-    ∙ one_more-there tag c.args.counts.now.entries c.in-Some.count.now (sym c.in-Some.ensures.value)
-    ∙ ap (one_more tag) c.requires.before
-    ∙ sym (tag_counts-more (tags_in c.args.index.now) c.args.i tag (tag_at c.args.index.now c.args.i _ _ _ _ tag c.section.ensures.place c.section.ensures.tag))
+returns-in-Some c = record {
+  counted = counted c.args.index.now c.args.i _ _ _ _ _ _ _ c.section.ensures.place c.section.ensures.tag c.requires.before.counted c.add_one.ensures;
+  numbered =
+      λ other.
+      c.requires.before.numbered other
+      ∙ sym (ap (place_in other) c.add_one.ensures
+      ∙ place-stays other c.section.result.tag.now (counts_of c.args.counts.now.items) c.in-Some.number
+      (ap (λ counts. place_in c.section.result.tag.now (counts_of counts)) (sym c.deref.ensures.value) ∙ sym c.number_of.ensures ∙ c.in-Some.is));
+}
 
-pub returns : goal.returns
-returns c =
-    let tag = c.section.result.tag.now in
-    let key = c.in_ok-from_slice.field-0 in
-    let entries = c.args.counts.now.entries in
-    let is_tag : key.items ≡ tag = c.in_ok-from_slice.ensures.items in
-    let absent : lookup (same_key key) entries ≡ None =
-    ap (λ (t : List ℕ). lookup (λ (k : Vec ℕ). bytes_eq t k.items) entries) is_tag ∙ sym c.in_default.ensures.value in
-    ap (map shown) c.in_ok-insert.ensures.entries
-    ∙ ap (λ counts. map shown (insert_entry same_key counts.entries key 1)) c.get_mut.follows.holds-at-none
-    ∙ one_more-new key entries absent
-    ∙ ap (λ (t : List ℕ). one_more t (map shown entries)) is_tag
-    ∙ ap (one_more tag) c.requires.before
-    ∙ sym (tag_counts-more (tags_in c.args.index.now) c.args.i tag (tag_at c.args.index.now c.args.i _ _ _ _ tag c.section.ensures.place c.section.ensures.tag))
+pub returns-in_ok-add_tag-in-None : goal.returns-in_ok-add_tag-in-None
+returns-in_ok-add_tag-in-None c = record {
+  counted = counted c.args.index.now c.args.i _ _ _ _ _ _ _ c.section.ensures.place c.section.ensures.tag c.requires.before.counted c.in_ok-add_tag-in-None.ensures.counts;
+  numbered = c.in_ok-add_tag-in-None.ensures.numbered;
+}

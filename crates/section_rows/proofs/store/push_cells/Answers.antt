@@ -18,6 +18,6 @@ loop-column-preserved c =
     let column = shown_column (get_or c.args.columns.now c.loop-column.column-index Tag) in
     let columns : map shown_column (take (c.loop-column.column-index + 1) c.args.columns.now) ≡ before ++ column ∷ [] =
     map_more shown_column c.args.columns.now c.loop-column.column-index Tag (omega arith) in
-    let cells = ap (map cell) columns ∙ map-append cell before (column ∷ []) ∙ ap (λ last. map cell before ++ last ∷ []) (sym c.cell.ensures) in
+    let cells = ap (map cell) columns ∙ map-append cell before (column ∷ []) ∙ ap (λ last. map cell before ++ last ∷ []) (sym c.cell.ensures.value) in
     subst (Gained c.args.section.now.at c.args.places.now.items c.push_cell.new.places.items c.args.pool.now.items c.push_cell.new.pool.items) (sym cells)
     (Gained-append c.args.section.now.at _ _ _ _ _ _ _ _ c.loop-column.invariant c.in_ok-push_cell.ensures)

@@ -1,10 +1,12 @@
 use Rattle.std.proofs.Common.{◌≡◌, ◌<◌, ◌≤◌, sym, ◌∙◌, ap, Some, [], subst}
 use Rattle.std.specs.Prelude.{unwrap_or}
 use Rattle.std.specs.List.{slice_get}
+use Rattle.dump_io.specs.Lines.{Header}
 use Rattle.section_index.specs.Sections.{section, sections_of}
-use Rattle.section_index.specs.Index.{Contents, sections_in}
+use Rattle.section_index.specs.Index.{Contents, HasShortLine, sections_in}
 use Rattle.section_index.proofs.Places.{sections_of-at}
 use Rattle.section_index.proofs.Parts.{Tile-at}
+use Rattle.section_index.proofs.Places.{All-at}
 use Rattle.section_index.proofs.index.Index.section.Goals as goal
 
 place : (c : goal.After-result-1) → slice_get (sections_of c.self.inside.headers c.self.inside.size) c.args.i
@@ -22,6 +24,15 @@ returns-clause-place c = ap (λ index. slice_get (sections_in index) c.args.i) (
 
 pub returns-clause-begins : goal.returns-clause-begins
 returns-clause-begins c = (tile c).0
+
+line : (c : goal.After-result-1) → HasShortLine (let h : Header = record { at = c.header-header.result.at; body = c.header-header.result.body; text = c.header-header.result.text.now } in h)
+line c = All-at HasShortLine c.self.inside.headers c.args.i _ c.self.invariant.lines c.header-header.ensures
+
+pub returns-clause-line : goal.returns-clause-line
+returns-clause-line c = (line c).text
+
+pub returns-clause-short : goal.returns-clause-short
+returns-clause-short c = (line c).short
 
 pub returns-clause-ends : goal.returns-clause-ends
 returns-clause-ends c = (tile c).1

@@ -1,0 +1,37 @@
+-- Tags are counted one after another.
+use Rattle.std.specs.Prelude.{◌≡◌, ℕ, ◌+◌, false, List, [], ◌∷◌, map, All, Option, None, Some, option_map, if◌then◌else◌}
+use Rattle.std.specs.BTreeMap.{BTreeMap, get_by}
+use Rattle.std.specs.Cmp.Lexicographic.{slice_cmp}
+use Rattle.std.specs.Ordering.{nat_cmp}
+use Rattle.std.specs.Str.{bytes_eq}
+use denote.Ref.{Bor}
+use Rattle.section_index.specs.declared.tags.TagCount.{TagCount}
+use Rattle.section_index.specs.Tags.{tag_counts}
+
+-- the counts that are kept
+abbrev pub counts_of : List TagCount → List (List ℕ × ℕ)
+counts_of counts = map (λ count. (count.tag.items, count.count)) counts
+
+-- counts with one more of a tag, which goes last where it is new
+abbrev pub one_more : List ℕ → List (List ℕ × ℕ) → List (List ℕ × ℕ)
+one_more tag [] = (tag, 1) ∷ []
+one_more tag (pair ∷ pairs) = if bytes_eq tag pair.0 then (pair.0, pair.1 + 1) ∷ pairs else pair ∷ one_more tag pairs
+
+-- the place of a tag among counts
+abbrev pub place_in : List ℕ → List (List ℕ × ℕ) → Option ℕ
+place_in tag [] = None
+place_in tag (pair ∷ pairs) = if bytes_eq tag pair.0 then Some 0 else option_map (λ n. n + 1) (place_in tag pairs)
+
+-- no two of the counts are of one tag
+abbrev pub AreApart : List (List ℕ × ℕ) → Type 0
+AreApart [] = Unit {0}
+AreApart (pair ∷ pairs) = All (λ other. bytes_eq pair.0 other.0 ≡ false) pairs × AreApart pairs
+
+-- the tree has the place of each tag among the counts
+abbrev pub AreNumbered : BTreeMap (Bor (List ℕ)) ℕ → List (List ℕ × ℕ) → Type 0
+AreNumbered numbers counts = (tag : List ℕ) → get_by (λ key. slice_cmp nat_cmp tag key.now) numbers ≡ place_in tag counts
+
+-- the counts are those of some tags, each of which is found
+pub record IsCounted (numbers : BTreeMap (Bor (List ℕ)) ℕ) (counts : List (List ℕ × ℕ)) (tags : List (List ℕ)) : Type 0 where
+  pub counted : counts ≡ tag_counts tags
+  pub numbered : AreNumbered numbers counts
