@@ -8,7 +8,9 @@ pub mod Loads
 pub mod LongWords
 pub mod MailPlaces
 pub mod Opened
+pub mod Reading
 pub mod Runs
 pub mod TermLoads
+pub mod TermReads
 pub mod Places
 pub mod Heaps

@@ -6,6 +6,7 @@ pub mod Info
 pub mod Loads
 pub mod Mailboxes
 pub mod Opened
+pub mod Reading
 pub mod Stops
 pub mod TermLoads
 pub mod TermStops

@@ -20,23 +20,24 @@ mod term;
 mod trials;
 
 use crate::budgets::Budget;
+use crate::reporting::run_report;
 use crate::stop::Stop;
 use crate::words::Cmd;
-use audit::run_audit;
+use audit::Audit;
 use binary::run_binary;
 use dump_io::{Dumps, Limits, Sink};
 use fields::{run_memory, run_proc};
-use index::run_index;
-use info::run_info;
-use links::run_links;
+use index::Sections;
+use info::Info;
+use links::Links;
 use made::run_make;
-use processes::run_procs;
+use processes::Processes;
 use report_text::RootKind;
 use roots::run_roots;
 use std::alloc::Global;
 use table_sections::TableKind;
 use tables::run_table;
-use term::run_term;
+use term::Term;
 use trials::run_trial;
 
 /// Runs a command from a device to the sink of its report, and answers its status.
@@ -54,9 +55,9 @@ pub(crate) fn run_command<D: Dumps, K: Sink>(
     ensures idle { file_of (shown cmd.now) ≡ None → dumps.new ≡ dumps.old }
 {
     match cmd {
-        Cmd::Index { file } => run_index(alloc, file, limits, dumps, out),
-        Cmd::Info { file } => run_info(alloc, file, limits, dumps, out),
-        Cmd::Procs { file } => run_procs(alloc, file, limits, dumps, out),
+        Cmd::Index { file } => run_report(alloc, &Sections { file }, limits, dumps, out),
+        Cmd::Info { file } => run_report(alloc, &Info { file }, limits, dumps, out),
+        Cmd::Procs { file } => run_report(alloc, &Processes { file }, limits, dumps, out),
         Cmd::Proc { file, pid } => run_proc(alloc, file, pid, limits, dumps, out),
         Cmd::Memory { file } => run_memory(alloc, file, limits, dumps, out),
         Cmd::Ets { file } => run_table(alloc, file, TableKind::Ets, limits, dumps, out),
@@ -107,12 +108,23 @@ pub(crate) fn run_command<D: Dumps, K: Sink>(
             marked,
         } => {
             let budget = Budget::new(*nodes, *marked);
-            run_term(alloc, file, pid, *addr, budget, limits, dumps, out)
+            let report = Term {
+                file,
+                pid: pid.as_bytes(),
+                addr: *addr,
+                budget,
+            };
+            run_report(alloc, &report, limits, dumps, out)
         }
         Cmd::Binary { file, addr } => run_binary(alloc, file, *addr, limits, dumps, out),
-        Cmd::Links { file } => run_links(alloc, file, limits, dumps, out),
+        Cmd::Links { file } => run_report(alloc, &Links { file }, limits, dumps, out),
         Cmd::Audit { file, limit, full } => {
-            run_audit(alloc, file, *limit, *full, limits, dumps, out)
+            let report = Audit {
+                file,
+                limit: *limit,
+                full: *full,
+            };
+            run_report(alloc, &report, limits, dumps, out)
         }
         Cmd::Make { seed, count } => run_make(alloc, *seed, *count, out),
         Cmd::Trial { seed, count } => run_trial(alloc, *seed, *count, out),

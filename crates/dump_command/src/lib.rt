@@ -20,6 +20,7 @@ mod made_words;
 mod mailboxes;
 mod messages;
 mod open;
+mod reporting;
 mod runner;
 pub mod status;
 mod std_sink;

@@ -20,3 +20,11 @@ pub(crate) fn open<D: Dumps>(
 {
     Ok(build(alloc, dumps, file, limits)?)
 }
+
+/// A dump that is open: its index, the limits within which it is read, and the memory for it.
+#[derive(Clone, Copy)]
+pub(crate) struct Opened<'a> {
+    pub(crate) alloc: Global,
+    pub(crate) index: &'a Index,
+    pub(crate) limits: &'a Limits,
+}

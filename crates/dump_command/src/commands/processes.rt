@@ -1,35 +1,39 @@
 // `procs`: the process table.
-ghost use Rattle.dump_io.specs.Dumps.{used};
-ghost use Rattle.dump_io.specs.Sinks.{changed};
 ghost use Rattle.report_text.specs.Tables.{procs_report};
 ghost use Rattle.dump_command.specs.Command.{procs};
-ghost use Rattle.dump_command.specs.Inner.Loads.{Loads, Runs};
+ghost use Rattle.dump_command.specs.declared.status.TheConstants.{DONE};
 
 use crate::ending::done;
-use crate::open::open;
+use crate::open::Opened;
+use crate::reporting::Report;
 use crate::stop::Stop;
-use dump_io::{Dumps, Limits, Sink};
+use dump_io::{Dumps, Sink};
 use process_table::Procs;
 use report_text::put_procs;
-use std::alloc::Global;
 
-fn load<D: Dumps>(alloc: Global, file: &str, limits: &Limits, dumps: &mut D) -> Result<Procs, Stop>
-    ensures { Loads (procs file.now) limits.now (used D.files D.now D.faults D.taken dumps.old dumps.new) procs_report result }
-{
-    let index = open(alloc, file, limits, dumps)?;
-    let procs = Procs::load(alloc, dumps, &index, limits)?;
-    Ok(procs)
+#[derive(Clone, Copy)]
+pub(crate) struct Processes<'a> {
+    pub(crate) file: &'a str,
 }
 
-pub(crate) fn run_procs<D: Dumps, K: Sink>(
-    alloc: Global,
-    file: &str,
-    limits: &Limits,
-    dumps: &mut D,
-    out: &mut K,
-) -> Result<u8, Stop>
-    ensures { Runs (procs file.now) limits.now (used D.files D.now D.faults D.taken dumps.old dumps.new) (changed K.written K.faults out.old out.new) result }
-{
-    let loaded = load(alloc, file, limits, dumps)?;
-    done(put_procs(out, &loaded))
+impl Report for Processes<'_> {
+    type Loaded = Procs;
+
+    ghost command = { λ c. procs c.file.now };
+
+    ghost text = { λ _ _ table. procs_report table };
+
+    ghost status = { λ _ _ _. DONE };
+
+    fn file(&self) -> &str {
+        self.file
+    }
+
+    fn read<D: Dumps>(&self, at: &Opened<'_>, dumps: &mut D) -> Result<Procs, Stop> {
+        Ok(Procs::load(at.alloc, dumps, at.index, at.limits)?)
+    }
+
+    fn put<K: Sink>(&self, _at: &Opened<'_>, table: &Procs, out: &mut K) -> Result<u8, Stop> {
+        done(put_procs(out, table))
+    }
 }
