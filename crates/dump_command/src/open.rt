@@ -16,7 +16,7 @@ pub(crate) fn open<D: Dumps>(
     dumps: &mut D,
 ) -> Result<Index, Stop>
     ensures { let device = used D.files D.now D.faults D.taken dumps.old dumps.new in
-        MatchResult result (λ index. HasOpened file.now limits.now device index 0) (IsUnopened file.now limits.now device) }
+        MatchResult result (λ index. HasOpened file.now limits.now device index) (IsUnopened file.now limits.now device) }
 {
     Ok(build(alloc, dumps, file, limits)?)
 }

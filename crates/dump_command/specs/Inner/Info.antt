@@ -7,4 +7,4 @@ use Rattle.dump_command.specs.declared.commands.info.Loaded.{Loaded}
 -- its text
 abbrev pub info_text : Contents → Loaded → List ℕ
 info_text index loaded =
-    info_report (version_text index.version) index.headers index.size loaded.tags loaded.first_body.items
+    info_report (version_text index.version) index.headers index.size loaded.tags loaded.first_body.bytes.items

@@ -1,11 +1,10 @@
 // `links`: the links and monitors of all processes.
 ghost use Rattle.dump_command.specs.Command.{links};
 ghost use Rattle.dump_command.specs.Inner.Audits.{links_text};
-ghost use Rattle.dump_command.specs.declared.status.TheConstants.{DONE};
 
-use crate::ending::done;
 use crate::open::Opened;
-use crate::reporting::Report;
+use crate::report::Report;
+use crate::status::DONE;
 use crate::stop::Stop;
 use dump_io::{Dumps, Sink};
 use link_graph::Graph;
@@ -24,8 +23,6 @@ impl Report for Links<'_> {
 
     ghost text = { λ _ _ procs. links_text procs };
 
-    ghost status = { λ _ _ _. DONE };
-
     fn file(&self) -> &str {
         self.file
     }
@@ -36,6 +33,7 @@ impl Report for Links<'_> {
 
     fn put<K: Sink>(&self, at: &Opened<'_>, procs: &Procs, out: &mut K) -> Result<u8, Stop> {
         let graph = Graph::build(at.alloc, procs)?;
-        done(put_links(out, procs, &graph))
+        put_links(out, procs, &graph)?;
+        Ok(DONE)
     }
 }

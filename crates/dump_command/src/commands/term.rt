@@ -6,13 +6,11 @@ ghost use Rattle.dump_command.specs.Command.{term};
 ghost use Rattle.dump_command.specs.Terms.{address_cause};
 ghost use Rattle.dump_command.specs.Inner.TermLoads.{term_text};
 ghost use Rattle.dump_command.specs.Inner.TermStops.{Judges};
-ghost use Rattle.dump_command.specs.declared.status.TheConstants.{DONE};
 
-use crate::budgets::Budget;
-use crate::commands::subjects::find_process;
-use crate::ending::done;
+use crate::commands::subjects::load_heap;
 use crate::open::Opened;
-use crate::reporting::Report;
+use crate::report::Report;
+use crate::status::DONE;
 use crate::stop::Stop;
 use binary_refs::Previews;
 use dump_io::{Dumps, Sink};
@@ -25,7 +23,8 @@ pub(crate) struct Term<'a> {
     pub(crate) file: &'a str,
     pub(crate) pid: &'a [u8],
     pub(crate) addr: u64,
-    pub(crate) budget: Budget,
+    pub(crate) nodes: u32,
+    pub(crate) marked: bool,
 }
 
 /// The heap in which the term is.
@@ -48,13 +47,11 @@ fn find_cell(heap: &Heap, addr: u64) -> Result<(), Stop>
 impl Report for Term<'_> {
     type Loaded = Loaded;
 
-    ghost command = { λ c. term c.file.now c.pid.now c.addr c.budget.nodes c.budget.marked };
+    ghost command = { λ c. term c.file.now c.pid.now c.addr c.nodes c.marked };
 
-    ghost text = { λ c _ loaded. term_text c.addr c.budget.nodes c.budget.marked loaded };
+    ghost text = { λ c _ loaded. term_text c.addr c.nodes c.marked loaded };
 
-    ghost status = { λ _ _ _. DONE };
-
-    ghost asked = { λ c. 0 < c.budget.nodes };
+    ghost asked = { λ c. 0 < c.nodes };
 
     ghost fits = { λ _ _ loaded. AreFor loaded.heap.cells loaded.previews };
 
@@ -63,8 +60,7 @@ impl Report for Term<'_> {
     }
 
     fn read<D: Dumps>(&self, at: &Opened<'_>, dumps: &mut D) -> Result<Loaded, Stop> {
-        find_process(at.alloc, at.index, self.pid)?;
-        let heap = Heap::load(at.alloc, dumps, at.index, self.pid, at.limits)?;
+        let heap = load_heap(at, dumps, self.pid, None)?;
         find_cell(&heap, self.addr)?;
         let previews = Previews::load(at.alloc, dumps, at.index, &heap)?;
         Ok(Loaded { heap, previews })
@@ -72,12 +68,7 @@ impl Report for Term<'_> {
 
     fn put<K: Sink>(&self, at: &Opened<'_>, loaded: &Loaded, out: &mut K) -> Result<u8, Stop> {
         let mut walker = Walker::new(at.alloc, &loaded.heap, &loaded.previews)?;
-        done(put_term(
-            out,
-            &mut walker,
-            self.addr,
-            self.budget.nodes,
-            self.budget.marked,
-        ))
+        put_term(out, &mut walker, self.addr, self.nodes, self.marked)?;
+        Ok(DONE)
     }
 }
