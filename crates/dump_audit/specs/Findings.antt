@@ -17,7 +17,7 @@ use Rattle.link_graph.specs.Graph.{Links, links_of, has_kind}
 use Rattle.dump_audit.specs.declared.finding.Finding.{Finding}
 use Rattle.dump_audit.specs.declared.finding.Finding.TheVariants.{LinkOneSided, MonitorTo, MonitorFrom, Mailbox, UnreadLinks, UnreadQueue, LinkGone, ToGone, FromGone, QueueCount}
 
--- what is audited: the sections of a dump and its processes; from which length on a message queue isn't told; and in a
+-- what is audited: the sections of a dump and its processes; above which length a message queue is told; and in a
 -- full audit, for each process, how many messages it has, where that is known
 pub record Audit : Type 0 where
   pub index : Contents

@@ -137,7 +137,8 @@ fn names_gone(mails: &Option<&[Option<u64>]>, state: State) -> bool
     mails.is_some() && is_whole(state)
 }
 
-fn audited_findings(
+/// What [`audit`] finds where `mails` is `None`, and else what [`audit_full`] finds with these numbers of messages.
+pub fn audit_with(
     alloc: Global,
     index: &Index,
     procs: &Procs,
@@ -169,8 +170,8 @@ fn audited_findings(
 /// then what its message queue does.
 ///
 /// A process counts unless the dump breaks off in its section. A link or a monitor between two such processes of the
-/// dumped node is told where the partner's list is read and doesn't have its counterpart. A message queue is told where
-/// its stated length is above `limit`.
+/// dumped node is told where the partner's list doesn't have its counterpart and isn't unread; a partner without a `Link
+/// list` line has no entry. A message queue is told where its stated length is above `limit`.
 pub fn audit(
     alloc: Global,
     index: &Index,
@@ -183,7 +184,7 @@ pub fn audit(
     ensures found { IfOk result (λ found. found.items ≡ findings (audit_of index.now procs.now.processes limit None)) }
     ensures fits { IfOk result (λ found. All (Fits procs.now.processes) found.items) }
 {
-    audited_findings(alloc, index, procs, graph, limit, None)
+    audit_with(alloc, index, procs, graph, limit, None)
 }
 
 /// The same with two more kinds of findings: in a whole dump the links and monitors of processes of the dumped node that
@@ -203,5 +204,5 @@ pub fn audit_full(
     ensures found { IfOk result (λ found. found.items ≡ findings (audit_of index.now procs.now.processes limit (Some mails.now))) }
     ensures fits { IfOk result (λ found. All (Fits procs.now.processes) found.items) }
 {
-    audited_findings(alloc, index, procs, graph, limit, Some(mails))
+    audit_with(alloc, index, procs, graph, limit, Some(mails))
 }

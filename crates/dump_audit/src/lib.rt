@@ -7,7 +7,7 @@ mod finding;
 mod linking;
 mod queues;
 
-pub use auditing::{audit, audit_full};
+pub use auditing::{audit, audit_full, audit_with};
 pub use finding::Finding;
 
 #[cfg(test)]

@@ -1,21 +1,16 @@
 -- What an audit is written of is what it says of the dump.
-use Rattle.std.proofs.Common.{◌≡◌, ℕ, Bool, true, List, [], ◌∷◌, map, Option, None, Some, refl, ◌∙◌, ap, if◌then◌else◌}
-use Rattle.std.specs.Prelude.{IsTrue}
-use Rattle.dump_io.specs.Dumps.{Use}
-use Rattle.dump_io.specs.Limits.{Numbers}
+use Rattle.std.proofs.Common.{◌≡◌, ℕ, Bool, List, [], ◌∷◌, map, Option, None, Some, refl, ◌∙◌, ap, inl, inr, if◌then◌else◌}
 use Rattle.dump_io.specs.Lines.{headers}
 use Rattle.section_index.specs.Index.{Contents, IsIndexOf, index_of, sections_in, state_of}
 use Rattle.section_index.specs.Laws.{index-is}
 use Rattle.process_table.specs.Processes.{Process, process_table}
-use Rattle.dump_audit.specs.Findings.{Audit, audit_of, findings}
-use Rattle.dump_command.specs.Audits.{audit_in, mail_in, mailbox_places, mails, status_of}
-use Rattle.dump_command.specs.Command.{Command, file_of}
-use Rattle.dump_command.specs.Report.{report, report_status, refusal_opened, finds}
-use Rattle.dump_command.specs.Run.{is_one_of}
-use Rattle.dump_command.specs.Inner.Loads.{IsReady}
-use Rattle.dump_command.specs.Inner.Opened.{HasOpened, IsIndexed}
-use Rattle.dump_command.specs.declared.status.TheConstants.{DONE, FOUND}
-use Rattle.dump_command.proofs.Loads.{IsAllowed, TakesAtMost-opened, file-of, refusal-accepted, sections-index, there-opened}
+use Rattle.dump_audit.specs.Findings.{audit_of}
+use Rattle.audit_bodies.specs.Mailboxes.{mail_in, mailbox_places, mails}
+use Rattle.dump_command.specs.Audits.{audit_in, status_of}
+use Rattle.dump_audit.specs.declared.finding.Finding.{Finding}
+use Rattle.dump_command.specs.Command.{audit}
+use Rattle.dump_command.specs.Inner.Runs.{IsEnding}
+use Rattle.dump_command.proofs.Runs.{sections-index}
 
 -- the numbers of messages
 pub mails-told : (bytes : List ℕ) (index : Contents) → IsIndexOf bytes index
@@ -34,27 +29,7 @@ audit-told bytes index processes limit full counts of table counted =
     ∙ ap (λ ps. audit_of (index_of bytes) ps limit counts) table
     ∙ ap (λ m. audit_of (index_of bytes) (process_table bytes).processes limit m) (counted ∙ ap (λ m. if full then Some m else None) (mails-told bytes index of))
 
--- a status of an audit is one of two
-pub status-whole : (a : Audit) → is_one_of (DONE ∷ FOUND ∷ []) (status_of (findings a)) ≡ true
-status-whole a = of (findings a)
-  where
-    of : (found : List _) → is_one_of (DONE ∷ FOUND ∷ []) (status_of found) ≡ true
-    of [] = refl
-    of (f ∷ fs) = refl
-
--- all was loaded, for a report with this status
-pub IsReady-with : (cmd : Command) (name : List ℕ) (limits : Numbers) (device : Use) (index : Contents) (more : ℕ) (text : List ℕ) (status : ℕ) → file_of cmd ≡ Some name
-    → HasOpened name limits device index more → IsAllowed cmd limits device index more
-    → IsTrue (is_one_of (DONE ∷ FOUND ∷ []) status) → (status ≡ FOUND → IsTrue (finds cmd))
-    → ((bytes : List ℕ) → IsIndexed bytes limits index device.now_after → (refusal_opened cmd bytes limits ≡ None) × (text ≡ report cmd bytes) × (status ≡ report_status cmd bytes))
-    → IsReady cmd limits device text status
-IsReady-with cmd name limits device index more text status named opened few whole found ready =
-    record {
-      there = there-opened cmd name limits device index more named opened;
-      whole = whole;
-      found = found;
-      told = λ bytes dump.
-          let all = opened.told bytes (file-of cmd name device bytes named dump) in
-          let right = ready bytes all in (refusal-accepted cmd name bytes limits named all.accepted ∙ right.0, right.1, right.2);
-      taken = TakesAtMost-opened cmd name limits device index more named opened few;
-    }
+-- a status of an audit is 0, or 3 where it has a finding
+pub audit-ends : (file : List ℕ) (limit : ℕ) (full : Bool) (found : List Finding) → IsEnding (audit file limit full) (status_of found)
+audit-ends file limit full [] = inl refl
+audit-ends file limit full (f ∷ fs) = inr (refl, refl)

@@ -1,13 +1,14 @@
--- What the load of a binary gives, by what was opened and read.
-use Rattle.std.proofs.Common.{◌≡◌, ℕ, ◌≤◌, Bool, true, false, if◌then◌else◌, List, [], Option, None, Some, Err, codes, refl, sym, ◌∙◌, ap, arith}
-use Rattle.std.specs.Prelude.{nat_lt, position, IfSome, IsErrOf}
+-- What the load of a binary gives, by what was read.
+use Rattle.std.proofs.Common.{◌≡◌, ℕ, ◌≤◌, Bool, true, false, if◌then◌else◌, List, [], Option, None, Some, Err, codes, refl, sym, ◌∙◌, ap, subst, arith}
+use Rattle.std.specs.Prelude.{nat_lt, position, IfSome, IsErrOf, IsSome}
 use Rattle.std.specs.List.{slice_get}
 use Rattle.std.specs.Option.{option_and_then, option_map, option_or}
 use Rattle.std.specs.Global.{Vec}
+use Rattle.std.proofs.lemmas.Bool.{lt-ltb}
 use Rattle.std.proofs.lemmas.List.Sums.{sum_by-cons}
 use Rattle.std.proofs.lemmas.Option.{slice_get-get_or, unwrap_or-slice_get}
 use Rattle.std.proofs.lemmas.List.Quantifiers.{position-Some}
-use Rattle.dump_io.specs.Dumps.{Use, DeviceFailed}
+use Rattle.dump_io.specs.Dumps.{Now, Use, told}
 use Rattle.dump_io.specs.Limits.{Numbers}
 use Rattle.section_index.specs.Bodies.{body_length}
 use Rattle.section_index.specs.Index.{Contents, IsIndexOf, index_of, sections_in}
@@ -20,14 +21,14 @@ use Rattle.binary_refs.specs.declared.faults.BinFault.{BinFault}
 use Rattle.binary_refs.specs.declared.faults.BinFault.TheVariants as faults
 use Rattle.report_text.specs.declared.refusals.Refusal.TheVariants.{SectionTooLarge, NoBinary, BadBinary}
 use Rattle.dump_command.specs.Command.{binary}
-use Rattle.dump_command.specs.Report.{bytes_in, one_of, refusal_opened, too_large}
+use Rattle.dump_command.specs.Report.{one_of, refusal_listed, reread, too_large}
+use Rattle.section_rows.specs.Loading.{bodies_length}
 use Rattle.dump_command.specs.Terms.{bad_binary, bad_cause, binary_at, binary_cause}
-use Rattle.dump_command.specs.Inner.Loads.{IsStopped}
-use Rattle.dump_command.specs.Inner.Opened.{HasOpened, IsIndexed}
+use Rattle.dump_command.specs.Inner.Opened.{IsIndexed}
+use Rattle.dump_command.specs.Inner.Reading.{IsHalted, Takes}
 use Rattle.dump_command.specs.Inner.TermStops.{stop_of_binary}
-use Rattle.dump_command.proofs.Loads.{IsAllowed, IsAllowed-bodies, IsStopped-no_memory, IsStopped-refused, IsStopped-unread, sections-index, too_large-first, too_large-index}
 use Rattle.dump_command.proofs.Places.{found-at, not-found}
-use Rattle.dump_command.proofs.TermLoads.{refused-loaded, refused-subject}
+use Rattle.dump_command.proofs.Runs.{sections-index}
 
 -- the section of the binary is the first that passes the test
 found-place : (addr : ℕ) (index : Contents) (place : Option ℕ) → position (λ s. has_hex (codes "binary") addr s.text) (sections_in index) ≡ place
@@ -42,15 +43,9 @@ found-place addr index (Some i) is =
 pub binary-found : (addr : ℕ) (index : Contents) → binary_section index addr ≡ binary_at addr (sections_in index)
 binary-found addr index = found-place addr index _ refl
 
-bytes-found : (found : Option Section) → found_length found ≡ bytes_in (one_of found)
+bytes-found : (found : Option Section) → found_length found ≡ bodies_length (one_of found)
 bytes-found None = refl
 bytes-found (Some s) = omega (arith, sum_by-cons body_length s [])
-
-pub IsAllowed-binary : (file : List ℕ) (addr : ℕ) (limits : Numbers) (device : Use) (index : Contents) (more : ℕ) → more ≤ found_length (binary_section index addr)
-    → IsAllowed (binary file addr) limits device index more
-IsAllowed-binary file addr limits device index more few =
-    IsAllowed-bodies (binary file addr) limits device index more (λ bytes. refl)
-    (omega (arith, few, ap (λ f. found_length f) (binary-found addr index), bytes-found (binary_at addr (sections_in index))))
 
 -- the binary is there, and its bytes are those of the dump's
 pub bytes-index : (bytes : List ℕ) (index : Contents) (addr : ℕ) → IsIndexOf bytes index → whole_bytes bytes index addr ≡ whole_bytes bytes (index_of bytes) addr
@@ -67,54 +62,92 @@ found-small limit addr None none = absurd (let no : ⊥ = cc (none) in no)
 found-small limit addr (Some s) none =
     (refl, ap (λ b. option_map (λ (x : Section). SectionTooLarge x.at (body_length x)) (if b then Some s else None)) (there-small (nat_lt limit (body_length s)) s none))
 
--- the command isn't refused before the bytes are judged
-pub binary-loaded : (file : List ℕ) (addr : ℕ) (bytes : List ℕ) (limits : Numbers) (index : Contents) → IsIndexOf bytes index
-    → refused limits.section (binary_section index addr) ≡ None → refusal_opened (binary file addr) bytes limits ≡ bad_binary addr bytes
-binary-loaded file addr bytes limits index of none =
+-- neither refusal before the read holds
+pub listed-binary : (file : List ℕ) (addr : ℕ) (limits : Numbers) (index : Contents) → refused limits.section (binary_section index addr) ≡ None
+    → refusal_listed (binary file addr) (sections_in index) limits ≡ None
+listed-binary file addr limits index none =
     let both = found-small limits.section addr (binary_section index addr) none in
-    let here = binary-found addr index in
-    refused-loaded (binary file addr) bytes limits index of (ap (binary_cause addr) (sym here) ∙ both.0)
-    ∙ ap (λ o. option_or o (bad_binary addr bytes))
-    (too_large-index (binary file addr) limits.section bytes index of ∙ ap (λ f. too_large limits.section (one_of f)) (sym here) ∙ both.1)
+    ap (λ f. option_or (binary_cause addr f) (too_large limits.section (one_of f))) (sym (binary-found addr index))
+    ∙ ap (λ o. option_or o (too_large limits.section (one_of (binary_section index addr)))) both.0 ∙ both.1
+
+-- where one does nothing was read
+unread-found : {P : Type 0} (limit addr : ℕ) (found : Option Section) → IfSome (refused limit found) (λ fault. P)
+    → IsSome (option_or (binary_cause addr found) (too_large limit (one_of found))) → P
+unread-found limit addr None unread some = unread
+unread-found {P} limit addr (Some s) unread some =
+    (elim (nat_lt limit (body_length s))
+    as (λ b. IfSome (if b then Some (faults.SectionTooLarge s.at (body_length s)) else None) (λ fault. P)
+    → IsSome (option_map (λ (x : Section). SectionTooLarge x.at (body_length x)) (if b then Some s else None)) → P)
+    [ true ↦ λ unread some. unread | false ↦ λ unread some. absurd (let no : ⊥ = cc (some) in no) ]) unread some
+
+pub unread-binary : {P : Type 0} (file : List ℕ) (addr : ℕ) (limits : Numbers) (index : Contents) → IfSome (refused limits.section (binary_section index addr)) (λ fault. P)
+    → IsSome (refusal_listed (binary file addr) (sections_in index) limits) → P
+unread-binary file addr limits index unread some =
+    unread-found limits.section addr (binary_section index addr) unread
+    (subst IsSome (ap (λ f. option_or (binary_cause addr f) (too_large limits.section (one_of f))) (sym (binary-found addr index))) some)
+
+-- what is taken is the body
+pub few-binary : (file : List ℕ) (addr : ℕ) (limits : Numbers) (index : Contents) (now : Now) (bytes : List ℕ) → IsIndexed bytes limits index now
+    → found_length (binary_section index addr) ≤ reread (binary file addr) bytes
+few-binary file addr limits index now bytes all =
+    omega (
+      arith,
+      ap (λ f. found_length f) (binary-found addr index),
+      bytes-found (binary_at addr (sections_in index)),
+      ap (λ ss. bodies_length (one_of (binary_at addr ss))) (sections-index bytes index all.of),
+    )
 
 -- a malformed binary is refused as such where neither refusal before the read holds
 bad-test : (b : Bool) (at : ℕ) (s : Section) → IfSome (if b then Some (faults.SectionTooLarge s.at (body_length s)) else None) (IsErrOf {T = Vec ℕ} (Err (faults.BadBinary at)))
     → (if b then Some (faults.SectionTooLarge s.at (body_length s)) else None) ≡ None
-bad-test true at s told = absurd (let no : ⊥ = cc (told) in no)
-bad-test false at s told = refl
+bad-test true at s tells = absurd (let no : ⊥ = cc (tells) in no)
+bad-test false at s tells = refl
 
 bad-small : (limit at : ℕ) (found : Option Section) → IfSome (refused limit found) (IsErrOf {T = Vec ℕ} (Err (faults.BadBinary at))) → refused limit found ≡ None
-bad-small limit at None told = absurd (let no : ⊥ = cc (told) in no)
-bad-small limit at (Some s) told = bad-test (nat_lt limit (body_length s)) at s told
+bad-small limit at None tells = absurd (let no : ⊥ = cc (tells) in no)
+bad-small limit at (Some s) tells = bad-test (nat_lt limit (body_length s)) at s tells
 
 -- the bytes weren't given
-pub IsStopped-binary : (file : List ℕ) (addr : ℕ) (limits : Numbers) (device step : Use) (index : Contents) (more : ℕ) (fault : BinFault)
-    → HasOpened file limits device index more → IsAllowed (binary file addr) limits device index more
-    → IsBinCauseOf (binary_section index addr) limits.section step fault → (DeviceFailed step → DeviceFailed device)
+pub IsHalted-binary : (file : List ℕ) (addr : ℕ) (limits : Numbers) (index : Contents) (step : Use) (fault : BinFault) → Takes (binary file addr) limits index step
+    → IsBinCauseOf (binary_section index addr) limits.section step fault
     → IfSome (refused limits.section (binary_section index addr)) (IsErrOf {T = Vec ℕ} (Err fault))
-    → ((bytes : List ℕ) → IsIndexed bytes limits index device.now_after → IsBadFor (whole_bytes bytes index addr) fault)
-    → IsStopped (binary file addr) limits device (stop_of_binary addr fault)
-IsStopped-binary file addr limits device step index more faults.Read opened few cause later first bad =
-    IsStopped-unread (binary file addr) file limits device index more refl opened few (later cause)
-IsStopped-binary file addr limits device step index more faults.Memory opened few cause later first bad =
-    IsStopped-no_memory (binary file addr) file limits device index more refl opened few
-IsStopped-binary file addr limits device step index more faults.NoBinary opened few cause later first bad =
-    IsStopped-refused (binary file addr) file limits device index more (NoBinary addr) refl opened few tt
-    (λ bytes all. refused-subject (binary file addr) bytes limits index (NoBinary addr) all.of (ap (binary_cause addr) (sym (binary-found addr index) ∙ cause)))
-IsStopped-binary file addr limits device step index more (faults.SectionTooLarge at len) opened few cause later first bad =
+    → ((bytes : List ℕ) → step.now_before ≡ told bytes → IsBadFor (whole_bytes bytes index addr) fault)
+    → IsHalted (binary file addr) limits index step (stop_of_binary addr fault)
+IsHalted-binary file addr limits index step faults.Read takes cause first bad = record { takes = takes; cause = cause }
+IsHalted-binary file addr limits index step faults.Memory takes cause first bad = record { takes = takes; cause = tt }
+IsHalted-binary file addr limits index step faults.NoBinary takes cause first bad =
+    record {
+      takes = takes;
+      cause = (
+        tt,
+        λ bytes all. ap (λ f. option_or (option_or (binary_cause addr f) (too_large limits.section (one_of f))) (bad_binary addr bytes))
+            (sym (binary-found addr index) ∙ cause),
+      );
+    }
+IsHalted-binary file addr limits index step (faults.SectionTooLarge at len) takes cause first bad =
     let s = cause.0 in
-    let here : binary_at addr (sections_in index) ≡ Some s = sym (binary-found addr index) ∙ cause.1 in
-    IsStopped-refused (binary file addr) file limits device index more (SectionTooLarge at len) refl opened few tt
-    (λ bytes all. refused-loaded (binary file addr) bytes limits index all.of (ap (binary_cause addr) here)
-    ∙ ap (λ o. option_or o (bad_binary addr bytes))
-    (too_large-index (binary file addr) limits.section bytes index all.of ∙ ap (λ f. too_large limits.section (one_of f)) here ∙ too_large-first limits.section s [] cause.4
-    ∙ ap (λ n. Some (SectionTooLarge n (body_length s))) (sym cause.2) ∙ ap (λ n. Some (SectionTooLarge at n)) (sym cause.3)))
-IsStopped-binary file addr limits device step index more (faults.BadBinary at) opened few cause later first bad =
+    record {
+      takes = takes;
+      cause = (
+        tt,
+        λ bytes all. ap (λ f. option_or (option_or (binary_cause addr f) (too_large limits.section (one_of f))) (bad_binary addr bytes))
+            (sym (binary-found addr index) ∙ cause.1)
+            ∙ ap (λ b. option_or (option_map (λ (x : Section). SectionTooLarge x.at (body_length x)) (if b then Some s else None)) (bad_binary addr bytes))
+            (lt-ltb limits.section (body_length s) cause.4)
+            ∙ ap (λ n. Some (SectionTooLarge n (body_length s))) (sym cause.2) ∙ ap (λ n. Some (SectionTooLarge at n)) (sym cause.3),
+      );
+    }
+IsHalted-binary file addr limits index step (faults.BadBinary at) takes cause first bad =
     let s = cause.0 in
-    IsStopped-refused (binary file addr) file limits device index more (BadBinary at) refl opened few tt
-    (λ bytes all.
-    let here : binary_at addr (sections bytes) ≡ Some s = ap (binary_at addr) (sym (sections-index bytes index all.of)) ∙ sym (binary-found addr index) ∙ cause.1 in
-    binary-loaded file addr bytes limits index all.of (bad-small limits.section at (binary_section index addr) first)
-    ∙ ap (λ f. bad_cause f (whole_bytes bytes (index_of bytes) addr)) here
-    ∙ ap (bad_cause (Some s)) (sym (bytes-index bytes index addr all.of) ∙ bad bytes all)
-    ∙ ap (λ n. Some (BadBinary n)) (sym cause.2))
+    record {
+      takes = takes;
+      cause = (
+        tt,
+        λ bytes all.
+            let here : binary_at addr (sections bytes) ≡ Some s = ap (binary_at addr) (sym (sections-index bytes index all.of)) ∙ sym (binary-found addr index) ∙ cause.1 in
+            ap (λ o. option_or o (bad_binary addr bytes)) (listed-binary file addr limits index (bad-small limits.section at (binary_section index addr) first))
+            ∙ ap (λ f. bad_cause f (whole_bytes bytes (index_of bytes) addr)) here
+            ∙ ap (bad_cause (Some s)) (sym (bytes-index bytes index addr all.of) ∙ bad bytes all.opened)
+            ∙ ap (λ n. Some (BadBinary n)) (sym cause.2),
+      );
+    }

@@ -1,5 +1,5 @@
 -- The heap that a command loads is that of the process in the dump.
-use Rattle.std.proofs.Common.{◌≡◌, ℕ, ◌+◌, ◌≤◌, Bool, true, false, if◌then◌else◌, List, [], ◌++◌, Option, None, Some, Err, codes, refl, sym, ◌∙◌, ap, append-nil, arith}
+use Rattle.std.proofs.Common.{◌≡◌, ℕ, ◌+◌, ◌≤◌, Bool, true, false, if◌then◌else◌, List, [], ◌∷◌, ◌++◌, Option, None, Some, Err, codes, refl, sym, ◌∙◌, ap, append-nil, arith}
 use Rattle.std.specs.Prelude.{find, nat_lt, position, IsErrOf}
 use Rattle.std.specs.Option.{option_map, option_or}
 use Rattle.std.proofs.lemmas.Bool.{ltb-false}
@@ -16,22 +16,13 @@ use Rattle.heap_cells.specs.declared.faults.HeapFault.{HeapFault}
 use Rattle.heap_cells.specs.declared.faults.HeapFault.TheVariants as faults
 use Rattle.report_text.specs.declared.refusals.Refusal.{Refusal}
 use Rattle.report_text.specs.declared.refusals.Refusal.TheVariants.{SectionTooLarge}
-use Rattle.section_rows.specs.Loading.{first_large}
-use Rattle.dump_command.specs.Report.{bytes_in, heap_bodies, one_of, too_large}
+use Rattle.section_rows.specs.Loading.{bodies_length, first_large}
+use Rattle.dump_command.specs.Report.{heap_bodies, one_of, too_large}
 use Rattle.dump_command.specs.Terms.{heap_body, heap_map, heap_of, literals_body, literals_of, payloads_of}
 use Rattle.dump_command.specs.Inner.TermStops.{stop_of_heap}
 use Rattle.dump_command.specs.declared.stop.Stop.TheVariants.{Refused}
-use Rattle.dump_command.proofs.Loads.{sections-index, too_large-append}
-use Rattle.dump_command.proofs.Places.{found-at, not-found}
-
--- the section at the first place of a test is the first section that passes it
-section-found : (p : Section → Bool) (index : Contents) (place : Option ℕ) → position p (sections_in index) ≡ place → section_in index place ≡ find p (sections_in index)
-section-found p index None is = sym (not-found p (sections_in index) is)
-section-found p index (Some i) is = sym (found-at p (sections_in index) i (section 0 0 0 []) is)
-
-pub section-named : (tag pid : List ℕ) (index : Contents) (place : Option ℕ) → place ≡ position (λ s. is_named tag (Some pid) s.text) (sections_in index)
-    → section_in index place ≡ find (λ s. is_named tag (Some pid) s.text) (sections_in index)
-section-named tag pid index place is = section-found (λ s. is_named tag (Some pid) s.text) index place (sym is)
+use Rattle.dump_command.proofs.Places.{section-found}
+use Rattle.dump_command.proofs.Runs.{sections-index}
 
 pub heap-found : (pid : List ℕ) (index : Contents) → heap_section index pid ≡ heap_of pid (sections_in index)
 heap-found pid index = section-found (λ s. is_named (codes "proc_heap") (Some pid) s.text) index _ refl
@@ -41,12 +32,12 @@ literals-found index = section-found (λ s. has_tag (codes "literals") s.text) i
 
 -- ---- how many bytes they have
 
-bytes-one : (found : Option Section) (rest : List Section) → bytes_in (one_of found ++ rest) ≡ body_size found + bytes_in rest
+bytes-one : (found : Option Section) (rest : List Section) → bodies_length (one_of found ++ rest) ≡ body_size found + bodies_length rest
 bytes-one None rest = omega arith
 bytes-one (Some s) rest = sum_by-cons body_length s rest
 
 pub bytes-heap : (pid : List ℕ) (index : Contents)
-    → bytes_in (heap_bodies pid (sections_in index)) ≡ body_size (heap_section index pid) + body_size (literals_section index)
+    → bodies_length (heap_bodies pid (sections_in index)) ≡ body_size (heap_section index pid) + body_size (literals_section index)
 bytes-heap pid index =
     let heap = heap_of pid (sections_in index) in
     let literals = literals_of (sections_in index) in
@@ -54,19 +45,29 @@ bytes-heap pid index =
       arith,
       bytes-one heap (one_of literals),
       bytes-one literals [],
-      ap (λ l. bytes_in l) (append-nil (one_of literals)),
+      ap (λ l. bodies_length l) (append-nil (one_of literals)),
       ap body_size (heap-found pid index),
       ap body_size (literals-found index),
     )
 
 pub bytes-roots : (found : Option Section) (pid : List ℕ) (index : Contents)
-    → bytes_in (one_of found ++ heap_bodies pid (sections_in index)) ≡ body_size found + (body_size (heap_section index pid) + body_size (literals_section index))
+    → bodies_length (one_of found ++ heap_bodies pid (sections_in index)) ≡ body_size found + (body_size (heap_section index pid) + body_size (literals_section index))
 bytes-roots found pid index = omega (arith, bytes-one found (heap_bodies pid (sections_in index)), bytes-heap pid index)
 
 -- ---- which of them is too large
 
 abbrev refused : Section → Refusal
 refused s = SectionTooLarge s.at (body_length s)
+
+-- of bodies in a row the first that is too large is refused
+pub too_large-append : (limit : ℕ) (xs ys : List Section) → too_large limit (xs ++ ys) ≡ option_or (too_large limit xs) (too_large limit ys)
+too_large-append limit [] ys = refl
+too_large-append limit (s ∷ xs) ys =
+    elim (nat_lt limit (body_length s)) as (λ b. option_map refused (if b then Some s else first_large limit (xs ++ ys))
+    ≡ option_or (option_map refused (if b then Some s else first_large limit xs)) (too_large limit ys)) [
+      | true ↦ refl
+      | false ↦ too_large-append limit xs ys
+    ]
 
 fault-one : (limit : ℕ) (found : Option Section) → option_map stop_of_heap (heap_too_large limit found) ≡ option_map Refused (too_large limit (one_of found))
 fault-one limit None = refl

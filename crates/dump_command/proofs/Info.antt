@@ -4,7 +4,7 @@ use Rattle.std.specs.Str.{bytes_eq}
 use Rattle.std.proofs.lemmas.Slice.Eq.{bytes_eq-Decides}
 use Rattle.dump_io.specs.Dumps.{Now, told}
 use Rattle.dump_io.specs.Lines.{headers}
-use Rattle.section_index.specs.Bodies.{section_at, IsBodyOf}
+use Rattle.heap_cells.specs.Loading.{section_in, IsBodyIn}
 use Rattle.section_index.specs.Index.{Contents, IsIndexOf}
 use Rattle.section_index.specs.Opening.{first_id, version_named}
 use Rattle.section_index.specs.Sections.{sections}
@@ -14,7 +14,7 @@ use Rattle.section_index.specs.declared.opening.Version.TheVariants.{V03, V04, V
 use Rattle.report_text.specs.Reports.{info_report, version_text}
 use Rattle.dump_command.specs.Command.{info}
 use Rattle.dump_command.specs.Report.{report, first_section, tags_of, body_of}
-use Rattle.dump_command.proofs.Loads.{sections-index}
+use Rattle.dump_command.proofs.Runs.{sections-index}
 
 chosen : (a b c : Bool) (version : Version) → (if a then Some V03 else (if b then Some V04 else (if c then Some V05 else None))) ≡ Some version
     → ((a ≡ true) × (version ≡ V03)) ⊎ ((b ≡ true) × (version ≡ V04)) ⊎ ((c ≡ true) × (version ≡ V05))
@@ -35,10 +35,10 @@ version_text-named id version is =
     ]
 
 pub info_text-report : (file bytes : List ℕ) (now : Now) (index : Contents) (body : List ℕ) (tags : List (List ℕ × ℕ)) → IsIndexOf bytes index → now ≡ told bytes
-    → IsBodyOf now (section_at index 0) body → tags ≡ tag_counts (tags_in index)
+    → IsBodyIn now (section_in index (Some 0)) body → tags ≡ tag_counts (tags_in index)
     → info_report (version_text index.version) index.headers index.size tags body ≡ report (info file) bytes
 info_text-report file bytes now index body tags of is body_is tags_are =
-    let body_told : IsBodyOf (told bytes) (section_at index 0) body = subst (λ n. IsBodyOf n (section_at index 0) body) is body_is in
+    let body_told : IsBodyIn (told bytes) (section_in index (Some 0)) body = subst (λ n. IsBodyIn n (section_in index (Some 0)) body) is body_is in
     let same = sections-index bytes index of in
     ap (λ v. info_report v index.headers index.size tags body) (version_text-named (first_id bytes) index.version of.version)
     ∙ ap (λ hs. info_report (first_id bytes) hs index.size tags body) of.headers

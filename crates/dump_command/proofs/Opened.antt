@@ -48,7 +48,7 @@ closed-absent (Some files) name (sized size) named gone = absurd (let no : ⊥ =
 -- an index was built
 pub HasOpened-built : (name : List ℕ) (limits : Numbers) (device : Use) (index : Contents) → ReadsFile device name
     → ((bytes : List ℕ) → IsFileOf device name bytes → IsAnswerFor bytes limits (Ok index))
-    → (IsAbsent device.files_before name → IsErrOf (Ok index) Read) → IsBuiltOver device.now_after index → HasOpened name limits device index 0
+    → (IsAbsent device.files_before name → IsErrOf (Ok index) Read) → IsBuiltOver device.now_after index → HasOpened name limits device index
 HasOpened-built name limits device index reads answer absent over =
     record {
       there = λ gone. let no : ⊥ = cc (absent gone) in no;
@@ -92,27 +92,4 @@ IsUnopened-built name limits device fault reads answer absent read =
       };
       gone = closed-absent device.files_before name device.now_after reads.now;
       taken = λ bytes file. omega (arith, reads.taken_most, size-file device.files_before name device.now_after bytes reads.now file);
-    }
-
-stays : (told_files : Option Files) (before now : Now) (name bytes : List ℕ) → now ≡ before
-    → IsHeld told_files name bytes ⊎ (now ≡ told bytes) → IsHeld told_files name bytes ⊎ (before ≡ told bytes)
-stays told_files before now name bytes same (inl is) = inl is
-stays told_files before now name bytes same (inr is) = inr (sym same ∙ is)
-
--- bytes were read of a dump that was opened
-pub HasOpened-read : {D : Type 0} (files : D → Option Files) (now : D → Now) (faults taken : D → ℕ) (a b c : D)
-    (name : List ℕ) (limits : Numbers) (index : Contents) (more count : ℕ)
-    → HasOpened name limits (used files now faults taken a b) index more → ReadsAtMost (used files now faults taken b c) count
-    → HasOpened name limits (used files now faults taken a c) index (more + count)
-HasOpened-read files now faults taken a b c name limits index more count opened step =
-    record {
-      there = opened.there;
-      same_files = step.same_files ∙ opened.same_files;
-      later = omega (arith, opened.later, step.later);
-      over = subst (λ n. IsBuiltOver n index) (sym step.same_now) opened.over;
-      told = λ bytes file.
-          let all = opened.told bytes (stays (files a) (now b) (now c) name bytes step.same_now file) in
-          record { accepted = all.accepted; of = all.of; opened = step.same_now ∙ all.opened };
-      taken = λ bytes file.
-          omega (arith, step.taken_most, opened.taken bytes (stays (files a) (now b) (now c) name bytes step.same_now file));
     }

@@ -1,5 +1,8 @@
 -- The first section that passes a test, by its place.
-use Rattle.std.proofs.Common.{◌≡◌, ℕ, Bool, true, false, List, length, None, Some, sym, ◌∙◌, ap, inl, inr}
+use Rattle.std.proofs.Common.{◌≡◌, ℕ, Bool, true, false, List, [], length, Option, None, Some, sym, ◌∙◌, ap, inl, inr}
+use Rattle.section_index.specs.Index.{Contents, sections_in}
+use Rattle.section_index.specs.Sections.{Section, section}
+use Rattle.heap_cells.specs.Loading.{section_in}
 use Rattle.std.specs.Prelude.{cond, find, nat_lt, position}
 use Rattle.std.specs.List.{slice_get, position_or_len}
 use Rattle.std.specs.Option.{unwrap_or}
@@ -27,3 +30,8 @@ not-found p xs is =
       | inl q ↦ absurd (let no : ⊥ = cc (ap (λ b. cond b (Some n) None) (lt-ltb n (length xs) q.1), is) in no)
       | inr q ↦ q.1
     ]
+
+-- the section at the first place of a test is the first section that passes it
+pub section-found : (p : Section → Bool) (index : Contents) (place : Option ℕ) → position p (sections_in index) ≡ place → section_in index place ≡ find p (sections_in index)
+section-found p index None is = sym (not-found p (sections_in index) is)
+section-found p index (Some i) is = sym (found-at p (sections_in index) i (section 0 0 0 []) is)

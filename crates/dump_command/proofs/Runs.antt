@@ -1,59 +1,234 @@
--- What a command leaves, by what it loaded and wrote.
-use Rattle.std.proofs.Common.{◌≡◌, ℕ, List, Result, Ok, Err, MatchResult, ◌∙◌, ap, subst, inl, inr}
+-- What the run of a command leaves, by what was opened, read and written.
+use Rattle.std.proofs.Common.{◌≡◌, ◌⊎◌, ◌≤◌, ℕ, List, [], Option, None, Some, Result, Ok, Err, MatchResult, refl, sym, ◌∙◌, ap, subst, inl, inr, arith}
+use Rattle.std.specs.Option.{option_and, option_map, option_or}
+use Rattle.dump_io.specs.Dumps.{Files, Now, closed, told, IsAbsent, Use, used}
 use Rattle.dump_io.specs.Limits.{Numbers}
-use Rattle.dump_io.specs.Dumps.{Use}
-use Rattle.dump_io.specs.Sinks.{Change, IsKept, GainsFront, Puts}
-use Rattle.dump_io.specs.Sinks.{grown}
-use Rattle.dump_command.specs.Command.{Command}
-use Rattle.dump_command.specs.Run.{EndsTold}
-use Rattle.dump_command.specs.declared.status.TheConstants.{UNWRITTEN}
-use Rattle.dump_command.specs.Inner.Loads.{IsStopped, IsReady, Runs}
-use Rattle.dump_command.specs.Inner.Stops.{done_of}
+use Rattle.dump_io.specs.Lines.{headers}
+use Rattle.dump_io.specs.Sinks.{Change, GainsFront, IsKept, Puts, grown}
+use Rattle.section_index.specs.Index.{Contents, IsFileOf, IsHeld, IsIndexOf, sections_in}
+use Rattle.section_index.specs.Opening.{opening}
+use Rattle.section_index.specs.Sections.{sections, sections_of}
+use Rattle.report_text.specs.declared.refusals.Refusal.TheVariants.{Open}
+use Rattle.dump_command.specs.Command.{Command, file_of}
+use Rattle.dump_command.specs.Report.{report, report_status, refusal, refusal_held, refusal_listed, refusal_unread, reread, unless_refused}
+use Rattle.dump_command.specs.Run.{EndsTold, IsDumpOf, IsInputOf, IsMissing, IsMissingFrom, IsUnreadFrom, TakesAtMost}
+use Rattle.dump_command.specs.Inner.Alone.{IsIdle, RunsAlone}
+use Rattle.dump_command.specs.Inner.Opened.{HasOpened, IsIndexed, IsUnopened}
+use Rattle.dump_command.specs.Inner.Reading.{HasRead, IsHalted, Takes, Tells, refusal_over}
+use Rattle.dump_command.specs.Inner.Runs.{IsEnding, Runs}
 use Rattle.dump_command.specs.declared.stop.Stop.{Stop}
 use Rattle.dump_command.specs.declared.stop.Stop.TheVariants.{Refused, NotRead, NotWritten, NoMemory}
 
--- a command that stopped before its first write
-pub Runs-stopped : (cmd : Command) (limits : Numbers) (device : Use) (out : Change) (stop : Stop) → IsStopped cmd limits device stop → IsKept out
-    → Runs cmd limits device out (Err stop)
-Runs-stopped cmd limits device out (Refused why) stopped kept = record { left = (stopped.cause, kept); gone = stopped.gone; taken = stopped.taken }
-Runs-stopped cmd limits device out NotRead stopped kept = record { left = (stopped.cause, kept); gone = stopped.gone; taken = stopped.taken }
-Runs-stopped cmd limits device out NotWritten stopped kept = absurd stopped.cause
-Runs-stopped cmd limits device out NoMemory stopped kept = record { left = kept; gone = stopped.gone; taken = stopped.taken }
+-- ---- a dump by its index
 
--- a command that wrote its report, or a front of it
-pub Runs-put : {E : Type 0} (cmd : Command) (limits : Numbers) (device : Use) (out : Change) (text : List ℕ) (status : ℕ) (written : Result (Unit {0}) E)
-    → IsReady cmd limits device text status → Puts out text written → Runs cmd limits device out (done_of status written)
-Runs-put cmd limits device out text status (Ok value) ready puts =
+-- the sections of an index are those of the dump
+pub sections-index : (bytes : List ℕ) (index : Contents) → IsIndexOf bytes index → sections_in index ≡ sections bytes
+sections-index bytes index of =
+    ap (λ hs. sections_of hs index.size) of.headers ∙ ap (λ n. sections_of (headers bytes) n) of.size
+
+-- the bytes of a command are those of its file
+file-of : (cmd : Command) (name : List ℕ) (device : Use) (bytes : List ℕ) → file_of cmd ≡ Some name → IsDumpOf device cmd bytes → IsFileOf device name bytes
+file-of cmd name device bytes named dump = subst (λ f. IsInputOf device f bytes) named dump
+
+-- a command with a file is refused for the opening, and else for what stands behind it
+refusal-named : (cmd : Command) (name bytes : List ℕ) (limits : Numbers) → file_of cmd ≡ Some name
+    → refusal cmd bytes limits ≡ option_or (refusal_unread cmd bytes limits) (refusal_held cmd bytes limits)
+refusal-named cmd name bytes limits named = ap (λ f. option_and f (option_or (refusal_unread cmd bytes limits) (refusal_held cmd bytes limits))) named
+
+unread-indexed : (cmd : Command) (bytes : List ℕ) (limits : Numbers) (index : Contents) (now : Now) → IsIndexed bytes limits index now
+    → refusal_unread cmd bytes limits ≡ refusal_listed cmd (sections_in index) limits
+unread-indexed cmd bytes limits index now all =
+    ap (λ o. option_or (option_map Open o) (refusal_listed cmd (sections bytes) limits)) all.accepted
+    ∙ ap (λ ss. refusal_listed cmd ss limits) (sym (sections-index bytes index all.of))
+
+refusal-indexed : (cmd : Command) (name bytes : List ℕ) (limits : Numbers) (index : Contents) (now : Now) → file_of cmd ≡ Some name
+    → IsIndexed bytes limits index now → refusal cmd bytes limits ≡ refusal_over cmd index bytes limits
+refusal-indexed cmd name bytes limits index now named all =
+    refusal-named cmd name bytes limits named ∙ ap (λ o. option_or o (refusal_held cmd bytes limits)) (unread-indexed cmd bytes limits index now all)
+
+-- ---- a dump that wasn't opened
+
+pub Runs-unopened : (cmd : Command) (name : List ℕ) (limits : Numbers) (device : Use) (out : Change) (stop : Stop) → file_of cmd ≡ Some name
+    → IsUnopened name limits device stop → IsKept out → Runs cmd limits device out (Err stop)
+Runs-unopened cmd name limits device out (Refused why) named un kept =
+    record {
+      left = (
+        record {
+          proper = un.cause.proper;
+          there = λ gone. un.cause.there (subst (IsMissingFrom device) named gone);
+          told = λ bytes dump.
+              let cause = un.cause.told bytes (file-of cmd name device bytes named dump) in
+              refusal-named cmd name bytes limits named
+              ∙ ap (λ o. option_or (option_or (option_map Open o) (refusal_listed cmd (sections bytes) limits)) (refusal_held cmd bytes limits)) cause.1
+              ∙ ap Some (sym cause.2);
+        },
+        kept,
+      );
+      gone = λ gone. un.gone (subst (IsMissingFrom device) named gone);
+      taken = λ bytes dump. omega (arith, un.taken bytes (file-of cmd name device bytes named dump));
+    }
+Runs-unopened cmd name limits device out NotRead named un kept =
+    record {
+      left = (subst (IsUnreadFrom device) (sym named) un.cause, kept);
+      gone = λ gone. un.gone (subst (IsMissingFrom device) named gone);
+      taken = λ bytes dump. omega (arith, un.taken bytes (file-of cmd name device bytes named dump));
+    }
+Runs-unopened cmd name limits device out NotWritten named un kept = absurd un.cause
+Runs-unopened cmd name limits device out NoMemory named un kept =
+    record {
+      left = kept;
+      gone = λ gone. un.gone (subst (IsMissingFrom device) named gone);
+      taken = λ bytes dump. omega (arith, un.taken bytes (file-of cmd name device bytes named dump));
+    }
+
+-- ---- a dump that was opened and then read
+
+stays : (told_files : Option Files) (before now : Now) (name bytes : List ℕ) → now ≡ before
+    → IsHeld told_files name bytes ⊎ (now ≡ told bytes) → IsHeld told_files name bytes ⊎ (before ≡ told bytes)
+stays told_files before now name bytes same (inl is) = inl is
+stays told_files before now name bytes same (inr is) = inr (sym same ∙ is)
+
+-- the dump was opened and read: what is known of it whatever came of the reading
+record IsThrough (cmd : Command) (limits : Numbers) (index : Contents) (now : Now) (device : Use) : Type 0 where
+  pub there : IsMissing device cmd → ⊥
+  pub told : (bytes : List ℕ) → IsDumpOf device cmd bytes → IsIndexed bytes limits index now × (refusal cmd bytes limits ≡ refusal_over cmd index bytes limits)
+  pub taken : TakesAtMost cmd limits device
+
+through : {D : Type 0} (files : D → Option Files) (now : D → Now) (faults taken : D → ℕ) (a b c : D)
+    (cmd : Command) (name : List ℕ) (limits : Numbers) (index : Contents) → file_of cmd ≡ Some name
+    → HasOpened name limits (used files now faults taken a b) index → Takes cmd limits index (used files now faults taken b c)
+    → IsThrough cmd limits index (now b) (used files now faults taken a c)
+through files now faults taken a b c cmd name limits index named opened takes =
+    let device = used files now faults taken a c in
+    let indexed : (bytes : List ℕ) → IsDumpOf device cmd bytes → IsIndexed bytes limits index (now b) =
+    λ bytes dump. opened.told bytes (stays (files a) (now b) (now c) name bytes takes.reads.same_now (file-of cmd name device bytes named dump)) in
+    record {
+      there = λ gone. opened.there (subst (IsMissingFrom device) named gone);
+      told = λ bytes dump. let all = indexed bytes dump in (all, refusal-indexed cmd name bytes limits index (now b) named all);
+      taken = λ bytes dump.
+          let file = stays (files a) (now b) (now c) name bytes takes.reads.same_now (file-of cmd name device bytes named dump) in
+          let all = indexed bytes dump in
+          omega (
+            arith,
+            opened.taken bytes file,
+            takes.reads.taken_most,
+            takes.few bytes all,
+            ap (λ r. unless_refused r (reread cmd bytes)) (unread-indexed cmd bytes limits index (now b) all),
+          );
+    }
+
+left-halted : (cmd : Command) (limits : Numbers) (index : Contents) (device step : Use) (out : Change) (name : List ℕ) (stop : Stop) → file_of cmd ≡ Some name
+    → IsThrough cmd limits index step.now_before device → (device.faults_before ≤ step.faults_before) → (device.faults_after ≡ step.faults_after)
+    → IsHalted cmd limits index step stop → IsKept out → Runs cmd limits device out (Err stop)
+left-halted cmd limits index device step out name (Refused why) named known later same halted kept =
+    record {
+      left = (
+        record {
+          proper = halted.cause.0;
+          there = known.there;
+          told = λ bytes dump. let all = known.told bytes dump in all.1 ∙ halted.cause.1 bytes all.0;
+        },
+        kept,
+      );
+      gone = λ gone. absurd (known.there gone);
+      taken = known.taken;
+    }
+left-halted cmd limits index device step out name NotRead named known later same halted kept =
+    record {
+      left = (subst (IsUnreadFrom device) (sym named) (inl (omega (arith, halted.cause, later, same))), kept);
+      gone = λ gone. absurd (known.there gone);
+      taken = known.taken;
+    }
+left-halted cmd limits index device step out name NotWritten named known later same halted kept = absurd halted.cause
+left-halted cmd limits index device step out name NoMemory named known later same halted kept =
+    record { left = kept; gone = λ gone. absurd (known.there gone); taken = known.taken }
+
+-- a command that stopped while it read
+pub Runs-halted : {D : Type 0} (files : D → Option Files) (now : D → Now) (faults taken : D → ℕ) (a b c : D)
+    (cmd : Command) (name : List ℕ) (limits : Numbers) (index : Contents) (out : Change) (stop : Stop) → file_of cmd ≡ Some name
+    → HasOpened name limits (used files now faults taken a b) index → IsHalted cmd limits index (used files now faults taken b c) stop
+    → IsKept out → Runs cmd limits (used files now faults taken a c) out (Err stop)
+Runs-halted files now faults taken a b c cmd name limits index out stop named opened halted kept =
+    left-halted cmd limits index (used files now faults taken a c) (used files now faults taken b c) out name stop named
+    (through files now faults taken a b c cmd name limits index named opened halted.takes) opened.later refl halted kept
+
+-- ---- a report
+
+-- nothing is refused, this text is the report of a command, and this its status
+record IsReady (cmd : Command) (limits : Numbers) (device : Use) (text : List ℕ) (status : ℕ) : Type 0 where
+  pub there : IsMissing device cmd → ⊥
+  pub ends : IsEnding cmd status
+  pub told : (bytes : List ℕ) → IsDumpOf device cmd bytes → (refusal cmd bytes limits ≡ None) × (text ≡ report cmd bytes) × (status ≡ report_status cmd bytes)
+  pub taken : TakesAtMost cmd limits device
+
+-- a command that has its report
+told-is : (cmd : Command) (limits : Numbers) (device : Use) (out : Change) (text : List ℕ) (status : ℕ) (ended : Result ℕ Stop)
+    → IsReady cmd limits device text status → Tells out text status ended → Runs cmd limits device out ended
+told-is cmd limits device out text status (Ok result) ready tells =
     record {
       left = record {
         there = ready.there;
-        whole = ready.whole;
-        found = ready.found;
+        ends = rw tells.0 ready.ends;
         told = λ bytes dump.
             let right = ready.told bytes dump in
-            record { accepted = right.0; ends = right.2; written = puts.writes.whole ∙ ap (grown out.before) right.1 };
+            record { accepted = right.0; ends = tells.0 ∙ right.2; written = tells.1 ∙ ap (grown out.before) right.1 };
       };
       gone = λ gone. absurd (ready.there gone);
       taken = ready.taken;
     }
-Runs-put cmd limits device out text status (Err fault) ready puts =
+told-is cmd limits device out text status (Err (Refused why)) ready tells = absurd tells
+told-is cmd limits device out text status (Err NotRead) ready tells = absurd tells
+told-is cmd limits device out text status (Err NotWritten) ready tells =
     record {
       left = record {
         there = ready.there;
-        failed = puts.failed;
-        told = λ bytes dump. let right = ready.told bytes dump in (right.0, subst (GainsFront out.before out.after) right.1 puts.writes.front);
+        failed = tells.1;
+        told = λ bytes dump. let right = ready.told bytes dump in (right.0, subst (GainsFront out.before out.after) right.1 tells.0);
       };
       gone = λ gone. absurd (ready.there gone);
       taken = ready.taken;
     }
+told-is cmd limits device out text status (Err NoMemory) ready tells =
+    record { left = tells; gone = λ gone. absurd (ready.there gone); taken = ready.taken }
 
--- memory was wanting behind the load
-pub Runs-no_memory : (cmd : Command) (limits : Numbers) (device : Use) (out : Change) (text : List ℕ) (status : ℕ) → IsReady cmd limits device text status → IsKept out
-    → Runs cmd limits device out (Err NoMemory)
-Runs-no_memory cmd limits device out text status ready kept = record { left = kept; gone = λ gone. absurd (ready.there gone); taken = ready.taken }
+-- a command that has read all, and told its report or not
+pub Runs-told : {D : Type 0} (files : D → Option Files) (now : D → Now) (faults taken : D → ℕ) (a b c : D)
+    (cmd : Command) (name : List ℕ) (limits : Numbers) (index : Contents) (out : Change) (text : List ℕ) (status : ℕ) (ended : Result ℕ Stop) → file_of cmd ≡ Some name
+    → HasOpened name limits (used files now faults taken a b) index → HasRead cmd limits index (used files now faults taken b c) text status
+    → Tells out text status ended → Runs cmd limits (used files now faults taken a c) out ended
+Runs-told files now faults taken a b c cmd name limits index out text status ended named opened read tells =
+    let known = through files now faults taken a b c cmd name limits index named opened read.takes in
+    told-is cmd limits (used files now faults taken a c) out text status ended
+    (record {
+      there = known.there;
+      ends = read.ends;
+      told = λ bytes dump.
+          let all = known.told bytes dump in
+          let right = read.told bytes all.0 in (all.1 ∙ right.0, right.1, right.2);
+      taken = known.taken;
+    })
+    tells
+
+-- a command that opens no file: it is neither refused nor unread, and reports of no bytes
+pub RunsAlone-told : (cmd : Command) (out : Change) (text : List ℕ) (ended : Result ℕ Stop) → file_of cmd ≡ None
+    → text ≡ report cmd [] → 0 ≡ report_status cmd [] → Tells out text 0 ended → RunsAlone cmd out ended
+RunsAlone-told cmd out text ended none right status tells limits device idle =
+    told-is cmd limits device out text 0 ended
+    (record {
+      there = λ gone. subst (IsMissingFrom device) none gone;
+      ends = inl refl;
+      told = λ bytes dump.
+          let empty : bytes ≡ [] = subst (λ f. IsInputOf device f bytes) none dump in (
+            ap (λ f. option_and f (option_or (refusal_unread cmd bytes limits) (refusal_held cmd bytes limits))) none,
+            right ∙ ap (report cmd) (sym empty),
+            status ∙ ap (report_status cmd) (sym empty),
+          );
+      taken = λ bytes dump. omega (arith, idle.small, idle.same);
+    })
+    tells
 
 -- the line that a run tells was written, or a front of it
 pub EndsTold-put : {E : Type 0} (status result : ℕ) (line : List ℕ) (err : Change) (written : Result (Unit {0}) E)
-    → MatchResult written (λ _. result ≡ status) (λ _. result ≡ UNWRITTEN) → Puts err line written → EndsTold status line result err
+    → MatchResult written (λ _. result ≡ status) (λ _. result ≡ 5) → Puts err line written → EndsTold status line result err
 EndsTold-put status result line err (Ok value) is puts = inl (is, puts.writes.whole)
 EndsTold-put status result line err (Err fault) is puts = inr (is, puts.writes.front, puts.failed)

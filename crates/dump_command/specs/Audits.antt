@@ -1,66 +1,16 @@
 -- What an audit says of the bytes of an accepted dump.
-use Rattle.std.specs.Prelude.{ℕ, Bool, List, [], ◌∷◌, ◌++◌, map, position, slice_get, Option, None, Some, codes, unwrap_or, if◌then◌else◌}
-use Rattle.std.specs.List.{between, filter_map}
-use Rattle.std.specs.Option.{option_and_then, option_map}
-use Rattle.dump_io.specs.Lines.{headers}
-use Rattle.section_index.specs.Index.{index_of, state_of}
-use Rattle.section_index.specs.Lookups.{is_named}
-use Rattle.section_index.specs.Sections.{Section, section, sections}
-use Rattle.section_index.specs.declared.index.State.{State}
+use Rattle.std.specs.Prelude.{ℕ, Bool, List, [], ◌∷◌, None, Some, if◌then◌else◌}
+use Rattle.section_index.specs.Index.{index_of}
 use Rattle.process_table.specs.Processes.{process_table}
-use Rattle.process_table.specs.Records.{record_sections, records, pid_of}
-use Rattle.root_views.specs.Roots.{message_count}
-use Rattle.dump_audit.specs.Findings.{Audit, audit_of, is_cut}
+use Rattle.audit_bodies.specs.Mailboxes.{mails}
+use Rattle.dump_audit.specs.Findings.{Audit, audit_of}
 use Rattle.dump_audit.specs.declared.finding.Finding.{Finding}
-use Rattle.dump_command.specs.declared.status.TheConstants.{DONE, FOUND}
-
--- the section at a place, and past the last one an empty section
-abbrev pub section_in : List Section → ℕ → Section
-section_in sections place = unwrap_or (slice_get sections place) (section 0 0 0 [])
-
--- the place of a process's mailbox: of the sections with messages the first whose id is its pid
-abbrev pub mailbox_place : List Section → List ℕ → Option ℕ
-mailbox_place sections pid = position (λ s. is_named (codes "proc_messages") (Some pid) s.text) sections
-
--- the pids of the process table, and the places of the mailboxes of its processes
-abbrev pub pids_in : List Section → List (List ℕ)
-pids_in sections = map (λ r. pid_of r.1) (records sections)
-
--- the places of the mailboxes, in the order of the processes
-abbrev pub mailbox_places : List Section → List (Option ℕ)
-mailbox_places sections = map (mailbox_place sections) (pids_in sections)
-
--- the mailboxes at these places, in their order
-abbrev pub mailboxes_at : List Section → List (Option ℕ) → List Section
-mailboxes_at sections places = filter_map (option_map (section_in sections)) places
-
--- how many messages the mailbox at a place has, unless the dump breaks off in it
-abbrev pub mail_at : List ℕ → State → List Section → ℕ → Option ℕ
-mail_at bytes state sections place =
-    if is_cut state place then None
-    else Some (message_count (between (section_in sections place).body (section_in sections place).end bytes))
-
--- the same where there is a mailbox
-abbrev pub mail_in : List ℕ → State → List Section → Option ℕ → Option ℕ
-mail_in bytes state sections place = option_and_then (mail_at bytes state sections) place
-
--- for each process of the table how many messages it has, where that is known
-abbrev pub mails : List ℕ → List (Option ℕ)
-mails bytes = map (mail_in bytes (state_of (headers bytes)) (sections bytes)) (mailbox_places (sections bytes))
-
--- the bodies of an audit: those of the processes, and in a full audit their mailboxes, in the same order
-abbrev pub more_sections : Bool → List Section → List Section
-more_sections full sections = if full then mailboxes_at sections (mailbox_places sections) else []
-
--- the bodies that an audit loads, in the order in which they are judged
-abbrev pub audited_sections : Bool → List Section → List Section
-audited_sections full sections = record_sections sections ++ more_sections full sections
 
 -- what is audited
 abbrev pub audit_in : ℕ → Bool → List ℕ → Audit
 audit_in limit full bytes = audit_of (index_of bytes) (process_table bytes).processes limit (if full then Some (mails bytes) else None)
 
--- the status of an audit: whether it has a finding
+-- the status of an audit: 3 where it has a finding
 abbrev pub status_of : List Finding → ℕ
-status_of [] = DONE
-status_of (finding ∷ findings) = FOUND
+status_of [] = 0
+status_of (finding ∷ findings) = 3

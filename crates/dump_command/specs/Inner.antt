@@ -2,10 +2,11 @@
 pub mod Alone
 pub mod Audits
 pub mod Fields
+pub mod Heaps
 pub mod Info
-pub mod Loads
-pub mod Mailboxes
 pub mod Opened
+pub mod Reading
+pub mod Runs
 pub mod Stops
 pub mod TermLoads
 pub mod TermStops

@@ -1,7 +1,6 @@
 pub mod Audits
 pub mod Budgets
 pub mod Command
-pub mod Devices
 pub mod Inner
 pub mod MadeWords
 pub mod Report

@@ -20,14 +20,15 @@ use Rattle.dump_audit.specs.Findings.{findings}
 use Rattle.process_table.specs.Processes.{process_table}
 use Rattle.process_table.specs.Records.{record_sections}
 use Rattle.section_index.specs.Lookups.{has_tag, is_named}
-use Rattle.section_rows.specs.Loading.{first_large}
+use Rattle.section_rows.specs.Loading.{bodies_length, first_large}
 use Rattle.table_sections.specs.Tables.{listed, table_of}
 use Rattle.dump_write.specs.Made.{made}
 use Rattle.dump_trial.specs.Trial.{trial_of}
-use Rattle.dump_command.specs.Audits.{audit_in, audited_sections, status_of}
+use Rattle.audit_bodies.specs.Mailboxes.{audited_sections}
+use Rattle.dump_command.specs.Audits.{audit_in, status_of}
 use Rattle.dump_command.specs.Command.{Command, index, info, procs, proc, memory, table, roots, term, binary, links, audit, make, trial, file_of}
-use Rattle.dump_command.specs.Terms.{binary_at, binary_cause, bad_binary, binary_count, binary_of, heap_of, literals_of, no_address, roots_of, roots_section, term_of, too_dense}
-use Rattle.dump_command.specs.declared.status.TheConstants.{DONE}
+use Rattle.heap_cells.specs.Loading.{body_in}
+use Rattle.dump_command.specs.Terms.{base_of, binary_at, binary_cause, bad_binary, binary_count, binary_of, heap_of, literals_of, no_address, roots_of, roots_section, term_of, too_dense}
 
 -- the first of these sections
 abbrev pub first_section : List Section → Section
@@ -76,8 +77,7 @@ tags_of sections = map (λ s. tag_of s.text) sections
 
 -- the fields of a section, and no rows where there is none
 abbrev pub fields_of : List ℕ → Option Section → List ℕ
-fields_of bytes None = fields_report 0 []
-fields_of bytes (Some s) = fields_report s.body (body_of bytes s)
+fields_of bytes found = fields_report (base_of found) (body_in bytes found)
 
 -- the report of a command on the bytes of a dump
 abbrev pub report : Command → List ℕ → List ℕ
@@ -97,10 +97,10 @@ report (audit file limit full) bytes = audit_report (audit_in limit full bytes)
 report (make seed count) bytes = made seed count
 report (trial seed count) bytes = trial_report (trial_of seed count)
 
--- the status of a run that has written its whole report
+-- the status of a run that has written its whole report: 0, or 3 for an audit with a finding
 abbrev pub report_status : Command → List ℕ → ℕ
 report_status (audit file limit full) bytes = status_of (findings (audit_in limit full bytes))
-report_status cmd bytes = DONE
+report_status cmd bytes = 0
 
 -- whether a command looks for findings
 abbrev pub finds : Command → Bool
@@ -123,36 +123,31 @@ no_subject cmd sections = None
 abbrev pub too_large : ℕ → List Section → Option Refusal
 too_large limit sections = option_map (λ s. SectionTooLarge s.at (body_length s)) (first_large limit sections)
 
--- a body that the command loads is longer than the limit
-abbrev pub large_body : Command → List ℕ → Numbers → Option Refusal
-large_body cmd bytes limits = too_large limits.section (bodies cmd (sections bytes))
+-- why a command is refused for the sections of a dump, before it reads a body: what it asks for isn't there, or a body
+-- that it loads is too large
+abbrev pub refusal_listed : Command → List Section → Numbers → Option Refusal
+refusal_listed cmd sections limits = option_or (no_subject cmd sections) (too_large limits.section (bodies cmd sections))
 
--- why a command whose subject is there is refused: a body is too large, or what the bodies hold is refused
-abbrev pub refusal_loaded : Command → List ℕ → Numbers → Option Refusal
-refusal_loaded (roots kind file pid nodes marked) bytes limits =
-    option_or (large_body (roots kind file pid nodes marked) bytes limits) (too_dense limits.dense pid bytes)
-refusal_loaded (term file pid addr nodes marked) bytes limits =
-    option_or (large_body (term file pid addr nodes marked) bytes limits)
-    (option_or (too_dense limits.dense pid bytes) (no_address addr pid bytes))
-refusal_loaded (binary file addr) bytes limits = option_or (large_body (binary file addr) bytes limits) (bad_binary addr bytes)
-refusal_loaded cmd bytes limits = large_body cmd bytes limits
+-- why a command is refused for what its bodies hold
+abbrev pub refusal_held : Command → List ℕ → Numbers → Option Refusal
+refusal_held (roots kind file pid nodes marked) bytes limits = too_dense limits.dense pid bytes
+refusal_held (term file pid addr nodes marked) bytes limits = option_or (too_dense limits.dense pid bytes) (no_address addr pid bytes)
+refusal_held (binary file addr) bytes limits = bad_binary addr bytes
+refusal_held cmd bytes limits = None
 
--- why a command on the bytes of an accepted dump is refused: the first cause that holds
-abbrev pub refusal_opened : Command → List ℕ → Numbers → Option Refusal
-refusal_opened cmd bytes limits = option_or (no_subject cmd (sections bytes)) (refusal_loaded cmd bytes limits)
+-- why a command on these bytes is refused before it reads a body: they are no dump that is read, or it is refused for
+-- the sections
+abbrev pub refusal_unread : Command → List ℕ → Numbers → Option Refusal
+refusal_unread cmd bytes limits = option_or (option_map Open (opening bytes limits)) (refusal_listed cmd (sections bytes) limits)
 
--- why a command on these bytes is refused under these limits, or none. A command without a file isn't refused
+-- why a command on these bytes is refused under these limits, or none: the first cause that holds. A command without a
+-- file isn't refused
 abbrev pub refusal : Command → List ℕ → Numbers → Option Refusal
-refusal cmd bytes limits =
-    option_and (file_of cmd) (option_or (option_map Open (opening bytes limits)) (refusal_opened cmd bytes limits))
-
--- how many bytes these bodies have together
-abbrev pub bytes_in : List Section → ℕ
-bytes_in sections = sum_by body_length sections
+refusal cmd bytes limits = option_and (file_of cmd) (option_or (refusal_unread cmd bytes limits) (refusal_held cmd bytes limits))
 
 -- the bytes of the bodies that a command loads
 abbrev pub loaded_bytes : Command → List ℕ → ℕ
-loaded_bytes cmd bytes = bytes_in (bodies cmd (sections bytes))
+loaded_bytes cmd bytes = bodies_length (bodies cmd (sections bytes))
 
 -- the most bytes that a command takes from the device after it has read the dump once: those of the bodies that
 -- it loads, and 128 for each reference to a binary in the heap of a process
@@ -161,6 +156,12 @@ reread (roots kind file pid nodes marked) bytes = loaded_bytes (roots kind file 
 reread (term file pid addr nodes marked) bytes = loaded_bytes (term file pid addr nodes marked) bytes + 128 * binary_count pid bytes
 reread cmd bytes = loaded_bytes cmd bytes
 
--- the most bytes that a command takes from the device
-abbrev pub allowance : Command → List ℕ → ℕ
-allowance cmd bytes = length bytes + reread cmd bytes
+-- nothing where there is a refusal
+abbrev pub unless_refused : Option Refusal → ℕ → ℕ
+unless_refused None count = count
+unless_refused (Some why) count = 0
+
+-- the most bytes that a command takes from the device: those of the dump, and where it isn't refused before it reads a
+-- body, those that it takes behind the pass over the dump
+abbrev pub allowance : Command → List ℕ → Numbers → ℕ
+allowance cmd bytes limits = length bytes + unless_refused (refusal_unread cmd bytes limits) (reread cmd bytes)

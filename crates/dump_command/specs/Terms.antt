@@ -26,15 +26,15 @@ named_section tag pid sections = find (λ s. is_named tag (Some pid) s.text) sec
 abbrev pub tagged_section : List ℕ → List Section → Option Section
 tagged_section tag sections = find (λ s. has_tag tag s.text) sections
 
--- the roots of a process, its heap, and the literals, to which each heap may refer
+-- the section with the roots of a process: its stack, its dictionary or its mailbox
 abbrev pub roots_section : RootKind → List ℕ → List Section → Option Section
 roots_section kind pid sections = named_section (roots_tag kind) pid sections
 
--- the heap of the process with this pid
+-- the section with the heap of the process with this pid
 abbrev pub heap_of : List ℕ → List Section → Option Section
 heap_of pid sections = named_section (codes "proc_heap") pid sections
 
--- the literals
+-- the section with the literals, to which each heap may refer
 abbrev pub literals_of : List Section → Option Section
 literals_of sections = tagged_section (codes "literals") sections
 
@@ -42,7 +42,7 @@ literals_of sections = tagged_section (codes "literals") sections
 abbrev pub payloads_of : List ℕ → Enc
 payloads_of bytes = enc_of (index_of bytes).version
 
--- the bodies of the heap and of the literals
+-- the body of the heap of the process with this pid
 abbrev pub heap_body : List ℕ → List ℕ → List ℕ
 heap_body pid bytes = body_in bytes (heap_of pid (sections bytes))
 

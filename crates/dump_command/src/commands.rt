@@ -3,41 +3,43 @@ ghost use Rattle.std.specs.Prelude.{◌≡◌, None};
 ghost use Rattle.dump_io.specs.Dumps.{used};
 ghost use Rattle.dump_io.specs.Sinks.{changed};
 ghost use Rattle.dump_command.specs.Command.{file_of, shown, IsInRange};
-ghost use Rattle.dump_command.specs.Inner.Loads.{Runs};
+ghost use Rattle.dump_command.specs.Inner.Runs.{Runs};
 
 mod audit;
 mod binary;
-mod fields;
 mod index;
 mod info;
 mod links;
-mod made;
-mod processes;
+mod make;
+mod memory;
+mod proc;
+mod procs;
 mod roots;
 mod subjects;
 mod tables;
 mod term;
-mod trials;
+mod trial;
 
-use crate::budgets::Budget;
+use crate::report::run_report;
 use crate::stop::Stop;
 use crate::words::Cmd;
-use audit::run_audit;
-use binary::run_binary;
+use audit::Audit;
+use binary::Binary;
 use dump_io::{Dumps, Limits, Sink};
-use fields::{run_memory, run_proc};
-use index::run_index;
-use info::run_info;
-use links::run_links;
-use made::run_make;
-use processes::run_procs;
+use index::Index;
+use info::Info;
+use links::Links;
+use make::run_make;
+use memory::Memory;
+use proc::Proc;
+use procs::ProcessTable;
 use report_text::RootKind;
-use roots::run_roots;
+use roots::Roots;
 use std::alloc::Global;
 use table_sections::TableKind;
-use tables::run_table;
-use term::run_term;
-use trials::run_trial;
+use tables::Table;
+use term::Term;
+use trial::run_trial;
 
 /// Runs a command from a device to the sink of its report, and answers its status.
 pub(crate) fn run_command<D: Dumps, K: Sink>(
@@ -54,32 +56,38 @@ pub(crate) fn run_command<D: Dumps, K: Sink>(
     ensures idle { file_of (shown cmd.now) ≡ None → dumps.new ≡ dumps.old }
 {
     match cmd {
-        Cmd::Index { file } => run_index(alloc, file, limits, dumps, out),
-        Cmd::Info { file } => run_info(alloc, file, limits, dumps, out),
-        Cmd::Procs { file } => run_procs(alloc, file, limits, dumps, out),
-        Cmd::Proc { file, pid } => run_proc(alloc, file, pid, limits, dumps, out),
-        Cmd::Memory { file } => run_memory(alloc, file, limits, dumps, out),
-        Cmd::Ets { file } => run_table(alloc, file, TableKind::Ets, limits, dumps, out),
-        Cmd::Ports { file } => run_table(alloc, file, TableKind::Ports, limits, dumps, out),
-        Cmd::Nodes { file } => run_table(alloc, file, TableKind::Nodes, limits, dumps, out),
-        Cmd::Mods { file } => run_table(alloc, file, TableKind::Mods, limits, dumps, out),
+        Cmd::Index { file } => run_report(alloc, &Index { file }, limits, dumps, out),
+        Cmd::Info { file } => run_report(alloc, &Info { file }, limits, dumps, out),
+        Cmd::Procs { file } => run_report(alloc, &ProcessTable { file }, limits, dumps, out),
+        Cmd::Proc { file, pid } => {
+            let pid = pid.as_bytes();
+            run_report(alloc, &Proc { file, pid }, limits, dumps, out)
+        }
+        Cmd::Memory { file } => run_report(alloc, &Memory { file }, limits, dumps, out),
+        Cmd::Ets { file } => {
+            let kind = TableKind::Ets;
+            run_report(alloc, &Table { file, kind }, limits, dumps, out)
+        }
+        Cmd::Ports { file } => {
+            let kind = TableKind::Ports;
+            run_report(alloc, &Table { file, kind }, limits, dumps, out)
+        }
+        Cmd::Nodes { file } => {
+            let kind = TableKind::Nodes;
+            run_report(alloc, &Table { file, kind }, limits, dumps, out)
+        }
+        Cmd::Mods { file } => {
+            let kind = TableKind::Mods;
+            run_report(alloc, &Table { file, kind }, limits, dumps, out)
+        }
         Cmd::Stack {
             file,
             pid,
             nodes,
             marked,
         } => {
-            let budget = Budget::new(*nodes, *marked);
-            run_roots(
-                alloc,
-                file,
-                pid,
-                RootKind::Stack,
-                budget,
-                limits,
-                dumps,
-                out,
-            )
+            let roots = Roots::new(RootKind::Stack, file, pid, *nodes, *marked);
+            run_report(alloc, &roots, limits, dumps, out)
         }
         Cmd::Dict {
             file,
@@ -87,8 +95,8 @@ pub(crate) fn run_command<D: Dumps, K: Sink>(
             nodes,
             marked,
         } => {
-            let budget = Budget::new(*nodes, *marked);
-            run_roots(alloc, file, pid, RootKind::Dict, budget, limits, dumps, out)
+            let roots = Roots::new(RootKind::Dict, file, pid, *nodes, *marked);
+            run_report(alloc, &roots, limits, dumps, out)
         }
         Cmd::Mail {
             file,
@@ -96,8 +104,8 @@ pub(crate) fn run_command<D: Dumps, K: Sink>(
             nodes,
             marked,
         } => {
-            let budget = Budget::new(*nodes, *marked);
-            run_roots(alloc, file, pid, RootKind::Mail, budget, limits, dumps, out)
+            let roots = Roots::new(RootKind::Mail, file, pid, *nodes, *marked);
+            run_report(alloc, &roots, limits, dumps, out)
         }
         Cmd::Term {
             file,
@@ -106,13 +114,27 @@ pub(crate) fn run_command<D: Dumps, K: Sink>(
             nodes,
             marked,
         } => {
-            let budget = Budget::new(*nodes, *marked);
-            run_term(alloc, file, pid, *addr, budget, limits, dumps, out)
+            let term = Term {
+                file,
+                pid: pid.as_bytes(),
+                addr: *addr,
+                nodes: *nodes,
+                marked: *marked,
+            };
+            run_report(alloc, &term, limits, dumps, out)
         }
-        Cmd::Binary { file, addr } => run_binary(alloc, file, *addr, limits, dumps, out),
-        Cmd::Links { file } => run_links(alloc, file, limits, dumps, out),
+        Cmd::Binary { file, addr } => {
+            let addr = *addr;
+            run_report(alloc, &Binary { file, addr }, limits, dumps, out)
+        }
+        Cmd::Links { file } => run_report(alloc, &Links { file }, limits, dumps, out),
         Cmd::Audit { file, limit, full } => {
-            run_audit(alloc, file, *limit, *full, limits, dumps, out)
+            let audit = Audit {
+                file,
+                limit: *limit,
+                full: *full,
+            };
+            run_report(alloc, &audit, limits, dumps, out)
         }
         Cmd::Make { seed, count } => run_make(alloc, *seed, *count, out),
         Cmd::Trial { seed, count } => run_trial(alloc, *seed, *count, out),

@@ -2,31 +2,16 @@
 ghost use Rattle.std.specs.Prelude.{◌≡◌, MatchResult, IfErr};
 ghost use Rattle.dump_io.specs.Sinks.{changed};
 ghost use Rattle.dump_command.specs.Run.{EndsTold, usage_line};
-ghost use Rattle.dump_command.specs.Inner.Stops.{EndsAs, IsProper, done_of};
+ghost use Rattle.dump_command.specs.Inner.Stops.{EndsAs, IsProper};
 
-use crate::status::{DONE, NO_MEMORY, REFUSED, UNREAD, UNWRITTEN, USAGE};
+use crate::status::{NO_MEMORY, REFUSED, UNREAD, UNWRITTEN, USAGE};
 use crate::stop::Stop;
 use dump_io::{Failed, Sink, write_all};
 use report_text::put_refusal;
 
-/// The ending of a command whose report was written, or not.
-pub(crate) fn done(written: Result<(), Failed>) -> Result<u8, Stop>
-    ensures { result ≡ done_of DONE written }
-{
-    done_with(DONE, written)
-}
-
-/// The same with another status for a report that was written.
-pub(crate) fn done_with(status: u8, written: Result<(), Failed>) -> Result<u8, Stop>
-    ensures { result ≡ done_of status written }
-{
-    written?;
-    Ok(status)
-}
-
 // The status after a line was written: this one, or that of a failed write.
 fn status_of(written: Result<(), Failed>, status: u8) -> u8
-    ensures { MatchResult written (λ _. result ≡ status) (λ _. result ≡ UNWRITTEN) }
+    ensures { MatchResult written (λ _. result ≡ status) (λ _. result ≡ 5) }
 {
     match written {
         Ok(()) => status,
@@ -36,7 +21,7 @@ fn status_of(written: Result<(), Failed>, status: u8) -> u8
 
 /// Writes the usage line, and answers the status.
 pub(crate) fn put_usage<E: Sink>(err: &mut E) -> u8
-    ensures { EndsTold USAGE usage_line result (changed E.written E.faults err.old err.new) }
+    ensures { EndsTold 1 usage_line result (changed E.written E.faults err.old err.new) }
 {
     status_of(write_all(err, b"usage: edump COMMAND [WORDS]\n"), USAGE)
 }

@@ -11,22 +11,16 @@
 //! to which the faults of all layers come by `?`; [`run`] makes a status of [`status`] and a line of it.
 #![tactic(auto)]
 
-mod audit_bodies;
 mod budgets;
 mod commands;
 mod ending;
-mod file_dumps;
 mod made_words;
-mod mailboxes;
-mod messages;
 mod open;
+mod report;
 mod runner;
 pub mod status;
-mod std_sink;
 mod stop;
 mod words;
 
-pub use file_dumps::FileDumps;
 pub use runner::run;
-pub use std_sink::StdSink;
 pub use words::{Cmd, read_words};

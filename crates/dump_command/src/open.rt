@@ -16,7 +16,15 @@ pub(crate) fn open<D: Dumps>(
     dumps: &mut D,
 ) -> Result<Index, Stop>
     ensures { let device = used D.files D.now D.faults D.taken dumps.old dumps.new in
-        MatchResult result (λ index. HasOpened file.now limits.now device index 0) (IsUnopened file.now limits.now device) }
+        MatchResult result (λ index. HasOpened file.now limits.now device index) (IsUnopened file.now limits.now device) }
 {
     Ok(build(alloc, dumps, file, limits)?)
+}
+
+/// A dump that is open: its index, the limits within which it is read, and the memory for it.
+#[derive(Clone, Copy)]
+pub(crate) struct Opened<'a> {
+    pub(crate) alloc: Global,
+    pub(crate) index: &'a Index,
+    pub(crate) limits: &'a Limits,
 }

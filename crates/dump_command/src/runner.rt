@@ -10,7 +10,6 @@ ghost use Rattle.dump_command.specs.Run.{IsDumpOf, IsRunOf, IsUsage};
 
 use crate::commands::run_command;
 use crate::ending::{end, put_usage};
-use crate::status::NO_MEMORY;
 use crate::words::read_words;
 use dump_io::{Dumps, Limits, Sink};
 use std::alloc::Global;
@@ -27,10 +26,11 @@ use std::alloc::Global;
 /// | 5 | only where the count of faults of `out` or of `err` rose |
 /// | 6 | want of memory, which may come at any growth |
 ///
-/// `out` is untouched at 1, 2, 4 and 6, and holds a proper front of the report at 5. The bytes of the dump are
+/// `out` is untouched at 1, 2, 4 and 6. At 5 the sink that failed holds a proper front of its text, of the report or of the
+/// line, and the other is untouched. The bytes of the dump are
 /// those of the file of the command's name, where `dumps` tells its files, or those that are open at the end,
-/// where it tells these alone. Where they are told and not refused and nothing failed, the status is 3 for an audit
-/// with a finding and else 0, or 6.
+/// where it tells these alone. Where they are told and nothing of the command on them is refused and nothing failed, the status is
+/// 3 for an audit with a finding and else 0, or 6.
 ///
 /// A command that opens no file, as `make`, reports of no bytes and leaves `dumps` as it is; it ends with 0, 5 or 6.
 pub fn run<D: Dumps, K: Sink, E: Sink>(
@@ -57,7 +57,7 @@ pub fn run<D: Dumps, K: Sink, E: Sink>(
         → IsDumpOf (used D.files D.now D.faults D.taken dumps.old dumps.new) cmd bytes → refusal cmd bytes limits.now ≡ None
         → ¬ DeviceFailed (used D.files D.now D.faults D.taken dumps.old dumps.new)
         → ¬ SinkFailed (changed K.written K.faults out.old out.new) → ¬ SinkFailed (changed E.written E.faults err.old err.new)
-        → (result ≡ report_status cmd bytes) ⊎ (result ≡ NO_MEMORY) }
+        → (result ≡ report_status cmd bytes) ⊎ (result ≡ 6) }
 {
     match read_words(words) {
         None => put_usage(err),

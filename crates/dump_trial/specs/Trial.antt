@@ -33,7 +33,7 @@ cells_in bytes pid =
     let index = index_of bytes in
     cells_of (enc_of index.version) (body_in bytes (heap_section index pid)) (body_in bytes (literals_section index))
 
--- the first of them whose id is this pid
+-- the first section of a kind of roots whose id is this pid
 abbrev pub root_section : Contents → RootKind → List ℕ → Option Section
 root_section index kind pid = section_in index (position (λ section. is_named (roots_tag kind) (Some pid) section.text) (sections_in index))
 

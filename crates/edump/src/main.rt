@@ -2,8 +2,9 @@
 #![tactic(auto)]
 
 use dump_command::status::{NO_MEMORY, UNREAD, UNWRITTEN};
-use dump_command::{FileDumps, StdSink, run};
+use dump_command::run;
 use dump_io::Limits;
+use host_devices::{FileDumps, StdSink};
 use std::alloc::AllocError;
 use std::env;
 use std::io::{ErrorKind, Stderr, Stdout};

@@ -12,10 +12,10 @@ ghost use Rattle.binary_refs.specs.Previews.{AreFor};
 mod nowhere;
 
 use binary_refs::Previews;
-use dump_command::FileDumps;
 use dump_io::{Limits, hex_u64};
 use field_lines::reading::lines;
 use heap_cells::Heap;
+use host_devices::FileDumps;
 use nowhere::Nowhere;
 use section_index::build;
 use std::{env, fs, io};

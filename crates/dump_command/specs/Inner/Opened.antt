@@ -18,15 +18,14 @@ pub record IsIndexed (bytes : List ℕ) (limits : Numbers) (index : Contents) (n
   pub of : IsIndexOf bytes index
   pub opened : now ≡ told bytes
 
--- the dump of this name was opened and accepted, this is its index, and since then at most so many bytes more were
--- taken
-pub record HasOpened (name : List ℕ) (limits : Numbers) (device : Use) (index : Contents) (more : ℕ) : Type 0 where
+-- the dump of this name was opened and accepted, and this is its index
+pub record HasOpened (name : List ℕ) (limits : Numbers) (device : Use) (index : Contents) : Type 0 where
   pub there : IsAbsent device.files_before name → ⊥
   pub same_files : device.files_after ≡ device.files_before
   pub later : device.faults_before ≤ device.faults_after
   pub over : IsBuiltOver device.now_after index
   pub told : (bytes : List ℕ) → IsFileOf device name bytes → IsIndexed bytes limits index device.now_after
-  pub taken : (bytes : List ℕ) → IsFileOf device name bytes → device.taken_after ≤ plus_capped device.taken_before (length bytes + more)
+  pub taken : (bytes : List ℕ) → IsFileOf device name bytes → device.taken_after ≤ plus_capped device.taken_before (length bytes)
 
 -- the dump of this name is refused
 pub record IsRefusedAs (name : List ℕ) (limits : Numbers) (device : Use) (why : Refusal) : Type 0 where

@@ -8,7 +8,6 @@ use Rattle.report_text.specs.declared.refusals.Refusal.TheVariants.{Open, Sectio
 use Rattle.report_text.specs.Refusals.{IsRefusal, refusal_line}
 use Rattle.dump_io.specs.Sinks.{Change, IsKept}
 use Rattle.dump_command.specs.Run.{EndsTold}
-use Rattle.dump_command.specs.declared.status.TheConstants.{REFUSED, UNREAD, UNWRITTEN, NO_MEMORY}
 use Rattle.dump_command.specs.declared.stop.Stop.{Stop}
 use Rattle.dump_command.specs.declared.stop.Stop.TheVariants.{Refused, NotRead, NotWritten, NoMemory}
 
@@ -29,15 +28,10 @@ abbrev pub IsProper : Stop → Type 0
 IsProper (Refused why) = IsRefusal why
 IsProper stop = Unit {0}
 
--- a report was written, and the command ends with this status, or a write failed
-abbrev pub done_of : {T E : Type 0} → ℕ → Result T E → Result ℕ Stop
-done_of status (Ok value) = Ok status
-done_of status (Err fault) = Err NotWritten
-
 -- the status of a run whose command ended so, and what `err` got
 abbrev pub EndsAs : Result ℕ Stop → ℕ → Change → Type 0
 EndsAs (Ok status) result err = (result ≡ status) × IsKept err
-EndsAs (Err (Refused why)) result err = EndsTold REFUSED (refusal_line why) result err
-EndsAs (Err NotRead) result err = (result ≡ UNREAD) × IsKept err
-EndsAs (Err NotWritten) result err = (result ≡ UNWRITTEN) × IsKept err
-EndsAs (Err NoMemory) result err = (result ≡ NO_MEMORY) × IsKept err
+EndsAs (Err (Refused why)) result err = EndsTold 2 (refusal_line why) result err
+EndsAs (Err NotRead) result err = (result ≡ 4) × IsKept err
+EndsAs (Err NotWritten) result err = (result ≡ 5) × IsKept err
+EndsAs (Err NoMemory) result err = (result ≡ 6) × IsKept err

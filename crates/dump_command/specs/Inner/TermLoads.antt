@@ -1,5 +1,5 @@
 -- What the reports of terms are written of.
-use Rattle.std.specs.Prelude.{ℕ, ◌+◌, ◌^◌, ◌<◌, Bool, List, length}
+use Rattle.std.specs.Prelude.{ℕ, Bool, List}
 use Rattle.std.specs.Global.{Vec}
 use Rattle.term_unfold.specs.Walks.{walk}
 use Rattle.report_text.specs.declared.root_report.RootKind.{RootKind}
@@ -11,10 +11,6 @@ use Rattle.dump_command.specs.declared.commands.term.Loaded.{Loaded as TermLoade
 abbrev pub roots_text : RootKind → ℕ → Bool → Loaded → List ℕ
 roots_text kind nodes marked loaded =
     roots_report (answer_over (walk loaded.heap loaded.previews) nodes marked) loaded.body.base (roots_in kind loaded.body.bytes.items)
-
--- each place of the body is one of a file of at most 2^64 - 1 bytes
-abbrev pub HasPlaces : Loaded → Type 0
-HasPlaces loaded = loaded.body.base + length loaded.body.bytes.items < 2 ^ 64
 
 -- the text of a term
 abbrev pub term_text : ℕ → ℕ → Bool → TermLoaded → List ℕ

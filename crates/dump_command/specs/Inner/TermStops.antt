@@ -40,10 +40,3 @@ Judges cause (Err (Refused why)) = IsRefusal why × (cause ≡ Some why)
 Judges cause (Err NotRead) = ⊥
 Judges cause (Err NotWritten) = ⊥
 Judges cause (Err NoMemory) = Unit {0}
-
--- the device failed, or there is no memory
-abbrev pub IsReadStop : Use → Stop → Type 0
-IsReadStop device (Refused why) = ⊥
-IsReadStop device NotRead = DeviceFailed device
-IsReadStop device NotWritten = ⊥
-IsReadStop device NoMemory = Unit {0}

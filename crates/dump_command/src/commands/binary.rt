@@ -1,19 +1,22 @@
 // `binary`: the bytes of a binary.
 ghost use Rattle.std.specs.Prelude.{◌≡◌};
-ghost use Rattle.dump_io.specs.Dumps.{used};
-ghost use Rattle.dump_io.specs.Sinks.{changed};
 ghost use Rattle.dump_command.specs.Command.{binary};
-ghost use Rattle.dump_command.specs.Inner.Loads.{Loads, Runs};
 ghost use Rattle.dump_command.specs.Inner.TermLoads.{binary_text};
 ghost use Rattle.dump_command.specs.Inner.TermStops.{stop_of_binary};
 
-use crate::ending::done;
-use crate::open::open;
+use crate::open::Opened;
+use crate::report::Report;
+use crate::status::DONE;
 use crate::stop::Stop;
 use binary_refs::{BinFault, whole};
-use dump_io::{Dumps, Limits, Sink};
+use dump_io::{Dumps, Sink};
 use report_text::{Refusal, put_binary};
-use std::alloc::Global;
+
+#[derive(Clone, Copy)]
+pub(crate) struct Binary<'a> {
+    pub(crate) file: &'a str,
+    pub(crate) addr: u64,
+}
 
 // What stops a command that asks for the binary at an address.
 fn stop_of(fault: BinFault, addr: u64) -> Stop
@@ -31,32 +34,26 @@ fn stop_of(fault: BinFault, addr: u64) -> Stop
     }
 }
 
-fn load<D: Dumps>(
-    alloc: Global,
-    file: &str,
-    addr: u64,
-    limits: &Limits,
-    dumps: &mut D,
-) -> Result<Vec<u8>, Stop>
-    ensures { Loads (binary file.now addr) limits.now (used D.files D.now D.faults D.taken dumps.old dumps.new) (binary_text addr) result }
-{
-    let index = open(alloc, file, limits, dumps)?;
-    match whole(alloc, dumps, &index, addr, limits) {
-        Ok(bytes) => Ok(bytes),
-        Err(fault) => Err(stop_of(fault, addr)),
-    }
-}
+impl Report for Binary<'_> {
+    type Loaded = Vec<u8>;
 
-pub(crate) fn run_binary<D: Dumps, K: Sink>(
-    alloc: Global,
-    file: &str,
-    addr: u64,
-    limits: &Limits,
-    dumps: &mut D,
-    out: &mut K,
-) -> Result<u8, Stop>
-    ensures { Runs (binary file.now addr) limits.now (used D.files D.now D.faults D.taken dumps.old dumps.new) (changed K.written K.faults out.old out.new) result }
-{
-    let bytes = load(alloc, file, addr, limits, dumps)?;
-    done(put_binary(out, addr, bytes.as_slice()))
+    ghost command = { λ c. binary c.file.now c.addr };
+
+    ghost text = { λ c _ bytes. binary_text c.addr bytes };
+
+    fn file(&self) -> &str {
+        self.file
+    }
+
+    fn read<D: Dumps>(&self, at: &Opened<'_>, dumps: &mut D) -> Result<Vec<u8>, Stop> {
+        match whole(at.alloc, dumps, at.index, self.addr, at.limits) {
+            Ok(bytes) => Ok(bytes),
+            Err(fault) => Err(stop_of(fault, self.addr)),
+        }
+    }
+
+    fn put<K: Sink>(&self, _at: &Opened<'_>, bytes: &Vec<u8>, out: &mut K) -> Result<u8, Stop> {
+        put_binary(out, self.addr, bytes.as_slice())?;
+        Ok(DONE)
+    }
 }

@@ -1,25 +1,36 @@
 // `index`: the sections of a dump and its state.
-ghost use Rattle.dump_io.specs.Dumps.{used};
-ghost use Rattle.dump_io.specs.Sinks.{changed};
-ghost use Rattle.dump_command.specs.Command.{Command, index};
-ghost use Rattle.dump_command.specs.Inner.Loads.{Runs};
+ghost use Rattle.report_text.specs.Reports.{index_report};
+ghost use Rattle.dump_command.specs.Command.{Command};
 
-use crate::ending::done;
-use crate::open::open;
+use crate::open::Opened;
+use crate::report::Report;
+use crate::status::DONE;
 use crate::stop::Stop;
-use dump_io::{Dumps, Limits, Sink};
+use dump_io::{Dumps, Sink};
 use report_text::put_index;
-use std::alloc::Global;
 
-pub(crate) fn run_index<D: Dumps, K: Sink>(
-    alloc: Global,
-    file: &str,
-    limits: &Limits,
-    dumps: &mut D,
-    out: &mut K,
-) -> Result<u8, Stop>
-    ensures { Runs (Command.index file.now) limits.now (used D.files D.now D.faults D.taken dumps.old dumps.new) (changed K.written K.faults out.old out.new) result }
-{
-    let index = open(alloc, file, limits, dumps)?;
-    done(put_index(out, &index))
+#[derive(Clone, Copy)]
+pub(crate) struct Index<'a> {
+    pub(crate) file: &'a str,
+}
+
+impl Report for Index<'_> {
+    type Loaded = ();
+
+    ghost command = { λ c. Command.index c.file.now };
+
+    ghost text = { λ _ index _. index_report index.headers index.size };
+
+    fn file(&self) -> &str {
+        self.file
+    }
+
+    fn read<D: Dumps>(&self, _at: &Opened<'_>, _dumps: &mut D) -> Result<(), Stop> {
+        Ok(())
+    }
+
+    fn put<K: Sink>(&self, at: &Opened<'_>, _loaded: &(), out: &mut K) -> Result<u8, Stop> {
+        put_index(out, at.index)?;
+        Ok(DONE)
+    }
 }

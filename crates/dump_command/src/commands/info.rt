@@ -1,52 +1,47 @@
 // `info`: version, size, counts, slogan, tags and state of a dump.
-ghost use Rattle.dump_io.specs.Dumps.{used};
-ghost use Rattle.dump_io.specs.Sinks.{changed};
 ghost use Rattle.dump_command.specs.Command.{info};
-ghost use Rattle.dump_command.specs.Inner.Loads.{Loads, Runs};
 ghost use Rattle.dump_command.specs.Inner.Info.{info_text};
 
-use crate::ending::done;
-use crate::open::open;
+use crate::commands::subjects::{Body, read_found};
+use crate::open::Opened;
+use crate::report::Report;
+use crate::status::DONE;
 use crate::stop::Stop;
-use dump_io::{Dumps, Limits, Sink};
+use dump_io::{Dumps, Sink};
 use report_text::put_info;
-use section_index::{Index, Tags, read_body};
-use std::alloc::Global;
+use section_index::Tags;
+
+#[derive(Clone, Copy)]
+pub(crate) struct Info<'a> {
+    pub(crate) file: &'a str,
+}
 
 #[derive(Drop)]
-struct Loaded {
-    index: Index,
-    first_body: Vec<u8>,
+pub(crate) struct Loaded {
+    first_body: Body,
     tags: Tags,
 }
 
-fn load<D: Dumps>(alloc: Global, file: &str, limits: &Limits, dumps: &mut D) -> Result<Loaded, Stop>
-    ensures { Loads (info file.now) limits.now (used D.files D.now D.faults D.taken dumps.old dumps.new) info_text result }
-{
-    let index = open(alloc, file, limits, dumps)?;
-    let first_body = read_body(alloc, dumps, &index, 0, limits)?;
-    let tags = Tags::count(alloc, &index)?;
-    Ok(Loaded {
-        index,
-        first_body,
-        tags,
-    })
-}
+impl Report for Info<'_> {
+    type Loaded = Loaded;
 
-pub(crate) fn run_info<D: Dumps, K: Sink>(
-    alloc: Global,
-    file: &str,
-    limits: &Limits,
-    dumps: &mut D,
-    out: &mut K,
-) -> Result<u8, Stop>
-    ensures { Runs (info file.now) limits.now (used D.files D.now D.faults D.taken dumps.old dumps.new) (changed K.written K.faults out.old out.new) result }
-{
-    let loaded = load(alloc, file, limits, dumps)?;
-    let Loaded {
-        index,
-        first_body,
-        tags,
-    } = &loaded;
-    done(put_info(out, index, tags, first_body.as_slice()))
+    ghost command = { λ c. info c.file.now };
+
+    ghost text = { λ _ index loaded. info_text index loaded };
+
+    fn file(&self) -> &str {
+        self.file
+    }
+
+    fn read<D: Dumps>(&self, at: &Opened<'_>, dumps: &mut D) -> Result<Loaded, Stop> {
+        let first_body = read_found(at, dumps, Some(0))?;
+        let tags = Tags::count(at.alloc, at.index)?;
+        Ok(Loaded { first_body, tags })
+    }
+
+    fn put<K: Sink>(&self, at: &Opened<'_>, loaded: &Loaded, out: &mut K) -> Result<u8, Stop> {
+        let Loaded { first_body, tags } = loaded;
+        put_info(out, at.index, tags, first_body.bytes.as_slice())?;
+        Ok(DONE)
+    }
 }

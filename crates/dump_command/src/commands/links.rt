@@ -1,37 +1,39 @@
 // `links`: the links and monitors of all processes.
-ghost use Rattle.dump_io.specs.Dumps.{used};
-ghost use Rattle.dump_io.specs.Sinks.{changed};
 ghost use Rattle.dump_command.specs.Command.{links};
 ghost use Rattle.dump_command.specs.Inner.Audits.{links_text};
-ghost use Rattle.dump_command.specs.Inner.Loads.{Loads, Runs};
 
-use crate::ending::done;
-use crate::open::open;
+use crate::open::Opened;
+use crate::report::Report;
+use crate::status::DONE;
 use crate::stop::Stop;
-use dump_io::{Dumps, Limits, Sink};
+use dump_io::{Dumps, Sink};
 use link_graph::Graph;
 use process_table::Procs;
 use report_text::put_links;
-use std::alloc::Global;
 
-fn load<D: Dumps>(alloc: Global, file: &str, limits: &Limits, dumps: &mut D) -> Result<Procs, Stop>
-    ensures { Loads (links file.now) limits.now (used D.files D.now D.faults D.taken dumps.old dumps.new) links_text result }
-{
-    let index = open(alloc, file, limits, dumps)?;
-    let procs = Procs::load(alloc, dumps, &index, limits)?;
-    Ok(procs)
+#[derive(Clone, Copy)]
+pub(crate) struct Links<'a> {
+    pub(crate) file: &'a str,
 }
 
-pub(crate) fn run_links<D: Dumps, K: Sink>(
-    alloc: Global,
-    file: &str,
-    limits: &Limits,
-    dumps: &mut D,
-    out: &mut K,
-) -> Result<u8, Stop>
-    ensures { Runs (links file.now) limits.now (used D.files D.now D.faults D.taken dumps.old dumps.new) (changed K.written K.faults out.old out.new) result }
-{
-    let loaded = load(alloc, file, limits, dumps)?;
-    let graph = Graph::build(alloc, &loaded)?;
-    done(put_links(out, &loaded, &graph))
+impl Report for Links<'_> {
+    type Loaded = Procs;
+
+    ghost command = { λ c. links c.file.now };
+
+    ghost text = { λ _ _ procs. links_text procs };
+
+    fn file(&self) -> &str {
+        self.file
+    }
+
+    fn read<D: Dumps>(&self, at: &Opened<'_>, dumps: &mut D) -> Result<Procs, Stop> {
+        Ok(Procs::load(at.alloc, dumps, at.index, at.limits)?)
+    }
+
+    fn put<K: Sink>(&self, at: &Opened<'_>, procs: &Procs, out: &mut K) -> Result<u8, Stop> {
+        let graph = Graph::build(at.alloc, procs)?;
+        put_links(out, procs, &graph)?;
+        Ok(DONE)
+    }
 }

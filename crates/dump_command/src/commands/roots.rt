@@ -1,84 +1,98 @@
 // `stack`, `dict` and `mail`: the roots of a process.
-ghost use Rattle.std.specs.Prelude.{◌<◌, ℕ, Bool, IfOk};
+ghost use Rattle.std.specs.Prelude.{◌≡◌, ◌<◌};
 ghost use Rattle.binary_refs.specs.Previews.{AreFor};
-ghost use Rattle.dump_io.specs.Dumps.{used};
-ghost use Rattle.dump_io.specs.Sinks.{changed};
 ghost use Rattle.dump_command.specs.Command.{roots};
-ghost use Rattle.dump_command.specs.Inner.Loads.{Loads, Runs};
-ghost use Rattle.dump_command.specs.Inner.TermLoads.{HasPlaces, roots_text};
+ghost use Rattle.dump_command.specs.Inner.Fields.{HasPlaces};
+ghost use Rattle.dump_command.specs.Inner.TermLoads.{roots_text};
 
-use crate::budgets::Budget;
-use crate::commands::subjects::{Body, find_process, judge_body, read_or_empty};
-use crate::ending::done;
-use crate::open::open;
+use crate::commands::subjects::{Body, load_heap, read_found};
+use crate::open::Opened;
+use crate::report::Report;
+use crate::status::DONE;
 use crate::stop::Stop;
 use binary_refs::Previews;
-use dump_io::{Dumps, Limits, Sink};
+use dump_io::{Dumps, Sink};
 use heap_cells::Heap;
 use report_text::{RootKind, put_roots};
-use std::alloc::Global;
 use term_unfold::Walker;
 
-// The body with the roots, and the heap to which they refer.
+#[derive(Clone, Copy)]
+pub(crate) struct Roots<'a> {
+    pub(crate) file: &'a str,
+    pub(crate) pid: &'a [u8],
+    pub(crate) kind: RootKind,
+    pub(crate) nodes: u32,
+    pub(crate) marked: bool,
+}
+
+impl<'a> Roots<'a> {
+    pub(crate) fn new(
+        kind: RootKind,
+        file: &'a str,
+        pid: &'a str,
+        nodes: u32,
+        marked: bool,
+    ) -> Roots<'a>
+        ensures command { roots result.kind result.file.now result.pid.now result.nodes result.marked ≡ roots kind file.now pid.now nodes marked }
+        ensures nodes { result.nodes ≡ nodes }
+    {
+        Roots {
+            file,
+            pid: pid.as_bytes(),
+            kind,
+            nodes,
+            marked,
+        }
+    }
+}
+
+/// The body with the roots, and the heap to which they refer.
 #[derive(Drop)]
-struct Loaded {
+pub(crate) struct Loaded {
     body: Body,
     heap: Heap,
     previews: Previews,
 }
 
-// Each body is judged before any is read.
-fn load<D: Dumps>(
-    alloc: Global,
-    file: &str,
-    pid: &[u8],
-    kind: RootKind,
-    limits: &Limits,
-    dumps: &mut D,
-) -> Result<Loaded, Stop>
-    ensures loads { (nodes : ℕ) (marked : Bool)
-        → Loads (roots kind file.now pid.now nodes marked) limits.now (used D.files D.now D.faults D.taken dumps.old dumps.new) (roots_text kind nodes marked) result }
-    ensures places { IfOk result HasPlaces }
-    ensures previews { IfOk result (λ loaded. AreFor loaded.heap.cells loaded.previews) }
-{
-    let index = open(alloc, file, limits, dumps)?;
-    find_process(alloc, &index, pid)?;
-    let place = index.first(kind.tag(), Some(pid));
-    judge_body(&index, place, limits)?;
-    let heap = Heap::load(alloc, dumps, &index, pid, limits)?;
-    let previews = Previews::load(alloc, dumps, &index, &heap)?;
-    let body = read_or_empty(alloc, dumps, &index, place, limits)?;
-    Ok(Loaded {
-        body,
-        heap,
-        previews,
-    })
-}
+impl Report for Roots<'_> {
+    type Loaded = Loaded;
 
-pub(crate) fn run_roots<D: Dumps, K: Sink>(
-    alloc: Global,
-    file: &str,
-    pid: &str,
-    kind: RootKind,
-    budget: Budget,
-    limits: &Limits,
-    dumps: &mut D,
-    out: &mut K,
-) -> Result<u8, Stop>
-    requires { 0 < budget.nodes }
-    ensures { Runs (roots kind file.now pid.now budget.nodes budget.marked) limits.now
-        (used D.files D.now D.faults D.taken dumps.old dumps.new) (changed K.written K.faults out.old out.new) result }
-{
-    let loaded = load(alloc, file, pid.as_bytes(), kind, limits, dumps)?;
-    let mut walker = Walker::new(alloc, &loaded.heap, &loaded.previews)?;
-    let Body { bytes, base } = &loaded.body;
-    done(put_roots(
-        out,
-        &mut walker,
-        kind,
-        bytes.as_slice(),
-        *base,
-        budget.nodes,
-        budget.marked,
-    ))
+    ghost command = { λ c. roots c.kind c.file.now c.pid.now c.nodes c.marked };
+
+    ghost text = { λ c _ loaded. roots_text c.kind c.nodes c.marked loaded };
+
+    ghost asked = { λ c. 0 < c.nodes };
+
+    ghost fits = { λ _ _ loaded. HasPlaces loaded.body × AreFor loaded.heap.cells loaded.previews };
+
+    fn file(&self) -> &str {
+        self.file
+    }
+
+    fn read<D: Dumps>(&self, at: &Opened<'_>, dumps: &mut D) -> Result<Loaded, Stop> {
+        let place = at.index.first(self.kind.tag(), Some(self.pid));
+        let heap = load_heap(at, dumps, self.pid, place)?;
+        let previews = Previews::load(at.alloc, dumps, at.index, &heap)?;
+        let body = read_found(at, dumps, place)?;
+        Ok(Loaded {
+            body,
+            heap,
+            previews,
+        })
+    }
+
+    fn put<K: Sink>(&self, at: &Opened<'_>, loaded: &Loaded, out: &mut K) -> Result<u8, Stop> {
+        let mut walker = Walker::new(at.alloc, &loaded.heap, &loaded.previews)?;
+        let Body { bytes, base } = &loaded.body;
+        put_roots(
+            out,
+            &mut walker,
+            self.kind,
+            bytes.as_slice(),
+            *base,
+            self.nodes,
+            self.marked,
+        )?;
+        Ok(DONE)
+    }
 }

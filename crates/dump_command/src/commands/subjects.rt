@@ -1,44 +1,43 @@
-// What the commands on the terms of a process find and read of a dump.
-ghost use Rattle.std.specs.Prelude.{◌≡◌, ◌+◌, ◌<◌, ◌≤◌, ◌^◌, length, IfOk, IfErr, IfSome};
+// What commands find on the index of a dump and read of it: a process, the body of a section, the heap of a process.
+ghost use Rattle.std.specs.Prelude.{◌≡◌, ◌+◌, ◌<◌, ◌^◌, length, None, Some, IfOk, IfErr, IfSome, IsSome, OnOk, MatchResult};
 ghost use Rattle.dump_io.specs.Dumps.{ReadsAtMost, used};
-ghost use Rattle.heap_cells.specs.Loading.{body_size, section_in, IsBodyIn};
+ghost use Rattle.heap_cells.specs.Loading.{body_size, heap_section, literals_section, section_in, IsBodyIn};
+ghost use Rattle.section_index.specs.Bodies.{section_at};
 ghost use Rattle.section_index.specs.Index.{IsBuiltOver, sections_in};
-ghost use Rattle.dump_command.specs.Report.{no_process, one_of, too_large};
+ghost use Rattle.section_rows.specs.Loading.{first_large, large_fault, AreRefused};
+ghost use Rattle.dump_command.specs.Report.{no_process, one_of, process_section};
 ghost use Rattle.dump_command.specs.Terms.{base_of};
-ghost use Rattle.dump_command.specs.Inner.TermStops.{IsReadStop, Judges};
+ghost use Rattle.dump_command.specs.Inner.Heaps.{heap_listed, HoldsHeap, IsHeapless};
+ghost use Rattle.dump_command.specs.Inner.Fields.{HasPlaces};
+ghost use Rattle.dump_command.specs.Inner.TermStops.{Judges};
 
+use crate::open::Opened;
 use crate::stop::Stop;
-use dump_io::{Dumps, Limits, Text};
+use dump_io::{Dumps, Text};
+use heap_cells::Heap;
 use report_text::Refusal;
-use section_index::{Index, read_body};
-use std::alloc::Global;
+use section_index::{BodyFault, read_body};
+use section_rows::large;
 
-/// Refuses a pid that no section of a process has.
-pub(crate) fn find_process(alloc: Global, index: &Index, pid: &[u8]) -> Result<(), Stop>
-    ensures { Judges (no_process pid.now (sections_in index.now)) result }
+/// The place of the section of a process. A pid that no such section has is refused.
+pub(crate) fn find_process(at: &Opened<'_>, pid: &[u8]) -> Result<usize, Stop>
+    ensures judges { Judges (no_process pid.now (sections_in at.now.index.now)) result }
+    ensures within { IfOk result (λ i. i < length at.now.index.now.headers) }
+    ensures there { IfOk result (λ i. process_section pid.now (sections_in at.now.index.now) ≡ Some (section_at at.now.index.now i)) }
 {
-    let Some(_place) = index.first(b"proc", Some(pid)) else {
-        let pid = Vec::from_slice(alloc, pid)?;
+    let Some(place) = at.index.first(b"proc", Some(pid)) else {
+        let pid = Vec::from_slice(at.alloc, pid)?;
         return Err(Stop::Refused(Refusal::NoProcess(Text::new(pid))));
     };
-    Ok(())
+    Ok(place)
 }
 
-/// Refuses a section whose body has more bytes than the limit, before anything is read. One that isn't there is empty.
-pub(crate) fn judge_body(index: &Index, place: Option<usize>, limits: &Limits) -> Result<(), Stop>
-    requires { IfSome place (λ i. i < length index.now.headers) }
-    ensures { Judges (too_large limits.now.section (one_of (section_in index.now place))) result }
+/// The refusal of a section whose body has more bytes than the limit. One that isn't there is empty.
+fn large_body(at: &Opened<'_>, place: Option<usize>) -> Option<BodyFault>
+    requires { IfSome place (λ i. i < length at.now.index.now.headers) }
+    ensures { result ≡ large_fault at.now.limits.now.section (one_of (section_in at.now.index.now place)) }
 {
-    let Some(i) = place else {
-        return Ok(());
-    };
-    let section = index.section(i);
-    let len = section.end - section.body;
-    if len > u64::from(limits.section()) {
-        let at = section.at;
-        return Err(Stop::Refused(Refusal::SectionTooLarge { at, len }));
-    }
-    Ok(())
+    large(at.index, &[place?], at.limits)
 }
 
 /// The body of a section, and its offset in the file.
@@ -48,30 +47,52 @@ pub(crate) struct Body {
     pub(crate) base: u64,
 }
 
-/// Reads the body of a section that is no larger than the limit. One that isn't there is empty.
-pub(crate) fn read_or_empty<D: Dumps>(
-    alloc: Global,
+/// Reads the body of a section. One that isn't there is empty.
+pub(crate) fn read_found<D: Dumps>(
+    at: &Opened<'_>,
     dumps: &mut D,
-    index: &Index,
     place: Option<usize>,
-    limits: &Limits,
-) -> Result<Body, Stop>
-    requires over { IsBuiltOver (D.now dumps.old) index.now }
-    requires place { IfSome place (λ i. i < length index.now.headers) }
-    requires small { body_size (section_in index.now place) ≤ limits.now.section }
-    ensures reads { ReadsAtMost (used D.files D.now D.faults D.taken dumps.old dumps.new) (body_size (section_in index.now place)) }
-    ensures body { IfOk result (λ body. IsBodyIn (D.now dumps.old) (section_in index.now place) body.bytes.items) }
-    ensures base { IfOk result (λ body. body.base ≡ base_of (section_in index.now place)) }
-    ensures places { IfOk result (λ body. body.base + length body.bytes.items < 2 ^ 64) }
-    ensures stop { IfErr result (IsReadStop (used D.files D.now D.faults D.taken dumps.old dumps.new)) }
+) -> Result<Body, BodyFault>
+    requires over { IsBuiltOver (D.now dumps.old) at.now.index.now }
+    requires place { IfSome place (λ i. i < length at.now.index.now.headers) }
+    ensures reads { ReadsAtMost (used D.files D.now D.faults D.taken dumps.old dumps.new) (body_size (section_in at.now.index.now place)) }
+    ensures unread { IsSome (first_large at.now.limits.now.section (one_of (section_in at.now.index.now place))) → dumps.new ≡ dumps.old }
+    ensures body { IfOk result (λ body. IsBodyIn (D.now dumps.old) (section_in at.now.index.now place) body.bytes.items) }
+    ensures base { IfOk result (λ body. body.base ≡ base_of (section_in at.now.index.now place)) }
+    ensures places { IfOk result HasPlaces }
+    ensures loaded { OnOk result (first_large at.now.limits.now.section (one_of (section_in at.now.index.now place)) ≡ None) }
+    ensures fault { IfErr result (AreRefused (one_of (section_in at.now.index.now place)) at.now.limits.now.section (used D.files D.now D.faults D.taken dumps.old dumps.new)) }
 {
     let Some(i) = place else {
         return Ok(Body {
-            bytes: Vec::new(alloc),
+            bytes: Vec::new(at.alloc),
             base: 0,
         });
     };
-    let bytes = read_body(alloc, dumps, index, i, limits)?;
-    let base = index.section(i).body;
+    let bytes = read_body(at.alloc, dumps, at.index, i, at.limits)?;
+    let base = at.index.section(i).body;
     Ok(Body { bytes, base })
+}
+
+/// Reads the heap of a process for a command that loads the body of the section at `place` before it, where there is
+/// one: the process is found and all bodies are judged before one is read.
+pub(crate) fn load_heap<D: Dumps>(
+    at: &Opened<'_>,
+    dumps: &mut D,
+    pid: &[u8],
+    place: Option<usize>,
+) -> Result<Heap, Stop>
+    requires over { IsBuiltOver (D.now dumps.old) at.now.index.now }
+    requires place { IfSome place (λ i. i < length at.now.index.now.headers) }
+    ensures reads { ReadsAtMost (used D.files D.now D.faults D.taken dumps.old dumps.new)
+        (body_size (heap_section at.now.index.now pid.now) + body_size (literals_section at.now.index.now)) }
+    ensures unread { IsSome (heap_listed pid.now (one_of (section_in at.now.index.now place)) at.now.limits.now (sections_in at.now.index.now)) → dumps.new ≡ dumps.old }
+    ensures heap { MatchResult result (HoldsHeap pid.now (one_of (section_in at.now.index.now place)) at.now.limits.now at.now.index.now (D.now dumps.old))
+        (IsHeapless pid.now (one_of (section_in at.now.index.now place)) at.now.limits.now at.now.index.now (used D.files D.now D.faults D.taken dumps.old dumps.new)) }
+{
+    find_process(at, pid)?;
+    if let Some(fault) = large_body(at, place) {
+        return Err(Stop::from(fault));
+    }
+    Ok(Heap::load(at.alloc, dumps, at.index, pid, at.limits)?)
 }

@@ -18,19 +18,21 @@ is_that pid s = is_named (codes "proc") (Some pid) s.text
 abbrev cause : List ℕ → Option Section → Option Refusal
 cause pid found = if is_some found then None else Some (NoProcess pid)
 
-pub returns-in_default : goal.returns-in_default
-returns-in_default c =
+pub returns-in_default-clause-judges : goal.returns-in_default-clause-judges
+returns-in_default-clause-judges c =
     let pid = c.args.pid.now in
-    let ss = sections_in c.args.index.now in
+    let ss = sections_in c.args.at.now.index.now in
     let none : process_section pid ss ≡ None = not-found (is_that pid) ss (sym c.in_default.ensures.place) in (
       tt,
       ap (cause pid) none ∙ ap (λ t. Some (NoProcess t)) (sym c.in_ok-pid.ensures.items ∙ sym c.new.ensures),
     )
 
-pub returns : goal.returns
-returns c =
+pub returns-clause-judges : goal.returns-clause-judges
+returns-clause-judges c =
     let pid = c.args.pid.now in
-    let ss = sections_in c.args.index.now in
-    let s = section_at c.args.index.now c.in-Some._place in
-    let here : process_section pid ss ≡ Some s = found-at (is_that pid) ss c.in-Some._place (section 0 0 0 []) (sym c.in-Some.ensures.place) in
-    ap (cause pid) here
+    let ss = sections_in c.args.at.now.index.now in
+    ap (cause pid) (found-at (is_that pid) ss c.in-Some.place (section 0 0 0 []) (sym c.in-Some.ensures.place))
+
+pub returns-clause-there : goal.returns-clause-there
+returns-clause-there c =
+    found-at (is_that c.args.pid.now) (sections_in c.args.at.now.index.now) c.in-Some.place (section 0 0 0 []) (sym c.in-Some.ensures.place)

@@ -1,0 +1,107 @@
+-- The bodies of an audit are judged in a row, and then read one after another.
+use Rattle.std.proofs.Common.{◌≡◌, ℕ, Bool, true, false, List, [], ◌∷◌, ◌++◌, length, map, Option, None, Some, refl, sym, ◌∙◌, ap, subst, inl, inr, if◌then◌else◌}
+use Rattle.std.specs.Prelude.{Err, IfSome, Ok, OnOk, Result, cond, is_some, nat_lt}
+use Rattle.std.specs.Bool.{then_some}
+use Rattle.std.specs.Global.{Vec}
+use Rattle.std.specs.Option.{option_map, option_or}
+use Rattle.std.proofs.lemmas.List.{length-map}
+use Rattle.dump_io.specs.Dumps.{Use, DeviceFailed}
+use Rattle.section_index.specs.Bodies.{body_length}
+use Rattle.section_index.specs.Index.{Contents, sections_in}
+use Rattle.section_index.specs.Sections.{Section}
+use Rattle.section_index.specs.declared.bodies.BodyFault.{BodyFault}
+use Rattle.section_index.specs.declared.bodies.BodyFault.TheVariants.{SectionTooLarge, Read, Memory}
+use Rattle.section_rows.specs.Loading.{first_large, large_fault, AreRefused}
+use Rattle.process_table.specs.Processes.{IsOver, Process, ProcessTable}
+use Rattle.process_table.specs.Records.{Placed, ProcPlaces, named_place, pid_of, proc_places, record_sections, records}
+use Rattle.audit_bodies.specs.Mailboxes.{audited_sections, mailbox_place, mailbox_places, mailboxes_at, pids_in}
+use Rattle.audit_bodies.specs.Inner.Mailboxes.{IsUncounted}
+use Rattle.audit_bodies.proofs.MailPlaces.{none-where, or-some}
+
+pub on-ok : {T E P : Type 0} (r : Result T E) → P → OnOk r P
+on-ok (Ok value) p = p
+on-ok (Err fault) p = tt
+
+abbrev fault_of : Section → BodyFault
+fault_of s = SectionTooLarge s.at (body_length s)
+
+-- the first of two lists that is too large is one of the first list, or one of the second
+pub large-append : (limit : ℕ) (xs ys : List Section) → large_fault limit (xs ++ ys) ≡ option_or (large_fault limit xs) (large_fault limit ys)
+large-append limit [] ys = refl
+large-append limit (s ∷ xs) ys =
+    elim (nat_lt limit (body_length s)) as (λ b. option_map fault_of (cond b (Some s) (first_large limit (xs ++ ys)))
+    ≡ option_or (option_map fault_of (cond b (Some s) (first_large limit xs))) (large_fault limit ys)) [ true ↦ refl | false ↦ large-append limit xs ys ]
+
+pub large-first : (limit : ℕ) (xs ys : List Section) → is_some (large_fault limit xs) ≡ true → large_fault limit xs ≡ large_fault limit (xs ++ ys)
+large-first limit xs ys some = sym (large-append limit xs ys ∙ or-some (large_fault limit xs) (large_fault limit ys) some)
+
+pub large-second : (limit : ℕ) (xs ys : List Section) → is_some (large_fault limit xs) ≡ false → large_fault limit ys ≡ large_fault limit (xs ++ ys)
+large-second limit xs ys none = sym (large-append limit xs ys ∙ ap (λ o. option_or o (large_fault limit ys)) (none-where (large_fault limit xs) none))
+
+-- where none of both lists is too large, none of either is
+pub small-both : (limit : ℕ) (xs ys : List Section) → large_fault limit (xs ++ ys) ≡ None → (large_fault limit xs ≡ None) × (large_fault limit ys ≡ None)
+small-both limit xs ys none = by (large_fault limit xs) (large_fault limit ys) (sym (large-append limit xs ys) ∙ none)
+  where
+    by : (o p : Option BodyFault) → option_or o p ≡ None → (o ≡ None) × (p ≡ None)
+    by None p is = (refl, is)
+    by (Some fault) p is = absurd (let no : ⊥ = cc (is) in no)
+
+-- where nothing is refused nothing is too large
+pub none-large : (limit : ℕ) (ss : List Section) → large_fault limit ss ≡ None → first_large limit ss ≡ None
+none-large limit ss none = by (first_large limit ss) none
+  where
+    by : (o : Option Section) → option_map fault_of o ≡ None → o ≡ None
+    by None is = refl
+    by (Some s) is = absurd (let no : ⊥ = cc (is) in no)
+
+-- bodies of which none is too large aren't loaded where the device fails or memory lacks
+pub IsUncounted-small : (limit : ℕ) (ss : List Section) (device : Use) (fault : BodyFault) → first_large limit ss ≡ None → AreRefused ss limit device fault → IsUncounted device fault
+IsUncounted-small limit ss device Read none cause = inl (refl, cause.0)
+IsUncounted-small limit ss device Memory none cause = inr refl
+IsUncounted-small limit ss device (SectionTooLarge at len) none cause = absurd (let no : ⊥ = cc (sym (ap (option_map fault_of) none) ∙ cause) in no)
+
+-- the first of them that is too large is why they aren't loaded
+pub AreRefused-large : (limit : ℕ) (ss : List Section) (device : Use) (fault : BodyFault) → large_fault limit ss ≡ Some fault → AreRefused ss limit device fault
+AreRefused-large limit ss device (SectionTooLarge at len) is = is
+AreRefused-large limit ss device Memory is = tt
+AreRefused-large limit ss device Read is = absurd (unlike (first_large limit ss) is)
+  where
+    unlike : (o : Option Section) → option_map fault_of o ≡ Some Read → ⊥
+    unlike None is = let no : ⊥ = cc (is) in no
+    unlike (Some s) is = let no : ⊥ = cc (is) in no
+
+pub AreRefused-small : (limit : ℕ) (ss : List Section) (device : Use) (fault : BodyFault) → first_large limit ss ≡ None → IsUncounted device fault → AreRefused ss limit device fault
+AreRefused-small limit ss device fault none (inl cause) = subst (AreRefused ss limit device) (sym cause.0) (cause.1, none)
+AreRefused-small limit ss device fault none (inr is) = subst (AreRefused ss limit device) (sym is) tt
+
+pub IsUncounted-later : (step device : Use) (fault : BodyFault) → (DeviceFailed step → DeviceFailed device) → IsUncounted step fault → IsUncounted device fault
+IsUncounted-later step device fault later (inl cause) = inl (cause.0, later cause.1)
+IsUncounted-later step device fault later (inr is) = inr is
+
+-- the pids that were found are those of the process table
+pub pids-found : (found : ProcPlaces) (sections : List Section) → found ≡ proc_places sections → map (λ (p : List ℕ × ℕ). p.0) found.places ≡ pids_in sections
+pids-found found sections is = ap (λ (t : ProcPlaces). map (λ (p : List ℕ × ℕ). p.0) t.places) is ∙ named (records sections)
+  where
+    named : (rs : List Placed) → map (λ (p : List ℕ × ℕ). p.0) (map named_place rs) ≡ map (λ (r : Placed). pid_of r.1) rs
+    named [] = refl
+    named (r ∷ rs) = ap (λ l. pid_of r.1 ∷ l) (named rs)
+
+-- the bodies at the places that were found are those of the audit
+pub bodies-found : (full : Bool) (sections : List Section) (places : List (Option ℕ)) → places ≡ (if full then mailbox_places sections else [])
+    → record_sections sections ++ mailboxes_at sections places ≡ audited_sections full sections
+bodies-found true sections places is = ap (λ ps. record_sections sections ++ mailboxes_at sections ps) is
+bodies-found false sections places is = ap (λ ps. record_sections sections ++ mailboxes_at sections ps) is
+
+-- what was counted at these places
+pub counts-found : (full : Bool) (sections : List Section) (places : List (Option ℕ)) (mail : Option ℕ → Option ℕ) (counts : Vec (Option ℕ))
+    → places ≡ (if full then mailbox_places sections else []) → counts.items ≡ map mail places
+    → option_map (λ (c : Vec (Option ℕ)). c.items) (then_some full counts) ≡ (if full then Some (map mail (mailbox_places sections)) else None)
+counts-found true sections places mail counts is counted = ap Some (counted ∙ ap (map mail) is)
+counts-found false sections places mail counts is counted = refl
+
+pub counts-all : (full : Bool) (index : Contents) (places : List (Option ℕ)) (counts : Vec (Option ℕ)) (table : ProcessTable)
+    → places ≡ (if full then mailbox_places (sections_in index) else []) → length counts.items ≡ length places → IsOver index table
+    → IfSome (then_some full counts) (λ c. length c.items ≡ length table.processes)
+counts-all true index places counts table is all over =
+    all ∙ ap length is ∙ length-map (pids_in (sections_in index)) (mailbox_place (sections_in index)) ∙ ap length (sym over.pids) ∙ length-map table.processes (λ (p : Process). p.pid)
+counts-all false index places counts table is all over = tt

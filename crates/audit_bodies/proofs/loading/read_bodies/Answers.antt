@@ -1,0 +1,76 @@
+use Rattle.std.proofs.Common.{◌≡◌, length, map, All, sym, ◌∙◌, ap, subst, arith}
+use Rattle.std.specs.Option.{option_map}
+use Rattle.std.specs.Prelude.{IfSome}
+use Rattle.std.proofs.lemmas.Result.{err_from_is_err_and}
+use Rattle.std.proofs.lemmas.List.Sums.{sum_by-append}
+use Rattle.dump_io.specs.Dumps.{used}
+use Rattle.dump_io.specs.Laws.Reads.{ReadsAtMost-both, ReadsAtMost-within}
+use Rattle.section_index.specs.Bodies.{body_length}
+use Rattle.section_index.specs.Index.{sections_in, state_of}
+use Rattle.section_rows.specs.Loading.{bodies_length}
+use Rattle.process_table.specs.Records.{record_sections}
+use Rattle.audit_bodies.specs.Mailboxes.{mail_in, mailboxes_at}
+use Rattle.audit_bodies.specs.Inner.Mailboxes.{IsSmall}
+use Rattle.audit_bodies.proofs.Loads.{IsUncounted-later, IsUncounted-small, counts-all, counts-found, none-large, small-both}
+use Rattle.audit_bodies.proofs.MailPlaces.{All-small}
+use Rattle.audit_bodies.proofs.loading.read_bodies.Goals as goal
+
+pub count_messages-requires-clause-small : goal.count_messages-requires-clause-small
+count_messages-requires-clause-small g c =
+    let sections = sections_in c.args.index.now in
+    let places = c.args.places.mailboxes.items in
+    let limit = c.args.limits.now.section in
+    subst (All (IsSmall c.args.index.now limit)) (sym c.as_slice.ensures.value)
+    (All-small c.args.index.now limit places (small-both limit (record_sections sections) (mailboxes_at sections places) c.requires.small).1)
+
+pub returns-in_err-procs-clause-reads : goal.returns-in_err-procs-clause-reads
+returns-in_err-procs-clause-reads g c =
+    let sections = sections_in c.args.index.now in
+    ReadsAtMost-within (omega (arith, sum_by-append body_length (record_sections sections) (mailboxes_at sections c.args.places.mailboxes.items))) c.in_err-procs.ensures.reads
+
+pub returns-in_err-procs-clause-fault : goal.returns-in_err-procs-clause-fault
+returns-in_err-procs-clause-fault g c =
+    let d = g.D.Dumps in
+    let sections = sections_in c.args.index.now in
+    let limit = c.args.limits.now.section in
+    let p = err_from_is_err_and c.from_residual.result c.from_residual.ensures.1 in
+    rw (p.1, p.2) (IsUncounted-small limit (record_sections sections) (used d.files d.now d.faults d.taken c.args.dumps.now c.read.new.dumps) _
+    (none-large limit (record_sections sections) (small-both limit (record_sections sections) (mailboxes_at sections c.args.places.mailboxes.items) c.requires.small).0) c.in_err-procs.ensures.fault)
+
+pub returns-in_err-counts-clause-reads : goal.returns-in_err-counts-clause-reads
+returns-in_err-counts-clause-reads g c =
+    let sections = sections_in c.args.index.now in
+    let places = c.args.places.mailboxes.items in
+    ReadsAtMost-both c.in_ok-procs.ensures.reads c.in_err-counts.ensures.reads
+    (omega (arith, sum_by-append body_length (record_sections sections) (mailboxes_at sections places), ap (λ ps. bodies_length (mailboxes_at sections ps)) c.as_slice.ensures.value))
+
+pub returns-in_err-counts-clause-fault : goal.returns-in_err-counts-clause-fault
+returns-in_err-counts-clause-fault g c =
+    let d = g.D.Dumps in
+    let p = err_from_is_err_and c.from_residual-in_err-counts.result c.from_residual-in_err-counts.ensures.1 in
+    rw (p.1, p.2) (IsUncounted-later (used d.files d.now d.faults d.taken c.read.new.dumps c.count_messages.new.dumps) (used d.files d.now d.faults d.taken c.args.dumps.now c.count_messages.new.dumps) _
+    (λ rose. omega (arith, rose, c.in_ok-procs.ensures.reads.later)) c.in_err-counts.ensures.fault)
+
+pub returns-clause-reads : goal.returns-clause-reads
+returns-clause-reads g c =
+    let sections = sections_in c.args.index.now in
+    let places = c.args.places.mailboxes.items in
+    ReadsAtMost-both c.in_ok-procs.ensures.reads c.in_ok-counts.ensures.reads
+    (omega (arith, sum_by-append body_length (record_sections sections) (mailboxes_at sections places), ap (λ ps. bodies_length (mailboxes_at sections ps)) c.as_slice.ensures.value))
+
+pub returns-clause-counts : goal.returns-clause-counts
+returns-clause-counts g c = λ bytes same.
+    let sections = sections_in c.args.index.now in
+    let mail = mail_in bytes (state_of c.args.index.now.headers) sections in
+    ap (option_map (λ counts. counts.items)) c.then_some.ensures
+    ∙ counts-found c.args.full sections c.args.places.mailboxes.items mail c.in_ok-counts.counts c.requires.places.mailboxes
+    (c.in_ok-counts.ensures.counts bytes (c.in_ok-procs.ensures.reads.same_now ∙ same) ∙ ap (map mail) c.as_slice.ensures.value)
+
+pub returns-clause-auditable : goal.returns-clause-auditable
+returns-clause-auditable g c =
+    record {
+      sections = c.in_ok-procs.ensures.named;
+      counts = subst (λ mails. IfSome mails (λ counts. length counts.items ≡ length c.in_ok-procs.procs.processes)) (sym c.then_some.ensures)
+          (counts-all c.args.full c.args.index.now c.args.places.mailboxes.items c.in_ok-counts.counts c.in_ok-procs.procs c.requires.places.mailboxes
+          (c.in_ok-counts.ensures.all ∙ ap length c.as_slice.ensures.value) c.in_ok-procs.ensures.over);
+    }

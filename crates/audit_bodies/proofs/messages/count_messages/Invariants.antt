@@ -1,0 +1,16 @@
+use Rattle.std.proofs.Common.{◌≡◌, ℕ, List, length, map, take}
+use Rattle.dump_io.specs.Dumps.{told, used, ReadsAtMost}
+use Rattle.section_index.specs.Index.{sections_in, state_of}
+use Rattle.section_rows.specs.Loading.{bodies_length}
+use Rattle.audit_bodies.specs.Mailboxes.{mail_in, mailboxes_at}
+use Rattle.audit_bodies.proofs.messages.count_messages.Given as goal
+
+-- the messages of the mailboxes so far were counted
+abbrev pub invariant-loop-place : goal.invariant-loop-place
+invariant-loop-place g l =
+    let places = take l.place-index l.places in
+    record {
+      reads : ReadsAtMost (used g.D.Dumps.files g.D.Dumps.now g.D.Dumps.faults g.D.Dumps.taken l.initial.dumps l.dumps) (bodies_length (mailboxes_at (sections_in l.index) places));
+      counts : (bytes : List ℕ) → g.D.Dumps.now l.initial.dumps ≡ told bytes → l.counts.items ≡ map (mail_in bytes (state_of l.index.headers) (sections_in l.index)) places;
+      all : length l.counts.items ≡ l.place-index;
+    }

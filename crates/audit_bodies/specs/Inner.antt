@@ -1,0 +1,3 @@
+-- What only private functions cite: how the bodies of an audit are found.
+pub mod Mailboxes
+pub mod Places

@@ -1,0 +1,16 @@
+-- Where the bodies of an audit are.
+use Rattle.std.specs.Prelude.{◌≡◌, ◌<◌, Bool, [], length, All, if◌then◌else◌}
+use Rattle.section_index.specs.Index.{Contents, sections_in}
+use Rattle.section_rows.specs.Loading.{sections_at}
+use Rattle.process_table.specs.Records.{proc_places}
+use Rattle.audit_bodies.specs.Mailboxes.{mailbox_places, mailboxes_at}
+use Rattle.audit_bodies.specs.Inner.Mailboxes.{IsWithin}
+use Rattle.audit_bodies.specs.declared.loading.BodyPlaces.{BodyPlaces}
+
+-- the bodies of an audit, as the index tells them: the processes, in a full audit their mailboxes, and those that are there
+pub record AreBodyPlaces (full : Bool) (index : Contents) (places : BodyPlaces) : Type 0 where
+  pub found : places.found ≡ proc_places (sections_in index)
+  pub mailboxes : places.mailboxes.items ≡ (if full then mailbox_places (sections_in index) else [])
+  pub within : All (IsWithin index) places.mailboxes.items
+  pub present : sections_at index places.present.items ≡ mailboxes_at (sections_in index) places.mailboxes.items
+  pub there : All (λ i. i < length index.headers) places.present.items

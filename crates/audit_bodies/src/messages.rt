@@ -1,0 +1,94 @@
+// The messages of processes are counted, one mailbox after another.
+ghost use Rattle.std.specs.Prelude.{◌≡◌, ℕ, List, [], ◌∷◌, ◌<◌, ◌≤◌, length, map, All, IfOk, IfErr};
+ghost use Rattle.dump_io.specs.Dumps.{told, used, ReadsAtMost};
+ghost use Rattle.section_index.specs.Bodies.{section_at, body_length};
+ghost use Rattle.section_index.specs.Index.{IsBuiltOver, sections_in, state_of};
+ghost use Rattle.section_rows.specs.Loading.{bodies_length};
+ghost use Rattle.dump_audit.specs.Findings.{is_cut};
+ghost use Rattle.audit_bodies.specs.Mailboxes.{mail_at, mail_in, mailboxes_at};
+ghost use Rattle.audit_bodies.specs.Inner.Mailboxes.{IsSmall, IsUncounted, IsWithin};
+
+use dump_io::{Dumps, Limits};
+use root_views::messages;
+use section_index::{BodyFault, Index, State, read_body};
+use std::alloc::Global;
+
+// Whether the dump breaks off in the section at a place.
+fn is_cut(index: &Index, i: usize) -> bool
+    ensures { result ≡ is_cut (state_of index.now.headers) i }
+{
+    match index.state() {
+        State::Whole => false,
+        State::TruncatedIn(last) => i == last,
+    }
+}
+
+// Loads the mailbox at a place, counts its messages, and lets it go. One in which the dump breaks off isn't counted.
+fn count_at<D: Dumps>(
+    alloc: Global,
+    dumps: &mut D,
+    index: &Index,
+    i: usize,
+    limits: &Limits,
+) -> Result<Option<u64>, BodyFault>
+    requires over { IsBuiltOver (D.now dumps.old) index.now }
+    requires place { i < length index.now.headers }
+    requires small { body_length (section_at index.now i) ≤ limits.now.section }
+    ensures reads { ReadsAtMost (used D.files D.now D.faults D.taken dumps.old dumps.new) (body_length (section_at index.now i)) }
+    ensures count { IfOk result (λ count. (bytes : List ℕ) → D.now dumps.old ≡ told bytes → count ≡ mail_at bytes (state_of index.now.headers) (sections_in index.now) i) }
+    ensures fault { IfErr result (IsUncounted (used D.files D.now D.faults D.taken dumps.old dumps.new)) }
+{
+    if is_cut(index, i) {
+        return Ok(None);
+    }
+    let body = read_body(alloc, dumps, index, i, limits)?;
+    Ok(Some(messages(body.as_slice())))
+}
+
+// The same of a process that may have no mailbox.
+fn count_in<D: Dumps>(
+    alloc: Global,
+    dumps: &mut D,
+    index: &Index,
+    place: Option<usize>,
+    limits: &Limits,
+) -> Result<Option<u64>, BodyFault>
+    requires over { IsBuiltOver (D.now dumps.old) index.now }
+    requires within { IsWithin index.now place }
+    requires small { IsSmall index.now limits.now.section place }
+    ensures reads { ReadsAtMost (used D.files D.now D.faults D.taken dumps.old dumps.new) (bodies_length (mailboxes_at (sections_in index.now) (place ∷ []))) }
+    ensures count { IfOk result (λ count. (bytes : List ℕ) → D.now dumps.old ≡ told bytes → count ≡ mail_in bytes (state_of index.now.headers) (sections_in index.now) place) }
+    ensures fault { IfErr result (IsUncounted (used D.files D.now D.faults D.taken dumps.old dumps.new)) }
+{
+    match place {
+        None => Ok(None),
+        Some(i) => count_at(alloc, dumps, index, i, limits),
+    }
+}
+
+/// Counts the messages of the mailboxes at some places, of which none is too large. Each is loaded, counted and given up
+/// in turn.
+pub(crate) fn count_messages<D: Dumps>(
+    alloc: Global,
+    dumps: &mut D,
+    index: &Index,
+    places: &[Option<usize>],
+    limits: &Limits,
+) -> Result<Vec<Option<u64>>, BodyFault>
+    requires over { IsBuiltOver (D.now dumps.old) index.now }
+    requires within { All (IsWithin index.now) places.now }
+    requires small { All (IsSmall index.now limits.now.section) places.now }
+    ensures reads { ReadsAtMost (used D.files D.now D.faults D.taken dumps.old dumps.new) (bodies_length (mailboxes_at (sections_in index.now) places.now)) }
+    ensures counts { IfOk result (λ counts. (bytes : List ℕ) → D.now dumps.old ≡ told bytes → counts.items ≡ map (mail_in bytes (state_of index.now.headers) (sections_in index.now)) places.now) }
+    ensures all { IfOk result (λ counts. length counts.items ≡ length places.now) }
+    ensures fault { IfErr result (IsUncounted (used D.files D.now D.faults D.taken dumps.old dumps.new)) }
+{
+    let mut counts = Vec::new(alloc);
+    for place in places {
+        let count = count_in(alloc, dumps, index, *place, limits)?;
+        if counts.push(count).is_err() {
+            return Err(BodyFault::Memory);
+        }
+    }
+    Ok(counts)
+}

@@ -1,8 +1,0 @@
-use Rattle.std.proofs.Common.{◌≡◌, map, take}
-use Rattle.section_index.specs.Index.{sections_in}
-use Rattle.dump_command.specs.Audits.{mailbox_place}
-use Rattle.dump_command.proofs.mailboxes.mailboxes.Given as goal
-
--- the places of the processes so far
-abbrev pub invariant-loop-p : goal.invariant-loop-p
-invariant-loop-p l = l.places.items ≡ map (mailbox_place (sections_in l.index)) (map (λ p. p.0) (take l.p l.found.places))

@@ -1,0 +1,57 @@
+-- What a command reads of the dump that is open, and what it leaves of its report.
+use Rattle.std.specs.Prelude.{◌≡◌, ℕ, ◌≤◌, List, Option, None, Some, Result, Ok, Err, MatchResult}
+use Rattle.std.specs.Option.{option_or}
+use Rattle.dump_io.specs.Dumps.{Use, DeviceFailed, ReadsAtMost}
+use Rattle.dump_io.specs.Limits.{Numbers}
+use Rattle.dump_io.specs.Sinks.{Change, SinkFailed, IsKept, Gained, GainedFront}
+use Rattle.section_index.specs.Index.{Contents, sections_in}
+use Rattle.report_text.specs.declared.refusals.Refusal.{Refusal}
+use Rattle.report_text.specs.Refusals.{IsRefusal}
+use Rattle.dump_command.specs.Command.{Command}
+use Rattle.dump_command.specs.Report.{report, report_status, refusal_held, refusal_listed, reread, unless_refused}
+use Rattle.dump_command.specs.Inner.Opened.{IsIndexed}
+use Rattle.dump_command.specs.Inner.Runs.{IsEnding}
+use Rattle.dump_command.specs.declared.stop.Stop.{Stop}
+use Rattle.dump_command.specs.declared.stop.Stop.TheVariants.{Refused, NotRead, NotWritten, NoMemory}
+
+-- why a command on an accepted dump with this index is refused: the first cause that holds
+abbrev pub refusal_over : Command → Contents → List ℕ → Numbers → Option Refusal
+refusal_over cmd index bytes limits = option_or (refusal_listed cmd (sections_in index) limits) (refusal_held cmd bytes limits)
+
+-- no more is taken of the dump that is open than the command is allowed behind the pass over it
+pub record Takes (cmd : Command) (limits : Numbers) (index : Contents) (step : Use) : Type 0 where
+  pub bytes : ℕ
+  pub reads : ReadsAtMost step bytes
+  pub few : (all : List ℕ) → IsIndexed all limits index step.now_before → bytes ≤ unless_refused (refusal_listed cmd (sections_in index) limits) (reread cmd all)
+
+abbrev pub IsHaltedFor : Command → Numbers → Contents → Use → Stop → Type 0
+IsHaltedFor cmd limits index step (Refused why) =
+    IsRefusal why × ((bytes : List ℕ) → IsIndexed bytes limits index step.now_before → refusal_over cmd index bytes limits ≡ Some why)
+IsHaltedFor cmd limits index step NotRead = DeviceFailed step
+IsHaltedFor cmd limits index step NotWritten = ⊥
+IsHaltedFor cmd limits index step NoMemory = Unit {0}
+
+-- why a command stopped while it read
+pub record IsHalted (cmd : Command) (limits : Numbers) (index : Contents) (step : Use) (stop : Stop) : Type 0 where
+  pub takes : Takes cmd limits index step
+  pub cause : IsHaltedFor cmd limits index step stop
+
+-- a command has read all: nothing is refused, this text is its report and this its status
+pub record HasRead (cmd : Command) (limits : Numbers) (index : Contents) (step : Use) (text : List ℕ) (status : ℕ) : Type 0 where
+  pub takes : Takes cmd limits index step
+  pub ends : IsEnding cmd status
+  pub told : (bytes : List ℕ) → IsIndexed bytes limits index step.now_before
+      → (refusal_over cmd index bytes limits ≡ None) × (text ≡ report cmd bytes) × (status ≡ report_status cmd bytes)
+
+-- a command reads what its report is written of, or says why not
+abbrev pub ReadsFor : {V : Type 0} → Command → Numbers → Contents → Use → (V → List ℕ) → (V → ℕ) → Result V Stop → Type 0
+ReadsFor cmd limits index step text status result =
+    MatchResult result (λ loaded. HasRead cmd limits index step (text loaded) (status loaded)) (IsHalted cmd limits index step)
+
+-- what a report on what was read leaves
+abbrev pub Tells : Change → List ℕ → ℕ → Result ℕ Stop → Type 0
+Tells out text status (Ok ended) = (ended ≡ status) × Gained out text
+Tells out text status (Err (Refused why)) = ⊥
+Tells out text status (Err NotRead) = ⊥
+Tells out text status (Err NotWritten) = GainedFront out text × SinkFailed out
+Tells out text status (Err NoMemory) = IsKept out

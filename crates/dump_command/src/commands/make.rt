@@ -1,0 +1,26 @@
+// `make`: a dump that is made. No file is opened.
+ghost use Rattle.std.specs.Prelude.{◌≤◌};
+ghost use Rattle.dump_io.specs.Sinks.{changed};
+ghost use Rattle.dump_command.specs.Command.{make};
+ghost use Rattle.dump_command.specs.Inner.Alone.{RunsAlone};
+
+use crate::status::DONE;
+use crate::stop::Stop;
+use dump_io::{Sink, write_all};
+use dump_write::make;
+use std::alloc::Global;
+
+pub(crate) fn run_make<K: Sink>(
+    alloc: Global,
+    seed: u64,
+    count: u32,
+    out: &mut K,
+) -> Result<u8, Stop>
+    requires some { 1 ≤ count }
+    requires few { count ≤ 200000 }
+    ensures { RunsAlone (make seed count) (changed K.written K.faults out.old out.new) result }
+{
+    let dump = make(alloc, seed, count)?;
+    write_all(out, dump.as_slice())?;
+    Ok(DONE)
+}

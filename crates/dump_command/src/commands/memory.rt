@@ -1,0 +1,40 @@
+// `memory`: the fields of the first section on memory.
+ghost use Rattle.dump_command.specs.Command.{memory};
+ghost use Rattle.dump_command.specs.Inner.Fields.{fields_text, HasPlaces};
+
+use crate::commands::subjects::{Body, read_found};
+use crate::open::Opened;
+use crate::report::Report;
+use crate::status::DONE;
+use crate::stop::Stop;
+use dump_io::{Dumps, Sink};
+use report_text::put_fields;
+
+#[derive(Clone, Copy)]
+pub(crate) struct Memory<'a> {
+    pub(crate) file: &'a str,
+}
+
+impl Report for Memory<'_> {
+    type Loaded = Body;
+
+    ghost command = { λ c. memory c.file.now };
+
+    ghost text = { λ _ _ body. fields_text body };
+
+    ghost fits = { λ _ _ body. HasPlaces body };
+
+    fn file(&self) -> &str {
+        self.file
+    }
+
+    fn read<D: Dumps>(&self, at: &Opened<'_>, dumps: &mut D) -> Result<Body, Stop> {
+        let place = at.index.first_tag(b"memory");
+        Ok(read_found(at, dumps, place)?)
+    }
+
+    fn put<K: Sink>(&self, _at: &Opened<'_>, body: &Body, out: &mut K) -> Result<u8, Stop> {
+        put_fields(out, body.bytes.as_slice(), body.base)?;
+        Ok(DONE)
+    }
+}

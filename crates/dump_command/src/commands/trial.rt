@@ -1,0 +1,27 @@
+// `trial`: how much there is in a made dump, and what is bad or one-sided. No file is opened.
+ghost use Rattle.std.specs.Prelude.{◌≤◌};
+ghost use Rattle.dump_io.specs.Sinks.{changed};
+ghost use Rattle.dump_command.specs.Command.{trial};
+ghost use Rattle.dump_command.specs.Inner.Alone.{RunsAlone};
+
+use crate::status::DONE;
+use crate::stop::Stop;
+use dump_io::Sink;
+use dump_trial::trial;
+use report_text::put_trial;
+use std::alloc::Global;
+
+pub(crate) fn run_trial<K: Sink>(
+    alloc: Global,
+    seed: u64,
+    count: u32,
+    out: &mut K,
+) -> Result<u8, Stop>
+    requires some { 1 ≤ count }
+    requires few { count ≤ 200000 }
+    ensures { RunsAlone (trial seed count) (changed K.written K.faults out.old out.new) result }
+{
+    let summary = trial(alloc, seed, count)?;
+    put_trial(out, &summary)?;
+    Ok(DONE)
+}

@@ -1,0 +1,47 @@
+-- What the real devices show of themselves: the size of what is open, and their counts.
+use Rattle.std.specs.Prelude.{ℕ, Bool, ◌^◌, ◌<◌, ◌-◌, min, List, Option, None, Some}
+use Rattle.std.proofs.Common.{lit<, arith}
+use Rattle.std.specs.declared.io.traits.Write.{Ghosts}
+use Rattle.std.specs.Io.KnownBytes.{append_known}
+use Rattle.dump_io.specs.Count.{number_in}
+use Rattle.dump_io.specs.Dumps.{Now, closed, sized, size_of}
+use Rattle.host_devices.specs.declared.file_dumps.OpenDump.{OpenDump}
+use Rattle.host_devices.specs.declared.file_dumps.FileDumps.{FileDumps}
+use Rattle.host_devices.specs.declared.std_sink.StdSink.{StdSink}
+
+-- of a file of the machine the size alone is told
+abbrev pub now_in : Option OpenDump → Now
+now_in None = closed
+now_in (Some dump) = sized (min dump.size (2 ^ 64 - 1))
+
+pub now_in-small : (dump : Option OpenDump) → size_of (now_in dump) < 2 ^ 64
+now_in-small None = lit< tt
+now_in-small (Some dump) = omega arith
+
+-- what is open
+abbrev pub now_of : FileDumps → Now
+now_of dumps = now_in dumps.«open»
+
+-- how often the device failed
+abbrev pub faults_of : FileDumps → ℕ
+faults_of dumps = number_in dumps.faults
+
+-- how many bytes the device gave
+abbrev pub taken_of : FileDumps → ℕ
+taken_of dumps = number_in dumps.taken
+
+-- how often a stream failed
+abbrev pub count_of : {W : Type 0} {w : Ghosts W} → StdSink W w → ℕ
+count_of sink = number_in sink.faults
+
+-- whether a stream failed, after which it gets nothing more
+abbrev pub is_broken_in : {W : Type 0} {w : Ghosts W} → StdSink W w → Bool
+is_broken_in sink = sink.is_broken
+
+-- the stream behind the buffer
+abbrev pub stream_of : {W : Type 0} {w : Ghosts W} → StdSink W w → W
+stream_of sink = sink.stream
+
+-- the bytes that the stream holds, where it tells them, and behind them those that are gathered
+abbrev pub held_by : {W : Type 0} {w : Ghosts W} → StdSink W w → Option (List ℕ)
+held_by {W} {w} sink = append_known (w.contents sink.stream) sink.gathered.items

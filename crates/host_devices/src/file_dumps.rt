@@ -1,0 +1,113 @@
+// The files of the machine.
+ghost use Rattle.std.specs.Prelude.{◌≡◌, ◌<◌, length, None, is_err, if◌then◌else◌};
+ghost use Rattle.dump_io.specs.Count.{number_in-small};
+ghost use Rattle.dump_io.specs.Counts.{plus_capped};
+ghost use Rattle.dump_io.specs.Dumps.{closed, size_of, used, Opens, ReadsSome};
+ghost use Rattle.host_devices.specs.Devices.{faults_of, taken_of, now_of, now_in-small};
+
+use dump_io::{Count, Dumps, Failed};
+use std::fs::{self, File, OpenFile};
+use std::os::unix::fs::FileExt;
+
+#[derive(Drop)]
+struct OpenDump {
+    file: File,
+    size: u64,
+}
+
+/// The files of the machine. It tells neither its files nor their bytes, and counts each error of the
+/// machine as a fault: a name that can't be opened, a read that fails, and a file that ends before the
+/// size that it had when it was opened.
+#[derive(Drop)]
+pub struct FileDumps<'a> {
+    rt: &'a HostRuntime,
+    open: Option<OpenDump>,
+    faults: Count,
+    taken: Count,
+}
+
+impl<'a> FileDumps<'a> {
+    /// The machine's files, none of which is open yet.
+    pub fn new(rt: &'a HostRuntime) -> FileDumps<'a>
+        ensures now { now_of result ≡ closed }
+        ensures faults { faults_of result ≡ 0 }
+        ensures taken { taken_of result ≡ 0 }
+    {
+        FileDumps {
+            rt,
+            open: None,
+            faults: Count::new(),
+            taken: Count::new(),
+        }
+    }
+
+    fn open_named(&self, name: &str) -> Option<OpenDump> {
+        let file = fs::open(self.rt, name).ok()?;
+        let size = file.metadata().ok()?.len();
+        Some(OpenDump { file, size })
+    }
+}
+
+impl<'a> Dumps for FileDumps<'a> {
+    ghost files = { λ _. None };
+
+    ghost now = { now_of };
+
+    ghost faults = { faults_of };
+
+    ghost taken = { taken_of };
+
+    ghost small_size = { λ d. now_in-small d.«open» };
+
+    ghost small_taken = { λ d. number_in-small d.taken };
+
+    fn open_dump(&mut self, name: &str) -> Result<u64, Failed>
+        ensures opens { Opens (used (λ _. None) now_of faults_of taken_of self.old self.new) name.now result }
+
+        ensures count { faults_of self.new ≡ (if is_err result then plus_capped (faults_of self.old) 1 else faults_of self.old) }
+    {
+        self.open = None;
+        match self.open_named(name) {
+            None => {
+                self.faults.rise();
+                Err(Failed)
+            }
+            Some(open) => {
+                let size = open.size;
+                self.open = Some(open);
+                Ok(size)
+            }
+        }
+    }
+
+    fn read_at(&mut self, at: u64, into: &mut [u8]) -> Result<usize, Failed>
+        requires inside { at < size_of (now_of self.old) }
+        requires room { 0 < length into.old }
+        ensures reads { ReadsSome (used (λ _. None) now_of faults_of taken_of self.old self.new) at into.new result }
+
+        ensures count { faults_of self.new ≡ (if is_err result then plus_capped (faults_of self.old) 1 else faults_of self.old) }
+    {
+        let Some(open) = &self.open else {
+            unreachable!()
+        };
+        let left = open.size - at;
+        let most = if (into.len() as u64) <= left {
+            into.len()
+        } else {
+            left as usize
+        };
+        match open.file.read_at(&mut into[..most], at) {
+            Ok(n) if n > 0 => {
+                self.taken.add(n as u64);
+                Ok(n)
+            }
+            _ => {
+                self.faults.rise();
+                Err(Failed)
+            }
+        }
+    }
+}
+
+#[cfg(test)]
+mod tests;

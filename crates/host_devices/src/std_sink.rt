@@ -1,0 +1,108 @@
+// The streams of the machine.
+ghost use Rattle.std.specs.Prelude.{◌≡◌, ◌≤◌, ◌<◌, true, false, length, take, None, is_err, vec_len, vec_capacity, IsErr, IfOk, OnErr, OnOk, [], if◌then◌else◌};
+ghost use Rattle.std.specs.Io.KnownBytes.{Appends, Keeps};
+ghost use Rattle.dump_io.specs.Counts.{Rose, plus_capped};
+ghost use Rattle.dump_io.specs.Sinks.{changed, TakesSome};
+
+use dump_io::{Count, Failed, Sink};
+use std::alloc::{AllocError, Global};
+use std::io::Write;
+
+// How many bytes a stream gathers.
+const GATHERED: usize = 65_536;
+
+/// A stream of the machine. It gathers what is written and hands it on when 64 KiB have come together
+/// and at `flush`. It doesn't tell what was written, and counts each error as a fault, a write that takes
+/// nothing among them. After a fault it hands on nothing more, and each later call fails. Until then what the
+/// stream got and what is gathered are all that was taken, in order.
+#[derive(Drop)]
+pub struct StdSink<W: Write + Drop> {
+    stream: W,
+    gathered: Vec<u8>,
+    is_broken: bool,
+    faults: Count,
+    ghost within: { vec_len gathered ≤ 65536 },
+    ghost room: { 65536 ≤ vec_capacity gathered },
+}
+
+impl<W: Write + Drop> StdSink<W> {
+    ghost use Rattle.host_devices.specs.Devices.{count_of, held_by, is_broken_in, stream_of};
+
+    /// A sink over a stream. Its buffer is all the memory that it takes.
+    pub fn new(alloc: Global, stream: W) -> Result<StdSink<W>, AllocError>
+        ensures faults { IfOk result (λ sink. count_of sink ≡ 0) }
+        ensures sound { IfOk result (λ sink. is_broken_in sink ≡ false) }
+        ensures stream { IfOk result (λ sink. stream_of sink ≡ stream) }
+        ensures empty { IfOk result (λ sink. sink.gathered.items ≡ []) }
+    {
+        Ok(StdSink {
+            stream,
+            gathered: Vec::with_capacity(alloc, GATHERED)?,
+            is_broken: false,
+            faults: Count::new(),
+        })
+    }
+
+    /// Hands on what is gathered. `Failed` comes where the stream fails now or did before, and the count of
+    /// faults rises then and only then.
+    pub fn flush(&mut self) -> Result<(), Failed>
+        ensures later { count_of self.old ≤ count_of self.new }
+        ensures failed { OnErr result (Rose (count_of self.old) (count_of self.new)) }
+        ensures count { count_of self.new ≡ (if is_err result then plus_capped (count_of self.old) 1 else count_of self.old) }
+        ensures broken { is_broken_in self.new ≡ is_err result }
+        ensures failing { is_broken_in self.old ≡ true → IsErr result }
+        ensures silent { is_broken_in self.old ≡ true → stream_of self.new ≡ stream_of self.old }
+        ensures empty { OnOk result (self.new.gathered.items ≡ []) }
+
+        // The stream then holds what was gathered, where it tells its bytes.
+        ensures held { OnOk result (Keeps (held_by self.old) (held_by self.new)) }
+    {
+        if !self.is_broken && self.hand_on() {
+            self.gathered.clear();
+            return Ok(());
+        }
+        self.is_broken = true;
+        self.faults.rise();
+        Err(Failed)
+    }
+
+    fn hand_on(&mut self) -> bool
+        ensures gathered { self.new.gathered ≡ self.old.gathered }
+        ensures broken { self.new.is_broken ≡ self.old.is_broken }
+        ensures count { self.new.faults ≡ self.old.faults }
+        ensures handed { result ≡ true → Appends (W.contents self.old.stream) (W.contents self.new.stream) self.old.gathered.items }
+    {
+        self.stream.write_all(self.gathered.as_slice()).is_ok() && self.stream.flush().is_ok()
+    }
+}
+
+impl<W: Write + Drop> Sink for StdSink<W> {
+    ghost use Rattle.host_devices.specs.Devices.{count_of, held_by, is_broken_in, stream_of};
+
+    ghost written = { λ _. None };
+
+    ghost faults = { count_of };
+
+    fn write(&mut self, piece: &[u8]) -> Result<usize, Failed>
+        requires { 0 < length piece.now }
+        ensures takes { TakesSome (changed (λ _. None) count_of self.old self.new) piece.now result }
+
+        ensures count { count_of self.new ≡ (if is_err result then plus_capped (count_of self.old) 1 else count_of self.old) }
+        ensures broken { is_broken_in self.new ≡ is_err result }
+        ensures failing { is_broken_in self.old ≡ true → IsErr result }
+        ensures silent { is_broken_in self.old ≡ true → stream_of self.new ≡ stream_of self.old }
+
+        // What it takes stands behind all that it took before, where the stream tells its bytes.
+        ensures held { IfOk result (λ n. Appends (held_by self.old) (held_by self.new) (take n piece.now)) }
+    {
+        if self.is_broken || self.gathered.len() == GATHERED {
+            self.flush()?;
+        }
+        let n = piece.len().min(GATHERED - self.gathered.len());
+        self.gathered.extend_from_slice(&piece[..n]).unwrap();
+        Ok(n)
+    }
+}
+
+#[cfg(test)]
+mod tests;
