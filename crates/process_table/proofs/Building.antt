@@ -13,26 +13,25 @@ use Rattle.section_index.specs.Lookups.{has_tag, is_named}
 use Rattle.section_index.specs.Sections.{Section, id_of, sections, sections_of}
 use Rattle.section_rows.specs.Loading.{sections_at}
 use Rattle.section_rows.specs.Rows.{Row, rows_of, body_of}
-use Rattle.process_table.specs.declared.pid_key.PidKey.{PidKey}
+use Rattle.process_table.specs.declared.pids.PidPlace.{PidPlace}
 use Rattle.process_table.specs.Records.{Placed, ProcPlaces, placed, is_process, named_place, proc_places, pid_of, records, record_sections, repeated}
 use Rattle.process_table.specs.Processes.{Process, ProcessTable, process_in, process_table, IsIn, IsOver}
-use Rattle.process_table.specs.Inner.Finding.{Places, named_places, AreFound, IsRecordOf}
+use Rattle.process_table.specs.Inner.Finding.{named_places, AreFound, IsRecordOf, sections_of as places_in}
 use Rattle.process_table.specs.declared.finding.Found.{Found}
 use Rattle.process_table.specs.Inner.Joined.{joined, all_joined, field_columns}
 use Rattle.process_table.proofs.Joining.{length-named, pids-all_joined}
 
--- the places that the map keeps are those of the records
-pub places-records : (rs : List Placed) (entries : List (PidKey × ℕ)) → map (λ (e : PidKey × ℕ). (e.0.text.items, e.1)) entries ≡ map named_place rs
-    → map (λ (e : PidKey × ℕ). e.1) entries ≡ map (λ (r : Placed). r.0) rs
-places-records rs entries same = kept entries ∙ ap (map (λ (e : List ℕ × ℕ). e.1)) same ∙ named rs
+-- the places that are kept are those of the records
+pub places-records : (rs : List Placed) (places : List PidPlace) → named_places places ≡ map named_place rs → places_in places ≡ map (λ (r : Placed). r.0) rs
+places-records rs places same = kept places ∙ ap (map (λ (e : List ℕ × ℕ). e.1)) same ∙ named rs
   where
     named : (rs : List Placed) → map (λ (e : List ℕ × ℕ). e.1) (map named_place rs) ≡ map (λ (r : Placed). r.0) rs
     named [] = refl
     named (r ∷ rs) = ap (λ l. r.0 ∷ l) (named rs)
 
-    kept : (entries : List (PidKey × ℕ)) → map (λ (e : PidKey × ℕ). e.1) entries ≡ map (λ (e : List ℕ × ℕ). e.1) (map (λ (e : PidKey × ℕ). (e.0.text.items, e.1)) entries)
+    kept : (places : List PidPlace) → places_in places ≡ map (λ (e : List ℕ × ℕ). e.1) (named_places places)
     kept [] = refl
-    kept (e ∷ entries) = ap (λ l. e.1 ∷ l) (kept entries)
+    kept (place ∷ places) = ap (λ l. place.section ∷ l) (kept places)
 
 -- the sections at these places are those of the records
 pub sections_at-records : (index : Contents) (rs : List Placed) → All (IsRecordOf index) rs → sections_at index (map (λ (r : Placed). r.0) rs) ≡ map (λ (r : Placed). r.1) rs
@@ -104,9 +103,9 @@ All-named index (r ∷ rs) (row ∷ rows) all =
     (All-named index rs rows (All-tail (IsRecordOf index) r rs all))
 
 -- how many records and how many others were found
-pub count_of_records : (found : Found) (sections : List Section) → AreFound found (placed sections) → length found.places.entries ≡ length (records sections)
+pub count_of_records : (found : Found) (sections : List Section) → AreFound found (placed sections) → length found.places.items ≡ length (records sections)
 count_of_records found sections are =
-    sym (length-map found.places.entries (λ (e : PidKey × ℕ). (e.0.text.items, e.1))) ∙ ap length are.records ∙ length-map (records sections) named_place
+    sym (length-map found.places.items (λ (place : PidPlace). (place.pid.items, place.section))) ∙ ap length are.records ∙ length-map (records sections) named_place
 
 pub repeated_of : (found : Found) (sections : List Section) → AreFound found (placed sections) → found.repeated ≡ repeated sections
 repeated_of found sections are = omega (arith, are.all, count_of_records found sections are)
@@ -118,7 +117,7 @@ sections_told now index bytes over same =
     ap (λ hs. sections_of hs index.size) is.headers ∙ ap (λ n. sections_of (headers bytes) n) is.size
 
 -- a table that is put together of what an index tells of its processes, and of the rows of the records
-module _ (index : Contents) (found : ProcPlaces) (places : Places) (passed : ℕ) (rows : List Row)
+module _ (index : Contents) (found : ProcPlaces) (places : List PidPlace) (passed : ℕ) (rows : List Row)
     (same_found : found ≡ proc_places (sections_in index)) (same_places : named_places places ≡ found.places) (same_passed : passed ≡ found.repeated)
     (in_rows : map (λ (row : Row). row.at) rows ≡ map (λ (s : Section). s.at) (record_sections (sections_in index))) where
   are : named_places places ≡ map named_place (records (sections_in index))
@@ -132,7 +131,7 @@ module _ (index : Contents) (found : ProcPlaces) (places : Places) (passed : ℕ
       sym (length-map rows (λ (row : Row). row.at)) ∙ ap length in_rows ∙ length-map (record_sections (sections_in index)) (λ (s : Section). s.at)
       ∙ length-map (records (sections_in index)) (λ (r : Placed). r.1)
 
-  pub count_of_places : length rows ≡ length places.entries
+  pub count_of_places : length rows ≡ length places
   count_of_places = count_of_rows ∙ sym (length-map (records (sections_in index)) named_place) ∙ sym (ap length are) ∙ length-named places
 
   pub IsOver-built : IsOver index (let t : ProcessTable = record { processes = all_joined (named_places places) rows; repeated = passed } in t)

@@ -3,18 +3,17 @@ use Rattle.std.proofs.Common.{◌≡◌, ℕ, zero, suc, ◌+◌, ◌<◌, List,
 use Rattle.std.specs.Prelude.{nat_lt}
 use Rattle.std.specs.List.{prefix_len, position_or_len}
 use Rattle.std.specs.Str.{bytes_eq}
-use Rattle.indexmap.specs.IndexMap.{keys, index_of_by}
 use Rattle.std.proofs.lemmas.List.{length-map, get_or_past}
 use Rattle.std.proofs.lemmas.Option.{unwrap_or-slice_get, slice_get_cases, slice_get-get_or}
 use Rattle.std.proofs.lemmas.List.Elements.{All-head, All-tail, All-nil, All-cons}
 use Rattle.section_rows.specs.Rows.{Kept, Row, row_at, cell_at, IsBoundedCell}
-use Rattle.process_table.specs.declared.pid_key.PidKey.{PidKey}
+use Rattle.process_table.specs.declared.pids.PidPlace.{PidPlace}
 use Rattle.process_table.specs.Processes.{Process, IsBounded, nobody, process_at}
-use Rattle.process_table.specs.Inner.Finding.{Places, named_places}
+use Rattle.process_table.specs.Inner.Finding.{named_places, has_pid}
 use Rattle.process_table.specs.Inner.Joined.{joined, all_joined}
 
-pub length-named : (places : Places) → length (named_places places) ≡ length places.entries
-length-named places = length-map places.entries (λ entry. (entry.0.text.items, entry.1))
+pub length-named : (places : List PidPlace) → length (named_places places) ≡ length places
+length-named places = length-map places (λ (place : PidPlace). (place.pid.items, place.section))
 
 pub length-all_joined : (entries : List (List ℕ × ℕ)) (rows : List Row) → length rows ≡ length entries → length (all_joined entries rows) ≡ length entries
 length-all_joined [] rows same = refl
@@ -30,13 +29,13 @@ all_joined-at (first ∷ entries) (row ∷ rows) zero entry same is = let here :
 all_joined-at (first ∷ entries) (row ∷ rows) (suc i) entry same is = all_joined-at entries rows i entry (omega (arith, same)) is
 
 -- the process at a place is joined of the entry and the row there
-pub process_at-joined : (places : Places) (rows : List Row) (i : ℕ) (entry : List ℕ × ℕ) → length rows ≡ length places.entries → slice_get (named_places places) i ≡ Some entry
+pub process_at-joined : (places : List PidPlace) (rows : List Row) (i : ℕ) (entry : List ℕ × ℕ) → length rows ≡ length places → slice_get (named_places places) i ≡ Some entry
     → process_at (all_joined (named_places places) rows) i ≡ joined entry (row_at rows i)
 process_at-joined places rows i entry same is =
     ap (λ o. unwrap_or o nobody) (all_joined-at (named_places places) rows i entry (same ∙ sym (length-named places)) is)
 
 -- so that its cells are those of the row
-pub process_at-row : (places : Places) (rows : List Row) (i : ℕ) → length rows ≡ length places.entries → i < length places.entries
+pub process_at-row : (places : List PidPlace) (rows : List Row) (i : ℕ) → length rows ≡ length places → i < length places
     → process_at (all_joined (named_places places) rows) i ≡ joined (get_or (named_places places) i ([], 0)) (row_at rows i)
 process_at-row places rows i same inside =
     process_at-joined places rows i (get_or (named_places places) i ([], 0)) same
@@ -86,22 +85,21 @@ position-map test f xs =
     ∙ ap (λ size. cond (nat_lt (position_or_len (λ x. test (f x)) xs) size) (Some (position_or_len (λ x. test (f x)) xs)) None) (length-map xs f)
 
 -- the place of a pid among the keys is that among the processes
-pub place_of_pid : (pid : List ℕ) (places : Places) (rows : List Row) → length rows ≡ length places.entries
-    → index_of_by (λ (key : PidKey). bytes_eq pid key.text.items) places ≡ position (λ (p : Process). bytes_eq pid p.pid) (all_joined (named_places places) rows)
+pub place_of_pid : (pid : List ℕ) (places : List PidPlace) (rows : List Row) → length rows ≡ length places
+    → position (has_pid pid) places ≡ position (λ (p : Process). bytes_eq pid p.pid) (all_joined (named_places places) rows)
 place_of_pid pid places rows same =
     let test = bytes_eq pid in
     let named = named_places places in
-    sym (position-map test (λ (key : PidKey). key.text.items) (keys places))
-    ∙ ap (position test) (same_pids places.entries)
+    sym (position-map test (λ (place : PidPlace). place.pid.items) places)
+    ∙ ap (position test) (same_pids places)
     ∙ ap (position test) (sym (pids-all_joined named rows (same ∙ sym (length-named places))))
     ∙ position-map test (λ (p : Process). p.pid) (all_joined named rows)
   where
-    same_pids : (entries : List (PidKey × ℕ)) → map (λ (key : PidKey). key.text.items) (map (λ (e : PidKey × ℕ). e.0) entries)
-        ≡ map (λ (e : List ℕ × ℕ). e.0) (map (λ (e : PidKey × ℕ). (e.0.text.items, e.1)) entries)
+    same_pids : (places : List PidPlace) → map (λ (place : PidPlace). place.pid.items) places ≡ map (λ (e : List ℕ × ℕ). e.0) (named_places places)
     same_pids [] = refl
-    same_pids (entry ∷ entries) = ap (λ pids. entry.0.text.items ∷ pids) (same_pids entries)
+    same_pids (place ∷ places) = ap (λ pids. place.pid.items ∷ pids) (same_pids places)
 
-pub count_of : (places : Places) (rows : List Row) → length rows ≡ length places.entries → length (all_joined (named_places places) rows) ≡ length places.entries
+pub count_of : (places : List PidPlace) (rows : List Row) → length rows ≡ length places → length (all_joined (named_places places) rows) ≡ length places
 count_of places rows same = length-all_joined (named_places places) rows (same ∙ sym (length-named places)) ∙ length-named places
 
 -- a process by its cells

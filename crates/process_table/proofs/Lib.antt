@@ -2,6 +2,7 @@ pub mod Building
 mod Examples
 pub mod Firsts
 pub mod Hearing
-pub mod Hinting
 pub mod Joining
 pub mod Placing
+pub mod Positions
+pub mod Ranking

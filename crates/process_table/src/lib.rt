@@ -7,7 +7,7 @@
 
 mod finding;
 mod hints;
-mod pid_key;
+mod pids;
 mod proc_sections;
 mod procs;
 

@@ -1,16 +1,14 @@
 // The sections of processes, as an index tells them.
 ghost use Rattle.std.specs.Prelude.{◌≡◌, ◌<◌, ◌≤◌, length, slice_get, Some, IfOk};
-ghost use Rattle.indexmap.specs.IndexMap.{values};
 ghost use Rattle.dump_io.specs.Limits.{usual};
 ghost use Rattle.section_index.specs.Index.{sections_in};
 ghost use Rattle.section_rows.specs.Loading.{large_fault};
 ghost use Rattle.process_table.specs.Records.{proc_places, record_sections};
-ghost use Rattle.process_table.specs.Inner.Finding.{named_places};
+ghost use Rattle.process_table.specs.Inner.Finding.{named_places, sections_of, AreOrdered};
 
 use crate::finding::find;
-use crate::pid_key::PidKey;
+use crate::pids::PidPlace;
 use dump_io::Limits;
-use indexmap::IndexMap;
 use section_index::{BodyFault, Index};
 use section_rows::large;
 use std::alloc::{AllocError, Global};
@@ -20,7 +18,8 @@ use std::marker::Model;
 /// pid the first counts.
 #[derive(Drop)]
 pub struct ProcSections {
-    places: IndexMap<PidKey, usize>,
+    places: Vec<PidPlace>,
+    order: Vec<u32>,
     sections: Vec<usize>,
     repeated: u64,
 }
@@ -31,27 +30,25 @@ impl Model for ProcSections {
 
     ghost Value = { ProcPlaces };
 
-    ghost view = { λ f. record { places = named_places f.places; repeated = f.repeated } };
+    ghost view = { λ f. record { places = named_places f.places.items; repeated = f.repeated } };
 
-    ghost invariant = { λ f. AreListed f.places f.sections.items };
+    ghost invariant = { λ f. AreListed f.places.items f.order.items f.sections.items };
 }
 
 // The pid at a place, and the place of its section.
-pub(crate) fn place_at(places: &IndexMap<PidKey, usize>, i: usize) -> (&[u8], usize)
-    requires { i < length places.now.entries }
+pub(crate) fn place_at(places: &[PidPlace], i: usize) -> (&[u8], usize)
+    requires { i < length places.now }
     ensures { slice_get (named_places places.now) i ≡ Some (result.0.now, result.1) }
 {
-    let Some((pid, section)) = places.get_index(i) else {
-        unreachable!()
-    };
-    (pid.text.as_slice(), *section)
+    let place = &places[i];
+    (place.pid.as_slice(), place.section)
 }
 
-// The places of the sections, in the order of the entries.
-fn sections_of(alloc: Global, places: &IndexMap<PidKey, usize>) -> Result<Vec<usize>, AllocError>
-    ensures { IfOk result (λ sections. sections.items ≡ values places.now) }
+// The places of the sections, in the order of the dump.
+fn sections_of(alloc: Global, places: &[PidPlace]) -> Result<Vec<usize>, AllocError>
+    ensures { IfOk result (λ sections. sections.items ≡ sections_of places.now) }
 {
-    places.values().copied().collect(alloc)
+    places.iter().map(|place| place.section).collect(alloc)
 }
 
 impl ProcSections {
@@ -59,10 +56,11 @@ impl ProcSections {
     pub fn find(alloc: Global, index: &Index) -> Result<ProcSections, AllocError>
         ensures { IfOk result (λ found. found ≡ proc_places (sections_in index.now)) }
     {
-        let found = find(alloc, index)?;
+        let (found, order) = find(alloc, index)?;
         let sections = sections_of(alloc, &found.places)?;
         Ok(ProcSections {
             places: found.places,
+            order,
             sections,
             repeated: found.repeated,
         })
@@ -94,13 +92,15 @@ impl ProcSections {
         large(index, self.sections.as_slice(), limits)
     }
 
-    // The map of the pids, the places of the sections, and the number of those that were passed over.
-    pub(crate) fn into_parts(self) -> (IndexMap<PidKey, usize>, Vec<usize>, u64)
-        ensures places { named_places result.0 ≡ self.places }
-        ensures sections { result.1.items ≡ values result.0 }
-        ensures count { length result.0.entries ≤ usual.sections }
-        ensures repeated { result.2 ≡ self.repeated }
+    // The pids with the places of their sections, their order, these places alone, and the number of the sections that
+    // were passed over.
+    pub(crate) fn into_parts(self) -> (Vec<PidPlace>, Vec<u32>, Vec<usize>, u64)
+        ensures places { named_places result.0.items ≡ self.places }
+        ensures ordered { AreOrdered result.0.items result.1.items }
+        ensures sections { result.2.items ≡ sections_of result.0.items }
+        ensures count { length result.0.items ≤ usual.sections }
+        ensures repeated { result.3 ≡ self.repeated }
     {
-        (self.places, self.sections, self.repeated)
+        (self.places, self.order, self.sections, self.repeated)
     }
 }

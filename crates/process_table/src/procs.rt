@@ -13,10 +13,9 @@ ghost use Rattle.process_table.specs.Inner.Finding.{named_places, IsRecordOf};
 ghost use Rattle.process_table.specs.Inner.Joined.{all_joined, AreJoined, field_columns};
 
 use crate::hints::Hints;
-use crate::pid_key::{PidKey, PidQuery};
+use crate::pids::{PidPlace, number_of};
 use crate::proc_sections::{ProcSections, place_at};
 use dump_io::{Dumps, Limits};
-use indexmap::IndexMap;
 use section_index::{BodyFault, Index};
 use section_rows::{Column, Kept, SectionRows};
 use std::alloc::Global;
@@ -44,7 +43,8 @@ pub struct Proc<'a> {
 /// The processes of a dump, in dump order. Of the sections with one pid the first counts.
 #[derive(Drop)]
 pub struct Procs {
-    places: IndexMap<PidKey, usize>,
+    places: Vec<PidPlace>,
+    order: Vec<u32>,
     hints: Hints,
     fields: SectionRows,
     repeated: u64,
@@ -57,15 +57,16 @@ impl Model for Procs {
 
     ghost Value = { ProcessTable };
 
-    ghost view = { λ t. record { processes = all_joined (named_places t.places) t.fields.rows; repeated = t.repeated } };
+    ghost view = { λ t. record { processes = all_joined (named_places t.places.items) t.fields.rows; repeated = t.repeated } };
 
-    ghost invariant = { λ t. AreJoined t.places t.fields };
+    ghost invariant = { λ t. AreJoined t.places.items t.order.items t.fields };
 }
 
 // The process of the entry and the row at a place.
-fn joined_at<'a>(places: &'a IndexMap<PidKey, usize>, fields: &'a SectionRows, i: usize) -> Proc<'a>
-    requires joined { AreJoined places.now fields.now }
-    requires place { i < length places.now.entries }
+fn joined_at<'a>(places: &'a [PidPlace], fields: &'a SectionRows, i: usize) -> Proc<'a>
+    requires rows { length fields.now.rows ≡ length places.now }
+    requires width { fields.now.width ≡ 5 }
+    requires place { i < length places.now }
     ensures { slice_get (all_joined (named_places places.now) fields.now.rows) i ≡ Some (shown_process result) }
 {
     let (pid, section) = place_at(places, i);
@@ -165,13 +166,14 @@ impl Procs {
     {
         // For what `len` ensures: there are as many sections as headers, so that each place is that of a section.
         let _count = index.len();
-        let (places, sections, repeated) = found.into_parts();
+        let (places, order, sections, repeated) = found.into_parts();
         let Ok(hints) = Hints::of(alloc, &places) else {
             return Err(BodyFault::Memory);
         };
         let fields = load_fields(alloc, dumps, index, sections.as_slice(), limits)?;
         Ok(Procs {
             places,
+            order,
             hints,
             fields,
             repeated,
@@ -232,9 +234,10 @@ impl Procs {
         ensures place { result ≡ position (λ process. bytes_eq pid.now process.pid) self.now.processes }
         ensures within { IfSome result (λ i. i < length self.now.processes) }
     {
-        match self.hints.find(&self.places, pid) {
+        let places = self.places.as_slice();
+        match self.hints.find(places, pid) {
             Some(i) => Some(i),
-            None => self.places.get_index_of(PidQuery { text: pid }),
+            None => number_of(places, &self.order, pid),
         }
     }
 

@@ -1,9 +1,9 @@
 -- How many bytes a header's tag and id have.
-use Rattle.std.proofs.Common.{◌≡◌, ℕ, ◌+◌, ◌<◌, ◌≤◌, Bool, true, false, cond, not, List, [], ◌∷◌, length, take, drop, Option, None, Some, refl, sym, ◌∙◌, ap, subst, arith, if◌then◌else◌}
+use Rattle.std.proofs.Common.{◌≡◌, ℕ, ◌+◌, ◌<◌, ◌≤◌, Bool, true, false, cond, not, List, [], ◌∷◌, length, None, Some, refl, sym, ◌∙◌, ap, arith, if◌then◌else◌}
 use Rattle.std.specs.List.{list_any, position_or_len}
 use Rattle.std.proofs.lemmas.List.{length-take, length-drop}
-use Rattle.std.proofs.lemmas.Option.{same_Some, none-some}
-use Rattle.dump_io.specs.Colons.{is_colon, has_colon, before_colon, after_colon}
+use Rattle.std.proofs.lemmas.Option.{same_Some}
+use Rattle.dump_io.specs.Colons.{is_colon, has_colon, after_colon}
 use Rattle.section_index.specs.Sections.{name_of, tag_of, id_of}
 
 -- a byte that is there has a place within the text

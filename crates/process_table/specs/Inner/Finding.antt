@@ -1,37 +1,67 @@
 -- Processes are found one section after another.
-use Rattle.std.specs.Prelude.{◌≡◌, ℕ, ◌+◌, ◌<◌, ◌≤◌, true, List, length, map, Option, None, codes, if◌then◌else◌}
-use Rattle.std.specs.declared.hash.FoldHasher.{FoldHasher}
-use Rattle.std.specs.declared.hash.BuildHasherDefault.{BuildHasherDefault}
-use Rattle.indexmap.specs.IndexMap.{IndexMap, values}
+use Rattle.std.specs.Prelude.{◌≡◌, ℕ, ◌+◌, ◌<◌, ◌≤◌, Bool, true, List, [], length, map, slice_get, slice_index_or, position, Option, None, Some, Contains, codes, if◌then◌else◌}
+use Rattle.std.specs.BTreeMap.{BTreeMap, get_by}
+use Rattle.std.specs.Cmp.Lexicographic.{slice_cmp}
+use Rattle.std.specs.List.Sorted.{IsNonDecreasingBy}
+use Rattle.std.specs.Option.{option_map_or}
+use Rattle.std.specs.Ordering.{nat_cmp, ordering_index}
+use Rattle.std.specs.Str.{bytes_eq}
+use denote.Ref.{Bor}
 use Rattle.dump_io.specs.Limits.{usual}
 use Rattle.section_index.specs.Bodies.{section_at}
 use Rattle.section_index.specs.Index.{Contents}
 use Rattle.section_index.specs.Lookups.{has_tag}
 use Rattle.section_index.specs.Sections.{Section, id_of}
 use Rattle.process_table.specs.declared.finding.Found.{Found}
-use Rattle.process_table.specs.declared.pid_key.PidKey.{PidKey}
+use Rattle.process_table.specs.declared.pids.PidPlace.{PidPlace}
 use Rattle.process_table.specs.Records.{Placed, is_process, process_sections, first_of_each, named_place}
 
 -- the pid, where the section is that of a process
 abbrev pub pid_in : Section → Option (List ℕ)
 pid_in s = if has_tag (codes "proc") s.text then id_of s.text else None
 
-abbrev pub Places : Type 0
-Places = IndexMap PidKey ℕ (BuildHasherDefault FoldHasher)
-
 -- each pid with the place of its section
-abbrev pub named_places : Places → List (List ℕ × ℕ)
-named_places places = map (λ entry. (entry.0.text.items, entry.1)) places.entries
+abbrev pub named_places : List PidPlace → List (List ℕ × ℕ)
+named_places places = map (λ place. (place.pid.items, place.section)) places
 
--- these are the places of the sections, of which there are no more than an index has
-pub record AreListed (places : Places) (sections : List ℕ) : Type 0 where
-  pub listed : sections ≡ values places
-  pub count : length places.entries ≤ usual.sections
+-- the places of the sections
+abbrev pub sections_of : List PidPlace → List ℕ
+sections_of places = map (λ place. place.section) places
+
+-- whether it is the place of a pid
+abbrev pub has_pid : List ℕ → PidPlace → Bool
+has_pid pid place = bytes_eq pid place.pid.items
+
+-- the pid with a number, and past the last one an empty text
+abbrev pub pid_at : List PidPlace → ℕ → List ℕ
+pid_at places number = option_map_or (λ place. place.pid.items) (slice_get places number) []
+
+-- no pid stands before its own place
+abbrev pub AreOwn : List PidPlace → Type 0
+AreOwn places = (number : ℕ) (place : PidPlace) → slice_get places number ≡ Some place → position (has_pid place.pid.items) places ≡ Some number
+
+-- the tree has the number of each pid
+pub record AreNumbered (numbers : BTreeMap (Bor (List ℕ)) ℕ) (places : List PidPlace) : Type 0 where
+  pub own : AreOwn places
+  pub found : (pid : List ℕ) → get_by (λ key. slice_cmp nat_cmp pid key.now) numbers ≡ position (has_pid pid) places
+
+-- the numbers of all pids, which rise by their pids
+pub record AreOrdered (places : List PidPlace) (order : List ℕ) : Type 0 where
+  pub own : AreOwn places
+  pub rising : (pid : List ℕ) → IsNonDecreasingBy (λ number. ordering_index (slice_cmp nat_cmp (pid_at places number) pid)) order
+  pub known : (k d : ℕ) → k < length order → position (has_pid (pid_at places (slice_index_or order k d))) places ≡ Some (slice_index_or order k d)
+  pub all : (pid : List ℕ) (number : ℕ) → position (has_pid pid) places ≡ Some number → Contains order number
+
+-- these are the places of the sections, of which there are no more than an index has, and the pids are in order
+pub record AreListed (places : List PidPlace) (order sections : List ℕ) : Type 0 where
+  pub listed : sections ≡ sections_of places
+  pub count : length places ≤ usual.sections
+  pub ordered : AreOrdered places order
 
 -- these are the first sections of the processes among some sections, and the number of the others
 pub record AreFound (found : Found) (among : List Placed) : Type 0 where
-  pub records : named_places found.places ≡ map named_place (first_of_each (process_sections among))
-  pub all : found.repeated + length found.places.entries ≡ length (process_sections among)
+  pub records : named_places found.places.items ≡ map named_place (first_of_each (process_sections among))
+  pub all : found.repeated + length found.places.items ≡ length (process_sections among)
 
 -- the record is a section of the index at its place, and that of a process
 pub record IsRecordOf (index : Contents) (r : Placed) : Type 0 where

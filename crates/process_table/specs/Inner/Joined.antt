@@ -1,9 +1,10 @@
--- Processes that are kept as a map of their places, and a table of their fields.
+-- Processes that are kept as a list of their places, and a table of their fields.
 use Rattle.std.specs.Prelude.{◌≡◌, ℕ, ◌≤◌, List, [], ◌∷◌, length, codes}
 use Rattle.dump_io.specs.Limits.{usual}
 use Rattle.section_rows.specs.Rows.{Column, field, Row, Table, cell_at}
 use Rattle.process_table.specs.Processes.{Process}
-use Rattle.process_table.specs.Inner.Finding.{Places}
+use Rattle.process_table.specs.declared.pids.PidPlace.{PidPlace}
+use Rattle.process_table.specs.Inner.Finding.{AreOrdered}
 
 -- the fields of a process, in the order of the cells
 abbrev pub field_columns : List Column
@@ -26,8 +27,9 @@ all_joined [] rows = []
 all_joined (entry ∷ entries) [] = []
 all_joined (entry ∷ entries) (row ∷ rows) = joined entry row ∷ all_joined entries rows
 
--- each process has a row, with a cell for each field
-pub record AreJoined (places : Places) (fields : Table) : Type 0 where
-  pub rows : length fields.rows ≡ length places.entries
+-- each process has a row, with a cell for each field, and their pids are in order
+pub record AreJoined (places : List PidPlace) (order : List ℕ) (fields : Table) : Type 0 where
+  pub rows : length fields.rows ≡ length places
   pub width : fields.width ≡ 5
-  pub count : length places.entries ≤ usual.sections
+  pub count : length places ≤ usual.sections
+  pub ordered : AreOrdered places order

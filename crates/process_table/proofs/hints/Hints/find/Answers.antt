@@ -1,10 +1,19 @@
-use Rattle.std.proofs.Common.{sym, ◌∙◌, ap}
+use Rattle.std.proofs.Common.{◌≡◌, Some, slice_get, sym, ◌∙◌, ap, subst, arith}
+use Rattle.std.specs.Prelude.{position}
 use Rattle.std.specs.Str.{bytes_eq}
-use Rattle.process_table.proofs.Hinting.{place_of_hint}
+use Rattle.std.proofs.lemmas.Option.{slice_get-get_or}
+use Rattle.std.proofs.lemmas.Slice.Eq.{bytes_eq-Decides}
+use Rattle.process_table.specs.Inner.Finding.{has_pid}
 use Rattle.process_table.proofs.hints.Hints.find.Goals as goal
 
-pub returns-then-eq-clause-place : goal.returns-then-eq-clause-place
-returns-then-eq-clause-place c =
+-- a hint that is right names the pid's own place
+pub returns-then-eq-clause-number : goal.returns-then-eq-clause-number
+returns-then-eq-clause-number c =
     let pid = c.args.pid.now in
-    place_of_hint pid c.args.places.now c.in_ok-hint.field-0.now (c.in_ok-key.key.now, c.in_ok-key.field-0-1.now) c.len-count.ensures.unique
-    (sym c.in_ok-key.ensures.entry) (ap (bytes_eq pid) (sym c.as_slice.ensures.value) ∙ sym c.eq.ensures ∙ c.if-eq.true)
+    let places = c.args.places.now in
+    let hint = c.in_ok-hint.field-0.now in
+    let place = c.in_ok-place.place.now in
+    let found = c.in_ok-place.ensures.lookup in
+    let at : slice_get places hint ≡ Some place = slice_get-get_or places hint place (omega (arith, found)) ∙ ap Some (sym found.1) in
+    let same : pid ≡ place.pid.items = (bytes_eq-Decides pid place.pid.items).0 (ap (bytes_eq pid) (sym c.as_slice.ensures.value) ∙ sym c.eq.ensures ∙ c.if-eq.true) in
+    subst (λ t. position (has_pid t) places ≡ Some hint) (sym same) (c.requires hint place at)

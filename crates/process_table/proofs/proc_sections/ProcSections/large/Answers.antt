@@ -13,7 +13,7 @@ large-requires c =
     let rs = records (sections_in index) in
     subst (All (λ place. place < length index.headers))
     (sym (c.as_slice.ensures.value ∙ c.self.invariant.listed
-    ∙ places-records rs c.self.inside.places.entries (ap (λ (t : ProcPlaces). t.places) c.self.view_is ∙ ap (λ (t : ProcPlaces). t.places) c.requires)))
+    ∙ places-records rs c.self.inside.places.items (ap (λ (t : ProcPlaces). t.places) c.self.view_is ∙ ap (λ (t : ProcPlaces). t.places) c.requires)))
     (places-within index rs (All-records index (sym c.len-count.ensures.sections ∙ c.len-count.ensures.value)))
 
 pub returns : goal.returns
@@ -22,7 +22,7 @@ returns c =
     let rs = records (sections_in index) in
     let kept =
     c.as_slice.ensures.value ∙ c.self.invariant.listed
-    ∙ places-records rs c.self.inside.places.entries (ap (λ (t : ProcPlaces). t.places) c.self.view_is ∙ ap (λ (t : ProcPlaces). t.places) c.requires) in
+    ∙ places-records rs c.self.inside.places.items (ap (λ (t : ProcPlaces). t.places) c.self.view_is ∙ ap (λ (t : ProcPlaces). t.places) c.requires) in
     c.large.ensures
     ∙ ap (large_fault c.args.limits.now.section)
     (ap (sections_at index) kept ∙ sections_at-records index rs (All-records index (sym c.len-count.ensures.sections ∙ c.len-count.ensures.value)))

@@ -5,4 +5,4 @@ use Rattle.process_table.proofs.procs.Procs.at.Goals as goal
 
 pub joined_at-requires-clause-place : goal.joined_at-requires-clause-place
 joined_at-requires-clause-place c =
-    omega (arith, c.requires, ap (λ (t : ProcessTable). length t.processes) c.self.view_is, count_of c.self.inside.places c.self.inside.fields.rows c.self.invariant.rows)
+    omega (arith, c.requires, ap (λ (t : ProcessTable). length t.processes) c.self.view_is, count_of c.self.inside.places.items c.self.inside.fields.rows c.self.invariant.rows)

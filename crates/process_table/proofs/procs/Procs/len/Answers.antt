@@ -6,13 +6,13 @@ use Rattle.process_table.proofs.procs.Procs.len.Goals as goal
 
 pub returns-clause-value : goal.returns-clause-value
 returns-clause-value c =
-    let count = count_of c.self.inside.places c.self.inside.fields.rows c.self.invariant.rows in
+    let count = count_of c.self.inside.places.items c.self.inside.fields.rows c.self.invariant.rows in
     c.len.ensures.value ∙ c.self.invariant.rows ∙ sym count ∙ ap (λ (t : ProcessTable). length t.processes) c.self.view_is
 
 pub returns-clause-bounded : goal.returns-clause-bounded
 returns-clause-bounded c =
-    let count = count_of c.self.inside.places c.self.inside.fields.rows c.self.invariant.rows in
+    let count = count_of c.self.inside.places.items c.self.inside.fields.rows c.self.invariant.rows in
     subst AreBounded c.self.view_is (record {
       count = omega (arith, count, c.self.invariant.count);
-      fields = all_joined-bounded (named_places c.self.inside.places) c.self.inside.fields.rows c.len.ensures.bounded;
+      fields = all_joined-bounded (named_places c.self.inside.places.items) c.self.inside.fields.rows c.len.ensures.bounded;
     })

@@ -9,7 +9,7 @@ pub load_fields-requires-clause-found : goal.load_fields-requires-clause-found
 load_fields-requires-clause-found g c =
     let found = c.into_parts-places in
     c.as_slice.ensures.value ∙ found.ensures.sections
-    ∙ places-records (records (sections_in c.args.index.now)) found.result.0.entries (found.ensures.places ∙ ap (λ (t : ProcPlaces). t.places) c.requires.found)
+    ∙ places-records (records (sections_in c.args.index.now)) found.result.0.items (found.ensures.places ∙ ap (λ (t : ProcPlaces). t.places) c.requires.found)
 
 pub load_fields-requires-clause-records : goal.load_fields-requires-clause-records
 load_fields-requires-clause-records g c = All-records c.args.index.now (sym c.len-count.ensures.sections ∙ c.len-count.ensures.value)
@@ -19,9 +19,10 @@ invariant_of-result g c =
     let found = c.into_parts-places in
     let read = c.in_ok-fields in
     record {
-      rows = count_of_places c.args.index.now c.args.found found.result.0 found.result.2 read.fields.rows c.requires.found found.ensures.places found.ensures.repeated read.ensures.places;
+      rows = count_of_places c.args.index.now c.args.found found.result.0.items found.result.3 read.fields.rows c.requires.found found.ensures.places found.ensures.repeated read.ensures.places;
       width = read.ensures.width;
       count = found.ensures.count;
+      ordered = found.ensures.ordered;
     }
 
 pub returns-clause-table : goal.returns-clause-table
@@ -29,18 +30,18 @@ returns-clause-table g c = λ bytes same.
     let index = c.args.index.now in
     let found = c.into_parts-places in
     let read = c.in_ok-fields in
-    built_told index c.args.found found.result.0 found.result.2 read.fields.rows c.requires.found found.ensures.places found.ensures.repeated read.ensures.places bytes
+    built_told index c.args.found found.result.0.items found.result.3 read.fields.rows c.requires.found found.ensures.places found.ensures.repeated read.ensures.places bytes
     (sections_told (g.D.Dumps.now c.args.dumps.now) index bytes c.requires.over same) (read.ensures.rows bytes same)
 
 pub returns-clause-over : goal.returns-clause-over
 returns-clause-over g c =
     let found = c.into_parts-places in
     let read = c.in_ok-fields in
-    IsOver-built c.args.index.now c.args.found found.result.0 found.result.2 read.fields.rows c.requires.found found.ensures.places found.ensures.repeated read.ensures.places
+    IsOver-built c.args.index.now c.args.found found.result.0.items found.result.3 read.fields.rows c.requires.found found.ensures.places found.ensures.repeated read.ensures.places
 
 pub returns-clause-named : goal.returns-clause-named
 returns-clause-named g c =
     let found = c.into_parts-places in
     let read = c.in_ok-fields in
-    All-named-built c.args.index.now c.args.found found.result.0 found.result.2 read.fields.rows c.requires.found found.ensures.places found.ensures.repeated read.ensures.places
+    All-named-built c.args.index.now c.args.found found.result.0.items found.result.3 read.fields.rows c.requires.found found.ensures.places found.ensures.repeated read.ensures.places
     (All-records c.args.index.now (sym c.len-count.ensures.sections ∙ c.len-count.ensures.value))
