@@ -122,8 +122,3 @@ awaits-whole t bytes p =
 -- the most so far and later, after one step more
 pub most-on : (so_far wide most now later all : ℕ) → wide ≤ so_far → max wide most ≡ max wide (max now later) → max so_far most ≡ all → max (max so_far now) later ≡ all
 most-on so_far wide most now later all within step sum = omega (arith, within, step, sum)
-
-pub most-whole : (counts rest : List ℕ) (so_far later all : ℕ) → counts ≡ [] → Awaits counts rest later → max so_far later ≡ all → so_far ≡ all
-most-whole counts rest so_far later all empty s sum =
-    let ended : Awaits [] rest later = subst (λ l. Awaits l rest later) empty s in
-    omega (arith, ended.1, sum)

@@ -4,8 +4,8 @@ use Rattle.etf_terms.specs.Heads.{Head, kids}
 use Rattle.etf_terms.specs.Layouts.{Layout, end, byte}
 use Rattle.etf_terms.specs.Table.{is_tag, row, head_layout}
 use Rattle.etf_terms.specs.Inner.Parts.{Parsed, head_of}
-use Rattle.etf_terms.specs.Inner.Walks.{Reading, Got, Off, reading, Done, Lost, walk_terms}
-use Rattle.etf_terms.proofs.Readings.{walk-first, walk-reading, walk_on, walk-none}
+use Rattle.etf_terms.specs.Inner.Walks.{Reading, Got, Off, reading, Lost, walk_terms}
+use Rattle.etf_terms.proofs.Readings.{walk-first, walk-reading, walk_on}
 use Rattle.etf_terms.proofs.Joins.{parsed, head-is}
 
 -- what is behind a reading is no longer than the bytes
@@ -93,8 +93,3 @@ turn-off zero bytes left some e = absurd (omega (arith, some))
 turn-off (suc n) bytes left some e =
     let off = parsed-off (reading head_layout bytes) left (head-is bytes ∙ e) in
     (off.0, walk-first n bytes ∙ walk-reading head_layout n bytes ∙ ap (walk_on n) off.1, off.2)
-
--- nothing more is wanted
-pub turn-done : (pending : ℕ) (bytes : List ℕ) → (0 < pending → ⊥) → walk_terms pending bytes ≡ Done bytes
-turn-done zero bytes ended = walk-none bytes
-turn-done (suc n) bytes ended = absurd (ended (omega arith))

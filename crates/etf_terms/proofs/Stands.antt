@@ -191,14 +191,3 @@ moves-broken {T} {E} {F} w v u f g h whole later room es e d le part move =
     let done : Puts {T = Unit {0}} {E = F} (change w v f g) part.part (Ok tt) = record { later = le; writes = record { whole = part.wrote; front = tt }; failed = tt } in
     let broken : Puts {T = T} {E = F} (change v u g h) later (Err d) = record { later = move.later; writes = record { whole = tt; front = move.writes }; failed = move.failed } in
     subst (λ l. Puts {T = T} {E = F} (change w u f h) l (Err d)) (sym part.splits) (Puts-then done broken)
-
--- all was written
-pub moves-whole : {T E : Type 0} (w u : Option (List ℕ)) (f h : ℕ) (whole to_come rest : List ℕ) (room : ℕ) (es : List Entry) (x : T) → f ≤ h → IsPart w u whole to_come → es ≡ []
-    → Stands room es rest to_come → Puts {E = E} (change w u f h) whole (Ok x)
-moves-whole w u f h whole to_come rest room es x le part empty stands =
-    let ended : Stands room [] rest to_come = subst (λ l. Stands room l rest to_come) empty stands in
-    record {
-      later = le;
-      writes = record { whole = part.wrote ∙ ap (λ l. grown w l) (sym (append-nil part.part) ∙ ap (λ l. part.part ++ l) (sym ended.1) ∙ sym part.splits); front = tt };
-      failed = tt;
-    }

@@ -3,6 +3,7 @@ ghost use Rattle.std.specs.Prelude.{◌≡◌, ◌≤◌, ◌^◌, List, length,
 ghost use Rattle.etf_terms.specs.Heads.{kids};
 ghost use Rattle.etf_terms.specs.Inner.Parts.{Gives, head, byte_of, run_of, number2_of, number4_of, number8_of, sized1_of, sized2_of, sized4_of, atom_of, small_of, integer_of, pid88_of, pid103_of, pid_of, sign_of, part_of, float_of, bits_of, port89_of, port102_of, port120_of, ref90_of, ref114_of, big110_of, big111_of, owner_of, closure_of, export_of, head_of};
 
+/// A head in the bytes that it was read from; `specs/Heads.antt` says what the fields are.
 #[derive(Clone, Copy)]
 pub(crate) enum HeadRead<'a> {
     Float(&'a [u8]),
