@@ -1,5 +1,5 @@
 -- Mailboxes are found one section after another, and judged and counted one after another.
-use Rattle.std.proofs.Common.{◌≡◌, ℕ, suc, ◌+◌, ◌<◌, ◌≤◌, Bool, true, false, ◌&&◌, List, [], ◌∷◌, ◌++◌, length, take, drop-cons, Option, None, Some, refl, sym, ◌∙◌, ap, subst, append-nil, arith, if◌then◌else◌, codes}
+use Rattle.std.proofs.Common.{◌≡◌, ℕ, ◌+◌, ◌<◌, ◌≤◌, Bool, true, false, ◌&&◌, List, [], ◌∷◌, ◌++◌, length, take, Option, None, Some, refl, sym, ◌∙◌, ap, subst, append-nil, arith, if◌then◌else◌, codes}
 use Rattle.std.specs.Prelude.{All, IfSome, get_or, drop, cond, is_some, nat_lt, position, slice_get}
 use Rattle.std.specs.Global.{Vec}
 use Rattle.std.specs.List.{position_from, position_or_len}

@@ -1,5 +1,5 @@
 -- The bodies that an audit loads: those of the processes, and in a full audit their mailboxes.
-use Rattle.std.specs.Prelude.{ℕ, Bool, List, [], ◌∷◌, ◌++◌, map, position, slice_get, Option, None, Some, codes, unwrap_or, if◌then◌else◌}
+use Rattle.std.specs.Prelude.{ℕ, Bool, List, [], ◌++◌, map, position, slice_get, Option, None, Some, codes, unwrap_or, if◌then◌else◌}
 use Rattle.std.specs.List.{between, filter_map}
 use Rattle.std.specs.Option.{option_and_then, option_map}
 use Rattle.dump_io.specs.Lines.{headers}

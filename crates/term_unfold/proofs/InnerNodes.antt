@@ -3,8 +3,8 @@ use Rattle.std.proofs.Common.{◌≡◌, ℕ, zero, suc, ◌+◌, Bool, false, L
 use Rattle.std.specs.Prelude.{codes}
 use Rattle.term_unfold.specs.declared.node.NodeKind.TheVariants as kinds
 use Rattle.term_unfold.specs.Laws.{joined}
-use Rattle.term_unfold.specs.Text.{Shown, Stand, Cut, At, Listed, listed, led, go_on, closed, comma, ◌followed◌, items_text, item_text, show}
-use Rattle.term_unfold.specs.Trees.{Value, Tree, Branch, Trees, none, more}
+use Rattle.term_unfold.specs.Text.{Stand, Cut, At, Listed, listed, led, go_on, closed, comma, ◌followed◌, items_text, item_text, show}
+use Rattle.term_unfold.specs.Trees.{Value, Branch, Trees, none, more}
 
 -- what follows in two steps
 followed-parts : (text : List ℕ) (stand : Stand) (all front back : Bool → ℕ → Listed) → ((came : Bool) (m : ℕ) → all came m ≡ (front came m followed back))

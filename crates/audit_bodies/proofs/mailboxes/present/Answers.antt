@@ -1,4 +1,4 @@
-use Rattle.std.proofs.Common.{◌≡◌, ◌<◌, [], ◌∷◌, get_or, length, All, None, Some, sym, ◌∙◌, ap, subst}
+use Rattle.std.proofs.Common.{◌<◌, [], ◌∷◌, length, All, None, sym, ◌∙◌, ap, subst}
 use Rattle.std.proofs.lemmas.List.Elements.{All-append, All-cons, All-nil}
 use Rattle.section_rows.specs.Loading.{sections_at}
 use Rattle.audit_bodies.specs.Inner.Mailboxes.{IsWithin}
