@@ -1,8 +1,8 @@
 //! `edump COMMAND [WORDS]`: reports on an Erlang crash dump.
 #![tactic(auto)]
 
-use dump_command::status::{NO_MEMORY, UNREAD, UNWRITTEN};
 use dump_command::run;
+use dump_command::status::{NO_MEMORY, UNREAD, UNWRITTEN};
 use dump_io::Limits;
 use host_devices::{FileDumps, StdSink};
 use std::alloc::AllocError;
