@@ -19,7 +19,7 @@ use Rattle.binary_refs.specs.Previews.{binary_section}
 use Rattle.binary_refs.specs.Wholes.{found_length, refused, whole_bytes, IsBadFor, IsBinCauseOf}
 use Rattle.binary_refs.specs.declared.faults.BinFault.{BinFault}
 use Rattle.binary_refs.specs.declared.faults.BinFault.TheVariants as faults
-use Rattle.report_text.specs.declared.refusals.Refusal.TheVariants.{SectionTooLarge, NoBinary, BadBinary}
+use Rattle.report_text.specs.declared.refusals.Refusal.TheVariants.{SectionTooLarge, BadBinary}
 use Rattle.dump_command.specs.Command.{binary}
 use Rattle.dump_command.specs.Report.{one_of, refusal_listed, reread, too_large}
 use Rattle.section_rows.specs.Loading.{bodies_length}

@@ -1,12 +1,11 @@
 -- What a command has read that loads the body of one section.
-use Rattle.std.proofs.Common.{◌≡◌, ℕ, ◌+◌, ◌<◌, ◌^◌, List, [], Option, None, Some, Err, sym, ◌∙◌, ap, subst, arith}
+use Rattle.std.proofs.Common.{◌≡◌, ℕ, ◌<◌, ◌^◌, List, [], Option, None, Some, sym, ◌∙◌, ap, subst, arith}
 use Rattle.std.specs.Prelude.{IsSome}
-use Rattle.std.specs.Option.{option_or}
 use Rattle.std.proofs.lemmas.List.Sums.{sum_by-cons}
-use Rattle.dump_io.specs.Dumps.{Files, Now, Use, used, told, ReadsAtMost}
+use Rattle.dump_io.specs.Dumps.{Files, Now, used, told, ReadsAtMost}
 use Rattle.dump_io.specs.Laws.Reads.{ReadsAtMost-within}
 use Rattle.dump_io.specs.Limits.{Numbers}
-use Rattle.heap_cells.specs.Loading.{body_in, body_size, IsBodyIn}
+use Rattle.heap_cells.specs.Loading.{body_size, IsBodyIn}
 use Rattle.section_index.specs.Bodies.{body_length}
 use Rattle.section_index.specs.Index.{Contents, sections_in}
 use Rattle.section_index.specs.Sections.{Section}
@@ -33,21 +32,25 @@ pub record LoadsFound {D : Type 0} (files : D → Option Files) (now : D → Now
   pub reads : ReadsAtMost (used files now faults taken b c) (body_size found)
   pub unread : IsSome (first_large limits.section (one_of found)) → c ≡ b
 
-pub Takes-found : {D : Type 0} (files : D → Option Files) (now : D → Now) (faults taken : D → ℕ) (b c : D) (cmd : Command) (limits : Numbers) (index : Contents) (found : Option Section)
-    → LoadsFound files now faults taken b c cmd limits index found → Takes cmd limits index (used files now faults taken b c)
-Takes-found files now faults taken b c cmd limits index found loads =
-    Takes-bodies files now faults taken b c cmd limits index loads.of
-    (subst (λ ss. LoadsBodies files now faults taken b c ss limits.section) (sym loads.is) (record {
+loaded : {D : Type 0} (files : D → Option Files) (now : D → Now) (faults taken : D → ℕ) (b c : D) (cmd : Command) (limits : Numbers) (index : Contents) (found : Option Section)
+    → LoadsFound files now faults taken b c cmd limits index found → LoadsBodies files now faults taken b c (bodies cmd (sections_in index)) limits.section
+loaded files now faults taken b c cmd limits index found loads =
+    subst (λ ss. LoadsBodies files now faults taken b c ss limits.section) (sym loads.is) (record {
       small = loads.small;
       reads = ReadsAtMost-within (omega (arith, bytes-one found)) loads.reads;
       unread = loads.unread;
-    }))
+    })
+
+pub Takes-found : {D : Type 0} (files : D → Option Files) (now : D → Now) (faults taken : D → ℕ) (b c : D) (cmd : Command) (limits : Numbers) (index : Contents) (found : Option Section)
+    → LoadsFound files now faults taken b c cmd limits index found → Takes cmd limits index (used files now faults taken b c)
+Takes-found files now faults taken b c cmd limits index found loads =
+    Takes-bodies files now faults taken b c cmd limits index loads.of (loaded files now faults taken b c cmd limits index found loads)
 
 pub IsHalted-found : {D : Type 0} (files : D → Option Files) (now : D → Now) (faults taken : D → ℕ) (b c : D) (cmd : Command) (limits : Numbers) (index : Contents) (found : Option Section)
     (fault : BodyFault) → LoadsFound files now faults taken b c cmd limits index found → AreRefused (one_of found) limits.section (used files now faults taken b c) fault
     → IsHalted cmd limits index (used files now faults taken b c) (stop_of_body fault)
 IsHalted-found files now faults taken b c cmd limits index found fault loads cause =
-    IsHalted-bodies cmd limits index (used files now faults taken b c) fault loads.of (Takes-found files now faults taken b c cmd limits index found loads)
+    IsHalted-bodies files now faults taken b c cmd limits index fault loads.of (loaded files now faults taken b c cmd limits index found loads)
     (subst (λ ss. AreRefused ss limits.section (used files now faults taken b c) fault) (sym loads.is) cause)
 
 pub HasRead-found : {D : Type 0} (files : D → Option Files) (now : D → Now) (faults taken : D → ℕ) (b c : D) (cmd : Command) (limits : Numbers) (index : Contents) (found : Option Section)
@@ -55,7 +58,7 @@ pub HasRead-found : {D : Type 0} (files : D → Option Files) (now : D → Now) 
     → ((bytes : List ℕ) → IsIndexed bytes limits index (now b) → (text ≡ report cmd bytes) × (0 ≡ report_status cmd bytes))
     → HasRead cmd limits index (used files now faults taken b c) text 0
 HasRead-found files now faults taken b c cmd limits index found text loads small shows =
-    HasRead-bodies cmd limits index (used files now faults taken b c) text loads.of (Takes-found files now faults taken b c cmd limits index found loads)
+    HasRead-bodies files now faults taken b c cmd limits index text loads.of (loaded files now faults taken b c cmd limits index found loads)
     (ap (first_large limits.section) loads.is ∙ small) shows
 
 -- the fields of the section that was found

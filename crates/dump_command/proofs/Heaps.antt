@@ -1,6 +1,6 @@
 -- The heap that a command loads is that of the process in the dump.
 use Rattle.std.proofs.Common.{◌≡◌, ℕ, ◌+◌, ◌≤◌, Bool, true, false, if◌then◌else◌, List, [], ◌∷◌, ◌++◌, Option, None, Some, Err, codes, refl, sym, ◌∙◌, ap, append-nil, arith}
-use Rattle.std.specs.Prelude.{find, nat_lt, position, IsErrOf}
+use Rattle.std.specs.Prelude.{nat_lt, IsErrOf}
 use Rattle.std.specs.Option.{option_map, option_or}
 use Rattle.std.proofs.lemmas.Bool.{ltb-false}
 use Rattle.std.proofs.lemmas.List.Sums.{sum_by-cons}
@@ -8,10 +8,10 @@ use Rattle.section_index.specs.Bodies.{body_length}
 use Rattle.section_index.specs.Index.{Contents, IsIndexOf, sections_in}
 use Rattle.section_index.specs.Laws.{index-is}
 use Rattle.section_index.specs.Lookups.{has_tag, is_named}
-use Rattle.section_index.specs.Sections.{Section, section}
+use Rattle.section_index.specs.Sections.{Section}
 use Rattle.heap_cells.specs.Cells.{cells_of, weight}
 use Rattle.heap_cells.specs.HeapMap.{HeapMap}
-use Rattle.heap_cells.specs.Loading.{body_in, body_size, enc_of, heap_section, literals_section, section_in, section_fault, IsMapOf, too_large as heap_too_large}
+use Rattle.heap_cells.specs.Loading.{body_in, body_size, enc_of, heap_section, literals_section, section_fault, IsMapOf, too_large as heap_too_large}
 use Rattle.heap_cells.specs.declared.faults.HeapFault.{HeapFault}
 use Rattle.heap_cells.specs.declared.faults.HeapFault.TheVariants as faults
 use Rattle.report_text.specs.declared.refusals.Refusal.{Refusal}

@@ -1,7 +1,7 @@
 -- What a dump that was opened says, and one that wasn't.
-use Rattle.std.proofs.Common.{◌≡◌, ◌⊎◌, ℕ, ◌+◌, ◌≤◌, List, length, Option, None, Some, Ok, Err, refl, sym, ◌∙◌, ap, subst, inl, inr, arith}
+use Rattle.std.proofs.Common.{◌≡◌, ◌⊎◌, ℕ, ◌≤◌, List, length, Option, None, Some, Ok, Err, refl, sym, ◌∙◌, ap, inl, inr, arith}
 use Rattle.std.specs.Prelude.{IsErrOf}
-use Rattle.dump_io.specs.Dumps.{Files, Now, closed, told, sized, size_of, IsAbsent, Use, used, DeviceFailed, ReadsAtMost}
+use Rattle.dump_io.specs.Dumps.{Files, Now, closed, told, sized, size_of, IsAbsent, Use, DeviceFailed}
 use Rattle.dump_io.specs.Limits.{Numbers}
 use Rattle.section_index.specs.Index.{Contents, IsAnswerFor, IsBuiltOver, IsClosedOrNamed, IsFileOf, IsHeld, ReadsFile}
 use Rattle.section_index.specs.declared.opening.OpenFault.{OpenFault}

@@ -101,11 +101,11 @@ large-refused (Some s) at len is =
     ap (λ n. Some (SectionTooLarge n (body_length s))) same_at ∙ ap (λ n. Some (SectionTooLarge at n)) same_len
 
 -- one of its bodies wasn't read
-pub IsHalted-bodies : (cmd : Command) (limits : Numbers) (index : Contents) (step : Use) (fault : BodyFault) → IsOfBodies cmd limits index → Takes cmd limits index step
+halted-bodies : (cmd : Command) (limits : Numbers) (index : Contents) (step : Use) (fault : BodyFault) → IsOfBodies cmd limits index → Takes cmd limits index step
     → AreRefused (bodies cmd (sections_in index)) limits.section step fault → IsHalted cmd limits index step (stop_of_body fault)
-IsHalted-bodies cmd limits index step body_faults.Read of takes cause = record { takes = takes; cause = cause.0 }
-IsHalted-bodies cmd limits index step body_faults.Memory of takes cause = record { takes = takes; cause = tt }
-IsHalted-bodies cmd limits index step (body_faults.SectionTooLarge at len) of takes cause =
+halted-bodies cmd limits index step body_faults.Read of takes cause = record { takes = takes; cause = cause.0 }
+halted-bodies cmd limits index step body_faults.Memory of takes cause = record { takes = takes; cause = tt }
+halted-bodies cmd limits index step (body_faults.SectionTooLarge at len) of takes cause =
     record {
       takes = takes;
       cause = (
@@ -115,6 +115,12 @@ IsHalted-bodies cmd limits index step (body_faults.SectionTooLarge at len) of ta
       );
     }
 
+pub IsHalted-bodies : {D : Type 0} (files : D → Option Files) (now : D → Now) (faults taken : D → ℕ) (b c : D) (cmd : Command) (limits : Numbers) (index : Contents) (fault : BodyFault)
+    → IsOfBodies cmd limits index → LoadsBodies files now faults taken b c (bodies cmd (sections_in index)) limits.section
+    → AreRefused (bodies cmd (sections_in index)) limits.section (used files now faults taken b c) fault → IsHalted cmd limits index (used files now faults taken b c) (stop_of_body fault)
+IsHalted-bodies files now faults taken b c cmd limits index fault of loads cause =
+    halted-bodies cmd limits index (used files now faults taken b c) fault of (Takes-bodies files now faults taken b c cmd limits index of loads) cause
+
 -- none of its bodies is refused
 pub told-bodies : (cmd : Command) (limits : Numbers) (index : Contents) (bytes : List ℕ) → IsOfBodies cmd limits index → first_large limits.section (bodies cmd (sections_in index)) ≡ None
     → refusal_over cmd index bytes limits ≡ None
@@ -122,16 +128,16 @@ told-bodies cmd limits index bytes of small =
     ap (λ o. option_or o (refusal_held cmd bytes limits)) (listed-bodies cmd limits index of ∙ ap (option_map refused) small) ∙ of.held bytes
 
 -- all of its bodies were read
-pub HasRead-bodies : (cmd : Command) (limits : Numbers) (index : Contents) (step : Use) (text : List ℕ) → IsOfBodies cmd limits index → Takes cmd limits index step
+pub HasRead-bodies : {D : Type 0} (files : D → Option Files) (now : D → Now) (faults taken : D → ℕ) (b c : D) (cmd : Command) (limits : Numbers) (index : Contents) (text : List ℕ)
+    → IsOfBodies cmd limits index → LoadsBodies files now faults taken b c (bodies cmd (sections_in index)) limits.section
     → first_large limits.section (bodies cmd (sections_in index)) ≡ None
-    → ((bytes : List ℕ) → IsIndexed bytes limits index step.now_before → (text ≡ report cmd bytes) × (0 ≡ report_status cmd bytes))
-    → HasRead cmd limits index step text 0
-HasRead-bodies cmd limits index step text of takes small shows =
+    → ((bytes : List ℕ) → IsIndexed bytes limits index (now b) → (text ≡ report cmd bytes) × (0 ≡ report_status cmd bytes))
+    → HasRead cmd limits index (used files now faults taken b c) text 0
+HasRead-bodies files now faults taken b c cmd limits index text of loads small shows =
     record {
-      takes = takes;
+      takes = Takes-bodies files now faults taken b c cmd limits index of loads;
       ends = inl refl;
-      told = λ bytes all.
-          let right = shows bytes all in (told-bodies cmd limits index bytes of small, right.0, right.1);
+      told = λ bytes all. let right = shows bytes all in (told-bodies cmd limits index bytes of small, right.0, right.1);
     }
 
 -- ---- a cause that was found

@@ -1,18 +1,17 @@
 -- What the run of a command leaves, by what was opened, read and written.
 use Rattle.std.proofs.Common.{◌≡◌, ◌⊎◌, ◌≤◌, ℕ, List, [], Option, None, Some, Result, Ok, Err, MatchResult, refl, sym, ◌∙◌, ap, subst, inl, inr, arith}
 use Rattle.std.specs.Option.{option_and, option_map, option_or}
-use Rattle.dump_io.specs.Dumps.{Files, Now, closed, told, IsAbsent, Use, used}
+use Rattle.dump_io.specs.Dumps.{Files, Now, told, Use, used}
 use Rattle.dump_io.specs.Limits.{Numbers}
 use Rattle.dump_io.specs.Lines.{headers}
 use Rattle.dump_io.specs.Sinks.{Change, GainsFront, IsKept, Puts, grown}
 use Rattle.section_index.specs.Index.{Contents, IsFileOf, IsHeld, IsIndexOf, sections_in}
-use Rattle.section_index.specs.Opening.{opening}
 use Rattle.section_index.specs.Sections.{sections, sections_of}
 use Rattle.report_text.specs.declared.refusals.Refusal.TheVariants.{Open}
 use Rattle.dump_command.specs.Command.{Command, file_of}
 use Rattle.dump_command.specs.Report.{report, report_status, refusal, refusal_held, refusal_listed, refusal_unread, reread, unless_refused}
 use Rattle.dump_command.specs.Run.{EndsTold, IsDumpOf, IsInputOf, IsMissing, IsMissingFrom, IsUnreadFrom, TakesAtMost}
-use Rattle.dump_command.specs.Inner.Alone.{IsIdle, RunsAlone}
+use Rattle.dump_command.specs.Inner.Alone.{RunsAlone}
 use Rattle.dump_command.specs.Inner.Opened.{HasOpened, IsIndexed, IsUnopened}
 use Rattle.dump_command.specs.Inner.Reading.{HasRead, IsHalted, Takes, Tells, refusal_over}
 use Rattle.dump_command.specs.Inner.Runs.{IsEnding, Runs}

@@ -1,7 +1,7 @@
 -- What each command reports of the bytes of a dump, and why it is refused. A command without a file reports of
 -- no bytes.
 use Rattle.std.specs.Prelude.{ℕ, ◌+◌, ◌*◌, List, [], ◌∷◌, ◌++◌, map, length, slice_get, unwrap_or, Option, None, Some, Bool, true, false, codes, find, is_some, if◌then◌else◌}
-use Rattle.std.specs.List.{between, sum_by}
+use Rattle.std.specs.List.{between}
 use Rattle.std.specs.Option.{option_map, option_or, option_and}
 use Rattle.dump_io.specs.Limits.{Numbers}
 use Rattle.dump_io.specs.Lines.{headers}

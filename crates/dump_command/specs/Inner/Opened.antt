@@ -1,5 +1,5 @@
 -- What is known of a dump that was opened by its name.
-use Rattle.std.specs.Prelude.{◌≡◌, ◌⊎◌, ℕ, ◌+◌, ◌≤◌, List, length}
+use Rattle.std.specs.Prelude.{◌≡◌, ◌⊎◌, ℕ, ◌≤◌, List, length}
 use Rattle.dump_io.specs.Counts.{plus_capped}
 use Rattle.dump_io.specs.Dumps.{Now, closed, told, IsAbsent, Use, DeviceFailed}
 use Rattle.dump_io.specs.Limits.{Numbers}

@@ -4,7 +4,6 @@ use Rattle.binary_refs.specs.declared.faults.BinFault.{BinFault}
 use Rattle.binary_refs.specs.declared.faults.BinFault.TheVariants as bin_faults
 use Rattle.binary_refs.specs.declared.faults.PreviewFault.{PreviewFault}
 use Rattle.binary_refs.specs.declared.faults.PreviewFault.TheVariants as preview_faults
-use Rattle.dump_io.specs.Dumps.{Use, DeviceFailed}
 use Rattle.heap_cells.specs.declared.faults.HeapFault.{HeapFault}
 use Rattle.heap_cells.specs.declared.faults.HeapFault.TheVariants as heap_faults
 use Rattle.report_text.specs.declared.refusals.Refusal.{Refusal}

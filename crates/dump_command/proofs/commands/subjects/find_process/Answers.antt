@@ -1,6 +1,5 @@
 use Rattle.std.proofs.Common.{◌≡◌, ℕ, Bool, List, [], Option, None, Some, if◌then◌else◌, codes, sym, ◌∙◌, ap}
 use Rattle.std.specs.Prelude.{is_some}
-use Rattle.section_index.specs.Bodies.{section_at}
 use Rattle.section_index.specs.Index.{sections_in}
 use Rattle.section_index.specs.Lookups.{is_named}
 use Rattle.section_index.specs.Sections.{Section, section}

@@ -1,4 +1,3 @@
-use Rattle.std.proofs.Common.{sym, ◌∙◌, ap}
 use Rattle.std.proofs.lemmas.Result.{err_from_is_err_and}
 use Rattle.dump_io.specs.Dumps.{used}
 use Rattle.heap_cells.specs.Loading.{section_in}

@@ -17,9 +17,8 @@ returns-in_err-load-clause-reads g c =
     let cmd = audit t.file.now t.limit t.full in
     let read = c.in_err-load.ensures in
     let small : d.taken c.args.dumps.now < 2 ^ 64 = search rules in
-    rw (p.1, p.2) (IsHalted-bodies cmd _ c.args.at.now.index.now _ _ (record { there = refl; held = λ _. refl; taken = λ _. refl })
-    (Takes-bodies d.files d.now d.faults d.taken c.args.dumps.now c.load.new.dumps cmd _ _ (record { there = refl; held = λ _. refl; taken = λ _. refl })
-    (record { small = small; reads = read.reads; unread = read.unread })) read.fault)
+    rw (p.1, p.2) (IsHalted-bodies d.files d.now d.faults d.taken c.args.dumps.now c.load.new.dumps cmd _ _ _
+    (record { there = refl; held = λ _. refl; taken = λ _. refl }) (record { small = small; reads = read.reads; unread = read.unread }) read.fault)
 
 pub returns-clause-reads : goal.returns-clause-reads
 returns-clause-reads g c =

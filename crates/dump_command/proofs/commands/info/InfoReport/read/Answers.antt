@@ -1,4 +1,4 @@
-use Rattle.std.proofs.Common.{◌≡◌, ℕ, ◌^◌, ◌<◌, Option, None, Some, refl, rules}
+use Rattle.std.proofs.Common.{◌^◌, ◌<◌, Some, refl, rules}
 use Rattle.std.proofs.lemmas.Result.{err_from_is_err_and}
 use Rattle.heap_cells.specs.Loading.{section_in}
 use Rattle.dump_command.specs.Command.{info}

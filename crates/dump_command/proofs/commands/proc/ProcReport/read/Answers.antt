@@ -1,7 +1,6 @@
-use Rattle.std.proofs.Common.{◌≡◌, ℕ, ◌^◌, ◌<◌, Some, refl, sym, ◌∙◌, ap, rules}
+use Rattle.std.proofs.Common.{ℕ, ◌^◌, ◌<◌, Some, refl, sym, ◌∙◌, ap, rules}
 use Rattle.std.proofs.lemmas.Result.{err_from_is_err_and}
 use Rattle.heap_cells.specs.Loading.{section_in}
-use Rattle.section_index.specs.Index.{sections_in}
 use Rattle.dump_command.specs.Command.{proc}
 use Rattle.dump_command.specs.Report.{fields_of, one_of, process_section}
 use Rattle.dump_command.proofs.FoundLoads.{HasRead-found, IsHalted-found, fields-told}

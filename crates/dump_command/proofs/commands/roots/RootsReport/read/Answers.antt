@@ -7,7 +7,7 @@ use Rattle.heap_cells.specs.Loading.{body_in, body_size, section_in, IsBodyIn}
 use Rattle.section_index.specs.Index.{sections_in}
 use Rattle.section_index.specs.Lookups.{is_named}
 use Rattle.dump_command.specs.Command.{roots}
-use Rattle.dump_command.specs.Report.{one_of, refusal_listed}
+use Rattle.dump_command.specs.Report.{one_of}
 use Rattle.dump_command.specs.Terms.{base_of, named_section, roots_section}
 use Rattle.dump_command.specs.Inner.Heaps.{heap_listed}
 use Rattle.dump_command.proofs.HeapLoads.{few-previews, few-roots, roots-told, IsHalted-heap, IsHalted-last, IsHalted-previews}
