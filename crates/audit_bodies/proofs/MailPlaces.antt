@@ -1,9 +1,8 @@
 -- Mailboxes are found one section after another, and judged and counted one after another.
 use Rattle.std.proofs.Common.{◌≡◌, ℕ, ◌+◌, ◌<◌, ◌≤◌, Bool, true, false, ◌&&◌, List, [], ◌∷◌, ◌++◌, length, take, Option, None, Some, refl, sym, ◌∙◌, ap, subst, append-nil, arith, if◌then◌else◌, codes}
 use Rattle.std.specs.Prelude.{All, IfSome, get_or, drop, cond, is_some, nat_lt, position, slice_get}
-use Rattle.std.specs.Global.{Vec}
 use Rattle.std.specs.List.{position_from, position_or_len}
-use Rattle.std.specs.Map.{lookup}
+use Rattle.std.specs.Map.{update}
 use Rattle.std.specs.Option.{option_eq, option_map, option_or}
 use Rattle.std.specs.Str.{bytes_eq}
 use Rattle.std.proofs.lemmas.Bool.{ltb-true, ltb-false}
@@ -57,15 +56,6 @@ within n size false is = tt
 pub position-within : {X : Type 0} (p : X → Bool) (xs : List X) → IfSome (position p xs) (λ i. i < length xs)
 position-within p xs = let n = position_or_len p xs in within n (length xs) (nat_lt n (length xs)) refl
 
-lookup-last : {K X : Type 0} (test : K → Bool) (es : List (K × X)) (k : K) (x : X)
-    → lookup test (es ++ (k, x) ∷ []) ≡ option_or (lookup test es) (if test k then Some x else None)
-lookup-last test [] k x = refl
-lookup-last test (e ∷ es) k x =
-    elim (test e.0) as (λ b. cond b (Some e.1) (lookup test (es ++ (k, x) ∷ [])) ≡ option_or (cond b (Some e.1) (lookup test es)) (if test k then Some x else None)) [
-      | true ↦ refl
-      | false ↦ lookup-last test es k x
-    ]
-
 or-none : {X : Type 0} (o : Option X) → option_or o None ≡ o
 or-none None = refl
 or-none (Some x) = refl
@@ -113,25 +103,24 @@ AreMailboxes-repeated places before s id are is there pid =
     by false e = or-none (mailbox_place before pid)
 
 -- another is taken
-pub AreMailboxes-new : (places after : Places) (before : List Section) (s : Section) (id : List ℕ) (key : Vec ℕ) → AreMailboxes places before → mailbox_id s ≡ Some id
-    → key.items ≡ id → after.entries ≡ places.entries ++ (key, length before) ∷ [] → AreMailboxes after (before ++ s ∷ [])
-AreMailboxes-new places after before s id key are is same entries pid =
-    ap (lookup (λ (k : Vec ℕ). bytes_eq pid k.items)) entries
-    ∙ lookup-last (λ (k : Vec ℕ). bytes_eq pid k.items) places.entries key (length before)
-    ∙ ap (λ o. option_or o (if bytes_eq pid key.items then Some (length before) else None)) (are pid)
-    ∙ ap (λ t. option_or (mailbox_place before pid) (if bytes_eq pid t then Some (length before) else None)) same
+pub AreMailboxes-new : (places after : Places) (before : List Section) (s : Section) (id : List ℕ) → AreMailboxes places before → mailbox_id s ≡ Some id
+    → place_at places id ≡ None → ((pid : List ℕ) → place_at after pid ≡ update bytes_eq (place_at places) id (Some (length before)) pid) → AreMailboxes after (before ++ s ∷ [])
+AreMailboxes-new places after before s id are is none grown pid =
+    grown pid ∙ by (bytes_eq id pid) refl
     ∙ ap (λ b. option_or (mailbox_place before pid) (if b then Some (length before) else None))
-    (flip pid id ∙ sym (some-named (has_tag (codes "proc_messages") s.text) (id_of s.text) id pid is))
+    (sym (some-named (has_tag (codes "proc_messages") s.text) (id_of s.text) id pid is))
     ∙ sym (position-last (is_mailbox pid) before s)
   where
-    of : (xs ys : List ℕ) (b c : Bool) → bytes_eq xs ys ≡ b → bytes_eq ys xs ≡ c → b ≡ c
-    of xs ys true true p q = refl
-    of xs ys false false p q = refl
-    of xs ys true false p q = sym ((bytes_eq-Decides ys xs).1 (sym ((bytes_eq-Decides xs ys).0 p))) ∙ q
-    of xs ys false true p q = sym p ∙ (bytes_eq-Decides xs ys).1 (sym ((bytes_eq-Decides ys xs).0 q))
-
-    flip : (xs ys : List ℕ) → bytes_eq xs ys ≡ bytes_eq ys xs
-    flip xs ys = of xs ys (bytes_eq xs ys) (bytes_eq ys xs) refl refl
+    by : (b : Bool) → bytes_eq id pid ≡ b
+        → (if bytes_eq id pid then Some (length before) else place_at places pid) ≡ option_or (mailbox_place before pid) (if bytes_eq id pid then Some (length before) else None)
+    by true e =
+        let same : id ≡ pid = (bytes_eq-Decides id pid).0 e in
+        let gone : mailbox_place before pid ≡ None = sym (are pid) ∙ ap (place_at places) (sym same) ∙ none in
+        ap (λ b. if b then Some (length before) else place_at places pid) e
+        ∙ sym (ap (λ o. option_or o (if bytes_eq id pid then Some (length before) else None)) gone ∙ ap (λ b. if b then Some (length before) else None) e)
+    by false e =
+        ap (λ b. if b then Some (length before) else place_at places pid) e ∙ are pid ∙ sym (or-none (mailbox_place before pid))
+        ∙ ap (λ b. option_or (mailbox_place before pid) (if b then Some (length before) else None)) (sym e)
 
 -- a mailbox that was found is one of the sections
 pub mailbox-within : (sections : List Section) (size : ℕ) (pid : List ℕ) → length sections ≡ size → IfSome (mailbox_place sections pid) (λ i. i < size)

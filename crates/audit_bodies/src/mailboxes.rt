@@ -7,10 +7,10 @@ ghost use Rattle.audit_bodies.specs.Mailboxes.{mailbox_place, mailboxes_at};
 ghost use Rattle.section_rows.specs.Loading.{sections_at};
 ghost use Rattle.audit_bodies.specs.Inner.Mailboxes.{AreMailboxes, IsWithin, mailbox_id};
 
-use indexmap::IndexMap;
 use process_table::ProcSections;
 use section_index::Index;
 use std::alloc::{AllocError, Global};
+use std::collections::BTreeMap;
 
 // The id, where the section at a place has messages.
 fn id_at(index: &Index, i: usize) -> Option<&[u8]>
@@ -27,10 +27,9 @@ fn id_at(index: &Index, i: usize) -> Option<&[u8]>
 }
 
 // Takes the section at a place, behind those before it.
-fn find_at(
-    alloc: Global,
-    places: &mut IndexMap<Vec<u8>, usize>,
-    index: &Index,
+fn find_at<'a>(
+    places: &mut BTreeMap<&'a [u8], usize>,
+    index: &'a Index,
     i: usize,
 ) -> Result<(), AllocError>
     requires place { i < length index.now.headers }
@@ -43,18 +42,18 @@ fn find_at(
     if places.contains_key(id) {
         return Ok(());
     }
-    places.insert(Vec::from_slice(alloc, id)?, i)?;
+    places.insert(id, i)?;
     Ok(())
 }
 
-// Finds the first section with messages of each id.
-fn find(alloc: Global, index: &Index) -> Result<IndexMap<Vec<u8>, usize>, AllocError>
+// Finds the first section with messages of each id, in a tree: whoever writes a dump could give all ids one hash.
+fn find<'a>(alloc: Global, index: &'a Index) -> Result<BTreeMap<&'a [u8], usize>, AllocError>
     ensures found { IfOk result (λ places. AreMailboxes places (sections_in index.now)) }
     ensures count { length (sections_in index.now) ≡ length index.now.headers }
 {
-    let mut places = IndexMap::new(alloc);
+    let mut places = BTreeMap::new(alloc);
     for i in 0..index.len() {
-        find_at(alloc, &mut places, index, i)?;
+        find_at(&mut places, index, i)?;
     }
     Ok(places)
 }

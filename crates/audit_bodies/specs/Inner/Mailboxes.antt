@@ -1,10 +1,9 @@
 -- The mailboxes of processes: where they are, and their messages.
 use Rattle.std.specs.Prelude.{◌≡◌, ◌⊎◌, ℕ, ◌<◌, ◌≤◌, List, length, Option, None, codes, IfSome, if◌then◌else◌}
-use Rattle.std.specs.Str.{bytes_eq}
-use Rattle.std.specs.Global.{Vec}
-use Rattle.std.specs.declared.hash.FoldHasher.{FoldHasher}
-use Rattle.std.specs.declared.hash.BuildHasherDefault.{BuildHasherDefault}
-use Rattle.indexmap.specs.IndexMap.{IndexMap, get_by}
+use Rattle.std.specs.BTreeMap.{BTreeMap, get_by}
+use Rattle.std.specs.Cmp.Lexicographic.{slice_cmp}
+use Rattle.std.specs.Ordering.{nat_cmp}
+use denote.Ref.{Bor}
 use Rattle.dump_io.specs.Dumps.{Use, DeviceFailed}
 use Rattle.section_index.specs.Bodies.{body_length, section_at}
 use Rattle.section_index.specs.Index.{Contents}
@@ -19,13 +18,13 @@ abbrev pub mailbox_id : Section → Option (List ℕ)
 mailbox_id s = if has_tag (codes "proc_messages") s.text then id_of s.text else None
 
 abbrev pub Places : Type 0
-Places = IndexMap (Vec ℕ) ℕ (BuildHasherDefault FoldHasher)
+Places = BTreeMap (Bor (List ℕ)) ℕ
 
 -- the place at an id
 abbrev pub place_at : Places → List ℕ → Option ℕ
-place_at places pid = get_by (λ k. bytes_eq pid k.items) places
+place_at places pid = get_by (λ key. slice_cmp nat_cmp pid key.now) places
 
--- at each pid the map has the place of the mailbox among some sections
+-- at each pid the tree has the place of the mailbox among some sections
 abbrev pub AreMailboxes : Places → List Section → Type 0
 AreMailboxes places sections = (pid : List ℕ) → place_at places pid ≡ mailbox_place sections pid
 
