@@ -1,0 +1,187 @@
+// Dumps that someone wrote to make a reader slow, for `bench/hostile.sh`.
+//
+//   hostile pids FILE N       N processes whose pids are 8 free bytes and 8 by which a hash with a fixed seed, that takes a
+//                             text at one go, is the same for all
+//   hostile tags FILE N       N sections of different tags, of which up to 65,536 have one hash, taken byte by byte
+//   hostile mailboxes FILE N  N mailboxes with such ids, and a process
+//   hostile kinds FILE N      a process with N links and another whose list asks for them, to pids as those of `pids`
+//   hostile payload FILE N    a tuple of 1,000 references to one binary of the heap of N bytes
+//   hostile external FILE N   a tuple of 1,000 references to one external term of N bytes
+//   hostile subs FILE N       a tuple of 100 N elements, and N sub binaries that name it as their binary
+//   hostile address FILE N    a heap of N lines with one address
+//   hostile falling FILE N    a list of N cells whose addresses fall
+//   hostile commas FILE N     a link list of N times `, `
+//   hostile equals FILE N     N lines that are `=` alone
+//   hostile roots FILE N      a stack of N roots, each of which is the same list of N cells
+//   hostile one_pid FILE N    N processes of one pid
+//   hostile star FILE N       N processes, each linked to the first, which is linked to all
+#include <stdio.h>
+#include <stdlib.h>
+#include <string.h>
+
+// Each text that takes one block of each line, in order, has the same hash as the others.
+static const char *blocks[16][2] = {
+    {"CjfGeGUw5WP", "WsBZnOeaHhO"},
+    {"FQm5_KM7q9H", "gi8pjm4tyFD"},
+    {"mRLPoeTF8DJ", "BL79xdissnF"},
+    {"cM35BaoKRCN", "e46JR-axQ6P"},
+    {"s4zSitrXlnA", "0__QhoAVeTP"},
+    {"cTFQWoRvs8M", "XWBQPPijyzF"},
+    {"Mazj209fq0I", "3BgfNFRJk3H"},
+    {"xgV4zA6ykGA", "cIouqN7fT7N"},
+    {"LjunjwkMHGI", "2y62npYZBwO"},
+    {"zNB23flaIkE", "8rrJ4Slz4qI"},
+    {"R_qXjMXzFEL", "oMfFbociytE"},
+    {"og5jGnGdsoJ", "08UbUOd4RDD"},
+    {"uz1RBWfKWxC", "hwl4w7yY3sB"},
+    {"xf28H5OBoGF", "qu6AwmQlmDA"},
+    {"7NSEN7fBD5D", "_wu4o8nXrGD"},
+    {"X9957ydm5-N", "3ldcnS0zJRE"},
+};
+
+static void put_colliding(FILE *f, long n) {
+    for (int i = 0; i < 16; i++) fputs(blocks[i][n >> i & 1], f);
+    if (n >> 16) fprintf(f, "%ld", n >> 16);
+}
+
+static void put_pid(FILE *f, long n) {
+    fprintf(f, "%08ld\x15\x7C\x4A\x7F\xB9\x79\x37\x9E", n % 100000000);
+}
+
+static void put_process(FILE *f, long n) {
+    fprintf(f, "=proc:<0.%ld.0>\nState: Waiting\n", n);
+}
+
+static void put_heap(FILE *f) {
+    put_process(f, 1);
+    fprintf(f, "=proc_heap:<0.1.0>\n");
+}
+
+static void pids(FILE *f, long count) {
+    for (long i = 0; i < count; i++) {
+        fputs("=proc:", f);
+        put_pid(f, i);
+        fputs("\nState: Waiting\n", f);
+    }
+}
+
+static void tags(FILE *f, long count) {
+    for (long i = 0; i < count; i++) {
+        fputc('=', f);
+        put_colliding(f, i);
+        fputc('\n', f);
+    }
+}
+
+static void mailboxes(FILE *f, long count) {
+    put_process(f, 1);
+    for (long i = 0; i < count; i++) {
+        fputs("=proc_messages:", f);
+        put_colliding(f, i);
+        fputc('\n', f);
+    }
+}
+
+static void kinds(FILE *f, long count) {
+    fputs("=proc:<0.1.0>\nLink list: [", f);
+    for (long i = 0; i < count; i++) fprintf(f, "%s{to,<0.2.0>,#Ref<%08ld\x15\x7C\x4A\x7F\xB9\x79\x37\x9E>}", i ? ", " : "", i);
+    fputs("]\n=proc:<0.2.0>\nLink list: [", f);
+    for (long i = 0; i < count; i++) fprintf(f, "%s{from,<0.1.0>,#Ref<%08ld\x15\x7C\x4A\x7F\xB9\x79\x37\x9E>}", i ? ", " : "", i);
+    fputs("]\n", f);
+}
+
+static void references(FILE *f, const char *to, long count) {
+    fprintf(f, "10:t%lX:", count);
+    for (long i = 0; i < count; i++) fprintf(f, "%sH%s", i ? "," : "", to);
+    fputc('\n', f);
+}
+
+static void payload(FILE *f, long bytes) {
+    put_heap(f);
+    references(f, "20", 1000);
+    fprintf(f, "20:Yh%lX:", bytes / 3 * 3);
+    for (long i = 0; i < bytes / 3; i++) fputs("aGVs", f);
+    fputc('\n', f);
+}
+
+static void external(FILE *f, long bytes) {
+    put_heap(f);
+    references(f, "20", 1000);
+    fprintf(f, "20:E%lX:", bytes / 3 * 3);
+    for (long i = 0; i < bytes / 3; i++) fputs("g2FB", f);
+    fputc('\n', f);
+}
+
+static void subs(FILE *f, long count) {
+    put_heap(f);
+    fprintf(f, "1:t%lX:", 100 * count);
+    for (long i = 0; i < 100 * count; i++) fputs(i ? ",N" : "N", f);
+    fputc('\n', f);
+    for (long i = 0; i < count; i++) fprintf(f, "%lX:Ys1:0:1\n", 16 * (i + 1));
+}
+
+static void one_address(FILE *f, long count) {
+    put_heap(f);
+    for (long i = 0; i < count; i++) fprintf(f, "10:lI%08ld|N\n", i % 100000000);
+}
+
+static void falling(FILE *f, long count) {
+    put_heap(f);
+    for (long i = count; i > 1; i--) fprintf(f, "%lX:lI%08ld|H%lX\n", 16 * i, i % 100000000, 16 * (i - 1));
+    fputs("10:lI1|N\n", f);
+}
+
+static void commas(FILE *f, long count) {
+    fputs("=proc:<0.1.0>\nLink list: [", f);
+    for (long i = 0; i < count; i++) fputs(", ", f);
+    fputs("]\n", f);
+}
+
+static void equals(FILE *f, long count) {
+    for (long i = 0; i < count; i++) fputs("=\n", f);
+}
+
+static void roots(FILE *f, long count) {
+    put_process(f, 1);
+    fputs("=proc_stack:<0.1.0>\n", f);
+    for (long i = 0; i < count; i++) fprintf(f, "y%ld:H10\n", i);
+    fputs("=proc_heap:<0.1.0>\n", f);
+    for (long i = 1; i < count; i++) fprintf(f, "%lX:lI1|H%lX\n", 16 * i, 16 * (i + 1));
+    fprintf(f, "%lX:lI1|N\n", 16 * count);
+}
+
+static void one_pid(FILE *f, long count) {
+    for (long i = 0; i < count; i++) put_process(f, 1);
+}
+
+static void star(FILE *f, long count) {
+    fputs("=proc:<0.1.0>\nLink list: [", f);
+    for (long i = 2; i <= count; i++) fprintf(f, "%s<0.%ld.0>", i > 2 ? ", " : "", i);
+    fputs("]\n", f);
+    for (long i = 2; i <= count; i++) fprintf(f, "=proc:<0.%ld.0>\nLink list: [<0.1.0>]\n", i);
+}
+
+static const struct {
+    const char *name;
+    void (*write)(FILE *f, long count);
+} shapes[] = {
+    {"pids", pids}, {"tags", tags}, {"mailboxes", mailboxes}, {"kinds", kinds}, {"payload", payload}, {"external", external},
+    {"subs", subs}, {"address", one_address}, {"falling", falling}, {"commas", commas}, {"equals", equals}, {"roots", roots},
+    {"one_pid", one_pid}, {"star", star},
+};
+
+int main(int count, char **words) {
+    if (count == 4) {
+        for (size_t i = 0; i < sizeof shapes / sizeof *shapes; i++) {
+            if (strcmp(words[1], shapes[i].name)) continue;
+            FILE *f = fopen(words[2], "w");
+            if (!f) return 1;
+            fputs("=erl_crash_dump:0.5\nSlogan: hostile\n", f);
+            shapes[i].write(f, atol(words[3]));
+            fputs("=end\n", f);
+            return fclose(f) != 0;
+        }
+    }
+    fputs("usage: hostile SHAPE FILE COUNT\n", stderr);
+    return 2;
+}

@@ -1,0 +1,82 @@
+#!/bin/sh
+# Times every command on dumps that someone wrote to make a reader slow, beside an ordinary dump of the same size, and on
+# dumps of the same shapes twice as large. A row has the shape, the command, the seconds on the hostile dump, the seconds on
+# the ordinary one and how many times these that is, and how many times the seconds the larger dump takes. Behind a row
+# stands `SLOW` where it takes more than 5 times as long as the ordinary one, or more than 2.3 times as long twice as large;
+# what takes less than a twentieth of a second isn't told from the start of a program, and is passed over.
+#
+#   bench/hostile.sh [ROUNDS]
+#
+# The best of ROUNDS rounds counts. The script ends with status 1 where a row is slow. It writes its files into a folder of
+# its own, which needs 1 GB, and removes them afterwards.
+rounds=${1:-3}
+here=$(CDPATH= cd -- "$(dirname -- "$0")" && pwd) || exit 1
+folder=$(mktemp -d) || exit 1
+trap 'rm -rf "$folder"' EXIT
+cc -O2 -o "$folder/bench" "$here/bench.c" || exit 1
+cc -O2 -o "$folder/hostile" "$here/hostile.c" || exit 1
+edump="$here/../crates/edump/out/edump"
+"$here/../edump" trial 0 1 >/dev/null || exit 1
+slow=0
+
+# The best seconds of some rounds of a command on a file.
+best() {
+    for _ in $(seq "$rounds"); do
+        timeout 120 "$folder/bench" measure /dev/null "$edump" "$@" 2>/dev/null || echo "120 0"
+    done | sort -n | awk 'NR == 1 { print $1 }'
+}
+
+# Tells of one command: on the hostile dump, on the ordinary one, and on the larger one.
+tell() {
+    shape=$1
+    shift
+    command=$1
+    ordinary=$2
+    shift 2
+    took=$(best "$command" "$folder/once" "$@")
+    usual=$(best "$command" "$ordinary" "$@")
+    twice=$(best "$command" "$folder/twice" "$@")
+    awk -v shape="$shape" -v words="$command $*" -v took="$took" -v usual="$usual" -v twice="$twice" 'BEGIN {
+        known = usual > 0.005 ? usual : 0.005
+        slow = took > 0.05 && took / known > 5 || twice > 0.1 && twice / took > 2.3
+        printf "%-10s %-22s %8.3f s  %8.3f s  %6.2f times  twice as large %5.2f times%s\n", shape, words, took, usual,
+            took / known, twice / (took > 0.005 ? took : 0.005), slow ? "  SLOW" : ""
+        exit slow
+    }' || slow=1
+}
+
+# A shape, with so many of what it has: all commands on it. Ordinary are a dump of processes and one of a list.
+shape() {
+    "$folder/hostile" "$1" "$folder/once" "$2" || exit 1
+    "$folder/hostile" "$1" "$folder/twice" $((2 * $2)) || exit 1
+    size=$(stat -c %s "$folder/once")
+    "$folder/bench" procs "$folder/processes" "$size" $((size / 600 + 1)) >/dev/null || exit 1
+    "$folder/bench" list "$folder/list" $((size / 40 + 1)) 0 || exit 1
+    for command in index info procs memory ets ports nodes mods links; do
+        tell "$1" "$command" "$folder/processes"
+    done
+    tell "$1" audit "$folder/processes" 5
+    tell "$1" audit "$folder/processes" 5 full
+    tell "$1" proc "$folder/processes" "<0.1.0>"
+    tell "$1" stack "$folder/list" "<0.1.0>" 1
+    tell "$1" dict "$folder/list" "<0.1.0>" 1
+    tell "$1" mail "$folder/list" "<0.1.0>" 1
+    tell "$1" term "$folder/list" "<0.1.0>" 10
+    tell "$1" binary "$folder/list" 10
+}
+
+shape pids 100000
+shape tags 32768
+shape mailboxes 32768
+shape kinds 50000
+shape payload 20000000
+shape external 20000000
+shape subs 20000
+shape address 500000
+shape falling 500000
+shape commas 30000000
+shape equals 5000000
+shape roots 1000000
+shape one_pid 500000
+shape star 200000
+exit "$slow"
