@@ -49,11 +49,11 @@ fn push_parts<'a>(entries: &mut Vec<Listed<'a>>, parts: Parts<'a>) -> Result<(),
 fn all_kinds<'a>(alloc: Global, entries: &[Listed<'a>]) -> Result<KindSet<'a>, AllocError>
     ensures { IfOk result (AreKindsOf entries.now) }
 {
-    let mut kinds = KindSet::new(alloc);
+    let mut kinds = Vec::with_capacity(alloc, entries.len())?;
     for entry in entries {
-        kinds.insert(entry.kind())?;
+        kinds.push(entry.kind())?;
     }
-    Ok(kinds)
+    Ok(KindSet::of(kinds))
 }
 
 // Puts the kinds of the entries of a long list behind the sets, and of a short one nothing.

@@ -9,7 +9,7 @@ use crate::kinds::kind;
 use std::marker::Model;
 
 /// What an entry of a link list says. The slices are parts of the list's text.
-#[derive(Clone, Copy, Debug, PartialEq, Eq, Hash)]
+#[derive(Clone, Copy, Debug, PartialEq, Eq, PartialOrd, Ord)]
 pub enum EntryKind<'a> {
     /// A link to the process with this pid.
     Link(&'a [u8]),
