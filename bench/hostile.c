@@ -1,4 +1,5 @@
-// Dumps that someone wrote to make a reader slow, for `bench/hostile.sh`.
+// Dumps that someone wrote to make a reader slow, for `bench/hostile.sh`. Of each shape there is an ordinary dump too, with as
+// many of what the shape has, which `plain` before the shape's name makes.
 //
 //   hostile pids FILE N       N processes whose pids are 8 free bytes and 8 by which a hash with a fixed seed, that takes a
 //                             text at one go, is the same for all
@@ -39,13 +40,26 @@ static const char *blocks[16][2] = {
     {"X9957ydm5-N", "3ldcnS0zJRE"},
 };
 
+// Whether the ordinary dump of the shape is written.
+static int plain;
+
 static void put_colliding(FILE *f, long n) {
+    if (plain) {
+        fprintf(f, "%0176ld", n);
+        return;
+    }
     for (int i = 0; i < 16; i++) fputs(blocks[i][n >> i & 1], f);
     if (n >> 16) fprintf(f, "%ld", n >> 16);
 }
 
+// What makes a text collide with others, or as many bytes that don't.
+static const char *suffix(void) {
+    return plain ? "ordinary" : "\x15\x7C\x4A\x7F\xB9\x79\x37\x9E";
+}
+
 static void put_pid(FILE *f, long n) {
-    fprintf(f, "%08ld\x15\x7C\x4A\x7F\xB9\x79\x37\x9E", n % 100000000);
+    if (plain) fprintf(f, "<0.%ld.0>", n + 1);
+    else fprintf(f, "%08ld%s", n % 100000000, suffix());
 }
 
 static void put_process(FILE *f, long n) {
@@ -84,10 +98,18 @@ static void mailboxes(FILE *f, long count) {
 
 static void kinds(FILE *f, long count) {
     fputs("=proc:<0.1.0>\nLink list: [", f);
-    for (long i = 0; i < count; i++) fprintf(f, "%s{to,<0.2.0>,#Ref<%08ld\x15\x7C\x4A\x7F\xB9\x79\x37\x9E>}", i ? ", " : "", i);
+    for (long i = 0; i < count; i++) fprintf(f, "%s{to,<0.2.0>,#Ref<%08ld%s>}", i ? ", " : "", i, suffix());
     fputs("]\n=proc:<0.2.0>\nLink list: [", f);
-    for (long i = 0; i < count; i++) fprintf(f, "%s{from,<0.1.0>,#Ref<%08ld\x15\x7C\x4A\x7F\xB9\x79\x37\x9E>}", i ? ", " : "", i);
+    for (long i = 0; i < count; i++) fprintf(f, "%s{from,<0.1.0>,#Ref<%08ld%s>}", i ? ", " : "", i, suffix());
     fputs("]\n", f);
+}
+
+// A list of cells of 40 bytes each, as many as make so many bytes.
+static void list(FILE *f, long bytes) {
+    put_heap(f);
+    long cells = bytes / 40 + 1;
+    for (long i = 1; i < cells; i++) fprintf(f, "%012lX:lI%08ld|H%012lX\n", 16 * i, i % 100000000, 16 * (i + 1));
+    fprintf(f, "%012lX:lI1|N\n", 16 * cells);
 }
 
 static void references(FILE *f, const char *to, long count) {
@@ -97,6 +119,10 @@ static void references(FILE *f, const char *to, long count) {
 }
 
 static void payload(FILE *f, long bytes) {
+    if (plain) {
+        list(f, bytes);
+        return;
+    }
     put_heap(f);
     references(f, "20", 1000);
     fprintf(f, "20:Yh%lX:", bytes / 3 * 3);
@@ -105,6 +131,10 @@ static void payload(FILE *f, long bytes) {
 }
 
 static void external(FILE *f, long bytes) {
+    if (plain) {
+        list(f, bytes);
+        return;
+    }
     put_heap(f);
     references(f, "20", 1000);
     fprintf(f, "20:E%lX:", bytes / 3 * 3);
@@ -113,6 +143,10 @@ static void external(FILE *f, long bytes) {
 }
 
 static void subs(FILE *f, long count) {
+    if (plain) {
+        list(f, 220 * count);
+        return;
+    }
     put_heap(f);
     fprintf(f, "1:t%lX:", 100 * count);
     for (long i = 0; i < 100 * count; i++) fputs(i ? ",N" : "N", f);
@@ -122,10 +156,14 @@ static void subs(FILE *f, long count) {
 
 static void one_address(FILE *f, long count) {
     put_heap(f);
-    for (long i = 0; i < count; i++) fprintf(f, "10:lI%08ld|N\n", i % 100000000);
+    for (long i = 0; i < count; i++) fprintf(f, "%lX:lI%08ld|N\n", plain ? 16 * (i + 1) : 16, i % 100000000);
 }
 
 static void falling(FILE *f, long count) {
+    if (plain) {
+        list(f, 40 * count);
+        return;
+    }
     put_heap(f);
     for (long i = count; i > 1; i--) fprintf(f, "%lX:lI%08ld|H%lX\n", 16 * i, i % 100000000, 16 * (i - 1));
     fputs("10:lI1|N\n", f);
@@ -133,28 +171,30 @@ static void falling(FILE *f, long count) {
 
 static void commas(FILE *f, long count) {
     fputs("=proc:<0.1.0>\nLink list: [", f);
-    for (long i = 0; i < count; i++) fputs(", ", f);
+    for (long i = 0; i < count; i++) fputs(plain ? "x, " : ", ", f);
     fputs("]\n", f);
 }
 
 static void equals(FILE *f, long count) {
-    for (long i = 0; i < count; i++) fputs("=\n", f);
+    for (long i = 0; i < count; i++) fputs(plain ? "=proc_heap\n" : "=\n", f);
 }
 
 static void roots(FILE *f, long count) {
     put_process(f, 1);
     fputs("=proc_stack:<0.1.0>\n", f);
-    for (long i = 0; i < count; i++) fprintf(f, "y%ld:H10\n", i);
+    for (long i = 0; i < count; i++) fprintf(f, plain ? "y%ld:N\n" : "y%ld:H10\n", i);
     fputs("=proc_heap:<0.1.0>\n", f);
     for (long i = 1; i < count; i++) fprintf(f, "%lX:lI1|H%lX\n", 16 * i, 16 * (i + 1));
     fprintf(f, "%lX:lI1|N\n", 16 * count);
 }
 
 static void one_pid(FILE *f, long count) {
-    for (long i = 0; i < count; i++) put_process(f, 1);
+    for (long i = 0; i < count; i++) put_process(f, plain ? i + 1 : 1);
 }
 
 static void star(FILE *f, long count) {
+    for (long i = 1; plain && i <= count; i++) fprintf(f, "=proc:<0.%ld.0>\nLink list: [<0.%ld.0>, <0.%ld.0>]\n", i, i - 1, i + 1);
+    if (plain) return;
     fputs("=proc:<0.1.0>\nLink list: [", f);
     for (long i = 2; i <= count; i++) fprintf(f, "%s<0.%ld.0>", i > 2 ? ", " : "", i);
     fputs("]\n", f);
@@ -171,6 +211,11 @@ static const struct {
 };
 
 int main(int count, char **words) {
+    if (count > 1 && !strcmp(words[1], "plain")) {
+        plain = 1;
+        words++;
+        count--;
+    }
     if (count == 4) {
         for (size_t i = 0; i < sizeof shapes / sizeof *shapes; i++) {
             if (strcmp(words[1], shapes[i].name)) continue;
@@ -182,6 +227,6 @@ int main(int count, char **words) {
             return fclose(f) != 0;
         }
     }
-    fputs("usage: hostile SHAPE FILE COUNT\n", stderr);
+    fputs("usage: hostile [plain] SHAPE FILE COUNT\n", stderr);
     return 2;
 }

@@ -1,6 +1,6 @@
 #!/bin/sh
-# Times every command on dumps that someone wrote to make a reader slow, beside an ordinary dump of the same size, and on
-# dumps of the same shapes twice as large. A row has the shape, the command, the seconds on the hostile dump, the seconds on
+# Times every command on dumps that someone wrote to make a reader slow, beside an ordinary dump with as many processes,
+# sections, entries, roots or bytes of a heap, and on dumps of the same shapes twice as large. A row has the shape, the command, the seconds on the hostile dump, the seconds on
 # the ordinary one and how many times these that is, and how many times the seconds the larger dump takes. Behind a row
 # stands `SLOW` where it takes more than 5 times as long as the ordinary one, or more than 2.3 times as long twice as large;
 # what takes less than a twentieth of a second isn't told from the start of a program, and is passed over.
@@ -26,15 +26,13 @@ best() {
     done | sort -n | awk 'NR == 1 { print $1 }'
 }
 
-# Tells of one command: on the hostile dump, on the ordinary one, and on the larger one.
+# Tells of one command on a shape: on the hostile dump, on the ordinary one, and on the larger one.
 tell() {
     shape=$1
-    shift
-    command=$1
-    ordinary=$2
+    command=$2
     shift 2
     took=$(best "$command" "$folder/once" "$@")
-    usual=$(best "$command" "$ordinary" "$@")
+    usual=$(best "$command" "$folder/plain" "$@")
     twice=$(best "$command" "$folder/twice" "$@")
     awk -v shape="$shape" -v words="$command $*" -v took="$took" -v usual="$usual" -v twice="$twice" 'BEGIN {
         known = usual > 0.005 ? usual : 0.005
@@ -45,24 +43,22 @@ tell() {
     }' || slow=1
 }
 
-# A shape, with so many of what it has: all commands on it. Ordinary are a dump of processes and one of a list.
+# A shape, with so many of what it has: all commands on it.
 shape() {
     "$folder/hostile" "$1" "$folder/once" "$2" || exit 1
+    "$folder/hostile" plain "$1" "$folder/plain" "$2" || exit 1
     "$folder/hostile" "$1" "$folder/twice" $((2 * $2)) || exit 1
-    size=$(stat -c %s "$folder/once")
-    "$folder/bench" procs "$folder/processes" "$size" $((size / 600 + 1)) >/dev/null || exit 1
-    "$folder/bench" list "$folder/list" $((size / 40 + 1)) 0 || exit 1
     for command in index info procs memory ets ports nodes mods links; do
-        tell "$1" "$command" "$folder/processes"
+        tell "$1" "$command"
     done
-    tell "$1" audit "$folder/processes" 5
-    tell "$1" audit "$folder/processes" 5 full
-    tell "$1" proc "$folder/processes" "<0.1.0>"
-    tell "$1" stack "$folder/list" "<0.1.0>" 1
-    tell "$1" dict "$folder/list" "<0.1.0>" 1
-    tell "$1" mail "$folder/list" "<0.1.0>" 1
-    tell "$1" term "$folder/list" "<0.1.0>" 10
-    tell "$1" binary "$folder/list" 10
+    tell "$1" audit 5
+    tell "$1" audit 5 full
+    tell "$1" proc "<0.1.0>"
+    for command in stack dict mail; do
+        tell "$1" "$command" "<0.1.0>" 1
+    done
+    tell "$1" term "<0.1.0>" 10
+    tell "$1" binary 10
 }
 
 shape pids 100000
@@ -75,7 +71,7 @@ shape subs 20000
 shape address 500000
 shape falling 500000
 shape commas 30000000
-shape equals 5000000
+shape equals 2000000
 shape roots 1000000
 shape one_pid 500000
 shape star 200000
