@@ -123,6 +123,15 @@ impl Index {
         }
     }
 
+    // The text of the header at a place, in which nothing is sought.
+    pub(crate) fn text(&self, i: usize) -> &[u8]
+        requires { i < length self.now.headers }
+        ensures place { slice_get (sections_in self.now) i ≡ Some (section_at self.now i) }
+        ensures text { result.now ≡ (section_at self.now i).text }
+    {
+        self.headers.header(i).text
+    }
+
     /// The section at a place, from 0.
     pub fn section(&self, i: usize) -> Section<'_>
         requires { i < length self.now.headers }

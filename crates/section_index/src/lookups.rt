@@ -65,7 +65,7 @@ fn position(index: &Index, wanted: &Wanted<'_>) -> Option<usize>
     ensures within { IfSome result (λ i. i < length index.now.headers) }
 {
     for i in 0..index.len() {
-        if is_wanted(index.section(i).text, wanted) {
+        if is_wanted(index.text(i), wanted) {
             return Some(i);
         }
     }
