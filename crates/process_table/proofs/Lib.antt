@@ -6,3 +6,4 @@ pub mod Joining
 pub mod Placing
 pub mod Positions
 pub mod Ranking
+pub mod Rising

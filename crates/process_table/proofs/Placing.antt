@@ -1,12 +1,13 @@
 -- The records are sections of the index, each with its place.
-use Rattle.std.proofs.Common.{◌≡◌, ◌+◌, ◌<◌, not, List, [], ◌∷◌, length, filter, get_or, All, sym, ◌∙◌, ap, arith}
+use Rattle.std.proofs.Common.{◌≡◌, ℕ, suc, ◌+◌, ◌<◌, not, List, [], ◌∷◌, length, filter, get_or, All, refl, sym, ◌∙◌, ap, arith}
 use Rattle.std.proofs.lemmas.List.{get_or_default}
 use Rattle.std.proofs.lemmas.List.FromFn.{get_or-enumerate_from, length-enumerate_from}
 use Rattle.std.proofs.lemmas.List.Elements.{All-nil, All-cons, All-head, All-tail, All-filter, filter_passes}
 use Rattle.std.proofs.lemmas.Option.{unwrap_or-slice_get}
+use Rattle.dump_io.specs.Lines.{Header}
 use Rattle.section_index.specs.Bodies.{section_at}
 use Rattle.section_index.specs.Index.{Contents, sections_in}
-use Rattle.section_index.specs.Sections.{section}
+use Rattle.section_index.specs.Sections.{section, sections_of}
 use Rattle.process_table.specs.Records.{Placed, placed, is_process, process_sections, has_same_pid, first_of_each, records}
 use Rattle.process_table.specs.Inner.Finding.{IsRecordOf}
 
@@ -21,24 +22,29 @@ All-first_of_each P (p ∷ rest) all =
 IsPlaced : Contents → Placed → Type 0
 IsPlaced index p = (p.0 < length index.headers) × (section_at index p.0 ≡ p.1)
 
-All-placed : (index : Contents) → length (sections_in index) ≡ length index.headers → All (IsPlaced index) (placed (sections_in index))
+-- there are as many sections as headers
+length-sections_of : (headers : List Header) (size : ℕ) → length (sections_of headers size) ≡ length headers
+length-sections_of [] size = refl
+length-sections_of (header ∷ headers) size = ap suc (length-sections_of headers size)
+
+All-placed : (index : Contents) → All (IsPlaced index) (placed (sections_in index))
 unfolding IsPlaced
-All-placed index count k d inside =
+All-placed index k d inside =
     let sections = sections_in index in
     let within : k < length sections = omega (arith, length-enumerate_from 0 sections) in
     let is = get_or-enumerate_from 0 sections k d within in
     let zero_more : 0 + k ≡ k = omega arith in
     let place : (get_or (placed sections) k d).0 ≡ k = ap (λ (p : Placed). p.0) is ∙ zero_more in
     let there : section_at index k ≡ get_or sections k d.1 = unwrap_or-slice_get sections k (section 0 0 0 []) ∙ get_or_default sections k (section 0 0 0 []) d.1 within in
-    (omega (arith, place, within, count), ap (section_at index) place ∙ there ∙ sym (ap (λ (p : Placed). p.1) is))
+    (omega (arith, place, within, length-sections_of index.headers index.size), ap (section_at index) place ∙ there ∙ sym (ap (λ (p : Placed). p.1) is))
 
-pub All-records : (index : Contents) → length (sections_in index) ≡ length index.headers → All (IsRecordOf index) (records (sections_in index))
+pub All-records : (index : Contents) → All (IsRecordOf index) (records (sections_in index))
 unfolding IsPlaced
-All-records index count =
+All-records index =
     let sections = placed (sections_in index) in
     All-first_of_each (IsRecordOf index) (process_sections sections)
     (λ k d inside. record {
-      place = (All-filter (λ p. is_process p.1) (IsPlaced index) sections (All-placed index count) k d inside).0;
-      section = (All-filter (λ p. is_process p.1) (IsPlaced index) sections (All-placed index count) k d inside).1;
+      place = (All-filter (λ p. is_process p.1) (IsPlaced index) sections (All-placed index) k d inside).0;
+      section = (All-filter (λ p. is_process p.1) (IsPlaced index) sections (All-placed index) k d inside).1;
       process = filter_passes (λ (p : Placed). is_process p.1) sections k d inside;
     })

@@ -22,7 +22,7 @@ use Rattle.std.proofs.lemmas.Map.Keys.{Less-from_sorted}
 use Rattle.std.proofs.lemmas.Option.{get_or_from_slice_get, slice_get_within, slice_get-get_or, slice_get-map, same_Some, none-some}
 use Rattle.std.proofs.lemmas.Slice.Eq.{bytes_eq-Decides}
 use Rattle.process_table.specs.declared.pids.PidPlace.{PidPlace}
-use Rattle.process_table.specs.Inner.Finding.{has_pid, pid_at, AreOwn, AreNumbered, AreOrdered}
+use Rattle.process_table.specs.Inner.Finding.{has_pid, pid_at, AreOwn, AreNumbered, AreRanked}
 use Rattle.process_table.proofs.Positions.{position-first, position-later}
 
 -- texts that compare as equal are one
@@ -158,9 +158,8 @@ module _ (numbers : BTreeMap (Bor (List ℕ)) ℕ) (places : List PidPlace) (are
       let found = position-holds (has_pid pid) places n is in
       ap (λ o. option_map_or (λ (place : PidPlace). place.pid.items) o []) found.1 ∙ sym ((bytes_eq-Decides pid found.0.pid.items).0 found.2)
 
-  pub AreOrdered-values : AreOrdered places (values numbers)
-  AreOrdered-values = record {
-    own = are.own;
+  pub AreRanked-values : AreRanked places (values numbers)
+  AreRanked-values = record {
     rising = λ pid. searchable_from_sorted nat_list_cmp_total (pid_at places) order pid sorted;
     known = λ k d inside. known k d inside;
     all = all;
@@ -213,12 +212,12 @@ module _ (numbers : BTreeMap (Bor (List ℕ)) ℕ) (places : List PidPlace) (are
           (found.0, within, get_or_from_slice_get order found.0 number number at)
 
 -- a number that the search found, or none
-pub found-number : (places : List PidPlace) (order : List ℕ) (pid : List ℕ) (at : ℕ) → AreOrdered places order → at < length order
+pub found-number : (places : List PidPlace) (order : List ℕ) (pid : List ℕ) (at : ℕ) → AreRanked places order → at < length order
     → slice_cmp nat_cmp (pid_at places (get_or order at 0)) pid ≡ Equal → position (has_pid pid) places ≡ Some (get_or order at 0)
 found-number places order pid at are inside same =
     subst (λ t. position (has_pid t) places ≡ Some (get_or order at 0)) (same-text (pid_at places (get_or order at 0)) pid same) (are.known at 0 inside)
 
-pub no-number : (places : List PidPlace) (order : List ℕ) (pid : List ℕ) (at : ℕ) → AreOrdered places order
+pub no-number : (places : List PidPlace) (order : List ℕ) (pid : List ℕ) (at : ℕ) → AreRanked places order
     → AllWithin (λ number. slice_cmp nat_cmp (pid_at places number) pid ≡ Less) order 0 at
     → AllWithin (λ number. slice_cmp nat_cmp (pid_at places number) pid ≡ Greater) order at (length order)
     → position (has_pid pid) places ≡ None
@@ -249,12 +248,12 @@ no-number places order pid at are before behind = by (position (has_pid pid) pla
 abbrev Searches : List PidPlace → List ℕ → List ℕ → Result ℕ ℕ → Type 0
 Searches places order pid r = IsBinarySearchResult (λ number. slice_cmp nat_cmp (pid_at places number) pid) order r
 
-pub searched-ok : (places : List PidPlace) (order : List ℕ) (pid : List ℕ) (r : Result ℕ ℕ) (at : ℕ) → AreOrdered places order → r ≡ Ok at
+pub searched-ok : (places : List PidPlace) (order : List ℕ) (pid : List ℕ) (r : Result ℕ ℕ) (at : ℕ) → AreRanked places order → r ≡ Ok at
     → Searches places order pid r → IsSearchInRange r (length order) → position (has_pid pid) places ≡ Some (get_or order at 0)
 searched-ok places order pid r at are is result range =
     found-number places order pid at are (subst (λ x. IsSearchInRange x (length order)) is range) ((subst (Searches places order pid) is result) 0)
 
-pub searched-err : (places : List PidPlace) (order : List ℕ) (pid : List ℕ) (r : Result ℕ ℕ) (at : ℕ) → AreOrdered places order → r ≡ Err at
+pub searched-err : (places : List PidPlace) (order : List ℕ) (pid : List ℕ) (r : Result ℕ ℕ) (at : ℕ) → AreRanked places order → r ≡ Err at
     → Searches places order pid r → position (has_pid pid) places ≡ None
 searched-err places order pid r at are is result =
     let point = (subst (Searches places order pid) is result) (are.rising pid) in

@@ -1,13 +1,13 @@
 // The first section of each process is found.
-ghost use Rattle.std.specs.Prelude.{◌≡◌, ◌+◌, ◌<◌, ◌≤◌, ◌^◌, length, take, slice_get, Some, OnOk, IfOk};
+ghost use Rattle.std.specs.Prelude.{◌≡◌, ◌+◌, ◌<◌, ◌≤◌, ◌^◌, true, length, take, slice_get, Some, OnOk, IfOk, IfSome};
 ghost use Rattle.std.specs.Option.{option_copied};
 ghost use Rattle.dump_io.specs.Limits.{usual};
 ghost use Rattle.section_index.specs.Index.{sections_in};
 ghost use Rattle.section_index.specs.Bodies.{section_at};
 ghost use Rattle.process_table.specs.Records.{placed};
-ghost use Rattle.process_table.specs.Inner.Finding.{AreFound, AreNumbered, AreOrdered, pid_in};
+ghost use Rattle.process_table.specs.Inner.Finding.{AreFound, AreFoundRising, AreNumbered, AreOrdered, AreOwn, AreRanked, pid_in};
 
-use crate::pids::{PidPlace, order_of};
+use crate::pids::{PidOrder, PidPlace, comes_behind, order_of, push_place};
 use section_index::Index;
 use std::alloc::{AllocError, Global};
 use std::collections::BTreeMap;
@@ -55,19 +55,16 @@ fn find_at<'a>(
         found.repeated += 1;
         return Ok(());
     }
-    let text = Vec::from_slice(alloc, pid)?;
     numbers.insert(pid, found.places.len() as u32)?;
-    found.places.push(PidPlace {
-        pid: text,
-        section: i,
-    })?;
+    push_place(alloc, &mut found.places, pid, i)?;
     Ok(())
 }
 
-// Finds the first section of each process of an index, and the order of their pids.
-pub(crate) fn find(alloc: Global, index: &Index) -> Result<(Found, Vec<u32>), AllocError>
+// Finds the first section of each process, and the order of their pids, whatever order they come in.
+fn find_ranked(alloc: Global, index: &Index) -> Result<(Found, Vec<u32>), AllocError>
     ensures found { IfOk result (λ found. AreFound found.0 (placed (sections_in index.now))) }
-    ensures ordered { IfOk result (λ found. AreOrdered found.0.places.items found.1.items) }
+    ensures own { IfOk result (λ found. AreOwn found.0.places.items) }
+    ensures ranked { IfOk result (λ found. AreRanked found.0.places.items found.1.items) }
     ensures count { IfOk result (λ found. length found.0.places.items ≤ usual.sections) }
 {
     let mut found = Found {
@@ -78,6 +75,60 @@ pub(crate) fn find(alloc: Global, index: &Index) -> Result<(Found, Vec<u32>), Al
     for i in 0..index.len() {
         find_at(alloc, &mut found, &mut numbers, index, i)?;
     }
-    let order = order_of(alloc, &numbers, &found.places)?;
+    let order = order_of(alloc, &numbers)?;
     Ok((found, order))
+}
+
+// Takes the section at a place, behind those before it, whose pids rise. Tells whether they still do; where they don't,
+// nothing is taken.
+fn find_rising_at(
+    alloc: Global,
+    places: &mut Vec<PidPlace>,
+    index: &Index,
+    i: usize,
+) -> Result<bool, AllocError>
+    requires place { i < length index.now.headers }
+    requires before { AreFoundRising places.old (take i (placed (sections_in index.now))) }
+    ensures { IfOk result (λ rises. rises ≡ true → AreFoundRising places.new (take (i + 1) (placed (sections_in index.now)))) }
+{
+    let Some(pid) = pid_of(index, i) else {
+        return Ok(true);
+    };
+    if !comes_behind(places.as_slice(), pid) {
+        return Ok(false);
+    }
+    push_place(alloc, places, pid, i)?;
+    Ok(true)
+}
+
+// Finds the first section of each process, where each pid comes behind those before it: none is repeated, and nothing else
+// is asked to tell that it is new. `None` comes where some pid doesn't.
+fn find_rising(alloc: Global, index: &Index) -> Result<Option<Vec<PidPlace>>, AllocError>
+    ensures found { IfOk result (λ found. IfSome found (λ places. AreFoundRising places (placed (sections_in index.now)))) }
+    ensures count { IfOk result (λ found. IfSome found (λ places. length places.items ≤ usual.sections)) }
+{
+    let mut places = Vec::new(alloc);
+    for place in 0..index.len() {
+        if !find_rising_at(alloc, &mut places, index, place)? {
+            return Ok(None);
+        }
+    }
+    Ok(Some(places))
+}
+
+// Finds the first section of each process of an index, and the order of their pids.
+pub(crate) fn find(alloc: Global, index: &Index) -> Result<(Found, PidOrder), AllocError>
+    ensures found { IfOk result (λ found. AreFound found.0 (placed (sections_in index.now))) }
+    ensures ordered { IfOk result (λ found. AreOrdered found.0.places.items found.1) }
+    ensures count { IfOk result (λ found. length found.0.places.items ≤ usual.sections) }
+{
+    if let Some(places) = find_rising(alloc, index)? {
+        let found = Found {
+            places,
+            repeated: 0,
+        };
+        return Ok((found, PidOrder::Rising));
+    }
+    let (found, order) = find_ranked(alloc, index)?;
+    Ok((found, PidOrder::Ranked(order)))
 }

@@ -7,7 +7,7 @@ ghost use Rattle.process_table.specs.Records.{proc_places, record_sections};
 ghost use Rattle.process_table.specs.Inner.Finding.{named_places, sections_of, AreOrdered};
 
 use crate::finding::find;
-use crate::pids::PidPlace;
+use crate::pids::{PidOrder, PidPlace};
 use dump_io::Limits;
 use section_index::{BodyFault, Index};
 use section_rows::large;
@@ -19,7 +19,7 @@ use std::marker::Model;
 #[derive(Drop)]
 pub struct ProcSections {
     places: Vec<PidPlace>,
-    order: Vec<u32>,
+    order: PidOrder,
     sections: Vec<usize>,
     repeated: u64,
 }
@@ -32,7 +32,7 @@ impl Model for ProcSections {
 
     ghost view = { λ f. record { places = named_places f.places.items; repeated = f.repeated } };
 
-    ghost invariant = { λ f. AreListed f.places.items f.order.items f.sections.items };
+    ghost invariant = { λ f. AreListed f.places.items f.order f.sections.items };
 }
 
 // The pid at a place, and the place of its section.
@@ -87,16 +87,14 @@ impl ProcSections {
         requires { self.now ≡ proc_places (sections_in index.now) }
         ensures { result ≡ large_fault limits.now.section (record_sections (sections_in index.now)) }
     {
-        // For what `len` ensures: there are as many sections as headers, so that each place is that of a section.
-        let _count = index.len();
         large(index, self.sections.as_slice(), limits)
     }
 
     // The pids with the places of their sections, their order, these places alone, and the number of the sections that
     // were passed over.
-    pub(crate) fn into_parts(self) -> (Vec<PidPlace>, Vec<u32>, Vec<usize>, u64)
+    pub(crate) fn into_parts(self) -> (Vec<PidPlace>, PidOrder, Vec<usize>, u64)
         ensures places { named_places result.0.items ≡ self.places }
-        ensures ordered { AreOrdered result.0.items result.1.items }
+        ensures ordered { AreOrdered result.0.items result.1 }
         ensures sections { result.2.items ≡ sections_of result.0.items }
         ensures count { length result.0.items ≤ usual.sections }
         ensures repeated { result.3 ≡ self.repeated }

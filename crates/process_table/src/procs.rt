@@ -13,7 +13,7 @@ ghost use Rattle.process_table.specs.Inner.Finding.{named_places, IsRecordOf};
 ghost use Rattle.process_table.specs.Inner.Joined.{all_joined, AreJoined, field_columns};
 
 use crate::hints::Hints;
-use crate::pids::{PidPlace, number_of};
+use crate::pids::{PidOrder, PidPlace, number_of};
 use crate::proc_sections::{ProcSections, place_at};
 use dump_io::{Dumps, Limits};
 use section_index::{BodyFault, Index};
@@ -44,7 +44,7 @@ pub struct Proc<'a> {
 #[derive(Drop)]
 pub struct Procs {
     places: Vec<PidPlace>,
-    order: Vec<u32>,
+    order: PidOrder,
     hints: Hints,
     fields: SectionRows,
     repeated: u64,
@@ -59,7 +59,7 @@ impl Model for Procs {
 
     ghost view = { λ t. record { processes = all_joined (named_places t.places.items) t.fields.rows; repeated = t.repeated } };
 
-    ghost invariant = { λ t. AreJoined t.places.items t.order.items t.fields };
+    ghost invariant = { λ t. AreJoined t.places.items t.order t.fields };
 }
 
 // The process of the entry and the row at a place.
@@ -164,8 +164,6 @@ impl Procs {
         ensures fault { IfErr result (AreRefused (record_sections (sections_in index.now)) limits.now.section (used D.files D.now D.faults D.taken dumps.old dumps.new)) }
         ensures unread { IsSome (first_large limits.now.section (record_sections (sections_in index.now))) → dumps.new ≡ dumps.old }
     {
-        // For what `len` ensures: there are as many sections as headers, so that each place is that of a section.
-        let _count = index.len();
         let (places, order, sections, repeated) = found.into_parts();
         let Ok(hints) = Hints::of(alloc, &places) else {
             return Err(BodyFault::Memory);

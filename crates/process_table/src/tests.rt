@@ -80,6 +80,39 @@ fn pids_with_one_slot_are_told_apart(rt: HostRuntime) -> Result<(), Fail> {
     Ok(())
 }
 
+// Pids of one slot that rise, that fall, and that rise until one comes a second time.
+const RISING: &[u8] = b"=erl_crash_dump:0.5\n=proc:<0.1.0>\n=proc:<0.9.0>\n=proc:<0.17.0>\n=end";
+
+const FALLING: &[u8] = b"=erl_crash_dump:0.5\n=proc:<0.17.0>\n=proc:<0.9.0>\n=proc:<0.1.0>\n=end";
+
+const TWICE: &[u8] =
+    b"=erl_crash_dump:0.5\n=proc:<0.1.0>\n=proc:<0.9.0>\n=proc:<0.17.0>\n=proc:<0.1.0>\n=end";
+
+// The places of those pids among the processes of a dump, and of one that isn't there.
+fn places(alloc: Global, dump: &[u8]) -> Result<[Option<usize>; 4], Fail> {
+    let mut dumps = MemDumps::holding(alloc, "V", dump, &[], &[])?;
+    let usual = Limits::usual();
+    let index = build(alloc, &mut dumps, "V", &usual)?;
+    let procs = Procs::load(alloc, &mut dumps, &index, &usual)?;
+    Ok([
+        procs.get(b"<0.1.0>".as_slice()),
+        procs.get(b"<0.9.0>".as_slice()),
+        procs.get(b"<0.17.0>".as_slice()),
+        procs.get(b"<0.25.0>".as_slice()),
+    ])
+}
+
+#[test]
+fn pids_are_found_in_any_order(rt: HostRuntime) -> Result<(), Fail> {
+    let rising = places(rt.alloc(), RISING)?;
+    assert_eq!(rt; rising, [Some(0), Some(1), Some(2), None]);
+    let falling = places(rt.alloc(), FALLING)?;
+    assert_eq!(rt; falling, [Some(2), Some(1), Some(0), None]);
+    let twice = places(rt.alloc(), TWICE)?;
+    assert_eq!(rt; twice, [Some(0), Some(1), Some(2), None]);
+    Ok(())
+}
+
 #[test]
 fn a_body_that_is_not_read_is_a_fault(rt: HostRuntime) -> Result<(), Fail> {
     let mut dumps = MemDumps::holding(rt.alloc(), "V", DUMP, &[], &[4])?;

@@ -3,6 +3,7 @@ use Rattle.std.specs.Prelude.{◌≡◌, ℕ, ◌≤◌, List, [], ◌∷◌, le
 use Rattle.dump_io.specs.Limits.{usual}
 use Rattle.section_rows.specs.Rows.{Column, field, Row, Table, cell_at}
 use Rattle.process_table.specs.Processes.{Process}
+use Rattle.process_table.specs.declared.pids.PidOrder.{PidOrder}
 use Rattle.process_table.specs.declared.pids.PidPlace.{PidPlace}
 use Rattle.process_table.specs.Inner.Finding.{AreOrdered}
 
@@ -28,7 +29,7 @@ all_joined (entry ∷ entries) [] = []
 all_joined (entry ∷ entries) (row ∷ rows) = joined entry row ∷ all_joined entries rows
 
 -- each process has a row, with a cell for each field, and their pids are in order
-pub record AreJoined (places : List PidPlace) (order : List ℕ) (fields : Table) : Type 0 where
+pub record AreJoined (places : List PidPlace) (order : PidOrder) (fields : Table) : Type 0 where
   pub rows : length fields.rows ≡ length places
   pub width : fields.width ≡ 5
   pub count : length places ≤ usual.sections

@@ -1,18 +1,15 @@
-use Rattle.std.proofs.Common.{take, subst, arith}
-use Rattle.std.proofs.lemmas.List.{take_all, length-take}
-use Rattle.std.proofs.lemmas.List.FromFn.{length-enumerate_from}
+use Rattle.std.proofs.Common.{Option, IfSome, subst}
+use Rattle.std.specs.Global.{Vec}
 use Rattle.section_index.specs.Index.{sections_in}
+use Rattle.process_table.specs.declared.pids.PidPlace.{PidPlace}
 use Rattle.process_table.specs.Records.{placed}
-use Rattle.process_table.specs.Inner.Finding.{AreFound}
-use Rattle.process_table.proofs.Hearing.{entries-few}
+use Rattle.process_table.specs.Inner.Finding.{AreFoundRising}
+use Rattle.process_table.proofs.Rising.{AreOrdered-rising}
 use Rattle.process_table.proofs.finding.find.Goals as goal
 
-pub returns-clause-found : goal.returns-clause-found
-returns-clause-found c =
-    let sections = sections_in c.args.index.now in
-    subst (AreFound c.loop-i.found) (take_all c.loop-i.i (placed sections) (omega (arith, length-enumerate_from 0 sections, c.len-i-end.ensures.sections))) c.loop-i.invariant.found
-
-pub returns-clause-count : goal.returns-clause-count
-returns-clause-count c =
+pub returns-in-Some-clause-ordered : goal.returns-in-Some-clause-ordered
+returns-in-Some-clause-ordered c =
     let sections = placed (sections_in c.args.index.now) in
-    omega (arith, entries-few c.loop-i.found (take c.loop-i.i sections) c.loop-i.invariant.found, length-take c.loop-i.i sections, c.len-i-end.ensures.value, c.len-i-end.ensures.bounded.sections)
+    let found : AreFoundRising c.in-Some.places sections =
+    subst (λ (o : Option (Vec PidPlace)). IfSome o (λ places. AreFoundRising places sections)) c.in-Some.is c.in_ok-places.ensures.found in
+    AreOrdered-rising c.in-Some.places.items found.rising

@@ -51,18 +51,19 @@ returns-clause-found c =
     let among = take c.args.i (placed sections) in
     let own = pid_in-some s c.in-Some.pid.now (sym c.in-Some.ensures.pid) in
     let absent = there c.args.found.now.places.items c.args.numbers.now _ _ false c.requires.numbered own.1 (sym c.if-contains_key.false ∙ c.contains_key.ensures) in
+    let gained = c.in_ok-push_place.ensures in
     subst (AreFound _) (sym (take-placed sections c.args.i s c.pid_of.ensures.section))
-    (AreFound-new c.args.found.now among (c.args.i, s) c.requires.before _ _ own.0 absent (c.in_ok-text.ensures.items ∙ sym own.1) refl c.in_ok-push.ensures.items refl)
+    (AreFound-new c.args.found.now among (c.args.i, s) c.requires.before _ gained.place own.0 absent (gained.same_pid ∙ sym own.1) gained.same_section gained.behind refl)
 
 pub returns-clause-numbered : goal.returns-clause-numbered
 returns-clause-numbered c =
     let pid = c.in-Some.pid.now in
     let places = c.args.found.now.places.items in
-    let sections = placed (sections_in c.args.index.now) in
+    let gained = c.in_ok-push_place.ensures in
     let none : position (has_pid pid) places ≡ None =
     none_where _ (there places c.args.numbers.now pid pid false c.requires.numbered refl (sym c.if-contains_key.false ∙ c.contains_key.ensures)) in
-    subst (AreNumbered c.insert.new.self) (sym c.in_ok-push.ensures.items)
-    (AreNumbered-push c.args.numbers.now c.insert.new.self places _ pid c.requires.numbered c.in_ok-text.ensures.items none
+    subst (AreNumbered c.insert.new.self) (sym gained.behind)
+    (AreNumbered-push c.args.numbers.now c.insert.new.self places gained.place pid c.requires.numbered gained.same_pid none
     (λ other. btree_map_updates_str pid c.args.numbers.now c.insert.new.self _ c.in_ok-insert.ensures.updates other
     ∙ ap (λ (o : _). update bytes_eq (λ t. get_by (λ key. slice_cmp nat_cmp t key.now) c.args.numbers.now) pid o other)
     (ap Some (omega (arith, c.len.ensures, c.args.found.now.places.ok.0)))))

@@ -14,7 +14,7 @@ large-requires c =
     subst (All (λ place. place < length index.headers))
     (sym (c.as_slice.ensures.value ∙ c.self.invariant.listed
     ∙ places-records rs c.self.inside.places.items (ap (λ (t : ProcPlaces). t.places) c.self.view_is ∙ ap (λ (t : ProcPlaces). t.places) c.requires)))
-    (places-within index rs (All-records index (sym c.len-count.ensures.sections ∙ c.len-count.ensures.value)))
+    (places-within index rs (All-records index))
 
 pub returns : goal.returns
 returns c =
@@ -25,4 +25,4 @@ returns c =
     ∙ places-records rs c.self.inside.places.items (ap (λ (t : ProcPlaces). t.places) c.self.view_is ∙ ap (λ (t : ProcPlaces). t.places) c.requires) in
     c.large.ensures
     ∙ ap (large_fault c.args.limits.now.section)
-    (ap (sections_at index) kept ∙ sections_at-records index rs (All-records index (sym c.len-count.ensures.sections ∙ c.len-count.ensures.value)))
+    (ap (sections_at index) kept ∙ sections_at-records index rs (All-records index))

@@ -1,4 +1,4 @@
-use Rattle.std.proofs.Common.{sym, ◌∙◌, ap}
+use Rattle.std.proofs.Common.{◌∙◌, ap}
 use Rattle.section_index.specs.Index.{sections_in}
 use Rattle.process_table.specs.Records.{ProcPlaces, records}
 use Rattle.process_table.proofs.Building.{IsOver-built, All-named-built, built_told, count_of_places, places-records, sections_told}
@@ -12,7 +12,7 @@ load_fields-requires-clause-found g c =
     ∙ places-records (records (sections_in c.args.index.now)) found.result.0.items (found.ensures.places ∙ ap (λ (t : ProcPlaces). t.places) c.requires.found)
 
 pub load_fields-requires-clause-records : goal.load_fields-requires-clause-records
-load_fields-requires-clause-records g c = All-records c.args.index.now (sym c.len-count.ensures.sections ∙ c.len-count.ensures.value)
+load_fields-requires-clause-records g c = All-records c.args.index.now
 
 pub invariant_of-result : goal.invariant_of-result
 invariant_of-result g c =
@@ -44,4 +44,4 @@ returns-clause-named g c =
     let found = c.into_parts-places in
     let read = c.in_ok-fields in
     All-named-built c.args.index.now c.args.found found.result.0.items found.result.3 read.fields.rows c.requires.found found.ensures.places found.ensures.repeated read.ensures.places
-    (All-records c.args.index.now (sym c.len-count.ensures.sections ∙ c.len-count.ensures.value))
+    (All-records c.args.index.now)

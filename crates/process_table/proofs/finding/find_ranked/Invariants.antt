@@ -2,7 +2,7 @@ use Rattle.std.proofs.Common.{take}
 use Rattle.section_index.specs.Index.{sections_in}
 use Rattle.process_table.specs.Records.{placed}
 use Rattle.process_table.specs.Inner.Finding.{AreFound, AreNumbered}
-use Rattle.process_table.proofs.finding.find.Given as goal
+use Rattle.process_table.proofs.finding.find_ranked.Given as goal
 
 -- the processes among the sections before `i` are found, and the tree has their numbers
 abbrev pub invariant-loop-i : goal.invariant-loop-i

@@ -4,7 +4,7 @@ use Rattle.std.specs.Cmp.Lexicographic.{slice_cmp}
 use Rattle.std.specs.Ordering.{nat_cmp}
 use Rattle.process_table.specs.Inner.Finding.{pid_at}
 use Rattle.process_table.proofs.Ranking.{searched-ok, searched-err}
-use Rattle.process_table.proofs.pids.number_of.Goals as goal
+use Rattle.process_table.proofs.pids.ranked_number.Goals as goal
 
 pub returns-in-Ok-clause-number : goal.returns-in-Ok-clause-number
 returns-in-Ok-clause-number c =
