@@ -1,4 +1,5 @@
 pub mod Completing
+pub mod Computed
 pub mod Digits
 pub mod Firsts
 pub mod Heights

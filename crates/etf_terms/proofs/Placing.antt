@@ -6,7 +6,7 @@ use Rattle.etf_terms.specs.Layouts.{Layout, end, byte}
 use Rattle.etf_terms.specs.Table.{is_tag, row}
 use Rattle.etf_terms.specs.Terms.{Term, node, none, IsTerm, IsExternal}
 use Rattle.etf_terms.specs.Place.{Begins, IsPlace}
-use Rattle.etf_terms.specs.Inner.Walks.{Walked, Done, Lost, at_end, walk, walk_terms}
+use Rattle.etf_terms.specs.Walks.{Walked, Done, Lost, at_end, walk, walk_terms}
 use Rattle.etf_terms.proofs.Readings.{walk-end, walk-none}
 use Rattle.etf_terms.proofs.Stepping.{Counted, counted-more, follows-end, follows-byte, done-walk_terms, not-done, same-rest, term-walk, term-is_done, one-of}
 use Rattle.etf_terms.proofs.Completing.{Live, live-head, Begun, BegunTerms, complete, complete-terms, nil-is_term}

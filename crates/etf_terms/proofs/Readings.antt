@@ -4,7 +4,8 @@ use Rattle.std.proofs.lemmas.Bool.{cond-true}
 use Rattle.etf_terms.specs.Heads.{Head, Nil, kids}
 use Rattle.etf_terms.specs.Layouts.{Layout, end, byte, IsLaid}
 use Rattle.etf_terms.specs.Table.{head_layout}
-use Rattle.etf_terms.specs.Inner.Walks.{Reading, Got, Off, reading, Walked, Done, Lost, walk, walk_terms}
+use Rattle.etf_terms.specs.Inner.Walks.{Reading, Got, Off, reading}
+use Rattle.etf_terms.specs.Walks.{Walked, Done, Lost, walk, walk_terms}
 
 -- ---- readings
 

@@ -4,7 +4,7 @@ use Rattle.etf_terms.specs.Heads.{Head, kids}
 use Rattle.etf_terms.specs.Layouts.{Layout, end, byte, IsLaid}
 use Rattle.etf_terms.specs.Table.{is_tag, row, head_layout}
 use Rattle.etf_terms.specs.Terms.{Term, node, Terms, none, more, count, IsTerm, AreTerms}
-use Rattle.etf_terms.specs.Inner.Walks.{Walked, Done, Lost, at_end, walk, walk_terms}
+use Rattle.etf_terms.specs.Walks.{Walked, Done, Lost, at_end, walk, walk_terms}
 use Rattle.etf_terms.proofs.Readings.{walk-first, laid-walk}
 
 -- ---- terms are walked over

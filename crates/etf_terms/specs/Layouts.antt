@@ -3,6 +3,7 @@ use Rattle.std.specs.Prelude.{◌≡◌, ℕ, zero, suc, Bool, true, List, [], �
 use Rattle.std.specs.Int.{w16, w32, w64, from_be_bytes}
 use Rattle.etf_terms.specs.Heads.{Head}
 
+-- which byte may stand first, and what may follow it
 pub data Layout : Type 0 where
   -- nothing more, and what the bytes are
   end : Head → Layout

@@ -6,6 +6,8 @@ pub mod Inner
 pub mod Laws
 pub mod Layouts
 pub mod Place
+pub mod Reading
 pub mod Table
 pub mod Terms
 pub mod Text
+pub mod Walks

@@ -1,5 +1,5 @@
 -- The place where bytes cease to begin an external term.
-use Rattle.std.specs.Prelude.{◌≡◌, ℕ, suc, ◌+◌, ◌<◌, ◌≤◌, List, ◌∷◌, ◌++◌, length, take}
+use Rattle.std.specs.Prelude.{ℕ, ◌<◌, ◌≤◌, List, ◌++◌, length, take}
 use Rattle.std.specs.List.{AllByRecursion}
 use Rattle.etf_terms.specs.Terms.{Term, IsExternal}
 
@@ -16,8 +16,3 @@ pub record IsPlace (bytes : List ℕ) (at : ℕ) : Type 0 where
   pub begins : Begins (take at bytes)
   -- whatever stands behind
   pub longest : (n : ℕ) (behind : List ℕ) (term : Term) → n ≤ length bytes → IsExternal (take n bytes ++ behind) term → n ≤ at
-
--- behind 131 the place is where so many bytes are left
-pub record IsLeft (bytes : List ℕ) (left : ℕ) : Type 0 where
-  pub within : left ≤ length bytes
-  pub place : (at : ℕ) → at + left ≡ suc (length bytes) → IsPlace (131 ∷ bytes) at

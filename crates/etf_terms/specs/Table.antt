@@ -3,13 +3,15 @@ use Rattle.std.specs.Prelude.{ℕ, ◌*◌, ◌==◌, ◌||◌, ◌&&◌, nat_le
 use Rattle.etf_terms.specs.Heads.{Head, Float, Bits, Pid, Port, Ref, Small, Int, Atom, Tuple, Nil, Chars, Linked, Bin, Big, Fun, Export, Pairs}
 use Rattle.etf_terms.specs.Layouts.{Layout, end, byte, any_byte, run, number2, number4, number8}
 
--- a count in one, two or four bytes, and so many bytes
+-- a count in one byte, and so many bytes
 abbrev pub sized1 : (List ℕ → Layout) → Layout
 sized1 next = any_byte (λ n. run n next)
 
+-- a count in two bytes, and so many bytes
 abbrev pub sized2 : (List ℕ → Layout) → Layout
 sized2 next = number2 (λ n. run n next)
 
+-- a count in four bytes, and so many bytes
 abbrev pub sized4 : (List ℕ → Layout) → Layout
 sized4 next = number4 (λ n. run n next)
 

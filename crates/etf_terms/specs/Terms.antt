@@ -12,6 +12,7 @@ mutual
     none : Terms
     more : Term → Terms → Terms
 
+-- how many terms these are
 abbrev pub count : Terms → ℕ
 count none = 0
 count (more term terms) = suc (count terms)

@@ -37,9 +37,11 @@ preview_text bytes = flat_map hex_byte (take 32 bytes) ++ ((if nat_lt 32 (length
 abbrev pub bin_text : List ℕ → List ℕ
 bin_text bytes = codes "#Bin<" ++ (decimal (length bytes) ++ (codes ":" ++ preview_text bytes))
 
+-- the size of a bit string, how many bits of its last byte count, and its first bytes
 abbrev pub bits_text : ℕ → List ℕ → List ℕ
 bits_text bits bytes = codes "#Bits<" ++ (decimal (length bytes) ++ (codes "/" ++ (decimal bits ++ (codes ":" ++ preview_text bytes))))
 
+-- the eight bytes of a float in hex
 abbrev pub float_text : List ℕ → List ℕ
 float_text bytes = codes "#Float<" ++ (flat_map hex_byte bytes ++ codes ">")
 
@@ -47,9 +49,11 @@ float_text bytes = codes "#Float<" ++ (flat_map hex_byte bytes ++ codes ">")
 abbrev pub dotted : ℕ → List ℕ
 dotted n = codes "." ++ decimal n
 
+-- the node's name, and the three numbers of a pid
 abbrev pub pid_text : List ℕ → ℕ → ℕ → ℕ → List ℕ
 pid_text name id serial creation = codes "#Pid<" ++ (atom_text name ++ (dotted id ++ (dotted serial ++ (dotted creation ++ codes ">"))))
 
+-- the node's name, and the two numbers of a port
 abbrev pub port_text : List ℕ → ℕ → ℕ → List ℕ
 port_text name id creation = codes "#Port<" ++ (atom_text name ++ (dotted id ++ (dotted creation ++ codes ">")))
 
@@ -58,6 +62,7 @@ abbrev pub words_text : List ℕ → List ℕ
 words_text (a ∷ b ∷ c ∷ d ∷ bytes) = dotted (from_be_bytes w32 (a ∷ b ∷ c ∷ d ∷ [])) ++ words_text bytes
 words_text bytes = []
 
+-- the node's name, the creation, and the words of a reference
 abbrev pub ref_text : List ℕ → ℕ → List ℕ → List ℕ
 ref_text name creation words = codes "#Ref<" ++ (atom_text name ++ (dotted creation ++ (words_text words ++ codes ">")))
 
@@ -74,6 +79,7 @@ abbrev pub chars_text : List ℕ → List ℕ
 chars_text [] = codes "[]"
 chars_text (b ∷ bytes) = codes "[" ++ (decimal b ++ (flat_map comma_number bytes ++ codes "]"))
 
+-- the module's name, the index and the arity of a function, before its terms
 abbrev pub fun_text : List ℕ → ℕ → ℕ → List ℕ
 fun_text name index arity = codes "#Fun<" ++ (atom_text name ++ (codes "/" ++ (decimal index ++ (codes "/" ++ (decimal arity ++ codes ":")))))
 
@@ -131,6 +137,7 @@ abbrev pub own_text : Kind → ℕ → ℕ → Head → List ℕ
 own_text kind count i head = if is_end kind count i head then [] else between kind count i ++ opening head
 
 abbrev mutual
+  -- a head's own text, and its terms
   pub text : Term → List ℕ
   text (node head terms) = opening head ++ inner (kind_of head) (kids head) 0 terms
 

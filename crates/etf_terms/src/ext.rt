@@ -1,14 +1,16 @@
 // A term that was read, and how it is written.
-ghost use Rattle.std.specs.Prelude.{◌≡◌, suc, ◌≤◌, length, IfOk, IfErr};
+ghost use Rattle.std.specs.Prelude.{◌≡◌, suc, ◌≤◌, length, None, IfOk, IfErr};
 ghost use Rattle.dump_io.specs.Sinks.{changed, Puts};
 ghost use Rattle.etf_terms.specs.Depth.{depth};
 ghost use Rattle.etf_terms.specs.Faults.{IsFault};
+ghost use Rattle.etf_terms.specs.Reading.{external_text};
 ghost use Rattle.etf_terms.specs.Terms.{Term, IsTerm, IsExternal};
 ghost use Rattle.etf_terms.specs.Text.{text};
+ghost use Rattle.etf_terms.specs.Walks.{bad_place};
 
 use crate::nesting::height;
 use crate::printing::put_term;
-use crate::reading::term_bytes;
+use crate::reading::judge;
 use crate::stack::Stack;
 use dump_io::{Failed, Sink};
 use std::alloc::{AllocError, Global};
@@ -51,10 +53,28 @@ fn stack_for(alloc: Global, bytes: &[u8]) -> Result<Stack, AllocError>
 }
 
 impl<'a> Ext<'a> {
-    /// The term that the bytes are, 131 before it.
+    /// The term that the bytes are, where [`judge`] finds that they are one.
     ///
-    /// `Bad` comes exactly where they aren't 131 and one term, and before any memory is taken. The memory that the writing
-    /// needs is taken here: a stack of one entry more than the term is deep, where one without terms behind its head is 0 deep.
+    /// The memory that the writing needs is taken here: a stack of one entry more than the term is deep, where one without
+    /// terms behind its head is 0 deep. `AllocError` comes where there is none.
+    pub fn judged(alloc: Global, bytes: &'a [u8]) -> Result<Ext<'a>, AllocError>
+        requires { bad_place bytes.now ≡ None }
+        ensures same { IfOk result (λ ext. ext.bytes ≡ bytes.now) }
+        ensures room { IfOk result (λ ext. (term : Term) → IsExternal bytes.now term → ext.room ≡ suc (depth term)) }
+        ensures few { IfOk result (λ ext. ext.room ≤ length bytes.now) }
+    {
+        match bytes.split_first() {
+            Some((_, rest)) => {
+                let stack = stack_for(alloc, rest)?;
+                Ok(Ext { bytes: rest, stack })
+            }
+            None => unreachable!(),
+        }
+    }
+
+    /// The term that the bytes are, 131 before it, with the memory that [`Ext::judged`] takes.
+    ///
+    /// `Bad` comes exactly where they aren't 131 and one term, and before any memory is taken.
     pub fn read(alloc: Global, bytes: &'a [u8]) -> Result<Ext<'a>, ExtFault>
         ensures same { IfOk result (λ ext. ext.bytes ≡ bytes.now) }
         ensures ok { IfOk result (λ ext. (term : Term) × IsExternal bytes.now term) }
@@ -62,13 +82,12 @@ impl<'a> Ext<'a> {
         ensures few { IfOk result (λ ext. ext.room ≤ length bytes.now) }
         ensures fault { IfErr result (λ fault. IsFault fault bytes.now) }
     {
-        let rest = match term_bytes(bytes) {
-            Ok(rest) => rest,
-            Err(at) => return Err(ExtFault::Bad { at }),
-        };
-        match stack_for(alloc, rest) {
-            Ok(stack) => Ok(Ext { bytes: rest, stack }),
-            Err(_) => Err(ExtFault::Memory),
+        match judge(bytes) {
+            Err(at) => Err(ExtFault::Bad { at }),
+            Ok(()) => match Ext::judged(alloc, bytes) {
+                Ok(ext) => Ok(ext),
+                Err(_) => Err(ExtFault::Memory),
+            },
         }
     }
 
@@ -77,6 +96,7 @@ impl<'a> Ext<'a> {
     pub fn put<K: Sink>(&mut self, sink: &mut K) -> Result<(), Failed>
         ensures same { self.new ≡ self.old }
         ensures puts { (term : Term) → IsExternal self.old.bytes term → Puts (changed K.written K.faults sink.old sink.new) (text term) result }
+        ensures writes { Puts (changed K.written K.faults sink.old sink.new) (external_text self.old.bytes) result }
     {
         put_term(self.bytes, &mut self.stack, sink)
     }

@@ -18,7 +18,8 @@ mod reading;
 mod stack;
 
 pub use ext::{Ext, ExtFault};
-pub use laws::{no_proper_prefix, unique_reading};
+pub use laws::{bad_place_is_longest, no_proper_prefix, text_is_read, unique_reading};
+pub use reading::judge;
 
 #[cfg(test)]
 mod tests;

@@ -97,8 +97,7 @@ fn first_bytes(bytes: &[u8]) -> &[u8]
 
 // The first bytes of a binary, and its end.
 fn put_preview<K: Sink>(sink: &mut K, bytes: &[u8]) -> Result<(), Failed>
-    ensures { Puts (changed K.written K.faults sink.old sink.new)
-        (flat_map hex_byte (take 32 bytes.now) ++ ((if nat_lt 32 (length bytes.now) then codes ".." else []) ++ codes ">")) result }
+    ensures { Puts (changed K.written K.faults sink.old sink.new) (preview_text bytes.now) result }
 {
     put_hex_bytes(sink, first_bytes(bytes))?;
     write_all(sink, dots(bytes.len()))?;

@@ -1,8 +1,7 @@
 // Which bytes are a term, and how far others begin one.
-ghost use Rattle.std.specs.Prelude.{◌≡◌, ◌∷◌, ◌≤◌, List, length, IfOk, IfErr, OnOk, OnErr};
-ghost use Rattle.etf_terms.specs.Place.{IsPlace, IsLeft};
-ghost use Rattle.etf_terms.specs.Terms.{Term, IsTerm, IsExternal};
-ghost use Rattle.etf_terms.specs.Inner.Walks.{walk_terms, Stopped};
+ghost use Rattle.std.specs.Prelude.{◌≡◌, ◌≤◌, length, None, Some, IfErr, MatchResult};
+ghost use Rattle.etf_terms.specs.Walks.{bad_place, left_of, walk_terms};
+ghost use Rattle.etf_terms.specs.Inner.Walks.{Stopped};
 
 use crate::heads::read_head;
 
@@ -25,9 +24,8 @@ fn over_term(bytes: &[u8]) -> Result<&[u8], usize>
 
 // Whether the bytes are one term. The error is how many of them are left from the first that can't stand there.
 fn one_term(bytes: &[u8]) -> Result<(), usize>
-    ensures ok { OnOk result ((term : Term) × IsTerm bytes.now term) }
-    ensures none { OnErr result ((term : Term) → IsTerm bytes.now term → ⊥) }
-    ensures left { IfErr result (λ left. IsLeft bytes.now left) }
+    ensures left { MatchResult result (λ _. left_of (walk_terms 1 bytes.now) ≡ None) (λ left. left_of (walk_terms 1 bytes.now) ≡ Some left) }
+    ensures within { IfErr result (λ left. left ≤ length bytes.now) }
 {
     match over_term(bytes) {
         Ok(behind) => {
@@ -40,23 +38,19 @@ fn one_term(bytes: &[u8]) -> Result<(), usize>
     }
 }
 
-/// The bytes of the one term behind 131. The error is the length of the longest prefix that begins some 131 and term.
-pub(crate) fn term_bytes(bytes: &[u8]) -> Result<&[u8], u64>
-    ensures is { IfOk result (λ rest. bytes.now ≡ 131 ∷ rest.now) }
-    ensures ok { IfOk result (λ rest. (term : Term) × IsTerm rest.now term) }
-    ensures bad { OnErr result ((term : Term) → IsExternal bytes.now term → ⊥) }
-    ensures place { IfErr result (λ at. IsPlace bytes.now at) }
+/// Whether the bytes are 131 and one term. The error is the length of the longest prefix that begins some 131 and term, by
+/// the law [`bad_place_is_longest`](crate::bad_place_is_longest). It takes no memory.
+pub fn judge(bytes: &[u8]) -> Result<(), u64>
+    ensures { MatchResult result (λ _. bad_place bytes.now ≡ None) (λ at. bad_place bytes.now ≡ Some at) }
 {
-    match bytes.split_first() {
-        None => Err(0),
-        Some((first, rest)) => {
-            if *first != 131 {
-                return Err(0);
-            }
-            match one_term(rest) {
-                Ok(()) => Ok(rest),
-                Err(left) => Err((bytes.len() - left) as u64),
-            }
-        }
+    let Some((first, rest)) = bytes.split_first() else {
+        return Err(0);
+    };
+    if *first != 131 {
+        return Err(0);
+    }
+    match one_term(rest) {
+        Ok(()) => Ok(()),
+        Err(left) => Err((bytes.len() - left) as u64),
     }
 }

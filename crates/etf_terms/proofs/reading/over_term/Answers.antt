@@ -1,6 +1,6 @@
 use Rattle.std.proofs.Common.{sym, ap, ◌∙◌, arith, ◌+◌, ◌-◌}
 use Rattle.etf_terms.specs.Inner.Parts.{head}
-use Rattle.etf_terms.specs.Inner.Walks.{walk_terms}
+use Rattle.etf_terms.specs.Walks.{walk_terms}
 use Rattle.etf_terms.proofs.Loops.{turn, turn-off, head-is_shorter}
 use Rattle.etf_terms.proofs.reading.over_term.Goals as goal
 

@@ -1,5 +1,5 @@
 use Rattle.std.proofs.Common.{◌≡◌, ◌≤◌, length, ◌+◌, ◌*◌, ◌^◌}
-use Rattle.etf_terms.specs.Inner.Walks.{walk_terms}
+use Rattle.etf_terms.specs.Walks.{walk_terms}
 use Rattle.etf_terms.proofs.reading.over_term.Given as goal
 
 abbrev pub invariant-loop-pending : goal.invariant-loop-pending

@@ -1,0 +1,43 @@
+-- The text of an external term, by its bytes alone.
+use Rattle.std.specs.Prelude.{ℕ, zero, suc, List, [], ◌∷◌, drop}
+use Rattle.etf_terms.specs.Heads.{Head, kids}
+use Rattle.etf_terms.specs.Layouts.{Layout, end, byte}
+use Rattle.etf_terms.specs.Table.{row}
+use Rattle.etf_terms.specs.Terms.{Term, node, Terms, none, more}
+use Rattle.etf_terms.specs.Text.{text}
+
+-- the heads of terms that stand one behind the other, where so much is left of the first
+abbrev pub heads_from : Layout → List ℕ → List Head
+heads_from (end head) [] = head ∷ []
+heads_from (end head) (b ∷ bytes) = head ∷ heads_from (row b) bytes
+heads_from (byte test next) [] = []
+heads_from (byte test next) (b ∷ bytes) = heads_from (next b) bytes
+
+-- the heads of terms that stand one behind the other, those within a term behind its own
+abbrev pub heads_of : List ℕ → List Head
+heads_of [] = []
+heads_of (tag ∷ bytes) = heads_from (row tag) bytes
+
+-- the first of some terms, so many
+abbrev pub first_terms : ℕ → List Term → Terms
+first_terms zero terms = none
+first_terms (suc n) [] = none
+first_terms (suc n) (term ∷ terms) = more term (first_terms n terms)
+
+-- a head takes as many of the terms behind it as it says
+abbrev pub take_terms : Head → List Term → List Term
+take_terms head terms = node head (first_terms (kids head) terms) ∷ drop (kids head) terms
+
+-- the terms of these heads
+abbrev pub terms_of : List Head → List Term
+terms_of [] = []
+terms_of (head ∷ heads) = take_terms head (terms_of heads)
+
+-- the text of the first of these terms
+abbrev pub first_text : List Term → List ℕ
+first_text [] = []
+first_text (term ∷ terms) = text term
+
+-- the text of the term behind the first byte, which is 131
+abbrev pub external_text : List ℕ → List ℕ
+external_text bytes = first_text (terms_of (heads_of (drop 1 bytes)))
