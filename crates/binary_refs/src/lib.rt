@@ -16,7 +16,7 @@ mod wholes;
 pub use entries::Preview;
 pub use faults::{BinFault, PreviewFault};
 pub use previews::Previews;
-pub use wholes::whole;
+pub use wholes::{decode_payload, whole};
 
 #[cfg(test)]
 mod tests;

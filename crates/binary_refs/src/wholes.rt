@@ -6,8 +6,8 @@ ghost use Rattle.section_index.specs.Bodies.{section_at, body_length};
 ghost use Rattle.section_index.specs.Index.{IsBuiltOver};
 ghost use Rattle.heap_cells.specs.Loading.{enc_of};
 ghost use Rattle.binary_refs.specs.Previews.{payload_of, binary_section};
-ghost use Rattle.binary_refs.specs.Wholes.{first_text, bytes_of_body, whole_bytes, IsBadFor, IsBinCauseOf, found_length, refused};
-ghost use Rattle.binary_refs.specs.Inner.Leads.{body_at, bytes_in, bin_fault};
+ghost use Rattle.binary_refs.specs.Wholes.{bytes_in, first_text, bytes_of_body, whole_bytes, IsBadFor, IsBinCauseOf, found_length, refused};
+ghost use Rattle.binary_refs.specs.Inner.Leads.{body_at, bin_fault};
 
 use crate::faults::BinFault;
 use dump_io::{Dumps, Limits};
@@ -34,8 +34,9 @@ fn first_text(body: &[u8]) -> Option<&[u8]>
     Some(line.text)
 }
 
-// The bytes of which the characters are the payload, where there are exactly so many.
-fn payload_of(
+/// Decodes `chars`, if they are the payload of exactly `count` bytes. `AllocError` comes where there is no memory for
+/// these bytes.
+pub fn decode_payload(
     alloc: Global,
     enc: Enc,
     count: u64,
@@ -65,7 +66,7 @@ fn bytes_of_body(alloc: Global, enc: Enc, body: &[u8]) -> Result<Option<Vec<u8>>
         return Ok(None);
     };
     match heap_line(text) {
-        Some((count, chars)) => payload_of(alloc, enc, count, chars),
+        Some((count, chars)) => decode_payload(alloc, enc, count, chars),
         None => Ok(None),
     }
 }

@@ -1,6 +1,7 @@
 pub mod Audits
 pub mod BinaryLoads
 pub mod Endings
+pub mod Externals
 pub mod FoundLoads
 pub mod HeapLoads
 pub mod Heaps

@@ -8,7 +8,7 @@ use Rattle.report_text.specs.declared.root_report.RootKind.TheVariants as bodies
 use Rattle.table_sections.specs.declared.kinds.TableKind.{TableKind}
 use Rattle.table_sections.specs.declared.kinds.TableKind.TheVariants as kinds
 use Rattle.dump_command.specs.declared.words.Cmd.{Cmd}
-use Rattle.dump_command.specs.declared.words.Cmd.TheVariants.{Index, Info, Procs, Proc, Memory, Ets, Ports, Nodes, Mods, Stack, Dict, Mail, Term, Binary, Links, Audit, Make, Trial}
+use Rattle.dump_command.specs.declared.words.Cmd.TheVariants.{Index, Info, Procs, Proc, Memory, Ets, Ports, Nodes, Mods, Stack, Dict, Mail, Term, Ext, Binary, Links, Audit, Make, Trial}
 use Rattle.dump_command.specs.Budgets.{budget_of}
 use Rattle.dump_command.specs.MadeWords.{seed_and_count}
 
@@ -25,6 +25,8 @@ pub data Command : Type 0 where
   roots : RootKind → List ℕ → List ℕ → ℕ → Bool → Command
   -- the term at this address, in the heap of the process with this pid
   term : List ℕ → List ℕ → ℕ → ℕ → Bool → Command
+  -- the external term at this address, in the heap of the process with this pid
+  ext : List ℕ → List ℕ → ℕ → Command
   -- the binary with this address
   binary : List ℕ → ℕ → Command
   links : List ℕ → Command
@@ -50,6 +52,7 @@ shown (Stack file pid nodes marked) = roots bodies.Stack file.now pid.now nodes 
 shown (Dict file pid nodes marked) = roots bodies.Dict file.now pid.now nodes marked
 shown (Mail file pid nodes marked) = roots bodies.Mail file.now pid.now nodes marked
 shown (Term file pid addr nodes marked) = term file.now pid.now addr nodes marked
+shown (Ext file pid addr) = ext file.now pid.now addr
 shown (Binary file addr) = binary file.now addr
 shown (Links file) = links file.now
 shown (Audit file limit full) = audit file.now limit full
@@ -79,6 +82,12 @@ term_command file pid [] = None
 term_command file pid (addr ∷ words) =
     option_and_then (λ a. option_map (λ b. term file pid a b.nodes b.marked) (budget_of words)) (hex_number addr)
 
+-- the external term at an address, which is written in hex
+abbrev pub ext_command : List ℕ → List ℕ → List (List ℕ) → Option Command
+ext_command file pid [] = None
+ext_command file pid (addr ∷ []) = option_map (ext file pid) (hex_number addr)
+ext_command file pid (addr ∷ more ∷ words) = None
+
 -- an audit is full where its last word is `full`
 abbrev pub full_of : List (List ℕ) → Option Bool
 full_of [] = Some false
@@ -96,7 +105,8 @@ process_command name file word words =
     else (if bytes_eq name (codes "dict") then roots_command bodies.Dict file word words
     else (if bytes_eq name (codes "mail") then roots_command bodies.Mail file word words
     else (if bytes_eq name (codes "term") then term_command file word words
-    else (if bytes_eq name (codes "audit") then audit_command file word words else None))))
+    else (if bytes_eq name (codes "ext") then ext_command file word words
+    else (if bytes_eq name (codes "audit") then audit_command file word words else None)))))
 
 -- a command of two numbers
 abbrev pub number_command : List ℕ → List ℕ → List ℕ → Option Command
@@ -131,6 +141,7 @@ file_of (memory file) = Some file
 file_of (table kind file) = Some file
 file_of (roots kind file pid nodes marked) = Some file
 file_of (term file pid addr nodes marked) = Some file
+file_of (ext file pid addr) = Some file
 file_of (binary file addr) = Some file
 file_of (links file) = Some file
 file_of (audit file limit full) = Some file

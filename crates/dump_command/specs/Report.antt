@@ -26,9 +26,9 @@ use Rattle.dump_write.specs.Made.{made}
 use Rattle.dump_trial.specs.Trial.{trial_of}
 use Rattle.audit_bodies.specs.Mailboxes.{audited_sections}
 use Rattle.dump_command.specs.Audits.{audit_in, status_of}
-use Rattle.dump_command.specs.Command.{Command, index, info, procs, proc, memory, table, roots, term, binary, links, audit, make, trial, file_of}
+use Rattle.dump_command.specs.Command.{Command, index, info, procs, proc, memory, table, roots, term, ext, binary, links, audit, make, trial, file_of}
 use Rattle.heap_cells.specs.Loading.{body_in}
-use Rattle.dump_command.specs.Terms.{base_of, binary_at, binary_cause, bad_binary, binary_count, binary_of, heap_of, literals_of, no_address, roots_of, roots_section, term_of, too_dense}
+use Rattle.dump_command.specs.Terms.{base_of, binary_at, binary_cause, bad_binary, binary_count, binary_of, ext_of, heap_map, heap_of, literals_of, no_address, no_external, roots_of, roots_section, term_of, too_dense}
 
 -- the first of these sections
 abbrev pub first_section : List Section → Section
@@ -61,6 +61,7 @@ bodies (memory file) sections = one_of (memory_section sections)
 bodies (table kind file) sections = listed kind sections
 bodies (roots kind file pid nodes marked) sections = one_of (roots_section kind pid sections) ++ heap_bodies pid sections
 bodies (term file pid addr nodes marked) sections = heap_bodies pid sections
+bodies (ext file pid addr) sections = heap_bodies pid sections
 bodies (binary file addr) sections = one_of (binary_at addr sections)
 bodies (links file) sections = record_sections sections
 bodies (audit file limit full) sections = audited_sections full sections
@@ -91,6 +92,7 @@ report (memory file) bytes = fields_of bytes (memory_section (sections bytes))
 report (table kind file) bytes = rows_report (table_of kind bytes)
 report (roots kind file pid nodes marked) bytes = roots_of kind pid nodes marked bytes
 report (term file pid addr nodes marked) bytes = term_of pid addr nodes marked bytes
+report (ext file pid addr) bytes = ext_of pid addr bytes
 report (binary file addr) bytes = binary_of addr bytes
 report (links file) bytes = links_report (process_table bytes).processes
 report (audit file limit full) bytes = audit_report (audit_in limit full bytes)
@@ -116,6 +118,7 @@ abbrev pub no_subject : Command → List Section → Option Refusal
 no_subject (proc file pid) sections = no_process pid sections
 no_subject (roots kind file pid nodes marked) sections = no_process pid sections
 no_subject (term file pid addr nodes marked) sections = no_process pid sections
+no_subject (ext file pid addr) sections = no_process pid sections
 no_subject (binary file addr) sections = binary_cause addr (binary_at addr sections)
 no_subject cmd sections = None
 
@@ -132,6 +135,7 @@ refusal_listed cmd sections limits = option_or (no_subject cmd sections) (too_la
 abbrev pub refusal_held : Command → List ℕ → Numbers → Option Refusal
 refusal_held (roots kind file pid nodes marked) bytes limits = too_dense limits.dense pid bytes
 refusal_held (term file pid addr nodes marked) bytes limits = option_or (too_dense limits.dense pid bytes) (no_address addr pid bytes)
+refusal_held (ext file pid addr) bytes limits = option_or (too_dense limits.dense pid bytes) (no_external addr (heap_map pid bytes))
 refusal_held (binary file addr) bytes limits = bad_binary addr bytes
 refusal_held cmd bytes limits = None
 

@@ -1,22 +1,24 @@
 -- What the commands on the terms of a process, and on a binary, say of the bytes of an accepted dump.
 use Rattle.std.specs.Prelude.{ℕ, Bool, List, [], length, Option, None, Some, codes, find, is_some, nat_lt, unwrap_or, if◌then◌else◌}
-use Rattle.std.specs.Option.{option_map}
+use Rattle.std.specs.Option.{option_and_then, option_map, option_or}
 use Rattle.section_index.specs.Index.{index_of}
 use Rattle.section_index.specs.Lookups.{has_hex, has_tag, is_named}
 use Rattle.section_index.specs.Sections.{Section, sections}
 use Rattle.term_forms.specs.declared.enc.Enc.{Enc}
 use Rattle.term_forms.specs.Elements.{Element}
+use Rattle.term_forms.specs.Forms.{HeapForm, Ext}
 use Rattle.heap_cells.specs.Cells.{cells_of, own_count, weight}
-use Rattle.heap_cells.specs.HeapMap.{HeapMap, number_at}
+use Rattle.etf_terms.specs.Walks.{bad_place}
+use Rattle.heap_cells.specs.HeapMap.{HeapMap, form_at, number_at}
 use Rattle.heap_cells.specs.Loading.{body_in, enc_of}
 use Rattle.binary_refs.specs.declared.entries.Entry.{Entry}
-use Rattle.binary_refs.specs.Previews.{binaries, previews_of}
+use Rattle.binary_refs.specs.Previews.{binaries, payload_of, previews_of}
 use Rattle.binary_refs.specs.Wholes.{whole_bytes}
 use Rattle.term_unfold.specs.Walks.{Walk, walk}
 use Rattle.report_text.specs.declared.refusals.Refusal.{Refusal}
-use Rattle.report_text.specs.declared.refusals.Refusal.TheVariants.{TooDense, NoAddress, NoBinary, BadBinary}
+use Rattle.report_text.specs.declared.refusals.Refusal.TheVariants.{TooDense, NoAddress, NotExt, BadExt, NoBinary, BadBinary}
 use Rattle.report_text.specs.declared.root_report.RootKind.{RootKind}
-use Rattle.report_text.specs.Roots.{answer_over, binary_report, roots_in, roots_report, roots_tag, term_report}
+use Rattle.report_text.specs.Roots.{answer_over, binary_report, ext_report, roots_in, roots_report, roots_tag, term_report}
 
 -- the first section with this tag of the process with this pid
 abbrev pub named_section : List ℕ → List ℕ → List Section → Option Section
@@ -109,6 +111,28 @@ address_cause addr found = if is_some found then None else Some (NoAddress addr)
 -- why a term isn't there: its heap has no cell at the address
 abbrev pub no_address : ℕ → List ℕ → List ℕ → Option Refusal
 no_address addr pid bytes = address_cause addr (number_at (heap_map pid bytes).cells addr)
+
+-- the bytes of a cell in the External Term Format, which its characters write; another form has none
+abbrev pub external_in : Enc → HeapForm → Option (List ℕ)
+external_in enc (Ext size chars) = payload_of enc size chars
+external_in enc form = None
+
+-- those of the heap's cell at an address
+abbrev pub external_at : ℕ → HeapMap → Option (List ℕ)
+external_at addr heap = option_and_then (external_in heap.enc) (option_and_then (form_at heap.cells) (number_at heap.cells addr))
+
+-- the cell at the address isn't external, or its bytes aren't one external term
+abbrev pub external_cause : ℕ → Option (List ℕ) → Option Refusal
+external_cause addr None = Some (NotExt addr)
+external_cause addr (Some bytes) = option_map (BadExt addr) (bad_place bytes)
+
+-- why a heap gives no external term at an address, or none: it has no cell there, or that is no such term
+abbrev pub no_external : ℕ → HeapMap → Option Refusal
+no_external addr heap = option_or (address_cause addr (number_at heap.cells addr)) (external_cause addr (external_at addr heap))
+
+-- the report of the external term at an address
+abbrev pub ext_of : List ℕ → ℕ → List ℕ → List ℕ
+ext_of pid addr bytes = ext_report (unwrap_or (external_at addr (heap_map pid bytes)) [])
 
 -- how many references to binaries the heap of a process has
 abbrev pub binary_count : List ℕ → List ℕ → ℕ

@@ -7,6 +7,7 @@ ghost use Rattle.dump_command.specs.Inner.Runs.{Runs};
 
 mod audit;
 mod binary;
+mod ext;
 mod index;
 mod info;
 mod links;
@@ -26,6 +27,7 @@ use crate::words::Cmd;
 use audit::Audit;
 use binary::Binary;
 use dump_io::{Dumps, Limits, Sink};
+use ext::Ext;
 use index::Index;
 use info::Info;
 use links::Links;
@@ -122,6 +124,14 @@ pub(crate) fn run_command<D: Dumps, K: Sink>(
                 marked: *marked,
             };
             run_report(alloc, &term, limits, dumps, out)
+        }
+        Cmd::Ext { file, pid, addr } => {
+            let ext = Ext {
+                file,
+                pid: pid.as_bytes(),
+                addr: *addr,
+            };
+            run_report(alloc, &ext, limits, dumps, out)
         }
         Cmd::Binary { file, addr } => {
             let addr = *addr;

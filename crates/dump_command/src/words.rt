@@ -2,7 +2,7 @@
 ghost use Rattle.std.specs.Prelude.{◌≡◌, [], map, option_map};
 ghost use Rattle.std.specs.Option.{IfSome};
 ghost use Rattle.std.specs.String.{string_bytes};
-ghost use Rattle.dump_command.specs.Command.{audit_command, binary, command, file_command, full_of, process_command, roots_command, term_command, word_command, shown, IsInRange};
+ghost use Rattle.dump_command.specs.Command.{audit_command, binary, command, ext_command, file_command, full_of, process_command, roots_command, term_command, word_command, shown, IsInRange};
 ghost use Rattle.dump_io.specs.Numbers.{hex_number};
 
 use crate::budgets::{Budget, read_budget};
@@ -79,6 +79,12 @@ pub enum Cmd<'a> {
         addr: u64,
         nodes: u32,
         marked: bool,
+    },
+    /// `ext FILE PID ADDR`: the term at an address that stands in the External Term Format.
+    Ext {
+        file: &'a str,
+        pid: &'a str,
+        addr: u64,
     },
     /// `binary FILE ADDR`: the bytes of a binary.
     Binary {
@@ -175,6 +181,7 @@ fn process_command<'a>(name: &str, file: &'a str, pid: &'a str, words: &[String]
         "dict" => roots_command(RootKind::Dict, file, pid, words),
         "mail" => roots_command(RootKind::Mail, file, pid, words),
         "term" => term_command(file, pid, words),
+        "ext" => ext_command(file, pid, words),
         "audit" => audit_command(file, pid, words),
         _ => None,
     }
@@ -228,6 +235,17 @@ fn term_command<'a>(file: &'a str, pid: &'a str, words: &[String]) -> Option<Cmd
         nodes,
         marked,
     })
+}
+
+fn ext_command<'a>(file: &'a str, pid: &'a str, words: &[String]) -> Option<Cmd<'a>>
+    ensures reads { option_map shown result ≡ ext_command file.now pid.now (map string_bytes words.now) }
+    ensures range { IfSome result (λ cmd. IsInRange (shown cmd)) }
+{
+    let [addr] = words else {
+        return None;
+    };
+    let addr = hex_u64(addr.as_bytes())?;
+    Some(Cmd::Ext { file, pid, addr })
 }
 
 // Whether an audit is full, by its last words.

@@ -5,7 +5,7 @@ use Rattle.dump_io.specs.Numbers.{hexadecimal}
 use Rattle.section_index.specs.declared.opening.OpenFault.{OpenFault}
 use Rattle.section_index.specs.declared.opening.OpenFault.TheVariants.{Compressed, NotADump, Version, TooLarge, HeaderTooLong, TooManySections, HeadersTooLarge, Read, Memory}
 use Rattle.report_text.specs.declared.refusals.Refusal.{Refusal}
-use Rattle.report_text.specs.declared.refusals.Refusal.TheVariants.{Open, NoProcess, SectionTooLarge, TooDense, NoAddress, NoBinary, BadBinary}
+use Rattle.report_text.specs.declared.refusals.Refusal.TheVariants.{Open, NoProcess, SectionTooLarge, TooDense, NoAddress, NotExt, BadExt, NoBinary, BadBinary}
 use Rattle.report_text.specs.Reports.{newline}
 
 -- what a dump that isn't opened is refused for, part by part
@@ -27,6 +27,8 @@ cause_of (NoProcess pid) = codes "no process " ∷ pid ∷ []
 cause_of (SectionTooLarge at len) = codes "section too large at " ∷ decimal at ∷ codes " length " ∷ decimal len ∷ []
 cause_of (TooDense count) = codes "heap too dense " ∷ decimal count ∷ []
 cause_of (NoAddress addr) = codes "no address " ∷ hexadecimal addr ∷ []
+cause_of (NotExt addr) = codes "not external " ∷ hexadecimal addr ∷ []
+cause_of (BadExt addr at) = codes "bad external " ∷ hexadecimal addr ∷ codes " at " ∷ decimal at ∷ []
 cause_of (NoBinary addr) = codes "no binary " ∷ hexadecimal addr ∷ []
 cause_of (BadBinary at) = codes "bad binary at " ∷ decimal at ∷ []
 

@@ -1,7 +1,8 @@
--- The texts of the roots of a process, of one term, and of a whole binary. Offsets are of the file.
+-- The texts of the roots of a process, of one term, of an external term, and of a whole binary. Offsets are of the file.
 use Rattle.std.specs.Prelude.{ℕ, zero, suc, ◌+◌, ◌/◌, Bool, List, [], ◌∷◌, ◌++◌, length, take, drop, decimal, codes}
 use Rattle.std.specs.List.{concat, flat_map}
 use Rattle.dump_io.specs.Numbers.{hexadecimal, hex_byte}
+use Rattle.etf_terms.specs.Reading.{external_text}
 use Rattle.term_forms.specs.Elements.{Element, Ref}
 use Rattle.term_unfold.specs.Walks.{Walk, answer}
 use Rattle.root_views.specs.Roots.{Content, Term, Info, Dist, Unread, BodyRoot, stack_roots, dict_roots, mail_roots}
@@ -51,6 +52,10 @@ roots_report say base roots = flat_map (root_line say base) roots ++ roots_line 
 -- the report of one term: the answer to the reference to this address
 abbrev pub term_report : (Element → List ℕ) → ℕ → List ℕ
 term_report say address = say (Ref address) ++ newline
+
+-- the report of an external term that these bytes are
+abbrev pub ext_report : List ℕ → List ℕ
+ext_report bytes = external_text bytes ++ newline
 
 -- the bytes in upper-case hex, in so many lines of 32 bytes, or of as many as are left
 abbrev pub hex_lines : ℕ → List ℕ → List ℕ

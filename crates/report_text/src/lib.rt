@@ -11,6 +11,7 @@
 
 mod audit_report;
 mod binary_report;
+mod ext_report;
 mod field_report;
 mod index_report;
 mod info_report;
@@ -23,6 +24,7 @@ mod tally;
 
 pub use audit_report::put_findings;
 pub use binary_report::put_binary;
+pub use ext_report::put_ext;
 pub use field_report::put_fields;
 pub use index_report::put_index;
 pub use info_report::put_info;

@@ -23,6 +23,11 @@ pub enum Refusal {
     TooDense { count: u64 },
     /// The heap has no cell at this address.
     NoAddress { addr: u64 },
+    /// The heap's cell at this address isn't in the External Term Format.
+    NotExt { addr: u64 },
+    /// The bytes of the heap's cell at this address aren't one external term; `at` is the length of the longest prefix
+    /// that begins one.
+    BadExt { addr: u64, at: u64 },
     /// No section of a binary has this address.
     NoBinary { addr: u64 },
     /// The first line of the body isn't that of a binary; `at` is the offset of its section in the file.
@@ -83,6 +88,21 @@ fn put_too_large<K: Sink>(sink: &mut K, at: u64, len: u64) -> Result<(), Failed>
     )
 }
 
+fn put_bad_ext<K: Sink>(sink: &mut K, addr: u64, at: u64) -> Result<(), Failed>
+    ensures { Puts (changed K.written K.faults sink.old sink.new) (refusal_line (Refusal.BadExt addr at)) result }
+{
+    put_pieces(
+        sink,
+        &[
+            Piece::Bytes(b"refused: bad external "),
+            Piece::Hex(addr),
+            Piece::Bytes(b" at "),
+            Piece::Dec(at),
+            Piece::Bytes(b"\n"),
+        ],
+    )
+}
+
 /// Writes the line `refused: ` with the cause. An `Open` fault is none of `Read` and `Memory`.
 pub fn put_refusal<K: Sink>(sink: &mut K, refusal: &Refusal) -> Result<(), Failed>
     requires { IsRefusal refusal.now }
@@ -94,6 +114,8 @@ pub fn put_refusal<K: Sink>(sink: &mut K, refusal: &Refusal) -> Result<(), Faile
         Refusal::SectionTooLarge { at, len } => put_too_large(sink, *at, *len),
         Refusal::TooDense { count } => put_cause(sink, b"heap too dense ", Piece::Dec(*count)),
         Refusal::NoAddress { addr } => put_cause(sink, b"no address ", Piece::Hex(*addr)),
+        Refusal::NotExt { addr } => put_cause(sink, b"not external ", Piece::Hex(*addr)),
+        Refusal::BadExt { addr, at } => put_bad_ext(sink, *addr, *at),
         Refusal::NoBinary { addr } => put_cause(sink, b"no binary ", Piece::Hex(*addr)),
         Refusal::BadBinary { at } => put_cause(sink, b"bad binary at ", Piece::Dec(*at)),
     }

@@ -2,7 +2,6 @@
 use Rattle.std.specs.Prelude.{◌≡◌, ℕ, List, drop, Option}
 use Rattle.std.specs.Option.{option_map}
 use Rattle.std.specs.List.{between}
-use Rattle.std.specs.Global.{Vec}
 use Rattle.section_index.specs.Index.{Contents}
 use Rattle.section_index.specs.declared.bodies.BodyFault.{BodyFault}
 use Rattle.section_index.specs.declared.bodies.BodyFault.TheVariants as load
@@ -23,10 +22,6 @@ led_by body lead = (lead.length, drop lead.chars body)
 -- this is the beginning of the body, if it has one
 abbrev pub IsLeadOf : List ℕ → Option Lead → Type 0
 IsLeadOf body lead = option_map (led_by body) lead ≡ led_of body
-
--- the bytes of a vector, where there is one
-abbrev pub bytes_in : Option (Vec ℕ) → Option (List ℕ)
-bytes_in bytes = option_map (λ (v : Vec ℕ). v.items) bytes
 
 -- why a body isn't loaded, as why its binary isn't given
 abbrev pub bin_fault : BodyFault → BinFault

@@ -3,7 +3,7 @@ use Rattle.std.specs.Prelude.{ℕ, Bool, List}
 use Rattle.std.specs.Global.{Vec}
 use Rattle.term_unfold.specs.Walks.{walk}
 use Rattle.report_text.specs.declared.root_report.RootKind.{RootKind}
-use Rattle.report_text.specs.Roots.{answer_over, roots_in, binary_report, roots_report, term_report}
+use Rattle.report_text.specs.Roots.{answer_over, ext_report, roots_in, binary_report, roots_report, term_report}
 use Rattle.dump_command.specs.declared.commands.roots.Loaded.{Loaded}
 use Rattle.dump_command.specs.declared.commands.term.Loaded.{Loaded as TermLoaded}
 
@@ -15,6 +15,10 @@ roots_text kind nodes marked loaded =
 -- the text of a term
 abbrev pub term_text : ℕ → ℕ → Bool → TermLoaded → List ℕ
 term_text addr nodes marked loaded = term_report (answer_over (walk loaded.heap loaded.previews) nodes marked) addr
+
+-- the text of an external term
+abbrev pub ext_text : Vec ℕ → List ℕ
+ext_text bytes = ext_report bytes.items
 
 -- the text of a binary
 abbrev pub binary_text : ℕ → Vec ℕ → List ℕ

@@ -1,12 +1,13 @@
 // What commands find on the index of a dump and read of it: a process, the body of a section, the heap of a process.
 ghost use Rattle.std.specs.Prelude.{◌≡◌, ◌+◌, ◌<◌, ◌^◌, length, None, Some, IfOk, IfErr, IfSome, IsSome, OnOk, MatchResult};
 ghost use Rattle.dump_io.specs.Dumps.{ReadsAtMost, used};
+ghost use Rattle.heap_cells.specs.HeapMap.{number_at};
 ghost use Rattle.heap_cells.specs.Loading.{body_size, heap_section, literals_section, section_in, IsBodyIn};
 ghost use Rattle.section_index.specs.Bodies.{section_at};
 ghost use Rattle.section_index.specs.Index.{IsBuiltOver, sections_in};
 ghost use Rattle.section_rows.specs.Loading.{first_large, large_fault, AreRefused};
 ghost use Rattle.dump_command.specs.Report.{no_process, one_of, process_section};
-ghost use Rattle.dump_command.specs.Terms.{base_of};
+ghost use Rattle.dump_command.specs.Terms.{address_cause, base_of};
 ghost use Rattle.dump_command.specs.Inner.Heaps.{heap_listed, HoldsHeap, IsHeapless};
 ghost use Rattle.dump_command.specs.Inner.Fields.{HasPlaces};
 ghost use Rattle.dump_command.specs.Inner.TermStops.{Judges};
@@ -14,7 +15,7 @@ ghost use Rattle.dump_command.specs.Inner.TermStops.{Judges};
 use crate::open::Opened;
 use crate::stop::Stop;
 use dump_io::{Dumps, Text};
-use heap_cells::Heap;
+use heap_cells::{Heap, Seat};
 use report_text::Refusal;
 use section_index::{BodyFault, read_body};
 use section_rows::large;
@@ -95,4 +96,14 @@ pub(crate) fn load_heap<D: Dumps>(
         return Err(Stop::from(fault));
     }
     Ok(Heap::load(at.alloc, dumps, at.index, pid, at.limits)?)
+}
+
+/// Refuses an address at which the heap has no cell.
+pub(crate) fn find_cell(heap: &Heap, addr: u64) -> Result<(), Stop>
+    ensures { Judges (address_cause addr (number_at heap.now.cells addr)) result }
+{
+    match heap.at(addr) {
+        Seat::Missing => Err(Stop::Refused(Refusal::NoAddress { addr })),
+        Seat::Malformed(_) | Seat::Cell(_) => Ok(()),
+    }
 }

@@ -1,21 +1,18 @@
 // `term`: one term of a process.
 ghost use Rattle.std.specs.Prelude.{◌<◌};
 ghost use Rattle.binary_refs.specs.Previews.{AreFor};
-ghost use Rattle.heap_cells.specs.HeapMap.{number_at};
 ghost use Rattle.dump_command.specs.Command.{term};
-ghost use Rattle.dump_command.specs.Terms.{address_cause};
 ghost use Rattle.dump_command.specs.Inner.TermLoads.{term_text};
-ghost use Rattle.dump_command.specs.Inner.TermStops.{Judges};
 
-use crate::commands::subjects::load_heap;
+use crate::commands::subjects::{find_cell, load_heap};
 use crate::open::Opened;
 use crate::report::Report;
 use crate::status::DONE;
 use crate::stop::Stop;
 use binary_refs::Previews;
 use dump_io::{Dumps, Sink};
-use heap_cells::{Heap, Seat};
-use report_text::{Refusal, put_term};
+use heap_cells::Heap;
+use report_text::put_term;
 use term_unfold::Walker;
 
 #[derive(Clone, Copy)]
@@ -32,16 +29,6 @@ pub(crate) struct Term<'a> {
 pub(crate) struct Loaded {
     heap: Heap,
     previews: Previews,
-}
-
-// Refuses an address at which the heap has no cell.
-fn find_cell(heap: &Heap, addr: u64) -> Result<(), Stop>
-    ensures { Judges (address_cause addr (number_at heap.now.cells addr)) result }
-{
-    match heap.at(addr) {
-        Seat::Missing => Err(Stop::Refused(Refusal::NoAddress { addr })),
-        Seat::Malformed(_) | Seat::Cell(_) => Ok(()),
-    }
 }
 
 impl Report for Term<'_> {

@@ -16,6 +16,12 @@ returns-in-TooDense g c = Puts-as (ap refusal_line (sym c.in-TooDense.is)) c.put
 pub returns-in-NoAddress : goal.returns-in-NoAddress
 returns-in-NoAddress g c = Puts-as (ap refusal_line (sym c.in-NoAddress.is)) c.put_cause-in-NoAddress.ensures
 
+pub returns-in-NotExt : goal.returns-in-NotExt
+returns-in-NotExt g c = Puts-as (ap refusal_line (sym c.in-NotExt.is)) c.put_cause-in-NotExt.ensures
+
+pub returns-in-BadExt : goal.returns-in-BadExt
+returns-in-BadExt g c = Puts-as (ap refusal_line (sym c.in-BadExt.is)) c.put_bad_ext.ensures
+
 pub returns-in-NoBinary : goal.returns-in-NoBinary
 returns-in-NoBinary g c = Puts-as (ap refusal_line (sym c.in-NoBinary.is)) c.put_cause-in-NoBinary.ensures
 

@@ -2,7 +2,7 @@ use Rattle.std.proofs.Common.{◌≡◌, length, sym, subst, arith}
 use Rattle.std.proofs.lemmas.Bool.{true≢false}
 use Rattle.term_forms.specs.Payload.{IsPayloadOf}
 use Rattle.binary_refs.proofs.BodyFacts.{payload-false, payload-count}
-use Rattle.binary_refs.proofs.wholes.payload_of.Goals as goal
+use Rattle.binary_refs.proofs.wholes.decode_payload.Goals as goal
 
 pub returns-then-count-chars : goal.returns-then-count-chars
 returns-then-count-chars c =

@@ -1,0 +1,83 @@
+// `ext`: a term of a process that stands in the External Term Format.
+ghost use Rattle.std.specs.Prelude.{◌≡◌, None, Some, IfOk};
+ghost use Rattle.binary_refs.specs.Wholes.{bytes_in};
+ghost use Rattle.etf_terms.specs.Walks.{bad_place};
+ghost use Rattle.dump_command.specs.Command.{ext};
+ghost use Rattle.dump_command.specs.Terms.{external_at, no_external};
+ghost use Rattle.dump_command.specs.Inner.TermLoads.{ext_text};
+ghost use Rattle.dump_command.specs.Inner.TermStops.{Judges};
+
+use crate::commands::subjects::{find_cell, load_heap};
+use crate::open::Opened;
+use crate::report::Report;
+use crate::status::DONE;
+use crate::stop::Stop;
+use binary_refs::decode_payload;
+use dump_io::{Dumps, Sink};
+use etf_terms::judge;
+use heap_cells::{Heap, Seat};
+use report_text::{Refusal, put_ext};
+use std::alloc::{AllocError, Global};
+use term_forms::shapes::Form;
+
+#[derive(Clone, Copy)]
+pub(crate) struct Ext<'a> {
+    pub(crate) file: &'a str,
+    pub(crate) pid: &'a [u8],
+    pub(crate) addr: u64,
+}
+
+// The bytes of the heap's cell at an address, where it is in the External Term Format.
+fn external_at(alloc: Global, heap: &Heap, addr: u64) -> Result<Option<Vec<u8>>, AllocError>
+    ensures { IfOk result (λ bytes. bytes_in bytes ≡ external_at addr heap.now) }
+{
+    let Seat::Cell(ix) = heap.at(addr) else {
+        return Ok(None);
+    };
+    let Some(Form::Ext(size, chars)) = heap.form(ix) else {
+        return Ok(None);
+    };
+    decode_payload(alloc, heap.enc(), size, chars)
+}
+
+// The bytes of the external term at an address. They are refused where the heap has no cell there, where that isn't in the
+// External Term Format, and where they aren't one term.
+fn read_external(alloc: Global, heap: &Heap, addr: u64) -> Result<Vec<u8>, Stop>
+    ensures judges { Judges (no_external addr heap.now) result }
+    ensures bytes { IfOk result (λ bytes. external_at addr heap.now ≡ Some bytes.items) }
+    ensures good { IfOk result (λ bytes. bad_place bytes.items ≡ None) }
+{
+    find_cell(heap, addr)?;
+    let Some(bytes) = external_at(alloc, heap, addr)? else {
+        return Err(Stop::Refused(Refusal::NotExt { addr }));
+    };
+    match judge(&bytes) {
+        Ok(()) => Ok(bytes),
+        Err(at) => Err(Stop::Refused(Refusal::BadExt { addr, at })),
+    }
+}
+
+impl Report for Ext<'_> {
+    type Loaded = Vec<u8>;
+
+    ghost command = { λ c. ext c.file.now c.pid.now c.addr };
+
+    ghost text = { λ _ _ bytes. ext_text bytes };
+
+    ghost fits = { λ _ _ bytes. bad_place bytes.items ≡ None };
+
+    fn file(&self) -> &str {
+        self.file
+    }
+
+    fn read<D: Dumps>(&self, at: &Opened<'_>, dumps: &mut D) -> Result<Vec<u8>, Stop> {
+        let heap = load_heap(at, dumps, self.pid, None)?;
+        read_external(at.alloc, &heap, self.addr)
+    }
+
+    fn put<K: Sink>(&self, at: &Opened<'_>, bytes: &Vec<u8>, out: &mut K) -> Result<u8, Stop> {
+        let mut ext = etf_terms::Ext::judged(at.alloc, bytes)?;
+        put_ext(out, &mut ext)?;
+        Ok(DONE)
+    }
+}
