@@ -136,6 +136,20 @@ static int write_star(const char *name, long links) {
     return end_dump(f);
 }
 
+// An external term: a list of so many tuples of an atom and two numbers.
+static int write_external(const char *name, long count) {
+    FILE *f = fopen(name, "w");
+    if (!f) return 1;
+    fprintf(f, "\x83l%c%c%c%c", (int)(count >> 24 & 255), (int)(count >> 16 & 255), (int)(count >> 8 & 255), (int)(count & 255));
+    for (long i = 0; i < count; i++) {
+        fputs("h\x03w\x02oka", f);
+        fputc(i & 255, f);
+        fprintf(f, "b%c%c%c%c", (int)(i >> 24 & 255), (int)(i >> 16 & 255), (int)(i >> 8 & 255), (int)(i & 255));
+    }
+    fputc('j', f);
+    return fclose(f) != 0;
+}
+
 static int scan(const char *name) {
     static char piece[65536];
     int f = open(name, O_RDONLY);
@@ -173,6 +187,7 @@ int main(int count, char **words) {
     if (count == 5 && !strcmp(words[1], "binaries")) return write_binaries(words[2], atol(words[3]), atol(words[4]));
     if (count == 5 && !strcmp(words[1], "links")) return write_links(words[2], atol(words[3]), atol(words[4]));
     if (count == 4 && !strcmp(words[1], "star")) return write_star(words[2], atol(words[3]));
+    if (count == 4 && !strcmp(words[1], "external")) return write_external(words[2], atol(words[3]));
     if (count == 3 && !strcmp(words[1], "scan")) return scan(words[2]);
     if (count > 3 && !strcmp(words[1], "measure")) return measure(words[2], words + 3);
     return 2;

@@ -16,6 +16,9 @@
 //   hostile roots FILE N      a stack of N roots, each of which is the same list of N cells
 //   hostile one_pid FILE N    N processes of one pid
 //   hostile star FILE N       N processes, each linked to the first, which is linked to all
+//   hostile nested FILE N     an external term of N lists of one element, each in the one before
+//   hostile counts FILE N     N external tuples that want as many elements as a tuple can, of which one stands there
+//   hostile quoted FILE N     an external term of N atoms of as many bytes as an atom can have, each of which is quoted
 #include <stdio.h>
 #include <stdlib.h>
 #include <string.h>
@@ -201,13 +204,84 @@ static void star(FILE *f, long count) {
     for (long i = 2; i <= count; i++) fprintf(f, "=proc:<0.%ld.0>\nLink list: [<0.1.0>]\n", i);
 }
 
+// A heap of one cell of these bytes, in base64.
+static void put_external(FILE *f, const unsigned char *bytes, long count) {
+    static const char digits[] = "ABCDEFGHIJKLMNOPQRSTUVWXYZabcdefghijklmnopqrstuvwxyz0123456789+/";
+    put_heap(f);
+    fprintf(f, "10:E%lX:", count);
+    for (long i = 0; i < count; i += 3) {
+        unsigned long group = (unsigned long)bytes[i] << 16;
+        if (i + 1 < count) group |= (unsigned long)bytes[i + 1] << 8;
+        if (i + 2 < count) group |= bytes[i + 2];
+        fputc(digits[group >> 18], f);
+        fputc(digits[group >> 12 & 63], f);
+        fputc(i + 1 < count ? digits[group >> 6 & 63] : '=', f);
+        fputc(i + 2 < count ? digits[group & 63] : '=', f);
+    }
+    fputc('\n', f);
+}
+
+static unsigned char *put_count(unsigned char *to, unsigned char tag, unsigned long count) {
+    *to++ = tag;
+    for (int shift = 24; shift >= 0; shift -= 8) *to++ = count >> shift & 255;
+    return to;
+}
+
+// An external term of so many bytes: a hostile one, or an ordinary one, which is a list of small numbers.
+static void terms(FILE *f, long count, void (*write)(unsigned char *bytes, long count)) {
+    unsigned char *bytes = malloc(count + 1);
+    if (!bytes) exit(1);
+    if (plain) {
+        long numbers = (count - 7) / 2;
+        count = 7 + 2 * numbers;
+        bytes[0] = 131;
+        unsigned char *to = put_count(bytes + 1, 108, numbers);
+        for (long i = 0; i < numbers; i++) *to++ = 97, *to++ = i & 255;
+        *to = 106;
+    } else {
+        write(bytes, count);
+    }
+    put_external(f, bytes, count);
+    free(bytes);
+}
+
+static void write_nested(unsigned char *bytes, long count) {
+    long levels = (count - 2) / 6;
+    memset(bytes, 106, count);
+    bytes[0] = 131;
+    for (long i = 0; i < levels; i++) put_count(bytes + 1 + 5 * i, 108, 1);
+}
+
+// Lists of one element, each in the one before.
+static void nested(FILE *f, long count) { terms(f, 2 + 6 * count, write_nested); }
+
+static void write_counts(unsigned char *bytes, long count) {
+    bytes[0] = 131;
+    for (long i = 0; i < count / 5; i++) put_count(bytes + 1 + 5 * i, 105, 4294967295);
+}
+
+// Tuples that want as many elements as a tuple can, of which only the first stands there.
+static void counts(FILE *f, long count) { terms(f, 1 + 5 * count, write_counts); }
+
+static void write_quoted(unsigned char *bytes, long count) {
+    long atoms = (count - 7) / 65538;
+    memset(bytes, '\'', count);
+    bytes[0] = 131;
+    put_count(bytes + 1, 108, atoms);
+    for (long i = 0; i < atoms; i++) memcpy(bytes + 6 + 65538 * i, "v\xFF\xFF", 3);
+    bytes[count - 1] = 106;
+}
+
+// Atoms of as many bytes as an atom can have, each of which is quoted.
+static void quoted(FILE *f, long count) { terms(f, 7 + 65538 * count, write_quoted); }
+
 static const struct {
     const char *name;
     void (*write)(FILE *f, long count);
 } shapes[] = {
     {"pids", pids}, {"tags", tags}, {"mailboxes", mailboxes}, {"kinds", kinds}, {"payload", payload}, {"external", external},
     {"subs", subs}, {"address", one_address}, {"falling", falling}, {"commas", commas}, {"equals", equals}, {"roots", roots},
-    {"one_pid", one_pid}, {"star", star},
+    {"one_pid", one_pid}, {"star", star}, {"nested", nested}, {"counts", counts}, {"quoted", quoted},
 };
 
 int main(int count, char **words) {

@@ -58,6 +58,7 @@ shape() {
         tell "$1" "$command" "<0.1.0>" 1
     done
     tell "$1" term "<0.1.0>" 10
+    tell "$1" ext "<0.1.0>" 10
     tell "$1" binary 10
 }
 
@@ -75,4 +76,7 @@ shape equals 2000000
 shape roots 1000000
 shape one_pid 500000
 shape star 200000
+shape nested 2000000
+shape counts 2000000
+shape quoted 200
 exit "$slow"

@@ -2,7 +2,7 @@
 # Times `edump index` and `edump info` on a dump of 1 GiB, once with 500,000 and once with 900,000 sections, warm,
 # beside a C loop and grep; then `edump procs` on a dump of 1 GiB with 200,000 processes, beside `edump index`; then the
 # load of heaps, beside the reading of their lines through `heap_line` and `form`, and the walk of a term; then the
-# previews of binaries; and then `edump audit` beside `edump procs`. Each command runs in turn for a number of rounds;
+# previews of binaries; then an external term, read and written; and then `edump audit` beside `edump procs`. Each command runs in turn for a number of rounds;
 # the script prints its median in seconds, how many times that of another this is, and the most memory that it had.
 #
 #   bench/run.sh [ROUNDS]
@@ -115,6 +115,15 @@ for sections in 10000 100000; do
     tell load "load" load "itself"
     tell previews "and previews" load "the load"
 done
+
+# An external term, a list of small tuples: read and written into nothing.
+rm -f "$folder"/*.times
+"$bench" external "$dump" 4000000 || exit 1
+for _ in $(seq "$rounds"); do
+    round external /dev/null "$heap_bench" external "$dump"
+done
+awk -v took="$(median external)" -v size="$(wc -c <"$dump")" -v most="$(memory external)" \
+    'BEGIN { printf "an external term of %d bytes: %.3f s, %.0f MB a second, %s MB\n", size, took, size / took / 1000000, most }'
 
 # Links: five entries a process in 1 GiB and with nothing else beside them, and one process with a million.
 for shape in "links 1073741824 200000" "links 0 200000" "star 1000000"; do

@@ -1,7 +1,9 @@
-//! `heap_bench WHAT FILE [PID ADDR]`: what the benchmark times of a heap.
+//! `heap_bench WHAT FILE [PID ADDR]`: what the benchmark times of a heap and of an external term.
 //!
 //! - `lines`: reads each line of the file as a heap line, and says how many lines are one. What it takes is the time of
 //!   `heap_line` and `form`, beside that of reading the file.
+//! - `external`: reads the file as one external term, 131 before it, and writes its text into nothing. What it takes is the
+//!   time of that and of reading the file.
 //! - `load`: loads the heap of a process, and says how many cells it has.
 //! - `previews`: loads the previews of its references to binaries too.
 //! - `walk`: judges and prints the term at an address into nothing, and says whether it is clean.
@@ -13,6 +15,7 @@ mod nowhere;
 
 use binary_refs::Previews;
 use dump_io::{Limits, hex_u64};
+use etf_terms::Ext;
 use field_lines::reading::lines;
 use heap_cells::Heap;
 use host_devices::FileDumps;
@@ -35,6 +38,17 @@ fn count_lines(rt: &HostRuntime, file: &str) -> io::Result<()> {
         .filter(|line| is_heap_line(line.text))
         .count();
     println!(rt; "{count} heap lines")
+}
+
+fn write_external(rt: &HostRuntime, file: &str) -> io::Result<()> {
+    let bytes = fs::read(rt, file)?;
+    match Ext::read(rt.alloc(), bytes.as_slice()) {
+        Ok(mut ext) => {
+            let written = ext.put(&mut Nowhere).is_ok();
+            println!(rt; "written: {written}")
+        }
+        Err(_) => println!(rt; "no external term"),
+    }
 }
 
 // More nodes than any of the benchmark's terms has.
@@ -78,6 +92,7 @@ fn main(rt: HostRuntime) -> io::Result<()> {
     }
     match words.as_slice() {
         [what, file] if what.as_str() == "lines" => count_lines(&rt, file.as_str()),
+        [what, file] if what.as_str() == "external" => write_external(&rt, file.as_str()),
         [what, file, pid, addr] => {
             let addr = hex_u64(addr.as_bytes()).unwrap_or(0);
             match on_heap(&rt, what.as_str(), file.as_str(), pid.as_str(), addr) {
