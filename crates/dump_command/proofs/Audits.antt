@@ -1,26 +1,37 @@
 -- What an audit is written of is what it says of the dump.
-use Rattle.std.proofs.Common.{◌≡◌, ℕ, Bool, List, [], ◌∷◌, map, Option, None, Some, refl, ◌∙◌, ap, inl, inr, if◌then◌else◌}
+use Rattle.std.proofs.Common.{◌≡◌, ℕ, Bool, List, [], ◌∷◌, map, Option, None, Some, Result, Ok, Err, refl, ◌∙◌, ap, inl, inr, if◌then◌else◌}
+use Rattle.std.specs.Prelude.{IfOk}
+use Rattle.std.specs.Option.{option_map}
+use Rattle.dump_io.specs.Dumps.{Use, told}
+use Rattle.dump_io.specs.Limits.{Numbers}
 use Rattle.dump_io.specs.Lines.{headers}
 use Rattle.section_index.specs.Index.{Contents, IsIndexOf, index_of, sections_in, state_of}
 use Rattle.section_index.specs.Laws.{index-is}
+use Rattle.section_index.specs.declared.bodies.BodyFault.{BodyFault}
 use Rattle.process_table.specs.Processes.{Process, process_table}
-use Rattle.dump_audit.specs.Findings.{audit_of}
-use Rattle.audit_bodies.specs.Mailboxes.{mail_in, mailbox_places, mails}
+use Rattle.dump_audit.specs.Findings.{audit_of, findings}
+use Rattle.report_text.specs.Findings.{audit_report}
+use Rattle.audit_bodies.specs.declared.loading.AuditBodies.{AuditBodies}
+use Rattle.audit_bodies.specs.Mailboxes.{audited_sections, mail_in, mailbox_places, mails}
 use Rattle.dump_command.specs.Audits.{audit_in, status_of}
 use Rattle.dump_audit.specs.declared.finding.Finding.{Finding}
 use Rattle.dump_command.specs.Command.{audit}
+use Rattle.dump_command.specs.Inner.Audits.{audit_status, audit_text, loaded_audit}
+use Rattle.dump_command.specs.Inner.Reading.{ReadsFor}
 use Rattle.dump_command.specs.Inner.Runs.{IsEnding}
+use Rattle.dump_command.specs.Inner.Stops.{or_stop}
+use Rattle.dump_command.proofs.Reading.{Loads, ReadsFor-bodies}
 use Rattle.dump_command.proofs.Runs.{sections-index}
 
 -- the numbers of messages
-pub mails-told : (bytes : List ℕ) (index : Contents) → IsIndexOf bytes index
+mails-told : (bytes : List ℕ) (index : Contents) → IsIndexOf bytes index
     → map (mail_in bytes (state_of index.headers) (sections_in index)) (mailbox_places (sections_in index)) ≡ mails bytes
 mails-told bytes index of =
     ap (λ h. map (mail_in bytes (state_of h) (sections_in index)) (mailbox_places (sections_in index))) of.headers
     ∙ ap (λ ss. map (mail_in bytes (state_of (headers bytes)) ss) (mailbox_places ss)) (sections-index bytes index of)
 
 -- what is audited
-pub audit-told : (bytes : List ℕ) (index : Contents) (processes : List Process) (limit : ℕ) (full : Bool) (counts : Option (List (Option ℕ))) → IsIndexOf bytes index
+audit-told : (bytes : List ℕ) (index : Contents) (processes : List Process) (limit : ℕ) (full : Bool) (counts : Option (List (Option ℕ))) → IsIndexOf bytes index
     → processes ≡ (process_table bytes).processes
     → counts ≡ (if full then Some (map (mail_in bytes (state_of index.headers) (sections_in index)) (mailbox_places (sections_in index))) else None)
     → audit_of index processes limit counts ≡ audit_in limit full bytes
@@ -30,6 +41,25 @@ audit-told bytes index processes limit full counts of table counted =
     ∙ ap (λ m. audit_of (index_of bytes) (process_table bytes).processes limit m) (counted ∙ ap (λ m. if full then Some m else None) (mails-told bytes index of))
 
 -- a status of an audit is 0, or 3 where it has a finding
-pub audit-ends : (file : List ℕ) (limit : ℕ) (full : Bool) (found : List Finding) → IsEnding (audit file limit full) (status_of found)
+audit-ends : (file : List ℕ) (limit : ℕ) (full : Bool) (found : List Finding) → IsEnding (audit file limit full) (status_of found)
 audit-ends file limit full [] = inl refl
 audit-ends file limit full (f ∷ fs) = inr (refl, refl)
+
+-- the bodies of an audit were loaded, or weren't
+pub ReadsFor-audit : (file : List ℕ) (limit : ℕ) (full : Bool) (limits : Numbers) (index : Contents) (step : Use) (loaded : Result AuditBodies BodyFault)
+    → Loads (audited_sections full (sections_in index)) limits.section step loaded
+    → IfOk loaded (λ read. (bytes : List ℕ) → step.now_before ≡ told bytes → read.procs ≡ process_table bytes)
+    → IfOk loaded (λ read. (bytes : List ℕ) → step.now_before ≡ told bytes → option_map (λ counts. counts.items) read.mails
+    ≡ (if full then Some (map (mail_in bytes (state_of index.headers) (sections_in index)) (mailbox_places (sections_in index))) else None))
+    → ReadsFor (audit file limit full) limits index step (audit_text limit index) (audit_status limit index) (or_stop loaded)
+ReadsFor-audit file limit full limits index step (Ok read) loads table counts =
+    ReadsFor-bodies (audit file limit full) limits index step (audit_text limit index) (audit_status limit index) (Ok read)
+    (record { there = refl; held = λ _. refl; taken = λ _. refl }) loads (
+      audit-ends file limit full (findings (loaded_audit limit index read)),
+      λ bytes all.
+          let told = audit-told bytes index _ limit full _ all.of (ap (λ t. t.processes) (table bytes all.opened)) (counts bytes all.opened) in
+          (ap audit_report told, ap (λ a. status_of (findings a)) told),
+    )
+ReadsFor-audit file limit full limits index step (Err fault) loads table counts =
+    ReadsFor-bodies (audit file limit full) limits index step (audit_text limit index) (audit_status limit index) (Err fault)
+    (record { there = refl; held = λ _. refl; taken = λ _. refl }) loads tt

@@ -1,33 +1,29 @@
 -- What the load of an external term gives.
-use Rattle.std.proofs.Common.{◌≡◌, ℕ, ◌+◌, ◌≤◌, List, [], ◌++◌, Option, Some, Result, Ok, Err, refl, sym, ◌∙◌, ap, arith}
-use Rattle.std.specs.Prelude.{IfOk, None, unwrap_or}
+use Rattle.std.proofs.Common.{◌≡◌, ℕ, ◌+◌, List, [], Some, Result, Ok, Err, refl, sym, ◌∙◌, ap, arith}
+use Rattle.std.specs.Prelude.{IfOk, unwrap_or}
 use Rattle.std.specs.Global.{Vec}
 use Rattle.std.specs.Option.{option_and_then, option_or}
-use Rattle.dump_io.specs.Dumps.{Now, Use}
+use Rattle.dump_io.specs.Dumps.{Now, Use, ReadsAtMost}
 use Rattle.dump_io.specs.Limits.{Numbers}
 use Rattle.section_index.specs.Index.{Contents}
-use Rattle.section_rows.specs.Loading.{bodies_length}
 use Rattle.heap_cells.specs.HeapMap.{HeapMap, form_at, number_at}
 use Rattle.heap_cells.specs.Loading.{body_size, heap_section, literals_section}
 use Rattle.report_text.specs.Roots.{ext_report}
 use Rattle.dump_command.specs.Command.{ext}
-use Rattle.dump_command.specs.Report.{heap_bodies, refusal_held, reread}
+use Rattle.dump_command.specs.Report.{refusal_held}
 use Rattle.dump_command.specs.Terms.{address_cause, ext_of, external_at, external_cause, external_in, heap_map, no_external}
 use Rattle.dump_command.specs.Inner.Heaps.{HoldsHeap}
 use Rattle.dump_command.specs.Inner.Opened.{IsIndexed}
-use Rattle.dump_command.specs.Inner.Reading.{ReadsFor, Takes}
+use Rattle.dump_command.specs.Inner.Reading.{ReadsFor}
 use Rattle.dump_command.specs.Inner.TermLoads.{ext_text}
 use Rattle.dump_command.specs.Inner.TermStops.{Judges}
 use Rattle.dump_command.specs.declared.stop.Stop.{Stop}
-use Rattle.dump_command.proofs.Heaps.{bytes-heap}
+use Rattle.dump_command.proofs.HeapLoads.{none-listed, IsOfHeap, Takes-heap}
 use Rattle.dump_command.proofs.Reading.{HasRead-listed, IsHalted-held}
-use Rattle.dump_command.proofs.Runs.{sections-index}
 
--- what is taken is the bodies of the heap
-pub few-ext : (file pid : List ℕ) (addr : ℕ) (limits : Numbers) (index : Contents) (now : Now) (bytes : List ℕ) → IsIndexed bytes limits index now
-    → body_size (heap_section index pid) + body_size (literals_section index) ≤ reread (ext file pid addr) bytes
-few-ext file pid addr limits index now bytes all =
-    omega (arith, ap (λ ss. bodies_length (heap_bodies pid ss)) (sections-index bytes index all.of), bytes-heap pid index)
+pub IsOfHeap-ext : (file pid : List ℕ) (addr : ℕ) (limits : Numbers) (index : Contents) → IsOfHeap (ext file pid addr) pid [] limits index
+IsOfHeap-ext file pid addr limits index =
+    record { subject = refl; loads = refl; few = λ bytes. omega arith; dense = λ bytes why is. ap (λ o. option_or o (no_external addr (heap_map pid bytes))) is }
 
 -- a heap that was loaded, and is that of the dump
 module _ (pid : List ℕ) (addr : ℕ) (limits : Numbers) (index : Contents) (now : Now) (heap : HeapMap) (holds : HoldsHeap pid [] limits index now heap)
@@ -50,14 +46,18 @@ module _ (pid : List ℕ) (addr : ℕ) (limits : Numbers) (index : Contents) (no
   ext-told payload found = ap (λ o. ext_report (unwrap_or o [])) (sym found ∙ external-index)
 
 pub reads-ext : (file pid : List ℕ) (addr : ℕ) (limits : Numbers) (index : Contents) (step : Use) (heap : HeapMap) (result : Result (Vec ℕ) Stop)
-    → Takes (ext file pid addr) limits index step → HoldsHeap pid [] limits index step.now_before heap → Judges (no_external addr heap) result
-    → IfOk result (λ payload. external_at addr heap ≡ Some payload.items) → ReadsFor (ext file pid addr) limits index step ext_text (λ _. 0) result
-reads-ext file pid addr limits index step heap (Ok payload) takes holds judged found =
-    HasRead-listed (ext file pid addr) limits index step (ext_text payload) takes holds.listed (λ bytes all. (
+    → ReadsAtMost step (body_size (heap_section index pid) + body_size (literals_section index)) → HoldsHeap pid [] limits index step.now_before heap
+    → Judges (no_external addr heap) result → IfOk result (λ payload. external_at addr heap ≡ Some payload.items)
+    → ReadsFor (ext file pid addr) limits index step ext_text (λ _. 0) result
+reads-ext file pid addr limits index step heap (Ok payload) reads holds judged found =
+    let of = IsOfHeap-ext file pid addr limits index in
+    HasRead-listed (ext file pid addr) limits index step (ext_text payload) (Takes-heap _ _ _ _ _ of step heap holds reads) (none-listed _ _ _ _ _ of step.now_before heap holds)
+    (λ bytes all. (
       ext-held pid addr limits index step.now_before heap holds bytes all file ∙ judged,
       ext-told pid addr limits index step.now_before heap holds bytes all payload found,
       refl,
     ))
-reads-ext file pid addr limits index step heap (Err stop) takes holds judged found =
-    IsHalted-held (Vec ℕ) (ext file pid addr) limits index step (no_external addr heap) stop takes holds.listed
+reads-ext file pid addr limits index step heap (Err stop) reads holds judged found =
+    let of = IsOfHeap-ext file pid addr limits index in
+    IsHalted-held (ext file pid addr) limits index step (Vec ℕ) (no_external addr heap) stop (Takes-heap _ _ _ _ _ of step heap holds reads) (none-listed _ _ _ _ _ of step.now_before heap holds)
     (λ bytes all. ext-held pid addr limits index step.now_before heap holds bytes all file) judged

@@ -1,9 +1,8 @@
 -- The heap that a command loads is that of the process in the dump.
-use Rattle.std.proofs.Common.{◌≡◌, ℕ, ◌+◌, ◌≤◌, Bool, true, false, if◌then◌else◌, List, [], ◌∷◌, ◌++◌, Option, None, Some, Err, codes, refl, sym, ◌∙◌, ap, append-nil, arith}
+use Rattle.std.proofs.Common.{◌≡◌, ℕ, ◌+◌, true, false, if◌then◌else◌, List, [], ◌∷◌, ◌++◌, Option, None, Some, Err, codes, refl, sym, ◌∙◌, ap, arith}
 use Rattle.std.specs.Prelude.{nat_lt, IsErrOf}
 use Rattle.std.specs.Option.{option_map, option_or}
-use Rattle.std.proofs.lemmas.Bool.{ltb-false}
-use Rattle.std.proofs.lemmas.List.Sums.{sum_by-cons}
+use Rattle.std.proofs.lemmas.List.Sums.{sum_by-append}
 use Rattle.section_index.specs.Bodies.{body_length}
 use Rattle.section_index.specs.Index.{Contents, IsIndexOf, sections_in}
 use Rattle.section_index.specs.Laws.{index-is}
@@ -21,7 +20,9 @@ use Rattle.dump_command.specs.Report.{heap_bodies, one_of, too_large}
 use Rattle.dump_command.specs.Terms.{heap_body, heap_map, heap_of, literals_body, literals_of, payloads_of}
 use Rattle.dump_command.specs.Inner.TermStops.{stop_of_heap}
 use Rattle.dump_command.specs.declared.stop.Stop.TheVariants.{Refused}
+use Rattle.dump_command.proofs.FoundLoads.{bytes-one}
 use Rattle.dump_command.proofs.Places.{section-found}
+use Rattle.dump_command.proofs.Reading.{refused}
 use Rattle.dump_command.proofs.Runs.{sections-index}
 
 pub heap-found : (pid : List ℕ) (index : Contents) → heap_section index pid ≡ heap_of pid (sections_in index)
@@ -32,10 +33,6 @@ literals-found index = section-found (λ s. has_tag (codes "literals") s.text) i
 
 -- ---- how many bytes they have
 
-bytes-one : (found : Option Section) (rest : List Section) → bodies_length (one_of found ++ rest) ≡ body_size found + bodies_length rest
-bytes-one None rest = omega arith
-bytes-one (Some s) rest = sum_by-cons body_length s rest
-
 pub bytes-heap : (pid : List ℕ) (index : Contents)
     → bodies_length (heap_bodies pid (sections_in index)) ≡ body_size (heap_section index pid) + body_size (literals_section index)
 bytes-heap pid index =
@@ -43,21 +40,14 @@ bytes-heap pid index =
     let literals = literals_of (sections_in index) in
     omega (
       arith,
-      bytes-one heap (one_of literals),
-      bytes-one literals [],
-      ap (λ l. bodies_length l) (append-nil (one_of literals)),
+      sum_by-append body_length (one_of heap) (one_of literals),
+      bytes-one heap,
+      bytes-one literals,
       ap body_size (heap-found pid index),
       ap body_size (literals-found index),
     )
 
-pub bytes-roots : (found : Option Section) (pid : List ℕ) (index : Contents)
-    → bodies_length (one_of found ++ heap_bodies pid (sections_in index)) ≡ body_size found + (body_size (heap_section index pid) + body_size (literals_section index))
-bytes-roots found pid index = omega (arith, bytes-one found (heap_bodies pid (sections_in index)), bytes-heap pid index)
-
 -- ---- which of them is too large
-
-abbrev refused : Section → Refusal
-refused s = SectionTooLarge s.at (body_length s)
 
 -- of bodies in a row the first that is too large is refused
 pub too_large-append : (limit : ℕ) (xs ys : List Section) → too_large limit (xs ++ ys) ≡ option_or (too_large limit xs) (too_large limit ys)
@@ -81,7 +71,7 @@ map-or f None second = refl
 map-or f (Some x) second = refl
 
 -- the refusal of a section of the heap stops the command as that of a body
-fault-heap : (limit : ℕ) (pid : List ℕ) (index : Contents)
+pub fault-heap : (limit : ℕ) (pid : List ℕ) (index : Contents)
     → option_map stop_of_heap (section_fault limit index pid) ≡ option_map Refused (too_large limit (heap_bodies pid (sections_in index)))
 fault-heap limit pid index =
     let heap = heap_of pid (sections_in index) in
@@ -134,15 +124,6 @@ dense-small limit pid index count told (Some s) is =
     section-of (section_fault limit index pid) s.at (body_length s) (fault-heap limit pid index ∙ ap (λ o. option_map Refused (option_map refused o)) is) in
     let other = told (faults.SectionTooLarge s.at (body_length s)) one in
     absurd (let no : ⊥ = cc (other) in no)
-
-small-test : (b : Bool) (s : Section) → option_map refused (if b then Some s else None) ≡ None → b ≡ false
-small-test true s none = absurd (let no : ⊥ = cc (none) in no)
-small-test false s none = refl
-
--- a body that isn't too large is within the limit
-pub small-one : (limit : ℕ) (found : Option Section) → too_large limit (one_of found) ≡ None → body_size found ≤ limit
-small-one limit None none = omega arith
-small-one limit (Some s) none = ltb-false limit (body_length s) (small-test (nat_lt limit (body_length s)) s none)
 
 -- ---- what they hold
 

@@ -1,10 +1,9 @@
 -- What the report of `info` is written of is what it says of the dump.
-use Rattle.std.proofs.Common.{◌≡◌, ◌⊎◌, ℕ, Bool, true, false, if◌then◌else◌, codes, inl, inr, List, length, None, Some, refl, sym, ◌∙◌, ap, subst}
+use Rattle.std.proofs.Common.{◌≡◌, ◌⊎◌, ℕ, Bool, true, false, if◌then◌else◌, codes, inl, inr, List, length, None, Some, refl, sym, ◌∙◌, ap}
 use Rattle.std.specs.Str.{bytes_eq}
 use Rattle.std.proofs.lemmas.Slice.Eq.{bytes_eq-Decides}
-use Rattle.dump_io.specs.Dumps.{Now, told}
 use Rattle.dump_io.specs.Lines.{headers}
-use Rattle.heap_cells.specs.Loading.{section_in, IsBodyIn}
+use Rattle.heap_cells.specs.Loading.{body_in, section_in}
 use Rattle.section_index.specs.Index.{Contents, IsIndexOf}
 use Rattle.section_index.specs.Opening.{first_id, version_named}
 use Rattle.section_index.specs.Sections.{sections}
@@ -34,15 +33,14 @@ version_text-named id version is =
       ]
     ]
 
-pub info_text-report : (file bytes : List ℕ) (now : Now) (index : Contents) (body : List ℕ) (tags : List (List ℕ × ℕ)) → IsIndexOf bytes index → now ≡ told bytes
-    → IsBodyIn now (section_in index (Some 0)) body → tags ≡ tag_counts (tags_in index)
-    → info_report (version_text index.version) index.headers index.size tags body ≡ report (info file) bytes
-info_text-report file bytes now index body tags of is body_is tags_are =
-    let body_told : IsBodyIn (told bytes) (section_in index (Some 0)) body = subst (λ n. IsBodyIn n (section_in index (Some 0)) body) is body_is in
+pub info_text-report : (file bytes : List ℕ) (index : Contents) (body : List ℕ) → IsIndexOf bytes index → body ≡ body_in bytes (section_in index (Some 0))
+    → info_report (version_text index.version) index.headers index.size (tag_counts (tags_in index)) body ≡ report (info file) bytes
+info_text-report file bytes index body of held =
     let same = sections-index bytes index of in
+    let tags = tag_counts (tags_in index) in
     ap (λ v. info_report v index.headers index.size tags body) (version_text-named (first_id bytes) index.version of.version)
     ∙ ap (λ hs. info_report (first_id bytes) hs index.size tags body) of.headers
     ∙ ap (λ n. info_report (first_id bytes) (headers bytes) n tags body) of.size
-    ∙ ap (λ t. info_report (first_id bytes) (headers bytes) (length bytes) t body) (tags_are ∙ ap (λ ss. tag_counts (tags_of ss)) same)
+    ∙ ap (λ ss. info_report (first_id bytes) (headers bytes) (length bytes) (tag_counts (tags_of ss)) body) same
     ∙ ap (λ b. info_report (first_id bytes) (headers bytes) (length bytes) (tag_counts (tags_of (sections bytes))) b)
-    (body_told ∙ ap (λ ss. body_of bytes (first_section ss)) same)
+    (held ∙ ap (λ ss. body_of bytes (first_section ss)) same)

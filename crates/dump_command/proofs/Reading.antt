@@ -1,8 +1,9 @@
 -- What a command reads of the dump that is open, by the clauses of what it calls.
-use Rattle.std.proofs.Common.{◌≡◌, ℕ, ◌≤◌, ◌<◌, ◌^◌, List, Option, None, Some, Err, refl, sym, ◌∙◌, ap, subst, inl, arith}
-use Rattle.std.specs.Prelude.{IsSome}
+use Rattle.std.proofs.Common.{◌≡◌, ℕ, ◌≤◌, List, Option, None, Some, Result, Ok, Err, refl, sym, ◌∙◌, ap, subst, inl, arith}
+use Rattle.std.specs.Prelude.{IfErr, IfOk, IsSome, OnOk, is_some}
 use Rattle.std.specs.Option.{option_map, option_or}
-use Rattle.dump_io.specs.Dumps.{Files, Now, Use, used, ReadsAtMost}
+use Rattle.std.proofs.lemmas.Result.{IfOk-weaker}
+use Rattle.dump_io.specs.Dumps.{Files, Now, Use, used, told, ReadsAtMost}
 use Rattle.dump_io.specs.Laws.Reads.{ReadsAtMost-none}
 use Rattle.dump_io.specs.Limits.{Numbers}
 use Rattle.section_index.specs.Bodies.{body_length}
@@ -14,50 +15,79 @@ use Rattle.section_rows.specs.Loading.{bodies_length, first_large, AreRefused}
 use Rattle.report_text.specs.declared.refusals.Refusal.{Refusal}
 use Rattle.report_text.specs.declared.refusals.Refusal.TheVariants.{SectionTooLarge}
 use Rattle.dump_command.specs.Command.{Command}
-use Rattle.dump_command.specs.Report.{bodies, no_subject, refusal_held, refusal_listed, report, report_status, reread, too_large, unless_refused}
+use Rattle.dump_command.specs.Report.{bodies, no_subject, refusal_held, refusal_listed, report, report_status, reread, too_large}
 use Rattle.dump_command.specs.Inner.Opened.{IsIndexed}
-use Rattle.dump_command.specs.Inner.Reading.{HasRead, IsHalted, Takes, refusal_over}
-use Rattle.dump_command.specs.Inner.Stops.{stop_of_body}
+use Rattle.dump_command.specs.Inner.Reading.{HasRead, IsHalted, ReadsFor, StopsFor, Takes}
+use Rattle.dump_command.specs.Inner.Runs.{IsEnding}
+use Rattle.dump_command.specs.Inner.Stops.{or_stop, stop_of_body}
 use Rattle.dump_command.specs.Inner.TermStops.{Judges}
 use Rattle.dump_command.specs.declared.stop.Stop.{Stop}
 use Rattle.dump_command.specs.declared.stop.Stop.TheVariants.{Refused, NotRead, NotWritten, NoMemory}
 use Rattle.dump_command.proofs.Runs.{sections-index}
 
-abbrev refused : Section → Refusal
+-- ---- what stops a command
+
+abbrev pub refused : Section → Refusal
 refused s = SectionTooLarge s.at (body_length s)
+
+abbrev pub body_fault : Section → BodyFault
+body_fault s = body_faults.SectionTooLarge s.at (body_length s)
+
+pub is_some-map : {X Y : Type 0} (f : X → Y) (o : Option X) → is_some (option_map f o) ≡ is_some o
+is_some-map f None = refl
+is_some-map f (Some x) = refl
+
+module _ (step : Use) (P : Refusal → Type 0) where
+  -- for something else
+  pub StopsFor-too : (Q : Refusal → Type 0) (stop : Stop) → StopsFor step P stop → ((why : Refusal) → P why → Q why) → StopsFor step Q stop
+  StopsFor-too Q (Refused why) cause follows = (cause.0, follows why cause.1)
+  StopsFor-too Q NotRead cause follows = cause
+  StopsFor-too Q NotWritten cause follows = cause
+  StopsFor-too Q NoMemory cause follows = cause
+
+  -- for a cause that was found
+  pub StopsFor-judged : (T : Type 0) (cause : Option Refusal) (stop : Stop) → Judges {T = T} cause (Err stop) → ((why : Refusal) → cause ≡ Some why → P why) → StopsFor step P stop
+  StopsFor-judged T cause (Refused why) judged follows = (judged.0, follows why judged.1)
+  StopsFor-judged T cause NotRead judged follows = absurd judged
+  StopsFor-judged T cause NotWritten judged follows = absurd judged
+  StopsFor-judged T cause NoMemory judged follows = tt
+
+  -- for the first body that is too large
+  pub StopsFor-large : (first : Option Section) (fault : BodyFault) → option_map body_fault first ≡ Some fault
+      → ((why : Refusal) → option_map refused first ≡ Some why → P why) → StopsFor step P (stop_of_body fault)
+  StopsFor-large None fault is follows = absurd (let no : ⊥ = cc (is) in no)
+  StopsFor-large (Some s) fault is follows =
+      let same : body_fault s ≡ fault = cc (is) in subst (λ f. StopsFor step P (stop_of_body f)) same (tt, follows (refused s) refl)
+
+  -- for why the bodies of several sections weren't loaded
+  pub StopsFor-bodies : (ss : List Section) (limit : ℕ) (fault : BodyFault) → AreRefused ss limit step fault
+      → ((why : Refusal) → too_large limit ss ≡ Some why → P why) → StopsFor step P (stop_of_body fault)
+  StopsFor-bodies ss limit body_faults.Read cause follows = cause.0
+  StopsFor-bodies ss limit body_faults.Memory cause follows = tt
+  StopsFor-bodies ss limit (body_faults.SectionTooLarge at len) cause follows = StopsFor-large (first_large limit ss) _ cause follows
 
 -- ---- what is taken
 
--- nothing was read
-pub Takes-none : {D : Type 0} (files : D → Option Files) (now : D → Now) (faults taken : D → ℕ) (b : D) (cmd : Command) (limits : Numbers) (index : Contents)
-    → taken b < 2 ^ 64 → Takes cmd limits index (used files now faults taken b b)
-Takes-none files now faults taken b cmd limits index small =
-    record { bytes = 0; reads = ReadsAtMost-none 0 small; few = λ bytes all. omega arith }
+-- where the device is the same nothing was read
+pub ReadsAtMost-same : {D : Type 0} (files : D → Option Files) (now : D → Now) (faults taken : D → ℕ) (b c : D) (count : ℕ)
+    → ReadsAtMost (used files now faults taken b c) count → c ≡ b → ReadsAtMost (used files now faults taken b c) 0
+ReadsAtMost-same files now faults taken b c count reads same =
+    subst (λ x. ReadsAtMost (used files now faults taken b x) 0) (sym same) (ReadsAtMost-none 0 (omega (arith, reads.taken_least, reads.taken_most)))
 
--- no refusal stands before the bodies
-pub Takes-listed : (cmd : Command) (limits : Numbers) (index : Contents) (step : Use) (count : ℕ) → refusal_listed cmd (sections_in index) limits ≡ None → ReadsAtMost step count
-    → ((bytes : List ℕ) → IsIndexed bytes limits index step.now_before → count ≤ reread cmd bytes) → Takes cmd limits index step
-Takes-listed cmd limits index step count none reads few =
-    record { bytes = count; reads = reads; few = λ bytes all. omega (arith, few bytes all, ap (λ r. unless_refused r (reread cmd bytes)) none) }
+-- the bodies of these sections were loaded, or not
+pub record Loads {T : Type 0} (ss : List Section) (limit : ℕ) (step : Use) (loaded : Result T BodyFault) : Type 0 where
+  pub reads : ReadsAtMost step (bodies_length ss)
+  pub unread : IsSome (first_large limit ss) → ReadsAtMost step 0
+  pub small : OnOk loaded (first_large limit ss ≡ None)
+  pub fault : IfErr loaded (AreRefused ss limit step)
 
--- where one does nothing was read
-takes-found : {D : Type 0} (files : D → Option Files) (now : D → Now) (faults taken : D → ℕ) (b c : D) (cmd : Command) (limits : Numbers) (index : Contents) (count : ℕ)
-    (found : Option Refusal) → refusal_listed cmd (sections_in index) limits ≡ found → (IsSome found → c ≡ b) → taken b < 2 ^ 64
-    → ReadsAtMost (used files now faults taken b c) count → ((bytes : List ℕ) → IsIndexed bytes limits index (now b) → count ≤ reread cmd bytes)
-    → Takes cmd limits index (used files now faults taken b c)
-takes-found files now faults taken b c cmd limits index count None is unread small reads few =
-    Takes-listed cmd limits index (used files now faults taken b c) count is reads few
-takes-found files now faults taken b c cmd limits index count (Some why) is unread small reads few =
-    subst (λ x. Takes cmd limits index (used files now faults taken b x)) (sym (unread refl)) (Takes-none files now faults taken b cmd limits index small)
+pub Loads-told : {D T : Type 0} (files : D → Option Files) (now : D → Now) (faults taken : D → ℕ) (b c : D) (ss : List Section) (limit : ℕ) (loaded : Result T BodyFault)
+    → ReadsAtMost (used files now faults taken b c) (bodies_length ss) → (IsSome (first_large limit ss) → c ≡ b) → OnOk loaded (first_large limit ss ≡ None)
+    → IfErr loaded (AreRefused ss limit (used files now faults taken b c)) → Loads ss limit (used files now faults taken b c) loaded
+Loads-told files now faults taken b c ss limit loaded reads unread small fault =
+    record { reads = reads; unread = λ some. ReadsAtMost-same files now faults taken b c _ reads (unread some); small = small; fault = fault }
 
-pub Takes-unread : {D : Type 0} (files : D → Option Files) (now : D → Now) (faults taken : D → ℕ) (b c : D) (cmd : Command) (limits : Numbers) (index : Contents) (count : ℕ)
-    → (IsSome (refusal_listed cmd (sections_in index) limits) → c ≡ b) → taken b < 2 ^ 64
-    → ReadsAtMost (used files now faults taken b c) count → ((bytes : List ℕ) → IsIndexed bytes limits index (now b) → count ≤ reread cmd bytes)
-    → Takes cmd limits index (used files now faults taken b c)
-Takes-unread files now faults taken b c cmd limits index count unread small reads few =
-    takes-found files now faults taken b c cmd limits index count (refusal_listed cmd (sections_in index) limits) refl unread small reads few
-
--- ---- a command that is refused for its bodies alone
+-- ---- a command by what it has read
 
 -- what it asks for is there, what its bodies hold isn't refused, and it takes its bodies alone
 pub record IsOfBodies (cmd : Command) (limits : Numbers) (index : Contents) : Type 0 where
@@ -65,120 +95,91 @@ pub record IsOfBodies (cmd : Command) (limits : Numbers) (index : Contents) : Ty
   pub held : (bytes : List ℕ) → refusal_held cmd bytes limits ≡ None
   pub taken : (bytes : List ℕ) → reread cmd bytes ≡ bodies_length (bodies cmd (sections bytes))
 
--- its bodies were loaded, or not
-pub record LoadsBodies {D : Type 0} (files : D → Option Files) (now : D → Now) (faults taken : D → ℕ) (b c : D) (ss : List Section) (limit : ℕ) : Type 0 where
-  pub small : taken b < 2 ^ 64
-  pub reads : ReadsAtMost (used files now faults taken b c) (bodies_length ss)
-  pub unread : IsSome (first_large limit ss) → c ≡ b
+module _ (cmd : Command) (limits : Numbers) (index : Contents) (step : Use) where
+  -- nothing was read
+  pub Takes-none : ReadsAtMost step 0 → Takes cmd limits index step
+  Takes-none none = record { bytes = 0; reads = none; few = λ bytes all. omega arith; unread = λ some. none }
 
-listed-bodies : (cmd : Command) (limits : Numbers) (index : Contents) → IsOfBodies cmd limits index
-    → refusal_listed cmd (sections_in index) limits ≡ too_large limits.section (bodies cmd (sections_in index))
-listed-bodies cmd limits index of = ap (λ o. option_or o (too_large limits.section (bodies cmd (sections_in index)))) of.there
+  -- no refusal stands before the bodies
+  pub Takes-listed : (count : ℕ) → refusal_listed cmd (sections_in index) limits ≡ None → ReadsAtMost step count
+      → ((bytes : List ℕ) → IsIndexed bytes limits index step.now_before → count ≤ reread cmd bytes) → Takes cmd limits index step
+  Takes-listed count none reads few =
+      record { bytes = count; reads = reads; few = few; unread = λ some. absurd (let no : ⊥ = cc (sym (ap is_some none) ∙ some) in no) }
 
-takes-bodies : {D : Type 0} (files : D → Option Files) (now : D → Now) (faults taken : D → ℕ) (b c : D) (cmd : Command) (limits : Numbers) (index : Contents)
-    (found : Option Section) → first_large limits.section (bodies cmd (sections_in index)) ≡ found → IsOfBodies cmd limits index
-    → LoadsBodies files now faults taken b c (bodies cmd (sections_in index)) limits.section → Takes cmd limits index (used files now faults taken b c)
-takes-bodies files now faults taken b c cmd limits index None is of loads =
-    Takes-listed cmd limits index (used files now faults taken b c) _ (listed-bodies cmd limits index of ∙ ap (option_map refused) is) loads.reads
-    (λ bytes all. omega (arith, of.taken bytes, ap (λ ss. bodies_length (bodies cmd ss)) (sections-index bytes index all.of)))
-takes-bodies files now faults taken b c cmd limits index (Some s) is of loads =
-    subst (λ x. Takes cmd limits index (used files now faults taken b x)) (sym (loads.unread (subst IsSome (sym is) refl)))
-    (Takes-none files now faults taken b cmd limits index loads.small)
+  -- what it asks for isn't there
+  pub IsHalted-subject : (T : Type 0) (stop : Stop) → ReadsAtMost step 0 → Judges {T = T} (no_subject cmd (sections_in index)) (Err stop) → IsHalted cmd limits index step stop
+  IsHalted-subject T stop none judged =
+      record {
+        takes = Takes-none none;
+        cause = StopsFor-judged step _ T (no_subject cmd (sections_in index)) stop judged
+            (λ why is bytes all. ap (λ o. option_or (option_or o (too_large limits.section (bodies cmd (sections_in index)))) (refusal_held cmd bytes limits)) is);
+      }
 
-pub Takes-bodies : {D : Type 0} (files : D → Option Files) (now : D → Now) (faults taken : D → ℕ) (b c : D) (cmd : Command) (limits : Numbers) (index : Contents)
-    → IsOfBodies cmd limits index → LoadsBodies files now faults taken b c (bodies cmd (sections_in index)) limits.section
-    → Takes cmd limits index (used files now faults taken b c)
-Takes-bodies files now faults taken b c cmd limits index of loads =
-    takes-bodies files now faults taken b c cmd limits index (first_large limits.section (bodies cmd (sections_in index))) refl of loads
+  -- what its bodies hold is refused
+  pub IsHalted-held : (T : Type 0) (cause : Option Refusal) (stop : Stop) → Takes cmd limits index step → refusal_listed cmd (sections_in index) limits ≡ None
+      → ((bytes : List ℕ) → IsIndexed bytes limits index step.now_before → refusal_held cmd bytes limits ≡ cause)
+      → Judges {T = T} cause (Err stop) → IsHalted cmd limits index step stop
+  IsHalted-held T cause stop takes listed held judged =
+      record {
+        takes = takes;
+        cause = StopsFor-judged step _ T cause stop judged
+            (λ why is bytes all. ap (λ o. option_or o (refusal_held cmd bytes limits)) listed ∙ held bytes all ∙ is);
+      }
 
--- the bodies of several sections weren't loaded, where no cause of a refusal stands before their lengths
-pub large-refused : (first : Option Section) (at len : ℕ) → option_map (λ s. body_faults.SectionTooLarge s.at (body_length s)) first ≡ Some (body_faults.SectionTooLarge at len)
-    → option_map refused first ≡ Some (SectionTooLarge at len)
-large-refused None at len is = absurd (let no : ⊥ = cc (is) in no)
-large-refused (Some s) at len is =
-    let same_at : s.at ≡ at = cc (is) in
-    let same_len : body_length s ≡ len = cc (is) in
-    ap (λ n. Some (SectionTooLarge n (body_length s))) same_at ∙ ap (λ n. Some (SectionTooLarge at n)) same_len
+  -- all was read, and nothing is refused
+  pub HasRead-listed : (text : List ℕ) → Takes cmd limits index step → refusal_listed cmd (sections_in index) limits ≡ None
+      → ((bytes : List ℕ) → IsIndexed bytes limits index step.now_before → (refusal_held cmd bytes limits ≡ None) × (text ≡ report cmd bytes) × (0 ≡ report_status cmd bytes))
+      → HasRead cmd limits index step text 0
+  HasRead-listed text takes listed shows =
+      record {
+        takes = takes;
+        ends = inl refl;
+        told = λ bytes all.
+            let right = shows bytes all in (ap (λ o. option_or o (refusal_held cmd bytes limits)) listed ∙ right.0, right.1, right.2);
+      }
 
--- one of its bodies wasn't read
-halted-bodies : (cmd : Command) (limits : Numbers) (index : Contents) (step : Use) (fault : BodyFault) → IsOfBodies cmd limits index → Takes cmd limits index step
-    → AreRefused (bodies cmd (sections_in index)) limits.section step fault → IsHalted cmd limits index step (stop_of_body fault)
-halted-bodies cmd limits index step body_faults.Read of takes cause = record { takes = takes; cause = cause.0 }
-halted-bodies cmd limits index step body_faults.Memory of takes cause = record { takes = takes; cause = tt }
-halted-bodies cmd limits index step (body_faults.SectionTooLarge at len) of takes cause =
-    record {
-      takes = takes;
-      cause = (
-        tt,
-        λ bytes all. ap (λ o. option_or o (refusal_held cmd bytes limits))
-            (listed-bodies cmd limits index of ∙ large-refused (first_large limits.section (bodies cmd (sections_in index))) at len cause),
-      );
-    }
+  -- a command that is refused for its bodies alone
+  listed-bodies : IsOfBodies cmd limits index → refusal_listed cmd (sections_in index) limits ≡ too_large limits.section (bodies cmd (sections_in index))
+  listed-bodies of = ap (λ o. option_or o (too_large limits.section (bodies cmd (sections_in index)))) of.there
 
-pub IsHalted-bodies : {D : Type 0} (files : D → Option Files) (now : D → Now) (faults taken : D → ℕ) (b c : D) (cmd : Command) (limits : Numbers) (index : Contents) (fault : BodyFault)
-    → IsOfBodies cmd limits index → LoadsBodies files now faults taken b c (bodies cmd (sections_in index)) limits.section
-    → AreRefused (bodies cmd (sections_in index)) limits.section (used files now faults taken b c) fault → IsHalted cmd limits index (used files now faults taken b c) (stop_of_body fault)
-IsHalted-bodies files now faults taken b c cmd limits index fault of loads cause =
-    halted-bodies cmd limits index (used files now faults taken b c) fault of (Takes-bodies files now faults taken b c cmd limits index of loads) cause
+  takes-bodies : {T : Type 0} (loaded : Result T BodyFault) → IsOfBodies cmd limits index → Loads (bodies cmd (sections_in index)) limits.section step loaded
+      → Takes cmd limits index step
+  takes-bodies loaded of loads =
+      record {
+        bytes = bodies_length (bodies cmd (sections_in index));
+        reads = loads.reads;
+        few = λ bytes all. omega (arith, of.taken bytes, ap (λ ss. bodies_length (bodies cmd ss)) (sections-index bytes index all.of));
+        unread = λ some.
+            loads.unread (sym (ap is_some (listed-bodies of) ∙ is_some-map refused (first_large limits.section (bodies cmd (sections_in index)))) ∙ some);
+      }
 
--- none of its bodies is refused
-pub told-bodies : (cmd : Command) (limits : Numbers) (index : Contents) (bytes : List ℕ) → IsOfBodies cmd limits index → first_large limits.section (bodies cmd (sections_in index)) ≡ None
-    → refusal_over cmd index bytes limits ≡ None
-told-bodies cmd limits index bytes of small =
-    ap (λ o. option_or o (refusal_held cmd bytes limits)) (listed-bodies cmd limits index of ∙ ap (option_map refused) small) ∙ of.held bytes
+  -- they were loaded, and this is its report, or they weren't
+  pub ReadsFor-bodies : {T : Type 0} (text : T → List ℕ) (status : T → ℕ) (loaded : Result T BodyFault) → IsOfBodies cmd limits index
+      → Loads (bodies cmd (sections_in index)) limits.section step loaded → IfOk loaded (λ t. IsEnding cmd (status t) × ((bytes : List ℕ)
+      → IsIndexed bytes limits index step.now_before → (text t ≡ report cmd bytes) × (status t ≡ report_status cmd bytes)))
+      → ReadsFor cmd limits index step text status (or_stop loaded)
+  ReadsFor-bodies text status (Ok t) of loads right =
+      record {
+        takes = takes-bodies (Ok t) of loads;
+        ends = right.0;
+        told = λ bytes all. (
+          ap (λ o. option_or o (refusal_held cmd bytes limits)) (listed-bodies of ∙ ap (option_map refused) loads.small) ∙ of.held bytes,
+          (right.1 bytes all).0,
+          (right.1 bytes all).1,
+        );
+      }
+  ReadsFor-bodies {T} text status (Err fault) of loads right =
+      record {
+        takes = takes-bodies {T = T} (Err fault) of loads;
+        cause = StopsFor-bodies step _ (bodies cmd (sections_in index)) limits.section fault loads.fault
+            (λ why is bytes all. ap (λ o. option_or o (refusal_held cmd bytes limits)) (listed-bodies of ∙ is));
+      }
 
--- all of its bodies were read
-pub HasRead-bodies : {D : Type 0} (files : D → Option Files) (now : D → Now) (faults taken : D → ℕ) (b c : D) (cmd : Command) (limits : Numbers) (index : Contents) (text : List ℕ)
-    → IsOfBodies cmd limits index → LoadsBodies files now faults taken b c (bodies cmd (sections_in index)) limits.section
-    → first_large limits.section (bodies cmd (sections_in index)) ≡ None
-    → ((bytes : List ℕ) → IsIndexed bytes limits index (now b) → (text ≡ report cmd bytes) × (0 ≡ report_status cmd bytes))
-    → HasRead cmd limits index (used files now faults taken b c) text 0
-HasRead-bodies files now faults taken b c cmd limits index text of loads small shows =
-    record {
-      takes = Takes-bodies files now faults taken b c cmd limits index of loads;
-      ends = inl refl;
-      told = λ bytes all. let right = shows bytes all in (told-bodies cmd limits index bytes of small, right.0, right.1);
-    }
-
--- ---- a cause that was found
-
--- what the command asks for isn't there
-pub IsHalted-subject : (T : Type 0) (cmd : Command) (limits : Numbers) (index : Contents) (step : Use) (stop : Stop) → Takes cmd limits index step
-    → Judges {T = T} (no_subject cmd (sections_in index)) (Err stop) → IsHalted cmd limits index step stop
-IsHalted-subject T cmd limits index step (Refused why) takes judged =
-    record {
-      takes = takes;
-      cause = (
-        judged.0,
-        λ bytes all. ap (λ o. option_or (option_or o (too_large limits.section (bodies cmd (sections_in index)))) (refusal_held cmd bytes limits)) judged.1,
-      );
-    }
-IsHalted-subject T cmd limits index step NotRead takes judged = absurd judged
-IsHalted-subject T cmd limits index step NotWritten takes judged = absurd judged
-IsHalted-subject T cmd limits index step NoMemory takes judged = record { takes = takes; cause = tt }
-
--- what its bodies hold is refused
-pub IsHalted-held : (T : Type 0) (cmd : Command) (limits : Numbers) (index : Contents) (step : Use) (cause : Option Refusal) (stop : Stop) → Takes cmd limits index step
-    → refusal_listed cmd (sections_in index) limits ≡ None → ((bytes : List ℕ) → IsIndexed bytes limits index step.now_before → refusal_held cmd bytes limits ≡ cause)
-    → Judges {T = T} cause (Err stop) → IsHalted cmd limits index step stop
-IsHalted-held T cmd limits index step cause (Refused why) takes listed held judged =
-    record {
-      takes = takes;
-      cause = (judged.0, λ bytes all. ap (λ o. option_or o (refusal_held cmd bytes limits)) listed ∙ held bytes all ∙ judged.1);
-    }
-IsHalted-held T cmd limits index step cause NotRead takes listed held judged = absurd judged
-IsHalted-held T cmd limits index step cause NotWritten takes listed held judged = absurd judged
-IsHalted-held T cmd limits index step cause NoMemory takes listed held judged = record { takes = takes; cause = tt }
-
--- all was read, and nothing is refused
-pub HasRead-listed : (cmd : Command) (limits : Numbers) (index : Contents) (step : Use) (text : List ℕ) → Takes cmd limits index step
-    → refusal_listed cmd (sections_in index) limits ≡ None
-    → ((bytes : List ℕ) → IsIndexed bytes limits index step.now_before → (refusal_held cmd bytes limits ≡ None) × (text ≡ report cmd bytes) × (0 ≡ report_status cmd bytes))
-    → HasRead cmd limits index step text 0
-HasRead-listed cmd limits index step text takes listed shows =
-    record {
-      takes = takes;
-      ends = inl refl;
-      told = λ bytes all.
-          let right = shows bytes all in (ap (λ o. option_or o (refusal_held cmd bytes limits)) listed ∙ right.0, right.1, right.2);
-    }
+  -- what they make of the bytes of a dump is that of which it reports
+  pub ReadsFor-whole : {T : Type 0} (text : T → List ℕ) (whole : List ℕ → T) (loaded : Result T BodyFault) → IsOfBodies cmd limits index
+      → Loads (bodies cmd (sections_in index)) limits.section step loaded → IfOk loaded (λ t. (bytes : List ℕ) → step.now_before ≡ told bytes → t ≡ whole bytes)
+      → ((bytes : List ℕ) → (text (whole bytes) ≡ report cmd bytes) × (0 ≡ report_status cmd bytes))
+      → ReadsFor cmd limits index step text (λ _. 0) (or_stop loaded)
+  ReadsFor-whole text whole loaded of loads is right =
+      ReadsFor-bodies text (λ _. 0) loaded of loads
+      (IfOk-weaker loaded _ _ (λ t is. (inl refl, λ bytes all. (ap text (is bytes all.opened) ∙ (right bytes).0, (right bytes).1))) is)

@@ -1,12 +1,15 @@
 -- What the run of a command leaves, by what was opened, read and written.
 use Rattle.std.proofs.Common.{◌≡◌, ◌⊎◌, ◌≤◌, ℕ, List, [], Option, None, Some, Result, Ok, Err, MatchResult, refl, sym, ◌∙◌, ap, subst, inl, inr, arith}
+use Rattle.std.specs.Prelude.{IsSome}
 use Rattle.std.specs.Option.{option_and, option_map, option_or}
-use Rattle.dump_io.specs.Dumps.{Files, Now, told, Use, used}
+use Rattle.dump_io.specs.Counts.{plus_capped}
+use Rattle.dump_io.specs.Dumps.{Files, Now, told, Use, used, ReadsAtMost}
 use Rattle.dump_io.specs.Limits.{Numbers}
 use Rattle.dump_io.specs.Lines.{headers}
 use Rattle.dump_io.specs.Sinks.{Change, GainsFront, IsKept, Puts, grown}
 use Rattle.section_index.specs.Index.{Contents, IsFileOf, IsHeld, IsIndexOf, sections_in}
 use Rattle.section_index.specs.Sections.{sections, sections_of}
+use Rattle.report_text.specs.declared.refusals.Refusal.{Refusal}
 use Rattle.report_text.specs.declared.refusals.Refusal.TheVariants.{Open}
 use Rattle.dump_command.specs.Command.{Command, file_of}
 use Rattle.dump_command.specs.Report.{report, report_status, refusal, refusal_held, refusal_listed, refusal_unread, reread, unless_refused}
@@ -93,6 +96,11 @@ record IsThrough (cmd : Command) (limits : Numbers) (index : Contents) (now : No
   pub told : (bytes : List ℕ) → IsDumpOf device cmd bytes → IsIndexed bytes limits index now × (refusal cmd bytes limits ≡ refusal_over cmd index bytes limits)
   pub taken : TakesAtMost cmd limits device
 
+taken-few : (listed : Option Refusal) (step : Use) (count most : ℕ) → ReadsAtMost step count → count ≤ most → (IsSome listed → ReadsAtMost step 0)
+    → step.taken_after ≤ plus_capped step.taken_before (unless_refused listed most)
+taken-few None step count most reads few unread = omega (arith, reads.taken_most, few)
+taken-few (Some why) step count most reads few unread = (unread refl).taken_most
+
 through : {D : Type 0} (files : D → Option Files) (now : D → Now) (faults taken : D → ℕ) (a b c : D)
     (cmd : Command) (name : List ℕ) (limits : Numbers) (index : Contents) → file_of cmd ≡ Some name
     → HasOpened name limits (used files now faults taken a b) index → Takes cmd limits index (used files now faults taken b c)
@@ -110,8 +118,7 @@ through files now faults taken a b c cmd name limits index named opened takes =
           omega (
             arith,
             opened.taken bytes file,
-            takes.reads.taken_most,
-            takes.few bytes all,
+            taken-few _ (used files now faults taken b c) takes.bytes (reread cmd bytes) takes.reads (takes.few bytes all) takes.unread,
             ap (λ r. unless_refused r (reread cmd bytes)) (unread-indexed cmd bytes limits index (now b) all),
           );
     }

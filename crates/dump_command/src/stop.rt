@@ -1,5 +1,6 @@
 // Why a command ended without its whole report.
 ghost use Rattle.std.specs.Prelude.{◌≡◌};
+ghost use Rattle.dump_command.specs.Inner.Stops.{or_stop};
 
 use binary_refs::PreviewFault;
 use dump_io::Failed;
@@ -49,6 +50,13 @@ impl From<BodyFault> for Stop {
             }
         }
     }
+}
+
+/// What was loaded, or what stops the command.
+pub(crate) fn or_stop<T>(loaded: Result<T, BodyFault>) -> Result<T, Stop>
+    ensures { result ≡ or_stop loaded }
+{
+    Ok(loaded?)
 }
 
 impl From<HeapFault> for Stop {

@@ -1,18 +1,17 @@
 -- What is known of the heap of a process that a command loads, and why it isn't loaded.
 use Rattle.std.specs.Prelude.{◌≡◌, List, ◌++◌, ℕ, Option, None, Some}
 use Rattle.std.specs.Option.{option_or}
-use Rattle.dump_io.specs.Dumps.{Now, Use, DeviceFailed}
+use Rattle.dump_io.specs.Dumps.{Now, Use}
 use Rattle.dump_io.specs.Limits.{Numbers}
 use Rattle.section_index.specs.Index.{Contents, sections_in}
 use Rattle.section_index.specs.Sections.{Section}
 use Rattle.heap_cells.specs.HeapMap.{HeapMap}
 use Rattle.report_text.specs.declared.refusals.Refusal.{Refusal}
-use Rattle.report_text.specs.Refusals.{IsRefusal}
 use Rattle.dump_command.specs.Report.{heap_bodies, no_process, too_large}
 use Rattle.dump_command.specs.Terms.{heap_map, too_dense}
 use Rattle.dump_command.specs.Inner.Opened.{IsIndexed}
+use Rattle.dump_command.specs.Inner.Reading.{StopsFor}
 use Rattle.dump_command.specs.declared.stop.Stop.{Stop}
-use Rattle.dump_command.specs.declared.stop.Stop.TheVariants.{Refused, NotRead, NotWritten, NoMemory}
 
 -- why a command that loads these bodies and then the heap of a process is refused before it reads one
 abbrev pub heap_listed : List ℕ → List Section → Numbers → List Section → Option Refusal
@@ -28,9 +27,6 @@ pub record HoldsHeap (pid : List ℕ) (before : List Section) (limits : Numbers)
 -- why it wasn't loaded: a refusal before any body is read, or a heap that is too dense, or the device failed; memory may
 -- lack at any time
 abbrev pub IsHeapless : List ℕ → List Section → Numbers → Contents → Use → Stop → Type 0
-IsHeapless pid before limits index step (Refused why) =
-    IsRefusal why × ((bytes : List ℕ) → IsIndexed bytes limits index step.now_before
-    → option_or (heap_listed pid before limits (sections_in index)) (too_dense limits.dense pid bytes) ≡ Some why)
-IsHeapless pid before limits index step NotRead = DeviceFailed step
-IsHeapless pid before limits index step NotWritten = ⊥
-IsHeapless pid before limits index step NoMemory = Unit {0}
+IsHeapless pid before limits index step stop =
+    StopsFor step (λ why. (bytes : List ℕ) → IsIndexed bytes limits index step.now_before
+    → option_or (heap_listed pid before limits (sections_in index)) (too_dense limits.dense pid bytes) ≡ Some why) stop

@@ -1,10 +1,11 @@
 -- What the report of `info` is written of.
 use Rattle.std.specs.Prelude.{ℕ, List}
 use Rattle.section_index.specs.Index.{Contents}
+use Rattle.section_index.specs.Tags.{tag_counts, tags_in}
 use Rattle.report_text.specs.Reports.{info_report, version_text}
-use Rattle.dump_command.specs.declared.commands.info.Loaded.{Loaded}
+use Rattle.dump_command.specs.declared.commands.subjects.Body.{Body}
 
--- its text
-abbrev pub info_text : Contents → Loaded → List ℕ
-info_text index loaded =
-    info_report (version_text index.version) index.headers index.size loaded.tags loaded.first_body.bytes.items
+-- its text, of the first body
+abbrev pub info_text : Contents → Body → List ℕ
+info_text index body =
+    info_report (version_text index.version) index.headers index.size (tag_counts (tags_in index)) body.bytes.items

@@ -23,6 +23,11 @@ stop_of_body body_faults.Read = NotRead
 stop_of_body body_faults.Memory = NoMemory
 stop_of_body (body_faults.SectionTooLarge at len) = Refused (SectionTooLarge at len)
 
+-- what was loaded, or what stops the command
+abbrev pub or_stop : {T : Type 0} → Result T BodyFault → Result T Stop
+or_stop (Ok value) = Ok value
+or_stop (Err fault) = Err (stop_of_body fault)
+
 -- a refusal that has a line
 abbrev pub IsProper : Stop → Type 0
 IsProper (Refused why) = IsRefusal why

@@ -8,7 +8,7 @@ ghost use Rattle.dump_command.specs.Inner.Audits.{audit_status, audit_text};
 use crate::open::Opened;
 use crate::report::Report;
 use crate::status::{DONE, FOUND};
-use crate::stop::Stop;
+use crate::stop::{Stop, or_stop};
 use audit_bodies::AuditBodies;
 use dump_audit::{Finding, audit_with};
 use dump_io::{Dumps, Sink};
@@ -45,7 +45,7 @@ impl Report for Audit<'_> {
     }
 
     fn read<D: Dumps>(&self, at: &Opened<'_>, dumps: &mut D) -> Result<AuditBodies, Stop> {
-        Ok(AuditBodies::load(at.alloc, dumps, at.index, self.full, at.limits)?)
+        or_stop(AuditBodies::load(at.alloc, dumps, at.index, self.full, at.limits))
     }
 
     fn put<K: Sink>(&self, at: &Opened<'_>, loaded: &AuditBodies, out: &mut K) -> Result<u8, Stop> {

@@ -6,7 +6,7 @@ use crate::commands::subjects::{Body, read_found};
 use crate::open::Opened;
 use crate::report::Report;
 use crate::status::DONE;
-use crate::stop::Stop;
+use crate::stop::{Stop, or_stop};
 use dump_io::{Dumps, Sink};
 use report_text::put_info;
 use section_index::Tags;
@@ -16,32 +16,24 @@ pub(crate) struct Info<'a> {
     pub(crate) file: &'a str,
 }
 
-#[derive(Drop)]
-pub(crate) struct Loaded {
-    first_body: Body,
-    tags: Tags,
-}
-
 impl Report for Info<'_> {
-    type Loaded = Loaded;
+    type Loaded = Body;
 
     ghost command = { λ c. info c.file.now };
 
-    ghost text = { λ _ index loaded. info_text index loaded };
+    ghost text = { λ _ index body. info_text index body };
 
     fn file(&self) -> &str {
         self.file
     }
 
-    fn read<D: Dumps>(&self, at: &Opened<'_>, dumps: &mut D) -> Result<Loaded, Stop> {
-        let first_body = read_found(at, dumps, Some(0))?;
-        let tags = Tags::count(at.alloc, at.index)?;
-        Ok(Loaded { first_body, tags })
+    fn read<D: Dumps>(&self, at: &Opened<'_>, dumps: &mut D) -> Result<Body, Stop> {
+        or_stop(read_found(at, dumps, Some(0)))
     }
 
-    fn put<K: Sink>(&self, at: &Opened<'_>, loaded: &Loaded, out: &mut K) -> Result<u8, Stop> {
-        let Loaded { first_body, tags } = loaded;
-        put_info(out, at.index, tags, first_body.bytes.as_slice())?;
+    fn put<K: Sink>(&self, at: &Opened<'_>, body: &Body, out: &mut K) -> Result<u8, Stop> {
+        let tags = Tags::count(at.alloc, at.index)?;
+        put_info(out, at.index, &tags, body.bytes.as_slice())?;
         Ok(DONE)
     }
 }

@@ -5,7 +5,7 @@ ghost use Rattle.dump_command.specs.Inner.Audits.{links_text};
 use crate::open::Opened;
 use crate::report::Report;
 use crate::status::DONE;
-use crate::stop::Stop;
+use crate::stop::{Stop, or_stop};
 use dump_io::{Dumps, Sink};
 use link_graph::Graph;
 use process_table::Procs;
@@ -28,7 +28,7 @@ impl Report for Links<'_> {
     }
 
     fn read<D: Dumps>(&self, at: &Opened<'_>, dumps: &mut D) -> Result<Procs, Stop> {
-        Ok(Procs::load(at.alloc, dumps, at.index, at.limits)?)
+        or_stop(Procs::load(at.alloc, dumps, at.index, at.limits))
     }
 
     fn put<K: Sink>(&self, at: &Opened<'_>, procs: &Procs, out: &mut K) -> Result<u8, Stop> {

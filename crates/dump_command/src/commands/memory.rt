@@ -6,7 +6,7 @@ use crate::commands::subjects::{Body, read_found};
 use crate::open::Opened;
 use crate::report::Report;
 use crate::status::DONE;
-use crate::stop::Stop;
+use crate::stop::{Stop, or_stop};
 use dump_io::{Dumps, Sink};
 use report_text::put_fields;
 
@@ -30,7 +30,7 @@ impl Report for Memory<'_> {
 
     fn read<D: Dumps>(&self, at: &Opened<'_>, dumps: &mut D) -> Result<Body, Stop> {
         let place = at.index.first_tag(b"memory");
-        Ok(read_found(at, dumps, place)?)
+        or_stop(read_found(at, dumps, place))
     }
 
     fn put<K: Sink>(&self, _at: &Opened<'_>, body: &Body, out: &mut K) -> Result<u8, Stop> {

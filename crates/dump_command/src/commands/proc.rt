@@ -6,7 +6,7 @@ use crate::commands::subjects::{Body, find_process, read_found};
 use crate::open::Opened;
 use crate::report::Report;
 use crate::status::DONE;
-use crate::stop::Stop;
+use crate::stop::{Stop, or_stop};
 use dump_io::{Dumps, Sink};
 use report_text::put_fields;
 
@@ -31,7 +31,7 @@ impl Report for Proc<'_> {
 
     fn read<D: Dumps>(&self, at: &Opened<'_>, dumps: &mut D) -> Result<Body, Stop> {
         let place = find_process(at, self.pid)?;
-        Ok(read_found(at, dumps, Some(place))?)
+        or_stop(read_found(at, dumps, Some(place)))
     }
 
     fn put<K: Sink>(&self, _at: &Opened<'_>, body: &Body, out: &mut K) -> Result<u8, Stop> {

@@ -5,7 +5,7 @@ ghost use Rattle.dump_command.specs.Command.{procs};
 use crate::open::Opened;
 use crate::report::Report;
 use crate::status::DONE;
-use crate::stop::Stop;
+use crate::stop::{Stop, or_stop};
 use dump_io::{Dumps, Sink};
 use process_table::Procs;
 use report_text::put_procs;
@@ -27,7 +27,7 @@ impl Report for ProcessTable<'_> {
     }
 
     fn read<D: Dumps>(&self, at: &Opened<'_>, dumps: &mut D) -> Result<Procs, Stop> {
-        Ok(Procs::load(at.alloc, dumps, at.index, at.limits)?)
+        or_stop(Procs::load(at.alloc, dumps, at.index, at.limits))
     }
 
     fn put<K: Sink>(&self, _at: &Opened<'_>, table: &Procs, out: &mut K) -> Result<u8, Stop> {

@@ -1,5 +1,5 @@
 // What commands find on the index of a dump and read of it: a process, the body of a section, the heap of a process.
-ghost use Rattle.std.specs.Prelude.{◌≡◌, ◌+◌, ◌<◌, ◌^◌, length, None, Some, IfOk, IfErr, IfSome, IsSome, OnOk, MatchResult};
+ghost use Rattle.std.specs.Prelude.{◌≡◌, ◌+◌, ◌<◌, length, None, Some, IfOk, IfErr, IfSome, IsSome, OnOk, MatchResult};
 ghost use Rattle.dump_io.specs.Dumps.{ReadsAtMost, used};
 ghost use Rattle.heap_cells.specs.HeapMap.{number_at};
 ghost use Rattle.heap_cells.specs.Loading.{body_size, heap_section, literals_section, section_in, IsBodyIn};
@@ -87,7 +87,8 @@ pub(crate) fn load_heap<D: Dumps>(
     requires place { IfSome place (λ i. i < length at.now.index.now.headers) }
     ensures reads { ReadsAtMost (used D.files D.now D.faults D.taken dumps.old dumps.new)
         (body_size (heap_section at.now.index.now pid.now) + body_size (literals_section at.now.index.now)) }
-    ensures unread { IsSome (heap_listed pid.now (one_of (section_in at.now.index.now place)) at.now.limits.now (sections_in at.now.index.now)) → dumps.new ≡ dumps.old }
+    ensures unread { IsSome (heap_listed pid.now (one_of (section_in at.now.index.now place)) at.now.limits.now (sections_in at.now.index.now))
+        → ReadsAtMost (used D.files D.now D.faults D.taken dumps.old dumps.new) 0 }
     ensures heap { MatchResult result (HoldsHeap pid.now (one_of (section_in at.now.index.now place)) at.now.limits.now at.now.index.now (D.now dumps.old))
         (IsHeapless pid.now (one_of (section_in at.now.index.now place)) at.now.limits.now at.now.index.now (used D.files D.now D.faults D.taken dumps.old dumps.new)) }
 {

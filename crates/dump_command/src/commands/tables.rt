@@ -5,7 +5,7 @@ ghost use Rattle.dump_command.specs.Command.{table};
 use crate::open::Opened;
 use crate::report::Report;
 use crate::status::DONE;
-use crate::stop::Stop;
+use crate::stop::{Stop, or_stop};
 use dump_io::{Dumps, Sink};
 use report_text::put_rows;
 use table_sections::{Rows, TableKind};
@@ -28,7 +28,7 @@ impl Report for Table<'_> {
     }
 
     fn read<D: Dumps>(&self, at: &Opened<'_>, dumps: &mut D) -> Result<Rows, Stop> {
-        Ok(Rows::load(at.alloc, dumps, at.index, self.kind, at.limits)?)
+        or_stop(Rows::load(at.alloc, dumps, at.index, self.kind, at.limits))
     }
 
     fn put<K: Sink>(&self, _at: &Opened<'_>, rows: &Rows, out: &mut K) -> Result<u8, Stop> {

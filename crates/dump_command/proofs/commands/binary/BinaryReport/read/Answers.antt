@@ -1,11 +1,11 @@
-use Rattle.std.proofs.Common.{◌^◌, ◌<◌, [], refl, sym, ◌∙◌, ap, rules}
+use Rattle.std.proofs.Common.{[], refl, sym, ◌∙◌, ap}
 use Rattle.std.specs.Option.{unwrap_or}
 use Rattle.report_text.specs.Roots.{binary_report}
 use Rattle.section_index.specs.Sections.{sections}
 use Rattle.dump_command.specs.Command.{binary}
 use Rattle.dump_command.specs.Terms.{bad_cause, binary_at}
 use Rattle.dump_command.proofs.BinaryLoads.{IsHalted-binary, bytes-index, few-binary, listed-binary, unread-binary}
-use Rattle.dump_command.proofs.Reading.{HasRead-listed, Takes-listed, Takes-unread}
+use Rattle.dump_command.proofs.Reading.{HasRead-listed, ReadsAtMost-same, Takes-listed}
 use Rattle.dump_command.proofs.commands.binary.BinaryReport.read.Goals as goal
 
 pub returns-in-Ok-clause-reads : goal.returns-in-Ok-clause-reads
@@ -28,10 +28,12 @@ returns-in-Err-clause-reads g c =
     let d = g.D.Dumps in
     let t = c.args.self.now in
     let read = c.in-Err.ensures in
-    let cmd = binary t.file.now t.addr in
     let index = c.args.at.now.index.now in
-    let small : d.taken c.args.dumps.now < 2 ^ 64 = search rules in
     rw c.stop_of.ensures (IsHalted-binary t.file.now t.addr _ index _ c.in-Err.fault
-    (Takes-unread d.files d.now d.faults d.taken c.args.dumps.now c.whole.new.dumps cmd _ index _
-    (unread-binary t.file.now t.addr c.args.at.now.limits.now index read.unread) small read.reads (λ bytes all. few-binary t.file.now t.addr _ index _ bytes all))
+    (record {
+      bytes = _;
+      reads = read.reads;
+      few = λ bytes all. few-binary t.file.now t.addr _ index _ bytes all;
+      unread = λ some. ReadsAtMost-same d.files d.now d.faults d.taken _ _ _ read.reads (unread-binary t.file.now t.addr c.args.at.now.limits.now index read.unread some);
+    })
     read.fault read.refused read.bad)

@@ -1,24 +1,14 @@
-use Rattle.std.proofs.Common.{◌^◌, ◌<◌, refl, ap, rules}
-use Rattle.std.proofs.lemmas.Result.{err_from_is_err_and}
+use Rattle.std.proofs.Common.{refl}
 use Rattle.report_text.specs.Tables.{rows_report}
+use Rattle.table_sections.specs.Tables.{table_of}
 use Rattle.dump_command.specs.Command.{table}
-use Rattle.dump_command.proofs.Reading.{HasRead-bodies, IsHalted-bodies}
+use Rattle.dump_command.proofs.Reading.{Loads-told, ReadsFor-whole}
 use Rattle.dump_command.proofs.commands.tables.TableReport.read.Goals as goal
-
-pub returns-in_err-load-clause-reads : goal.returns-in_err-load-clause-reads
-returns-in_err-load-clause-reads g c =
-    let d = g.D.Dumps in
-    let p = err_from_is_err_and c.from_residual.result c.from_residual.ensures.1 in
-    let read = c.in_err-load.ensures in
-    let small : d.taken c.args.dumps.now < 2 ^ 64 = search rules in
-    rw (p.1, p.2) (IsHalted-bodies d.files d.now d.faults d.taken c.args.dumps.now c.load.new.dumps (table c.args.self.now.kind c.args.self.now.file.now) _ _ _
-    (record { there = refl; held = λ _. refl; taken = λ _. refl }) (record { small = small; reads = read.reads; unread = read.unread }) read.fault)
 
 pub returns-clause-reads : goal.returns-clause-reads
 returns-clause-reads g c =
     let d = g.D.Dumps in
-    let read = c.in_ok-load.ensures in
-    let small : d.taken c.args.dumps.now < 2 ^ 64 = search rules in
-    HasRead-bodies d.files d.now d.faults d.taken c.args.dumps.now c.load.new.dumps (table c.args.self.now.kind c.args.self.now.file.now) _ _ _
-    (record { there = refl; held = λ _. refl; taken = λ _. refl }) (record { small = small; reads = read.reads; unread = read.unread }) read.loaded
-    (λ bytes all. (ap rows_report (read.table bytes all.opened), refl))
+    let t = c.args.self.now in
+    let read = c.load.ensures in
+    rw c.or_stop.ensures (ReadsFor-whole (table t.kind t.file.now) _ _ _ rows_report (table_of t.kind) _ (record { there = refl; held = λ _. refl; taken = λ _. refl })
+    (Loads-told d.files d.now d.faults d.taken _ _ _ _ _ read.reads read.unread read.loaded read.fault) read.table (λ _. (refl, refl)))
