@@ -87,8 +87,7 @@ pub(crate) fn load_heap<D: Dumps>(
     requires place { IfSome place (λ i. i < length at.now.index.now.headers) }
     ensures reads { ReadsAtMost (used D.files D.now D.faults D.taken dumps.old dumps.new)
         (body_size (heap_section at.now.index.now pid.now) + body_size (literals_section at.now.index.now)) }
-    ensures unread { IsSome (heap_listed pid.now (one_of (section_in at.now.index.now place)) at.now.limits.now (sections_in at.now.index.now))
-        → ReadsAtMost (used D.files D.now D.faults D.taken dumps.old dumps.new) 0 }
+    ensures unread { IsSome (heap_listed pid.now (one_of (section_in at.now.index.now place)) at.now.limits.now (sections_in at.now.index.now)) → dumps.new ≡ dumps.old }
     ensures heap { MatchResult result (HoldsHeap pid.now (one_of (section_in at.now.index.now place)) at.now.limits.now at.now.index.now (D.now dumps.old))
         (IsHeapless pid.now (one_of (section_in at.now.index.now place)) at.now.limits.now at.now.index.now (used D.files D.now D.faults D.taken dumps.old dumps.new)) }
 {

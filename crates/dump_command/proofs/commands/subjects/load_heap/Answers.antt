@@ -3,7 +3,6 @@ use Rattle.dump_io.specs.Dumps.{used}
 use Rattle.heap_cells.specs.Loading.{section_in}
 use Rattle.dump_command.specs.Report.{one_of}
 use Rattle.dump_command.proofs.HeapLoads.{HoldsHeap-loaded, IsClear-judged, IsHeapless-heap, IsHeapless-judged, IsHeapless-large, IsSome-fault}
-use Rattle.dump_command.proofs.Reading.{ReadsAtMost-same}
 use Rattle.dump_command.proofs.commands.subjects.load_heap.Goals as goal
 
 pub returns-in_err-find_process-clause-heap : goal.returns-in_err-find_process-clause-heap
@@ -20,12 +19,9 @@ returns-in-Some-clause-heap g c =
 
 pub returns-in_err-load-clause-unread : goal.returns-in_err-load-clause-unread
 returns-in_err-load-clause-unread g c = λ some.
-    let d = g.D.Dumps in
     let at = c.args.at.now in
     let clear = IsClear-judged c.args.pid.now (one_of (section_in at.index.now c.args.place)) at.limits.now at.index.now c.in_ok-find_process.ensures.judges c.in_default.ensures in
-    let read = c.in_err-load.ensures in
-    ReadsAtMost-same d.files d.now d.faults d.taken _ _ _ read.reads
-    (read.unread (IsSome-fault _ _ _ _ clear some))
+    c.in_err-load.ensures.unread (IsSome-fault _ _ _ _ clear some)
 
 pub returns-in_err-load-clause-heap : goal.returns-in_err-load-clause-heap
 returns-in_err-load-clause-heap g c =
@@ -39,12 +35,9 @@ returns-in_err-load-clause-heap g c =
 
 pub returns-clause-unread : goal.returns-clause-unread
 returns-clause-unread g c = λ some.
-    let d = g.D.Dumps in
     let at = c.args.at.now in
     let clear = IsClear-judged c.args.pid.now (one_of (section_in at.index.now c.args.place)) at.limits.now at.index.now c.in_ok-find_process.ensures.judges c.in_default.ensures in
-    let read = c.in_ok-load.ensures in
-    ReadsAtMost-same d.files d.now d.faults d.taken _ _ _ read.reads
-    (read.unread (IsSome-fault _ _ _ _ clear some))
+    c.in_ok-load.ensures.unread (IsSome-fault _ _ _ _ clear some)
 
 pub returns-clause-heap : goal.returns-clause-heap
 returns-clause-heap g c =

@@ -5,16 +5,18 @@ use Rattle.dump_io.specs.Laws.Reads.{ReadsAtMost-then}
 use Rattle.heap_cells.specs.Loading.{section_in, IsBodyIn}
 use Rattle.dump_command.proofs.FoundLoads.{bytes-one}
 use Rattle.dump_command.proofs.HeapLoads.{none-listed, roots-found, roots-told, IsHalted-heap, IsHalted-last, IsHalted-previews, IsOfHeap-roots, Takes-previews}
-use Rattle.dump_command.proofs.Reading.{HasRead-listed}
+use Rattle.dump_command.proofs.Reading.{HasRead-listed, ReadsAtMost-same}
 use Rattle.dump_command.proofs.commands.roots.RootsReport.read.Goals as goal
 
 pub returns-in_err-heap-clause-reads : goal.returns-in_err-heap-clause-reads
 returns-in_err-heap-clause-reads g c =
+    let d = g.D.Dumps in
     let p = err_from_is_err_and c.from_residual.result c.from_residual.ensures.1 in
     let t = c.args.self.now in
     let read = c.in_err-heap.ensures in
     let here = roots-found t.kind t.pid.now c.tag.result.now c.args.at.now.index.now _ c.tag.ensures c.first-place.ensures.place in
-    rw (p.1, p.2) (IsHalted-heap _ _ _ _ _ (IsOfHeap-roots t.kind t.file.now t.pid.now t.nodes t.marked _ _ _ here) _ _ read.reads read.unread read.heap)
+    rw (p.1, p.2) (IsHalted-heap _ _ _ _ _ (IsOfHeap-roots t.kind t.file.now t.pid.now t.nodes t.marked _ _ _ here) _ _ read.reads
+    (λ some. ReadsAtMost-same d.files d.now d.faults d.taken _ _ _ read.reads (read.unread some)) read.heap)
 
 pub returns-in_err-previews-clause-reads : goal.returns-in_err-previews-clause-reads
 returns-in_err-previews-clause-reads g c =

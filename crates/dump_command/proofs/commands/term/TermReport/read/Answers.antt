@@ -5,15 +5,17 @@ use Rattle.dump_io.specs.Laws.Reads.{ReadsAtMost-then}
 use Rattle.heap_cells.specs.HeapMap.{number_at}
 use Rattle.dump_command.specs.Terms.{address_cause}
 use Rattle.dump_command.proofs.HeapLoads.{none-listed, term-held, term-told, IsHalted-heap, IsHalted-previews, IsOfHeap-term, Takes-heap, Takes-previews}
-use Rattle.dump_command.proofs.Reading.{HasRead-listed, IsHalted-held}
+use Rattle.dump_command.proofs.Reading.{HasRead-listed, IsHalted-held, ReadsAtMost-same}
 use Rattle.dump_command.proofs.commands.term.TermReport.read.Goals as goal
 
 pub returns-in_err-heap-clause-reads : goal.returns-in_err-heap-clause-reads
 returns-in_err-heap-clause-reads g c =
+    let d = g.D.Dumps in
     let p = err_from_is_err_and c.from_residual.result c.from_residual.ensures.1 in
     let t = c.args.self.now in
     let read = c.in_err-heap.ensures in
-    rw (p.1, p.2) (IsHalted-heap _ _ _ _ _ (IsOfHeap-term t.file.now t.pid.now t.addr t.nodes t.marked _ _) _ _ read.reads read.unread read.heap)
+    rw (p.1, p.2) (IsHalted-heap _ _ _ _ _ (IsOfHeap-term t.file.now t.pid.now t.addr t.nodes t.marked _ _) _ _ read.reads
+    (λ some. ReadsAtMost-same d.files d.now d.faults d.taken _ _ _ read.reads (read.unread some)) read.heap)
 
 pub returns-in_err-find_cell-clause-reads : goal.returns-in_err-find_cell-clause-reads
 returns-in_err-find_cell-clause-reads g c =
