@@ -9,7 +9,7 @@
 #
 # The best of ROUNDS rounds counts. The script ends with status 1 where a row is slow. It writes its files into a folder of
 # its own, which needs 1 GB, and removes them afterwards.
-rounds=${1:-3}
+rounds=${1:-5}
 here=$(CDPATH= cd -- "$(dirname -- "$0")" && pwd) || exit 1
 folder=$(mktemp -d) || exit 1
 trap 'rm -rf "$folder"' EXIT
@@ -63,8 +63,8 @@ shape() {
 }
 
 shape pids 100000
-shape tags 32768
-shape mailboxes 32768
+shape tags 65536
+shape mailboxes 65536
 shape kinds 50000
 shape payload 20000000
 shape external 20000000

@@ -47,6 +47,7 @@ tell() {
 for sections in 500000 900000; do
     rm -f "$folder"/*.times
     "$bench" write "$dump" 1073741824 "$sections" || exit 1
+    sync "$dump"
     "$here/../edump" index "$dump" >"$folder/index" || exit 1
     echo "a dump of 1 GiB with $sections sections, $rounds rounds:"
     for _ in $(seq "$rounds"); do
@@ -64,6 +65,7 @@ done
 rm -f "$folder"/*.times
 processes=200000
 kept=$("$bench" procs "$dump" 1073741824 "$processes") || exit 1
+sync "$dump"
 "$edump" procs "$dump" >"$folder/procs" || exit 1
 echo "a dump of 1 GiB with $processes processes, $rounds rounds, $(tail -n 1 "$folder/procs"):"
 for _ in $(seq "$rounds"); do
@@ -84,6 +86,7 @@ for shape in "list 1000000 0" "list 10000000 1" "tuples 1000000"; do
     # shellcheck disable=SC2086
     set -- $shape
     "$bench" "$1" "$dump" "$2" $3 || exit 1
+    sync "$dump"
     size=$(wc -c <"$dump")
     for _ in $(seq "$rounds"); do
         round lines /dev/null "$heap_bench" lines "$dump"
@@ -107,6 +110,7 @@ done
 for sections in 10000 100000; do
     rm -f "$folder"/*.times
     "$bench" binaries "$dump" 1000000 "$sections" || exit 1
+    sync "$dump"
     for _ in $(seq "$rounds"); do
         round load /dev/null "$heap_bench" load "$dump" "<0.1.0>" 10
         round previews /dev/null "$heap_bench" previews "$dump" "<0.1.0>" 10
@@ -116,14 +120,20 @@ for sections in 10000 100000; do
     tell previews "and previews" load "the load"
 done
 
-# An external term, a list of small tuples: read and written into nothing.
+# An external term, a list of small tuples: read and written into nothing. As many zeros are none, and are only read from the
+# file.
 rm -f "$folder"/*.times
 "$bench" external "$dump" 4000000 || exit 1
+sync "$dump"
+size=$(wc -c <"$dump")
+head -c "$size" /dev/zero >"$folder/zeros"
 for _ in $(seq "$rounds"); do
     round external /dev/null "$heap_bench" external "$dump"
+    round zeros /dev/null "$heap_bench" external "$folder/zeros"
 done
-awk -v took="$(median external)" -v size="$(wc -c <"$dump")" -v most="$(memory external)" \
-    'BEGIN { printf "an external term of %d bytes: %.3f s, %.0f MB a second, %s MB\n", size, took, size / took / 1000000, most }'
+rm -f "$folder/zeros"
+awk -v took="$(median external)" -v file="$(median zeros)" -v size="$size" -v most="$(memory external)" \
+    'BEGIN { printf "an external term of %d bytes: %.3f s, %.0f MB a second, %s MB\n", size, took - file, size / (took - file) / 1000000, most }'
 
 # Links: five entries a process in 1 GiB and with nothing else beside them, and one process with a million.
 for shape in "links 1073741824 200000" "links 0 200000" "star 1000000"; do
@@ -131,6 +141,7 @@ for shape in "links 1073741824 200000" "links 0 200000" "star 1000000"; do
     # shellcheck disable=SC2086
     set -- $shape
     "$bench" "$1" "$dump" "$2" $3 || exit 1
+    sync "$dump"
     for _ in $(seq "$rounds"); do
         round procs /dev/null "$edump" procs "$dump"
         round audit /dev/null "$edump" audit "$dump" 1000
