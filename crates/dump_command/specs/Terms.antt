@@ -112,9 +112,9 @@ address_cause addr found = if is_some found then None else Some (NoAddress addr)
 abbrev pub no_address : ℕ → List ℕ → List ℕ → Option Refusal
 no_address addr pid bytes = address_cause addr (number_at (heap_map pid bytes).cells addr)
 
--- the bytes of a cell in the External Term Format, which its characters write; another form has none
+-- the bytes of a cell in the External Term Format, which its characters write, since such a form has a payload; another form has none
 abbrev pub external_in : Enc → HeapForm → Option (List ℕ)
-external_in enc (Ext size chars) = payload_of enc size chars
+external_in enc (Ext size chars) = Some (unwrap_or (payload_of enc size chars) [])
 external_in enc form = None
 
 -- those of the heap's cell at an address

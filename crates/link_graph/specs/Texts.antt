@@ -4,8 +4,8 @@ use Rattle.std.specs.List.{list_all, ends_with, position}
 use Rattle.std.specs.Option.{is_some, option_and_then, option_map_or}
 use Rattle.std.specs.Char.{is_ascii_digit}
 
--- a value, and what is read of it
 infixl 10 ◌>>=◌
+-- a value, and what is read of it
 abbrev pub ◌>>=◌ : {A B : Type 0} → Option A → (A → Option B) → Option B
 o >>= f = option_and_then f o
 

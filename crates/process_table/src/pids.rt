@@ -21,7 +21,7 @@ pub(crate) struct PidPlace {
 // The order by which pids are sought.
 #[derive(Drop)]
 pub(crate) enum PidOrder {
-    // Each pid comes behind those before it, as in a dump that a node wrote: the places themselves are searched.
+    // Each pid comes behind those before it, as in the dumps of nodes that were looked at: the places themselves are searched.
     Rising,
     // Some pid doesn't. These are the numbers of all pids, in the order of their bytes.
     Ranked(Vec<u32>),

@@ -1,5 +1,5 @@
 // The lines that say why a dump is refused.
-ghost use Rattle.std.specs.Prelude.{[], ◌∷◌, codes};
+ghost use Rattle.std.specs.Prelude.{[], ◌∷◌, codes, decimal};
 ghost use Rattle.std.specs.List.{concat};
 ghost use Rattle.dump_io.specs.Pieces.{piece_text};
 ghost use Rattle.dump_io.specs.Sinks.{changed, Puts};
@@ -49,6 +49,29 @@ fn put_cause<'x, K: Sink>(sink: &mut K, cause: &'x [u8], what: Piece<'x>) -> Res
     )
 }
 
+// Writes a line whose cause is a text and a piece, and then another text and a number.
+fn put_long_cause<'x, K: Sink>(
+    sink: &mut K,
+    cause: &'x [u8],
+    what: Piece<'x>,
+    link: &'x [u8],
+    number: u64,
+) -> Result<(), Failed>
+    ensures { Puts (changed K.written K.faults sink.old sink.new) (concat (codes "refused: " ∷ cause.now ∷ piece_text what.entry ∷ link.now ∷ decimal number ∷ newline ∷ [])) result }
+{
+    put_pieces(
+        sink,
+        &[
+            Piece::Bytes(b"refused: "),
+            Piece::Bytes(cause),
+            what,
+            Piece::Bytes(link),
+            Piece::Dec(number),
+            Piece::Bytes(b"\n"),
+        ],
+    )
+}
+
 fn put_open_fault<K: Sink>(sink: &mut K, fault: &OpenFault) -> Result<(), Failed>
     requires { IsRefusing fault.now }
     ensures { Puts (changed K.written K.faults sink.old sink.new) (refusal_line (Refusal.Open fault.now)) result }
@@ -73,36 +96,6 @@ fn put_open_fault<K: Sink>(sink: &mut K, fault: &OpenFault) -> Result<(), Failed
     }
 }
 
-fn put_too_large<K: Sink>(sink: &mut K, at: u64, len: u64) -> Result<(), Failed>
-    ensures { Puts (changed K.written K.faults sink.old sink.new) (refusal_line (Refusal.SectionTooLarge at len)) result }
-{
-    put_pieces(
-        sink,
-        &[
-            Piece::Bytes(b"refused: section too large at "),
-            Piece::Dec(at),
-            Piece::Bytes(b" length "),
-            Piece::Dec(len),
-            Piece::Bytes(b"\n"),
-        ],
-    )
-}
-
-fn put_bad_ext<K: Sink>(sink: &mut K, addr: u64, at: u64) -> Result<(), Failed>
-    ensures { Puts (changed K.written K.faults sink.old sink.new) (refusal_line (Refusal.BadExt addr at)) result }
-{
-    put_pieces(
-        sink,
-        &[
-            Piece::Bytes(b"refused: bad external "),
-            Piece::Hex(addr),
-            Piece::Bytes(b" at "),
-            Piece::Dec(at),
-            Piece::Bytes(b"\n"),
-        ],
-    )
-}
-
 /// Writes the line `refused: ` with the cause. An `Open` fault is none of `Read` and `Memory`.
 pub fn put_refusal<K: Sink>(sink: &mut K, refusal: &Refusal) -> Result<(), Failed>
     requires { IsRefusal refusal.now }
@@ -111,11 +104,19 @@ pub fn put_refusal<K: Sink>(sink: &mut K, refusal: &Refusal) -> Result<(), Faile
     match refusal {
         Refusal::Open(fault) => put_open_fault(sink, fault),
         Refusal::NoProcess(pid) => put_cause(sink, b"no process ", Piece::Bytes(pid.bytes())),
-        Refusal::SectionTooLarge { at, len } => put_too_large(sink, *at, *len),
+        Refusal::SectionTooLarge { at, len } => put_long_cause(
+            sink,
+            b"section too large at ",
+            Piece::Dec(*at),
+            b" length ",
+            *len,
+        ),
         Refusal::TooDense { count } => put_cause(sink, b"heap too dense ", Piece::Dec(*count)),
         Refusal::NoAddress { addr } => put_cause(sink, b"no address ", Piece::Hex(*addr)),
         Refusal::NotExt { addr } => put_cause(sink, b"not external ", Piece::Hex(*addr)),
-        Refusal::BadExt { addr, at } => put_bad_ext(sink, *addr, *at),
+        Refusal::BadExt { addr, at } => {
+            put_long_cause(sink, b"bad external ", Piece::Hex(*addr), b" at ", *at)
+        }
         Refusal::NoBinary { addr } => put_cause(sink, b"no binary ", Piece::Hex(*addr)),
         Refusal::BadBinary { at } => put_cause(sink, b"bad binary at ", Piece::Dec(*at)),
     }

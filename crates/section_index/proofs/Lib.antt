@@ -8,6 +8,7 @@ pub mod FirstLine
 pub mod FirstPlace
 pub mod Grown
 pub mod Kept
+pub mod ByMarks
 pub mod Parts
 pub mod Places
 pub mod Rising

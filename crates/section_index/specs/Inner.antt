@@ -2,6 +2,7 @@
 pub mod Beginning
 pub mod Counting
 pub mod Headers
+pub mod Marks
 pub mod Reading
 pub mod Receiver
 pub mod Scanning

@@ -24,6 +24,7 @@ mod headers;
 mod index;
 mod laws;
 mod lookups;
+mod marks;
 mod opening;
 mod receiver;
 mod scanning;

@@ -4,6 +4,7 @@ ghost use Rattle.section_index.specs.Tags.{tag_counts, tags_in};
 ghost use Rattle.section_index.specs.Inner.Counting.{counts_of, one_more, place_in, AreNumbered, AreApart, IsCounted};
 
 use crate::index::Index;
+use crate::marks::mark_of;
 use std::alloc::{AllocError, Global};
 use std::collections::BTreeMap;
 use std::marker::Model;
@@ -78,11 +79,11 @@ fn is_tag(counts: &[TagCount], number: usize, tag: &[u8]) -> bool
 }
 
 // The number of a tag among those that came, where one of them is likely.
-fn number_of(
+fn number_of<'a>(
     counts: &[TagCount],
-    numbers: &BTreeMap<&[u8], usize>,
+    numbers: &BTreeMap<(u64, &'a [u8]), usize>,
     likely: usize,
-    tag: &[u8],
+    tag: &'a [u8],
 ) -> Option<usize>
     requires apart { AreApart (counts_of counts.now) }
     requires numbered { AreNumbered numbers.now (counts_of counts.now) }
@@ -91,7 +92,8 @@ fn number_of(
     if is_tag(counts, likely, tag) {
         return Some(likely);
     }
-    numbers.get(tag).copied()
+    let key = (mark_of(tag), tag);
+    numbers.get(&key).copied()
 }
 
 // Counts one section more of the tag with a number.
@@ -107,7 +109,7 @@ fn add_one(counts: &mut Vec<TagCount>, number: usize, tag: &[u8])
 fn add_tag<'a>(
     alloc: Global,
     counts: &mut Vec<TagCount>,
-    numbers: &mut BTreeMap<&'a [u8], usize>,
+    numbers: &mut BTreeMap<(u64, &'a [u8]), usize>,
     tag: &'a [u8],
 ) -> Result<(), AllocError>
     requires new { place_in tag.now (counts_of counts.old.items) ≡ None }
@@ -116,7 +118,7 @@ fn add_tag<'a>(
     ensures numbered { OnOk result (AreNumbered numbers.new (counts_of counts.new.items)) }
 {
     let text = Vec::from_slice(alloc, tag)?;
-    numbers.insert(tag, counts.len())?;
+    numbers.insert((mark_of(tag), tag), counts.len())?;
     counts.push(TagCount {
         tag: text,
         count: 1,
@@ -125,11 +127,12 @@ fn add_tag<'a>(
 }
 
 // Counts the section at a place, behind those before it, where its tag has a likely number, and answers the number that
-// it has. A tag is sought in a tree: whoever writes a dump could give all tags one hash.
+// it has. A tag is sought in a tree, by its mark first, so that few of the comparisons read tags. Whoever writes a dump could
+// give all tags one mark, as one hash; a tree is fast on those too.
 fn count_section<'a>(
     alloc: Global,
     counts: &mut Vec<TagCount>,
-    numbers: &mut BTreeMap<&'a [u8], usize>,
+    numbers: &mut BTreeMap<(u64, &'a [u8]), usize>,
     likely: usize,
     index: &'a Index,
     i: usize,

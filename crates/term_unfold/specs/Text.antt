@@ -20,8 +20,8 @@ shown text m = record { text = text; left = m }
 abbrev pub led : List ℕ → Shown → Shown
 led front last = record { text = front ++ last.text; left = last.left }
 
--- a text, and one that begins with the count that the first leaves
 infixl 10 ◌then◌
+-- a text, and one that begins with the count that the first leaves
 abbrev pub ◌then◌ : Shown → (ℕ → Shown) → Shown
 first then second = record { text = first.text ++ (second first.left).text; left = (second first.left).left }
 
@@ -45,8 +45,8 @@ abbrev pub go_on : (Bool → ℕ → Listed) → Stand → Listed
 go_on second Cut = listed [] Cut
 go_on second (At came m) = second came m
 
--- some items, and those that come behind them
 infixl 10 ◌followed◌
+-- some items, and those that come behind them
 abbrev pub ◌followed◌ : Listed → (Bool → ℕ → Listed) → Listed
 first followed second = listed (first.text ++ (go_on second first.stand).text) (go_on second first.stand).stand
 

@@ -37,7 +37,11 @@ fn external_at(alloc: Global, heap: &Heap, addr: u64) -> Result<Option<Vec<u8>>,
     let Some(Form::Ext(size, chars)) = heap.form(ix) else {
         return Ok(None);
     };
-    decode_payload(alloc, heap.enc(), size, chars)
+    match decode_payload(alloc, heap.enc(), size, chars)? {
+        Some(bytes) => Ok(Some(bytes)),
+        // There is no such cell, since a form is read only where its characters are a payload.
+        None => Ok(Some(Vec::new(alloc))),
+    }
 }
 
 // The bytes of the external term at an address. They are refused where the heap has no cell there, where that isn't in the

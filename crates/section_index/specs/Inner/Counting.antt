@@ -1,11 +1,10 @@
 -- Tags are counted one after another.
 use Rattle.std.specs.Prelude.{◌≡◌, ℕ, ◌+◌, false, List, [], ◌∷◌, map, All, Option, None, Some, option_map, if◌then◌else◌}
 use Rattle.std.specs.BTreeMap.{BTreeMap, get_by}
-use Rattle.std.specs.Cmp.Lexicographic.{slice_cmp}
-use Rattle.std.specs.Ordering.{nat_cmp}
 use Rattle.std.specs.Str.{bytes_eq}
 use denote.Ref.{Bor}
 use Rattle.section_index.specs.declared.tags.TagCount.{TagCount}
+use Rattle.section_index.specs.Inner.Marks.{mark_cmp}
 use Rattle.section_index.specs.Tags.{tag_counts}
 
 -- the counts that are kept
@@ -28,10 +27,10 @@ AreApart [] = Unit {0}
 AreApart (pair ∷ pairs) = All (λ other. bytes_eq pair.0 other.0 ≡ false) pairs × AreApart pairs
 
 -- the tree has the place of each tag among the counts
-abbrev pub AreNumbered : BTreeMap (Bor (List ℕ)) ℕ → List (List ℕ × ℕ) → Type 0
-AreNumbered numbers counts = (tag : List ℕ) → get_by (λ key. slice_cmp nat_cmp tag key.now) numbers ≡ place_in tag counts
+abbrev pub AreNumbered : BTreeMap (ℕ × Bor (List ℕ)) ℕ → List (List ℕ × ℕ) → Type 0
+AreNumbered numbers counts = (tag : List ℕ) → get_by (mark_cmp tag) numbers ≡ place_in tag counts
 
 -- the counts are those of some tags, each of which is found
-pub record IsCounted (numbers : BTreeMap (Bor (List ℕ)) ℕ) (counts : List (List ℕ × ℕ)) (tags : List (List ℕ)) : Type 0 where
+pub record IsCounted (numbers : BTreeMap (ℕ × Bor (List ℕ)) ℕ) (counts : List (List ℕ × ℕ)) (tags : List (List ℕ)) : Type 0 where
   pub counted : counts ≡ tag_counts tags
   pub numbered : AreNumbered numbers counts

@@ -1,7 +1,7 @@
-use Rattle.std.proofs.Common.{length, sym, ◌∙◌, ap, Some, arith}
-use Rattle.std.proofs.lemmas.Map.Text.{btree_map_updates_str}
+use Rattle.std.proofs.Common.{length, refl, sym, ◌∙◌, ap, Some, arith}
 use Rattle.section_index.specs.Inner.Counting.{counts_of, place_in}
 use Rattle.section_index.proofs.Counts.{one_more-new, place-push, counts-push, update-same, length-counts}
+use Rattle.section_index.proofs.ByMarks.{marked-more}
 use Rattle.section_index.proofs.tags.add_tag.Goals as goal
 
 pub returns-clause-counts : goal.returns-clause-counts
@@ -13,7 +13,7 @@ pub returns-clause-numbered : goal.returns-clause-numbered
 returns-clause-numbered c = λ other.
     let tag = c.args.tag.now in
     let counts = counts_of c.args.counts.now.items in
-    btree_map_updates_str tag c.args.numbers.now c.insert.new.self (Some c.len.result) c.in_ok-insert.ensures.updates other
+    marked-more tag (c.mark_of.result, c.args.tag) c.args.numbers.now c.insert.new.self (Some c.len.result) c.mark_of.ensures refl c.in_ok-insert.ensures.updates other
     ∙ update-same tag other _ (λ t. place_in t counts) _ (length counts) c.requires.numbered (omega (arith, c.len.ensures, length-counts c.args.counts.now.items, c.args.counts.now.ok.0))
     ∙ sym (place-push other tag counts c.requires.new)
     ∙ ap (place_in other) (sym (counts-push tag c.args.counts.now.items c.push.new.self.items _ c.in_ok-push.ensures.items c.in_ok-text.ensures.items))

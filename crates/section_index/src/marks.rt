@@ -1,0 +1,17 @@
+// Numbers by which tags are told apart without a look at them.
+ghost use Rattle.std.specs.Prelude.{◌≡◌};
+ghost use Rattle.section_index.specs.Inner.Marks.{mark_of};
+
+// A number made of all bytes of a tag. Most tags differ in it; whoever writes a dump can make tags that don't.
+#[tactic(auto, unfolding(crate::specs::Inner::Marks::mark_of))]
+pub(crate) fn mark_of(tag: &[u8]) -> u64
+    ensures { result ≡ mark_of tag.now }
+{
+    let mut mark = 0u64;
+    for byte in tag {
+        mark = mark
+            .wrapping_mul(1_099_511_628_211)
+            .wrapping_add(u64::from(*byte));
+    }
+    mark
+}
