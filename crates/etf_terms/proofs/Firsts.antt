@@ -4,10 +4,10 @@ use Rattle.etf_terms.specs.Depth.{depth, deepest}
 use Rattle.etf_terms.specs.Heads.{Head, kids}
 use Rattle.etf_terms.specs.Table.{head_layout}
 use Rattle.etf_terms.specs.Terms.{node, Terms, none, more, count, AreTerms}
-use Rattle.etf_terms.specs.Inner.Parts.{head_of}
+use Rattle.etf_terms.specs.Inner.Parts.{parsed, head_of}
 use Rattle.etf_terms.specs.Inner.Walks.{reading}
 use Rattle.etf_terms.proofs.Readings.{laid-reading}
-use Rattle.etf_terms.proofs.Joins.{parsed, head-is}
+use Rattle.etf_terms.proofs.Joins.{head-is}
 
 pub record First (head : Head) (own others : Terms) (bytes behind : List ℕ) : Type 0 where
   pub front : List ℕ

@@ -1,16 +1,11 @@
 -- The readers read what the table lays out.
-use Rattle.std.proofs.Common.{◌≡◌, ℕ, zero, suc, ◌*◌, ◌==◌, ◌&&◌, nat_le, Bool, true, false, cond, ◌||◌, List, [], ◌∷◌, length, take, drop, Option, Some, is_some, unwrap_or, Ok, Err, refl, sym, ap, ◌∙◌, arith, le-leb}
+use Rattle.std.proofs.Common.{◌≡◌, ℕ, zero, suc, ◌*◌, ◌==◌, ◌&&◌, nat_le, Bool, true, false, cond, ◌||◌, List, [], ◌∷◌, length, take, drop, Ok, Err, refl, sym, ap, ◌∙◌, arith, le-leb}
 use Rattle.std.specs.Int.{w16, w32, w64, from_be_bytes}
-use Rattle.etf_terms.specs.Heads.{Head, Float, Bits, Pid, Port, Ref, Small, Int, Atom, Tuple, Nil, Chars, Linked, Bin, Big, Fun, Export, Pairs}
+use Rattle.etf_terms.specs.Heads.{Head, Float, Bits, Pid, Port, Ref, Big, Fun, Export}
 use Rattle.etf_terms.specs.Layouts.{Layout, end, any_byte, run, number2, number4, number8}
-use Rattle.etf_terms.specs.Table.{is_tag, row, head_layout, sized1, sized2, atom, small, integer, pid88, pid103, pid, sign, bits, closure}
-use Rattle.etf_terms.specs.Inner.Parts.{Parsed, ◌>>=◌, byte_of, run_of, number2_of, number4_of, number8_of, sized1_of, sized2_of, sized4_of, atom_of, small_of, integer_of, pid88_of, pid103_of, pid_of, sign_of, part_of, float_of, bits_of, port89_of, port102_of, port120_of, ref90_of, ref114_of, big110_of, big111_of, owner_of, closure_of, export_of, head_of}
-use Rattle.etf_terms.specs.Inner.Walks.{Reading, Got, Off, reading}
-
--- a reading as the readers have it
-abbrev pub parsed : Reading → Parsed Head
-parsed (Got head rest) = Ok (head, rest)
-parsed (Off rest) = Err (length rest)
+use Rattle.etf_terms.specs.Table.{head_layout, sized1, sized2, atom, small, integer, pid88, pid103, pid, sign, bits, closure}
+use Rattle.etf_terms.specs.Inner.Parts.{Parsed, ◌>>=◌, byte_of, run_of, number2_of, number4_of, number8_of, sized1_of, sized2_of, sized4_of, atom_of, small_of, integer_of, pid88_of, pid103_of, pid_of, sign_of, part_of, float_of, bits_of, port89_of, port102_of, port120_of, ref90_of, ref114_of, big110_of, big111_of, owner_of, closure_of, export_of, parsed, head_of}
+use Rattle.etf_terms.specs.Inner.Walks.{Reading, Off, reading}
 
 -- what is read by a part, and then by what it leads to
 abbrev onward : {A : Type 0} → (A → Layout) → A × List ℕ → Parsed Head
@@ -24,11 +19,11 @@ bind-ext : {A B : Type 0} → (m : Parsed A) (f g : A × List ℕ → Parsed B) 
 bind-ext (Ok x) f g h = h x
 bind-ext (Err left) f g h = refl
 
-parsed-cond : (t : Bool) (a b : Reading) → parsed (cond t a b) ≡ cond t (parsed a) (parsed b)
+pub parsed-cond : (t : Bool) (a b : Reading) → parsed (cond t a b) ≡ cond t (parsed a) (parsed b)
 parsed-cond true a b = refl
 parsed-cond false a b = refl
 
-any-join : (next : ℕ → Layout) (bytes : List ℕ) → parsed (reading (any_byte next) bytes) ≡ (byte_of bytes >>= onward next)
+pub any-join : (next : ℕ → Layout) (bytes : List ℕ) → parsed (reading (any_byte next) bytes) ≡ (byte_of bytes >>= onward next)
 unfolding byte_of
 any-join next [] = refl
 any-join next (b ∷ bytes) = refl
@@ -65,23 +60,23 @@ number2-join : (next : ℕ → Layout) (bytes : List ℕ) → parsed (reading (n
 unfolding number2_of
 number2-join next bytes = run-join 2 (λ two. next (from_be_bytes w16 two)) bytes ∙ sym (bind-assoc (run_of 2 bytes) (λ two. Ok (from_be_bytes w16 two.0, two.1)) (onward next))
 
-number4-join : (next : ℕ → Layout) (bytes : List ℕ) → parsed (reading (number4 next) bytes) ≡ (number4_of bytes >>= onward next)
+pub number4-join : (next : ℕ → Layout) (bytes : List ℕ) → parsed (reading (number4 next) bytes) ≡ (number4_of bytes >>= onward next)
 unfolding number4_of
 number4-join next bytes = run-join 4 (λ four. next (from_be_bytes w32 four)) bytes ∙ sym (bind-assoc (run_of 4 bytes) (λ four. Ok (from_be_bytes w32 four.0, four.1)) (onward next))
 
-sized1-join : (next : List ℕ → Layout) (bytes : List ℕ) → parsed (reading (any_byte (λ n. run n next)) bytes) ≡ (sized1_of bytes >>= onward next)
+pub sized1-join : (next : List ℕ → Layout) (bytes : List ℕ) → parsed (reading (any_byte (λ n. run n next)) bytes) ≡ (sized1_of bytes >>= onward next)
 unfolding sized1_of
 sized1-join next bytes =
     any-join (λ n. run n next) bytes ∙ bind-ext (byte_of bytes) _ (λ n. run_of n.0 n.1 >>= onward next) (λ n. run-join n.0 next n.1)
     ∙ sym (bind-assoc (byte_of bytes) (λ n. run_of n.0 n.1) (onward next))
 
-sized2-join : (next : List ℕ → Layout) (bytes : List ℕ) → parsed (reading (number2 (λ n. run n next)) bytes) ≡ (sized2_of bytes >>= onward next)
+pub sized2-join : (next : List ℕ → Layout) (bytes : List ℕ) → parsed (reading (number2 (λ n. run n next)) bytes) ≡ (sized2_of bytes >>= onward next)
 unfolding sized2_of
 sized2-join next bytes =
     number2-join (λ n. run n next) bytes ∙ bind-ext (number2_of bytes) _ (λ n. run_of n.0 n.1 >>= onward next) (λ n. run-join n.0 next n.1)
     ∙ sym (bind-assoc (number2_of bytes) (λ n. run_of n.0 n.1) (onward next))
 
-sized4-join : (next : List ℕ → Layout) (bytes : List ℕ) → parsed (reading (number4 (λ n. run n next)) bytes) ≡ (sized4_of bytes >>= onward next)
+pub sized4-join : (next : List ℕ → Layout) (bytes : List ℕ) → parsed (reading (number4 (λ n. run n next)) bytes) ≡ (sized4_of bytes >>= onward next)
 unfolding sized4_of
 sized4-join next bytes =
     number4-join (λ n. run n next) bytes ∙ bind-ext (number4_of bytes) _ (λ n. run_of n.0 n.1 >>= onward next) (λ n. run-join n.0 next n.1)
@@ -130,7 +125,7 @@ integer-join next (tag ∷ bytes) =
     ∙ cases (tag == 97) _ (run 1 next) _ bytes (run_of 1 bytes) _ (suc (length bytes)) (onward next) (run-join 1 next bytes)
     (one-case (tag == 98) (run 4 next) bytes (run_of 4 bytes) (suc (length bytes)) (onward next) (run-join 4 next bytes))
 
-pid88-join : (next : Head → Layout) (bytes : List ℕ) → parsed (reading (pid88 next) bytes) ≡ (pid88_of bytes >>= onward next)
+pub pid88-join : (next : Head → Layout) (bytes : List ℕ) → parsed (reading (pid88 next) bytes) ≡ (pid88_of bytes >>= onward next)
 unfolding pid88_of
 pid88-join next bytes =
     atom-join (λ name. number4 (λ id. number4 (λ serial. number4 (λ creation. next (Pid name id serial creation))))) bytes
@@ -142,7 +137,7 @@ pid88-join next bytes =
     ∙ sym (bind-assoc (number4_of name.1) _ (onward next)))
     ∙ sym (bind-assoc (atom_of bytes) _ (onward next))
 
-pid103-join : (next : Head → Layout) (bytes : List ℕ) → parsed (reading (pid103 next) bytes) ≡ (pid103_of bytes >>= onward next)
+pub pid103-join : (next : Head → Layout) (bytes : List ℕ) → parsed (reading (pid103 next) bytes) ≡ (pid103_of bytes >>= onward next)
 unfolding pid103_of
 pid103-join next bytes =
     atom-join (λ name. number4 (λ id. number4 (λ serial. any_byte (λ creation. next (Pid name id serial creation))))) bytes
@@ -176,39 +171,39 @@ part-join next (b ∷ bytes) =
     parsed-cond (nat_le 1 b && nat_le b 8) (reading (next b) bytes) (Off (b ∷ bytes))
     ∙ one-case (nat_le 1 b && nat_le b 8) (next b) bytes (Ok (b, bytes)) (suc (length bytes)) (onward next) refl
 
-float-join : (bytes : List ℕ) → parsed (reading (run 8 (λ eight. end (Float eight))) bytes) ≡ float_of bytes
+pub float-join : (bytes : List ℕ) → parsed (reading (run 8 (λ eight. end (Float eight))) bytes) ≡ float_of bytes
 unfolding float_of
 float-join bytes = run-join 8 (λ eight. end (Float eight)) bytes
 
-bits-join : (bytes : List ℕ) → parsed (reading (number4 (λ n. bits (λ b. run n (λ found. end (Bits b found))))) bytes) ≡ bits_of bytes
+pub bits-join : (bytes : List ℕ) → parsed (reading (number4 (λ n. bits (λ b. run n (λ found. end (Bits b found))))) bytes) ≡ bits_of bytes
 unfolding bits_of
 bits-join bytes =
     number4-join (λ n. bits (λ b. run n (λ found. end (Bits b found)))) bytes
     ∙ bind-ext (number4_of bytes) _ _ (λ n. part-join (λ b. run n.0 (λ found. end (Bits b found))) n.1
     ∙ bind-ext (part_of n.1) _ _ (λ b. run-join n.0 (λ found. end (Bits b.0 found)) b.1))
 
-port89-join : (bytes : List ℕ) → parsed (reading (atom (λ name. number4 (λ id. number4 (λ creation. end (Port name id creation))))) bytes) ≡ port89_of bytes
+pub port89-join : (bytes : List ℕ) → parsed (reading (atom (λ name. number4 (λ id. number4 (λ creation. end (Port name id creation))))) bytes) ≡ port89_of bytes
 unfolding port89_of
 port89-join bytes =
     atom-join (λ name. number4 (λ id. number4 (λ creation. end (Port name id creation)))) bytes
     ∙ bind-ext (atom_of bytes) _ _ (λ name. number4-join (λ id. number4 (λ creation. end (Port name.0 id creation))) name.1
     ∙ bind-ext (number4_of name.1) _ _ (λ id. number4-join (λ creation. end (Port name.0 id.0 creation)) id.1))
 
-port102-join : (bytes : List ℕ) → parsed (reading (atom (λ name. number4 (λ id. any_byte (λ creation. end (Port name id creation))))) bytes) ≡ port102_of bytes
+pub port102-join : (bytes : List ℕ) → parsed (reading (atom (λ name. number4 (λ id. any_byte (λ creation. end (Port name id creation))))) bytes) ≡ port102_of bytes
 unfolding port102_of
 port102-join bytes =
     atom-join (λ name. number4 (λ id. any_byte (λ creation. end (Port name id creation)))) bytes
     ∙ bind-ext (atom_of bytes) _ _ (λ name. number4-join (λ id. any_byte (λ creation. end (Port name.0 id creation))) name.1
     ∙ bind-ext (number4_of name.1) _ _ (λ id. any-join (λ creation. end (Port name.0 id.0 creation)) id.1))
 
-port120-join : (bytes : List ℕ) → parsed (reading (atom (λ name. number8 (λ id. number4 (λ creation. end (Port name id creation))))) bytes) ≡ port120_of bytes
+pub port120-join : (bytes : List ℕ) → parsed (reading (atom (λ name. number8 (λ id. number4 (λ creation. end (Port name id creation))))) bytes) ≡ port120_of bytes
 unfolding port120_of
 port120-join bytes =
     atom-join (λ name. number8 (λ id. number4 (λ creation. end (Port name id creation)))) bytes
     ∙ bind-ext (atom_of bytes) _ _ (λ name. number8-join (λ id. number4 (λ creation. end (Port name.0 id creation))) name.1
     ∙ bind-ext (number8_of name.1) _ _ (λ id. number4-join (λ creation. end (Port name.0 id.0 creation)) id.1))
 
-ref90-join : (bytes : List ℕ) → parsed (reading (number2 (λ n. atom (λ name. number4 (λ creation. run (4 * n) (λ words. end (Ref name creation words)))))) bytes) ≡ ref90_of bytes
+pub ref90-join : (bytes : List ℕ) → parsed (reading (number2 (λ n. atom (λ name. number4 (λ creation. run (4 * n) (λ words. end (Ref name creation words)))))) bytes) ≡ ref90_of bytes
 unfolding ref90_of
 ref90-join bytes =
     number2-join (λ n. atom (λ name. number4 (λ creation. run (4 * n) (λ words. end (Ref name creation words))))) bytes
@@ -216,7 +211,7 @@ ref90-join bytes =
     ∙ bind-ext (atom_of n.1) _ _ (λ name. number4-join (λ creation. run (4 * n.0) (λ words. end (Ref name.0 creation words))) name.1
     ∙ bind-ext (number4_of name.1) _ _ (λ creation. run-join (4 * n.0) (λ words. end (Ref name.0 creation.0 words)) creation.1)))
 
-ref114-join : (bytes : List ℕ) → parsed (reading (number2 (λ n. atom (λ name. any_byte (λ creation. run (4 * n) (λ words. end (Ref name creation words)))))) bytes) ≡ ref114_of bytes
+pub ref114-join : (bytes : List ℕ) → parsed (reading (number2 (λ n. atom (λ name. any_byte (λ creation. run (4 * n) (λ words. end (Ref name creation words)))))) bytes) ≡ ref114_of bytes
 unfolding ref114_of
 ref114-join bytes =
     number2-join (λ n. atom (λ name. any_byte (λ creation. run (4 * n) (λ words. end (Ref name creation words))))) bytes
@@ -224,14 +219,14 @@ ref114-join bytes =
     ∙ bind-ext (atom_of n.1) _ _ (λ name. any-join (λ creation. run (4 * n.0) (λ words. end (Ref name.0 creation words))) name.1
     ∙ bind-ext (byte_of name.1) _ _ (λ creation. run-join (4 * n.0) (λ words. end (Ref name.0 creation.0 words)) creation.1)))
 
-big110-join : (bytes : List ℕ) → parsed (reading (any_byte (λ n. sign (λ s. run n (λ digits. end (Big s digits))))) bytes) ≡ big110_of bytes
+pub big110-join : (bytes : List ℕ) → parsed (reading (any_byte (λ n. sign (λ s. run n (λ digits. end (Big s digits))))) bytes) ≡ big110_of bytes
 unfolding big110_of
 big110-join bytes =
     any-join (λ n. sign (λ s. run n (λ digits. end (Big s digits)))) bytes
     ∙ bind-ext (byte_of bytes) _ _ (λ n. sign-join (λ s. run n.0 (λ digits. end (Big s digits))) n.1
     ∙ bind-ext (sign_of n.1) _ _ (λ s. run-join n.0 (λ digits. end (Big s.0 digits)) s.1))
 
-big111-join : (bytes : List ℕ) → parsed (reading (number4 (λ n. sign (λ s. run n (λ digits. end (Big s digits))))) bytes) ≡ big111_of bytes
+pub big111-join : (bytes : List ℕ) → parsed (reading (number4 (λ n. sign (λ s. run n (λ digits. end (Big s digits))))) bytes) ≡ big111_of bytes
 unfolding big111_of
 big111-join bytes =
     number4-join (λ n. sign (λ s. run n (λ digits. end (Big s digits)))) bytes
@@ -252,7 +247,7 @@ owner-join next bytes =
 abbrev owned : List ℕ → ℕ → ℕ → ℕ → Layout
 owned name index arity n = integer (λ old_index. integer (λ old_unique. pid (λ owner. end (Fun name index arity n))))
 
-closure-join : (bytes : List ℕ) → parsed (reading closure bytes) ≡ closure_of bytes
+pub closure-join : (bytes : List ℕ) → parsed (reading closure bytes) ≡ closure_of bytes
 unfolding closure_of
 closure-join bytes =
     number4-join (λ size. any_byte (λ arity. run 16 (λ unique. number4 (λ index. number4 (λ n. atom (λ name. owned name index arity n)))))) bytes
@@ -263,55 +258,18 @@ closure-join bytes =
     ∙ bind-ext (number4_of index.1) _ _ (λ n. atom-join (λ name. owned name index.0 arity.0 n.0) n.1
     ∙ bind-ext (atom_of n.1) _ _ (λ name. owner-join (end (Fun name.0 index.0 arity.0 n.0)) name.1))))))
 
-export-join : (bytes : List ℕ) → parsed (reading (atom (λ name. atom (λ function. small (λ arity. end (Export name function arity))))) bytes) ≡ export_of bytes
+pub export-join : (bytes : List ℕ) → parsed (reading (atom (λ name. atom (λ function. small (λ arity. end (Export name function arity))))) bytes) ≡ export_of bytes
 unfolding export_of
 export-join bytes =
     atom-join (λ name. atom (λ function. small (λ arity. end (Export name function arity)))) bytes
     ∙ bind-ext (atom_of bytes) _ _ (λ name. atom-join (λ function. small (λ arity. end (Export name.0 function arity))) name.1
     ∙ bind-ext (atom_of name.1) _ _ (λ function. small-join (λ arity. end (Export name.0 function.0 arity)) function.1))
 
--- one row, and those behind it
-rows : (t : Bool) (k : Layout) (others : Option Layout) (bytes : List ℕ) (a b none : Parsed Head) → parsed (reading k bytes) ≡ a
-    → cond (is_some others) (parsed (reading (unwrap_or others (end Nil)) bytes)) none ≡ b
-    → cond (is_some (cond t (Some k) others)) (parsed (reading (unwrap_or (cond t (Some k) others) (end Nil)) bytes)) none ≡ cond t a b
-rows true k others bytes a b none p q = p
-rows false k others bytes a b none p q = q
-
-bind-ok : {A : Type 0} → (m : Parsed A) → (m >>= λ x. Ok (x.0, x.1)) ≡ m
+pub bind-ok : {A : Type 0} → (m : Parsed A) → (m >>= λ x. Ok (x.0, x.1)) ≡ m
 bind-ok (Ok x) = refl
 bind-ok (Err left) = refl
 
-row-join : (tag : ℕ) (bytes : List ℕ) → cond (is_tag tag) (parsed (reading (row tag) bytes)) (Err (suc (length bytes))) ≡ head_of (tag ∷ bytes)
-unfolding is_tag row head_of
-row-join tag bytes =
-    rows (tag == 70) _ _ bytes _ _ _ (float-join bytes)
-    (rows (tag == 77) _ _ bytes _ _ _ (bits-join bytes)
-    (rows (tag == 88) _ _ bytes _ _ _ (pid88-join end bytes ∙ bind-ok (pid88_of bytes))
-    (rows (tag == 89) _ _ bytes _ _ _ (port89-join bytes)
-    (rows (tag == 90) _ _ bytes _ _ _ (ref90-join bytes)
-    (rows (tag == 97) _ _ bytes _ _ _ (any-join (λ b. end (Small b)) bytes)
-    (rows (tag == 98) _ _ bytes _ _ _ (number4-join (λ n. end (Int n)) bytes)
-    (rows (tag == 100) _ _ bytes _ _ _ (sized2-join (λ name. end (Atom name)) bytes)
-    (rows (tag == 102) _ _ bytes _ _ _ (port102-join bytes)
-    (rows (tag == 103) _ _ bytes _ _ _ (pid103-join end bytes ∙ bind-ok (pid103_of bytes))
-    (rows (tag == 104) _ _ bytes _ _ _ (any-join (λ n. end (Tuple n)) bytes)
-    (rows (tag == 105) _ _ bytes _ _ _ (number4-join (λ n. end (Tuple n)) bytes)
-    (rows (tag == 106) _ _ bytes _ _ _ (refl)
-    (rows (tag == 107) _ _ bytes _ _ _ (sized2-join (λ chars. end (Chars chars)) bytes)
-    (rows (tag == 108) _ _ bytes _ _ _ (number4-join (λ n. end (Linked n)) bytes)
-    (rows (tag == 109) _ _ bytes _ _ _ (sized4-join (λ bin. end (Bin bin)) bytes)
-    (rows (tag == 110) _ _ bytes _ _ _ (big110-join bytes)
-    (rows (tag == 111) _ _ bytes _ _ _ (big111-join bytes)
-    (rows (tag == 112) _ _ bytes _ _ _ (closure-join bytes)
-    (rows (tag == 113) _ _ bytes _ _ _ (export-join bytes)
-    (rows (tag == 114) _ _ bytes _ _ _ (ref114-join bytes)
-    (rows (tag == 115) _ _ bytes _ _ _ (sized1-join (λ name. end (Atom name)) bytes)
-    (rows (tag == 116) _ _ bytes _ _ _ (number4-join (λ n. end (Pairs n)) bytes)
-    (rows (tag == 118) _ _ bytes _ _ _ (sized2-join (λ name. end (Atom name)) bytes)
-    (rows (tag == 119) _ _ bytes _ _ _ (sized1-join (λ name. end (Atom name)) bytes)
-    (rows (tag == 120) _ _ bytes _ _ _ (port120-join bytes) refl)))))))))))))))))))))))))
-
+-- a head is what its layout is read as
 pub head-is : (bytes : List ℕ) → parsed (reading head_layout bytes) ≡ head_of bytes
 unfolding head_of
-head-is [] = refl
-head-is (tag ∷ bytes) = parsed-cond (is_tag tag) (reading (row tag) bytes) (Off (tag ∷ bytes)) ∙ row-join tag bytes
+head-is bytes = refl

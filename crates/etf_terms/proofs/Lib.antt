@@ -9,6 +9,7 @@ pub mod Placing
 pub mod Readings
 pub mod Stands
 pub mod Stepping
+pub mod TagRows
 pub mod Unique
 pub mod Whole
 pub mod Words

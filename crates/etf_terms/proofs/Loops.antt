@@ -3,11 +3,11 @@ use Rattle.std.proofs.Common.{◌≡◌, ℕ, zero, suc, ◌+◌, ◌-◌, ◌<�
 use Rattle.etf_terms.specs.Heads.{Head, kids}
 use Rattle.etf_terms.specs.Layouts.{Layout, end, byte}
 use Rattle.etf_terms.specs.Table.{is_tag, row, head_layout}
-use Rattle.etf_terms.specs.Inner.Parts.{Parsed, head_of}
+use Rattle.etf_terms.specs.Inner.Parts.{Parsed, parsed, head_of}
 use Rattle.etf_terms.specs.Inner.Walks.{Reading, Got, Off, reading}
 use Rattle.etf_terms.specs.Walks.{Lost, walk_terms}
 use Rattle.etf_terms.proofs.Readings.{walk-first, walk-reading, walk_on}
-use Rattle.etf_terms.proofs.Joins.{parsed, head-is}
+use Rattle.etf_terms.proofs.Joins.{head-is}
 
 -- what is behind a reading is no longer than the bytes
 behind : Reading → List ℕ → Type 0

@@ -1,7 +1,7 @@
 // Heads: what a term is, but for the terms behind it.
-ghost use Rattle.std.specs.Prelude.{◌≡◌, ◌≤◌, ◌^◌, List, length, Ok};
-ghost use Rattle.etf_terms.specs.Heads.{kids};
-ghost use Rattle.etf_terms.specs.Inner.Parts.{Gives, head, byte_of, run_of, number2_of, number4_of, number8_of, sized1_of, sized2_of, sized4_of, atom_of, small_of, integer_of, pid88_of, pid103_of, pid_of, sign_of, part_of, float_of, bits_of, port89_of, port102_of, port120_of, ref90_of, ref114_of, big110_of, big111_of, owner_of, closure_of, export_of, head_of};
+ghost use Rattle.std.specs.Prelude.{◌≡◌, ◌≤◌, ◌^◌, Ok};
+ghost use Rattle.etf_terms.specs.Heads.{Small, Int, Atom, Tuple, Chars, Linked, Bin, Pairs, kids};
+ghost use Rattle.etf_terms.specs.Inner.Parts.{Gives, head, headed, byte_of, run_of, number2_of, number4_of, number8_of, sized1_of, sized2_of, sized4_of, atom_of, small_of, integer_of, pid88_of, pid103_of, pid_of, sign_of, part_of, float_of, bits_of, port89_of, port102_of, port120_of, ref90_of, ref114_of, big110_of, big111_of, owner_of, closure_of, export_of, head_of};
 
 /// A head in the bytes that it was read from; `specs/Heads.antt` says what the fields are.
 #[derive(Clone, Copy)]
@@ -348,9 +348,79 @@ fn export(bytes: &[u8]) -> Result<(HeadRead<'_>, &[u8]), usize>
     Ok((HeadRead::Export(name, function, arity), rest))
 }
 
+fn small_int(bytes: &[u8]) -> Result<(HeadRead<'_>, &[u8]), usize>
+    ensures { Gives (λ x. (head x.0, x.1.now)) result (headed Small (byte_of bytes.now)) }
+{
+    let (value, rest) = byte(bytes)?;
+    Ok((HeadRead::Small(value), rest))
+}
+
+fn int(bytes: &[u8]) -> Result<(HeadRead<'_>, &[u8]), usize>
+    ensures { Gives (λ x. (head x.0, x.1.now)) result (headed Int (number4_of bytes.now)) }
+{
+    let (value, rest) = number4(bytes)?;
+    Ok((HeadRead::Int(value), rest))
+}
+
+fn short_atom(bytes: &[u8]) -> Result<(HeadRead<'_>, &[u8]), usize>
+    ensures { Gives (λ x. (head x.0, x.1.now)) result (headed Atom (sized1_of bytes.now)) }
+{
+    let (name, rest) = sized1(bytes)?;
+    Ok((HeadRead::Atom(name), rest))
+}
+
+fn long_atom(bytes: &[u8]) -> Result<(HeadRead<'_>, &[u8]), usize>
+    ensures { Gives (λ x. (head x.0, x.1.now)) result (headed Atom (sized2_of bytes.now)) }
+{
+    let (name, rest) = sized2(bytes)?;
+    Ok((HeadRead::Atom(name), rest))
+}
+
+fn small_tuple(bytes: &[u8]) -> Result<(HeadRead<'_>, &[u8]), usize>
+    ensures { Gives (λ x. (head x.0, x.1.now)) result (headed Tuple (byte_of bytes.now)) }
+{
+    let (n, rest) = byte(bytes)?;
+    Ok((HeadRead::Tuple(n as u32), rest))
+}
+
+fn large_tuple(bytes: &[u8]) -> Result<(HeadRead<'_>, &[u8]), usize>
+    ensures { Gives (λ x. (head x.0, x.1.now)) result (headed Tuple (number4_of bytes.now)) }
+{
+    let (n, rest) = number4(bytes)?;
+    Ok((HeadRead::Tuple(n), rest))
+}
+
+fn chars(bytes: &[u8]) -> Result<(HeadRead<'_>, &[u8]), usize>
+    ensures { Gives (λ x. (head x.0, x.1.now)) result (headed Chars (sized2_of bytes.now)) }
+{
+    let (chars, rest) = sized2(bytes)?;
+    Ok((HeadRead::Chars(chars), rest))
+}
+
+fn linked(bytes: &[u8]) -> Result<(HeadRead<'_>, &[u8]), usize>
+    ensures { Gives (λ x. (head x.0, x.1.now)) result (headed Linked (number4_of bytes.now)) }
+{
+    let (n, rest) = number4(bytes)?;
+    Ok((HeadRead::Linked(n), rest))
+}
+
+fn bin(bytes: &[u8]) -> Result<(HeadRead<'_>, &[u8]), usize>
+    ensures { Gives (λ x. (head x.0, x.1.now)) result (headed Bin (sized4_of bytes.now)) }
+{
+    let (bin, rest) = sized4(bytes)?;
+    Ok((HeadRead::Bin(bin), rest))
+}
+
+fn pairs(bytes: &[u8]) -> Result<(HeadRead<'_>, &[u8]), usize>
+    ensures { Gives (λ x. (head x.0, x.1.now)) result (headed Pairs (number4_of bytes.now)) }
+{
+    let (n, rest) = number4(bytes)?;
+    Ok((HeadRead::Pairs(n), rest))
+}
+
 // The head at the front.
 #[inline(always)]
-#[tactic(auto, unfolding(crate::specs::Inner::Parts::head_of))]
+#[tactic(auto, using(crate::proofs::TagRows::nil_row))]
 pub(crate) fn read_head(bytes: &[u8]) -> Result<(HeadRead<'_>, &[u8]), usize>
     ensures { Gives (λ x. (head x.0, x.1.now)) result (head_of bytes.now) }
 {
@@ -361,62 +431,26 @@ pub(crate) fn read_head(bytes: &[u8]) -> Result<(HeadRead<'_>, &[u8]), usize>
         [88, rest @ ..] => pid88(rest),
         [89, rest @ ..] => port89(rest),
         [90, rest @ ..] => ref90(rest),
-        [97, rest @ ..] => {
-            let (value, rest) = byte(rest)?;
-            Ok((HeadRead::Small(value), rest))
-        }
-        [98, rest @ ..] => {
-            let (value, rest) = number4(rest)?;
-            Ok((HeadRead::Int(value), rest))
-        }
-        [100, rest @ ..] => {
-            let (name, rest) = sized2(rest)?;
-            Ok((HeadRead::Atom(name), rest))
-        }
+        [97, rest @ ..] => small_int(rest),
+        [98, rest @ ..] => int(rest),
+        [100, rest @ ..] => long_atom(rest),
         [102, rest @ ..] => port102(rest),
         [103, rest @ ..] => pid103(rest),
-        [104, rest @ ..] => {
-            let (n, rest) = byte(rest)?;
-            Ok((HeadRead::Tuple(n as u32), rest))
-        }
-        [105, rest @ ..] => {
-            let (n, rest) = number4(rest)?;
-            Ok((HeadRead::Tuple(n), rest))
-        }
+        [104, rest @ ..] => small_tuple(rest),
+        [105, rest @ ..] => large_tuple(rest),
         [106, rest @ ..] => Ok((HeadRead::Nil, rest)),
-        [107, rest @ ..] => {
-            let (chars, rest) = sized2(rest)?;
-            Ok((HeadRead::Chars(chars), rest))
-        }
-        [108, rest @ ..] => {
-            let (n, rest) = number4(rest)?;
-            Ok((HeadRead::Linked(n), rest))
-        }
-        [109, rest @ ..] => {
-            let (bin, rest) = sized4(rest)?;
-            Ok((HeadRead::Bin(bin), rest))
-        }
+        [107, rest @ ..] => chars(rest),
+        [108, rest @ ..] => linked(rest),
+        [109, rest @ ..] => bin(rest),
         [110, rest @ ..] => big110(rest),
         [111, rest @ ..] => big111(rest),
         [112, rest @ ..] => closure(rest),
         [113, rest @ ..] => export(rest),
         [114, rest @ ..] => ref114(rest),
-        [115, rest @ ..] => {
-            let (name, rest) = sized1(rest)?;
-            Ok((HeadRead::Atom(name), rest))
-        }
-        [116, rest @ ..] => {
-            let (n, rest) = number4(rest)?;
-            Ok((HeadRead::Pairs(n), rest))
-        }
-        [118, rest @ ..] => {
-            let (name, rest) = sized2(rest)?;
-            Ok((HeadRead::Atom(name), rest))
-        }
-        [119, rest @ ..] => {
-            let (name, rest) = sized1(rest)?;
-            Ok((HeadRead::Atom(name), rest))
-        }
+        [115, rest @ ..] => short_atom(rest),
+        [116, rest @ ..] => pairs(rest),
+        [118, rest @ ..] => long_atom(rest),
+        [119, rest @ ..] => short_atom(rest),
         [120, rest @ ..] => port120(rest),
         [_, ..] => Err(bytes.len()),
     }

@@ -7,7 +7,7 @@ ghost use Rattle.dump_io.specs.Numbers.{hex_byte};
 ghost use Rattle.etf_terms.specs.Heads.{kids};
 ghost use Rattle.etf_terms.specs.Inner.Parts.{head};
 ghost use Rattle.etf_terms.specs.Inner.Serving.{Serves};
-ghost use Rattle.etf_terms.specs.Inner.Standing.{entered, ended, next_of, Stands, Moves, Falls};
+ghost use Rattle.etf_terms.specs.Inner.Standing.{entered, ended, Stands, Moves, Falls};
 ghost use Rattle.etf_terms.specs.Terms.{Term, IsTerm};
 ghost use Rattle.etf_terms.specs.Text.{kind_of, dotted, float_text, bits_text, pid_text, port_text, words_text, ref_text, int_text, comma_number, chars_text, fun_text, preview_text, bin_text, big_text, opening, closing, between, is_end, own_text, text};
 

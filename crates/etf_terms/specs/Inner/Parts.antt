@@ -3,6 +3,8 @@
 use Rattle.std.specs.Prelude.{◌≡◌, ℕ, suc, ◌*◌, ◌==◌, ◌&&◌, nat_le, List, [], ◌∷◌, length, take, drop, Result, Ok, Err, if◌then◌else◌}
 use Rattle.std.specs.Int.{w16, w32, w64, from_be_bytes}
 use Rattle.etf_terms.specs.Heads.{Head, Float, Bits, Pid, Port, Ref, Small, Int, Atom, Tuple, Nil, Chars, Linked, Bin, Big, Fun, Export, Pairs}
+use Rattle.etf_terms.specs.Table.{head_layout}
+use Rattle.etf_terms.specs.Inner.Walks.{Reading, Got, Off, reading}
 use Rattle.etf_terms.specs.declared.heads.HeadRead.{HeadRead}
 use Rattle.etf_terms.specs.declared.heads.HeadRead.TheVariants as heads
 
@@ -39,6 +41,10 @@ head (heads.Big sign digits) = Big sign digits.now
 head (heads.Fun name index arity n) = Fun name.now index arity n
 head (heads.Export name function arity) = Export name.now function.now arity
 head (heads.Pairs n) = Pairs n
+
+-- a head of the one value that a part reads
+abbrev pub headed : {A : Type 0} → (A → Head) → Parsed A → Parsed Head
+headed make part = part >>= λ found. Ok (make found.0, found.1)
 
 unfoldable pub byte_of : List ℕ → Parsed ℕ
 byte_of [] = Err 0
@@ -147,33 +153,11 @@ closure_of bytes =
 unfoldable pub export_of : List ℕ → Parsed Head
 export_of bytes = atom_of bytes >>= λ name. atom_of name.1 >>= λ function. small_of function.1 >>= λ arity. Ok (Export name.0 function.0 arity.0, arity.1)
 
+-- a reading as the readers have it
+abbrev pub parsed : Reading → Parsed Head
+parsed (Got head rest) = Ok (head, rest)
+parsed (Off rest) = Err (length rest)
+
+-- the head at the front, as the table lays it out
 unfoldable pub head_of : List ℕ → Parsed Head
-head_of [] = Err 0
-head_of (tag ∷ bytes) =
-    if tag == 70 then float_of bytes
-    else (if tag == 77 then bits_of bytes
-    else (if tag == 88 then pid88_of bytes
-    else (if tag == 89 then port89_of bytes
-    else (if tag == 90 then ref90_of bytes
-    else (if tag == 97 then (byte_of bytes >>= λ b. Ok (Small b.0, b.1))
-    else (if tag == 98 then (number4_of bytes >>= λ n. Ok (Int n.0, n.1))
-    else (if tag == 100 then (sized2_of bytes >>= λ name. Ok (Atom name.0, name.1))
-    else (if tag == 102 then port102_of bytes
-    else (if tag == 103 then pid103_of bytes
-    else (if tag == 104 then (byte_of bytes >>= λ n. Ok (Tuple n.0, n.1))
-    else (if tag == 105 then (number4_of bytes >>= λ n. Ok (Tuple n.0, n.1))
-    else (if tag == 106 then Ok (Nil, bytes)
-    else (if tag == 107 then (sized2_of bytes >>= λ chars. Ok (Chars chars.0, chars.1))
-    else (if tag == 108 then (number4_of bytes >>= λ n. Ok (Linked n.0, n.1))
-    else (if tag == 109 then (sized4_of bytes >>= λ bin. Ok (Bin bin.0, bin.1))
-    else (if tag == 110 then big110_of bytes
-    else (if tag == 111 then big111_of bytes
-    else (if tag == 112 then closure_of bytes
-    else (if tag == 113 then export_of bytes
-    else (if tag == 114 then ref114_of bytes
-    else (if tag == 115 then (sized1_of bytes >>= λ name. Ok (Atom name.0, name.1))
-    else (if tag == 116 then (number4_of bytes >>= λ n. Ok (Pairs n.0, n.1))
-    else (if tag == 118 then (sized2_of bytes >>= λ name. Ok (Atom name.0, name.1))
-    else (if tag == 119 then (sized1_of bytes >>= λ name. Ok (Atom name.0, name.1))
-    else (if tag == 120 then port120_of bytes
-    else Err (suc (length bytes)))))))))))))))))))))))))))
+head_of bytes = parsed (reading head_layout bytes)
