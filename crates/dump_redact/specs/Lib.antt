@@ -1,0 +1,5 @@
+pub mod Bodies
+pub mod Inner
+pub mod Laws
+pub mod Payloads
+pub mod Redacted

@@ -1,0 +1,22 @@
+-- A payload that is made blank is a payload of as many bytes, and its line a heap line with a binary on the heap.
+use Rattle.std.specs.Prelude.{◌≡◌, ℕ, List, map, Some}
+use Rattle.dump_io.specs.Lines.{text_of}
+use Rattle.term_forms.specs.declared.enc.Enc.{Enc}
+use Rattle.term_forms.specs.Forms.{HeapBin}
+use Rattle.term_forms.specs.Payload.{IsPayloadOf}
+use Rattle.term_forms.specs.ReadingForms.{form_of}
+use Rattle.term_forms.specs.Words.{led_of}
+use Rattle.dump_redact.specs.Bodies.{heap_line}
+use Rattle.dump_redact.specs.Redacted.{blank}
+
+-- what is blank writes as many bytes
+abbrev pub KeepsPayloads : Enc → Type 0
+KeepsPayloads enc = (chars : List ℕ) (size : ℕ) → IsPayloadOf enc chars size → IsPayloadOf enc (map (blank enc) chars) size
+
+-- a heap line whose form is a binary on the heap has the same address and such a form of the same size when it is redacted,
+-- with its characters made blank
+abbrev pub KeepsBinaries : Enc → Type 0
+KeepsBinaries enc = (raw : List ℕ) (address size : ℕ) (spelled chars : List ℕ)
+    → led_of (text_of raw) ≡ Some (address, spelled) → form_of enc spelled ≡ Some (HeapBin size chars)
+    → (again : List ℕ) × (led_of (text_of (heap_line enc raw)) ≡ Some (address, again))
+    × (form_of enc again ≡ Some (HeapBin size (map (blank enc) chars)))

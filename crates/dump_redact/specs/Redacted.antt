@@ -1,0 +1,95 @@
+-- What a dump is with its binary payloads made zero: line by line, each by the part of the dump in which it stands.
+use Rattle.std.specs.Prelude.{ℕ, ◌-◌, ◌==◌, Bool, ◌||◌, List, [], ◌∷◌, ◌++◌, length, take, drop, map, codes, Option, None, Some, option_and_then, option_map, unwrap_or, if◌then◌else◌}
+use Rattle.std.specs.List.{concat}
+use Rattle.std.specs.Char.{is_ascii_alphanumeric}
+use Rattle.std.specs.Str.{bytes_eq}
+use Rattle.dump_io.specs.Lines.{raw_lines, text_of, is_header}
+use Rattle.section_index.specs.declared.opening.Version.{Version}
+use Rattle.section_index.specs.declared.opening.Version.TheVariants.{V03, V04, V05}
+use Rattle.section_index.specs.Opening.{first_id, version_named}
+use Rattle.section_index.specs.Sections.{tag_of}
+use Rattle.term_forms.specs.declared.enc.Enc.{Enc}
+use Rattle.term_forms.specs.declared.enc.Enc.TheVariants.{Hex, Base64}
+use Rattle.term_forms.specs.Forms.{HeapForm, HeapBin}
+use Rattle.term_forms.specs.ReadingForms.{form_of}
+use Rattle.term_forms.specs.Words.{is_hex_digit, led_of}
+use Rattle.dump_redact.specs.declared.parts.Part.{Part}
+use Rattle.dump_redact.specs.declared.parts.Part.TheVariants.{Heap, Binary, Other}
+
+-- whether the character may write a part of a byte: in base64 a letter, a digit, `+` or `/`
+abbrev pub is_digit_of : Enc → ℕ → Bool
+is_digit_of Hex c = is_hex_digit c
+is_digit_of Base64 c = is_ascii_alphanumeric c || c == 43 || c == 47
+
+-- the character that writes zero
+abbrev pub zero_of : Enc → ℕ
+zero_of Hex = 48
+zero_of Base64 = 65
+
+-- such a character becomes zero, and any other stays; among those are LF, CR, `=` and `:`
+abbrev pub blank : Enc → ℕ → ℕ
+blank enc c = if is_digit_of enc c then zero_of enc else c
+
+-- the bytes with all from this place on made blank
+abbrev pub blank_from : Enc → ℕ → List ℕ → List ℕ
+blank_from enc at bytes = take at bytes ++ map (blank enc) (drop at bytes)
+
+-- the part that a header with this tag begins
+abbrev pub part_of : List ℕ → Part
+part_of tag =
+    if bytes_eq tag (codes "proc_heap") || bytes_eq tag (codes "literals") then Heap
+    else (if bytes_eq tag (codes "binary") then Binary else Other)
+
+-- the part behind a line that is no header: of a binary the first line alone counts
+abbrev pub later : Part → Part
+later Heap = Heap
+later Binary = Other
+later Other = Other
+
+-- the part in which the line behind this one stands
+abbrev pub next_part : Part → List ℕ → Part
+next_part part raw = if is_header raw then part_of (tag_of (text_of raw)) else later part
+
+-- the characters of the payload, where the form is a binary on the heap
+abbrev pub bin_chars : Option HeapForm → Option (List ℕ)
+bin_chars (Some (HeapBin size chars)) = Some chars
+bin_chars other = None
+
+-- the end of a line's text that is made blank: the payload of a heap line whose form is a binary on the heap, and what
+-- follows a number and its colon behind the header of a binary, whether that is a payload or not
+abbrev pub payload_in : Enc → Part → List ℕ → Option (List ℕ)
+payload_in enc Heap text = option_and_then (λ led. bin_chars (form_of enc led.1)) (led_of text)
+payload_in enc Binary text = option_map (λ led. led.1) (led_of text)
+payload_in enc Other text = None
+
+-- a raw line whose text ends in a payload, with that made blank; what the text lacks of its line is CR and LF, which stay
+abbrev pub without : Enc → List ℕ → Option (List ℕ) → List ℕ
+without enc raw None = raw
+without enc raw (Some chars) = blank_from enc (length (text_of raw) - length chars) raw
+
+-- a header stays
+abbrev pub redacted_line : Enc → Part → List ℕ → List ℕ
+redacted_line enc part raw = if is_header raw then raw else without enc raw (payload_in enc part (text_of raw))
+
+-- raw lines, of which the first stands in this part
+abbrev pub redacted_lines : Enc → Part → List (List ℕ) → List (List ℕ)
+redacted_lines enc part [] = []
+redacted_lines enc part (raw ∷ raws) = redacted_line enc part raw ∷ redacted_lines enc (next_part part raw) raws
+
+-- bytes that begin a line, in this part
+abbrev pub redacted_in : Enc → Part → List ℕ → List ℕ
+redacted_in enc part bytes = concat (redacted_lines enc part (raw_lines bytes))
+
+-- payloads are written in hex in the versions 0.3 and 0.4, and in base64 in 0.5
+abbrev pub enc_of : Version → Enc
+enc_of V03 = Hex
+enc_of V04 = Hex
+enc_of V05 = Base64
+
+-- the version that the first line names
+abbrev pub version_of : List ℕ → Version
+version_of bytes = unwrap_or (version_named (first_id bytes)) V05
+
+-- a dump with its binary payloads made zero
+abbrev pub redacted : List ℕ → List ℕ
+redacted bytes = redacted_in (enc_of (version_of bytes)) Other bytes

@@ -1,0 +1,27 @@
+// Where in a dump payloads stand.
+ghost use Rattle.std.specs.Prelude.{◌≡◌};
+ghost use Rattle.dump_redact.specs.Redacted.{part_of};
+
+// Where a line of a dump stands.
+#[derive(Clone, Copy)]
+pub(crate) enum Part {
+    // In the body of a heap: of a `proc_heap` or a `literals` section.
+    Heap,
+    // Behind the header of a `binary` section, as its first line.
+    Binary,
+    // Anywhere else: no payload stands there.
+    Other,
+}
+
+// The part that a header with this tag begins.
+pub(crate) fn part_of(tag: &[u8]) -> Part
+    ensures { result ≡ part_of tag.now }
+{
+    if tag == b"proc_heap".as_slice() || tag == b"literals".as_slice() {
+        Part::Heap
+    } else if tag == b"binary".as_slice() {
+        Part::Binary
+    } else {
+        Part::Other
+    }
+}
