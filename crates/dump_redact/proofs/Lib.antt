@@ -1,13 +1,20 @@
 pub mod Alike
 pub mod Base64Zeros
 pub mod Binaries
+pub mod Blanks
+pub mod Copies
 mod Examples
 pub mod FirstLines
 pub mod Heads
 pub mod HexZeros
 pub mod InTurn
+pub mod Judging
+pub mod Leads
+pub mod Pieces
 pub mod Places
+pub mod Reaching
 pub mod Sections
 pub mod Stays
 pub mod Steps
+pub mod Stretches
 pub mod Texts

@@ -3,3 +3,4 @@ pub mod Inner
 pub mod Laws
 pub mod Payloads
 pub mod Redacted
+pub mod Refusals

@@ -1,11 +1,29 @@
 //! A dump with its binary payloads made zero.
 //!
+//! [`redact`] copies a dump that is open to a sink. The bytes of binaries become zeros there, and all else stays: each
+//! offset, each section, each address and each size. So what a dump held of users' data in binaries can be left out before
+//! it is handed on. It isn't made anonymous: atoms, numbers, external terms and messages stay.
+//!
+//! ```text
+//! let index = build(alloc, &mut dumps, "erl_crash.dump", &limits)?;
+//! redact(alloc, &mut dumps, &index, &limits, &mut out)?;
+//! ```
+//!
 //! What a redacted dump is stands in `specs/Redacted.antt`, over the lines of a dump; the laws in `specs/Laws.antt` say what
-//! stays.
+//! stays. The bodies of heaps are loaded one at a time, and all else is copied in pieces.
 #![tactic(auto)]
 
+mod bodies;
+mod copying;
+mod faults;
 mod heaps;
 mod laws;
 mod parts;
+mod redacting;
 
+pub use faults::RedactFault;
 pub use laws::{binaries_stay, bodies_are_redacted, payloads_stay, redacted_stays, sections_stay};
+pub use redacting::redact;
+
+#[cfg(test)]
+mod tests;

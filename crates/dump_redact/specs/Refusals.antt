@@ -1,0 +1,32 @@
+-- Why a dump isn't redacted.
+use Rattle.std.specs.Prelude.{◌≡◌, ℕ, ◌||◌, Bool, List, Option, Some, filter, find, codes, nat_lt, option_map}
+use Rattle.dump_io.specs.Dumps.{Use, DeviceFailed}
+use Rattle.dump_io.specs.Sinks.{Change, SinkFailed}
+use Rattle.section_index.specs.Bodies.{body_length}
+use Rattle.section_index.specs.Lookups.{has_tag}
+use Rattle.section_index.specs.Sections.{Section}
+use Rattle.dump_redact.specs.declared.faults.RedactFault.{RedactFault}
+use Rattle.dump_redact.specs.declared.faults.RedactFault.TheVariants.{SectionTooLarge, Read, Write, Memory}
+
+-- whether a section is one of a heap or of literals, whose body is loaded
+abbrev pub is_heap : Section → Bool
+is_heap section = has_tag (codes "proc_heap") section.text || has_tag (codes "literals") section.text
+
+-- the sections whose bodies are loaded, in the order of the dump
+abbrev pub heap_sections : List Section → List Section
+heap_sections sections = filter is_heap sections
+
+-- the first section whose body is longer than the limit
+abbrev pub first_large : ℕ → List Section → Option Section
+first_large limit sections = find (λ s. nat_lt limit (body_length s)) sections
+
+-- the refusal of the first heap or literals whose body is longer than the limit
+abbrev pub large_fault : ℕ → List Section → Option RedactFault
+large_fault limit sections = option_map (λ s. SectionTooLarge s.at (body_length s)) (first_large limit (heap_sections sections))
+
+-- why the dump isn't redacted whole: it is refused so, or the device or the sink failed; memory may lack at any time
+abbrev pub IsCauseOf : Option RedactFault → Use → Change → RedactFault → Type 0
+IsCauseOf refusal device sink (SectionTooLarge at len) = refusal ≡ Some (SectionTooLarge at len)
+IsCauseOf refusal device sink Read = DeviceFailed device
+IsCauseOf refusal device sink Write = SinkFailed sink
+IsCauseOf refusal device sink Memory = Unit {0}

@@ -1,0 +1,123 @@
+// The bodies with payloads are redacted and written.
+ghost use Rattle.std.specs.Prelude.{◌≡◌, ℕ, ◌+◌, ◌-◌, ◌<◌, ◌≤◌, ◌++◌, ◌⊎◌, List, length, take, drop, IfSome};
+ghost use Rattle.std.specs.List.{between};
+ghost use Rattle.dump_io.specs.Dumps.{used};
+ghost use Rattle.dump_io.specs.Sinks.{changed};
+ghost use Rattle.section_index.specs.Bodies.{section_at, body_length};
+ghost use Rattle.section_index.specs.Index.{IsBuiltOver};
+ghost use Rattle.dump_redact.specs.Bodies.{redacted_body};
+ghost use Rattle.dump_redact.specs.Inner.Copying.{copied, HasUpto, Copies};
+ghost use Rattle.dump_redact.specs.Inner.Places.{HasBody, IsLeadOf};
+
+use crate::copying::{Stretch, copy, put_bytes, read_piece, rewrite};
+use crate::faults::RedactFault;
+use crate::heaps::redact_heap;
+use crate::parts::Part;
+use dump_io::{Dumps, Limits, Sink};
+use section_index::{Index, read_body};
+use std::alloc::Global;
+use term_forms::{Enc, heap_line, number_is_read};
+
+// Loads the body of a heap, which is no larger than the limit, and writes it redacted.
+fn put_heap<D: Dumps, K: Sink>(
+    alloc: Global,
+    dumps: &mut D,
+    index: &Index,
+    i: usize,
+    limits: &Limits,
+    enc: Enc,
+    sink: &mut K,
+) -> Result<(), RedactFault>
+    requires over { IsBuiltOver (D.now dumps.old) index.now }
+    requires place { i < length index.now.headers }
+    requires body { HasBody (D.now dumps.old) (section_at index.now i) }
+    requires small { body_length (section_at index.now i) ≤ limits.now.section }
+    ensures { Copies (used D.files D.now D.faults D.taken dumps.old dumps.new) (changed K.written K.faults sink.old sink.new) (body_length (section_at index.now i))
+        (λ dump. redacted_body enc Part.Heap (between (section_at index.now i).body (section_at index.now i).end dump)) result }
+{
+    let mut body = read_body(alloc, dumps, index, i, limits)?;
+    redact_heap(&mut body, enc);
+    put_bytes(sink, &body)
+}
+
+// Where the payload of a binary begins, by its body's front of 17 bytes or less: behind a hex number of 1 to 16 digits
+// and its colon.
+fn lead_len(front: &[u8]) -> Option<usize>
+    ensures within { IfSome result (λ place. place ≤ length front.now) }
+    ensures lead { (body : List ℕ) → front.now ≡ take 17 body → IsLeadOf body result }
+{
+    number_is_read();
+    let (_, chars) = heap_line(front)?;
+    Some(front.len() - chars.len())
+}
+
+// Redacts the first piece of a binary's body, and says how what follows it is copied. A piece of 17 bytes has the whole
+// number and its colon.
+fn redact_lead(piece: &mut [u8], enc: Enc) -> Stretch
+    ensures { (body : List ℕ) → piece.old ≡ take (length piece.old) body → (17 ≤ length piece.old) ⊎ (length piece.old ≡ length body)
+        → piece.new ++ copied result (drop (length piece.old) body) ≡ redacted_body enc Part.Binary body }
+{
+    number_is_read();
+    let front = piece.len().min(17);
+    match lead_len(&piece[..front]) {
+        Some(place) => rewrite(&mut piece[place..], Stretch::Payload(enc)),
+        None => Stretch::Plain,
+    }
+}
+
+// Copies the body of a binary, which lies between two offsets, with its payload made zero.
+fn put_binary<D: Dumps, K: Sink>(
+    dumps: &mut D,
+    from: u64,
+    upto: u64,
+    enc: Enc,
+    buffer: &mut [u8],
+    sink: &mut K,
+) -> Result<(), RedactFault>
+    requires held { HasUpto (D.now dumps.old) upto }
+    requires some { from < upto }
+    requires room { 17 ≤ length buffer.old }
+    ensures { Copies (used D.files D.now D.faults D.taken dumps.old dumps.new) (changed K.written K.faults sink.old sink.new) (upto - from)
+        (λ dump. redacted_body enc Part.Binary (between from upto dump)) result }
+{
+    let count = read_piece(dumps, from, upto, buffer)?;
+    let piece = &mut buffer[..count];
+    let stretch = redact_lead(piece, enc);
+    put_bytes(sink, piece)?;
+    copy(dumps, from + count as u64, upto, stretch, buffer, sink)
+}
+
+// Writes the body of a section redacted.
+pub(crate) fn put_body<D: Dumps, K: Sink>(
+    alloc: Global,
+    dumps: &mut D,
+    index: &Index,
+    i: usize,
+    part: Part,
+    limits: &Limits,
+    enc: Enc,
+    buffer: &mut [u8],
+    sink: &mut K,
+) -> Result<(), RedactFault>
+    requires over { IsBuiltOver (D.now dumps.old) index.now }
+    requires place { i < length index.now.headers }
+    requires body { HasBody (D.now dumps.old) (section_at index.now i) }
+    requires small { part ≡ Part.Heap → body_length (section_at index.now i) ≤ limits.now.section }
+    requires room { 17 ≤ length buffer.old }
+    ensures { Copies (used D.files D.now D.faults D.taken dumps.old dumps.new) (changed K.written K.faults sink.old sink.new) (body_length (section_at index.now i))
+        (λ dump. redacted_body enc part (between (section_at index.now i).body (section_at index.now i).end dump)) result }
+{
+    let section = index.section(i);
+    match part {
+        Part::Heap => put_heap(alloc, dumps, index, i, limits, enc, sink),
+        Part::Binary => put_binary(dumps, section.body, section.end, enc, buffer, sink),
+        Part::Other => copy(
+            dumps,
+            section.body,
+            section.end,
+            Stretch::Plain,
+            buffer,
+            sink,
+        ),
+    }
+}

@@ -1,0 +1,142 @@
+// Bytes are copied from the device to the sink, piece by piece.
+ghost use Rattle.std.specs.Prelude.{◌≡◌, ℕ, ◌+◌, ◌-◌, ◌<◌, ◌≤◌, List, length, take, min, IfOk, IfErr, OnOk};
+ghost use Rattle.std.specs.List.{between};
+ghost use Rattle.dump_io.specs.Dumps.{told, used, Gives, DeviceFailed, ReadsAtMost};
+ghost use Rattle.dump_io.specs.Sinks.{changed, Puts};
+ghost use Rattle.dump_redact.specs.Inner.Copying.{copied, stretch_behind, HasUpto, Copies};
+
+use crate::faults::RedactFault;
+use crate::heaps::blank_all;
+use dump_io::{Dumps, Sink, read_full, write_all};
+use memchr::memchr;
+use std::alloc::{AllocError, Global};
+use term_forms::Enc;
+
+// The most bytes of a piece.
+const PIECE: usize = 65_536;
+
+// How bytes are copied.
+#[derive(Clone, Copy)]
+pub(crate) enum Stretch {
+    // As they are.
+    Plain,
+    // Made blank up to the end of the line.
+    Payload(Enc),
+}
+
+// A buffer for a piece.
+pub(crate) fn make_buffer(alloc: Global) -> Result<Vec<u8>, AllocError>
+    ensures { IfOk result (λ buffer. length buffer.items ≡ PIECE) }
+{
+    vec![in alloc; 0u8; PIECE]
+}
+
+// Makes characters blank up to the first LF, and says how the bytes behind them are copied.
+fn blank_line(chars: &mut [u8], enc: Enc) -> Stretch
+    ensures text { chars.new ≡ copied (Stretch.Payload enc) chars.old }
+    ensures behind { result ≡ stretch_behind (Stretch.Payload enc) chars.old }
+{
+    match memchr(b'\n', chars) {
+        Some(lf) => {
+            blank_all(&mut chars[..lf], enc);
+            Stretch::Plain
+        }
+        None => {
+            blank_all(chars, enc);
+            Stretch::Payload(enc)
+        }
+    }
+}
+
+// Makes of a piece what it is copied as, and says how the bytes behind it are copied.
+pub(crate) fn rewrite(piece: &mut [u8], stretch: Stretch) -> Stretch
+    ensures text { piece.new ≡ copied stretch piece.old }
+    ensures behind { result ≡ stretch_behind stretch piece.old }
+{
+    match stretch {
+        Stretch::Plain => Stretch::Plain,
+        Stretch::Payload(enc) => blank_line(piece, enc),
+    }
+}
+
+// Reads the bytes of the open file between two offsets, or as many of them as the buffer has room for, and says how many.
+pub(crate) fn read_piece<D: Dumps>(
+    dumps: &mut D,
+    from: u64,
+    upto: u64,
+    buffer: &mut [u8],
+) -> Result<usize, RedactFault>
+    requires held { HasUpto (D.now dumps.old) upto }
+    requires ordered { from ≤ upto }
+    ensures reads { ReadsAtMost (used D.files D.now D.faults D.taken dumps.old dumps.new) (min (length buffer.old) (upto - from)) }
+    ensures count { IfOk result (λ count. count ≡ min (length buffer.old) (upto - from)) }
+    ensures piece { IfOk result (λ count. Gives (D.now dumps.old) from (take count buffer.new)) }
+    ensures fault { IfErr result (λ fault. (fault ≡ RedactFault.Read) × DeviceFailed (used D.files D.now D.faults D.taken dumps.old dumps.new)) }
+{
+    let count = buffer.len().min((upto - from) as usize);
+    if read_full(dumps, from, &mut buffer[..count]).is_err() {
+        return Err(RedactFault::Read);
+    }
+    Ok(count)
+}
+
+// Writes all the bytes.
+pub(crate) fn put_bytes<K: Sink>(sink: &mut K, bytes: &[u8]) -> Result<(), RedactFault>
+    ensures puts { Puts (changed K.written K.faults sink.old sink.new) bytes.now result }
+    ensures fault { IfErr result (λ fault. fault ≡ RedactFault.Write) }
+{
+    if write_all(sink, bytes).is_err() {
+        return Err(RedactFault::Write);
+    }
+    Ok(())
+}
+
+// Copies the first piece of the bytes between two offsets, and says how many bytes it has.
+fn copy_piece<D: Dumps, K: Sink>(
+    dumps: &mut D,
+    from: u64,
+    upto: u64,
+    stretch: &mut Stretch,
+    buffer: &mut [u8],
+    sink: &mut K,
+) -> Result<u64, RedactFault>
+    requires held { HasUpto (D.now dumps.old) upto }
+    requires some { from < upto }
+    requires room { 0 < length buffer.old }
+    ensures copies { let count = min (length buffer.old) (upto - from) in
+        Copies (used D.files D.now D.faults D.taken dumps.old dumps.new) (changed K.written K.faults sink.old sink.new) count
+        (λ dump. copied stretch.old (between from (from + count) dump)) result }
+    ensures count { IfOk result (λ count. count ≡ min (length buffer.old) (upto - from)) }
+    ensures behind { OnOk result ((dump : List ℕ) → D.now dumps.old ≡ told dump
+        → stretch.new ≡ stretch_behind stretch.old (between from (from + min (length buffer.old) (upto - from)) dump)) }
+{
+    let count = read_piece(dumps, from, upto, buffer)?;
+    let piece = &mut buffer[..count];
+    let next = rewrite(piece, *stretch);
+    put_bytes(sink, piece)?;
+    *stretch = next;
+    Ok(count as u64)
+}
+
+// Copies the bytes between two offsets.
+pub(crate) fn copy<D: Dumps, K: Sink>(
+    dumps: &mut D,
+    from: u64,
+    upto: u64,
+    stretch: Stretch,
+    buffer: &mut [u8],
+    sink: &mut K,
+) -> Result<(), RedactFault>
+    requires held { HasUpto (D.now dumps.old) upto }
+    requires ordered { from ≤ upto }
+    requires room { 0 < length buffer.old }
+    ensures { Copies (used D.files D.now D.faults D.taken dumps.old dumps.new) (changed K.written K.faults sink.old sink.new) (upto - from)
+        (λ dump. copied stretch (between from upto dump)) result }
+{
+    let mut at = from;
+    let mut stretch = stretch;
+    while at < upto {
+        at += copy_piece(dumps, at, upto, &mut stretch, buffer, sink)?;
+    }
+    Ok(())
+}

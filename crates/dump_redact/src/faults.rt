@@ -1,0 +1,37 @@
+// Why a dump isn't redacted.
+ghost use Rattle.std.specs.Prelude.{◌≡◌};
+
+use section_index::BodyFault;
+use thiserror::Error;
+
+/// Why a dump isn't redacted, or not to its end.
+#[derive(Debug, Drop, Error)]
+pub enum RedactFault {
+    /// The body of a heap or of literals has more bytes than the limit on sections; `at` is the offset of its section in
+    /// the file, and `len` the number of bytes.
+    #[error("the section at {at} is too large: {len} bytes")]
+    SectionTooLarge { at: u64, len: u64 },
+    /// The device failed.
+    #[error("the dump can't be read")]
+    Read,
+    /// The sink failed.
+    #[error("the redacted dump can't be written")]
+    Write,
+    /// There was no memory for a body, or for a piece of the dump.
+    #[error("out of memory")]
+    Memory,
+}
+
+impl From<BodyFault> for RedactFault {
+    ghost use Rattle.dump_redact.specs.Inner.Copying.{redact_fault_of};
+
+    ghost from_gives = { λ body fault. fault ≡ redact_fault_of body };
+
+    fn from(fault: BodyFault) -> RedactFault {
+        match fault {
+            BodyFault::SectionTooLarge { at, len } => RedactFault::SectionTooLarge { at, len },
+            BodyFault::Read => RedactFault::Read,
+            BodyFault::Memory => RedactFault::Memory,
+        }
+    }
+}
