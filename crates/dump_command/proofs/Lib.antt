@@ -10,4 +10,5 @@ pub mod LongWords
 pub mod Opened
 pub mod Places
 pub mod Reading
+pub mod Redacting
 pub mod Runs

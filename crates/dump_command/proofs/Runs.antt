@@ -11,9 +11,9 @@ use Rattle.section_index.specs.Index.{Contents, IsFileOf, IsHeld, IsIndexOf, sec
 use Rattle.section_index.specs.Sections.{sections, sections_of}
 use Rattle.report_text.specs.declared.refusals.Refusal.{Refusal}
 use Rattle.report_text.specs.declared.refusals.Refusal.TheVariants.{Open}
-use Rattle.dump_command.specs.Command.{Command, file_of}
+use Rattle.dump_command.specs.Command.{Command, redact, file_of}
 use Rattle.dump_command.specs.Report.{report, report_status, refusal, refusal_held, refusal_listed, refusal_unread, reread, unless_refused}
-use Rattle.dump_command.specs.Run.{EndsTold, IsDumpOf, IsInputOf, IsMissing, IsMissingFrom, IsUnreadFrom, TakesAtMost}
+use Rattle.dump_command.specs.Run.{EndsTold, IsDumpOf, IsInputOf, IsLeft, IsLeftOf, IsMissing, IsMissingFrom, IsUnreadFrom, TakesAtMost}
 use Rattle.dump_command.specs.Inner.Alone.{RunsAlone}
 use Rattle.dump_command.specs.Inner.Opened.{HasOpened, IsIndexed, IsUnopened}
 use Rattle.dump_command.specs.Inner.Reading.{HasRead, IsHalted, Takes, Tells, refusal_over}
@@ -48,6 +48,16 @@ refusal-indexed : (cmd : Command) (name bytes : List ℕ) (limits : Numbers) (in
 refusal-indexed cmd name bytes limits index now named all =
     refusal-named cmd name bytes limits named ∙ ap (λ o. option_or o (refusal_held cmd bytes limits)) (unread-indexed cmd bytes limits index now all)
 
+-- a command that wrote nothing left nothing
+pub IsLeft-kept : (cmd : Command) (limits : Numbers) (device : Use) (out : Change) → IsKept out → IsLeft cmd limits device out
+IsLeft-kept (redact file) limits device out kept =
+    record { absent = λ gone. kept; told = λ bytes dump. by (refusal (redact file) bytes limits) bytes }
+  where
+    by : (why : Option Refusal) (bytes : List ℕ) → IsLeftOf (redact file) bytes why out
+    by None bytes = inl kept
+    by (Some why) bytes = kept
+IsLeft-kept cmd limits device out kept = kept
+
 -- ---- a dump that wasn't opened
 
 pub Runs-unopened : (cmd : Command) (name : List ℕ) (limits : Numbers) (device : Use) (out : Change) (stop : Stop) → file_of cmd ≡ Some name
@@ -71,14 +81,14 @@ Runs-unopened cmd name limits device out (Refused why) named un kept =
     }
 Runs-unopened cmd name limits device out NotRead named un kept =
     record {
-      left = (subst (IsUnreadFrom device) (sym named) un.cause, kept);
+      left = (subst (IsUnreadFrom device) (sym named) un.cause, IsLeft-kept cmd limits device out kept);
       gone = λ gone. un.gone (subst (IsMissingFrom device) named gone);
       taken = λ bytes dump. omega (arith, un.taken bytes (file-of cmd name device bytes named dump));
     }
 Runs-unopened cmd name limits device out NotWritten named un kept = absurd un.cause
 Runs-unopened cmd name limits device out NoMemory named un kept =
     record {
-      left = kept;
+      left = IsLeft-kept cmd limits device out kept;
       gone = λ gone. un.gone (subst (IsMissingFrom device) named gone);
       taken = λ bytes dump. omega (arith, un.taken bytes (file-of cmd name device bytes named dump));
     }
@@ -91,7 +101,7 @@ stays told_files before now name bytes same (inl is) = inl is
 stays told_files before now name bytes same (inr is) = inr (sym same ∙ is)
 
 -- the dump was opened and read: what is known of it whatever came of the reading
-record IsThrough (cmd : Command) (limits : Numbers) (index : Contents) (now : Now) (device : Use) : Type 0 where
+pub record IsThrough (cmd : Command) (limits : Numbers) (index : Contents) (now : Now) (device : Use) : Type 0 where
   pub there : IsMissing device cmd → ⊥
   pub told : (bytes : List ℕ) → IsDumpOf device cmd bytes → IsIndexed bytes limits index now × (refusal cmd bytes limits ≡ refusal_over cmd index bytes limits)
   pub taken : TakesAtMost cmd limits device
@@ -101,7 +111,7 @@ taken-few : (listed : Option Refusal) (step : Use) (count most : ℕ) → ReadsA
 taken-few None step count most reads few unread = omega (arith, reads.taken_most, few)
 taken-few (Some why) step count most reads few unread = (unread refl).taken_most
 
-through : {D : Type 0} (files : D → Option Files) (now : D → Now) (faults taken : D → ℕ) (a b c : D)
+pub through : {D : Type 0} (files : D → Option Files) (now : D → Now) (faults taken : D → ℕ) (a b c : D)
     (cmd : Command) (name : List ℕ) (limits : Numbers) (index : Contents) → file_of cmd ≡ Some name
     → HasOpened name limits (used files now faults taken a b) index → Takes cmd limits index (used files now faults taken b c)
     → IsThrough cmd limits index (now b) (used files now faults taken a c)
@@ -141,13 +151,13 @@ left-halted cmd limits index device step out name (Refused why) named known late
     }
 left-halted cmd limits index device step out name NotRead named known later same halted kept =
     record {
-      left = (subst (IsUnreadFrom device) (sym named) (inl (omega (arith, halted.cause, later, same))), kept);
+      left = (subst (IsUnreadFrom device) (sym named) (inl (omega (arith, halted.cause, later, same))), IsLeft-kept cmd limits device out kept);
       gone = λ gone. absurd (known.there gone);
       taken = known.taken;
     }
 left-halted cmd limits index device step out name NotWritten named known later same halted kept = absurd halted.cause
 left-halted cmd limits index device step out name NoMemory named known later same halted kept =
-    record { left = kept; gone = λ gone. absurd (known.there gone); taken = known.taken }
+    record { left = IsLeft-kept cmd limits device out kept; gone = λ gone. absurd (known.there gone); taken = known.taken }
 
 -- a command that stopped while it read
 pub Runs-halted : {D : Type 0} (files : D → Option Files) (now : D → Now) (faults taken : D → ℕ) (a b c : D)
@@ -195,7 +205,7 @@ told-is cmd limits device out text status (Err NotWritten) ready tells =
       taken = ready.taken;
     }
 told-is cmd limits device out text status (Err NoMemory) ready tells =
-    record { left = tells; gone = λ gone. absurd (ready.there gone); taken = ready.taken }
+    record { left = IsLeft-kept cmd limits device out tells; gone = λ gone. absurd (ready.there gone); taken = ready.taken }
 
 -- a command that has read all, and told its report or not
 pub Runs-told : {D : Type 0} (files : D → Option Files) (now : D → Now) (faults taken : D → ℕ) (a b c : D)

@@ -8,7 +8,7 @@ use Rattle.report_text.specs.declared.root_report.RootKind.TheVariants as bodies
 use Rattle.table_sections.specs.declared.kinds.TableKind.{TableKind}
 use Rattle.table_sections.specs.declared.kinds.TableKind.TheVariants as kinds
 use Rattle.dump_command.specs.declared.words.Cmd.{Cmd}
-use Rattle.dump_command.specs.declared.words.Cmd.TheVariants.{Index, Info, Procs, Proc, Memory, Ets, Ports, Nodes, Mods, Stack, Dict, Mail, Term, Ext, Binary, Links, Audit, Make, Trial}
+use Rattle.dump_command.specs.declared.words.Cmd.TheVariants.{Index, Info, Procs, Proc, Memory, Ets, Ports, Nodes, Mods, Stack, Dict, Mail, Term, Ext, Binary, Links, Redact, Audit, Make, Trial}
 use Rattle.dump_command.specs.Budgets.{budget_of}
 use Rattle.dump_command.specs.MadeWords.{seed_and_count}
 
@@ -30,6 +30,8 @@ pub data Command : Type 0 where
   -- the binary with this address
   binary : List ℕ → ℕ → Command
   links : List ℕ → Command
+  -- the dump with its payloads made zero
+  redact : List ℕ → Command
   -- an audit with this limit on message queues, in full or not
   audit : List ℕ → ℕ → Bool → Command
   -- a dump is made of a seed and a count of processes
@@ -55,6 +57,7 @@ shown (Term file pid addr nodes marked) = term file.now pid.now addr nodes marke
 shown (Ext file pid addr) = ext file.now pid.now addr
 shown (Binary file addr) = binary file.now addr
 shown (Links file) = links file.now
+shown (Redact file) = redact file.now
 shown (Audit file limit full) = audit file.now limit full
 shown (Make seed count) = make seed count
 shown (Trial seed count) = trial seed count
@@ -70,7 +73,8 @@ file_command name file =
     else (if bytes_eq name (codes "ports") then Some (table kinds.Ports file)
     else (if bytes_eq name (codes "nodes") then Some (table kinds.Nodes file)
     else (if bytes_eq name (codes "mods") then Some (table kinds.Mods file)
-    else (if bytes_eq name (codes "links") then Some (links file) else None))))))))
+    else (if bytes_eq name (codes "links") then Some (links file)
+    else (if bytes_eq name (codes "redact") then Some (redact file) else None)))))))))
 
 -- the roots of a process, within the budget of the last words
 abbrev pub roots_command : RootKind → List ℕ → List ℕ → List (List ℕ) → Option Command
@@ -144,6 +148,7 @@ file_of (term file pid addr nodes marked) = Some file
 file_of (ext file pid addr) = Some file
 file_of (binary file addr) = Some file
 file_of (links file) = Some file
+file_of (redact file) = Some file
 file_of (audit file limit full) = Some file
 file_of (make seed count) = None
 file_of (trial seed count) = None

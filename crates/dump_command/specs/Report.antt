@@ -24,9 +24,11 @@ use Rattle.section_rows.specs.Loading.{bodies_length, first_large}
 use Rattle.table_sections.specs.Tables.{listed, table_of}
 use Rattle.dump_write.specs.Made.{made}
 use Rattle.dump_trial.specs.Trial.{trial_of}
+use Rattle.dump_redact.specs.Redacted.{redacted}
+use Rattle.dump_redact.specs.Refusals.{heap_sections}
 use Rattle.audit_bodies.specs.Mailboxes.{audited_sections}
 use Rattle.dump_command.specs.Audits.{audit_in, status_of}
-use Rattle.dump_command.specs.Command.{Command, index, info, procs, proc, memory, table, roots, term, ext, binary, links, audit, make, trial, file_of}
+use Rattle.dump_command.specs.Command.{Command, index, info, procs, proc, memory, table, roots, term, ext, binary, links, redact, audit, make, trial, file_of}
 use Rattle.heap_cells.specs.Loading.{body_in}
 use Rattle.dump_command.specs.Terms.{base_of, binary_at, binary_cause, bad_binary, binary_count, binary_of, ext_of, heap_map, heap_of, literals_of, no_address, no_external, roots_of, roots_section, term_of, too_dense}
 
@@ -64,6 +66,7 @@ bodies (term file pid addr nodes marked) sections = heap_bodies pid sections
 bodies (ext file pid addr) sections = heap_bodies pid sections
 bodies (binary file addr) sections = one_of (binary_at addr sections)
 bodies (links file) sections = record_sections sections
+bodies (redact file) sections = heap_sections sections
 bodies (audit file limit full) sections = audited_sections full sections
 bodies (make seed count) sections = []
 bodies (trial seed count) sections = []
@@ -95,6 +98,7 @@ report (term file pid addr nodes marked) bytes = term_of pid addr nodes marked b
 report (ext file pid addr) bytes = ext_of pid addr bytes
 report (binary file addr) bytes = binary_of addr bytes
 report (links file) bytes = links_report (process_table bytes).processes
+report (redact file) bytes = redacted bytes
 report (audit file limit full) bytes = audit_report (audit_in limit full bytes)
 report (make seed count) bytes = made seed count
 report (trial seed count) bytes = trial_report (trial_of seed count)
@@ -154,10 +158,11 @@ abbrev pub loaded_bytes : Command → List ℕ → ℕ
 loaded_bytes cmd bytes = bodies_length (bodies cmd (sections bytes))
 
 -- the most bytes that a command takes from the device after it has read the dump once: those of the bodies that
--- it loads, and 128 for each reference to a binary in the heap of a process
+-- it loads, and 128 for each reference to a binary in the heap of a process; a redacted dump is copied from the dump whole
 abbrev pub reread : Command → List ℕ → ℕ
 reread (roots kind file pid nodes marked) bytes = loaded_bytes (roots kind file pid nodes marked) bytes + 128 * binary_count pid bytes
 reread (term file pid addr nodes marked) bytes = loaded_bytes (term file pid addr nodes marked) bytes + 128 * binary_count pid bytes
+reread (redact file) bytes = length bytes
 reread cmd bytes = loaded_bytes cmd bytes
 
 -- nothing where there is a refusal

@@ -7,7 +7,7 @@ use Rattle.dump_io.specs.Sinks.{Change, SinkFailed, IsKept, Gained, GainedFront}
 use Rattle.section_index.specs.Index.{IsFileOf}
 use Rattle.report_text.specs.declared.refusals.Refusal.{Refusal}
 use Rattle.report_text.specs.Refusals.{refusal_line}
-use Rattle.dump_command.specs.Command.{Command, file_of}
+use Rattle.dump_command.specs.Command.{Command, redact, file_of}
 use Rattle.dump_command.specs.Report.{report, report_status, finds, refusal, allowance}
 
 -- these are the bytes of which a command reports: those of its file, and none where it has no file
@@ -63,6 +63,22 @@ pub record BreaksOff (cmd : Command) (limits : Numbers) (device : Use) (out err 
   pub failed : SinkFailed out ⊎ SinkFailed err
   pub told : (bytes : List ℕ) → IsDumpOf device cmd bytes → IsFrontOf cmd bytes (refusal cmd bytes limits) out err
 
+-- what a command that writes while it reads, and stopped before its report was whole, left in `out`: nothing, or a proper
+-- front of the report; and nothing where the command is refused
+abbrev pub IsLeftOf : Command → List ℕ → Option Refusal → Change → Type 0
+IsLeftOf cmd bytes None out = IsKept out ⊎ GainedFront out (report cmd bytes)
+IsLeftOf cmd bytes (Some why) out = IsKept out
+
+-- such a command left this in `out`, and nothing where it has no file
+pub record HasStopped (cmd : Command) (limits : Numbers) (device : Use) (out : Change) : Type 0 where
+  pub absent : IsMissing device cmd → IsKept out
+  pub told : (bytes : List ℕ) → IsDumpOf device cmd bytes → IsLeftOf cmd bytes (refusal cmd bytes limits) out
+
+-- what a command that stopped before its report was whole left in `out`: nothing, but for `redact`, which writes while it reads
+abbrev pub IsLeft : Command → Numbers → Use → Change → Type 0
+IsLeft (redact file) limits device out = HasStopped (redact file) limits device out
+IsLeft cmd limits device out = IsKept out
+
 -- no more bytes are taken than the command is allowed
 abbrev pub TakesAtMost : Command → Numbers → Use → Type 0
 TakesAtMost cmd limits device =
@@ -74,9 +90,9 @@ Ends cmd limits status device out err =
     ((status ≡ 0) × Reports cmd limits 0 device out err)
     ⊎ ((status ≡ 2) × Refuses cmd limits device out err)
     ⊎ ((status ≡ 3) × Reports cmd limits 3 device out err × IsTrue (finds cmd))
-    ⊎ ((status ≡ 4) × IsUnread device cmd × IsKept out × IsKept err)
+    ⊎ ((status ≡ 4) × IsUnread device cmd × IsLeft cmd limits device out × IsKept err)
     ⊎ ((status ≡ 5) × BreaksOff cmd limits device out err)
-    ⊎ ((status ≡ 6) × IsKept out × IsKept err)
+    ⊎ ((status ≡ 6) × IsLeft cmd limits device out × IsKept err)
 
 -- what a run of a command leaves
 pub record IsRunOf (cmd : Command) (limits : Numbers) (status : ℕ) (device : Use) (out err : Change) : Type 0 where

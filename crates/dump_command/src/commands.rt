@@ -15,6 +15,7 @@ mod make;
 mod memory;
 mod proc;
 mod procs;
+mod redact;
 mod roots;
 mod subjects;
 mod tables;
@@ -35,6 +36,7 @@ use make::run_make;
 use memory::Memory;
 use proc::Proc;
 use procs::ProcessTable;
+use redact::run_redact;
 use report_text::RootKind;
 use roots::Roots;
 use std::alloc::Global;
@@ -138,6 +140,7 @@ pub(crate) fn run_command<D: Dumps, K: Sink>(
             run_report(alloc, &Binary { file, addr }, limits, dumps, out)
         }
         Cmd::Links { file } => run_report(alloc, &Links { file }, limits, dumps, out),
+        Cmd::Redact { file } => run_redact(alloc, file, limits, dumps, out),
         Cmd::Audit { file, limit, full } => {
             let audit = Audit {
                 file,

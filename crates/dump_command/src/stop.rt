@@ -4,6 +4,7 @@ ghost use Rattle.dump_command.specs.Inner.Stops.{or_stop};
 
 use binary_refs::PreviewFault;
 use dump_io::Failed;
+use dump_redact::RedactFault;
 use heap_cells::HeapFault;
 use report_text::Refusal;
 use section_index::{BodyFault, OpenFault};
@@ -85,6 +86,23 @@ impl From<PreviewFault> for Stop {
         match fault {
             PreviewFault::Read => Stop::NotRead,
             PreviewFault::Memory => Stop::NoMemory,
+        }
+    }
+}
+
+impl From<RedactFault> for Stop {
+    ghost use Rattle.dump_command.specs.Inner.Stops.{stop_of_redact};
+
+    ghost from_gives = { λ fault stop. stop ≡ stop_of_redact fault };
+
+    fn from(fault: RedactFault) -> Stop {
+        match fault {
+            RedactFault::SectionTooLarge { at, len } => {
+                Stop::Refused(Refusal::SectionTooLarge { at, len })
+            }
+            RedactFault::Read => Stop::NotRead,
+            RedactFault::Write => Stop::NotWritten,
+            RedactFault::Memory => Stop::NoMemory,
         }
     }
 }

@@ -95,6 +95,10 @@ pub enum Cmd<'a> {
     Links {
         file: &'a str,
     },
+    /// `redact FILE`: the dump with the payloads of its binaries made zero, which is written while it is read.
+    Redact {
+        file: &'a str,
+    },
     /// `audit FILE LIMIT [full]`: the one-sided links and monitors, the message queues that are longer than the limit, and
     /// what can't be read. A full audit also has the links and monitors of processes that aren't in the dump, and the
     /// message queues whose stated length isn't the number of their messages.
@@ -147,6 +151,7 @@ fn file_command<'a>(name: &str, file: &'a str) -> Option<Cmd<'a>>
         "nodes" => Some(Cmd::Nodes { file }),
         "mods" => Some(Cmd::Mods { file }),
         "links" => Some(Cmd::Links { file }),
+        "redact" => Some(Cmd::Redact { file }),
         _ => None,
     }
 }

@@ -7,7 +7,7 @@ use Rattle.report_text.specs.declared.refusals.Refusal.{Refusal}
 use Rattle.report_text.specs.Refusals.{IsRefusal}
 use Rattle.dump_command.specs.Command.{Command}
 use Rattle.dump_command.specs.Report.{report, finds, refusal}
-use Rattle.dump_command.specs.Run.{IsDumpOf, IsMissing, IsUnread, IsReported, TakesAtMost}
+use Rattle.dump_command.specs.Run.{IsDumpOf, IsMissing, IsUnread, IsReported, IsLeft, TakesAtMost}
 use Rattle.dump_command.specs.declared.stop.Stop.{Stop}
 use Rattle.dump_command.specs.declared.stop.Stop.TheVariants.{Refused, NotRead, NotWritten, NoMemory}
 
@@ -36,9 +36,9 @@ pub record IsBrokenOff (cmd : Command) (limits : Numbers) (device : Use) (out : 
 abbrev pub Leaves : Command → Numbers → Use → Change → Result ℕ Stop → Type 0
 Leaves cmd limits device out (Ok status) = IsDone cmd limits device out status
 Leaves cmd limits device out (Err (Refused why)) = IsRefusedFor cmd limits device why × IsKept out
-Leaves cmd limits device out (Err NotRead) = IsUnread device cmd × IsKept out
+Leaves cmd limits device out (Err NotRead) = IsUnread device cmd × IsLeft cmd limits device out
 Leaves cmd limits device out (Err NotWritten) = IsBrokenOff cmd limits device out
-Leaves cmd limits device out (Err NoMemory) = IsKept out
+Leaves cmd limits device out (Err NoMemory) = IsLeft cmd limits device out
 
 -- a command ended: with its status, or with why its report isn't whole
 pub record Runs (cmd : Command) (limits : Numbers) (device : Use) (out : Change) (ended : Result ℕ Stop) : Type 0 where

@@ -4,6 +4,8 @@ use Rattle.section_index.specs.declared.bodies.BodyFault.{BodyFault}
 use Rattle.section_index.specs.declared.bodies.BodyFault.TheVariants as body_faults
 use Rattle.section_index.specs.declared.opening.OpenFault.{OpenFault}
 use Rattle.section_index.specs.declared.opening.OpenFault.TheVariants as open_faults
+use Rattle.dump_redact.specs.declared.faults.RedactFault.{RedactFault}
+use Rattle.dump_redact.specs.declared.faults.RedactFault.TheVariants as redact_faults
 use Rattle.report_text.specs.declared.refusals.Refusal.TheVariants.{Open, SectionTooLarge}
 use Rattle.report_text.specs.Refusals.{IsRefusal, refusal_line}
 use Rattle.dump_io.specs.Sinks.{Change, IsKept}
@@ -27,6 +29,18 @@ stop_of_body (body_faults.SectionTooLarge at len) = Refused (SectionTooLarge at 
 abbrev pub or_stop : {T : Type 0} → Result T BodyFault → Result T Stop
 or_stop (Ok value) = Ok value
 or_stop (Err fault) = Err (stop_of_body fault)
+
+-- what stops `redact`
+abbrev pub stop_of_redact : RedactFault → Stop
+stop_of_redact (redact_faults.SectionTooLarge at len) = Refused (SectionTooLarge at len)
+stop_of_redact redact_faults.Read = NotRead
+stop_of_redact redact_faults.Write = NotWritten
+stop_of_redact redact_faults.Memory = NoMemory
+
+-- how `redact` ended
+abbrev pub redact_end : Result (Unit {0}) RedactFault → Result ℕ Stop
+redact_end (Ok written) = Ok 0
+redact_end (Err fault) = Err (stop_of_redact fault)
 
 -- a refusal that has a line
 abbrev pub IsProper : Stop → Type 0

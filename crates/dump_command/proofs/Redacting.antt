@@ -1,0 +1,144 @@
+-- What a run of `redact` leaves.
+use Rattle.std.proofs.Common.{◌≡◌, ◌≤◌, ℕ, List, Option, None, Some, Result, Ok, Err, refl, sym, ◌∙◌, ap, subst, inl, inr, arith}
+use Rattle.std.specs.Prelude.{IfErr, IsErrOf, IsSome, OnOk}
+use Rattle.std.specs.Option.{option_map, option_or}
+use Rattle.dump_io.specs.Dumps.{Files, Now, told, Use, used, ReadsAtMost}
+use Rattle.dump_io.specs.Limits.{Numbers}
+use Rattle.dump_io.specs.Sinks.{Change, GainedFront, IsKept, WritesAll}
+use Rattle.section_index.specs.Bodies.{body_length}
+use Rattle.section_index.specs.Index.{Contents, sections_in}
+use Rattle.section_index.specs.Sections.{Section}
+use Rattle.dump_redact.specs.Redacted.{redacted}
+use Rattle.dump_redact.specs.Refusals.{first_large, heap_sections, large_fault, IsCauseOf}
+use Rattle.dump_redact.specs.declared.faults.RedactFault.{RedactFault}
+use Rattle.dump_redact.specs.declared.faults.RedactFault.TheVariants as faults
+use Rattle.report_text.specs.declared.refusals.Refusal.{Refusal}
+use Rattle.report_text.specs.declared.refusals.Refusal.TheVariants.{SectionTooLarge}
+use Rattle.dump_command.specs.Command.{redact}
+use Rattle.dump_command.specs.Report.{refusal}
+use Rattle.dump_command.specs.Run.{HasStopped, IsDumpOf, IsLeftOf}
+use Rattle.dump_command.specs.Inner.Opened.{HasOpened, IsIndexed}
+use Rattle.dump_command.specs.Inner.Reading.{Takes}
+use Rattle.dump_command.specs.Inner.Runs.{Runs}
+use Rattle.dump_command.specs.Inner.Stops.{redact_end}
+use Rattle.dump_command.proofs.Reading.{ReadsAtMost-same}
+use Rattle.dump_command.proofs.Runs.{through, IsThrough}
+
+-- the refusal of the first heap that is too large, as the command's and as that of the call
+abbrev as_refusal : Option Section → Option Refusal
+as_refusal large = option_map (λ s. SectionTooLarge s.at (body_length s)) large
+
+abbrev as_fault : Option Section → Option RedactFault
+as_fault large = option_map (λ s. faults.SectionTooLarge s.at (body_length s)) large
+
+-- where the one is there the other is
+is-fault : (large : Option Section) → IsSome (as_refusal large) → IsSome (as_fault large)
+is-fault None some = some
+is-fault (Some s) some = refl
+
+-- where the call has none the command has none
+no-refusal : (large : Option Section) → as_fault large ≡ None → as_refusal large ≡ None
+no-refusal None none = refl
+no-refusal (Some s) none = absurd (let no : ⊥ = cc none in no)
+
+same-refusal : (large : Option Section) (at len : ℕ) → as_fault large ≡ Some (faults.SectionTooLarge at len) → as_refusal large ≡ Some (SectionTooLarge at len)
+same-refusal None at len is = absurd (let no : ⊥ = cc is in no)
+same-refusal (Some s) at len is = let place : s.at ≡ at = cc is in let size : body_length s ≡ len = cc is in ap (λ n. Some (SectionTooLarge n (body_length s))) place ∙ ap (λ n. Some (SectionTooLarge at n)) size
+
+-- a dump that was opened and redacted, with what the call says of reads and of a heap that is too large
+module _ {D : Type 0} (files : D → Option Files) (now : D → Now) (faults_of taken : D → ℕ) (a b c : D) (file : List ℕ) (limits : Numbers) (index : Contents) (out : Change)
+    (opened : HasOpened file limits (used files now faults_of taken a b) index) (reads : ReadsAtMost (used files now faults_of taken b c) index.size)
+    (unread : IsSome (large_fault limits.section (sections_in index)) → c ≡ b) (unwritten : IsSome (large_fault limits.section (sections_in index)) → IsKept out) where
+  -- the dump from its opening on
+  abbrev pub device : Use
+  device = used files now faults_of taken a c
+
+  abbrev large : Option Section
+  large = first_large limits.section (heap_sections (sections_in index))
+
+  takes : Takes (redact file) limits index (used files now faults_of taken b c)
+  takes =
+      record {
+        bytes = index.size;
+        reads = reads;
+        few = λ all indexed. omega (arith, indexed.of.size);
+        unread = λ some. ReadsAtMost-same files now faults_of taken _ _ _ reads (unread (is-fault large some));
+      }
+
+  known : IsThrough (redact file) limits index (now b) device
+  known = through files now faults_of taken a b c (redact file) file limits index refl opened takes
+
+  -- the command is refused for that heap alone
+  refused : (bytes : List ℕ) → IsDumpOf device (redact file) bytes → refusal (redact file) bytes limits ≡ as_refusal large
+  refused bytes dump = (known.told bytes dump).1 ∙ by large
+    where
+      by : (o : Option Section) → option_or (as_refusal o) None ≡ as_refusal o
+      by None = refl
+      by (Some s) = refl
+
+  -- what is left where the call failed
+  left : (bytes : List ℕ) → IsDumpOf device (redact file) bytes → GainedFront out (redacted bytes) → IsLeftOf (redact file) bytes (refusal (redact file) bytes limits) out
+  left bytes dump front = subst (λ r. IsLeftOf (redact file) bytes r out) (sym (refused bytes dump)) (by large refl)
+    where
+      by : (o : Option Section) → large ≡ o → IsLeftOf (redact file) bytes (as_refusal o) out
+      by None e = inr front
+      by (Some s) e = unwritten (subst (λ o. IsSome (as_fault o)) (sym e) refl)
+
+  -- where the call says that no heap is too large nothing is refused
+  accepted : (bytes : List ℕ) → IsDumpOf device (redact file) bytes → as_fault large ≡ None → refusal (redact file) bytes limits ≡ None
+  accepted bytes dump none = refused bytes dump ∙ no-refusal large none
+
+  stopped : ((bytes : List ℕ) → now b ≡ told bytes → GainedFront out (redacted bytes)) → HasStopped (redact file) limits device out
+  stopped front =
+      record { absent = λ gone. absurd (known.there gone); told = λ bytes dump. left bytes dump (front bytes (known.told bytes dump).0.opened) }
+
+  pub Runs-redact : (result : Result (Unit {0}) RedactFault) → ((bytes : List ℕ) → now b ≡ told bytes → WritesAll out.before out.after (redacted bytes) result)
+      → IfErr result (IsCauseOf (large_fault limits.section (sections_in index)) (used files now faults_of taken b c) out)
+      → OnOk result (large_fault limits.section (sections_in index) ≡ None)
+      → ((fault : RedactFault) → large_fault limits.section (sections_in index) ≡ Some fault → IsErrOf result fault)
+      → Runs (redact file) limits device out (redact_end result)
+  Runs-redact (Ok done) writes cause none too_large =
+      record {
+        left = record {
+          there = known.there;
+          ends = inl refl;
+          told = λ bytes dump. record { accepted = accepted bytes dump none; ends = refl; written = (writes bytes (known.told bytes dump).0.opened).whole };
+        };
+        gone = λ gone. absurd (known.there gone);
+        taken = known.taken;
+      }
+  Runs-redact (Err (faults.SectionTooLarge at len)) writes cause none too_large =
+      record {
+        left = (
+          record { proper = tt; there = known.there; told = λ bytes dump. refused bytes dump ∙ same-refusal large at len cause },
+          unwritten (subst IsSome (sym cause) refl),
+        );
+        gone = λ gone. absurd (known.there gone);
+        taken = known.taken;
+      }
+  Runs-redact (Err faults.Read) writes cause none too_large =
+      record {
+        left = (inl (omega (arith, cause, opened.later)), stopped (λ bytes told_is. (writes bytes told_is).front));
+        gone = λ gone. absurd (known.there gone);
+        taken = known.taken;
+      }
+  Runs-redact (Err faults.Write) writes cause none too_large =
+      record {
+        left = record {
+          there = known.there;
+          failed = cause;
+          told = λ bytes dump. (accepted bytes dump (by large refl), (writes bytes (known.told bytes dump).0.opened).front);
+        };
+        gone = λ gone. absurd (known.there gone);
+        taken = known.taken;
+      }
+    where
+      by : (o : Option Section) → large ≡ o → as_fault large ≡ None
+      by None e = ap as_fault e
+      by (Some s) e = absurd (let no : ⊥ = cc (too_large (faults.SectionTooLarge s.at (body_length s)) (ap as_fault e)) in no)
+  Runs-redact (Err faults.Memory) writes cause none too_large =
+      record {
+        left = stopped (λ bytes told_is. (writes bytes told_is).front);
+        gone = λ gone. absurd (known.there gone);
+        taken = known.taken;
+      }
