@@ -1,0 +1,153 @@
+-- As many rounds as there are cells find what a set reaches.
+use Rattle.std.proofs.Common.{◌≡◌, ℕ, zero, suc, ◌+◌, ◌<◌, ◌≤◌, Bool, true, false, ◌&&◌, ◌⊎◌, length, List, refl, ◌∙◌, ap, subst, inl, inr, arith}
+use Rattle.std.proofs.lemmas.Bool.{and_parts, cases_lt, false≢true, or_cases, or_left, or_right}
+use Rattle.heap_cells.specs.Cells.{Cell}
+use Rattle.heap_reach.specs.Reached.{Leads, Reached, root, step}
+use Rattle.heap_reach.specs.Rounds.{after_rounds, is_led, leads_to, reached_from}
+use Rattle.heap_reach.specs.Unreached.{count_below, one_if}
+use Rattle.heap_reach.proofs.Leading.{leads-from, leads-tested, leads-within, tested-leads}
+use Rattle.heap_reach.proofs.Spreading.{reached-closed}
+
+-- ---- how many of the first n numbers are in a set
+
+count-most : (p : ℕ → Bool) (n : ℕ) → count_below p n ≤ n
+count-most p zero = omega arith
+count-most p (suc n) = omega (arith, count-most p n, one-most (p n))
+  where
+    one-most : (b : Bool) → one_if b ≤ 1
+    one-most true = omega arith
+    one-most false = omega arith
+
+-- one more number of a smaller and a greater set
+count-step : (a b : Bool) (x y : ℕ) → x ≤ y → (a ≡ true → b ≡ true) → (x + one_if a < y + one_if b) ⊎ ((x + one_if a ≤ y + one_if b) × (b ≡ true → a ≡ true))
+count-step true true x y le more = inr (omega (arith, le), λ is. refl)
+count-step true false x y le more = absurd (false≢true (more refl))
+count-step false true x y le more = inl (omega (arith, le))
+count-step false false x y le more = inr (omega (arith, le), λ is. is)
+
+-- a greater set has more of the first n numbers, or the same ones
+abbrev IsMore : (ℕ → Bool) → (ℕ → Bool) → ℕ → Type 0
+IsMore p q n = (count_below p n < count_below q n) ⊎ ((count_below p n ≤ count_below q n) × ((k : ℕ) → k < n → q k ≡ true → p k ≡ true))
+
+same-below : (p q : ℕ → Bool) (n : ℕ) → ((k : ℕ) → k < n → q k ≡ true → p k ≡ true) → (q n ≡ true → p n ≡ true) → (k : ℕ) → k < suc n → q k ≡ true → p k ≡ true
+same-below p q n before here k lt is =
+    elim (cases_lt k n) [
+      | inl less ↦ before k less is
+      | inr past ↦ let same : n ≡ k = omega (arith, lt, past) in subst (λ j. q j ≡ true → p j ≡ true) same here is
+    ]
+
+count-more : (p q : ℕ → Bool) (n : ℕ) → ((k : ℕ) → p k ≡ true → q k ≡ true) → IsMore p q n
+count-more p q zero more = inr (omega arith, λ k lt. absurd (omega (arith, lt)))
+count-more p q (suc n) more =
+    elim (count-more p q n more) [
+      | inl less ↦ inl (less-step (p n) (q n) less (more n))
+      | inr same ↦ elim (count-step (p n) (q n) (count_below p n) (count_below q n) same.0 (more n)) [
+        | inl less ↦ inl less
+        | inr here ↦ inr (here.0, same-below p q n same.1 here.1)
+      ]
+    ]
+  where
+    less-step : (a b : Bool) → count_below p n < count_below q n → (a ≡ true → b ≡ true) → count_below p n + one_if a < count_below q n + one_if b
+    less-step true true less up = omega (arith, less)
+    less-step true false less up = absurd (false≢true (up refl))
+    less-step false true less up = omega (arith, less)
+    less-step false false less up = omega (arith, less)
+
+-- a set that has as many of them as there are has each
+count-all : (p : ℕ → Bool) (n : ℕ) → n ≤ count_below p n → (k : ℕ) → k < n → p k ≡ true
+count-all p zero many k lt = absurd (omega (arith, lt))
+count-all p (suc n) many k lt =
+    elim (cases_lt k n) [
+      | inl less ↦ count-all p n (omega (arith, many, one-most (p n))) k less
+      | inr past ↦ let same : n ≡ k = omega (arith, lt, past) in subst (λ j. p j ≡ true) same (last (p n) many)
+    ]
+  where
+    one-most : (b : Bool) → one_if b ≤ 1
+    one-most true = omega arith
+    one-most false = omega arith
+
+    last : (b : Bool) → suc n ≤ count_below p n + one_if b → b ≡ true
+    last true all = refl
+    last false all = absurd (omega (arith, all, count-most p n))
+
+module _ (cells : List Cell) where
+  -- ---- one round
+
+  led-true : (set : ℕ → Bool) (count m n : ℕ) → m < count → set m ≡ true → Leads cells m n → is_led cells set count n ≡ true
+  led-true set zero m n lt is leads = absurd (omega (arith, lt))
+  led-true set (suc c) m n lt is leads =
+      elim (cases_lt m c) [
+        | inl less ↦ or_left (is_led cells set c n) (set c && leads_to cells c n) (led-true set c m n less is leads)
+        | inr past ↦
+            let same : m ≡ c = omega (arith, lt, past) in
+            or_right (is_led cells set c n) (set c && leads_to cells c n)
+            (subst (λ j. (set j && leads_to cells j n) ≡ true) same (ap (λ b. b && leads_to cells m n) is ∙ leads-tested cells m n leads))
+      ]
+
+  true-led : (set : ℕ → Bool) (count n : ℕ) → is_led cells set count n ≡ true → (m : ℕ) × (set m ≡ true) × Leads cells m n
+  true-led set zero n is = absurd (false≢true is)
+  true-led set (suc c) n is =
+      elim (or_cases (is_led cells set c n) (set c && leads_to cells c n) is) [
+        | inl before ↦ true-led set c n before
+        | inr here ↦ let both = and_parts (set c) (leads_to cells c n) here in (c, both.0, tested-leads cells c n both.1)
+      ]
+
+  -- the set has, with a cell, each to which that leads
+  abbrev IsShut : (ℕ → Bool) → Type 0
+  IsShut set = (m n : ℕ) → set m ≡ true → Leads cells m n → set n ≡ true
+
+  module _ (begun : ℕ → Bool) where
+    abbrev rounds : ℕ → ℕ → Bool
+    rounds k = after_rounds k cells begun
+
+    round-kept : (k n : ℕ) → rounds k n ≡ true → rounds (suc k) n ≡ true
+    round-kept k n is = or_left (rounds k n) (is_led cells (rounds k) (length cells) n) is
+
+    -- with a cell of the set the next has each to which that leads
+    round-leads : (k m n : ℕ) → rounds k m ≡ true → Leads cells m n → rounds (suc k) n ≡ true
+    round-leads k m n is leads =
+        or_right (rounds k n) (is_led cells (rounds k) (length cells) n) (led-true (rounds k) (length cells) m n (leads-from cells m n leads) is leads)
+
+    shut-next : (k : ℕ) → IsShut (rounds k) → IsShut (rounds (suc k))
+    shut-next k shut m n is leads =
+        round-kept k n (shut m n (elim (or_cases (rounds k m) (is_led cells (rounds k) (length cells) m) is) [
+          | inl was ↦ was
+          | inr led ↦ let l = true-led (rounds k) (length cells) m led in shut l.0 m l.1 l.2
+        ]) leads)
+
+    -- each round adds a cell, until the set is closed
+    shut-or-many : (k : ℕ) → IsShut (rounds k) ⊎ (k ≤ count_below (rounds k) (length cells))
+    shut-or-many zero = inr (omega arith)
+    shut-or-many (suc k) =
+        elim (shut-or-many k) [
+          | inl shut ↦ inl (shut-next k shut)
+          | inr many ↦ elim (count-more (rounds k) (rounds (suc k)) (length cells) (round-kept k)) [
+            | inl less ↦ inr (omega (arith, many, less))
+            | inr same ↦ inl (shut-next k (λ m n is leads. same.1 n (leads-within cells m n leads) (round-leads k m n is leads)))
+          ]
+        ]
+
+    shut-end : IsShut (rounds (length cells))
+    shut-end =
+        elim (shut-or-many (length cells)) [
+          | inl shut ↦ shut
+          | inr many ↦ λ m n is leads. count-all (rounds (length cells)) (length cells) many n (leads-within cells m n leads)
+        ]
+
+    begun-kept : (k n : ℕ) → begun n ≡ true → rounds k n ≡ true
+    begun-kept zero n is = is
+    begun-kept (suc k) n is = round-kept k n (begun-kept k n is)
+
+    round-reached : (k n : ℕ) → rounds k n ≡ true → Reached cells (λ j. begun j ≡ true) n
+    round-reached zero n is = root n is
+    round-reached (suc k) n is =
+        elim (or_cases (rounds k n) (is_led cells (rounds k) (length cells) n) is) [
+          | inl was ↦ round-reached k n was
+          | inr led ↦ let l = true-led (rounds k) (length cells) n led in step l.0 n (round-reached k l.0 l.1) l.2
+        ]
+
+    pub found-reached : (n : ℕ) → reached_from cells begun n ≡ true → Reached cells (λ j. begun j ≡ true) n
+    found-reached n is = round-reached (length cells) n is
+
+    pub reached-found : (n : ℕ) → Reached cells (λ j. begun j ≡ true) n → reached_from cells begun n ≡ true
+    reached-found n is = reached-closed cells (λ j. begun j ≡ true) (λ j. rounds (length cells) j ≡ true) n is (begun-kept (length cells)) shut-end

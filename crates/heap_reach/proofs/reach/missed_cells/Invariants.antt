@@ -1,0 +1,7 @@
+use Rattle.std.proofs.Common.{◌≡◌}
+use Rattle.heap_reach.specs.Reached.{is_in}
+use Rattle.heap_reach.specs.Unreached.{missed_below}
+use Rattle.heap_reach.proofs.reach.missed_cells.Given as goal
+
+abbrev pub invariant-loop-n : goal.invariant-loop-n
+invariant-loop-n l = l.found.items ≡ missed_below l.heap.cells (is_in l.marked.marks) l.n

@@ -1,0 +1,55 @@
+-- Marked cells, and those of them that wait to be looked at.
+use Rattle.std.specs.Prelude.{◌≡◌, ℕ, ◌+◌, ◌≤◌, ◌⊎◌, Bool, true, false, nat_eq, List, [], length}
+use Rattle.std.specs.List.{list_any, sum_by, IsDistinct}
+use Rattle.heap_cells.specs.Cells.{Cell}
+use Rattle.heap_reach.specs.Reached.{IsIn, Leads, IsClosed}
+
+pub record Frontier : Type 0 where
+  pub marks : List Bool
+  -- for how many entries memory is taken
+  pub reserved : ℕ
+  -- the cell that came last is the first one
+  pub waiting : List ℕ
+
+abbrev pub is_on : ℕ → List ℕ → Bool
+is_on cell cells = list_any (nat_eq cell) cells
+
+abbrev pub Waits : Frontier → ℕ → Type 0
+Waits f n = is_on n f.waiting ≡ true
+
+-- the cells that wait are marked, each waits once, and there is room for exactly as many as there are marks
+pub record IsTied (marks : List Bool) (capacity : ℕ) (waiting : List ℕ) : Type 0 where
+  pub room : capacity ≡ length marks
+  pub distinct : IsDistinct nat_eq waiting
+  pub marked : (n : ℕ) → is_on n waiting ≡ true → IsIn marks n
+  pub bound : length waiting ≤ length marks
+
+abbrev pub unmarked : Bool → ℕ
+unmarked true = 0
+unmarked false = 1
+
+-- what is still to be done: the cells that aren't marked, and those that wait
+abbrev pub work : Frontier → ℕ
+work f = sum_by unmarked f.marks + length f.waiting
+
+-- the cells of a set are marked, and those that weren't before have come to wait
+pub record Adds (old new : Frontier) (P : ℕ → Type 0) : Type 0 where
+  pub cells : length new.marks ≡ length old.marks
+  pub room : new.reserved ≡ old.reserved
+  pub had : (n : ℕ) → IsIn old.marks n → IsIn new.marks n
+  pub gets : (n : ℕ) → P n → IsIn new.marks n
+  pub only : (n : ℕ) → IsIn new.marks n → IsIn old.marks n ⊎ P n
+  pub kept : (n : ℕ) → Waits old n → Waits new n
+  pub waits : (n : ℕ) → IsIn new.marks n → IsIn old.marks n ⊎ Waits new n
+  pub work : work new ≡ work old
+
+-- all that was looked at leads to marked cells alone
+abbrev pub IsLooked : List Cell → Frontier → Type 0
+IsLooked cells f = (m n : ℕ) → IsIn f.marks m → Leads cells m n → Waits f m ⊎ IsIn f.marks n
+
+-- no cell waits, the set is closed, and there is room for exactly as many entries as there are cells
+pub record IsSettled (cells : List Cell) (f : Frontier) : Type 0 where
+  pub size : length f.marks ≡ length cells
+  pub room : f.reserved ≡ length cells
+  pub empty : f.waiting ≡ []
+  pub closed : IsClosed cells f.marks

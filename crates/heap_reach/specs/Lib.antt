@@ -1,0 +1,5 @@
+pub mod Inner
+pub mod Laws
+pub mod Reached
+pub mod Rounds
+pub mod Unreached

@@ -1,0 +1,61 @@
+-- The cells that roots reach: the least set that holds the roots and, with each of its cells, those to which that leads.
+-- Cells are told by their numbers.
+use Rattle.std.specs.Prelude.{◌≡◌, ℕ, Bool, true, false, ◌⊎◌, List, map, slice_get, slice_index_or, Some}
+use Rattle.std.specs.Option.{option_map}
+use Rattle.term_forms.specs.Elements.{Element}
+use Rattle.term_forms.specs.Forms.{SubBin}
+use Rattle.heap_cells.specs.declared.cells.Kind.TheVariants.{HeapBin}
+use Rattle.heap_cells.specs.Cells.{Cell, kind_of}
+use Rattle.heap_cells.specs.HeapMap.{HeapMap, elements_at, form_at, number_at}
+use Rattle.heap_cells.specs.Targets.{Target, At, target}
+
+-- where the elements of a cell's form lead, the keys element of a flat map among them; a malformed cell has none
+abbrev pub targets_at : List Cell → ℕ → List Target
+targets_at cells number = map (target cells) (elements_at cells number)
+
+-- one of the targets is the cell
+abbrev pub IsAmong : List Target → ℕ → Type 0
+IsAmong targets n = (k : ℕ) × (slice_get targets k ≡ Some (At n))
+
+-- at the address stands the cell, and it is a binary
+pub record IsBinAt (cells : List Cell) (address n : ℕ) : Type 0 where
+  pub seat : number_at cells address ≡ Some n
+  pub bin : option_map kind_of (form_at cells n) ≡ Some HeapBin
+
+-- the cell is a part of a binary, and at the binary's address the heap has the other, a binary
+pub record IsPartOf (cells : List Cell) (m n : ℕ) : Type 0 where
+  pub address : ℕ
+  pub offset : ℕ
+  pub size : ℕ
+  pub form : form_at cells m ≡ Some (SubBin address offset size)
+  pub bin : IsBinAt cells address n
+
+-- an element of the cell's form refers to the other, or the cell is a part of the other
+abbrev pub Leads : List Cell → ℕ → ℕ → Type 0
+Leads cells m n = IsAmong (targets_at cells m) n ⊎ IsPartOf cells m n
+
+-- what roots reach: the roots themselves, and each cell to which one leads that is reached
+pub data Reached (cells : List Cell) (Root : ℕ → Type 0) : ℕ → Type 0 where
+  root : (n : ℕ) → Root n → Reached cells Root n
+  step : (m n : ℕ) → Reached cells Root m → Leads cells m n → Reached cells Root n
+
+-- a set of cells, by one mark for each: whether a cell is in it
+abbrev pub is_in : List Bool → ℕ → Bool
+is_in marks n = slice_index_or marks n false
+
+abbrev pub IsIn : List Bool → ℕ → Type 0
+IsIn marks n = is_in marks n ≡ true
+
+-- the cells of a set, and the one to which an element refers
+abbrev pub Begun : List Cell → List Bool → Element → ℕ → Type 0
+Begun cells marks e n = IsIn marks n ⊎ (target cells e ≡ At n)
+
+-- a set that has, with a cell, each to which that leads
+abbrev pub IsClosed : List Cell → List Bool → Type 0
+IsClosed cells marks = (m n : ℕ) → IsIn marks m → Leads cells m n → IsIn marks n
+
+-- a heap, which of its cells are reached, and for how many cells still to be looked at memory is taken
+pub record Reaching : Type 0 where
+  pub heap : HeapMap
+  pub marks : List Bool
+  pub reserved : ℕ
