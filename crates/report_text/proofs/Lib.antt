@@ -1,5 +1,6 @@
 pub mod FindingFacts
 pub mod LinkFacts
 pub mod TableFacts
+pub mod ReachFacts
 pub mod RootFacts
 pub mod HexFacts
