@@ -40,7 +40,7 @@ use Rattle.dump_command.specs.Inner.Stops.{stop_of_body}
 use Rattle.dump_command.specs.Inner.TermStops.{Judges, stop_of_heap, stop_of_previews}
 use Rattle.dump_command.specs.declared.stop.Stop.{Stop}
 use Rattle.dump_command.specs.declared.stop.Stop.TheVariants.{Refused}
-use Rattle.dump_command.proofs.Heaps.{bytes-heap, cells-index, dense-small, enc-index, fault-heap, heap-small, heap-too-large, too_large-append, weight-index}
+use Rattle.dump_command.proofs.Heaps.{bytes-heap, cells-index, dense-small, enc-index, fault-heap, heap-small, heap-too-large, own-index, too_large-append, weight-index}
 use Rattle.dump_command.proofs.Places.{section-found}
 use Rattle.dump_command.proofs.Reading.{body_fault, is_some-map, refused, StopsFor-judged, StopsFor-large, StopsFor-too, Takes-listed}
 use Rattle.dump_command.proofs.Runs.{sections-index}
@@ -134,6 +134,7 @@ module _ (pid : List ℕ) (before : List Section) (limits : Numbers) (index : Co
         sparse = λ bytes all. too_dense-within limits.dense pid bytes index all.of (answers bytes all.opened).1;
         enc = λ bytes all. enc-index pid bytes index heap all.of enc;
         cells = λ bytes all. cells-index pid bytes index heap all.of (answers bytes all.opened).0;
+        own = λ bytes all. own-index pid bytes index heap all.of (answers bytes all.opened).0;
       }
 
   -- where a refusal stands before the bodies the load of the heap reads nothing
@@ -197,6 +198,10 @@ module _ (cmd : Command) (pid : List ℕ) (before : List Section) (limits : Numb
     pub Takes-heap : ReadsAtMost step (body_size (heap_section index pid) + body_size (literals_section index)) → Takes cmd limits index step
     Takes-heap reads = Takes-listed cmd limits index step _ (none-listed step.now_before heap holds) reads (λ bytes all. omega (arith, of.few bytes, bytes-loaded bytes all.of))
 
+    -- and so were the bodies before it
+    pub Takes-all : (count : ℕ) → ReadsAtMost step count → count ≤ bodies_length before + (body_size (heap_section index pid) + body_size (literals_section index)) → Takes cmd limits index step
+    Takes-all count reads few = Takes-listed cmd limits index step count (none-listed step.now_before heap holds) reads (λ bytes all. omega (arith, few, of.few bytes, bytes-loaded bytes all.of))
+
     -- and so were the previews of its references to binaries
     pub Takes-previews : (count : ℕ) → ((bytes : List ℕ) → bodies_length (bodies cmd (sections bytes)) + 128 * binary_count pid bytes ≤ reread cmd bytes) → ReadsAtMost step count
         → count ≤ bodies_length before + (body_size (heap_section index pid) + body_size (literals_section index)) + 128 * length (binaries heap.cells)
@@ -220,7 +225,7 @@ small-fault None is = refl
 small-fault (Some s) is = absurd (let no : ⊥ = cc (is) in no)
 
 -- the body that is read behind the heap isn't too large
-small-before : (pid : List ℕ) (before : List Section) (limits : Numbers) (index : Contents) (now : Now) (heap : HeapMap) → HoldsHeap pid before limits index now heap
+pub small-before : (pid : List ℕ) (before : List Section) (limits : Numbers) (index : Contents) (now : Now) (heap : HeapMap) → HoldsHeap pid before limits index now heap
     → too_large limits.section before ≡ None
 small-before pid before limits index now heap holds =
     let bodies = heap_bodies pid (sections_in index) in

@@ -8,7 +8,7 @@ use Rattle.section_index.specs.Index.{Contents, IsIndexOf, sections_in}
 use Rattle.section_index.specs.Laws.{index-is}
 use Rattle.section_index.specs.Lookups.{has_tag, is_named}
 use Rattle.section_index.specs.Sections.{Section}
-use Rattle.heap_cells.specs.Cells.{cells_of, weight}
+use Rattle.heap_cells.specs.Cells.{cells_of, own_count, weight}
 use Rattle.heap_cells.specs.HeapMap.{HeapMap}
 use Rattle.heap_cells.specs.Loading.{body_in, body_size, enc_of, heap_section, literals_section, section_fault, IsMapOf, too_large as heap_too_large}
 use Rattle.heap_cells.specs.declared.faults.HeapFault.{HeapFault}
@@ -147,6 +147,14 @@ cells-index pid bytes index heap of map =
     ∙ ap (λ e. cells_of e (body_in bytes (heap_section index pid)) (body_in bytes (literals_section index))) (payloads-index bytes index of)
     ∙ ap (λ h. cells_of (payloads_of bytes) h (body_in bytes (literals_section index))) (heap_body-index pid bytes index of)
     ∙ ap (cells_of (payloads_of bytes) (heap_body pid bytes)) (literals_body-index bytes index of)
+
+pub own-index : (pid bytes : List ℕ) (index : Contents) (heap : HeapMap) → IsIndexOf bytes index
+    → IsMapOf (enc_of index.version) (body_in bytes (heap_section index pid)) (body_in bytes (literals_section index)) heap
+    → heap.own ≡ (heap_map pid bytes).own
+own-index pid bytes index heap of map =
+    map.own
+    ∙ ap (λ e. own_count e (body_in bytes (heap_section index pid))) (payloads-index bytes index of)
+    ∙ ap (own_count (payloads_of bytes)) (heap_body-index pid bytes index of)
 
 pub weight-index : (pid bytes : List ℕ) (index : Contents) → IsIndexOf bytes index
     → weight (enc_of index.version) (body_in bytes (heap_section index pid)) (body_in bytes (literals_section index))

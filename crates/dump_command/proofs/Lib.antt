@@ -9,6 +9,7 @@ pub mod Info
 pub mod LongWords
 pub mod Opened
 pub mod Places
+pub mod Reaching
 pub mod Reading
 pub mod Redacting
 pub mod Runs

@@ -5,6 +5,7 @@ pub mod Fields
 pub mod Heaps
 pub mod Info
 pub mod Opened
+pub mod ReachLoads
 pub mod Reading
 pub mod Runs
 pub mod Stops

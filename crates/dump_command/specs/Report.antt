@@ -11,6 +11,7 @@ use Rattle.section_index.specs.Sections.{Section, section, sections, tag_of}
 use Rattle.section_index.specs.Tags.{tag_counts}
 use Rattle.report_text.specs.declared.refusals.Refusal.{Refusal}
 use Rattle.report_text.specs.declared.refusals.Refusal.TheVariants.{Open, NoProcess, SectionTooLarge}
+use Rattle.report_text.specs.declared.root_report.RootKind.TheVariants.{Stack, Dict, Mail}
 use Rattle.report_text.specs.Reports.{index_report, info_report}
 use Rattle.report_text.specs.Tables.{fields_report, procs_report, rows_report}
 use Rattle.report_text.specs.Tallies.{trial_report}
@@ -28,9 +29,9 @@ use Rattle.dump_redact.specs.Redacted.{redacted}
 use Rattle.dump_redact.specs.Refusals.{heap_sections}
 use Rattle.audit_bodies.specs.Mailboxes.{audited_sections}
 use Rattle.dump_command.specs.Audits.{audit_in, status_of}
-use Rattle.dump_command.specs.Command.{Command, index, info, procs, proc, memory, table, roots, term, ext, binary, links, redact, audit, make, trial, file_of}
+use Rattle.dump_command.specs.Command.{Command, index, info, procs, proc, memory, table, roots, term, ext, reach, binary, links, redact, audit, make, trial, file_of}
 use Rattle.heap_cells.specs.Loading.{body_in}
-use Rattle.dump_command.specs.Terms.{base_of, binary_at, binary_cause, bad_binary, binary_count, binary_of, ext_of, heap_map, heap_of, literals_of, no_address, no_external, roots_of, roots_section, term_of, too_dense}
+use Rattle.dump_command.specs.Terms.{base_of, binary_at, binary_cause, bad_binary, binary_count, binary_of, ext_of, heap_map, heap_of, literals_of, no_address, no_external, reach_of, roots_of, roots_section, term_of, too_dense}
 
 -- the first of these sections
 abbrev pub first_section : List Section → Section
@@ -53,6 +54,10 @@ one_of (Some s) = s ∷ []
 abbrev pub heap_bodies : List ℕ → List Section → List Section
 heap_bodies pid sections = one_of (heap_of pid sections) ++ one_of (literals_of sections)
 
+-- the stack, the dictionary and the mailbox of a process
+abbrev pub root_bodies : List ℕ → List Section → List Section
+root_bodies pid sections = (one_of (roots_section Stack pid sections) ++ one_of (roots_section Dict pid sections)) ++ one_of (roots_section Mail pid sections)
+
 -- the bodies that a command loads, in the order in which they are judged and read
 abbrev pub bodies : Command → List Section → List Section
 bodies (index file) sections = []
@@ -64,6 +69,7 @@ bodies (table kind file) sections = listed kind sections
 bodies (roots kind file pid nodes marked) sections = one_of (roots_section kind pid sections) ++ heap_bodies pid sections
 bodies (term file pid addr nodes marked) sections = heap_bodies pid sections
 bodies (ext file pid addr) sections = heap_bodies pid sections
+bodies (reach file pid) sections = root_bodies pid sections ++ heap_bodies pid sections
 bodies (binary file addr) sections = one_of (binary_at addr sections)
 bodies (links file) sections = record_sections sections
 bodies (redact file) sections = heap_sections sections
@@ -96,6 +102,7 @@ report (table kind file) bytes = rows_report (table_of kind bytes)
 report (roots kind file pid nodes marked) bytes = roots_of kind pid nodes marked bytes
 report (term file pid addr nodes marked) bytes = term_of pid addr nodes marked bytes
 report (ext file pid addr) bytes = ext_of pid addr bytes
+report (reach file pid) bytes = reach_of pid bytes
 report (binary file addr) bytes = binary_of addr bytes
 report (links file) bytes = links_report (process_table bytes).processes
 report (redact file) bytes = redacted bytes
@@ -123,6 +130,7 @@ no_subject (proc file pid) sections = no_process pid sections
 no_subject (roots kind file pid nodes marked) sections = no_process pid sections
 no_subject (term file pid addr nodes marked) sections = no_process pid sections
 no_subject (ext file pid addr) sections = no_process pid sections
+no_subject (reach file pid) sections = no_process pid sections
 no_subject (binary file addr) sections = binary_cause addr (binary_at addr sections)
 no_subject cmd sections = None
 
@@ -140,6 +148,7 @@ abbrev pub refusal_held : Command → List ℕ → Numbers → Option Refusal
 refusal_held (roots kind file pid nodes marked) bytes limits = too_dense limits.dense pid bytes
 refusal_held (term file pid addr nodes marked) bytes limits = option_or (too_dense limits.dense pid bytes) (no_address addr pid bytes)
 refusal_held (ext file pid addr) bytes limits = option_or (too_dense limits.dense pid bytes) (no_external addr (heap_map pid bytes))
+refusal_held (reach file pid) bytes limits = too_dense limits.dense pid bytes
 refusal_held (binary file addr) bytes limits = bad_binary addr bytes
 refusal_held cmd bytes limits = None
 

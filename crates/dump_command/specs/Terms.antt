@@ -1,5 +1,5 @@
 -- What the commands on the terms of a process, and on a binary, say of the bytes of an accepted dump.
-use Rattle.std.specs.Prelude.{ℕ, Bool, List, [], length, Option, None, Some, codes, find, is_some, nat_lt, unwrap_or, if◌then◌else◌}
+use Rattle.std.specs.Prelude.{ℕ, Bool, List, [], ◌++◌, length, Option, None, Some, codes, find, is_some, nat_lt, unwrap_or, if◌then◌else◌}
 use Rattle.std.specs.Option.{option_and_then, option_map, option_or}
 use Rattle.section_index.specs.Index.{index_of}
 use Rattle.section_index.specs.Lookups.{has_hex, has_tag, is_named}
@@ -11,6 +11,7 @@ use Rattle.heap_cells.specs.Cells.{cells_of, own_count, weight}
 use Rattle.etf_terms.specs.Walks.{bad_place}
 use Rattle.heap_cells.specs.HeapMap.{HeapMap, form_at, number_at}
 use Rattle.heap_cells.specs.Loading.{body_in, enc_of}
+use Rattle.heap_reach.specs.Rounds.{reached_by}
 use Rattle.binary_refs.specs.declared.entries.Entry.{Entry}
 use Rattle.binary_refs.specs.Previews.{binaries, payload_of, previews_of}
 use Rattle.binary_refs.specs.Wholes.{whole_bytes}
@@ -18,6 +19,8 @@ use Rattle.term_unfold.specs.Walks.{Walk, walk}
 use Rattle.report_text.specs.declared.refusals.Refusal.{Refusal}
 use Rattle.report_text.specs.declared.refusals.Refusal.TheVariants.{TooDense, NoAddress, NotExt, BadExt, NoBinary, BadBinary}
 use Rattle.report_text.specs.declared.root_report.RootKind.{RootKind}
+use Rattle.report_text.specs.declared.root_report.RootKind.TheVariants.{Stack, Dict, Mail}
+use Rattle.report_text.specs.Reach.{reach_report, terms_of}
 use Rattle.report_text.specs.Roots.{answer_over, binary_report, ext_report, roots_in, roots_report, roots_tag, term_report}
 
 -- the first section with this tag of the process with this pid
@@ -133,6 +136,22 @@ no_external addr heap = option_or (address_cause addr (number_at heap.cells addr
 -- the report of the external term at an address
 abbrev pub ext_of : List ℕ → ℕ → List ℕ → List ℕ
 ext_of pid addr bytes = ext_report (unwrap_or (external_at addr (heap_map pid bytes)) [])
+
+-- the terms among the roots of a process of one kind
+abbrev pub terms_in : RootKind → List ℕ → List ℕ → List Element
+terms_in kind pid bytes = terms_of (roots_in kind (body_in bytes (roots_section kind pid (sections bytes))))
+
+-- those among all its roots: its stack's, its dictionary's and its mailbox's
+abbrev pub root_terms : List ℕ → List ℕ → List Element
+root_terms pid bytes = (terms_in Stack pid bytes ++ terms_in Dict pid bytes) ++ terms_in Mail pid bytes
+
+-- whether a cell of the heap of a process is reached from its roots, by the number of the cell
+abbrev pub reached : List ℕ → List ℕ → ℕ → Bool
+reached pid bytes = reached_by (heap_map pid bytes).cells (root_terms pid bytes)
+
+-- the report of what the roots of a process reach
+abbrev pub reach_of : List ℕ → List ℕ → List ℕ
+reach_of pid bytes = reach_report (heap_map pid bytes) (reached pid bytes)
 
 -- how many references to binaries the heap of a process has
 abbrev pub binary_count : List ℕ → List ℕ → ℕ

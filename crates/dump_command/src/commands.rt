@@ -15,6 +15,7 @@ mod make;
 mod memory;
 mod proc;
 mod procs;
+mod reach;
 mod redact;
 mod roots;
 mod subjects;
@@ -36,6 +37,7 @@ use make::run_make;
 use memory::Memory;
 use proc::Proc;
 use procs::ProcessTable;
+use reach::Reach;
 use redact::run_redact;
 use report_text::RootKind;
 use roots::Roots;
@@ -134,6 +136,10 @@ pub(crate) fn run_command<D: Dumps, K: Sink>(
                 addr: *addr,
             };
             run_report(alloc, &ext, limits, dumps, out)
+        }
+        Cmd::Reach { file, pid } => {
+            let pid = pid.as_bytes();
+            run_report(alloc, &Reach { file, pid }, limits, dumps, out)
         }
         Cmd::Binary { file, addr } => {
             let addr = *addr;

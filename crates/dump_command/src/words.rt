@@ -86,6 +86,11 @@ pub enum Cmd<'a> {
         pid: &'a str,
         addr: u64,
     },
+    /// `reach FILE PID`: which cells of a process's heap its roots don't reach, and how many they do.
+    Reach {
+        file: &'a str,
+        pid: &'a str,
+    },
     /// `binary FILE ADDR`: the bytes of a binary.
     Binary {
         file: &'a str,
@@ -162,6 +167,7 @@ fn word_command<'a>(name: &str, file: &'a str, word: &'a str) -> Option<Cmd<'a>>
 {
     match name {
         "proc" => Some(Cmd::Proc { file, pid: word }),
+        "reach" => Some(Cmd::Reach { file, pid: word }),
         "binary" => binary_command(file, word),
         "make" => number_command(name, file, word),
         "trial" => number_command(name, file, word),

@@ -23,6 +23,7 @@ pub record HoldsHeap (pid : List ℕ) (before : List Section) (limits : Numbers)
   pub sparse : (bytes : List ℕ) → IsIndexed bytes limits index now → too_dense limits.dense pid bytes ≡ None
   pub enc : (bytes : List ℕ) → IsIndexed bytes limits index now → heap.enc ≡ (heap_map pid bytes).enc
   pub cells : (bytes : List ℕ) → IsIndexed bytes limits index now → heap.cells ≡ (heap_map pid bytes).cells
+  pub own : (bytes : List ℕ) → IsIndexed bytes limits index now → heap.own ≡ (heap_map pid bytes).own
 
 -- why it wasn't loaded: a refusal before any body is read, or a heap that is too dense, or the device failed; memory may
 -- lack at any time

@@ -1,10 +1,11 @@
 // What commands find on the index of a dump and read of it: a process, the body of a section, the heap of a process.
-ghost use Rattle.std.specs.Prelude.{◌≡◌, ◌+◌, ◌<◌, length, None, Some, IfOk, IfErr, IfSome, IsSome, OnOk, MatchResult};
+ghost use Rattle.std.specs.Prelude.{◌≡◌, ◌+◌, ◌<◌, List, length, None, Some, IfOk, IfErr, IfSome, IsSome, OnOk, MatchResult};
 ghost use Rattle.dump_io.specs.Dumps.{ReadsAtMost, used};
 ghost use Rattle.heap_cells.specs.HeapMap.{number_at};
 ghost use Rattle.heap_cells.specs.Loading.{body_size, heap_section, literals_section, section_in, IsBodyIn};
 ghost use Rattle.section_index.specs.Bodies.{section_at};
 ghost use Rattle.section_index.specs.Index.{IsBuiltOver, sections_in};
+ghost use Rattle.section_index.specs.Sections.{Section};
 ghost use Rattle.section_rows.specs.Loading.{first_large, large_fault, AreRefused};
 ghost use Rattle.dump_command.specs.Report.{no_process, one_of, process_section};
 ghost use Rattle.dump_command.specs.Terms.{address_cause, base_of};
@@ -34,7 +35,7 @@ pub(crate) fn find_process(at: &Opened<'_>, pid: &[u8]) -> Result<usize, Stop>
 }
 
 /// The refusal of a section whose body has more bytes than the limit. One that isn't there is empty.
-fn large_body(at: &Opened<'_>, place: Option<usize>) -> Option<BodyFault>
+pub(crate) fn large_body(at: &Opened<'_>, place: Option<usize>) -> Option<BodyFault>
     requires { IfSome place (λ i. i < length at.now.index.now.headers) }
     ensures { result ≡ large_fault at.now.limits.now.section (one_of (section_in at.now.index.now place)) }
 {
@@ -91,8 +92,28 @@ pub(crate) fn load_heap<D: Dumps>(
     ensures heap { MatchResult result (HoldsHeap pid.now (one_of (section_in at.now.index.now place)) at.now.limits.now at.now.index.now (D.now dumps.old))
         (IsHeapless pid.now (one_of (section_in at.now.index.now place)) at.now.limits.now at.now.index.now (used D.files D.now D.faults D.taken dumps.old dumps.new)) }
 {
+    load_behind(at, dumps, pid, large_body(at, place))
+}
+
+/// The same for a command that loads several bodies before the heap, by the refusal of the first of them that is too
+/// large.
+pub(crate) fn load_behind<D: Dumps>(
+    at: &Opened<'_>,
+    dumps: &mut D,
+    pid: &[u8],
+    large: Option<BodyFault>,
+) -> Result<Heap, Stop>
+    requires { IsBuiltOver (D.now dumps.old) at.now.index.now }
+    ensures reads { ReadsAtMost (used D.files D.now D.faults D.taken dumps.old dumps.new)
+        (body_size (heap_section at.now.index.now pid.now) + body_size (literals_section at.now.index.now)) }
+    ensures unread { (before : List Section) → large ≡ large_fault at.now.limits.now.section before
+        → IsSome (heap_listed pid.now before at.now.limits.now (sections_in at.now.index.now)) → dumps.new ≡ dumps.old }
+    ensures heap { (before : List Section) → large ≡ large_fault at.now.limits.now.section before
+        → MatchResult result (HoldsHeap pid.now before at.now.limits.now at.now.index.now (D.now dumps.old))
+        (IsHeapless pid.now before at.now.limits.now at.now.index.now (used D.files D.now D.faults D.taken dumps.old dumps.new)) }
+{
     find_process(at, pid)?;
-    if let Some(fault) = large_body(at, place) {
+    if let Some(fault) = large {
         return Err(Stop::from(fault));
     }
     Ok(Heap::load(at.alloc, dumps, at.index, pid, at.limits)?)

@@ -1,47 +1,9 @@
-use Rattle.std.proofs.lemmas.Result.{err_from_is_err_and}
-use Rattle.dump_io.specs.Dumps.{used}
 use Rattle.heap_cells.specs.Loading.{section_in}
 use Rattle.dump_command.specs.Report.{one_of}
-use Rattle.dump_command.proofs.HeapLoads.{HoldsHeap-loaded, IsClear-judged, IsHeapless-heap, IsHeapless-judged, IsHeapless-large, IsSome-fault}
 use Rattle.dump_command.proofs.commands.subjects.load_heap.Goals as goal
 
-pub returns-in_err-find_process-clause-heap : goal.returns-in_err-find_process-clause-heap
-returns-in_err-find_process-clause-heap g c =
-    let p = err_from_is_err_and c.from_residual.result c.from_residual.ensures.1 in
-    let d = g.D.Dumps in
-    rw (p.1, p.2) (IsHeapless-judged c.args.pid.now _ _ _ (used d.files d.now d.faults d.taken c.args.dumps.now c.args.dumps.now) _ c.in_err-find_process.ensures.judges)
-
-pub returns-in-Some-clause-heap : goal.returns-in-Some-clause-heap
-returns-in-Some-clause-heap g c =
-    let d = g.D.Dumps in
-    rw c.from.ensures (IsHeapless-large c.args.pid.now (one_of (section_in c.args.at.now.index.now c.args.place)) c.args.at.now.limits.now c.args.at.now.index.now
-    (used d.files d.now d.faults d.taken c.args.dumps.now c.args.dumps.now) c.in-Some.fault c.in_ok-find_process.ensures.judges c.in-Some.ensures)
-
-pub returns-in_err-load-clause-unread : goal.returns-in_err-load-clause-unread
-returns-in_err-load-clause-unread g c = λ some.
-    let at = c.args.at.now in
-    let clear = IsClear-judged c.args.pid.now (one_of (section_in at.index.now c.args.place)) at.limits.now at.index.now c.in_ok-find_process.ensures.judges c.in_default.ensures in
-    c.in_err-load.ensures.unread (IsSome-fault _ _ _ _ clear some)
-
-pub returns-in_err-load-clause-heap : goal.returns-in_err-load-clause-heap
-returns-in_err-load-clause-heap g c =
-    let p = err_from_is_err_and c.from_residual-in_err-load.result c.from_residual-in_err-load.ensures.1 in
-    let at = c.args.at.now in
-    let clear = IsClear-judged c.args.pid.now (one_of (section_in at.index.now c.args.place)) at.limits.now at.index.now c.in_ok-find_process.ensures.judges c.in_default.ensures in
-    let read = c.in_err-load.ensures in
-    let d = g.D.Dumps in
-    rw (p.1, p.2) (IsHeapless-heap _ _ _ _ clear
-    (used d.files d.now d.faults d.taken c.args.dumps.now c.load.new.dumps) _ read.fault read.too_large read.answer)
-
 pub returns-clause-unread : goal.returns-clause-unread
-returns-clause-unread g c = λ some.
-    let at = c.args.at.now in
-    let clear = IsClear-judged c.args.pid.now (one_of (section_in at.index.now c.args.place)) at.limits.now at.index.now c.in_ok-find_process.ensures.judges c.in_default.ensures in
-    c.in_ok-load.ensures.unread (IsSome-fault _ _ _ _ clear some)
+returns-clause-unread g c = c.load_behind.ensures.unread (one_of (section_in c.args.at.now.index.now c.args.place)) c.large_body.ensures
 
 pub returns-clause-heap : goal.returns-clause-heap
-returns-clause-heap g c =
-    let at = c.args.at.now in
-    let clear = IsClear-judged c.args.pid.now (one_of (section_in at.index.now c.args.place)) at.limits.now at.index.now c.in_ok-find_process.ensures.judges c.in_default.ensures in
-    let read = c.in_ok-load.ensures in
-    HoldsHeap-loaded _ _ _ _ clear _ _ read.loaded read.enc read.answer
+returns-clause-heap g c = c.load_behind.ensures.heap (one_of (section_in c.args.at.now.index.now c.args.place)) c.large_body.ensures

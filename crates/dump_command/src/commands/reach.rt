@@ -1,0 +1,156 @@
+// `reach`: which cells of a process's heap its roots reach.
+ghost use Rattle.std.specs.Prelude.{◌≡◌, ◌<◌, [], length, IfOk, IfErr, IfSome};
+ghost use Rattle.dump_io.specs.Dumps.{used, ReadsAtMost};
+ghost use Rattle.dump_io.specs.Sinks.{changed, Puts};
+ghost use Rattle.section_index.specs.Index.{sections_in, IsBuiltOver};
+ghost use Rattle.section_rows.specs.Loading.{bodies_length, first_large, large_fault};
+ghost use Rattle.heap_cells.specs.Loading.{section_in};
+ghost use Rattle.heap_reach.specs.Reached.{is_in};
+ghost use Rattle.heap_reach.specs.Rounds.{reached_by, IsReachOf};
+ghost use Rattle.heap_reach.specs.Unreached.{unreached_of};
+ghost use Rattle.report_text.specs.Reach.{reach_report};
+ghost use Rattle.dump_command.specs.Command.{reach};
+ghost use Rattle.dump_command.specs.Terms.{roots_section};
+ghost use Rattle.dump_command.specs.Inner.ReachLoads.{reach_text, roots_at, terms_loaded, ArePlaces, AreWithin, HoldsRoots, IsUnread};
+
+use crate::commands::subjects::{Body, large_body, load_behind, read_found};
+use crate::open::Opened;
+use crate::report::Report;
+use crate::status::DONE;
+use crate::stop::Stop;
+use dump_io::{Dumps, Failed, Sink};
+use heap_cells::Heap;
+use report_text::{RootKind, add_roots, put_reach};
+use section_index::BodyFault;
+
+#[derive(Clone, Copy)]
+pub(crate) struct Reach<'a> {
+    pub(crate) file: &'a str,
+    pub(crate) pid: &'a [u8],
+}
+
+/// The places of the sections with the roots of a process, where they are there.
+#[derive(Clone, Copy)]
+pub(crate) struct RootPlaces {
+    stack: Option<usize>,
+    dict: Option<usize>,
+    mail: Option<usize>,
+}
+
+/// The bodies of these sections.
+#[derive(Drop)]
+pub(crate) struct RootBodies {
+    stack: Body,
+    dict: Body,
+    mail: Body,
+}
+
+/// The heap of the process, and the bodies with its roots.
+#[derive(Drop)]
+pub(crate) struct Loaded {
+    heap: Heap,
+    roots: RootBodies,
+}
+
+fn place_of(at: &Opened<'_>, kind: RootKind, pid: &[u8]) -> Option<usize>
+    ensures section { section_in at.now.index.now result ≡ roots_section kind pid.now (sections_in at.now.index.now) }
+    ensures within { IfSome result (λ i. i < length at.now.index.now.headers) }
+{
+    at.index.first(kind.tag(), Some(pid))
+}
+
+fn root_places(at: &Opened<'_>, pid: &[u8]) -> RootPlaces
+    ensures sections { ArePlaces pid.now at.now.index.now result }
+    ensures within { AreWithin at.now.index.now result }
+{
+    RootPlaces {
+        stack: place_of(at, RootKind::Stack, pid),
+        dict: place_of(at, RootKind::Dict, pid),
+        mail: place_of(at, RootKind::Mail, pid),
+    }
+}
+
+// The refusal of the first of the sections whose body has more bytes than the limit.
+fn large_roots(at: &Opened<'_>, places: RootPlaces) -> Option<BodyFault>
+    requires { AreWithin at.now.index.now places }
+    ensures { result ≡ large_fault at.now.limits.now.section (roots_at at.now.index.now places) }
+{
+    let first = large_body(at, places.stack);
+    let second = large_body(at, places.dict);
+    let third = large_body(at, places.mail);
+    first.or(second).or(third)
+}
+
+// Reads the bodies. A section that isn't there is empty.
+fn read_roots<D: Dumps>(
+    at: &Opened<'_>,
+    dumps: &mut D,
+    places: RootPlaces,
+) -> Result<RootBodies, BodyFault>
+    requires over { IsBuiltOver (D.now dumps.old) at.now.index.now }
+    requires within { AreWithin at.now.index.now places }
+    ensures reads { ReadsAtMost (used D.files D.now D.faults D.taken dumps.old dumps.new) (bodies_length (roots_at at.now.index.now places)) }
+    ensures bodies { IfOk result (HoldsRoots at.now.index.now (D.now dumps.old) places) }
+    ensures fault { IfErr result (IsUnread (first_large at.now.limits.now.section (roots_at at.now.index.now places)) (used D.files D.now D.faults D.taken dumps.old dumps.new)) }
+{
+    let stack = read_found(at, dumps, places.stack)?;
+    let dict = read_found(at, dumps, places.dict)?;
+    let mail = read_found(at, dumps, places.mail)?;
+    Ok(RootBodies { stack, dict, mail })
+}
+
+// Adds what the roots of all three bodies reach.
+fn add_all(reach: &mut heap_reach::Reach<'_>, roots: &RootBodies)
+    requires { IsReachOf reach.old [] }
+    ensures heap { reach.new.heap ≡ reach.old.heap }
+    ensures roots { IsReachOf reach.new (terms_loaded roots.now) }
+{
+    add_roots(reach, RootKind::Stack, roots.stack.bytes.as_slice());
+    add_roots(reach, RootKind::Dict, roots.dict.bytes.as_slice());
+    add_roots(reach, RootKind::Mail, roots.mail.bytes.as_slice());
+}
+
+// Writes what the roots reach.
+fn put_reached<K: Sink>(
+    sink: &mut K,
+    heap: &Heap,
+    reach: &heap_reach::Reach<'_>,
+    roots: &RootBodies,
+    unreached: &[u64],
+) -> Result<(), Failed>
+    requires heap { reach.now.heap ≡ heap.now }
+    requires roots { IsReachOf reach.now (terms_loaded roots.now) }
+    requires unreached { unreached.now ≡ unreached_of heap.now (is_in reach.now.marks) }
+    ensures { Puts (changed K.written K.faults sink.old sink.new) (reach_report heap.now (reached_by heap.now.cells (terms_loaded roots.now))) result }
+{
+    let _roots = roots;
+    put_reach(sink, heap, reach, unreached)
+}
+
+impl Report for Reach<'_> {
+    type Loaded = Loaded;
+
+    ghost command = { λ c. reach c.file.now c.pid.now };
+
+    ghost text = { λ _ _ loaded. reach_text loaded };
+
+    fn file(&self) -> &str {
+        self.file
+    }
+
+    fn read<D: Dumps>(&self, at: &Opened<'_>, dumps: &mut D) -> Result<Loaded, Stop> {
+        let places = root_places(at, self.pid);
+        let heap = load_behind(at, dumps, self.pid, large_roots(at, places))?;
+        let roots = read_roots(at, dumps, places)?;
+        Ok(Loaded { heap, roots })
+    }
+
+    fn put<K: Sink>(&self, at: &Opened<'_>, loaded: &Loaded, out: &mut K) -> Result<u8, Stop> {
+        let Loaded { heap, roots } = loaded;
+        let mut reach = heap_reach::Reach::new(at.alloc, heap)?;
+        add_all(&mut reach, roots);
+        let unreached = reach.unreached(at.alloc)?;
+        put_reached(out, heap, &reach, roots, unreached.as_slice())?;
+        Ok(DONE)
+    }
+}
