@@ -91,6 +91,14 @@ impl Case {
         }
     }
 
+    /// Whether the command of the case writes while it reads.
+    pub fn streams(&self) -> bool {
+        match self.words.first() {
+            Some(name) => name.as_str() == "redact",
+            None => false,
+        }
+    }
+
     /// Begins the next case, on the same dump.
     pub fn begin(&mut self, alloc: Global, name: &str) -> Result<(), AllocError> {
         self.name = String::from_str(alloc, name)?;

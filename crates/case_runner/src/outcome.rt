@@ -1,6 +1,7 @@
 // A run of a case, and what it leaves.
 use crate::case::Case;
 use dump_command::run;
+use dump_command::status::UNREAD;
 use dump_io::{MemDumps, MemSink};
 use std::alloc::{AllocError, Global};
 
@@ -36,6 +37,14 @@ impl Outcome {
     /// Whether the run ended so, and left these bytes.
     pub fn is(&self, status: u64, out: &[u8], err: &[u8]) -> bool {
         self.status == status && self.out.written() == out && self.err.written() == err
+    }
+
+    /// Whether the run ended with a fault of reading. Nothing was written then, or a front of the report that the case
+    /// expects, where its command writes while it reads.
+    pub fn is_unread(&self, case: &Case) -> bool {
+        let out = self.out.written();
+        let is_front = case.streams() && out.len() < case.out.len() && case.out.starts_with(out);
+        self.is(u64::from(UNREAD), out, b"") && (out.is_empty() || is_front)
     }
 }
 

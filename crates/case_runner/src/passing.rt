@@ -38,8 +38,8 @@ fn reads_all(case: &Case) -> bool {
     is_done && case.taken > 0
 }
 
-// How many calls of the device end the case with a fault of reading and nothing written, where one of them fails; none
-// where it ends otherwise then.
+// How many calls of the device end the case with a fault of reading, where one of them fails; none where it ends otherwise
+// then.
 fn failing_calls(alloc: Global, case: &Case, cut: usize) -> Result<Option<u64>, AllocError> {
     for failing_call in 1..MOST as u64 {
         let failing = Hindrance {
@@ -48,7 +48,7 @@ fn failing_calls(alloc: Global, case: &Case, cut: usize) -> Result<Option<u64>, 
             ..NONE
         };
         let end = run_case(alloc, case, &failing)?;
-        if !end.is(u64::from(UNREAD), b"", b"") {
+        if !end.is_unread(case) {
             let is_alike = end.is(case.status, &case.out, &case.err);
             return Ok(is_alike.then_some(failing_call - 1));
         }
@@ -80,8 +80,7 @@ fn passes_first_calls(alloc: Global, case: &Case) -> Result<bool, AllocError> {
             ..NONE
         };
         let end = run_case(alloc, case, &failing)?;
-        let is_unread = end.is(u64::from(UNREAD), b"", b"");
-        if !is_unread && (reads_all(case) || !end.is(case.status, &case.out, &case.err)) {
+        if !end.is_unread(case) && (reads_all(case) || !end.is(case.status, &case.out, &case.err)) {
             return Ok(false);
         }
     }
