@@ -4,8 +4,9 @@
 //   bench write FILE BYTES SECTIONS   writes a dump of so many bytes and sections, heap lines of about 40 bytes
 //   bench procs FILE BYTES PROCESSES  writes a dump of so many bytes and processes, each with a body of about 300
 //                                     bytes and a heap, and prints how many bytes a process table keeps of them
-//   bench list FILE CELLS ORDER       writes a dump with one process, whose heap is a list of so many cells, 40 bytes
-//                                     each with their LF; with ORDER 1 their addresses stand in no order
+//   bench list FILE CELLS ORDER       writes a dump with one process, whose dictionary refers to its first cell, and whose
+//                                     heap is a list of so many cells, 40 bytes each with their LF; with ORDER 1 their
+//                                     addresses stand in no order
 //   bench tuples FILE CELLS           the same with tuples, each inside the one before
 //   bench binaries FILE CELLS BINS    the same with references to binaries, over so many sections of binaries
 //   bench links FILE BYTES PROCESSES  writes a dump of so many bytes and processes, each with five links and monitors
@@ -66,7 +67,7 @@ static int write_processes(const char *name, long bytes, long count) {
 
 static FILE *begin_process(const char *name) {
     FILE *f = fopen(name, "w");
-    if (f) fprintf(f, "=erl_crash_dump:0.5\n=proc:<0.1.0>\nState: Waiting\n=proc_heap:<0.1.0>\n");
+    if (f) fprintf(f, "=erl_crash_dump:0.5\n=proc:<0.1.0>\nState: Waiting\n=proc_dictionary:<0.1.0>\nH10\n=proc_heap:<0.1.0>\n");
     return f;
 }
 

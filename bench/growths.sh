@@ -40,5 +40,6 @@ try mail "$folder/dump" "<0.4.0>"
 try audit "$folder/dump" 8
 printf '=erl_crash_dump:0.4\n=proc:<0.1.0>\n=proc_heap:<0.1.0>\n10:E9:836802610177026F6B\n=end\n' >"$folder/external"
 try ext "$folder/external" "<0.1.0>" 10
+try reach "$folder/dump" "<0.4.0>"
 try audit "$folder/dump" 8 full
 exit "$failed"

@@ -59,6 +59,7 @@ shape() {
     done
     tell "$1" term "<0.1.0>" 10
     tell "$1" ext "<0.1.0>" 10
+    tell "$1" reach "<0.1.0>"
     tell "$1" binary 10
 }
 

@@ -80,7 +80,7 @@ for name in index procs; do sort -n -k 2 "$folder/$name.times" | tail -n 1; done
         '{ most[NR] = $2 * 1024 } END { printf "%.0f bytes a process beside the index and the %d bytes that are kept of it\n", (most[2] - most[1] - kept) / count, kept / count }'
 rm -f "$dump"
 
-# Heaps: the reading of the lines alone, the load of the heap, and the walk of its one term.
+# Heaps: the reading of the lines alone, the load of the heap, the walk of its one term, and what its one root reaches.
 for shape in "list 1000000 0" "list 10000000 1" "tuples 1000000"; do
     rm -f "$folder"/*.times
     # shellcheck disable=SC2086
@@ -95,6 +95,7 @@ for shape in "list 1000000 0" "list 10000000 1" "tuples 1000000"; do
         round previews /dev/null "$heap_bench" previews "$dump" "<0.1.0>" 10
         round walk /dev/null "$heap_bench" walk "$dump" "<0.1.0>" 10
         round term /dev/null "$edump" term "$dump" "<0.1.0>" 10 1000000000
+        round reach /dev/null "$edump" reach "$dump" "<0.1.0>"
     done
     echo "a heap of $2 cells, $1${3:+, in order $3}, $size bytes of text:"
     tell lines "lines" lines "itself"
@@ -104,6 +105,7 @@ for shape in "list 1000000 0" "list 10000000 1" "tuples 1000000"; do
     awk -v walk="$(median walk)" -v load="$(median previews)" -v cells="$2" \
         'BEGIN { printf "judge and print: %.1f million nodes a second\n", 2 * cells / (walk - load) / 1000000 }'
     tell term "edump term" load "the load"
+    tell reach "edump reach" load "the load"
 done
 
 # References to binaries, over few and over many sections.
