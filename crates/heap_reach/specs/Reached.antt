@@ -43,6 +43,7 @@ pub data Reached (cells : List Cell) (Root : ℕ → Type 0) : ℕ → Type 0 wh
 abbrev pub is_in : List Bool → ℕ → Bool
 is_in marks n = slice_index_or marks n false
 
+-- it is in the set
 abbrev pub IsIn : List Bool → ℕ → Type 0
 IsIn marks n = is_in marks n ≡ true
 

@@ -35,6 +35,7 @@ ascending (x ∷ xs) = placed x (ascending xs)
 abbrev pub unreached_of : HeapMap → (ℕ → Bool) → List ℕ
 unreached_of heap set = ascending (missed_below heap.cells set heap.own)
 
+-- 1 where it is so
 abbrev pub one_if : Bool → ℕ
 one_if true = 1
 one_if false = 0

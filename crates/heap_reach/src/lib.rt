@@ -5,6 +5,16 @@
 //! be reached, and leads nowhere. Which cells these are for some roots is a least set (`specs/Reached.antt`), and
 //! [`Reach::root`] adds to it what one more root reaches: a mark for each cell, and a list of those still to be looked at,
 //! whose memory [`Reach::new`] takes.
+//!
+//! ```
+//! let mut reach = Reach::new(alloc, &heap)?;
+//! for root in dict(body) {
+//!     if let What::Term(e) = root.what {
+//!         reach.root(e);
+//!     }
+//! }
+//! let unreached = reach.unreached(alloc)?;
+//! ```
 #![tactic(auto)]
 
 mod frontier;

@@ -27,9 +27,11 @@ pub record ArePlaces (pid : List ℕ) (index : Contents) (places : RootPlaces) :
   pub dict : section_in index places.dict ≡ roots_section Dict pid (sections_in index)
   pub mail : section_in index places.mail ≡ roots_section Mail pid (sections_in index)
 
+-- the place of a section, where it is one
 abbrev pub IsPlace : Contents → Option ℕ → Type 0
 IsPlace index place = IfSome place (λ i. i < length index.headers)
 
+-- all three are
 pub record AreWithin (index : Contents) (places : RootPlaces) : Type 0 where
   pub stack : IsPlace index places.stack
   pub dict : IsPlace index places.dict

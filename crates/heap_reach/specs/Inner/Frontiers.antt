@@ -4,6 +4,7 @@ use Rattle.std.specs.List.{list_any, sum_by, IsDistinct}
 use Rattle.heap_cells.specs.Cells.{Cell}
 use Rattle.heap_reach.specs.Reached.{IsIn, Leads, IsClosed}
 
+-- the marks of a heap's cells, and the numbers of those that wait
 pub record Frontier : Type 0 where
   pub marks : List Bool
   -- for how many entries memory is taken
@@ -11,9 +12,11 @@ pub record Frontier : Type 0 where
   -- the cell that came last is the first one
   pub waiting : List ℕ
 
+-- whether a cell is one of them
 abbrev pub is_on : ℕ → List ℕ → Bool
 is_on cell cells = list_any (nat_eq cell) cells
 
+-- the cell waits
 abbrev pub Waits : Frontier → ℕ → Type 0
 Waits f n = is_on n f.waiting ≡ true
 
@@ -24,6 +27,7 @@ pub record IsTied (marks : List Bool) (capacity : ℕ) (waiting : List ℕ) : Ty
   pub marked : (n : ℕ) → is_on n waiting ≡ true → IsIn marks n
   pub bound : length waiting ≤ length marks
 
+-- 1 for a mark that isn't set
 abbrev pub unmarked : Bool → ℕ
 unmarked true = 0
 unmarked false = 1
