@@ -1,0 +1,24 @@
+//! The findings of an audit as JSON.
+//!
+//! ```text
+//! let found = audit(alloc, &index, &procs, &graph, 10000)?;
+//! let tree = tree(alloc, &index, &procs, &graph, &found)?;
+//! put_json(alloc, &mut out, &tree)?; // `{"count":0,"findings":[],"state":"whole"}`
+//! ```
+//!
+//! The tree is an object with the number of the findings, an object for each of them, and the state of the dump, as
+//! `specs/Trees.antt` says. A text of the dump need not be UTF-8: in a string each of its bytes is the character of that
+//! number.
+#![tactic(auto)]
+
+mod building;
+mod laws;
+mod objects;
+mod putting;
+
+pub use building::tree;
+pub use laws::text_reads_back;
+pub use putting::{JsonFault, put_json};
+
+#[cfg(test)]
+mod tests;
