@@ -8,7 +8,7 @@ use Rattle.report_text.specs.declared.root_report.RootKind.TheVariants as bodies
 use Rattle.table_sections.specs.declared.kinds.TableKind.{TableKind}
 use Rattle.table_sections.specs.declared.kinds.TableKind.TheVariants as kinds
 use Rattle.dump_command.specs.declared.words.Cmd.{Cmd}
-use Rattle.dump_command.specs.declared.words.Cmd.TheVariants.{Index, Info, Procs, Proc, Memory, Ets, Ports, Nodes, Mods, Stack, Dict, Mail, Term, Ext, Reach, Binary, Links, Redact, Audit, Make, Trial}
+use Rattle.dump_command.specs.declared.words.Cmd.TheVariants.{Index, Info, Procs, Proc, Memory, Ets, Ports, Nodes, Mods, Stack, Dict, Mail, Term, Ext, Reach, Binary, Links, Redact, Audit, AuditJson, Make, Trial}
 use Rattle.dump_command.specs.Budgets.{budget_of}
 use Rattle.dump_command.specs.MadeWords.{seed_and_count}
 
@@ -36,6 +36,8 @@ pub data Command : Type 0 where
   redact : List ℕ → Command
   -- an audit with this limit on message queues, in full or not
   audit : List ℕ → ℕ → Bool → Command
+  -- the same as one JSON text
+  audit_json : List ℕ → ℕ → Bool → Command
   -- a dump is made of a seed and a count of processes
   make : ℕ → ℕ → Command
   -- the reports on such a dump are summed up
@@ -62,6 +64,7 @@ shown (Binary file addr) = binary file.now addr
 shown (Links file) = links file.now
 shown (Redact file) = redact file.now
 shown (Audit file limit full) = audit file.now limit full
+shown (AuditJson file limit full) = audit_json file.now limit full
 shown (Make seed count) = make seed count
 shown (Trial seed count) = trial seed count
 
@@ -101,9 +104,9 @@ full_of [] = Some false
 full_of (word ∷ []) = if bytes_eq word (codes "full") then Some true else None
 full_of (word ∷ more ∷ words) = None
 
--- an audit with a limit, which is decimal
-abbrev pub audit_command : List ℕ → List ℕ → List (List ℕ) → Option Command
-audit_command file limit words = option_and_then (λ n. option_map (audit file n) (full_of words)) (dec_number limit)
+-- an audit with a limit, which is decimal, in one of the two forms
+abbrev pub audit_command : (List ℕ → ℕ → Bool → Command) → List ℕ → List ℕ → List (List ℕ) → Option Command
+audit_command form file limit words = option_and_then (λ n. option_map (form file n) (full_of words)) (dec_number limit)
 
 -- a command that may have more words behind the name of a file and another word
 abbrev pub process_command : List ℕ → List ℕ → List ℕ → List (List ℕ) → Option Command
@@ -113,7 +116,8 @@ process_command name file word words =
     else (if bytes_eq name (codes "mail") then roots_command bodies.Mail file word words
     else (if bytes_eq name (codes "term") then term_command file word words
     else (if bytes_eq name (codes "ext") then ext_command file word words
-    else (if bytes_eq name (codes "audit") then audit_command file word words else None)))))
+    else (if bytes_eq name (codes "audit") then audit_command audit file word words
+    else (if bytes_eq name (codes "audit-json") then audit_command audit_json file word words else None))))))
 
 -- a command of two numbers
 abbrev pub number_command : List ℕ → List ℕ → List ℕ → Option Command
@@ -155,6 +159,7 @@ file_of (binary file addr) = Some file
 file_of (links file) = Some file
 file_of (redact file) = Some file
 file_of (audit file limit full) = Some file
+file_of (audit_json file limit full) = Some file
 file_of (make seed count) = None
 file_of (trial seed count) = None
 

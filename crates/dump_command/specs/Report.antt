@@ -18,6 +18,7 @@ use Rattle.report_text.specs.Tallies.{trial_report}
 use Rattle.report_text.specs.Links.{links_report}
 use Rattle.report_text.specs.Findings.{audit_report}
 use Rattle.dump_audit.specs.Findings.{findings}
+use Rattle.json_report.specs.Trees.{audit_tree, json_text}
 use Rattle.process_table.specs.Processes.{process_table}
 use Rattle.process_table.specs.Records.{record_sections}
 use Rattle.section_index.specs.Lookups.{has_tag, is_named}
@@ -29,7 +30,7 @@ use Rattle.dump_redact.specs.Redacted.{redacted}
 use Rattle.dump_redact.specs.Refusals.{heap_sections}
 use Rattle.audit_bodies.specs.Mailboxes.{audited_sections}
 use Rattle.dump_command.specs.Audits.{audit_in, status_of}
-use Rattle.dump_command.specs.Command.{Command, index, info, procs, proc, memory, table, roots, term, ext, reach, binary, links, redact, audit, make, trial, file_of}
+use Rattle.dump_command.specs.Command.{Command, index, info, procs, proc, memory, table, roots, term, ext, reach, binary, links, redact, audit, audit_json, make, trial, file_of}
 use Rattle.heap_cells.specs.Loading.{body_in}
 use Rattle.dump_command.specs.Terms.{base_of, binary_at, binary_cause, bad_binary, binary_count, binary_of, ext_of, heap_map, heap_of, literals_of, no_address, no_external, reach_of, roots_of, roots_section, term_of, too_dense}
 
@@ -74,6 +75,7 @@ bodies (binary file addr) sections = one_of (binary_at addr sections)
 bodies (links file) sections = record_sections sections
 bodies (redact file) sections = heap_sections sections
 bodies (audit file limit full) sections = audited_sections full sections
+bodies (audit_json file limit full) sections = audited_sections full sections
 bodies (make seed count) sections = []
 bodies (trial seed count) sections = []
 
@@ -107,17 +109,20 @@ report (binary file addr) bytes = binary_of addr bytes
 report (links file) bytes = links_report (process_table bytes).processes
 report (redact file) bytes = redacted bytes
 report (audit file limit full) bytes = audit_report (audit_in limit full bytes)
+report (audit_json file limit full) bytes = json_text (audit_tree (audit_in limit full bytes))
 report (make seed count) bytes = made seed count
 report (trial seed count) bytes = trial_report (trial_of seed count)
 
 -- the status of a run that has written its whole report: 0, or 3 for an audit with a finding
 abbrev pub report_status : Command → List ℕ → ℕ
 report_status (audit file limit full) bytes = status_of (findings (audit_in limit full bytes))
+report_status (audit_json file limit full) bytes = status_of (findings (audit_in limit full bytes))
 report_status cmd bytes = 0
 
 -- whether a command looks for findings
 abbrev pub finds : Command → Bool
 finds (audit file limit full) = true
+finds (audit_json file limit full) = true
 finds cmd = false
 
 -- no section is that of the process

@@ -6,6 +6,7 @@ ghost use Rattle.dump_command.specs.Command.{file_of, shown, IsInRange};
 ghost use Rattle.dump_command.specs.Inner.Runs.{Runs};
 
 mod audit;
+mod audit_json;
 mod binary;
 mod ext;
 mod index;
@@ -27,6 +28,7 @@ use crate::report::run_report;
 use crate::stop::Stop;
 use crate::words::Cmd;
 use audit::Audit;
+use audit_json::AuditJson;
 use binary::Binary;
 use dump_io::{Dumps, Limits, Sink};
 use ext::Ext;
@@ -149,6 +151,14 @@ pub(crate) fn run_command<D: Dumps, K: Sink>(
         Cmd::Redact { file } => run_redact(alloc, file, limits, dumps, out),
         Cmd::Audit { file, limit, full } => {
             let audit = Audit {
+                file,
+                limit: *limit,
+                full: *full,
+            };
+            run_report(alloc, &audit, limits, dumps, out)
+        }
+        Cmd::AuditJson { file, limit, full } => {
+            let audit = AuditJson {
                 file,
                 limit: *limit,
                 full: *full,

@@ -6,6 +6,7 @@ use binary_refs::PreviewFault;
 use dump_io::Failed;
 use dump_redact::RedactFault;
 use heap_cells::HeapFault;
+use json_report::JsonFault;
 use report_text::Refusal;
 use section_index::{BodyFault, OpenFault};
 use std::alloc::AllocError;
@@ -103,6 +104,19 @@ impl From<RedactFault> for Stop {
             RedactFault::Read => Stop::NotRead,
             RedactFault::Write => Stop::NotWritten,
             RedactFault::Memory => Stop::NoMemory,
+        }
+    }
+}
+
+impl From<JsonFault> for Stop {
+    ghost use Rattle.dump_command.specs.Inner.Stops.{stop_of_json};
+
+    ghost from_gives = { λ fault stop. stop ≡ stop_of_json fault };
+
+    fn from(fault: JsonFault) -> Stop {
+        match fault {
+            JsonFault::Write => Stop::NotWritten,
+            JsonFault::Memory => Stop::NoMemory,
         }
     }
 }

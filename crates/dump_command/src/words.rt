@@ -2,7 +2,7 @@
 ghost use Rattle.std.specs.Prelude.{◌≡◌, [], map, option_map};
 ghost use Rattle.std.specs.Option.{IfSome};
 ghost use Rattle.std.specs.String.{string_bytes};
-ghost use Rattle.dump_command.specs.Command.{audit_command, binary, command, ext_command, file_command, full_of, process_command, roots_command, term_command, word_command, shown, IsInRange};
+ghost use Rattle.dump_command.specs.Command.{audit, audit_command, audit_json, binary, command, ext_command, file_command, full_of, process_command, roots_command, term_command, word_command, shown, IsInRange};
 ghost use Rattle.dump_io.specs.Numbers.{hex_number};
 
 use crate::budgets::{Budget, read_budget};
@@ -112,6 +112,12 @@ pub enum Cmd<'a> {
         limit: u64,
         full: bool,
     },
+    /// `audit-json FILE LIMIT [full]`: the same findings as one JSON text.
+    AuditJson {
+        file: &'a str,
+        limit: u64,
+        full: bool,
+    },
     /// `make SEED COUNT`: a dump that is made, of so many processes. No file is opened.
     Make {
         seed: u64,
@@ -194,6 +200,7 @@ fn process_command<'a>(name: &str, file: &'a str, pid: &'a str, words: &[String]
         "term" => term_command(file, pid, words),
         "ext" => ext_command(file, pid, words),
         "audit" => audit_command(file, pid, words),
+        "audit-json" => audit_json_command(file, pid, words),
         _ => None,
     }
 }
@@ -271,10 +278,19 @@ fn full_of(words: &[String]) -> Option<bool>
 }
 
 fn audit_command<'a>(file: &'a str, limit: &str, words: &[String]) -> Option<Cmd<'a>>
-    ensures reads { option_map shown result ≡ audit_command file.now limit.now (map string_bytes words.now) }
+    ensures reads { option_map shown result ≡ audit_command audit file.now limit.now (map string_bytes words.now) }
     ensures range { IfSome result (λ cmd. IsInRange (shown cmd)) }
 {
     let limit = dec_u64(limit.as_bytes())?;
     let full = full_of(words)?;
     Some(Cmd::Audit { file, limit, full })
+}
+
+fn audit_json_command<'a>(file: &'a str, limit: &str, words: &[String]) -> Option<Cmd<'a>>
+    ensures reads { option_map shown result ≡ audit_command audit_json file.now limit.now (map string_bytes words.now) }
+    ensures range { IfSome result (λ cmd. IsInRange (shown cmd)) }
+{
+    let limit = dec_u64(limit.as_bytes())?;
+    let full = full_of(words)?;
+    Some(Cmd::AuditJson { file, limit, full })
 }

@@ -6,6 +6,7 @@ use Rattle.process_table.specs.Processes.{ProcessTable}
 use Rattle.dump_audit.specs.Findings.{Audit, audit_of, findings}
 use Rattle.report_text.specs.Findings.{audit_report}
 use Rattle.report_text.specs.Links.{links_report}
+use Rattle.json_report.specs.Trees.{audit_tree, json_text}
 use Rattle.dump_command.specs.Audits.{status_of}
 use Rattle.audit_bodies.specs.declared.loading.AuditBodies.{AuditBodies}
 
@@ -20,6 +21,10 @@ loaded_audit limit index loaded = audit_of index loaded.procs.processes limit (o
 -- the report of what is found
 abbrev pub audit_text : ℕ → Contents → AuditBodies → List ℕ
 audit_text limit index loaded = audit_report (loaded_audit limit index loaded)
+
+-- the same as one JSON text
+abbrev pub json_of : ℕ → Contents → AuditBodies → List ℕ
+json_of limit index loaded = json_text (audit_tree (loaded_audit limit index loaded))
 
 -- whether there is something to find
 abbrev pub audit_status : ℕ → Contents → AuditBodies → ℕ

@@ -8,6 +8,8 @@ use Rattle.dump_redact.specs.declared.faults.RedactFault.{RedactFault}
 use Rattle.dump_redact.specs.declared.faults.RedactFault.TheVariants as redact_faults
 use Rattle.report_text.specs.declared.refusals.Refusal.TheVariants.{Open, SectionTooLarge}
 use Rattle.report_text.specs.Refusals.{IsRefusal, refusal_line}
+use Rattle.json_report.specs.declared.putting.JsonFault.{JsonFault}
+use Rattle.json_report.specs.declared.putting.JsonFault.TheVariants as json_faults
 use Rattle.dump_io.specs.Sinks.{Change, IsKept}
 use Rattle.dump_command.specs.Run.{EndsTold}
 use Rattle.dump_command.specs.declared.stop.Stop.{Stop}
@@ -24,6 +26,11 @@ abbrev pub stop_of_body : BodyFault → Stop
 stop_of_body body_faults.Read = NotRead
 stop_of_body body_faults.Memory = NoMemory
 stop_of_body (body_faults.SectionTooLarge at len) = Refused (SectionTooLarge at len)
+
+-- what stops a command of which the JSON text isn't written
+abbrev pub stop_of_json : JsonFault → Stop
+stop_of_json json_faults.Write = NotWritten
+stop_of_json json_faults.Memory = NoMemory
 
 -- what was loaded, or what stops the command
 abbrev pub or_stop : {T : Type 0} → Result T BodyFault → Result T Stop

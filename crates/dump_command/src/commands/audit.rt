@@ -23,7 +23,7 @@ pub(crate) struct Audit<'a> {
 }
 
 // The status of an audit with these findings.
-fn status(findings: &[Finding]) -> u8
+pub(super) fn status(findings: &[Finding]) -> u8
     ensures { result ≡ status_of findings.now }
 {
     if findings.is_empty() { DONE } else { FOUND }

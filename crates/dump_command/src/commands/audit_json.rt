@@ -1,0 +1,57 @@
+// `audit-json`: the findings of an audit as one JSON text.
+ghost use Rattle.audit_bodies.specs.Bodies.{IsAuditable};
+ghost use Rattle.dump_command.specs.Command.{audit_json};
+ghost use Rattle.dump_command.specs.Inner.Audits.{audit_status, json_of};
+
+use super::audit::status;
+use crate::open::Opened;
+use crate::report::Report;
+use crate::stop::{Stop, or_stop};
+use audit_bodies::AuditBodies;
+use dump_audit::audit_with;
+use dump_io::{Dumps, Sink};
+use json_report::{put_json, tree};
+use link_graph::Graph;
+
+#[derive(Clone, Copy)]
+pub(crate) struct AuditJson<'a> {
+    pub(crate) file: &'a str,
+    pub(crate) limit: u64,
+    pub(crate) full: bool,
+}
+
+impl Report for AuditJson<'_> {
+    type Loaded = AuditBodies;
+
+    ghost command = { λ c. audit_json c.file.now c.limit c.full };
+
+    ghost text = { λ c index loaded. json_of c.limit index loaded };
+
+    ghost status = { λ c index loaded. audit_status c.limit index loaded };
+
+    ghost fits = { λ _ index loaded. IsAuditable index loaded };
+
+    fn file(&self) -> &str {
+        self.file
+    }
+
+    fn read<D: Dumps>(&self, at: &Opened<'_>, dumps: &mut D) -> Result<AuditBodies, Stop> {
+        or_stop(AuditBodies::load(at.alloc, dumps, at.index, self.full, at.limits))
+    }
+
+    fn put<K: Sink>(&self, at: &Opened<'_>, loaded: &AuditBodies, out: &mut K) -> Result<u8, Stop> {
+        let AuditBodies { procs, mails } = loaded;
+        let graph = Graph::build(at.alloc, procs)?;
+        let findings = audit_with(
+            at.alloc,
+            at.index,
+            procs,
+            &graph,
+            self.limit,
+            mails.as_deref(),
+        )?;
+        let tree = tree(at.alloc, at.index, procs, &graph, findings.as_slice())?;
+        put_json(at.alloc, out, &tree)?;
+        Ok(status(findings.as_slice()))
+    }
+}
