@@ -13,3 +13,4 @@ pub mod Reaching
 pub mod Reading
 pub mod Redacting
 pub mod Runs
+pub mod SameFindings

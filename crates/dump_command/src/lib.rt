@@ -14,6 +14,7 @@
 mod budgets;
 mod commands;
 mod ending;
+mod laws;
 mod made_words;
 mod open;
 mod report;
@@ -22,5 +23,6 @@ pub mod status;
 mod stop;
 mod words;
 
+pub use laws::findings_stay;
 pub use runner::run;
 pub use words::{Cmd, read_words};
