@@ -14,3 +14,4 @@ pub mod Reading
 pub mod Redacting
 pub mod Runs
 pub mod SameFindings
+pub mod SameHeaps

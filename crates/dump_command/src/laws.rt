@@ -1,7 +1,7 @@
 // What a redacted dump says as the dump did. Each law is the contract of a function that does nothing.
-ghost use Rattle.dump_command.specs.Laws.{KeepsProcesses, KeepsFindings};
+ghost use Rattle.dump_command.specs.Laws.{KeepsProcesses, KeepsFindings, KeepsHeaps, KeepsAddresses};
 
-use dump_redact::{bodies_are_redacted, sections_stay};
+use dump_redact::{binaries_stay, bodies_are_redacted, sections_stay};
 
 /// A law, and no work: a redacted dump has the same processes, and an audit finds the same in it.
 pub fn findings_stay()
@@ -10,4 +10,15 @@ pub fn findings_stay()
 {
     sections_stay();
     bodies_are_redacted();
+}
+
+/// A law, and no work: the heap of a process in a redacted dump has the same addresses in the same order, and its cells differ
+/// in the characters of binaries on the heap alone.
+pub fn heaps_stay()
+    ensures heaps { KeepsHeaps }
+    ensures addresses { KeepsAddresses }
+{
+    sections_stay();
+    bodies_are_redacted();
+    binaries_stay();
 }
