@@ -1,12 +1,11 @@
 -- Marking a cell and putting it on the list.
-use Rattle.std.proofs.Common.{◌≡◌, ℕ, ◌+◌, ◌<◌, Bool, true, false, ◌||◌, ◌⊎◌, nat_eq, List, [], ◌∷◌, ◌++◌, length, get_or, set, MatchOption, Option, None, Some, option_to_list, refl, sym, ◌∙◌, ap, subst, inl, inr, arith}
+use Rattle.std.proofs.Common.{◌≡◌, ℕ, ◌<◌, Bool, true, false, ◌||◌, ◌⊎◌, nat_eq, List, [], ◌∷◌, ◌++◌, length, get_or, set, MatchOption, Option, None, Some, option_to_list, refl, sym, ◌∙◌, ap, subst, inl, inr, arith}
 use Rattle.std.specs.Prelude.{reverse}
-use Rattle.std.specs.List.{sum_by, IsDistinct}
+use Rattle.std.specs.List.{IsDistinct}
 use Rattle.std.proofs.lemmas.List.{length-set, length-reverse, get_or-set_same, get_or-set_other, reverse-append}
-use Rattle.std.proofs.lemmas.List.Sums.{sum_by-set}
 use Rattle.std.proofs.lemmas.Bool.{cases_eq, eq-eqb, false≢true, or_cases, or_right, eqb-true}
 use Rattle.heap_reach.specs.Reached.{IsIn}
-use Rattle.heap_reach.specs.Inner.Frontiers.{Frontier, is_on, IsTied, unmarked, Adds}
+use Rattle.heap_reach.specs.Inner.Frontiers.{Frontier, is_on, IsTied, Adds}
 use Rattle.heap_reach.proofs.Waiting.{below-marked, distinct-more, length-waiting}
 
 pub reverse-push : (items : List ℕ) (c : ℕ) → reverse (items ++ c ∷ []) ≡ c ∷ reverse items
@@ -24,19 +23,8 @@ had-set marks c n lt is =
 gets-set : (marks : List Bool) (c n : ℕ) → c < length marks → n ≡ c → IsIn (set marks c true) n
 gets-set marks c n lt same = subst (λ x. get_or (set marks c true) x false ≡ true) (sym same) (get_or-set_same marks c true false lt)
 
-only-set : (marks : List Bool) (c n : ℕ) → IsIn (set marks c true) n → IsIn marks n ⊎ (n ≡ c)
-only-set marks c n is =
-    elim (cases_eq n c) [
-      | inl same ↦ inr same
-      | inr other ↦ inl (sym (get_or-set_other marks c n true false other) ∙ is)
-    ]
-
 waits-here : (waiting : List ℕ) (c n : ℕ) → n ≡ c → is_on n (c ∷ waiting) ≡ true
 waits-here waiting c n same = ap (λ b. b || is_on n waiting) (eq-eqb n c same)
-
-waits-set : (marks : List Bool) (waiting : List ℕ) (c n : ℕ) → IsIn (set marks c true) n → IsIn marks n ⊎ (is_on n (c ∷ waiting) ≡ true)
-waits-set marks waiting c n is =
-    elim (only-set marks c n is) [ inl was ↦ inl was | inr same ↦ inr (waits-here waiting c n same) ]
 
 -- ---- a cell comes to wait
 
@@ -109,25 +97,6 @@ pub IsTied-room : (marks : List Bool) (capacity : ℕ) (items : List ℕ) (c : �
 IsTied-room marks capacity items c tied lt off =
     let pushed = IsTied-push marks capacity (reverse items) (c ∷ reverse items) c tied lt off refl in
     omega (arith, pushed.room, pushed.bound, length-reverse items)
-
-abbrev pub frontier : List Bool → ℕ → List ℕ → Frontier
-frontier marks reserved waiting = record { marks = marks; reserved = reserved; waiting = waiting }
-
-pub Adds-push : (marks : List Bool) (reserved : ℕ) (waiting after : List ℕ) (c : ℕ) → c < length marks → get_or marks c false ≡ false → after ≡ c ∷ waiting
-    → Adds (frontier marks reserved waiting) (frontier (set marks c true) reserved after) (λ n. n ≡ c)
-Adds-push marks reserved waiting after c lt off pushed =
-    let less : sum_by unmarked (set marks c true) + unmarked (get_or marks c false) ≡ sum_by unmarked marks + unmarked true = sum_by-set unmarked marks c true false lt in
-    let one : unmarked (get_or marks c false) ≡ 1 = ap unmarked off in
-    subst (λ ws. Adds (frontier marks reserved waiting) (frontier (set marks c true) reserved ws) (λ n. n ≡ c)) (sym pushed) (record {
-      cells = length-set marks c true;
-      room = refl;
-      had = λ n is. had-set marks c n lt is;
-      gets = λ n same. gets-set marks c n lt same;
-      only = λ n is. only-set marks c n is;
-      kept = λ n on. or_right (nat_eq n c) (is_on n waiting) on;
-      waits = λ n is. waits-set marks waiting c n is;
-      work = omega (arith, less, one);
-    })
 
 -- ---- sets of cells are added
 

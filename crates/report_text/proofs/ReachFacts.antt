@@ -16,14 +16,14 @@ module _ (p q : ℕ → Bool) (same : (n : ℕ) → p n ≡ q n) where
       ap (λ xs. xs ++ missed (p n) (address_at cells n)) (missed-same cells n)
       ∙ ap (λ b. missed_below cells q n ++ missed b (address_at cells n)) (same n)
 
-  pub count-same : (n : ℕ) → count_below p n ≡ count_below q n
+  count-same : (n : ℕ) → count_below p n ≡ count_below q n
   count-same zero = refl
   count-same (suc n) = ap (λ m. m + one_if (p n)) (count-same n) ∙ ap (λ b. count_below q n + one_if b) (same n)
 
-  pub unreached-same : (heap : HeapMap) → unreached_of heap p ≡ unreached_of heap q
+  unreached-same : (heap : HeapMap) → unreached_of heap p ≡ unreached_of heap q
   unreached-same heap = ap ascending (missed-same heap.cells heap.own)
 
-  pub reach_report-same : (heap : HeapMap) → reach_report heap p ≡ reach_report heap q
+  reach_report-same : (heap : HeapMap) → reach_report heap p ≡ reach_report heap q
   reach_report-same heap =
       ap (λ xs. flat_map unreached_line xs ++ totals_line heap.own (count_below p heap.own) (count_below p (length heap.cells) - count_below p heap.own)) (unreached-same heap)
       ∙ ap (λ m. flat_map unreached_line (unreached_of heap q) ++ totals_line heap.own m (count_below p (length heap.cells) - m)) (count-same heap.own)
