@@ -15,3 +15,4 @@ pub mod Redacting
 pub mod Runs
 pub mod SameFindings
 pub mod SameHeaps
+pub mod SameTrees

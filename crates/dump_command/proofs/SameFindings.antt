@@ -44,22 +44,22 @@ all-firsts P (p ∷ ps) all =
 
 -- ---- sections in which no payload stands
 
-both-hold : (a b : Bool) → (a && b) ≡ true → a ≡ true
-both-hold true b is = refl
-both-hold false b is = is
+pub left-holds : (a b : Bool) → (a && b) ≡ true → a ≡ true
+left-holds true b is = refl
+left-holds false b is = is
 
-tag-other : (tag text : List ℕ) → part_of tag ≡ part_of [] → has_tag tag text ≡ true → part_of (tag_of text) ≡ part_of []
+pub tag-other : (tag text : List ℕ) → part_of tag ≡ part_of [] → has_tag tag text ≡ true → part_of (tag_of text) ≡ part_of []
 tag-other tag text other has = ap part_of ((bytes_eq-Decides (tag_of text) tag).0 has) ∙ other
 
 process-other : (s : Section) → is_process s ≡ true → part_of (tag_of s.text) ≡ part_of []
-process-other s is = tag-other (codes "proc") s.text refl (both-hold (has_tag (codes "proc") s.text) (is_some (id_of s.text)) is)
+process-other s is = tag-other (codes "proc") s.text refl (left-holds (has_tag (codes "proc") s.text) (is_some (id_of s.text)) is)
 
 mail-other : (pid : List ℕ) (s : Section) → is_named (codes "proc_messages") (Some pid) s.text ≡ true → part_of (tag_of s.text) ≡ part_of []
 mail-other pid s is =
-    tag-other (codes "proc_messages") s.text refl (both-hold (has_tag (codes "proc_messages") s.text) (option_eq bytes_eq (id_of s.text) (Some pid)) is)
+    tag-other (codes "proc_messages") s.text refl (left-holds (has_tag (codes "proc_messages") s.text) (option_eq bytes_eq (id_of s.text) (Some pid)) is)
 
 module _ (enc : Enc) (before after : List ℕ) (others : KeepsOthers) where
-  same-body : (s : Section) → IsRedacted enc before after s → part_of (tag_of s.text) ≡ part_of [] → body_of after s ≡ body_of before s
+  pub same-body : (s : Section) → IsRedacted enc before after s → part_of (tag_of s.text) ≡ part_of [] → body_of after s ≡ body_of before s
   same-body s is other = is.body ∙ ap (λ p. redacted_body enc p (body_of before s)) other ∙ others enc (body_of before s)
 
   -- ---- the processes

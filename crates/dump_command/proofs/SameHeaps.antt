@@ -1,6 +1,6 @@
 -- The heaps of a redacted dump differ in the characters of their binaries alone.
 use Rattle.std.proofs.Common.{◌≡◌, ◌⊎◌, ℕ, ◌+◌, ◌-◌, Bool, true, false, List, [], ◌∷◌, ◌++◌, length, map, codes, Option, None, Some, if◌then◌else◌, refl, sym, ◌∙◌, ap, subst, inl, inr}
-use Rattle.std.specs.Prelude.{All, ◌&&◌, ◌==◌, cond, find, min, option_and_then, option_map}
+use Rattle.std.specs.Prelude.{All, ◌==◌, cond, find, min, option_and_then, option_map}
 use Rattle.std.specs.List.{between, cons_option, filter_map, list_any}
 use Rattle.std.specs.Option.{option_eq}
 use Rattle.std.specs.Str.{bytes_eq}
@@ -24,6 +24,7 @@ use Rattle.dump_redact.specs.Laws.{IsRedacted, KeepsIndex, KeepsLength, KeepsSec
 use Rattle.dump_redact.specs.Payloads.{KeepsBinaries}
 use Rattle.dump_redact.specs.Redacted.{bin_chars, part_of, redacted, version_of, without}
 use Rattle.dump_redact.specs.Redacted as redaction
+use Rattle.dump_command.proofs.SameFindings.{left-holds}
 use Rattle.dump_command.specs.Laws.{KeepsAddresses, KeepsHeaps, blank_cell, blank_form, blank_heap}
 use Rattle.dump_command.specs.Terms.{heap_body, heap_map, heap_of, heap_with, literals_body, literals_of, payloads_of}
 
@@ -40,14 +41,14 @@ found-is R P test (x ∷ xs) none some all = by (test x) refl (found-is R P test
 
 -- ---- a heap line
 
-abbrev IsBin : Option HeapForm → Type 0
+abbrev pub IsBin : Option HeapForm → Type 0
 IsBin form = (size : ℕ) × (chars : List ℕ) × (form ≡ Some (HeapBin size chars))
 
 abbrev cell : ℕ → Option HeapForm → Cell
 cell address form = record { address = address; form = form }
 
 module _ (enc : Enc) where
-  bin-or-same : (form : Option HeapForm) → IsBin form ⊎ ((bin_chars form ≡ None) × (option_map (blank_form enc) form ≡ form))
+  pub bin-or-same : (form : Option HeapForm) → IsBin form ⊎ ((bin_chars form ≡ None) × (option_map (blank_form enc) form ≡ form))
   bin-or-same None = inr (refl, refl)
   bin-or-same (Some (Cons head tail)) = inr (refl, refl)
   bin-or-same (Some (Tuple elements)) = inr (refl, refl)
@@ -163,10 +164,6 @@ module _ (enc : Enc) where
 
         tag-heap : (tag text : List ℕ) → part_of tag ≡ part_of (codes "proc_heap") → has_tag tag text ≡ true → part_of (tag_of text) ≡ part_of (codes "proc_heap")
         tag-heap tag text heap has = ap part_of ((bytes_eq-Decides (tag_of text) tag).0 has) ∙ heap
-
-        left-holds : (a b : Bool) → (a && b) ≡ true → a ≡ true
-        left-holds true b is = refl
-        left-holds false b is = is
 
         own-body : (pid : List ℕ) → body_in after (heap_of pid ss) ≡ redacted_heap (body_in before (heap_of pid ss))
         own-body pid =

@@ -1,14 +1,24 @@
 -- What a redacted dump says as the dump did.
-use Rattle.std.specs.Prelude.{◌≡◌, ℕ, Bool, List, map, option_map}
+use Rattle.std.specs.Prelude.{◌≡◌, ℕ, Bool, true, false, List, map, option_map}
+use Rattle.section_index.specs.Sections.{sections}
 use Rattle.term_forms.specs.declared.enc.Enc.{Enc}
-use Rattle.term_forms.specs.Forms.{HeapForm, HeapBin}
+use Rattle.term_forms.specs.Elements.{Element}
+use Rattle.term_forms.specs.Forms.{HeapForm, HeapBin, RefBin, SubBin}
+use Rattle.root_views.specs.Roots.{BodyRoot}
 use Rattle.heap_cells.specs.Cells.{Cell, addresses}
 use Rattle.heap_cells.specs.HeapMap.{HeapMap}
+use Rattle.heap_cells.specs.Loading.{body_in}
+use Rattle.term_unfold.specs.Leaves.{leaf_text}
+use Rattle.term_unfold.specs.Trees.{Value, Immediate, OfCell, Tree, Leaf, Bad, Branch, Trees, none, more, verdict}
+use Rattle.term_unfold.specs.Unfolding.{unfolding_of}
+use Rattle.term_unfold.specs.Walks.{Walk}
+use Rattle.report_text.specs.declared.root_report.RootKind.{RootKind}
+use Rattle.report_text.specs.Roots.{roots_in}
 use Rattle.process_table.specs.Processes.{process_table}
 use Rattle.dump_audit.specs.Findings.{findings}
 use Rattle.dump_redact.specs.Redacted.{blank, redacted}
 use Rattle.dump_command.specs.Audits.{audit_in}
-use Rattle.dump_command.specs.Terms.{heap_map}
+use Rattle.dump_command.specs.Terms.{heap_map, payloads_of, roots_section, walk_of}
 
 -- it has the same processes
 abbrev pub KeepsProcesses : Type 0
@@ -47,3 +57,63 @@ KeepsHeaps = (bytes pid : List ℕ) → heap_map pid (redacted bytes) ≡ blank_
 -- so that it has the same addresses in the same order
 abbrev pub KeepsAddresses : Type 0
 KeepsAddresses = (bytes pid : List ℕ) → addresses (heap_map pid (redacted bytes)).cells ≡ addresses (heap_map pid bytes).cells
+
+-- ---- terms
+
+-- the roots of one kind of a process
+abbrev pub found_roots : RootKind → List ℕ → List ℕ → List BodyRoot
+found_roots kind pid bytes = roots_in kind (body_in bytes (roots_section kind pid (sections bytes)))
+
+-- each process has the same roots
+abbrev pub KeepsRoots : Type 0
+KeepsRoots = (kind : RootKind) (bytes pid : List ℕ) → found_roots kind pid (redacted bytes) ≡ found_roots kind pid bytes
+
+-- what a leaf holds, with the characters of a binary on the heap made blank
+abbrev pub blank_value : Enc → Value → Value
+blank_value enc (Immediate element) = Immediate element
+blank_value enc (OfCell a form) = OfCell a (blank_form enc form)
+
+abbrev mutual
+  -- a tree with such leaves: its nodes, their addresses and what is bad are the same
+  pub blank_tree : Enc → Tree → Tree
+  blank_tree enc (Leaf value) = Leaf (blank_value enc value)
+  blank_tree enc (Bad address why) = Bad address why
+  blank_tree enc (Branch kind children) = Branch kind (blank_trees enc children)
+
+  -- each of some trees
+  pub blank_trees : Enc → Trees → Trees
+  blank_trees enc none = none
+  blank_trees enc (more tree trees) = more (blank_tree enc tree) (blank_trees enc trees)
+
+-- the tree of an element in the heap of a process
+abbrev pub tree_in : List ℕ → Element → List ℕ → Tree
+tree_in pid root bytes = unfolding_of (heap_map pid bytes).cells root
+
+-- the tree of each element differs in the characters of binaries on the heap alone
+abbrev pub KeepsTrees : Type 0
+KeepsTrees = (bytes pid : List ℕ) (root : Element) → tree_in pid root (redacted bytes) ≡ blank_tree (payloads_of bytes) (tree_in pid root bytes)
+
+-- so that within each budget the first bad address is the same, or none is bad
+abbrev pub KeepsVerdicts : Type 0
+KeepsVerdicts = (bytes pid : List ℕ) (root : Element) (nodes : ℕ) → verdict (tree_in pid root (redacted bytes)) nodes ≡ verdict (tree_in pid root bytes) nodes
+
+-- a form that is a binary, refers to one or is a part of one
+abbrev pub is_binary_form : HeapForm → Bool
+is_binary_form (HeapBin size chars) = true
+is_binary_form (RefBin address offset size) = true
+is_binary_form (SubBin address offset size) = true
+is_binary_form form = false
+
+-- a leaf that holds such a form
+abbrev pub is_binary : Value → Bool
+is_binary (Immediate element) = false
+is_binary (OfCell a form) = is_binary_form form
+
+-- the text of a leaf over a heap and its previews
+abbrev pub text_over : Walk → Value → List ℕ
+text_over walk value = leaf_text walk.heap.enc walk.heap.cells walk.previews value
+
+-- the text of each other leaf is the same
+abbrev pub KeepsLeaves : Type 0
+KeepsLeaves = (bytes pid : List ℕ) (value : Value) → is_binary value ≡ false
+    → text_over (walk_of pid (redacted bytes)) (blank_value (payloads_of bytes) value) ≡ text_over (walk_of pid bytes) value

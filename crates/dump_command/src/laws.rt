@@ -1,5 +1,5 @@
 // What a redacted dump says as the dump did. Each law is the contract of a function that does nothing.
-ghost use Rattle.dump_command.specs.Laws.{KeepsProcesses, KeepsFindings, KeepsHeaps, KeepsAddresses};
+ghost use Rattle.dump_command.specs.Laws.{KeepsProcesses, KeepsFindings, KeepsHeaps, KeepsAddresses, KeepsRoots, KeepsTrees, KeepsVerdicts, KeepsLeaves};
 
 use dump_redact::{binaries_stay, bodies_are_redacted, sections_stay};
 
@@ -21,4 +21,18 @@ pub fn heaps_stay()
     sections_stay();
     bodies_are_redacted();
     binaries_stay();
+}
+
+/// A law, and no work: each process of a redacted dump has the same roots, and the tree of each element differs in what its
+/// binaries hold alone. So within each budget the same address is the first that is bad, and the text of each leaf that is no
+/// binary and no reference to one stays.
+pub fn trees_stay()
+    ensures roots { KeepsRoots }
+    ensures trees { KeepsTrees }
+    ensures verdicts { KeepsVerdicts }
+    ensures leaves { KeepsLeaves }
+{
+    sections_stay();
+    bodies_are_redacted();
+    heaps_stay();
 }

@@ -23,6 +23,6 @@ pub mod status;
 mod stop;
 mod words;
 
-pub use laws::{findings_stay, heaps_stay};
+pub use laws::{findings_stay, heaps_stay, trees_stay};
 pub use runner::run;
 pub use words::{Cmd, read_words};
