@@ -31,7 +31,8 @@ use Rattle.dump_command.specs.Terms.{heap_map, payloads_of, previews_in, roots_s
 use Rattle.dump_command.proofs.SameFindings.{left-holds, same-body, tag-other}
 use Rattle.dump_command.proofs.SameHeaps.{bin-or-same, found-is}
 
--- ---- what the maps of a heap open, by the number of a cell and its form
+-- ---- what the maps of a heap open, by the number of a cell and its form: the rules of map_nodes in the words of this crate, which
+-- doesn't stand on it
 
 -- a flat map at an address, by the cell of its keys
 abbrev keyed_by : ℕ → ℕ → List Element → Option HeapForm → Opening
@@ -148,6 +149,7 @@ module _ (enc : Enc) where
   form-same : (heap : List Cell) (n : ℕ) → form_at (blanked heap) n ≡ option_map (blank_form enc) (form_at heap n)
   form-same heap n = ap (option_and_then (λ (c : Cell). c.form)) (slice_get-map (blank_cell enc) heap n) ∙ cell-form (slice_get heap n)
 
+  -- the form of the cell that has the address
   abbrev form_with : List Cell → ℕ → Option (Option HeapForm)
   form_with heap a = option_map (form_at heap) (number_at heap a)
 

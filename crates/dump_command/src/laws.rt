@@ -23,9 +23,9 @@ pub fn heaps_stay()
     binaries_stay();
 }
 
-/// A law, and no work: each process of a redacted dump has the same roots, and the tree of each element differs in what its
-/// binaries hold alone. So within each budget the same address is the first that is bad, and the text of each leaf that is no
-/// binary and no reference to one stays.
+/// A law, and no work: each process of a redacted dump has the same roots, and the tree of each element differs in the
+/// characters of binaries on the heap alone. So within each budget the same address is the first that is bad. The text of each
+/// leaf that is no binary and refers to none stays.
 pub fn trees_stay()
     ensures roots { KeepsRoots }
     ensures trees { KeepsTrees }
