@@ -48,11 +48,12 @@ shape() {
     "$folder/hostile" "$1" "$folder/once" "$2" || exit 1
     "$folder/hostile" plain "$1" "$folder/plain" "$2" || exit 1
     "$folder/hostile" "$1" "$folder/twice" $((2 * $2)) || exit 1
-    for command in index info procs memory ets ports nodes mods links; do
+    for command in index info procs memory ets ports nodes mods links redact; do
         tell "$1" "$command"
     done
     tell "$1" audit 5
     tell "$1" audit 5 full
+    tell "$1" audit-json 5
     tell "$1" proc "<0.1.0>"
     for command in stack dict mail; do
         tell "$1" "$command" "<0.1.0>" 1
