@@ -17,6 +17,3 @@ pub use entries::Preview;
 pub use faults::{BinFault, PreviewFault};
 pub use previews::Previews;
 pub use wholes::{decode_payload, whole};
-
-#[cfg(test)]
-mod tests;

@@ -9,6 +9,3 @@ mod queues;
 
 pub use auditing::{audit, audit_full, audit_with};
 pub use finding::Finding;
-
-#[cfg(test)]
-mod tests;

@@ -1,5 +1,5 @@
 -- What a run of `redact` leaves.
-use Rattle.std.proofs.Common.{◌≡◌, ◌≤◌, ℕ, List, Option, None, Some, Result, Ok, Err, refl, sym, ◌∙◌, ap, subst, inl, inr, arith}
+use Rattle.std.proofs.Common.{◌≡◌, ℕ, List, Option, None, Some, Result, Ok, Err, refl, sym, ◌∙◌, ap, subst, inl, inr, arith}
 use Rattle.std.specs.Prelude.{IfErr, IsErrOf, IsSome, OnOk}
 use Rattle.std.specs.Option.{option_map, option_or}
 use Rattle.dump_io.specs.Dumps.{Files, Now, told, Use, used, ReadsAtMost}
@@ -17,7 +17,7 @@ use Rattle.report_text.specs.declared.refusals.Refusal.TheVariants.{SectionTooLa
 use Rattle.dump_command.specs.Command.{redact}
 use Rattle.dump_command.specs.Report.{refusal}
 use Rattle.dump_command.specs.Run.{HasStopped, IsDumpOf, IsLeftOf}
-use Rattle.dump_command.specs.Inner.Opened.{HasOpened, IsIndexed}
+use Rattle.dump_command.specs.Inner.Opened.{HasOpened}
 use Rattle.dump_command.specs.Inner.Reading.{Takes}
 use Rattle.dump_command.specs.Inner.Runs.{Runs}
 use Rattle.dump_command.specs.Inner.Stops.{redact_end}

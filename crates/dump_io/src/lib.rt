@@ -51,6 +51,3 @@ pub use pieces::{Piece, put_pieces};
 pub use read::read_full;
 pub use sink::{Sink, write_all};
 pub use text::Text;
-
-#[cfg(test)]
-mod tests;

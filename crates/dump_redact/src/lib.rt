@@ -1,8 +1,8 @@
 //! A dump with its binary payloads made zero.
 //!
-//! [`redact`] copies a dump that is open to a sink. The bytes of binaries become zeros there, and all else stays: each
-//! offset, each section, each address and each size. So what a dump held of users' data in binaries can be left out before
-//! it is handed on. It isn't made anonymous: atoms, numbers, external terms and messages stay.
+//! [`redact`] writes the dump that is open into a sink, with zeros in place of the bytes of binaries. All else stays: each
+//! offset, each section, each address and each size. So what a node held of its users' data in binaries can be left out
+//! before a dump is handed on. It isn't made anonymous: atoms, numbers, external terms and messages stay.
 //!
 //! ```text
 //! let index = build(alloc, &mut dumps, "erl_crash.dump", &limits)?;
@@ -24,6 +24,3 @@ mod redacting;
 pub use faults::RedactFault;
 pub use laws::{binaries_stay, bodies_are_redacted, payloads_stay, redacted_stays, sections_stay};
 pub use redacting::redact;
-
-#[cfg(test)]
-mod tests;

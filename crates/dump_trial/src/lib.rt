@@ -10,6 +10,3 @@ mod only_memory;
 mod trials;
 
 pub use trials::trial;
-
-#[cfg(test)]
-mod tests;

@@ -12,6 +12,3 @@ mod writing;
 pub use laws::made_dump_is_accepted;
 pub use made::make;
 pub use writing::{put_header, put_heap, put_line};
-
-#[cfg(test)]
-mod tests;

@@ -20,6 +20,3 @@ mod stack;
 pub use ext::{Ext, ExtFault};
 pub use laws::{bad_place_is_longest, no_proper_prefix, text_is_read, unique_reading};
 pub use reading::judge;
-
-#[cfg(test)]
-mod tests;

@@ -16,6 +16,3 @@ pub mod shapes;
 
 pub use reading::{field, find};
 pub use shapes::{FieldAt, Line};
-
-#[cfg(test)]
-mod tests;

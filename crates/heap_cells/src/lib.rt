@@ -19,6 +19,3 @@ mod texts;
 pub use cells::{CellIx, Kid, Kind, Seat, Slot, Why};
 pub use faults::HeapFault;
 pub use heap::Heap;
-
-#[cfg(test)]
-mod tests;

@@ -19,6 +19,3 @@ mod putting;
 pub use building::tree;
 pub use laws::text_reads_back;
 pub use putting::{JsonFault, put_json};
-
-#[cfg(test)]
-mod tests;

@@ -28,6 +28,3 @@ pub use header_sink::{HeaderSink, HeaderStop, RefusedHeader};
 pub use laws::streams_grow;
 pub use line_scan::LineScan;
 pub use scan_fault::ScanFault;
-
-#[cfg(test)]
-mod tests;

@@ -16,6 +16,3 @@ pub use graph::Graph;
 pub use laws::{a_list_is_cut_at_gaps, an_entry_has_one_kind};
 pub use shapes::{Entry, EntryKind};
 pub use texts::is_local;
-
-#[cfg(test)]
-mod tests;

@@ -14,6 +14,3 @@ mod procs;
 pub use proc_sections::ProcSections;
 pub use procs::{Proc, Procs};
 pub use section_rows::Kept;
-
-#[cfg(test)]
-mod tests;

@@ -25,6 +25,3 @@ pub use dictionaries::{DictRoots, dict};
 pub use mailboxes::{MailRoots, mail};
 pub use roots::{Root, What};
 pub use stacks::{StackRoots, stack};
-
-#[cfg(test)]
-mod tests;

@@ -36,6 +36,3 @@ pub use index::{Index, Section, State};
 pub use laws::{a_cut_keeps_sections, sections_tile_a_dump};
 pub use opening::{OpenFault, Version};
 pub use tags::Tags;
-
-#[cfg(test)]
-mod tests;

@@ -13,6 +13,3 @@ mod store;
 pub use columns::{Column, Kept};
 pub use loading::large;
 pub use rows::SectionRows;
-
-#[cfg(test)]
-mod tests;

@@ -9,6 +9,3 @@ mod rows;
 
 pub use kinds::TableKind;
 pub use rows::Rows;
-
-#[cfg(test)]
-mod tests;

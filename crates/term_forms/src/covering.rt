@@ -135,6 +135,3 @@ pub fn payload_part(chars: &[u8], enc: Enc, size: u64, from: u64, into: &mut [u8
         into.copy_from_slice(part(read, cover.skip as usize, into.len()));
     }
 }
-
-#[cfg(test)]
-mod tests;

@@ -46,6 +46,3 @@ pub use placed::{PlacedElems, placed_form};
 pub use shapes::PlacedElem;
 pub use words::heap_line;
 pub use writing::{put_elem, put_form};
-
-#[cfg(test)]
-mod tests;

@@ -97,6 +97,3 @@ pub fn payload_is_of_one(enc: Enc)
 pub fn payload_bytes_are_read(enc: Enc)
     ensures { (chars bytes : List ℕ) → (payload_bytes enc chars ≡ Some bytes) ↔ IsPayload enc chars bytes }
 {}
-
-#[cfg(test)]
-mod tests;

@@ -47,7 +47,7 @@ text_for enc Other section done dump = between done done dump
 -- the body has a byte, and lies in what is open
 pub record HasBody (now : Now) (section : Section) : Type 0 where
   pub some : section.body < section.end
-  pub open' : IsOpen now
+  pub is_open : IsOpen now
   pub within : section.end ≤ size_of now
 
 -- the refusal of one section

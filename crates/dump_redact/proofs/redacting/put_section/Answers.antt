@@ -10,7 +10,7 @@ put_upto-requires-clause-body g c =
     let size = built-size (g.D.Dumps.now c.args.dumps.now) c.args.index.now c.requires.over in
     record {
       some = part-some s Heap (sym c.in-Heap.ensures.part) (λ same. let f : ⊥ = cc (same) in f);
-      open' = size.0;
+      is_open = size.0;
       within = omega (arith, size.1, c.part_at.ensures.within);
     }
 
@@ -20,6 +20,6 @@ put_upto-requires-in-Binary-clause-body g c =
     let size = built-size (g.D.Dumps.now c.args.dumps.now) c.args.index.now c.requires.over in
     record {
       some = part-some s Binary (sym c.in-Binary.ensures.part) (λ same. let f : ⊥ = cc (same) in f);
-      open' = size.0;
+      is_open = size.0;
       within = omega (arith, size.1, c.part_at.ensures.within);
     }

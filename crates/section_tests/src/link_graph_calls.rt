@@ -1,8 +1,8 @@
 // Link lists, and the graph of a small dump.
 ghost use Rattle.std.specs.Prelude.{◌≤◌, length};
 
-use crate::reading::entries;
-use crate::{EntryKind, Graph, is_local};
+use link_graph::reading::entries;
+use link_graph::{EntryKind, Graph, is_local};
 use dump_io::{Dumps, Limits, MemDumps};
 use process_table::Procs;
 use section_index::build;

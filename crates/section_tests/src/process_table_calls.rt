@@ -1,4 +1,4 @@
-use crate::{Kept, ProcSections, Procs};
+use process_table::{Kept, ProcSections, Procs};
 use dump_io::{Failed, Limits, MemDumps, MemSink, Sink, put_dec, write_all};
 use section_index::{BodyFault, build};
 use std::alloc::Global;

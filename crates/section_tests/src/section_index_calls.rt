@@ -1,4 +1,4 @@
-use crate::{BodyFault, State, Tags, Version, build, read_body};
+use section_index::{BodyFault, State, Tags, Version, build, read_body};
 use dump_io::{Dumps, Limits, MemDumps};
 use std::alloc::Global;
 use std::test::Fail;

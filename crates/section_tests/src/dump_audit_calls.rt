@@ -1,4 +1,4 @@
-use crate::{Finding, audit, audit_full};
+use dump_audit::{Finding, audit, audit_full};
 use dump_io::{Dumps, Limits, MemDumps};
 use link_graph::Graph;
 use process_table::Procs;

@@ -1,6 +1,6 @@
-use crate::reading::cover;
-use crate::shapes::Cover;
-use crate::{Enc, is_payload, payload_part};
+use term_forms::reading::cover;
+use term_forms::shapes::Cover;
+use term_forms::{Enc, is_payload, payload_part};
 use std::process::Abort;
 
 fn numbers(cover: Cover) -> [u64; 4] {

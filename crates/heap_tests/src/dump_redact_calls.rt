@@ -1,4 +1,4 @@
-use crate::redact;
+use dump_redact::redact;
 use dump_io::{Limits, MemDumps, MemSink};
 use section_index::build;
 use std::test::Fail;

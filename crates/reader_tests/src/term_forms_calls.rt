@@ -1,6 +1,6 @@
-use crate::reading::{elem, form};
-use crate::shapes::{Elem, PlacedElem};
-use crate::{Enc, heap_line, placed_form, put_elem, put_form, whole_elem};
+use term_forms::reading::{elem, form};
+use term_forms::shapes::{Elem, PlacedElem};
+use term_forms::{Enc, heap_line, placed_form, put_elem, put_form, whole_elem};
 use std::alloc::Global;
 use std::process::Abort;
 use std::test::Fail;

@@ -1,4 +1,4 @@
-use crate::{Ext, ExtFault};
+use etf_terms::{Ext, ExtFault};
 use dump_io::MemSink;
 use std::alloc::{AllocError, Global};
 use std::process::Abort;

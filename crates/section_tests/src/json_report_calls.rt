@@ -1,4 +1,4 @@
-use crate::{put_json, tree};
+use json_report::{put_json, tree};
 use dump_audit::audit_with;
 use dump_io::{Dumps, Limits, MemDumps, MemSink};
 use link_graph::Graph;

@@ -1,4 +1,4 @@
-use crate::trial;
+use dump_trial::trial;
 use report_text::{Summary, Tally};
 use std::test::Fail;
 

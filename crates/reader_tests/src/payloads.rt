@@ -1,4 +1,4 @@
-use crate::{Enc, is_payload, payload};
+use term_forms::{Enc, is_payload, payload};
 use std::process::Abort;
 
 fn read(rt: &impl Abort, chars: &[u8], enc: Enc, bytes: &[u8]) {

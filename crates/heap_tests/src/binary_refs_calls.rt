@@ -1,7 +1,7 @@
 ghost use Rattle.std.specs.Prelude.{IfOk};
 ghost use Rattle.binary_refs.specs.Previews.{AreFor};
 
-use crate::{BinFault, Preview, PreviewFault, Previews, whole};
+use binary_refs::{BinFault, Preview, PreviewFault, Previews, whole};
 use dump_io::{Dumps, Limits, MemDumps};
 use heap_cells::{Heap, Kind};
 use section_index::build;

@@ -1,4 +1,4 @@
-use crate::{Rows, TableKind};
+use table_sections::{Rows, TableKind};
 use dump_io::{Failed, Limits, MemDumps, MemSink, Sink, put_dec, write_all};
 use section_index::build;
 use std::alloc::Global;

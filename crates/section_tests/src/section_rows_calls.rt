@@ -1,4 +1,4 @@
-use crate::{Column, Kept, SectionRows};
+use section_rows::{Column, Kept, SectionRows};
 use dump_io::{Dumps, Failed, Limits, MemDumps, MemSink, Sink, put_dec, write_all};
 use section_index::{BodyFault, build};
 use std::alloc::Global;

@@ -2,7 +2,7 @@
 ghost use Rattle.std.specs.Prelude.{◌<◌, length};
 ghost use Rattle.heap_cells.specs.Targets.{number};
 
-use crate::{CellIx, Heap, HeapFault, Kid, Kind, Seat, Slot};
+use heap_cells::{CellIx, Heap, HeapFault, Kid, Kind, Seat, Slot};
 use dump_io::{Limits, MemDumps};
 use section_index::build;
 use std::alloc::{AllocError, Global};

@@ -1,7 +1,7 @@
 ghost use Rattle.std.specs.Prelude.{◌≡◌, ◌<◌, ◌++◌, ◌∷◌, [], false, None, OnOk, OnErr, length, map};
 ghost use Rattle.dump_io.specs.Lines.{Header};
 
-use crate::{HeaderSink, HeaderStop, LineScan, RefusedHeader, ScanFault};
+use line_source::{HeaderSink, HeaderStop, LineScan, RefusedHeader, ScanFault};
 use std::alloc::Global;
 use std::test::Fail;
 

@@ -1,6 +1,6 @@
 ghost use Rattle.std.specs.Iterator.{IsFinite};
 
-use crate::{Root, What, dict, mail, messages, stack};
+use root_views::{Root, What, dict, mail, messages, stack};
 use std::process::Abort;
 use term_forms::shapes::Elem;
 

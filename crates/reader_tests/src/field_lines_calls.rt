@@ -1,5 +1,5 @@
-use crate::reading::lines;
-use crate::{FieldAt, field, find};
+use field_lines::reading::lines;
+use field_lines::{FieldAt, field, find};
 use std::test::Fail;
 
 const BODY: &[u8] = b"State: Waiting\r\nname:  a:b\n\nnames:x\nState:\nlast: c\r";

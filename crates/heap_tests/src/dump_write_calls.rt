@@ -3,7 +3,7 @@ ghost use Rattle.std.specs.List.{ends_with};
 ghost use Rattle.dump_io.specs.Lines.{lf, cr};
 ghost use Rattle.dump_write.specs.Written.{lacks};
 
-use crate::{make, put_header, put_heap, put_line};
+use dump_write::{make, put_header, put_heap, put_line};
 use std::test::Fail;
 use term_forms::reading::form;
 use term_forms::{Enc, put_form};
