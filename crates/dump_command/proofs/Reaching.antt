@@ -16,10 +16,10 @@ use Rattle.heap_cells.specs.HeapMap.{HeapMap}
 use Rattle.heap_cells.specs.Loading.{body_in, section_in}
 use Rattle.heap_reach.specs.Rounds.{reached_by}
 use Rattle.heap_reach.specs.Unreached.{ascending, count_below, missed_below}
-use Rattle.report_text.specs.declared.root_report.RootKind.{RootKind}
-use Rattle.report_text.specs.declared.root_report.RootKind.TheVariants.{Stack, Dict, Mail}
+use Rattle.root_views.specs.declared.kinds.RootKind.{RootKind}
+use Rattle.root_views.specs.declared.kinds.RootKind.TheVariants.{Stack, Dict, Mail}
 use Rattle.report_text.specs.Reach.{terms_of, totals_line, unreached_line}
-use Rattle.report_text.specs.Roots.{roots_in}
+use Rattle.root_views.specs.Kinds.{roots_in}
 use Rattle.dump_command.specs.Command.{Command, reach}
 use Rattle.dump_command.specs.Report.{heap_bodies, one_of, root_bodies}
 use Rattle.dump_command.specs.Terms.{heap_map, reach_of, root_terms, roots_section, terms_in}

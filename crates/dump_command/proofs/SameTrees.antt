@@ -21,9 +21,9 @@ use Rattle.term_unfold.specs.declared.node.NodeKind.TheVariants as kinds
 use Rattle.term_unfold.specs.Rules.{Child, Term, Item, Opening, leaf, bad, node, is_on, unless_on, terms, items, pairs, flat_opening, form_opening, cell_opening, term_opening, opening}
 use Rattle.term_unfold.specs.Trees.{Value, Immediate, OfCell, Tree, Leaf, Bad, Branch, Trees, none, more, pre, pre_all, seen, or_else, first_bad, verdict}
 use Rattle.term_unfold.specs.Unfolding.{trees, grown, unfold_by, unfolded, unfolding_of}
-use Rattle.report_text.specs.declared.root_report.RootKind.{RootKind}
-use Rattle.report_text.specs.declared.root_report.RootKind.TheVariants.{Stack, Dict, Mail}
-use Rattle.report_text.specs.Roots.{roots_in, roots_tag}
+use Rattle.root_views.specs.declared.kinds.RootKind.{RootKind}
+use Rattle.root_views.specs.declared.kinds.RootKind.TheVariants.{Stack, Dict, Mail}
+use Rattle.root_views.specs.Kinds.{roots_in, roots_tag}
 use Rattle.dump_redact.specs.Laws.{IsRedacted, KeepsOthers, KeepsSections, RedactsSections}
 use Rattle.dump_redact.specs.Redacted.{blank, enc_of, part_of, redacted, version_of}
 use Rattle.dump_command.specs.Laws.{KeepsHeaps, KeepsLeaves, KeepsRoots, KeepsTrees, KeepsVerdicts, blank_cell, blank_form, blank_tree, blank_trees, blank_value, is_binary}

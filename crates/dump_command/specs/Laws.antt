@@ -12,8 +12,8 @@ use Rattle.term_unfold.specs.Leaves.{leaf_text}
 use Rattle.term_unfold.specs.Trees.{Value, Immediate, OfCell, Tree, Leaf, Bad, Branch, Trees, none, more, verdict}
 use Rattle.term_unfold.specs.Unfolding.{unfolding_of}
 use Rattle.term_unfold.specs.Walks.{Walk}
-use Rattle.report_text.specs.declared.root_report.RootKind.{RootKind}
-use Rattle.report_text.specs.Roots.{roots_in}
+use Rattle.root_views.specs.declared.kinds.RootKind.{RootKind}
+use Rattle.root_views.specs.Kinds.{roots_in}
 use Rattle.process_table.specs.Processes.{process_table}
 use Rattle.dump_audit.specs.Findings.{findings}
 use Rattle.dump_redact.specs.Redacted.{blank, redacted}

@@ -11,10 +11,10 @@ use Rattle.section_index.specs.Sections.{Section, section, sections, tag_of}
 use Rattle.section_index.specs.Tags.{tag_counts}
 use Rattle.report_text.specs.declared.refusals.Refusal.{Refusal}
 use Rattle.report_text.specs.declared.refusals.Refusal.TheVariants.{Open, NoProcess, SectionTooLarge}
-use Rattle.report_text.specs.declared.root_report.RootKind.TheVariants.{Stack, Dict, Mail}
+use Rattle.root_views.specs.declared.kinds.RootKind.TheVariants.{Stack, Dict, Mail}
 use Rattle.report_text.specs.Reports.{index_report, info_report}
 use Rattle.report_text.specs.Tables.{fields_report, procs_report, rows_report}
-use Rattle.report_text.specs.Tallies.{trial_report}
+use Rattle.dump_trial.specs.Tallies.{trial_report}
 use Rattle.report_text.specs.Links.{links_report}
 use Rattle.report_text.specs.Findings.{audit_report}
 use Rattle.dump_audit.specs.Findings.{findings}

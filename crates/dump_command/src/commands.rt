@@ -41,7 +41,7 @@ use proc::Proc;
 use procs::ProcessTable;
 use reach::Reach;
 use redact::run_redact;
-use report_text::RootKind;
+use root_views::RootKind;
 use roots::Roots;
 use std::alloc::Global;
 use table_sections::TableKind;

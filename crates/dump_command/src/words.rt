@@ -8,7 +8,7 @@ ghost use Rattle.dump_io.specs.Numbers.{hex_number};
 use crate::budgets::{Budget, read_budget};
 use crate::made_words::number_command;
 use dump_io::{dec_u64, hex_u64};
-use report_text::RootKind;
+use root_views::RootKind;
 
 /// A command with its words.
 #[derive(Clone, Copy, Debug, PartialEq, Eq)]

@@ -24,8 +24,8 @@ use Rattle.heap_cells.specs.declared.faults.HeapFault.{HeapFault}
 use Rattle.heap_cells.specs.declared.faults.HeapFault.TheVariants as heap_faults
 use Rattle.heap_cells.specs.Loading.{enc_of, section_in, body_in, heap_section, literals_section, section_fault}
 use Rattle.heap_cells.specs.Loading as heaps
-use Rattle.report_text.specs.declared.root_report.RootKind.{RootKind}
-use Rattle.report_text.specs.Roots.{roots_tag}
+use Rattle.root_views.specs.declared.kinds.RootKind.{RootKind}
+use Rattle.root_views.specs.Kinds.{roots_tag}
 use Rattle.dump_trial.specs.Trial.{root_body}
 use Rattle.dump_trial.specs.Inner.Held.{bytes_in, IsOpened}
 use Rattle.dump_trial.proofs.Contained.{IsSmall}

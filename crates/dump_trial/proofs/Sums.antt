@@ -5,7 +5,7 @@ use Rattle.std.specs.List.{sum_by}
 use Rattle.std.proofs.lemmas.List.Sums.{sum_by_more}
 use Rattle.std.proofs.lemmas.Option.{slice_get_within, get_or_from_slice_get}
 use Rattle.process_table.specs.Processes.{Process}
-use Rattle.report_text.specs.declared.tally.Tally.{Tally}
+use Rattle.dump_trial.specs.declared.tally.Tally.{Tally}
 use Rattle.dump_trial.specs.Trial.{process_tally, tally_of}
 use Rattle.dump_trial.specs.Inner.Tallies.{plus}
 

@@ -10,12 +10,12 @@ use Rattle.heap_cells.specs.Loading.{enc_of, section_in, heap_section, literals_
 use Rattle.root_views.specs.Roots.{BodyRoot}
 use Rattle.dump_audit.specs.Findings.{audit_of, findings}
 use Rattle.dump_write.specs.Made.{made}
-use Rattle.report_text.specs.declared.root_report.RootKind.{RootKind}
-use Rattle.report_text.specs.declared.root_report.RootKind.TheVariants.{Stack, Dict, Mail}
-use Rattle.report_text.specs.declared.tally.Tally.{Tally}
-use Rattle.report_text.specs.declared.tally.Summary.{Summary}
-use Rattle.report_text.specs.Roots.{roots_in, roots_tag}
-use Rattle.report_text.specs.Tallies.{bad_roots}
+use Rattle.root_views.specs.declared.kinds.RootKind.{RootKind}
+use Rattle.root_views.specs.declared.kinds.RootKind.TheVariants.{Stack, Dict, Mail}
+use Rattle.dump_trial.specs.declared.tally.Tally.{Tally}
+use Rattle.dump_trial.specs.declared.summary.Summary.{Summary}
+use Rattle.root_views.specs.Kinds.{roots_in, roots_tag}
+use Rattle.dump_trial.specs.Tallies.{bad_roots}
 
 -- a root is judged by its first 1,000 nodes
 abbrev pub judged_nodes : ℕ

@@ -1,12 +1,13 @@
 // The roots of processes are counted, and those that are bad.
 ghost use Rattle.std.specs.Prelude.{◌≡◌, ◌+◌, ◌<◌, ◌^◌, IfOk};
-ghost use Rattle.report_text.specs.Roots.{roots_in};
+ghost use Rattle.root_views.specs.Kinds.{roots_in};
 ghost use Rattle.dump_trial.specs.Trial.{root_body, tally_in, process_tally, tally_of};
 ghost use Rattle.dump_trial.specs.Inner.Tallies.{plus, AreAtMost};
 
 use crate::held::Held;
+use crate::tally::{Tally, count_roots};
 use process_table::Procs;
-use report_text::{RootKind, Tally, count_roots};
+use root_views::RootKind;
 use std::alloc::{AllocError, Global};
 use term_unfold::Walker;
 

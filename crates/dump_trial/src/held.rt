@@ -12,7 +12,7 @@ use binary_refs::Previews;
 use dump_io::{DumpFile, HeldDump, Limits};
 use heap_cells::Heap;
 use process_table::Procs;
-use report_text::RootKind;
+use root_views::RootKind;
 use section_index::{Index, build, read_body};
 use std::alloc::{AllocError, Global};
 use std::marker::Model;

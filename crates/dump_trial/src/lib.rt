@@ -7,6 +7,10 @@
 mod counting;
 mod held;
 mod only_memory;
+mod summary;
+mod tally;
 mod trials;
 
+pub use summary::{Summary, put_trial};
+pub use tally::Tally;
 pub use trials::trial;

@@ -6,11 +6,11 @@ ghost use Rattle.dump_trial.specs.Trial.{queue_limit, summary_of, trial_of};
 
 use crate::counting::count_processes;
 use crate::held::Held;
+use crate::summary::Summary;
 use dump_audit::audit;
 use dump_write::{made_dump_is_accepted, make};
 use link_graph::Graph;
 use process_table::Procs;
-use report_text::Summary;
 use section_index::Index;
 use std::alloc::{AllocError, Global};
 

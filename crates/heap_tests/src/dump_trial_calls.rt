@@ -1,5 +1,4 @@
-use dump_trial::trial;
-use report_text::{Summary, Tally};
+use dump_trial::{Summary, Tally, trial};
 use std::test::Fail;
 
 #[test]

@@ -2,5 +2,4 @@ pub mod FindingFacts
 pub mod LinkFacts
 pub mod TableFacts
 pub mod ReachFacts
-pub mod RootFacts
 pub mod HexFacts

@@ -1,9 +1,7 @@
 pub mod Findings
 pub mod Links
-pub mod Inner
 pub mod Reach
 pub mod Refusals
 pub mod Reports
 pub mod Roots
 pub mod Tables
-pub mod Tallies

@@ -5,22 +5,8 @@ use Rattle.dump_io.specs.Numbers.{hexadecimal, hex_byte}
 use Rattle.etf_terms.specs.Reading.{external_text}
 use Rattle.term_forms.specs.Elements.{Element, Ref}
 use Rattle.term_unfold.specs.Walks.{Walk, answer}
-use Rattle.root_views.specs.Roots.{Content, Term, Info, Dist, Unread, BodyRoot, stack_roots, dict_roots, mail_roots}
-use Rattle.report_text.specs.declared.root_report.RootKind.{RootKind}
-use Rattle.report_text.specs.declared.root_report.RootKind.TheVariants.{Stack, Dict, Mail}
+use Rattle.root_views.specs.Roots.{Content, Term, Info, Dist, Unread, BodyRoot}
 use Rattle.report_text.specs.Reports.{space, newline}
-
--- the tag of the sections with roots of a kind
-abbrev pub roots_tag : RootKind → List ℕ
-roots_tag Stack = codes "proc_stack"
-roots_tag Dict = codes "proc_dictionary"
-roots_tag Mail = codes "proc_messages"
-
--- the roots of a body of this kind
-abbrev pub roots_in : RootKind → List ℕ → List BodyRoot
-roots_in Stack body = stack_roots body
-roots_in Dict body = dict_roots body
-roots_in Mail body = mail_roots body
 
 -- the answer to an element within a budget of nodes, over a heap and its previews
 abbrev pub answer_over : Walk → ℕ → Bool → Element → List ℕ

@@ -21,7 +21,6 @@ mod reach_report;
 mod refusals;
 mod root_report;
 mod table_report;
-mod tally;
 
 pub use audit_report::put_findings;
 pub use binary_report::put_binary;
@@ -33,6 +32,5 @@ pub use link_report::put_links;
 pub use process_report::put_procs;
 pub use reach_report::{add_roots, put_reach};
 pub use refusals::{Refusal, put_refusal};
-pub use root_report::{RootKind, put_roots, put_term};
+pub use root_report::{put_roots, put_term};
 pub use table_report::put_rows;
-pub use tally::{Summary, Tally, count_roots, put_trial};

@@ -2,19 +2,18 @@
 ghost use Rattle.std.specs.Prelude.{◌≡◌, ◌+◌, ◌≤◌, List, ◌++◌, length};
 ghost use Rattle.std.specs.List.{flat_map};
 ghost use Rattle.dump_io.specs.Sinks.{changed, Puts};
+ghost use Rattle.root_views.specs.Kinds.{roots_in};
 ghost use Rattle.root_views.specs.Seen.{content};
 ghost use Rattle.term_forms.specs.Elements.{Element};
 ghost use Rattle.heap_reach.specs.Reached.{is_in};
 ghost use Rattle.heap_reach.specs.Rounds.{reached_by, IsReachOf};
 ghost use Rattle.heap_reach.specs.Unreached.{count_below, one_if, unreached_of};
 ghost use Rattle.report_text.specs.Reach.{reach_report, term_in, terms_of, totals_line, unreached_line};
-ghost use Rattle.report_text.specs.Roots.{roots_in};
 
-use crate::root_report::{RootKind, next_root, roots_of};
 use dump_io::{Failed, Piece, Sink, put_pieces};
 use heap_cells::Heap;
 use heap_reach::Reach;
-use root_views::What;
+use root_views::{RootKind, What};
 
 // Adds what a root reaches, where it is a term.
 fn add_content(reach: &mut Reach<'_>, what: &What<'_>)
@@ -31,8 +30,7 @@ pub fn add_roots(reach: &mut Reach<'_>, kind: RootKind, body: &[u8])
     ensures heap { reach.new.heap ≡ reach.old.heap }
     ensures roots { (roots : List Element) → IsReachOf reach.old roots → IsReachOf reach.new (roots ++ terms_of (roots_in kind body.now)) }
 {
-    let mut left = roots_of(kind, body);
-    while let Some(found) = next_root(&mut left) {
+    for found in kind.roots(body) {
         add_content(reach, &found.what);
     }
 }

@@ -1,82 +1,19 @@
 // The reports of the roots of a process, and of one term.
 ghost use Rattle.std.specs.Prelude.{◌≡◌, ◌+◌, ◌*◌, ◌<◌, ◌≤◌, ◌^◌, [], length, All, IfOk};
-ghost use Rattle.std.specs.Iterator.{YieldsFirstBy};
 ghost use Rattle.std.specs.List.{flat_map};
 ghost use Rattle.dump_io.specs.Sinks.{changed, Puts};
-ghost use Rattle.root_views.specs.Roots.{IsInside};
+ghost use Rattle.root_views.specs.Kinds.{roots_in};
 ghost use Rattle.root_views.specs.Seen.{content, root};
 ghost use Rattle.term_forms.specs.Seen.{element};
 ghost use Rattle.term_unfold.specs.Text.{reason};
 ghost use Rattle.term_unfold.specs.Walks.{judged_text};
-ghost use Rattle.report_text.specs.Roots.{answer_over, content_text, root_heading, root_line, roots_in, roots_line, roots_report, roots_tag, term_report};
-ghost use Rattle.report_text.specs.Inner.Coming.{left};
+ghost use Rattle.report_text.specs.Roots.{answer_over, content_text, root_heading, root_line, roots_line, roots_report, term_report};
 
 use dump_io::{Failed, Piece, Sink, put_pieces, write_all};
-use field_lines::reading::lines;
 use heap_cells::Why;
-use root_views::{DictRoots, MailRoots, Root, StackRoots, What, dict, mail, stack};
+use root_views::{Root, RootKind, What};
 use term_forms::shapes::Elem;
 use term_unfold::{Verdict, Walker};
-
-/// Which roots of a process a body holds.
-#[derive(Clone, Copy, Debug, PartialEq, Eq)]
-pub enum RootKind {
-    /// Those of its stack, in a `proc_stack` section.
-    Stack,
-    /// Those of its dictionary, in a `proc_dictionary` section.
-    Dict,
-    /// Those of its mailbox, in a `proc_messages` section.
-    Mail,
-}
-
-impl RootKind {
-    /// The tag of the sections that hold roots of this kind.
-    pub fn tag(self) -> &'static [u8]
-        ensures { result.now ≡ roots_tag self }
-    {
-        match self {
-            RootKind::Stack => b"proc_stack",
-            RootKind::Dict => b"proc_dictionary",
-            RootKind::Mail => b"proc_messages",
-        }
-    }
-}
-
-// The roots of a body that are still to come.
-#[derive(Drop)]
-pub(crate) enum Roots<'a> {
-    Stack(StackRoots<'a>),
-    Dict(DictRoots<'a>),
-    Mail(MailRoots<'a>),
-}
-
-pub(crate) fn roots_of(kind: RootKind, body: &[u8]) -> Roots<'_>
-    ensures value { left result ≡ roots_in kind body.now }
-    ensures inside { All (IsInside body.now) (left result) }
-{
-    match kind {
-        RootKind::Stack => Roots::Stack(stack(body)),
-        RootKind::Dict => Roots::Dict(dict(body)),
-        RootKind::Mail => Roots::Mail(mail(body)),
-    }
-}
-
-pub(crate) fn next_root<'a>(roots: &mut Roots<'a>) -> Option<Root<'a>>
-    ensures { YieldsFirstBy root left roots.old result roots.new }
-{
-    match roots {
-        Roots::Stack(roots) => roots.next(),
-        Roots::Dict(roots) => roots.next(),
-        Roots::Mail(roots) => roots.next(),
-    }
-}
-
-// A body has at most one line a byte, and a line has at most two roots.
-pub(crate) fn few_roots(kind: RootKind, body: &[u8])
-    ensures { length (roots_in kind body.now) ≤ 2 * length body.now }
-{
-    let _lines = lines(body);
-}
 
 fn why_text(why: Why) -> &'static [u8]
     ensures { result.now ≡ reason why }
@@ -192,10 +129,8 @@ fn put_each<K: Sink>(
     ensures count { IfOk result (λ count. count ≡ length (roots_in kind body.now)) }
     ensures same { walker.new ≡ walker.old }
 {
-    few_roots(kind, body);
-    let mut roots = roots_of(kind, body);
     let mut count = 0;
-    while let Some(found) = next_root(&mut roots) {
+    for found in kind.roots(body) {
         put_root(sink, walker, base, &found, budget, marked)?;
         count += 1;
     }

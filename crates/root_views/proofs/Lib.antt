@@ -1,3 +1,4 @@
+pub mod KindFacts
 pub mod LineFacts
 pub mod MailFacts
 pub mod RootFacts

@@ -1,3 +1,4 @@
 pub mod Inner
+pub mod Kinds
 pub mod Roots
 pub mod Seen

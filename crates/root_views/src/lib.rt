@@ -8,12 +8,13 @@
 //! ```
 //!
 //! [`stack`], [`dict`] and [`mail`] are given the body of a `proc_stack`, a `proc_dictionary` or a `proc_messages`
-//! section, and [`messages`] counts the messages of a mailbox. All calls are pure and take no memory. What is a root
-//! stands in `specs/Roots.antt`.
+//! section, [`RootKind::roots`] that of any of the three, and [`messages`] counts the messages of a mailbox. All calls are
+//! pure and take no memory. What is a root stands in `specs/Roots.antt`.
 #![tactic(auto)]
 
 mod counting;
 mod dictionaries;
+mod kinds;
 mod mailboxes;
 mod mails;
 mod roots;
@@ -22,6 +23,7 @@ mod texts;
 
 pub use counting::messages;
 pub use dictionaries::{DictRoots, dict};
+pub use kinds::{RootKind, Roots};
 pub use mailboxes::{MailRoots, mail};
 pub use roots::{Root, What};
 pub use stacks::{StackRoots, stack};

@@ -8,9 +8,9 @@ use Rattle.section_index.specs.declared.bodies.BodyFault.TheVariants.{SectionToo
 use Rattle.term_forms.specs.Elements.{Element}
 use Rattle.heap_cells.specs.Loading.{section_in, IsBodyIn}
 use Rattle.heap_reach.specs.Rounds.{reached_by}
-use Rattle.report_text.specs.declared.root_report.RootKind.TheVariants.{Stack, Dict, Mail}
+use Rattle.root_views.specs.declared.kinds.RootKind.TheVariants.{Stack, Dict, Mail}
 use Rattle.report_text.specs.Reach.{reach_report, terms_of}
-use Rattle.report_text.specs.Roots.{roots_in}
+use Rattle.root_views.specs.Kinds.{roots_in}
 use Rattle.dump_command.specs.Report.{one_of}
 use Rattle.dump_command.specs.Terms.{roots_section}
 use Rattle.dump_command.specs.declared.commands.reach.RootPlaces.{RootPlaces}

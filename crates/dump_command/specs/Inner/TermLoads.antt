@@ -2,8 +2,9 @@
 use Rattle.std.specs.Prelude.{ℕ, Bool, List}
 use Rattle.std.specs.Global.{Vec}
 use Rattle.term_unfold.specs.Walks.{walk}
-use Rattle.report_text.specs.declared.root_report.RootKind.{RootKind}
-use Rattle.report_text.specs.Roots.{answer_over, ext_report, roots_in, binary_report, roots_report, term_report}
+use Rattle.root_views.specs.declared.kinds.RootKind.{RootKind}
+use Rattle.root_views.specs.Kinds.{roots_in}
+use Rattle.report_text.specs.Roots.{answer_over, ext_report, binary_report, roots_report, term_report}
 use Rattle.dump_command.specs.declared.commands.roots.Loaded.{Loaded}
 use Rattle.dump_command.specs.declared.commands.term.Loaded.{Loaded as TermLoaded}
 

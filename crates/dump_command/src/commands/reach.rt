@@ -20,7 +20,8 @@ use crate::status::DONE;
 use crate::stop::Stop;
 use dump_io::{Dumps, Failed, Sink};
 use heap_cells::Heap;
-use report_text::{RootKind, add_roots, put_reach};
+use report_text::{add_roots, put_reach};
+use root_views::RootKind;
 use section_index::BodyFault;
 
 #[derive(Clone, Copy)]

@@ -7,8 +7,7 @@ ghost use Rattle.dump_command.specs.Inner.Alone.{RunsAlone};
 use crate::status::DONE;
 use crate::stop::Stop;
 use dump_io::Sink;
-use dump_trial::trial;
-use report_text::put_trial;
+use dump_trial::{put_trial, trial};
 use std::alloc::Global;
 
 pub(crate) fn run_trial<K: Sink>(

@@ -1,6 +1,6 @@
 -- Counts of roots that are added.
 use Rattle.std.specs.Prelude.{ℕ, ◌+◌, ◌≤◌}
-use Rattle.report_text.specs.declared.tally.Tally.{Tally}
+use Rattle.dump_trial.specs.declared.tally.Tally.{Tally}
 
 -- two counts together
 abbrev pub plus : Tally → Tally → Tally

@@ -10,9 +10,9 @@ use Rattle.std.specs.Option.{option_map, option_and_then, option_or}
 use Rattle.std.proofs.lemmas.List.Sums.{length-filter, count_by-le-length}
 use Rattle.field_lines.specs.Lines.{TextLine, text_lines}
 use Rattle.root_views.specs.Roots.{BodyRoot, has_text, root_lines, stack_root, dict_root, dist_roots, pair_roots, mail_line, message, token, behind_colon, Dist, Term, Unread}
-use Rattle.report_text.specs.declared.root_report.RootKind.{RootKind}
-use Rattle.report_text.specs.declared.root_report.RootKind.TheVariants.{Stack, Dict, Mail}
-use Rattle.report_text.specs.Roots.{roots_in}
+use Rattle.root_views.specs.declared.kinds.RootKind.{RootKind}
+use Rattle.root_views.specs.declared.kinds.RootKind.TheVariants.{Stack, Dict, Mail}
+use Rattle.root_views.specs.Kinds.{roots_in}
 
 -- how many there are of what may be absent
 abbrev size : Option (List BodyRoot) → ℕ

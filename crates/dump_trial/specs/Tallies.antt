@@ -7,8 +7,7 @@ use Rattle.term_unfold.specs.declared.verdict.Verdict.{Verdict}
 use Rattle.term_unfold.specs.declared.verdict.Verdict.TheVariants.{Clean, Bad}
 use Rattle.term_unfold.specs.Trees.{verdict}
 use Rattle.term_unfold.specs.Unfolding.{unfolding_of}
-use Rattle.report_text.specs.declared.tally.Summary.{Summary}
-use Rattle.report_text.specs.Reports.{newline}
+use Rattle.dump_trial.specs.declared.summary.Summary.{Summary}
 
 -- a bad verdict counts one
 abbrev pub one_if_bad : Verdict → ℕ
@@ -30,5 +29,5 @@ trial_report s =
     concat (
     codes "sections " ∷ decimal s.sections ∷ codes "\nprocesses " ∷ decimal s.processes
     ∷ codes "\nroots " ∷ decimal s.tally.roots ∷ codes "\nbad " ∷ decimal s.tally.bad
-    ∷ codes "\nfindings " ∷ decimal s.findings ∷ newline ∷ []
+    ∷ codes "\nfindings " ∷ decimal s.findings ∷ codes "\n" ∷ []
     )

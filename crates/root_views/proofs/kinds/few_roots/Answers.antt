@@ -1,7 +1,7 @@
 use Rattle.std.proofs.Common.{◌≤◌, length, ap, arith}
 use Rattle.field_lines.specs.Lines.{text_lines}
-use Rattle.report_text.proofs.RootFacts.{roots-few}
-use Rattle.report_text.proofs.root_report.few_roots.Goals as goal
+use Rattle.root_views.proofs.KindFacts.{roots-few}
+use Rattle.root_views.proofs.kinds.few_roots.Goals as goal
 
 pub returns : goal.returns
 returns c =

@@ -1,0 +1,96 @@
+// The three kinds of bodies that hold roots.
+ghost use Rattle.std.specs.Prelude.{◌≡◌, ◌*◌, ◌≤◌, List, length, All};
+ghost use Rattle.std.specs.Iterator.{YieldsFirstBy, item_count};
+ghost use Rattle.root_views.specs.Roots.{BodyRoot, IsInside};
+ghost use Rattle.root_views.specs.Kinds.{roots_in, roots_tag};
+ghost use Rattle.root_views.specs.Seen.{root};
+ghost use Rattle.root_views.specs.Inner.Coming.{roots_to_come};
+
+use crate::dictionaries::{DictRoots, dict};
+use crate::mailboxes::{MailRoots, mail};
+use crate::roots::Root;
+use crate::stacks::{StackRoots, stack};
+use field_lines::reading::lines;
+use std::marker::Model;
+
+/// Which roots of a process a body holds.
+#[derive(Clone, Copy, Debug, PartialEq, Eq)]
+pub enum RootKind {
+    /// Those of its stack, in a `proc_stack` section.
+    Stack,
+    /// Those of its dictionary, in a `proc_dictionary` section.
+    Dict,
+    /// Those of its mailbox, in a `proc_messages` section.
+    Mail,
+}
+
+// A body has at most one line a byte, and a line has at most two roots.
+fn few_roots(kind: RootKind, body: &[u8])
+    ensures { length (roots_in kind body.now) ≤ 2 * length body.now }
+{
+    let _lines = lines(body);
+}
+
+impl RootKind {
+    /// The tag of the sections that hold roots of this kind.
+    pub fn tag(self) -> &'static [u8]
+        ensures { result.now ≡ roots_tag self }
+    {
+        match self {
+            RootKind::Stack => b"proc_stack",
+            RootKind::Dict => b"proc_dictionary",
+            RootKind::Mail => b"proc_messages",
+        }
+    }
+
+    /// The roots of a body of this kind: at most two a byte.
+    pub fn roots(self, body: &[u8]) -> Roots<'_>
+        ensures value { result ≡ roots_in self body.now }
+        ensures inside { All (IsInside body.now) result }
+        ensures few { length result ≤ 2 * length body.now }
+    {
+        few_roots(self, body);
+        let coming = match self {
+            RootKind::Stack => Coming::Stack(stack(body)),
+            RootKind::Dict => Coming::Dict(dict(body)),
+            RootKind::Mail => Coming::Mail(mail(body)),
+        };
+        Roots { coming }
+    }
+}
+
+// The roots of a body that are still to come, by its kind.
+#[derive(Drop)]
+enum Coming<'a> {
+    Stack(StackRoots<'a>),
+    Dict(DictRoots<'a>),
+    Mail(MailRoots<'a>),
+}
+
+/// The roots of a body that are still to come. Contracts see it as the list of these roots.
+#[derive(Drop)]
+pub struct Roots<'a> {
+    coming: Coming<'a>,
+}
+
+impl<'a> Model for Roots<'a> {
+    ghost Value = { List BodyRoot };
+
+    ghost view = { λ roots. roots_to_come roots.coming };
+}
+
+impl<'a> Iterator for Roots<'a> {
+    type Item = Root<'a>;
+
+    ghost next_gives = { YieldsFirstBy root (λ roots. roots) };
+
+    ghost remaining = { item_count (λ roots. roots) };
+
+    fn next(&mut self) -> Option<Root<'a>> {
+        match &mut self.coming {
+            Coming::Stack(roots) => roots.next(),
+            Coming::Dict(roots) => roots.next(),
+            Coming::Mail(roots) => roots.next(),
+        }
+    }
+}
