@@ -16,7 +16,7 @@ use Rattle.audit_bodies.specs.declared.loading.AuditBodies.{AuditBodies}
 use Rattle.audit_bodies.specs.Mailboxes.{audited_sections, mail_in, mailbox_places, mails}
 use Rattle.dump_command.specs.Audits.{audit_in, status_of}
 use Rattle.dump_audit.specs.declared.finding.Finding.{Finding}
-use Rattle.dump_command.specs.Command.{Command, audit, audit_json}
+use Rattle.command_words.specs.Command.{Command, audit, audit_json}
 use Rattle.dump_command.specs.Report.{bodies, report, report_status}
 use Rattle.dump_command.specs.Inner.Audits.{audit_status, audit_text, json_of, loaded_audit}
 use Rattle.dump_command.specs.Inner.Reading.{ReadsFor}

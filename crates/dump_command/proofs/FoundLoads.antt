@@ -12,7 +12,7 @@ use Rattle.section_index.specs.Sections.{Section, sections}
 use Rattle.section_index.specs.declared.bodies.BodyFault.{BodyFault}
 use Rattle.section_rows.specs.Loading.{bodies_length, first_large, AreRefused}
 use Rattle.report_text.specs.Tables.{fields_report}
-use Rattle.dump_command.specs.Command.{Command}
+use Rattle.command_words.specs.Command.{Command}
 use Rattle.dump_command.specs.Report.{bodies, fields_of, one_of, report, report_status}
 use Rattle.dump_command.specs.Terms.{base_of}
 use Rattle.dump_command.specs.Inner.Fields.{fields_text}

@@ -11,7 +11,7 @@ use Rattle.section_index.specs.Tags.{tag_counts, tags_in}
 use Rattle.section_index.specs.declared.opening.Version.{Version}
 use Rattle.section_index.specs.declared.opening.Version.TheVariants.{V03, V04, V05}
 use Rattle.report_text.specs.Reports.{info_report, version_text}
-use Rattle.dump_command.specs.Command.{info}
+use Rattle.command_words.specs.Command.{info}
 use Rattle.dump_command.specs.Report.{report, first_section, tags_of, body_of}
 use Rattle.dump_command.proofs.Runs.{sections-index}
 

@@ -6,7 +6,6 @@ pub mod FoundLoads
 pub mod HeapLoads
 pub mod Heaps
 pub mod Info
-pub mod LongWords
 pub mod Opened
 pub mod Places
 pub mod Reaching

@@ -20,7 +20,7 @@ use Rattle.root_views.specs.declared.kinds.RootKind.{RootKind}
 use Rattle.root_views.specs.declared.kinds.RootKind.TheVariants.{Stack, Dict, Mail}
 use Rattle.report_text.specs.Reach.{terms_of, totals_line, unreached_line}
 use Rattle.root_views.specs.Kinds.{roots_in}
-use Rattle.dump_command.specs.Command.{Command, reach}
+use Rattle.command_words.specs.Command.{Command, reach}
 use Rattle.dump_command.specs.Report.{heap_bodies, one_of, root_bodies}
 use Rattle.dump_command.specs.Terms.{heap_map, reach_of, root_terms, roots_section, terms_in}
 use Rattle.dump_command.specs.Inner.Heaps.{HoldsHeap}

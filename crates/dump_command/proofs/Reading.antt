@@ -14,7 +14,7 @@ use Rattle.section_index.specs.declared.bodies.BodyFault.TheVariants as body_fau
 use Rattle.section_rows.specs.Loading.{bodies_length, first_large, AreRefused}
 use Rattle.report_text.specs.declared.refusals.Refusal.{Refusal}
 use Rattle.report_text.specs.declared.refusals.Refusal.TheVariants.{SectionTooLarge}
-use Rattle.dump_command.specs.Command.{Command}
+use Rattle.command_words.specs.Command.{Command}
 use Rattle.dump_command.specs.Report.{bodies, no_subject, refusal_held, refusal_listed, report, report_status, reread, too_large}
 use Rattle.dump_command.specs.Inner.Opened.{IsIndexed}
 use Rattle.dump_command.specs.Inner.Reading.{HasRead, IsHalted, ReadsFor, StopsFor, Takes}

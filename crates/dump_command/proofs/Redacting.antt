@@ -14,7 +14,7 @@ use Rattle.dump_redact.specs.declared.faults.RedactFault.{RedactFault}
 use Rattle.dump_redact.specs.declared.faults.RedactFault.TheVariants as faults
 use Rattle.report_text.specs.declared.refusals.Refusal.{Refusal}
 use Rattle.report_text.specs.declared.refusals.Refusal.TheVariants.{SectionTooLarge}
-use Rattle.dump_command.specs.Command.{redact}
+use Rattle.command_words.specs.Command.{redact}
 use Rattle.dump_command.specs.Report.{refusal}
 use Rattle.dump_command.specs.Run.{HasStopped, IsDumpOf, IsLeftOf}
 use Rattle.dump_command.specs.Inner.Opened.{HasOpened}

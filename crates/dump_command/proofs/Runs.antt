@@ -11,7 +11,7 @@ use Rattle.section_index.specs.Index.{Contents, IsFileOf, IsHeld, IsIndexOf, sec
 use Rattle.section_index.specs.Sections.{sections, sections_of}
 use Rattle.report_text.specs.declared.refusals.Refusal.{Refusal}
 use Rattle.report_text.specs.declared.refusals.Refusal.TheVariants.{Open}
-use Rattle.dump_command.specs.Command.{Command, redact, file_of}
+use Rattle.command_words.specs.Command.{Command, redact, file_of}
 use Rattle.dump_command.specs.Report.{report, report_status, refusal, refusal_held, refusal_listed, refusal_unread, reread, unless_refused}
 use Rattle.dump_command.specs.Run.{EndsTold, IsDumpOf, IsInputOf, IsLeft, IsLeftOf, IsMissing, IsMissingFrom, IsUnreadFrom, TakesAtMost}
 use Rattle.dump_command.specs.Inner.Alone.{RunsAlone}

@@ -1,9 +1,6 @@
 pub mod Audits
-pub mod Budgets
-pub mod Command
 pub mod Inner
 pub mod Laws
-pub mod MadeWords
 pub mod Report
 pub mod Run
 pub mod Terms

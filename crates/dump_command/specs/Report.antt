@@ -30,7 +30,7 @@ use Rattle.dump_redact.specs.Redacted.{redacted}
 use Rattle.dump_redact.specs.Refusals.{heap_sections}
 use Rattle.audit_bodies.specs.Mailboxes.{audited_sections}
 use Rattle.dump_command.specs.Audits.{audit_in, status_of}
-use Rattle.dump_command.specs.Command.{Command, index, info, procs, proc, memory, table, roots, term, ext, reach, binary, links, redact, audit, audit_json, make, trial, file_of}
+use Rattle.command_words.specs.Command.{Command, index, info, procs, proc, memory, table, roots, term, ext, reach, binary, links, redact, audit, audit_json, make, trial, file_of}
 use Rattle.heap_cells.specs.Loading.{body_in}
 use Rattle.dump_command.specs.Terms.{base_of, binary_at, binary_cause, bad_binary, binary_count, binary_of, ext_of, heap_map, heap_of, literals_of, no_address, no_external, reach_of, roots_of, roots_section, term_of, too_dense}
 

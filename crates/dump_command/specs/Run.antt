@@ -7,7 +7,7 @@ use Rattle.dump_io.specs.Sinks.{Change, SinkFailed, IsKept, Gained, GainedFront}
 use Rattle.section_index.specs.Index.{IsFileOf}
 use Rattle.report_text.specs.declared.refusals.Refusal.{Refusal}
 use Rattle.report_text.specs.Refusals.{refusal_line}
-use Rattle.dump_command.specs.Command.{Command, redact, file_of}
+use Rattle.command_words.specs.Command.{Command, redact, file_of}
 use Rattle.dump_command.specs.Report.{report, report_status, finds, refusal, allowance}
 
 -- these are the bytes of which a command reports: those of its file, and none where it has no file

@@ -2,7 +2,7 @@
 ghost use Rattle.std.specs.Prelude.{◌≡◌, None};
 ghost use Rattle.dump_io.specs.Dumps.{used};
 ghost use Rattle.dump_io.specs.Sinks.{changed};
-ghost use Rattle.dump_command.specs.Command.{file_of, shown, IsInRange};
+ghost use Rattle.command_words.specs.Command.{file_of, shown, IsInRange};
 ghost use Rattle.dump_command.specs.Inner.Runs.{Runs};
 
 mod audit;
@@ -26,10 +26,10 @@ mod trial;
 
 use crate::report::run_report;
 use crate::stop::Stop;
-use crate::words::Cmd;
 use audit::Audit;
 use audit_json::AuditJson;
 use binary::Binary;
+use command_words::Cmd;
 use dump_io::{Dumps, Limits, Sink};
 use ext::Ext;
 use index::Index;

@@ -11,18 +11,15 @@
 //! to which the faults of all layers come by `?`; [`run`] makes a status of [`status`] and a line of it.
 #![tactic(auto)]
 
-mod budgets;
 mod commands;
 mod ending;
 mod laws;
-mod made_words;
 mod open;
 mod report;
 mod runner;
 pub mod status;
 mod stop;
-mod words;
 
+pub use command_words::{Cmd, read_words};
 pub use laws::{findings_stay, heaps_stay, trees_stay};
 pub use runner::run;
-pub use words::{Cmd, read_words};

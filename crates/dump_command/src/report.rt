@@ -3,7 +3,7 @@ ghost use Rattle.std.specs.Prelude.{◌≡◌, ◌≤◌, ℕ, List, length, Som
 ghost use Rattle.dump_io.specs.Dumps.{used};
 ghost use Rattle.dump_io.specs.Sinks.{changed};
 ghost use Rattle.section_index.specs.Index.{Contents, IsBuiltOver};
-ghost use Rattle.dump_command.specs.Command.{Command, file_of};
+ghost use Rattle.command_words.specs.Command.{Command, file_of};
 ghost use Rattle.dump_command.specs.Inner.Runs.{Runs};
 ghost use Rattle.dump_command.specs.Inner.Reading.{ReadsFor, Tells};
 

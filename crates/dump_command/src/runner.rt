@@ -4,13 +4,13 @@ ghost use Rattle.std.specs.Option.{option_and_then};
 ghost use Rattle.std.specs.String.{string_bytes};
 ghost use Rattle.dump_io.specs.Dumps.{used, DeviceFailed};
 ghost use Rattle.dump_io.specs.Sinks.{changed, SinkFailed};
-ghost use Rattle.dump_command.specs.Command.{Command, command, file_of};
+ghost use Rattle.command_words.specs.Command.{Command, command, file_of};
 ghost use Rattle.dump_command.specs.Report.{refusal, report_status};
 ghost use Rattle.dump_command.specs.Run.{IsDumpOf, IsRunOf, IsUsage};
 
 use crate::commands::run_command;
 use crate::ending::{end, put_usage};
-use crate::words::read_words;
+use command_words::read_words;
 use dump_io::{Dumps, Limits, Sink};
 use std::alloc::Global;
 

@@ -1,12 +1,10 @@
-//! Tests of the crates over sections: the index, rows, processes, tables, links, audits and their JSON.
+//! Tests of the crates over sections: the index, rows, processes, tables, links and audits.
 //!
 //! They stand apart from what they test, whose proof would else be made once more with them.
 #![tactic(auto)]
 
 #[cfg(test)]
 mod dump_audit_calls;
-#[cfg(test)]
-mod json_report_calls;
 #[cfg(test)]
 mod link_graph_calls;
 #[cfg(test)]

@@ -3,7 +3,7 @@ use Rattle.std.specs.Prelude.{◌≡◌, ℕ, ◌^◌, ◌<◌, Result}
 use Rattle.dump_io.specs.Dumps.{Use}
 use Rattle.dump_io.specs.Limits.{Numbers}
 use Rattle.dump_io.specs.Sinks.{Change}
-use Rattle.dump_command.specs.Command.{Command}
+use Rattle.command_words.specs.Command.{Command}
 use Rattle.dump_command.specs.Inner.Runs.{Runs}
 use Rattle.dump_command.specs.declared.stop.Stop.{Stop}
 

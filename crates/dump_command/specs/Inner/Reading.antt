@@ -7,7 +7,7 @@ use Rattle.dump_io.specs.Sinks.{Change, SinkFailed, IsKept, Gained, GainedFront}
 use Rattle.section_index.specs.Index.{Contents, sections_in}
 use Rattle.report_text.specs.declared.refusals.Refusal.{Refusal}
 use Rattle.report_text.specs.Refusals.{IsRefusal}
-use Rattle.dump_command.specs.Command.{Command}
+use Rattle.command_words.specs.Command.{Command}
 use Rattle.dump_command.specs.Report.{report, report_status, refusal_held, refusal_listed, reread}
 use Rattle.dump_command.specs.Inner.Opened.{IsIndexed}
 use Rattle.dump_command.specs.Inner.Runs.{IsEnding}

@@ -5,7 +5,7 @@ use Rattle.dump_io.specs.Limits.{Numbers}
 use Rattle.dump_io.specs.Sinks.{Change, SinkFailed, IsKept, GainedFront}
 use Rattle.report_text.specs.declared.refusals.Refusal.{Refusal}
 use Rattle.report_text.specs.Refusals.{IsRefusal}
-use Rattle.dump_command.specs.Command.{Command}
+use Rattle.command_words.specs.Command.{Command}
 use Rattle.dump_command.specs.Report.{report, finds, refusal}
 use Rattle.dump_command.specs.Run.{IsDumpOf, IsMissing, IsUnread, IsReported, IsLeft, TakesAtMost}
 use Rattle.dump_command.specs.declared.stop.Stop.{Stop}

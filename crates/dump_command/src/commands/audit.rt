@@ -2,7 +2,7 @@
 ghost use Rattle.std.specs.Prelude.{◌≡◌};
 ghost use Rattle.audit_bodies.specs.Bodies.{IsAuditable};
 ghost use Rattle.dump_command.specs.Audits.{status_of};
-ghost use Rattle.dump_command.specs.Command.{audit};
+ghost use Rattle.command_words.specs.Command.{audit};
 ghost use Rattle.dump_command.specs.Inner.Audits.{audit_status, audit_text};
 
 use crate::open::Opened;

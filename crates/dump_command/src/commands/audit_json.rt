@@ -1,6 +1,6 @@
 // `audit-json`: the findings of an audit as one JSON text.
 ghost use Rattle.audit_bodies.specs.Bodies.{IsAuditable};
-ghost use Rattle.dump_command.specs.Command.{audit_json};
+ghost use Rattle.command_words.specs.Command.{audit_json};
 ghost use Rattle.dump_command.specs.Inner.Audits.{audit_status, json_of};
 
 use super::audit::status;

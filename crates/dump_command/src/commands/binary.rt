@@ -1,6 +1,6 @@
 // `binary`: the bytes of a binary.
 ghost use Rattle.std.specs.Prelude.{◌≡◌};
-ghost use Rattle.dump_command.specs.Command.{binary};
+ghost use Rattle.command_words.specs.Command.{binary};
 ghost use Rattle.dump_command.specs.Inner.TermLoads.{binary_text};
 ghost use Rattle.dump_command.specs.Inner.TermStops.{stop_of_binary};
 

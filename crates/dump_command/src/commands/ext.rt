@@ -2,7 +2,7 @@
 ghost use Rattle.std.specs.Prelude.{◌≡◌, None, Some, IfOk};
 ghost use Rattle.binary_refs.specs.Wholes.{bytes_in};
 ghost use Rattle.etf_terms.specs.Walks.{bad_place};
-ghost use Rattle.dump_command.specs.Command.{ext};
+ghost use Rattle.command_words.specs.Command.{ext};
 ghost use Rattle.dump_command.specs.Terms.{external_at, no_external};
 ghost use Rattle.dump_command.specs.Inner.TermLoads.{ext_text};
 ghost use Rattle.dump_command.specs.Inner.TermStops.{Judges};

@@ -1,6 +1,6 @@
 // `index`: the sections of a dump and its state.
 ghost use Rattle.report_text.specs.Reports.{index_report};
-ghost use Rattle.dump_command.specs.Command.{Command};
+ghost use Rattle.command_words.specs.Command.{Command};
 
 use crate::open::Opened;
 use crate::report::Report;

@@ -1,5 +1,5 @@
 // `info`: version, size, counts, slogan, tags and state of a dump.
-ghost use Rattle.dump_command.specs.Command.{info};
+ghost use Rattle.command_words.specs.Command.{info};
 ghost use Rattle.dump_command.specs.Inner.Info.{info_text};
 
 use crate::commands::subjects::{Body, read_found};

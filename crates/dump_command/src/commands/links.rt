@@ -1,5 +1,5 @@
 // `links`: the links and monitors of all processes.
-ghost use Rattle.dump_command.specs.Command.{links};
+ghost use Rattle.command_words.specs.Command.{links};
 ghost use Rattle.dump_command.specs.Inner.Audits.{links_text};
 
 use crate::open::Opened;

@@ -1,7 +1,7 @@
 // `make`: a dump that is made. No file is opened.
 ghost use Rattle.std.specs.Prelude.{◌≤◌};
 ghost use Rattle.dump_io.specs.Sinks.{changed};
-ghost use Rattle.dump_command.specs.Command.{make};
+ghost use Rattle.command_words.specs.Command.{make};
 ghost use Rattle.dump_command.specs.Inner.Alone.{RunsAlone};
 
 use crate::status::DONE;

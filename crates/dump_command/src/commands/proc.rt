@@ -1,5 +1,5 @@
 // `proc`: the fields of a process.
-ghost use Rattle.dump_command.specs.Command.{proc};
+ghost use Rattle.command_words.specs.Command.{proc};
 ghost use Rattle.dump_command.specs.Inner.Fields.{fields_text, HasPlaces};
 
 use crate::commands::subjects::{Body, find_process, read_found};

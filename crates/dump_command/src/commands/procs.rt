@@ -1,6 +1,6 @@
 // `procs`: the process table.
 ghost use Rattle.report_text.specs.Tables.{procs_report};
-ghost use Rattle.dump_command.specs.Command.{procs};
+ghost use Rattle.command_words.specs.Command.{procs};
 
 use crate::open::Opened;
 use crate::report::Report;

@@ -9,7 +9,7 @@ ghost use Rattle.heap_reach.specs.Reached.{is_in};
 ghost use Rattle.heap_reach.specs.Rounds.{reached_by, IsReachOf};
 ghost use Rattle.heap_reach.specs.Unreached.{unreached_of};
 ghost use Rattle.report_text.specs.Reach.{reach_report};
-ghost use Rattle.dump_command.specs.Command.{reach};
+ghost use Rattle.command_words.specs.Command.{reach};
 ghost use Rattle.dump_command.specs.Terms.{roots_section};
 ghost use Rattle.dump_command.specs.Inner.ReachLoads.{reach_text, roots_at, terms_loaded, ArePlaces, AreWithin, HoldsRoots, IsUnread};
 

@@ -2,7 +2,7 @@
 ghost use Rattle.std.specs.Prelude.{◌≡◌};
 ghost use Rattle.dump_io.specs.Dumps.{used};
 ghost use Rattle.dump_io.specs.Sinks.{changed};
-ghost use Rattle.dump_command.specs.Command.{redact};
+ghost use Rattle.command_words.specs.Command.{redact};
 ghost use Rattle.dump_command.specs.Inner.Runs.{Runs};
 ghost use Rattle.dump_command.specs.Inner.Stops.{redact_end};
 

@@ -1,7 +1,7 @@
 // `stack`, `dict` and `mail`: the roots of a process.
 ghost use Rattle.std.specs.Prelude.{◌≡◌, ◌<◌};
 ghost use Rattle.binary_refs.specs.Previews.{AreFor};
-ghost use Rattle.dump_command.specs.Command.{roots};
+ghost use Rattle.command_words.specs.Command.{roots};
 ghost use Rattle.dump_command.specs.Inner.Fields.{HasPlaces};
 ghost use Rattle.dump_command.specs.Inner.TermLoads.{roots_text};
 

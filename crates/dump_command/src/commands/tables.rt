@@ -1,6 +1,6 @@
 // `ets`, `ports`, `nodes` and `mods`: the tables beside the process table.
 ghost use Rattle.report_text.specs.Tables.{rows_report};
-ghost use Rattle.dump_command.specs.Command.{table};
+ghost use Rattle.command_words.specs.Command.{table};
 
 use crate::open::Opened;
 use crate::report::Report;

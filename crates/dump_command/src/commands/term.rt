@@ -1,7 +1,7 @@
 // `term`: one term of a process.
 ghost use Rattle.std.specs.Prelude.{◌<◌};
 ghost use Rattle.binary_refs.specs.Previews.{AreFor};
-ghost use Rattle.dump_command.specs.Command.{term};
+ghost use Rattle.command_words.specs.Command.{term};
 ghost use Rattle.dump_command.specs.Inner.TermLoads.{term_text};
 
 use crate::commands::subjects::{find_cell, load_heap};

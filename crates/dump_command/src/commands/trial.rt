@@ -1,7 +1,7 @@
 // `trial`: how much there is in a made dump, and what is bad or one-sided. No file is opened.
 ghost use Rattle.std.specs.Prelude.{◌≤◌};
 ghost use Rattle.dump_io.specs.Sinks.{changed};
-ghost use Rattle.dump_command.specs.Command.{trial};
+ghost use Rattle.command_words.specs.Command.{trial};
 ghost use Rattle.dump_command.specs.Inner.Alone.{RunsAlone};
 
 use crate::status::DONE;

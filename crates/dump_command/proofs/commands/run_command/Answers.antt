@@ -1,7 +1,7 @@
 use Rattle.std.proofs.Common.{◌^◌, ◌<◌, refl, sym, subst, rules}
 use Rattle.dump_io.specs.Dumps.{used}
 use Rattle.dump_io.specs.Sinks.{changed}
-use Rattle.dump_command.specs.Command.{shown}
+use Rattle.command_words.specs.Command.{shown}
 use Rattle.dump_command.specs.Inner.Runs.{Runs}
 use Rattle.dump_command.proofs.commands.run_command.Goals as goal
 

@@ -1,7 +1,7 @@
 use Rattle.std.proofs.Common.{refl}
 use Rattle.std.proofs.lemmas.Result.{err_from_is_err_and}
 use Rattle.dump_write.specs.Made.{made}
-use Rattle.dump_command.specs.Command.{make}
+use Rattle.command_words.specs.Command.{make}
 use Rattle.dump_command.proofs.Runs.{RunsAlone-told}
 use Rattle.dump_command.proofs.commands.make.run_make.Goals as goal
 

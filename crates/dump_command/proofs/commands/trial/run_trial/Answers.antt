@@ -2,7 +2,7 @@ use Rattle.std.proofs.Common.{refl}
 use Rattle.std.proofs.lemmas.Result.{err_from_is_err_and}
 use Rattle.dump_trial.specs.Tallies.{trial_report}
 use Rattle.dump_trial.specs.Trial.{trial_of}
-use Rattle.dump_command.specs.Command.{trial}
+use Rattle.command_words.specs.Command.{trial}
 use Rattle.dump_command.proofs.Runs.{RunsAlone-told}
 use Rattle.dump_command.proofs.commands.trial.run_trial.Goals as goal
 

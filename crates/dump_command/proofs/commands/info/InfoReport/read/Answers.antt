@@ -1,6 +1,6 @@
 use Rattle.std.proofs.Common.{Some, refl}
 use Rattle.heap_cells.specs.Loading.{section_in}
-use Rattle.dump_command.specs.Command.{info}
+use Rattle.command_words.specs.Command.{info}
 use Rattle.dump_command.specs.Inner.Info.{info_text}
 use Rattle.dump_command.proofs.FoundLoads.{Loads-found, ReadsFor-found}
 use Rattle.dump_command.proofs.Info.{info_text-report}

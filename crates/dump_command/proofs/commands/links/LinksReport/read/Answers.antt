@@ -1,6 +1,6 @@
 use Rattle.std.proofs.Common.{refl}
 use Rattle.process_table.specs.Processes.{process_table}
-use Rattle.dump_command.specs.Command.{links}
+use Rattle.command_words.specs.Command.{links}
 use Rattle.dump_command.specs.Inner.Audits.{links_text}
 use Rattle.dump_command.proofs.Reading.{Loads-told, ReadsFor-whole}
 use Rattle.dump_command.proofs.commands.links.LinksReport.read.Goals as goal

@@ -1,6 +1,6 @@
 use Rattle.std.proofs.Common.{codes, refl, sym}
 use Rattle.section_index.specs.Lookups.{has_tag}
-use Rattle.dump_command.specs.Command.{memory}
+use Rattle.command_words.specs.Command.{memory}
 use Rattle.dump_command.specs.Report.{memory_section}
 use Rattle.dump_command.proofs.FoundLoads.{Loads-found, ReadsFor-fields}
 use Rattle.dump_command.proofs.Places.{section-found}

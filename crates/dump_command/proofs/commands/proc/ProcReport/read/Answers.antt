@@ -1,7 +1,7 @@
 use Rattle.std.proofs.Common.{ℕ, Some, refl, sym, rules}
 use Rattle.std.proofs.lemmas.Result.{err_from_is_err_and}
 use Rattle.heap_cells.specs.Loading.{section_in}
-use Rattle.dump_command.specs.Command.{proc}
+use Rattle.command_words.specs.Command.{proc}
 use Rattle.dump_command.specs.Report.{process_section}
 use Rattle.dump_command.proofs.FoundLoads.{Loads-found, ReadsFor-fields}
 use Rattle.dump_command.proofs.Reading.{IsHalted-subject}

@@ -1,7 +1,7 @@
 use Rattle.std.proofs.Common.{refl}
 use Rattle.process_table.specs.Processes.{process_table}
 use Rattle.report_text.specs.Tables.{procs_report}
-use Rattle.dump_command.specs.Command.{procs}
+use Rattle.command_words.specs.Command.{procs}
 use Rattle.dump_command.proofs.Reading.{Loads-told, ReadsFor-whole}
 use Rattle.dump_command.proofs.commands.procs.ProcessTableReport.read.Goals as goal
 

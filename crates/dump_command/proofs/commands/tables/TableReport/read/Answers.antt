@@ -1,7 +1,7 @@
 use Rattle.std.proofs.Common.{refl}
 use Rattle.report_text.specs.Tables.{rows_report}
 use Rattle.table_sections.specs.Tables.{table_of}
-use Rattle.dump_command.specs.Command.{table}
+use Rattle.command_words.specs.Command.{table}
 use Rattle.dump_command.proofs.Reading.{Loads-told, ReadsFor-whole}
 use Rattle.dump_command.proofs.commands.tables.TableReport.read.Goals as goal
 

@@ -1,6 +1,6 @@
 -- A command of four words or more.
 use Rattle.std.proofs.Common.{◌≡◌, ℕ, ◌≤◌, List, [], ◌∷◌, length, map, drop, get_or, sym, ◌∙◌, ap, arith}
-use Rattle.dump_command.specs.Command.{command, process_command}
+use Rattle.command_words.specs.Command.{command, process_command}
 
 -- the first three words and those behind them
 pub long-command : {X : Type 0} (text : X → List ℕ) (words : List X) (name file pid : X) → 4 ≤ length words

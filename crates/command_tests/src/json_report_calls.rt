@@ -1,6 +1,6 @@
-use json_report::{put_json, tree};
 use dump_audit::audit_with;
 use dump_io::{Dumps, Limits, MemDumps, MemSink};
+use json_report::{put_json, tree};
 use link_graph::Graph;
 use process_table::Procs;
 use section_index::build;

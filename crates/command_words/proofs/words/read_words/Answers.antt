@@ -1,9 +1,9 @@
 use Rattle.std.proofs.Common.{sym, ◌∙◌, ap, map, drop}
 use Rattle.std.proofs.lemmas.List.{take_rest}
 use Rattle.std.specs.String.{string_bytes}
-use Rattle.dump_command.specs.Command.{process_command}
-use Rattle.dump_command.proofs.LongWords.{long-command}
-use Rattle.dump_command.proofs.words.read_words.Goals as goal
+use Rattle.command_words.specs.Command.{process_command}
+use Rattle.command_words.proofs.LongWords.{long-command}
+use Rattle.command_words.proofs.words.read_words.Goals as goal
 
 pub returns-in-len4-up-clause-reads : goal.returns-in-len4-up-clause-reads
 returns-in-len4-up-clause-reads c =

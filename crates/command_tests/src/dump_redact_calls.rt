@@ -1,5 +1,5 @@
-use dump_redact::redact;
 use dump_io::{Limits, MemDumps, MemSink};
+use dump_redact::redact;
 use section_index::build;
 use std::test::Fail;
 

@@ -7,10 +7,10 @@ use Rattle.root_views.specs.declared.kinds.RootKind.{RootKind}
 use Rattle.root_views.specs.declared.kinds.RootKind.TheVariants as bodies
 use Rattle.table_sections.specs.declared.kinds.TableKind.{TableKind}
 use Rattle.table_sections.specs.declared.kinds.TableKind.TheVariants as kinds
-use Rattle.dump_command.specs.declared.words.Cmd.{Cmd}
-use Rattle.dump_command.specs.declared.words.Cmd.TheVariants.{Index, Info, Procs, Proc, Memory, Ets, Ports, Nodes, Mods, Stack, Dict, Mail, Term, Ext, Reach, Binary, Links, Redact, Audit, AuditJson, Make, Trial}
-use Rattle.dump_command.specs.Budgets.{budget_of}
-use Rattle.dump_command.specs.MadeWords.{seed_and_count}
+use Rattle.command_words.specs.declared.words.Cmd.{Cmd}
+use Rattle.command_words.specs.declared.words.Cmd.TheVariants.{Index, Info, Procs, Proc, Memory, Ets, Ports, Nodes, Mods, Stack, Dict, Mail, Term, Ext, Reach, Binary, Links, Redact, Audit, AuditJson, Make, Trial}
+use Rattle.command_words.specs.Budgets.{budget_of}
+use Rattle.command_words.specs.MadeWords.{seed_and_count}
 
 -- a command and what it is asked for
 pub data Command : Type 0 where

@@ -1,7 +1,7 @@
 // How much of a term is shown, by the last words of a command.
 ghost use Rattle.std.specs.Prelude.{◌≡◌, ◌<◌, [], ◌∷◌, map, IfSome};
 ghost use Rattle.std.specs.String.{string_bytes};
-ghost use Rattle.dump_command.specs.Budgets.{budget, budget_of, counted, is_mark, nodes_of};
+ghost use Rattle.command_words.specs.Budgets.{budget, budget_of, counted, is_mark, nodes_of};
 
 use dump_io::dec_u64;
 

@@ -2,7 +2,7 @@
 ghost use Rattle.std.specs.Prelude.{◌≡◌, [], map, option_map};
 ghost use Rattle.std.specs.Option.{IfSome};
 ghost use Rattle.std.specs.String.{string_bytes};
-ghost use Rattle.dump_command.specs.Command.{audit, audit_command, audit_json, binary, command, ext_command, file_command, full_of, process_command, roots_command, term_command, word_command, shown, IsInRange};
+ghost use Rattle.command_words.specs.Command.{audit, audit_command, audit_json, binary, command, ext_command, file_command, full_of, process_command, roots_command, term_command, word_command, shown, IsInRange};
 ghost use Rattle.dump_io.specs.Numbers.{hex_number};
 
 use crate::budgets::{Budget, read_budget};

@@ -1,8 +1,8 @@
 // The words of a command that makes a dump.
 ghost use Rattle.std.specs.Prelude.{◌≡◌, ◌≤◌, option_map};
 ghost use Rattle.std.specs.Option.{IfSome};
-ghost use Rattle.dump_command.specs.Command.{number_command, shown, IsInRange};
-ghost use Rattle.dump_command.specs.MadeWords.{seed_and_count};
+ghost use Rattle.command_words.specs.Command.{number_command, shown, IsInRange};
+ghost use Rattle.command_words.specs.MadeWords.{seed_and_count};
 
 use crate::words::Cmd;
 use dump_io::dec_u64;

@@ -3,7 +3,7 @@ use Rattle.std.specs.Prelude.{ℕ, Bool, true, false, ◌&&◌, List, [], ◌∷
 use Rattle.std.specs.Option.{option_map, option_and_then}
 use Rattle.std.specs.Str.{bytes_eq}
 use Rattle.dump_io.specs.Numbers.{dec_number}
-use Rattle.dump_command.specs.declared.budgets.Budget.{Budget}
+use Rattle.command_words.specs.declared.budgets.Budget.{Budget}
 
 -- so many nodes of a term, with bad addresses marked in its text or not
 abbrev pub budget : Bool → ℕ → Budget

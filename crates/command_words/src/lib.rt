@@ -1,0 +1,16 @@
+//! The words of the command line, and the commands that they are.
+//!
+//! ```
+//! if let Some(Cmd::Proc { file, pid }) = read_words(&words) {
+//!     // The words are `proc`, the name of a file and a pid, byte for byte as it stands in the dump.
+//! }
+//! ```
+//!
+//! Which words are which command stands in `specs/Command.antt`.
+#![tactic(auto)]
+
+mod budgets;
+mod made_words;
+mod words;
+
+pub use words::{Cmd, read_words};
