@@ -38,7 +38,12 @@ fn bad_content(walker: &mut Walker<'_>, what: &What<'_>, budget: u32) -> u64
 }
 
 /// Counts the roots of a body, and those that are bad within as many nodes as the budget says. It takes no memory.
-pub(crate) fn count_roots(walker: &mut Walker<'_>, kind: RootKind, body: &[u8], budget: u32) -> Tally
+pub(crate) fn count_roots(
+    walker: &mut Walker<'_>,
+    kind: RootKind,
+    body: &[u8],
+    budget: u32,
+) -> Tally
     requires budget { 0 < budget }
     ensures roots { result.roots ≡ length (roots_in kind body.now) }
     ensures few { result.roots ≤ 2 * length body.now }

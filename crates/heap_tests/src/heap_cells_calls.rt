@@ -2,8 +2,8 @@
 ghost use Rattle.std.specs.Prelude.{◌<◌, length};
 ghost use Rattle.heap_cells.specs.Targets.{number};
 
-use heap_cells::{CellIx, Heap, HeapFault, Kid, Kind, Seat, Slot};
 use dump_io::{Limits, MemDumps};
+use heap_cells::{CellIx, Heap, HeapFault, Kid, Kind, Seat, Slot};
 use section_index::build;
 use std::alloc::{AllocError, Global};
 use std::test::Fail;

@@ -1,9 +1,9 @@
 // Link lists, and the graph of a small dump.
 ghost use Rattle.std.specs.Prelude.{◌≤◌, length};
 
+use dump_io::{Dumps, Limits, MemDumps};
 use link_graph::reading::entries;
 use link_graph::{EntryKind, Graph, is_local};
-use dump_io::{Dumps, Limits, MemDumps};
 use process_table::Procs;
 use section_index::build;
 use std::alloc::Global;

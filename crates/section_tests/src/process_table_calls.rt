@@ -1,5 +1,5 @@
-use process_table::{Kept, ProcSections, Procs};
 use dump_io::{Failed, Limits, MemDumps, MemSink, Sink, put_dec, write_all};
+use process_table::{Kept, ProcSections, Procs};
 use section_index::{BodyFault, build};
 use std::alloc::Global;
 use std::test::Fail;

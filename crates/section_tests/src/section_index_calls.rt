@@ -1,5 +1,5 @@
-use section_index::{BodyFault, State, Tags, Version, build, read_body};
 use dump_io::{Dumps, Limits, MemDumps};
+use section_index::{BodyFault, State, Tags, Version, build, read_body};
 use std::alloc::Global;
 use std::test::Fail;
 

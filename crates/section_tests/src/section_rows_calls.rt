@@ -1,6 +1,6 @@
-use section_rows::{Column, Kept, SectionRows};
 use dump_io::{Dumps, Failed, Limits, MemDumps, MemSink, Sink, put_dec, write_all};
 use section_index::{BodyFault, build};
+use section_rows::{Column, Kept, SectionRows};
 use std::alloc::Global;
 use std::test::Fail;
 

@@ -1,8 +1,8 @@
-use table_sections::{Rows, TableKind};
 use dump_io::{Failed, Limits, MemDumps, MemSink, Sink, put_dec, write_all};
 use section_index::build;
 use std::alloc::Global;
 use std::test::Fail;
+use table_sections::{Rows, TableKind};
 
 const DUMP: &[u8] =
     b"=erl_crash_dump:0.5\n=hidden_node:1\nName: b\n=ets\nTable: t\n=visible_node:2\nCreation: 3\n=ets:a\n=end";
