@@ -1,5 +1,5 @@
-use etf_terms::{Ext, ExtFault};
 use dump_io::MemSink;
+use etf_terms::{Ext, ExtFault};
 use std::alloc::{AllocError, Global};
 use std::process::Abort;
 use std::test::Fail;

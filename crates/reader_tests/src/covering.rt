@@ -1,7 +1,7 @@
+use std::process::Abort;
 use term_forms::reading::cover;
 use term_forms::shapes::Cover;
 use term_forms::{Enc, is_payload, payload_part};
-use std::process::Abort;
 
 fn numbers(cover: Cover) -> [u64; 4] {
     [

@@ -1,5 +1,5 @@
-use term_forms::{Enc, is_payload, payload};
 use std::process::Abort;
+use term_forms::{Enc, is_payload, payload};
 
 fn read(rt: &impl Abort, chars: &[u8], enc: Enc, bytes: &[u8]) {
     let mut into = [0u8; 8];

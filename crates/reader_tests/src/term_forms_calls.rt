@@ -1,9 +1,9 @@
-use term_forms::reading::{elem, form};
-use term_forms::shapes::{Elem, PlacedElem};
-use term_forms::{Enc, heap_line, placed_form, put_elem, put_form, whole_elem};
 use std::alloc::Global;
 use std::process::Abort;
 use std::test::Fail;
+use term_forms::reading::{elem, form};
+use term_forms::shapes::{Elem, PlacedElem};
+use term_forms::{Enc, heap_line, placed_form, put_elem, put_form, whole_elem};
 
 // The text begins with an element of that many bytes, which is written in the plain spelling.
 fn begins(
