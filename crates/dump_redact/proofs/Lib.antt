@@ -12,6 +12,7 @@ pub mod Judging
 pub mod Leads
 pub mod Pieces
 pub mod Places
+pub mod PlainLines
 pub mod Reaching
 pub mod Sections
 pub mod Stays

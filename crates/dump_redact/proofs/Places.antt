@@ -40,10 +40,31 @@ bin-sound (Some (Flat keys values)) chars h = cc
 bin-sound (Some (Hash size children)) chars h = cc
 bin-sound (Some (Node children)) chars h = cc
 
+-- the text of such a form begins with its two letters
+bin-marked : (enc : Enc) → FormIsRead enc → (spelled chars : List ℕ) → bin_chars (form_of enc spelled) ≡ Some chars
+    → (led : List ℕ) × (spelled ≡ codes "Yh" ++ led)
+bin-marked enc forms spelled chars is =
+    let bin = bin-sound (form_of enc spelled) chars is in
+    let form = (forms spelled (HeapBin bin.0 chars)).0 bin.1 in
+    (form.0, form.1)
+
 -- a list or none
 known : (o : Option (List ℕ)) → (o ≡ None) ⊎ ((chars : List ℕ) × (o ≡ Some chars))
 known None = inl refl
 known (Some chars) = inr (chars, refl)
+
+-- the text of a line with a payload has the first of those letters
+marked-by : LedIsRead → (enc : Enc) → FormIsRead enc → (text chars : List ℕ) (o : Option (ℕ × List ℕ)) → led_of text ≡ o
+    → option_and_then (λ led. bin_chars (form_of enc led.1)) o ≡ Some chars → (front : List ℕ) × (more : List ℕ) × (text ≡ front ++ 89 ∷ more)
+marked-by law enc forms text chars None e h = cc
+marked-by law enc forms text chars (Some (address, spelled)) e h =
+    let led : IsLed text address spelled = (law text address spelled).0 e in
+    let form = bin-marked enc forms spelled chars h in
+    (led.0 ++ colon ∷ [], 104 ∷ form.0, led.2 ∙ ap (λ l. led.0 ++ colon ∷ l) form.1 ∙ sym (append_assoc led.0 (colon ∷ []) (codes "Yh" ++ form.0)))
+
+pub marked : LedIsRead → (enc : Enc) → FormIsRead enc → (text chars : List ℕ) → payload_in enc Heap text ≡ Some chars
+    → (front : List ℕ) × (more : List ℕ) × (text ≡ front ++ 89 ∷ more)
+marked law enc forms text chars h = marked-by law enc forms text chars (led_of text) refl h
 
 -- ---- the two places
 

@@ -1,16 +1,16 @@
 // The body of a heap is redacted in place.
-ghost use Rattle.std.specs.Prelude.{◌≡◌, ◌<◌, ◌≤◌, ◌∷◌, length, take, drop, map, IfSome};
-ghost use Rattle.dump_io.specs.Lines.{raw_lines};
+ghost use Rattle.std.specs.Prelude.{◌≡◌, ◌<◌, ◌≤◌, ◌∷◌, ◌++◌, length, take, drop, map, IfSome};
+ghost use Rattle.dump_io.specs.Lines.{raw_lines, IsEnded};
 ghost use Rattle.dump_redact.specs.Bodies.{heap_line, redacted_body};
 ghost use Rattle.dump_redact.specs.Redacted.{blank};
 ghost use Rattle.dump_redact.specs.Inner.Places.{place_of};
 
 use crate::parts::Part;
 use dump_io::line_text;
-use memchr::memchr;
+use memchr::{memchr, memrchr};
 use term_forms::reading::form;
 use term_forms::shapes::Form;
-use term_forms::{Enc, heap_line as split_heap_line};
+use term_forms::{Enc, form_is_read, heap_line as split_heap_line, number_is_read};
 
 // How many bytes the first raw line of some bytes has.
 fn line_len(bytes: &[u8]) -> usize
@@ -49,13 +49,18 @@ pub(crate) fn blank_all(chars: &mut [u8], enc: Enc)
     }
 }
 
-// Where the payload begins in the line, where it is a heap line with one.
+// Where the payload begins in the line, where it is a heap line with one. Any other form is known by its first two
+// characters, and isn't read.
 fn payload_at(raw: &[u8], enc: Enc) -> Option<usize>
     ensures place { result ≡ place_of enc raw.now }
     ensures within { IfSome result (λ at. at ≤ length raw.now) }
 {
+    form_is_read(enc);
     let text = line_text(raw);
     let (_, spelled) = split_heap_line(text)?;
+    if !spelled.starts_with(b"Yh") {
+        return None;
+    }
     match form(spelled, enc)? {
         Form::HeapBin(_, chars) => Some(text.len().saturating_sub(chars.len())),
         _ => None,
@@ -70,14 +75,40 @@ fn redact_line(raw: &mut [u8], enc: Enc)
     }
 }
 
+// Where the last line begins, which may be empty.
+fn last_line_at(bytes: &[u8]) -> usize
+    ensures within { result ≤ length bytes.now }
+    ensures ended { 0 < result → IsEnded (take result bytes.now) }
+{
+    match memrchr(b'\n', bytes) {
+        Some(lf) => lf + 1,
+        None => 0,
+    }
+}
+
+// How many bytes the lines have before the first one with a `Y`. No payload stands in them, since the form of a line with
+// one begins with that letter.
+fn plain_len(bytes: &[u8], enc: Enc) -> usize
+    ensures within { result ≤ length bytes.now }
+    ensures plain { redacted_body enc Part.Heap bytes.now ≡ take result bytes.now ++ redacted_body enc Part.Heap (drop result bytes.now) }
+{
+    number_is_read();
+    form_is_read(enc);
+    match memchr(b'Y', bytes) {
+        Some(place) => last_line_at(&bytes[..place]),
+        None => bytes.len(),
+    }
+}
+
 // Makes the payloads of the binaries in the body of a heap zero.
 pub(crate) fn redact_heap(body: &mut [u8], enc: Enc)
     ensures { body.new ≡ redacted_body enc Part.Heap body.old }
 {
-    let mut at = 0;
+    let mut at = plain_len(body, enc);
     while at < body.len() {
         let len = line_len(&body[at..]);
         redact_line(&mut body[at..at + len], enc);
         at += len;
+        at += plain_len(&body[at..], enc);
     }
 }

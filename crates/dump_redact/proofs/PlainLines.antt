@@ -1,0 +1,134 @@
+-- Lines in which the letter `Y` doesn't stand have no payload.
+use Rattle.std.proofs.Common.{◌≡◌, ℕ, ◌+◌, ◌-◌, ◌<◌, ◌≤◌, ◌==◌, Bool, true, false, List, [], ◌∷◌, ◌++◌, length, take, drop, map, Option, Some, None, suc, if◌then◌else◌, refl, sym, ◌∙◌, ap, ap₂, subst, arith, append-nil, append_assoc}
+use Rattle.std.specs.Prelude.{◌≢◌, All, slice_index}
+use Rattle.std.specs.List.{concat}
+use Rattle.std.proofs.lemmas.List.{length-take, length-take-le, map-append, take_all, take_at, drop_at, drop_all, drop-drop, length-drop, take-take, take-append-drop}
+use Rattle.std.proofs.lemmas.List.Elements.{All-head, All-take, All-drop}
+use Rattle.std.proofs.lemmas.List.Folds.{concat-append}
+use Rattle.dump_io.specs.Laws.Lines.{AreLines-raw}
+use Rattle.dump_io.specs.Laws.Reads.{take-two}
+use Rattle.dump_io.specs.Lines.{lf, raw_lines, lines_after, text_of, IsEnded}
+use Rattle.term_forms.specs.declared.enc.Enc.{Enc}
+use Rattle.dump_redact.specs.declared.parts.Part.TheVariants.{Heap}
+use Rattle.dump_redact.specs.Bodies.{heap_line, redacted_body}
+use Rattle.dump_redact.specs.Redacted.{payload_in, without}
+use Rattle.dump_redact.proofs.Places.{LedIsRead, FormIsRead, marked}
+use Rattle.dump_redact.proofs.Steps.{IsDone}
+use Rattle.dump_redact.proofs.Texts.{kept, text-kept}
+
+-- no `Y` stands in the text
+abbrev pub IsFree : List ℕ → Type 0
+IsFree text = All (λ c. c ≢ 89) text
+
+free-left : (xs ys : List ℕ) → IsFree (xs ++ ys) → IsFree xs
+free-left xs ys free = subst IsFree (take_at xs ys (length xs) refl) (All-take (λ c. c ≢ 89) (length xs) (xs ++ ys) free)
+
+free-right : (xs ys : List ℕ) → IsFree (xs ++ ys) → IsFree ys
+free-right xs ys free = subst IsFree (drop_at xs ys (length xs) refl) (All-drop (λ c. c ≢ 89) (length xs) (xs ++ ys) free)
+
+found : (xs ys : List ℕ) → IsFree (xs ++ 89 ∷ ys) → ⊥
+found xs ys free = All-head (λ c. c ≢ 89) 89 ys (free-right xs (89 ∷ ys) free) refl
+
+module _ (law : LedIsRead) (enc : Enc) (forms : FormIsRead enc) where
+  -- a line without that letter stays
+  plain-line : (raw : List ℕ) → IsFree raw → heap_line enc raw ≡ raw
+  plain-line raw free = by (payload_in enc Heap (text_of raw)) refl
+    where
+      by : (o : Option (List ℕ)) → payload_in enc Heap (text_of raw) ≡ o → without enc raw o ≡ raw
+      by None is = refl
+      by (Some chars) is =
+          let letter = marked law enc forms (text_of raw) chars is in
+          let text : IsFree (text_of raw) = subst IsFree (sym (text-kept raw)) (All-take (λ c. c ≢ 89) (kept raw) raw free) in
+          absurd (found letter.0 letter.1 (subst IsFree letter.2 text))
+
+  plain-lines : (raws : List (List ℕ)) → IsFree (concat raws) → map (heap_line enc) raws ≡ raws
+  plain-lines [] free = refl
+  plain-lines (raw ∷ raws) free =
+      ap₂ (λ l ls. l ∷ ls) (plain-line raw (free-left raw (concat raws) free)) (plain-lines raws (free-right raw (concat raws) free))
+
+  -- and so do bytes without it
+  plain-bytes : (bytes : List ℕ) → IsFree bytes → redacted_body enc Heap bytes ≡ bytes
+  plain-bytes bytes free =
+      let all = (AreLines-raw bytes).together in
+      ap concat (plain-lines (raw_lines bytes) (subst IsFree (sym all) free)) ∙ all
+
+-- ---- the lines of bytes in front of others are lines of their own where they end in LF
+
+after-append : (c : ℕ) (lines more : List (List ℕ)) → 0 < length lines → lines_after c (lines ++ more) ≡ lines_after c lines ++ more
+after-append c [] more some = absurd (omega (arith, some))
+after-append c (line ∷ lines) more some = refl
+
+some-lines : (c : ℕ) (bytes : List ℕ) → 0 < length (raw_lines (c ∷ bytes))
+some-lines c bytes = by (c == lf) (raw_lines bytes)
+  where
+    by : (b : Bool) (lines : List (List ℕ)) → 0 < length (if b then (c ∷ []) ∷ lines else lines_after c lines)
+    by true lines = omega arith
+    by false [] = omega arith
+    by false (line ∷ lines) = omega arith
+
+last-byte : (c d : ℕ) (bytes : List ℕ) → IsEnded (c ∷ d ∷ bytes) → IsEnded (d ∷ bytes)
+last-byte c d bytes ended =
+    let e : length (c ∷ d ∷ bytes) - 1 ≡ suc (length (d ∷ bytes) - 1) = omega arith in
+    sym (ap (λ n. slice_index (c ∷ d ∷ bytes) n) e) ∙ ended
+
+lines-front : (front rest : List ℕ) → (0 < length front → IsEnded front) → raw_lines (front ++ rest) ≡ raw_lines front ++ raw_lines rest
+lines-front [] rest ended = refl
+lines-front (c ∷ []) rest ended =
+    let last : c ≡ lf = ended (omega arith) in
+    ap (λ d. if d == lf then (c ∷ []) ∷ raw_lines rest else lines_after c (raw_lines rest)) last
+    ∙ sym (ap (λ d. (if d == lf then (c ∷ []) ∷ [] else lines_after c []) ++ raw_lines rest) last)
+lines-front (c ∷ d ∷ front) rest ended =
+    let lines = raw_lines (d ∷ front) in
+    let more = raw_lines rest in
+    let again : raw_lines ((d ∷ front) ++ rest) ≡ lines ++ more = lines-front (d ∷ front) rest (λ some. last-byte c d front (ended (omega arith))) in
+    ap (λ ls. if c == lf then (c ∷ []) ∷ ls else lines_after c ls) again
+    ∙ elim (c == lf) as (λ b. (if b then (c ∷ []) ∷ (lines ++ more) else lines_after c (lines ++ more)) ≡ (if b then (c ∷ []) ∷ lines else lines_after c lines) ++ more)
+    [ true ↦ refl | false ↦ after-append c lines more (some-lines d front) ]
+
+-- ---- a body whose first lines have no payload
+
+module _ (law : LedIsRead) (enc : Enc) (forms : FormIsRead enc) (bytes : List ℕ) where
+  -- lines in front of a place up to which the letter doesn't stand
+  pub plain-front : (place n : ℕ) → IsFree (take place bytes) → n ≤ length (take place bytes) → (0 < n → IsEnded (take n (take place bytes)))
+      → redacted_body enc Heap bytes ≡ take n bytes ++ redacted_body enc Heap (drop n bytes)
+  plain-front place n free within ended =
+      let front = take n bytes in
+      let rest = drop n bytes in
+      let size : length (take place bytes) ≤ place = omega (arith, length-take place bytes) in
+      let all : length (take place bytes) ≤ length bytes = omega (arith, length-take place bytes) in
+      let same : take n (take place bytes) ≡ front = take-take n place bytes (omega (arith, within, size)) in
+      let long : length front ≡ n = length-take-le n bytes (omega (arith, within, all)) in
+      let own : IsFree front = subst IsFree same (All-take (λ c. c ≢ 89) n (take place bytes) free) in
+      let last : 0 < length front → IsEnded front = λ some. subst IsEnded same (ended (omega (arith, some, long))) in
+      ap (redacted_body enc Heap) (sym (take-append-drop n bytes))
+      ∙ ap (λ ls. concat (map (heap_line enc) ls)) (lines-front front rest last)
+      ∙ ap concat (map-append (heap_line enc) (raw_lines front) (raw_lines rest))
+      ∙ concat-append (map (heap_line enc) (raw_lines front)) (map (heap_line enc) (raw_lines rest))
+      ∙ ap (λ l. l ++ redacted_body enc Heap rest) (plain-bytes law enc forms front own)
+
+  pub plain-all : (n : ℕ) → n ≡ length bytes → IsFree (take n bytes) → redacted_body enc Heap bytes ≡ take n bytes ++ redacted_body enc Heap (drop n bytes)
+  plain-all n is free =
+      let all : take n bytes ≡ bytes = take_all n bytes (omega (arith, is)) in
+      let none : drop n bytes ≡ [] = drop_all n bytes (omega (arith, is)) in
+      plain-bytes law enc forms bytes (subst IsFree all free)
+      ∙ sym (append-nil bytes)
+      ∙ sym (ap₂ (λ l r. l ++ redacted_body enc Heap r) all none)
+
+-- ---- such lines are passed over
+
+pub passed : (enc : Enc) (at n : ℕ) (old now : List ℕ) → IsDone enc at old now → n ≤ length (drop at now)
+    → redacted_body enc Heap (drop at now) ≡ take n (drop at now) ++ redacted_body enc Heap (drop n (drop at now)) → IsDone enc (at + n) old now
+passed enc at n old now before fits plain =
+    let rest = drop at now in
+    let tail : (xs : List ℕ) → drop n (drop at xs) ≡ drop (at + n) xs = λ xs. drop-drop n at xs in
+    let behind : drop (at + n) now ≡ drop (at + n) old = sym (tail now) ∙ ap (drop n) before.stays ∙ tail old in
+    record {
+      within = omega (arith, before.within, fits, length-drop at now);
+      same_length = before.same_length;
+      stays = behind;
+      done =
+          ap₂ (λ l r. l ++ redacted_body enc Heap r) (take-two at n now) (sym behind ∙ sym (tail now))
+          ∙ append_assoc (take at now) (take n rest) (redacted_body enc Heap (drop n rest))
+          ∙ ap (λ l. take at now ++ l) (sym plain ∙ ap (redacted_body enc Heap) before.stays)
+          ∙ before.done;
+    }
