@@ -5,7 +5,8 @@ use Rattle.std.specs.List.{between, concat, list_all, ends_with}
 use Rattle.std.specs.Cmp.Lexicographic.{pointwise}
 use Rattle.std.proofs.lemmas.Bool.{and_parts, cases_lt, leb-true, eqb-true, false≢true, false_from_ne_true}
 use Rattle.std.proofs.lemmas.Option.{cond_some}
-use Rattle.std.proofs.lemmas.List.{append_cancel_right, take_all, take-append-drop, take-take, drop_all, drop-append-le, length-drop}
+use Rattle.std.proofs.lemmas.List.{append_cancel_right, take_all, take-append-drop, take-take, drop_all, drop-append-le, drop-take, length-drop, length-take-le}
+use Rattle.std.proofs.lemmas.Slice.{take-put_mid}
 use borrow.Rule.Slice.PartMut.{put_mid}
 use Rattle.dump_io.specs.Lines.{lf, cr, raw_lines, lines_after, text_of}
 use Rattle.dump_io.specs.Laws.Lines.{AreLines-raw}
@@ -278,3 +279,35 @@ first-piece enc piece new stretch dump from count upto room redacts is big few o
     let long : (17 ≤ length piece) ⊎ (length piece ≡ length body) = subst (λ n. (17 ≤ n) ⊎ (n ≡ length body)) (sym size) (piece-long room (upto - from) count (length body) big few all) in
     ap (λ l. new ++ copied stretch l) (sym (piece-drop dump from count upto inside) ∙ ap (λ n. drop n body) (sym size))
     ∙ redacts body front long
+
+-- a piece that begins in front of the body, with what it has of the body written anew
+pub near-piece : (enc : Enc) (buffer new : List ℕ) (stretch : Stretch) (dump : List ℕ) (from body count upto room : ℕ)
+    → ((whole : List ℕ) → take (count - (body - from)) (drop (body - from) buffer) ≡ take (length (take (count - (body - from)) (drop (body - from) buffer))) whole
+    → (17 ≤ length (take (count - (body - from)) (drop (body - from) buffer))) ⊎ (length (take (count - (body - from)) (drop (body - from) buffer)) ≡ length whole)
+    → new ++ copied stretch (drop (length (take (count - (body - from)) (drop (body - from) buffer))) whole) ≡ redacted_body enc Binary whole)
+    → take count buffer ≡ between from (from + count) dump → length new ≡ length (take (count - (body - from)) (drop (body - from) buffer)) → body - from + 17 ≤ room → count ≡ min room (upto - from) → count ≤ length buffer
+    → from ≤ body → body < upto → upto ≤ length dump
+    → take count (put_mid (body - from) (count - (body - from)) buffer new) ++ copied stretch (between (from + count) upto dump)
+    ≡ between from body dump ++ redacted_body enc Binary (between body upto dump)
+near-piece enc buffer new stretch dump from body count upto room redacts is size big few fits low some within =
+    let lead = body - from in
+    let k = count - lead in
+    let reaches : lead ≤ count = omega (arith, few, big, low, some) in
+    let place : from + lead ≡ body = omega (arith, low) in
+    let parts : count ≡ lead + k = omega (arith, reaches) in
+    let ends : body + k ≡ from + count = omega (arith, low, reaches) in
+    let long : length new ≡ k = size ∙ length-take-le k (drop lead buffer) (omega (arith, length-drop lead buffer, fits)) in
+    let front : take lead buffer ≡ between from body dump =
+    sym (take-take lead count buffer reaches) ∙ ap (take lead) is ∙ take-take lead (from + count - from) (drop from dump) (omega (arith, reaches)) in
+    let tail : take k (drop lead buffer) ≡ between body (body + k) dump =
+    sym (drop-take lead k buffer) ∙ ap (λ n. drop lead (take n buffer)) (sym parts) ∙ ap (drop lead) is
+    ∙ piece-drop dump from lead (from + count) (omega (arith, reaches))
+    ∙ ap (λ n. between n (from + count) dump) place ∙ ap (λ n. between body n dump) (sym ends) in
+    let whole : take count (put_mid lead k buffer new) ≡ take lead buffer ++ new =
+    take-put_mid lead k buffer new count (omega (arith, long, parts)) (omega (arith, reaches, fits)) in
+    let rest : new ++ copied stretch (between (body + k) upto dump) ≡ redacted_body enc Binary (between body upto dump) =
+    first-piece enc (take k (drop lead buffer)) new stretch dump body k upto (room - lead) redacts tail (omega (arith, big)) (omega (arith, few, big, low)) (omega (arith, some)) within in
+    ap (λ l. l ++ copied stretch (between (from + count) upto dump)) whole
+    ∙ append_assoc (take lead buffer) new (copied stretch (between (from + count) upto dump))
+    ∙ ap₂ (λ l n. l ++ (new ++ copied stretch (between n upto dump))) front (sym ends)
+    ∙ ap (λ l. between from body dump ++ l) rest

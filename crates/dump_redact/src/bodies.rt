@@ -19,7 +19,7 @@ use std::alloc::Global;
 use term_forms::{Enc, heap_line, number_is_read};
 
 // Loads the body of a heap, which is no larger than the limit, and writes it redacted.
-fn put_heap<D: Dumps, K: Sink>(
+pub(crate) fn put_heap<D: Dumps, K: Sink>(
     alloc: Global,
     dumps: &mut D,
     index: &Index,
@@ -65,59 +65,51 @@ fn redact_lead(piece: &mut [u8], enc: Enc) -> Stretch
     }
 }
 
-// Copies the body of a binary, which lies between two offsets, with its payload made zero.
-fn put_binary<D: Dumps, K: Sink>(
+// Copies what stands from an offset up to the body of a binary, which ends at another, and that body with its payload made
+// zero. The first piece reaches as far into the body as its number and colon may.
+fn put_near<D: Dumps, K: Sink>(
     dumps: &mut D,
     from: u64,
+    body: u64,
     upto: u64,
     enc: Enc,
     buffer: &mut [u8],
     sink: &mut K,
 ) -> Result<(), RedactFault>
     requires held { HasUpto (D.now dumps.old) upto }
-    requires some { from < upto }
-    requires room { 17 ≤ length buffer.old }
+    requires ordered { from ≤ body }
+    requires some { body < upto }
+    requires near { body - from + 17 ≤ length buffer.old }
     ensures { Copies (used D.files D.now D.faults D.taken dumps.old dumps.new) (changed K.written K.faults sink.old sink.new) (upto - from)
-        (λ dump. redacted_body enc Part.Binary (between from upto dump)) result }
+        (λ dump. between from body dump ++ redacted_body enc Part.Binary (between body upto dump)) result }
 {
     let count = read_piece(dumps, from, upto, buffer)?;
-    let piece = &mut buffer[..count];
-    let stretch = redact_lead(piece, enc);
-    put_bytes(sink, piece)?;
+    let lead = (body - from) as usize;
+    let stretch = redact_lead(&mut buffer[lead..count], enc);
+    put_bytes(sink, &buffer[..count])?;
     copy(dumps, from + count as u64, upto, stretch, buffer, sink)
 }
 
-// Writes the body of a section redacted.
-pub(crate) fn put_body<D: Dumps, K: Sink>(
-    alloc: Global,
+// The same for a body that may lie at any distance. Mostly it lies near, so that the first piece has all.
+pub(crate) fn put_binary<D: Dumps, K: Sink>(
     dumps: &mut D,
-    index: &Index,
-    i: usize,
-    part: Part,
-    limits: &Limits,
+    from: u64,
+    body: u64,
+    upto: u64,
     enc: Enc,
     buffer: &mut [u8],
     sink: &mut K,
 ) -> Result<(), RedactFault>
-    requires over { IsBuiltOver (D.now dumps.old) index.now }
-    requires place { i < length index.now.headers }
-    requires body { HasBody (D.now dumps.old) (section_at index.now i) }
-    requires small { part ≡ Part.Heap → body_length (section_at index.now i) ≤ limits.now.section }
+    requires held { HasUpto (D.now dumps.old) upto }
+    requires ordered { from ≤ body }
+    requires some { body < upto }
     requires room { 17 ≤ length buffer.old }
-    ensures { Copies (used D.files D.now D.faults D.taken dumps.old dumps.new) (changed K.written K.faults sink.old sink.new) (body_length (section_at index.now i))
-        (λ dump. redacted_body enc part (between (section_at index.now i).body (section_at index.now i).end dump)) result }
+    ensures { Copies (used D.files D.now D.faults D.taken dumps.old dumps.new) (changed K.written K.faults sink.old sink.new) (upto - from)
+        (λ dump. between from body dump ++ redacted_body enc Part.Binary (between body upto dump)) result }
 {
-    let section = index.section(i);
-    match part {
-        Part::Heap => put_heap(alloc, dumps, index, i, limits, enc, sink),
-        Part::Binary => put_binary(dumps, section.body, section.end, enc, buffer, sink),
-        Part::Other => copy(
-            dumps,
-            section.body,
-            section.end,
-            Stretch::Plain,
-            buffer,
-            sink,
-        ),
+    if body - from <= (buffer.len() - 17) as u64 {
+        return put_near(dumps, from, body, upto, enc, buffer, sink);
     }
+    copy(dumps, from, body, Stretch::Plain, buffer, sink)?;
+    put_near(dumps, body, body, upto, enc, buffer, sink)
 }

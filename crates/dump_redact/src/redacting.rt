@@ -10,7 +10,7 @@ ghost use Rattle.dump_redact.specs.declared.faults.RedactFault.{RedactFault};
 ghost use Rattle.dump_redact.specs.Inner.Copying.{Copies};
 ghost use Rattle.dump_redact.specs.Inner.Places.{part_in, reach, text_upto, text_for, HasBody, fault_at};
 
-use crate::bodies::put_body;
+use crate::bodies::{put_binary, put_heap};
 use crate::copying::{Stretch, copy, make_buffer};
 use crate::faults::RedactFault;
 use crate::parts::{Part, part_of};
@@ -73,14 +73,13 @@ fn part_at(index: &Index, i: usize) -> Part
     }
 }
 
-// Copies what stands from an offset up to the body of the section at a place, writes that body redacted, and says where
-// it ends.
-fn put_upto<D: Dumps, K: Sink>(
+// Copies what stands from an offset up to the body of the heap at a place, writes that body redacted, and says where it
+// ends.
+fn put_heap_from<D: Dumps, K: Sink>(
     alloc: Global,
     dumps: &mut D,
     index: &Index,
     i: usize,
-    part: Part,
     done: u64,
     limits: &Limits,
     buffer: &mut [u8],
@@ -90,22 +89,50 @@ fn put_upto<D: Dumps, K: Sink>(
     requires place { i < length index.now.headers }
     requires before { done ≤ (section_at index.now i).at }
     requires body { HasBody (D.now dumps.old) (section_at index.now i) }
-    requires small { part ≡ Part.Heap → fault_at limits.now.section (section_at index.now i) ≡ None }
-    requires heap { part ≡ Part.Heap → is_heap (section_at index.now i) ≡ true }
-    requires room { 17 ≤ length buffer.old }
+    requires small { fault_at limits.now.section (section_at index.now i) ≡ None }
+    requires heap { is_heap (section_at index.now i) ≡ true }
+    requires room { 0 < length buffer.old }
     ensures copies { Copies (used D.files D.now D.faults D.taken dumps.old dumps.new) (changed K.written K.faults sink.old sink.new) ((section_at index.now i).end - done)
-        (text_upto (enc_of index.now.version) part (section_at index.now i) done) result }
+        (text_upto (enc_of index.now.version) Part.Heap (section_at index.now i) done) result }
     ensures reached { IfOk result (λ upto. upto ≡ (section_at index.now i).end) }
 {
     let section = index.section(i);
     copy(dumps, done, section.body, Stretch::Plain, buffer, sink)?;
-    put_body(
+    put_heap(
         alloc,
         dumps,
         index,
         i,
-        part,
         limits,
+        enc_of(index.version()),
+        sink,
+    )?;
+    Ok(section.end)
+}
+
+// The same for a binary.
+fn put_binary_from<D: Dumps, K: Sink>(
+    dumps: &mut D,
+    index: &Index,
+    i: usize,
+    done: u64,
+    buffer: &mut [u8],
+    sink: &mut K,
+) -> Result<u64, RedactFault>
+    requires place { i < length index.now.headers }
+    requires before { done ≤ (section_at index.now i).at }
+    requires body { HasBody (D.now dumps.old) (section_at index.now i) }
+    requires room { 17 ≤ length buffer.old }
+    ensures copies { Copies (used D.files D.now D.faults D.taken dumps.old dumps.new) (changed K.written K.faults sink.old sink.new) ((section_at index.now i).end - done)
+        (text_upto (enc_of index.now.version) Part.Binary (section_at index.now i) done) result }
+    ensures reached { IfOk result (λ upto. upto ≡ (section_at index.now i).end) }
+{
+    let section = index.section(i);
+    put_binary(
+        dumps,
+        done,
+        section.body,
+        section.end,
         enc_of(index.version()),
         buffer,
         sink,
@@ -136,28 +163,8 @@ fn put_section<D: Dumps, K: Sink>(
     ensures reached { IfOk result (λ upto. upto ≡ reach (part_in (section_at index.now i)) (section_at index.now i) done) }
 {
     match part_at(index, i) {
-        Part::Heap => put_upto(
-            alloc,
-            dumps,
-            index,
-            i,
-            Part::Heap,
-            done,
-            limits,
-            buffer,
-            sink,
-        ),
-        Part::Binary => put_upto(
-            alloc,
-            dumps,
-            index,
-            i,
-            Part::Binary,
-            done,
-            limits,
-            buffer,
-            sink,
-        ),
+        Part::Heap => put_heap_from(alloc, dumps, index, i, done, limits, buffer, sink),
+        Part::Binary => put_binary_from(dumps, index, i, done, buffer, sink),
         Part::Other => Ok(done),
     }
 }

@@ -4,8 +4,8 @@ use Rattle.dump_redact.specs.declared.parts.Part.TheVariants.{Heap, Binary}
 use Rattle.dump_redact.proofs.Reaching.{built-size, part-some}
 use Rattle.dump_redact.proofs.redacting.put_section.Goals as goal
 
-pub put_upto-requires-clause-body : goal.put_upto-requires-clause-body
-put_upto-requires-clause-body g c =
+pub put_heap_from-requires-clause-body : goal.put_heap_from-requires-clause-body
+put_heap_from-requires-clause-body g c =
     let s = section_at c.args.index.now c.args.i in
     let size = built-size (g.D.Dumps.now c.args.dumps.now) c.args.index.now c.requires.over in
     record {
@@ -14,8 +14,8 @@ put_upto-requires-clause-body g c =
       within = omega (arith, size.1, c.part_at.ensures.within);
     }
 
-pub put_upto-requires-in-Binary-clause-body : goal.put_upto-requires-in-Binary-clause-body
-put_upto-requires-in-Binary-clause-body g c =
+pub put_binary_from-requires-clause-body : goal.put_binary_from-requires-clause-body
+put_binary_from-requires-clause-body g c =
     let s = section_at c.args.index.now c.args.i in
     let size = built-size (g.D.Dumps.now c.args.dumps.now) c.args.index.now c.requires.over in
     record {
