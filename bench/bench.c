@@ -12,6 +12,9 @@
 //   bench links FILE BYTES PROCESSES  writes a dump of so many bytes and processes, each with five links and monitors
 //                                     and a heap
 //   bench star FILE LINKS             writes a dump of a process with so many links, whose partners have one each
+//   bench payloads FILE BYTES SIZE    writes a dump of so many bytes: half heaps, of whose lines each twentieth is a binary
+//                                     on the heap, and half sections of binaries of that size, a multiple of 3
+//   bench copy FILE                   reads the file twice and writes it once, in pieces of 64 KiB
 //   bench scan FILE                   counts the headers: reads of 64 KiB, memchr for `=`, the byte before
 //   bench measure OUT COMMAND WORDS.. runs a command, its output into the file OUT, and prints the seconds that it
 //                                     took and the most memory that it had, in KiB
@@ -151,6 +154,40 @@ static int write_external(const char *name, long count) {
     return fclose(f) != 0;
 }
 
+static int write_payloads(const char *name, long bytes, long size) {
+    static const char digits[] = "ABCDEFGHIJKLMNOPQRSTUVWXYZabcdefghijklmnopqrstuvwxyz0123456789+/";
+    FILE *f = fopen(name, "w");
+    if (!f) return 1;
+    unsigned long random = 1;
+    long at = fprintf(f, "=erl_crash_dump:0.5\nSlogan: a benchmark\n");
+    for (long i = 1; at < bytes / 2; i++) {
+        long until = at + 200000;
+        at += fprintf(f, "=proc_heap:<0.%ld.0>\n", i);
+        for (long line = 1; at < until; line++)
+            at += line % 20 ? fprintf(f, "%012lX:lI%08ld|H%012lX\n", at, at % 100000000, at + 16)
+                            : fprintf(f, "%012lX:Yh18:QUJDREVGR0hJSktMTU5PUFFSU1RVVldY\n", at);
+    }
+    for (long i = 1; at < bytes; i++) {
+        at += fprintf(f, "=binary:%lX\n%lX:", i * 16, size) + size / 3 * 4 + 1;
+        for (long n = size / 3 * 4; n > 0; n--) {
+            random = random * 6364136223846793005 + 1442695040888963407;
+            putc_unlocked(digits[random >> 58], f);
+        }
+        putc('\n', f);
+    }
+    return end_dump(f);
+}
+
+static int copy(const char *name) {
+    static char piece[65536];
+    int f = open(name, O_RDONLY);
+    while (read(f, piece, sizeof piece) > 0) {}
+    lseek(f, 0, SEEK_SET);
+    for (ssize_t n; (n = read(f, piece, sizeof piece)) > 0;)
+        if (write(1, piece, n) != n) return 1;
+    return 0;
+}
+
 static int scan(const char *name) {
     static char piece[65536];
     int f = open(name, O_RDONLY);
@@ -189,6 +226,8 @@ int main(int count, char **words) {
     if (count == 5 && !strcmp(words[1], "links")) return write_links(words[2], atol(words[3]), atol(words[4]));
     if (count == 4 && !strcmp(words[1], "star")) return write_star(words[2], atol(words[3]));
     if (count == 4 && !strcmp(words[1], "external")) return write_external(words[2], atol(words[3]));
+    if (count == 5 && !strcmp(words[1], "payloads")) return write_payloads(words[2], atol(words[3]), atol(words[4]));
+    if (count == 3 && !strcmp(words[1], "copy")) return copy(words[2]);
     if (count == 3 && !strcmp(words[1], "scan")) return scan(words[2]);
     if (count > 3 && !strcmp(words[1], "measure")) return measure(words[2], words + 3);
     return 2;

@@ -2,13 +2,15 @@
 # Times `edump index` and `edump info` on a dump of 1 GiB, once with 500,000 and once with 900,000 sections, warm,
 # beside a C loop and grep; then `edump procs` on a dump of 1 GiB with 200,000 processes, beside `edump index`; then the
 # load of heaps, beside the reading of their lines through `heap_line` and `form`, and the walk of a term; then the
-# previews of binaries; then an external term, read and written; and then `edump audit` beside `edump procs`. Each command runs in turn for a number of rounds;
-# the script prints its median in seconds, how many times that of another this is, and the most memory that it had.
+# previews of binaries; then an external term, read and written; then `edump audit` beside `edump procs`; and then
+# `edump redact` of a dump of 1 GiB beside `cat`, each into a file that isn't there before. Each command runs in turn for
+# a number of rounds; the script prints its median in seconds, how many times that of another this is, and the most
+# memory that it had.
 #
 #   bench/run.sh [ROUNDS]
 #
 # grep's output goes into a file, since grep stops at the first match where it is thrown away. The script writes its
-# files into a folder of its own, which needs 1.2 GB, and removes them afterwards.
+# files into a folder of its own, which needs 2.2 GB, and removes them afterwards.
 rounds=${1:-20}
 here=$(CDPATH= cd -- "$(dirname -- "$0")" && pwd) || exit 1
 folder=$(mktemp -d) || exit 1
@@ -153,3 +155,24 @@ for shape in "links 1073741824 200000" "links 0 200000" "star 1000000"; do
     tell audit "edump audit" procs "edump procs"
 done
 rm -f "$dump"
+
+# Binaries made zero, beside `cat` and beside a program in C that only reads the dump twice and writes it.
+for size in 4095 399; do
+    rm -f "$folder"/*.times
+    "$bench" payloads "$dump" 1073741824 "$size" || exit 1
+    for _ in $(seq "$rounds"); do
+        for name in redact cat copy; do
+            rm -f "$folder/out"
+            sync
+            case $name in
+            redact) round redact "$folder/out" "$edump" redact "$dump" ;;
+            cat) round cat "$folder/out" cat "$dump" ;;
+            copy) round copy "$folder/out" "$bench" copy "$dump" ;;
+            esac
+        done
+    done
+    echo "a dump of 1 GiB, half heaps and half binaries of $size bytes, $rounds rounds:"
+    tell redact "edump redact" cat cat
+    tell copy "two reads" cat cat
+done
+rm -f "$dump" "$folder/out"
