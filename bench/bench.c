@@ -11,6 +11,7 @@
 //   bench binaries FILE CELLS BINS    the same with references to binaries, over so many sections of binaries
 //   bench links FILE BYTES PROCESSES  writes a dump of so many bytes and processes, each with five links and monitors
 //                                     and a heap
+//   bench lonely FILE PROCESSES       writes a dump of so many processes, each with five links of which the partners know nothing
 //   bench star FILE LINKS             writes a dump of a process with so many links, whose partners have one each
 //   bench payloads FILE BYTES SIZE    writes a dump of so many bytes: half heaps, of whose lines each twentieth is a binary
 //                                     on the heap, and half sections of binaries of that size, a multiple of 3
@@ -128,6 +129,19 @@ static int write_links(const char *name, long bytes, long count) {
     return end_dump(f);
 }
 
+static int write_lonely(const char *name, long count) {
+    FILE *f = fopen(name, "w");
+    if (!f) return 1;
+    fprintf(f, "=erl_crash_dump:0.5\nSlogan: a benchmark\n");
+    for (long i = 0; i < count; i++) {
+        fprintf(f, "=proc:<0.%ld.0>\nState: Waiting\nMessage queue length: 0\nLink list: [", i);
+        for (long k = 1; k <= 5; k++)
+            fprintf(f, "%s<0.%ld.0>", k > 1 ? ", " : "", (i + k) % count);
+        fprintf(f, "]\nMemory: 2640\n");
+    }
+    return end_dump(f);
+}
+
 static int write_star(const char *name, long links) {
     FILE *f = fopen(name, "w");
     if (!f) return 1;
@@ -214,7 +228,8 @@ static int measure(const char *out, char **command) {
     wait4(child, &status, 0, &use);
     clock_gettime(CLOCK_MONOTONIC, &upto);
     printf("%.3f %ld\n", (upto.tv_sec - from.tv_sec) + (upto.tv_nsec - from.tv_nsec) / 1e9, use.ru_maxrss);
-    return status != 0;
+    // edump ends with 3 where an audit has a finding.
+    return !WIFEXITED(status) || (WEXITSTATUS(status) != 0 && WEXITSTATUS(status) != 3);
 }
 
 int main(int count, char **words) {
@@ -224,6 +239,7 @@ int main(int count, char **words) {
     if (count == 4 && !strcmp(words[1], "tuples")) return write_tuples(words[2], atol(words[3]));
     if (count == 5 && !strcmp(words[1], "binaries")) return write_binaries(words[2], atol(words[3]), atol(words[4]));
     if (count == 5 && !strcmp(words[1], "links")) return write_links(words[2], atol(words[3]), atol(words[4]));
+    if (count == 4 && !strcmp(words[1], "lonely")) return write_lonely(words[2], atol(words[3]));
     if (count == 4 && !strcmp(words[1], "star")) return write_star(words[2], atol(words[3]));
     if (count == 4 && !strcmp(words[1], "external")) return write_external(words[2], atol(words[3]));
     if (count == 5 && !strcmp(words[1], "payloads")) return write_payloads(words[2], atol(words[3]), atol(words[4]));

@@ -2,10 +2,10 @@
 # Times `edump index` and `edump info` on a dump of 1 GiB, once with 500,000 and once with 900,000 sections, warm,
 # beside a C loop and grep; then `edump procs` on a dump of 1 GiB with 200,000 processes, beside `edump index`; then the
 # load of heaps, beside the reading of their lines through `heap_line` and `form`, and the walk of a term; then the
-# previews of binaries; then an external term, read and written; then `edump audit` beside `edump procs`; and then
-# `edump redact` of a dump of 1 GiB beside `cat`, each into a file that isn't there before. Each command runs in turn for
-# a number of rounds; the script prints its median in seconds, how many times that of another this is, and the most
-# memory that it had.
+# previews of binaries; then an external term, read and written; then `edump audit` beside `edump procs`, and `edump
+# audit-json` beside `edump audit`; and then `edump redact` of a dump of 1 GiB beside `cat`, each into a file that isn't there
+# before. Each command runs in turn for a number of rounds; the script prints its median in seconds, how many times that of
+# another this is, and the most memory that it had.
 #
 #   bench/run.sh [ROUNDS]
 #
@@ -153,6 +153,20 @@ for shape in "links 1073741824 200000" "links 0 200000" "star 1000000"; do
     echo "a dump of $(wc -c <"$dump") bytes, $shape:"
     tell procs "edump procs" procs "itself"
     tell audit "edump audit" procs "edump procs"
+done
+
+# Five findings a process.
+for processes in 200000 400000; do
+    rm -f "$folder"/*.times
+    "$bench" lonely "$dump" "$processes" || exit 1
+    sync "$dump"
+    for _ in $(seq "$rounds"); do
+        round audit /dev/null "$edump" audit "$dump" 1000
+        round json /dev/null "$edump" audit-json "$dump" 1000
+    done
+    echo "a dump with $((5 * processes)) findings:"
+    tell audit "edump audit" audit "itself"
+    tell json "and audit-json" audit "edump audit"
 done
 rm -f "$dump"
 

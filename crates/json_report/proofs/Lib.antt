@@ -1,3 +1,8 @@
+pub mod Bounds
+pub mod Counts
 pub mod Entries
+pub mod Files
 pub mod Lists
 pub mod ReadingBack
+pub mod Spans
+pub mod Stands

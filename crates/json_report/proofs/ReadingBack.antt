@@ -1,6 +1,6 @@
 -- The text of a tree is read back as that tree.
-use Rattle.std.proofs.Common.{◌≡◌, ℕ, suc, ◌<◌, ◌≤◌, ◌^◌, false, ◌||◌, List, [], ◌∷◌, length, map, Some, codes, option_map, option_and_then, refl, sym, ap, ap₂, ◌∙◌, arith, append-nil}
-use Rattle.std.specs.Prelude.{All}
+use Rattle.std.proofs.Common.{◌≡◌, ℕ, suc, ◌<◌, ◌≤◌, ◌^◌, false, ◌||◌, List, [], ◌∷◌, length, map, Some, codes, option_map, option_and_then, refl, sym, ap, ◌∙◌, arith, append-nil}
+use Rattle.std.specs.Prelude.{All, unwrap_or}
 use Rattle.std.proofs.lemmas.List.Elements.{All-head, All-tail}
 use Rattle.json.specs.Json as json
 use Rattle.json.specs.Tree.{json_tokens, HasNumbers, ItemsHaveNumbers, MembersHaveNumbers, depth, items_depth, members_depth}
@@ -17,7 +17,7 @@ use Rattle.section_index.specs.Index.{Contents, state_of}
 use Rattle.process_table.specs.Processes.{Process}
 use Rattle.dump_audit.specs.declared.finding.Finding.{Finding}
 use Rattle.dump_audit.specs.declared.finding.Finding.TheVariants.{LinkOneSided, MonitorTo, MonitorFrom, Mailbox, UnreadLinks, UnreadQueue, LinkGone, ToGone, FromGone, QueueCount}
-use Rattle.json_report.specs.Laws.{Has64Bits, ReadsBack}
+use Rattle.json_report.specs.Laws.{Has64Bits, IsReadBack}
 use Rattle.json_report.specs.Trees.{characters, num, text, members, pid_at, kind_at, partner_in, reference_in, process_object, link_object, monitor_object, mailbox_object, count_object, finding_object, state_text, tree_object, finding_tree}
 
 -- a value of at most this depth whose parts are read back
@@ -166,16 +166,40 @@ plain-findings ps (f ∷ found) b = (plain-finding ps f (All-head Has64Bits f fo
 plain-deeper : (m n : ℕ) (d : Data) → m ≤ n → IsPlain m d → IsPlain n d
 plain-deeper m n d le p = record { numbers = p.numbers; reads = p.reads; shallow = omega (arith, le, p.shallow); whole = p.whole }
 
-pub plain-tree : (index : Contents) (ps : List Process) (found : List Finding) → length found < 2 ^ 64 → All Has64Bits found → IsPlain 3 (finding_tree index ps found)
-plain-tree index ps found few bits =
+-- a tree of findings whose numbers have 64 bits, with any state
+pub plain-tree : (ps : List Process) (found : List Finding) (state : List ℕ) → length found < 2 ^ 64 → All Has64Bits found
+    → IsPlain 3 (tree_object (length found) (items_of (map (finding_object ps) found)) state)
+plain-tree ps found state few bits =
     let objects = map (finding_object ps) found in
-    let state = state_text index (state_of index.headers) in
     plain-object 2 ((codes "count", num (length found)) ∷ (codes "findings", array (items_of objects)) ∷ (codes "state", string state) ∷ [])
     (plain-deeper 0 2 _ (omega arith) (plain-num (length found) few), (plain-array 1 objects (plain-findings ps found bits), (plain-deeper 0 2 _ (omega arith) (plain-string state), tt))) refl
 
-pub reads-back : ReadsBack
-reads-back index ps found few bits = read-back (finding_tree index ps found) (plain-deeper 3 max_depth _ (omega arith) (plain-tree index ps found few bits))
+pub reads-back : (index : Contents) (ps : List Process) (found : List Finding) → length found < 2 ^ 64 → All Has64Bits found → IsReadBack (finding_tree index ps found)
+reads-back index ps found few bits =
+    read-back (finding_tree index ps found) (plain-deeper 3 max_depth _ (omega arith) (plain-tree ps found (state_text index (state_of index.headers)) few bits))
 
--- a tree of the same objects and the same state
-pub same-tree : (count : ℕ) (ds es : List Data) (state text : List ℕ) → ds ≡ es → state ≡ text → tree_object count (items_of ds) state ≡ tree_object count (items_of es) text
-same-tree count ds es state text objects states = ap₂ (λ os s. tree_object count (items_of os) s) objects states
+-- what the text of a tree is read as
+pub read-as : (text : List ℕ) (tree d : Data) → text ≡ compact_text tree → IsReadBack tree → read text ≡ Some d → d ≡ tree
+read-as text tree d same back is = ap (λ o. unwrap_or o tree) (sym is ∙ ap read same ∙ back)
+
+-- ---- no float
+
+whole-finding : (ps : List Process) (f : Finding) → has_float (finding_object ps f) ≡ false
+whole-finding ps (LinkOneSided p q entry at other) = refl
+whole-finding ps (MonitorTo p q entry at other) = refl
+whole-finding ps (MonitorFrom p q entry at other) = refl
+whole-finding ps (Mailbox p count at other) = refl
+whole-finding ps (UnreadLinks p at other) = refl
+whole-finding ps (UnreadQueue p at other) = refl
+whole-finding ps (LinkGone p entry at other) = refl
+whole-finding ps (ToGone p entry at other) = refl
+whole-finding ps (FromGone p entry at other) = refl
+whole-finding ps (QueueCount p stated found at other) = refl
+
+whole-findings : (ps : List Process) (found : List Finding) → items_have_float (items_of (map (finding_object ps) found)) ≡ false
+whole-findings ps [] = refl
+whole-findings ps (f ∷ found) = ap (λ b. b || items_have_float (items_of (map (finding_object ps) found))) (whole-finding ps f) ∙ whole-findings ps found
+
+-- a tree of findings has no float
+pub whole-tree : (ps : List Process) (found : List Finding) (state : List ℕ) → has_float (tree_object (length found) (items_of (map (finding_object ps) found)) state) ≡ false
+whole-tree ps found state = ap (λ b. b || false) (whole-findings ps found)

@@ -1,40 +1,23 @@
-// The tree of the findings of an audit.
-ghost use Rattle.std.specs.Prelude.{◌≡◌, ◌++◌, Some, false, map, string_bytes, All, IfOk};
+// The tree of the findings of an audit, and its text.
+ghost use Rattle.std.specs.Prelude.{◌≡◌, Some, false, string_bytes, All, IfOk};
 ghost use Rattle.serde_json.specs.Read.{read};
-ghost use Rattle.serde_json.specs.View.{view, items_view};
+ghost use Rattle.serde_json.specs.View.{view};
 ghost use Rattle.serde_json.specs.Written.{compact_text, has_float};
 ghost use Rattle.section_index.specs.Index.{state_of};
 ghost use Rattle.link_graph.specs.Graph.{graph_of};
 ghost use Rattle.dump_audit.specs.Fitting.{Fits};
+ghost use Rattle.json_report.specs.Inner.Parts.{tree_of};
 ghost use Rattle.json_report.specs.Laws.{Has64Bits};
-ghost use Rattle.json_report.specs.Trees.{state_text, finding_object, tree_object, finding_tree};
+ghost use Rattle.json_report.specs.Trees.{state_text, finding_tree};
 
-use crate::objects::{characters, finding_object};
+use crate::found::Found;
+use crate::members::characters;
 use dump_audit::Finding;
 use link_graph::Graph;
 use process_table::Procs;
 use section_index::{Index, State};
-use serde_json::{Value, json};
+use serde_json::{Value, to_vec};
 use std::alloc::{AllocError, Global};
-
-// The objects of the findings, in their order.
-fn objects(
-    alloc: Global,
-    procs: &Procs,
-    graph: &Graph<'_>,
-    findings: &[Finding],
-) -> Result<Vec<Value>, AllocError>
-    requires graph { graph.now ≡ graph_of procs.now.processes }
-    requires fits { All (Fits procs.now.processes) findings.now }
-    ensures objects { IfOk result (λ objects. map view objects.items ≡ map (finding_object procs.now.processes) findings.now) }
-    ensures bits { IfOk result (λ _. All Has64Bits findings.now) }
-{
-    let mut objects = Vec::new(alloc);
-    for finding in findings {
-        objects.push(finding_object(alloc, procs, graph, *finding)?)?;
-    }
-    Ok(objects)
-}
 
 // What is said of the state of the dump.
 fn state_text(alloc: Global, index: &Index) -> Result<String, AllocError>
@@ -51,15 +34,49 @@ fn state_text(alloc: Global, index: &Index) -> Result<String, AllocError>
     }
 }
 
-fn tree_object(
-    alloc: Global,
-    count: usize,
-    objects: Vec<Value>,
-    state: String,
-) -> Result<Value, AllocError>
-    ensures { IfOk result (λ v. view v ≡ tree_object count (items_view objects.items) (string_bytes state)) }
+// The text that serde_json writes.
+fn written(alloc: Global, found: &Found<'_>) -> Result<Vec<u8>, AllocError>
+    ensures text { IfOk result (λ text. text.items ≡ compact_text (tree_of found.now)) }
+    ensures bits { IfOk result (λ _. All Has64Bits found.now.found) }
 {
-    json!(in alloc; {"count": count, "findings": objects, "state": state})
+    match to_vec(alloc, found) {
+        Ok(text) => Ok(text),
+        Err(_) => Err(AllocError),
+    }
+}
+
+/// The compact text of the tree of some findings.
+pub(crate) fn tree_text(
+    alloc: Global,
+    index: &Index,
+    procs: &Procs,
+    graph: &Graph<'_>,
+    findings: &[Finding],
+) -> Result<Vec<u8>, AllocError>
+    requires graph { graph.now ≡ graph_of procs.now.processes }
+    requires fits { All (Fits procs.now.processes) findings.now }
+    ensures text { IfOk result (λ text. text.items ≡ compact_text (finding_tree index.now procs.now.processes findings.now)) }
+    ensures bits { IfOk result (λ _. All Has64Bits findings.now) }
+{
+    let state = state_text(alloc, index)?;
+    let found = Found {
+        alloc,
+        procs,
+        graph,
+        findings,
+        state: state.as_str(),
+    };
+    written(alloc, &found)
+}
+
+// The value of a text, which is one of a tree, so that want of memory alone is why there is none.
+fn read_back(alloc: Global, text: &[u8]) -> Result<Value, AllocError>
+    ensures { IfOk result (λ value. read text.now ≡ Some (view value)) }
+{
+    match Value::from_slice(alloc, text) {
+        Ok(value) => Ok(value),
+        Err(_) => Err(AllocError),
+    }
 }
 
 /// The tree of the findings of an audit: an object with their number, an object for each of them in their order, and the
@@ -79,7 +96,6 @@ pub fn tree(
     ensures no_float { IfOk result (λ tree. has_float (view tree) ≡ false) }
     ensures reads_back { IfOk result (λ tree. read (compact_text (view tree)) ≡ Some (view tree)) }
 {
-    let objects = objects(alloc, procs, graph, findings)?;
-    let state = state_text(alloc, index)?;
-    tree_object(alloc, findings.len(), objects, state)
+    let text = tree_text(alloc, index, procs, graph, findings)?;
+    read_back(alloc, &text)
 }

@@ -2,8 +2,7 @@
 //!
 //! ```text
 //! let found = audit(alloc, &index, &procs, &graph, 10000)?;
-//! let tree = tree(alloc, &index, &procs, &graph, &found)?;
-//! put_json(alloc, &mut out, &tree)?; // `{"count":0,"findings":[],"state":"whole"}`
+//! put_findings(alloc, &mut out, &index, &procs, &graph, &found)?; // `{"count":0,"findings":[],"state":"whole"}`
 //! ```
 //!
 //! The tree is an object with the number of the findings, an object for each of them, and the state of the dump, as
@@ -12,10 +11,13 @@
 #![tactic(auto)]
 
 mod building;
+mod found;
 mod laws;
+mod members;
 mod objects;
 mod putting;
+mod sending;
 
 pub use building::tree;
 pub use laws::text_reads_back;
-pub use putting::{JsonFault, put_json};
+pub use putting::{JsonFault, put_findings, put_json};

@@ -1,95 +1,130 @@
 // The object of a finding.
-ghost use Rattle.std.specs.Prelude.{◌≡◌, ◌<◌, length, string_bytes, IfOk};
-ghost use Rattle.serde_json.specs.View.{view};
+ghost use Rattle.std.specs.Prelude.{◌≡◌, ◌<◌, length, OnOk};
+ghost use Rattle.serde_json.specs.Events.{SendsValue};
 ghost use Rattle.link_graph.specs.Graph.{graph_of, links_at};
 ghost use Rattle.link_graph.specs.Seen.{shown_kind};
 ghost use Rattle.dump_audit.specs.Fitting.{Fits};
 ghost use Rattle.json_report.specs.Laws.{Has64Bits};
-ghost use Rattle.json_report.specs.Trees.{characters, kind_at, partner_in, reference_in, process_object, link_object, monitor_object, mailbox_object, count_object, gone_object, finding_object};
+ghost use Rattle.json_report.specs.Trees.{pid_at, kind_at, partner_in, reference_in, process_object, link_object, monitor_object, mailbox_object, count_object, gone_object, finding_object};
 
+use crate::members::{Told, send_object};
 use dump_audit::Finding;
 use link_graph::{EntryKind, Graph};
 use process_table::Procs;
-use serde_json::{Value, json};
-use std::alloc::{AllocError, Global};
+use serde::Serializer;
+use std::alloc::Global;
 
-// A text of the dump, of which each byte is one character.
-pub(crate) fn characters(alloc: Global, bytes: &[u8]) -> Result<String, AllocError>
-    ensures { IfOk result (λ s. string_bytes s ≡ characters bytes.now) }
-{
-    bytes.iter().map(|byte| char::from(*byte)).collect(alloc)
-}
-
-fn process_object(
+fn send_process<'x, S: Serializer>(
+    out: &mut S,
     alloc: Global,
-    kind: &str,
-    p: &[u8],
+    kind: &'x str,
+    p: &'x [u8],
     at: u64,
     other: u64,
-) -> Result<Value, AllocError>
-    ensures { IfOk result (λ v. view v ≡ process_object kind.now p.now at other) }
+) -> Result<(), S::Error>
+    ensures { OnOk result (SendsValue (process_object kind.now p.now at other) (S.written out.old) (S.written out.new)) }
 {
-    let p = characters(alloc, p)?;
-    json!(in alloc; {"at": at, "kind": kind, "other": other, "p": p})
+    let members = [
+        ("at", Told::Number(at)),
+        ("kind", Told::Word(kind)),
+        ("other", Told::Number(other)),
+        ("p", Told::Text(p)),
+    ];
+    send_object(out, alloc, &members)
 }
 
-fn link_object(
+fn send_link<'x, S: Serializer>(
+    out: &mut S,
     alloc: Global,
-    kind: &str,
-    p: &[u8],
-    q: &[u8],
+    kind: &'x str,
+    p: &'x [u8],
+    q: &'x [u8],
     at: u64,
     other: u64,
-) -> Result<Value, AllocError>
-    ensures { IfOk result (λ v. view v ≡ link_object kind.now p.now q.now at other) }
+) -> Result<(), S::Error>
+    ensures { OnOk result (SendsValue (link_object kind.now p.now q.now at other) (S.written out.old) (S.written out.new)) }
 {
-    let p = characters(alloc, p)?;
-    let q = characters(alloc, q)?;
-    json!(in alloc; {"at": at, "kind": kind, "other": other, "p": p, "q": q})
+    let members = [
+        ("at", Told::Number(at)),
+        ("kind", Told::Word(kind)),
+        ("other", Told::Number(other)),
+        ("p", Told::Text(p)),
+        ("q", Told::Text(q)),
+    ];
+    send_object(out, alloc, &members)
 }
 
-fn monitor_object(
+fn send_monitor<'x, S: Serializer>(
+    out: &mut S,
     alloc: Global,
-    kind: &str,
-    p: &[u8],
-    q: &[u8],
-    reference: &[u8],
+    kind: &'x str,
+    p: &'x [u8],
+    q: &'x [u8],
+    reference: &'x [u8],
     at: u64,
     other: u64,
-) -> Result<Value, AllocError>
-    ensures { IfOk result (λ v. view v ≡ monitor_object kind.now p.now q.now reference.now at other) }
+) -> Result<(), S::Error>
+    ensures { OnOk result (SendsValue (monitor_object kind.now p.now q.now reference.now at other) (S.written out.old) (S.written out.new)) }
 {
-    let p = characters(alloc, p)?;
-    let q = characters(alloc, q)?;
-    let reference = characters(alloc, reference)?;
-    json!(in alloc; {"at": at, "kind": kind, "other": other, "p": p, "q": q, "ref": reference})
+    let members = [
+        ("at", Told::Number(at)),
+        ("kind", Told::Word(kind)),
+        ("other", Told::Number(other)),
+        ("p", Told::Text(p)),
+        ("q", Told::Text(q)),
+        ("ref", Told::Text(reference)),
+    ];
+    send_object(out, alloc, &members)
 }
 
-fn mailbox_object(
+fn send_mailbox<S: Serializer>(
+    out: &mut S,
     alloc: Global,
     p: &[u8],
     count: u64,
     at: u64,
     other: u64,
-) -> Result<Value, AllocError>
-    ensures { IfOk result (λ v. view v ≡ mailbox_object p.now count at other) }
+) -> Result<(), S::Error>
+    ensures { OnOk result (SendsValue (mailbox_object p.now count at other) (S.written out.old) (S.written out.new)) }
 {
-    let p = characters(alloc, p)?;
-    json!(in alloc; {"at": at, "count": count, "kind": "mailbox", "other": other, "p": p})
+    let members = [
+        ("at", Told::Number(at)),
+        ("count", Told::Number(count)),
+        ("kind", Told::Word("mailbox")),
+        ("other", Told::Number(other)),
+        ("p", Told::Text(p)),
+    ];
+    send_object(out, alloc, &members)
 }
 
-fn count_object(
+fn send_count<S: Serializer>(
+    out: &mut S,
     alloc: Global,
     p: &[u8],
     stated: u64,
     found: u64,
     at: u64,
     other: u64,
-) -> Result<Value, AllocError>
-    ensures { IfOk result (λ v. view v ≡ count_object p.now stated found at other) }
+) -> Result<(), S::Error>
+    ensures { OnOk result (SendsValue (count_object p.now stated found at other) (S.written out.old) (S.written out.new)) }
 {
-    let p = characters(alloc, p)?;
-    json!(in alloc; {"at": at, "found": found, "kind": "queue-count", "other": other, "p": p, "stated": stated})
+    let members = [
+        ("at", Told::Number(at)),
+        ("found", Told::Number(found)),
+        ("kind", Told::Word("queue-count")),
+        ("other", Told::Number(other)),
+        ("p", Told::Text(p)),
+        ("stated", Told::Number(stated)),
+    ];
+    send_object(out, alloc, &members)
+}
+
+// The pid of the process at a place.
+fn pid(procs: &Procs, p: u32) -> &[u8]
+    requires { p < length procs.now.processes }
+    ensures { result.now ≡ pid_at procs.now.processes p }
+{
+    procs.pid(p as usize)
 }
 
 // What the entry with a number says, of the process at a place.
@@ -124,29 +159,40 @@ fn reference<'a>(kind: EntryKind<'a>) -> &'a [u8]
 }
 
 // On a monitor of a process that isn't in the dump.
-fn gone_object(
+fn send_gone<'x, S: Serializer>(
+    out: &mut S,
     alloc: Global,
-    word: &str,
-    p: &[u8],
-    kind: EntryKind<'_>,
+    word: &'x str,
+    p: &'x [u8],
+    kind: EntryKind<'x>,
     at: u64,
     other: u64,
-) -> Result<Value, AllocError>
-    ensures { IfOk result (λ v. view v ≡ gone_object word.now p.now (shown_kind kind.entry) at other) }
+) -> Result<(), S::Error>
+    ensures { OnOk result (SendsValue (gone_object word.now p.now (shown_kind kind.entry) at other) (S.written out.old) (S.written out.new)) }
 {
-    monitor_object(alloc, word, p, partner(kind), reference(kind), at, other)
+    send_monitor(
+        out,
+        alloc,
+        word,
+        p,
+        partner(kind),
+        reference(kind),
+        at,
+        other,
+    )
 }
 
-/// The object of a finding.
-pub(crate) fn finding_object(
+/// Sends the object of a finding.
+pub(crate) fn send_finding<S: Serializer>(
+    out: &mut S,
     alloc: Global,
     procs: &Procs,
     graph: &Graph<'_>,
     finding: Finding,
-) -> Result<Value, AllocError>
+) -> Result<(), S::Error>
     requires graph { graph.now ≡ graph_of procs.now.processes }
     requires fits { Fits procs.now.processes finding }
-    ensures object { IfOk result (λ v. view v ≡ finding_object procs.now.processes finding) }
+    ensures object { OnOk result (SendsValue (finding_object procs.now.processes finding) (S.written out.old) (S.written out.new)) }
     ensures bits { Has64Bits finding }
 {
     match finding {
@@ -156,14 +202,7 @@ pub(crate) fn finding_object(
             at,
             other,
             ..
-        } => link_object(
-            alloc,
-            "link",
-            procs.pid(p as usize),
-            procs.pid(q as usize),
-            at,
-            other,
-        ),
+        } => send_link(out, alloc, "link", pid(procs, p), pid(procs, q), at, other),
         Finding::MonitorTo {
             p,
             q,
@@ -172,15 +211,8 @@ pub(crate) fn finding_object(
             other,
         } => {
             let reference = reference(kind(procs, graph, p, entry));
-            monitor_object(
-                alloc,
-                "monitor-to",
-                procs.pid(p as usize),
-                procs.pid(q as usize),
-                reference,
-                at,
-                other,
-            )
+            let (p, q) = (pid(procs, p), pid(procs, q));
+            send_monitor(out, alloc, "monitor-to", p, q, reference, at, other)
         }
         Finding::MonitorFrom {
             p,
@@ -190,51 +222,29 @@ pub(crate) fn finding_object(
             other,
         } => {
             let reference = reference(kind(procs, graph, p, entry));
-            monitor_object(
-                alloc,
-                "monitor-from",
-                procs.pid(p as usize),
-                procs.pid(q as usize),
-                reference,
-                at,
-                other,
-            )
+            let (p, q) = (pid(procs, p), pid(procs, q));
+            send_monitor(out, alloc, "monitor-from", p, q, reference, at, other)
         }
         Finding::Mailbox {
             p,
             count,
             at,
             other,
-        } => mailbox_object(alloc, procs.pid(p as usize), count, at, other),
-        Finding::UnreadLinks { p, at, other } => process_object(
-            alloc,
-            "unread-links",
-            procs.pid(p as usize),
-            at,
-            other,
-        ),
-        Finding::UnreadQueue { p, at, other } => process_object(
-            alloc,
-            "unread-queue",
-            procs.pid(p as usize),
-            at,
-            other,
-        ),
+        } => send_mailbox(out, alloc, pid(procs, p), count, at, other),
+        Finding::UnreadLinks { p, at, other } => {
+            send_process(out, alloc, "unread-links", pid(procs, p), at, other)
+        }
+        Finding::UnreadQueue { p, at, other } => {
+            send_process(out, alloc, "unread-queue", pid(procs, p), at, other)
+        }
         Finding::LinkGone {
             p,
             entry,
             at,
             other,
         } => {
-            let partner = partner(kind(procs, graph, p, entry));
-            link_object(
-                alloc,
-                "link-gone",
-                procs.pid(p as usize),
-                partner,
-                at,
-                other,
-            )
+            let gone = partner(kind(procs, graph, p, entry));
+            send_link(out, alloc, "link-gone", pid(procs, p), gone, at, other)
         }
         Finding::ToGone {
             p,
@@ -243,7 +253,7 @@ pub(crate) fn finding_object(
             other,
         } => {
             let kind = kind(procs, graph, p, entry);
-            gone_object(alloc, "to-gone", procs.pid(p as usize), kind, at, other)
+            send_gone(out, alloc, "to-gone", pid(procs, p), kind, at, other)
         }
         Finding::FromGone {
             p,
@@ -252,7 +262,7 @@ pub(crate) fn finding_object(
             other,
         } => {
             let kind = kind(procs, graph, p, entry);
-            gone_object(alloc, "from-gone", procs.pid(p as usize), kind, at, other)
+            send_gone(out, alloc, "from-gone", pid(procs, p), kind, at, other)
         }
         Finding::QueueCount {
             p,
@@ -260,6 +270,6 @@ pub(crate) fn finding_object(
             found,
             at,
             other,
-        } => count_object(alloc, procs.pid(p as usize), stated, found, at, other),
+        } => send_count(out, alloc, pid(procs, p), stated, found, at, other),
     }
 }

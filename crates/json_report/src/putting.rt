@@ -1,12 +1,19 @@
 // Writing a tree.
-ghost use Rattle.std.specs.Prelude.{◌≡◌, ◌≤◌, false, IfOk, IfErr, OnOk};
+ghost use Rattle.std.specs.Prelude.{◌≡◌, ◌≤◌, ◌++◌, false, codes, All, IfOk, IfErr, OnOk};
 ghost use Rattle.dump_io.specs.Sinks.{changed, Gained};
 ghost use Rattle.serde_json.specs.View.{view};
 ghost use Rattle.serde_json.specs.Written.{has_float};
+ghost use Rattle.link_graph.specs.Graph.{graph_of};
+ghost use Rattle.dump_audit.specs.Fitting.{Fits};
 ghost use Rattle.json_report.specs.Faults.{IsFaultOf};
-ghost use Rattle.json_report.specs.Trees.{json_text};
+ghost use Rattle.json_report.specs.Trees.{finding_tree, json_text};
 
-use dump_io::{Sink, write_all};
+use crate::building::tree_text;
+use dump_audit::Finding;
+use dump_io::{Failed, Sink, write_all};
+use link_graph::Graph;
+use process_table::Procs;
+use section_index::Index;
 use serde_json::Value;
 use std::alloc::{AllocError, Global};
 
@@ -19,14 +26,56 @@ pub enum JsonFault {
     Memory,
 }
 
+impl From<AllocError> for JsonFault {
+    ghost use Rattle.json_report.specs.declared.putting.JsonFault.TheVariants.{Memory};
+
+    ghost from_gives = { λ _ fault. fault ≡ Memory };
+
+    fn from(_lack: AllocError) -> JsonFault {
+        JsonFault::Memory
+    }
+}
+
+impl From<Failed> for JsonFault {
+    ghost use Rattle.json_report.specs.declared.putting.JsonFault.TheVariants.{Write};
+
+    ghost from_gives = { λ _ fault. fault ≡ Write };
+
+    fn from(_failed: Failed) -> JsonFault {
+        JsonFault::Write
+    }
+}
+
+// The text and LF.
+fn ended(text: Vec<u8>) -> Result<Vec<u8>, AllocError>
+    ensures { IfOk result (λ line. line.items ≡ text.items ++ codes "\n") }
+{
+    let mut line = text;
+    line.push(b'\n')?;
+    Ok(line)
+}
+
 // The text of a tree and LF.
-fn line(alloc: Global, tree: &Value) -> Result<Vec<u8>, AllocError>
+fn tree_line(alloc: Global, tree: &Value) -> Result<Vec<u8>, AllocError>
     requires { has_float (view tree.now) ≡ false }
     ensures { IfOk result (λ line. line.items ≡ json_text (view tree.now)) }
 {
-    let mut line = tree.to_vec(alloc)?;
-    line.push(b'\n')?;
-    Ok(line)
+    ended(tree.to_vec(alloc)?)
+}
+
+// The text of the tree of some findings and LF.
+fn findings_line(
+    alloc: Global,
+    index: &Index,
+    procs: &Procs,
+    graph: &Graph<'_>,
+    findings: &[Finding],
+) -> Result<Vec<u8>, AllocError>
+    requires graph { graph.now ≡ graph_of procs.now.processes }
+    requires fits { All (Fits procs.now.processes) findings.now }
+    ensures { IfOk result (λ line. line.items ≡ json_text (finding_tree index.now procs.now.processes findings.now)) }
+{
+    ended(tree_text(alloc, index, procs, graph, findings)?)
 }
 
 /// Writes the compact text of a tree, in which the keys of an object stand in the order of their bytes, and LF. The tree
@@ -37,12 +86,26 @@ pub fn put_json<K: Sink>(alloc: Global, sink: &mut K, tree: &Value) -> Result<()
     ensures puts { OnOk result (Gained (changed K.written K.faults sink.old sink.new) (json_text (view tree.now))) }
     ensures fault { IfErr result (IsFaultOf (changed K.written K.faults sink.old sink.new) (json_text (view tree.now))) }
 {
-    let line = match line(alloc, tree) {
-        Ok(line) => line,
-        Err(_) => return Err(JsonFault::Memory),
-    };
-    match write_all(sink, &line) {
-        Ok(()) => Ok(()),
-        Err(_) => Err(JsonFault::Write),
-    }
+    let line = tree_line(alloc, tree)?;
+    Ok(write_all(sink, &line)?)
+}
+
+/// Writes what [`put_json`] writes of the [`tree`](crate::tree()) of these findings, and makes no tree of them. The graph is
+/// that of the processes, and the findings fit them, as those of [`audit`](dump_audit::audit) do.
+pub fn put_findings<K: Sink>(
+    alloc: Global,
+    sink: &mut K,
+    index: &Index,
+    procs: &Procs,
+    graph: &Graph<'_>,
+    findings: &[Finding],
+) -> Result<(), JsonFault>
+    requires graph { graph.now ≡ graph_of procs.now.processes }
+    requires fits { All (Fits procs.now.processes) findings.now }
+    ensures later { K.faults sink.old ≤ K.faults sink.new }
+    ensures puts { OnOk result (Gained (changed K.written K.faults sink.old sink.new) (json_text (finding_tree index.now procs.now.processes findings.now))) }
+    ensures fault { IfErr result (IsFaultOf (changed K.written K.faults sink.old sink.new) (json_text (finding_tree index.now procs.now.processes findings.now))) }
+{
+    let line = findings_line(alloc, index, procs, graph, findings)?;
+    Ok(write_all(sink, &line)?)
 }

@@ -1,5 +1,5 @@
-use Rattle.json_report.proofs.ReadingBack.{reads-back}
+use Rattle.json_report.proofs.Files.{all-read-back}
 use Rattle.json_report.proofs.laws.text_reads_back.Goals as goal
 
 pub returns : goal.returns
-returns c = reads-back
+returns c = all-read-back c.sections_tile_a_dump.ensures
