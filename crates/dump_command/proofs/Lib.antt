@@ -6,6 +6,7 @@ pub mod FoundLoads
 pub mod HeapLoads
 pub mod Heaps
 pub mod Info
+pub mod Messages
 pub mod Opened
 pub mod Places
 pub mod Reaching

@@ -1,7 +1,10 @@
-// What a redacted dump says as the dump did. Each law is the contract of a function that does nothing.
+// What a redacted dump says as the dump did, and what is read back of an audit. Each law is the contract of a function that
+// does nothing.
+ghost use Rattle.dump_command.specs.Audits.{AuditsReadBack};
 ghost use Rattle.dump_command.specs.Laws.{KeepsProcesses, KeepsFindings, KeepsHeaps, KeepsAddresses, KeepsRoots, KeepsTrees, KeepsVerdicts, KeepsLeaves};
 
 use dump_redact::{binaries_stay, bodies_are_redacted, sections_stay};
+use json_report::text_reads_back;
 
 /// A law, and no work: a redacted dump has the same processes, and an audit finds the same in it.
 pub fn findings_stay()
@@ -35,4 +38,12 @@ pub fn trees_stay()
     sections_stay();
     bodies_are_redacted();
     heaps_stay();
+}
+
+/// A law, and no work: the text that `audit-json` writes of a dump in a file is, without its LF, read back as the tree of the
+/// audit.
+pub fn audits_read_back()
+    ensures { AuditsReadBack }
+{
+    text_reads_back();
 }

@@ -21,5 +21,5 @@ pub mod status;
 mod stop;
 
 pub use command_words::{Cmd, read_words};
-pub use laws::{findings_stay, heaps_stay, trees_stay};
+pub use laws::{audits_read_back, findings_stay, heaps_stay, trees_stay};
 pub use runner::run;

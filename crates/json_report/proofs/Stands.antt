@@ -23,10 +23,6 @@ abbrev pub total : {X : Type 0} → (X → ℕ) → List X → ℕ
 total w [] = 0
 total w (x ∷ xs) = w x + total w xs
 
-left-holds : (a b : Bool) → (a && b) ≡ true → a ≡ true
-left-holds true b is = refl
-left-holds false b is = is
-
 right-holds : (a b : Bool) → (a && b) ≡ true → b ≡ true
 right-holds true b is = is
 right-holds false b is = absurd cc

@@ -1,9 +1,12 @@
 // `audit`: what there is to find in links, monitors and message queues.
-ghost use Rattle.std.specs.Prelude.{◌≡◌};
+ghost use Rattle.std.specs.Prelude.{◌≡◌, All, IfOk};
 ghost use Rattle.audit_bodies.specs.Bodies.{IsAuditable};
-ghost use Rattle.dump_command.specs.Audits.{status_of};
+ghost use Rattle.dump_audit.specs.Findings.{findings};
+ghost use Rattle.dump_audit.specs.Fitting.{Fits};
+ghost use Rattle.link_graph.specs.Graph.{graph_of};
 ghost use Rattle.command_words.specs.Command.{audit};
-ghost use Rattle.dump_command.specs.Inner.Audits.{audit_status, audit_text};
+ghost use Rattle.dump_command.specs.Audits.{status_of};
+ghost use Rattle.dump_command.specs.Inner.Audits.{audit_status, audit_text, loaded_audit};
 
 use crate::open::Opened;
 use crate::report::Report;
@@ -14,12 +17,29 @@ use dump_audit::{Finding, audit_with};
 use dump_io::{Dumps, Sink};
 use link_graph::Graph;
 use report_text::put_findings;
+use std::alloc::AllocError;
 
 #[derive(Clone, Copy)]
 pub(crate) struct Audit<'a> {
     pub(crate) file: &'a str,
     pub(crate) limit: u64,
     pub(crate) full: bool,
+}
+
+// What an audit of these bodies finds.
+pub(super) fn find(
+    at: &Opened<'_>,
+    loaded: &AuditBodies,
+    graph: &Graph<'_>,
+    limit: u64,
+) -> Result<Vec<Finding>, AllocError>
+    requires auditable { IsAuditable at.now.index.now loaded.now }
+    requires graph { graph.now ≡ graph_of loaded.now.procs.processes }
+    ensures found { IfOk result (λ found. found.items ≡ findings (loaded_audit limit at.now.index.now loaded.now)) }
+    ensures fits { IfOk result (λ found. All (Fits loaded.now.procs.processes) found.items) }
+{
+    let AuditBodies { procs, mails } = loaded;
+    audit_with(at.alloc, at.index, procs, graph, limit, mails.as_deref())
 }
 
 // The status of an audit with these findings.
@@ -49,17 +69,9 @@ impl Report for Audit<'_> {
     }
 
     fn put<K: Sink>(&self, at: &Opened<'_>, loaded: &AuditBodies, out: &mut K) -> Result<u8, Stop> {
-        let AuditBodies { procs, mails } = loaded;
-        let graph = Graph::build(at.alloc, procs)?;
-        let findings = audit_with(
-            at.alloc,
-            at.index,
-            procs,
-            &graph,
-            self.limit,
-            mails.as_deref(),
-        )?;
-        put_findings(out, at.index, procs, &graph, findings.as_slice())?;
+        let graph = Graph::build(at.alloc, &loaded.procs)?;
+        let findings = find(at, loaded, &graph, self.limit)?;
+        put_findings(out, at.index, &loaded.procs, &graph, findings.as_slice())?;
         Ok(status(findings.as_slice()))
     }
 }

@@ -3,14 +3,13 @@ ghost use Rattle.audit_bodies.specs.Bodies.{IsAuditable};
 ghost use Rattle.command_words.specs.Command.{audit_json};
 ghost use Rattle.dump_command.specs.Inner.Audits.{audit_status, json_of};
 
-use super::audit::status;
+use super::audit::{find, status};
 use crate::open::Opened;
 use crate::report::Report;
 use crate::stop::{Stop, or_stop};
 use audit_bodies::AuditBodies;
-use dump_audit::audit_with;
 use dump_io::{Dumps, Sink};
-use json_report::{put_json, tree};
+use json_report::put_findings;
 use link_graph::Graph;
 
 #[derive(Clone, Copy)]
@@ -40,18 +39,16 @@ impl Report for AuditJson<'_> {
     }
 
     fn put<K: Sink>(&self, at: &Opened<'_>, loaded: &AuditBodies, out: &mut K) -> Result<u8, Stop> {
-        let AuditBodies { procs, mails } = loaded;
-        let graph = Graph::build(at.alloc, procs)?;
-        let findings = audit_with(
+        let graph = Graph::build(at.alloc, &loaded.procs)?;
+        let findings = find(at, loaded, &graph, self.limit)?;
+        put_findings(
             at.alloc,
+            out,
             at.index,
-            procs,
+            &loaded.procs,
             &graph,
-            self.limit,
-            mails.as_deref(),
+            findings.as_slice(),
         )?;
-        let tree = tree(at.alloc, at.index, procs, &graph, findings.as_slice())?;
-        put_json(at.alloc, out, &tree)?;
         Ok(status(findings.as_slice()))
     }
 }
