@@ -3,12 +3,13 @@ use Rattle.std.proofs.Common.{◌≡◌, ℕ, zero, suc, ◌+◌, ◌-◌, ◌<�
 use Rattle.std.proofs.lemmas.Bool.{true≢false, cases_lt, false_from_ne_true, eq-eqb, eqb-true}
 use Rattle.std.proofs.lemmas.Bool.Decides.{eqb_tells}
 use Rattle.std.proofs.lemmas.Grind.{get_or-set_at}
-use Rattle.std.proofs.lemmas.List.{get_or_default, get_or-set_other, get_or-set_same, length-set, get_or-take, length-take}
+use Rattle.std.proofs.lemmas.List.{get_or_default, get_or-set_other, get_or-set_same, length-set, length-map, get_or-take, length-take}
 use Rattle.std.proofs.lemmas.List.Folds.{list_any_none, list_any_at}
 use Rattle.std.proofs.lemmas.Option.{slice_get-get_or}
 use Rattle.heap_cells.specs.declared.cells.CellRecord.{CellRecord}
-use Rattle.heap_cells.specs.Inner.Order.{address_or, address_in, rank, IsOrder, is_first, AreFirsts}
-use Rattle.heap_cells.proofs.OrderFacts.{ranked, lesser}
+use Rattle.heap_cells.specs.Inner.Order.{address_or, address_in, rank, IsOrder, is_first, AreFirsts, AreRanked}
+use Rattle.heap_cells.specs.Inner.Ranks.{AreApart}
+use Rattle.heap_cells.proofs.OrderFacts.{ranked, lesser, numbers_of, order-of, address-at}
 
 -- no record before this one has its address
 abbrev pub IsFirst : List CellRecord → ℕ → Type 0
@@ -189,3 +190,24 @@ marked-all rs order firsts is marked = record {
       let begun = begun-at rs order n there.0 is there.1 (get_or_default order there.0 0 n there.1 ∙ there.2) (passes-first rs n inside passes) in
       subst (λ m. get_or firsts m false ≡ true) begun.stands (marked.begun begun.place begun.within begun.passes));
 }
+
+-- ---- where no two neighbours have one address
+
+apart-begins : (rs : List CellRecord) (pairs : List (ℕ × ℕ)) (k : ℕ) → AreRanked rs pairs → AreApart pairs → k < length pairs → begins rs (numbers_of pairs) k ≡ true
+apart-begins rs pairs zero are apart inside = refl
+apart-begins rs pairs (suc k) are apart inside =
+    let next : k + 1 ≡ suc k = omega arith in
+    let differs : (address_in rs (get_or (numbers_of pairs) k 0) == address_in rs (get_or (numbers_of pairs) (suc k) 0)) ≡ false =
+    false_from_ne_true _ (λ same. apart k (omega arith)
+    (sym (address-at rs pairs k 0 are.pairs_are (omega arith)) ∙ eqb-true _ _ same ∙ address-at rs pairs (suc k) 0 are.pairs_are inside ∙ ap (λ i. (get_or pairs i (0, 0)).0) (sym next))) in
+    let less : suc k - 1 ≡ k = omega arith in
+    rw (not-zero (suc k) (omega arith), less, differs) refl
+
+pub apart-first : (rs : List CellRecord) (pairs : List (ℕ × ℕ)) (n : ℕ) → length rs ≤ 100000000 → AreRanked rs pairs → AreApart pairs → n < length rs → is_first rs n ≡ true
+apart-first rs pairs n few are apart inside =
+    let order = order-of rs pairs are in
+    let there = order.complete n inside in
+    let listed : there.0 < length pairs = omega (arith, there.1, length-map pairs (λ (p : ℕ × ℕ). p.1)) in
+    let stands : get_or (numbers_of pairs) there.0 0 ≡ n = get_or_default (numbers_of pairs) there.0 0 n there.1 ∙ there.2 in
+    first-passes rs n inside (subst (IsFirst rs) stands
+    (begins-first rs (numbers_of pairs) there.0 (omega (arith, few)) order there.1 (apart-begins rs pairs there.0 are apart listed)))

@@ -23,10 +23,11 @@ use Rattle.heap_cells.specs.Targets.{Target, Plain, At, Missing, target, target_
 use Rattle.heap_cells.specs.Inner.Gathering.{AreAll}
 use Rattle.heap_cells.specs.Inner.Keeping.{AreOrdered, IsIndexed}
 use Rattle.heap_cells.specs.Inner.Texts.{text_of, seam_of}
-use Rattle.heap_cells.specs.Inner.Order.{record_with}
+use Rattle.heap_cells.specs.Inner.Order.{record_with, IsOrder}
 use Rattle.heap_cells.specs.Inner.Records.{cell_in, cells_in, elements_by, AreLaid, AreSlots, Spells, AllSpell, start_at, slots_at, IsArena}
 use Rattle.heap_cells.specs.Inner.Resolving.{settled, cell_or_gone}
 use Rattle.heap_cells.proofs.KeepingFacts.{is_seen}
+use Rattle.heap_cells.proofs.OrderFacts.{numbers_of, order-of}
 use Rattle.heap_cells.proofs.RecordFacts.{append-none, has-at, piece-of, number-at, weight-slots}
 
 pub ordered-slots : (text : List ℕ) (seam : ℕ) (enc : Enc) (known : List Cell) (rs : List CellRecord) (slots : List Slot) → AreSlots text seam enc known rs slots
@@ -219,10 +220,10 @@ few-indexed texts g own found whole is =
     let total = whole.all.weight_is in
     omega (arith, weighs, cells, first, total, whole.kept, whole.limit)
 
-pub arena-indexed : (texts : Texts) (g : Gathering) (own : ℕ) (found : Indexed) (slots : List Slot) → length texts.heap.items ≤ 536870912 → length texts.literals.items ≤ 536870912
+pub arena-indexed : (texts : Texts) (g : Gathering) (own : ℕ) (found : Indexed) (slots : List Slot) (order : List ℕ) → length texts.heap.items ≤ 536870912 → length texts.literals.items ≤ 536870912
     → IsWhole texts g own → is-indexed texts g own found → slots ≡ map (settled found.arena.cells.items) found.arena.slots.items
-    → IsArena (text_of texts) (seam_of texts) texts.enc found.arena.cells.items slots found.order.items found.own
-arena-indexed texts g own found slots heap literals whole is settled_is =
+    → order ≡ numbers_of found.ranks → IsArena (text_of texts) (seam_of texts) texts.enc found.arena.cells.items slots order found.own
+arena-indexed texts g own found slots order heap literals whole is settled_is order_is =
     let text = text_of texts in
     let cells = cells-indexed texts g own found whole is in
     let few = few-indexed texts g own found whole is in
@@ -235,5 +236,5 @@ arena-indexed texts g own found slots heap literals whole is settled_is =
       distinct = subst (λ l. IsDistinct nat_eq (addresses l)) (sym cells) (first-distinct [] (all_lines texts));
       slots_are = subst (AreSlots text (seam_of texts) texts.enc (cells_in text texts.enc found.arena.cells.items) found.arena.cells.items) (sym settled_is)
           (AreSlots-settled text (seam_of texts) texts.enc found.arena.cells.items found.arena.slots.items is.kept.slots_are);
-      order_is = is.order_is;
+      order_is = subst (IsOrder found.arena.cells.items) (sym order_is) (order-of found.arena.cells.items found.ranks is.ranks_are);
     }

@@ -1,10 +1,8 @@
 -- Of the cells with one address the first is kept.
 use Rattle.std.proofs.Common.{◌≡◌, ℕ, zero, suc, ◌+◌, ◌-◌, ◌<◌, ◌≤◌, ◌==◌, ◌||◌, Bool, true, false, not, cond, List, [], ◌∷◌, ◌++◌, length, take, drop, map, get_or, Some, refl, sym, ◌∙◌, ap, subst, arith, append_assoc, length-append}
 use Rattle.std.specs.Prelude.{slice_get}
-use Rattle.std.specs.List.{list_any, list_all}
+use Rattle.std.specs.List.{list_any}
 use Rattle.std.proofs.Math.Seq.{take-length}
-use Rattle.std.proofs.lemmas.List.Folds.{list_all_at}
-use Rattle.std.proofs.lemmas.Bool.{true≢false, true_from_ne_false}
 use Rattle.std.proofs.lemmas.List.{take_more, length-map, map-append, take-map, length-take}
 use Rattle.std.proofs.lemmas.Option.{get_or_from_slice_get, slice_get_within}
 use Rattle.term_forms.specs.declared.enc.Enc.{Enc}
@@ -13,8 +11,10 @@ use Rattle.heap_cells.specs.declared.cells.CellRecord.{CellRecord}
 use Rattle.heap_cells.specs.declared.keeping.Indexed.{Indexed}
 use Rattle.heap_cells.specs.Cells.{Cell, first_cells, addresses}
 use Rattle.heap_cells.specs.Inner.Keeping.{moved, moved_record, AreOrdered, IsKept, IsIndexed}
-use Rattle.heap_cells.specs.Inner.Order.{address_or, address_in, is_first, AreFirsts, IsOrder}
+use Rattle.heap_cells.specs.Inner.Order.{address_or, address_in, is_first, AreRanked}
+use Rattle.heap_cells.specs.Inner.Ranks.{AreApart}
 use Rattle.heap_cells.specs.Inner.Records.{cell_in, cells_in, AreSlots, start_at, slots_at}
+use Rattle.heap_cells.proofs.FirstFacts.{apart-first}
 use Rattle.heap_cells.proofs.PushingFacts.{AreSlots-push}
 use Rattle.heap_cells.proofs.RecordFacts.{append-none, has-at, cell-at, record-at, piece-of}
 
@@ -158,15 +158,10 @@ keeping-other all from first kept i inside ordered is before = record {
 
 -- ---- where each record is the first with its address
 
-each-first : (rs : List CellRecord) (firsts : List Bool) (i : ℕ) → AreFirsts rs firsts → list_all (λ test. test) firsts ≡ true → i < length rs → is_first rs i ≡ true
-each-first rs firsts i are all inside =
-    sym (are.each i inside)
-    ∙ true_from_ne_false _ (λ fails. true≢false (sym all ∙ list_all_at (λ test. test) firsts i false (omega (arith, inside, are.count)) fails))
-
-pub all-first : (text : List ℕ) (enc : Enc) (rs : List CellRecord) (firsts : List Bool) (i : ℕ) → AreFirsts rs firsts → list_all (λ test. test) firsts ≡ true → i ≤ length rs
+pub all-first : (text : List ℕ) (enc : Enc) (rs : List CellRecord) (i : ℕ) → ((n : ℕ) → n < length rs → is_first rs n ≡ true) → i ≤ length rs
     → first_cells [] (take i (cells_in text enc rs)) ≡ take i (cells_in text enc rs)
-all-first text enc rs firsts zero are all inside = refl
-all-first text enc rs firsts (suc i) are all inside =
+all-first text enc rs zero each inside = refl
+all-first text enc rs (suc i) each inside =
     let cells = cells_in text enc rs in
     let there = has-at rs i (omega arith) in
     let cell = cell_in text enc there.0 in
@@ -175,24 +170,25 @@ all-first text enc rs firsts (suc i) are all inside =
     let more = take_more cells i cell (omega (arith, inside, length-map rs (cell_in text enc))) ∙ ap (λ x. take i cells ++ x ∷ []) at in
     ap (λ n. first_cells [] (take n cells)) next
     ∙ first_cells-more text enc rs i there.0 there.1
-    ∙ ap (λ b. first_cells [] (take i cells) ++ cond b (cell ∷ []) []) (each-first rs firsts i are all (omega arith))
-    ∙ ap (λ l. l ++ cell ∷ []) (all-first text enc rs firsts i are all (omega arith))
+    ∙ ap (λ b. first_cells [] (take i cells) ++ cond b (cell ∷ []) []) (each i (omega arith))
+    ∙ ap (λ l. l ++ cell ∷ []) (all-first text enc rs i each (omega arith))
     ∙ sym more ∙ ap (λ n. take n cells) (sym next)
 
-pub all-indexed : (text : List ℕ) (seam : ℕ) (enc : Enc) (arena : Arena) (firsts : List Bool) (own : ℕ) (found : Indexed) → AreFirsts arena.cells.items firsts
-    → list_all (λ test. test) firsts ≡ true → own ≤ length arena.cells.items → found.arena ≡ arena → IsOrder arena.cells.items found.order.items → found.own ≡ own
+pub all-indexed : (text : List ℕ) (seam : ℕ) (enc : Enc) (arena : Arena) (own : ℕ) (found : Indexed) → length arena.cells.items ≤ 100000000
+    → AreRanked arena.cells.items found.ranks → AreApart found.ranks → own ≤ length arena.cells.items → found.arena ≡ arena → found.own ≡ own
     → AreSlots text seam enc [] arena.cells.items arena.slots.items → IsIndexed text seam enc (cells_in text enc arena.cells.items) own found
-all-indexed text seam enc arena firsts own found are all few same order own_is slots =
+all-indexed text seam enc arena own found count are apart few same own_is slots =
     let cells = cells_in text enc arena.cells.items in
+    let each : (n : ℕ) → n < length arena.cells.items → is_first arena.cells.items n ≡ true = λ n inside. apart-first arena.cells.items found.ranks n count are apart inside in
     let whole : take (length arena.cells.items) cells ≡ cells =
     ap (λ n. take n cells) (sym (length-map arena.cells.items (cell_in text enc))) ∙ take-length cells in
     record {
       kept = subst (λ (a : Arena). IsKept text seam enc (first_cells [] cells) a) (sym same) (record {
         slots_are = slots;
-        cells_are = sym (ap (first_cells []) (sym whole) ∙ all-first text enc arena.cells.items firsts (length arena.cells.items) are all (omega arith) ∙ whole);
+        cells_are = sym (ap (first_cells []) (sym whole) ∙ all-first text enc arena.cells.items (length arena.cells.items) each (omega arith) ∙ whole);
       });
-      order_is = subst (λ (a : Arena). IsOrder a.cells.items found.order.items) (sym same) order;
+      ranks_are = subst (λ (a : Arena). AreRanked a.cells.items found.ranks) (sym same) are;
       own_is = own_is
-          ∙ sym (ap length (all-first text enc arena.cells.items firsts own are all few)
+          ∙ sym (ap length (all-first text enc arena.cells.items own each few)
           ∙ (let n = length-take own cells in omega (arith, n, few, length-map arena.cells.items (cell_in text enc))));
     }

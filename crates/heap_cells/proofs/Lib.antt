@@ -5,6 +5,7 @@ pub mod HeapFacts
 pub mod KeepingFacts
 pub mod OrderFacts
 pub mod PushingFacts
+pub mod RanksFacts
 pub mod RecordFacts
 pub mod ResolvingFacts
 pub mod TargetFacts

@@ -1,17 +1,19 @@
 -- Numbers of records in the order of their addresses.
 use Rattle.std.proofs.Common.{◌≡◌, ℕ, ◌+◌, ◌<◌, ◌≤◌, ◌==◌, ◌⊎◌, inl, inr, true, false, ltb, List, [], ◌∷◌, ◌++◌, length, get_or, map, None, Some, refl, sym, ◌∙◌, ap, subst, arith, length-append, below_more}
+use Rattle.std.specs.Prelude.{All}
 use Rattle.std.specs.List.Sorted.{IsNonDecreasingBy, IsPartitionPoint, IsPermutation, IsSorted}
 use Rattle.std.specs.Ordering.{is_lt, ordering_then, nat_cmp}
 use Rattle.std.specs.Cmp.{nat_cmp_is}
 use Rattle.std.specs.declared.cmp.Ordering.TheVariants.{Less, Equal}
 use Rattle.std.proofs.lemmas.Map.Keys.{ge_from_not_lt}
 use Rattle.std.proofs.lemmas.List.Elements.{All-map}
-use Rattle.std.proofs.lemmas.Bool.{true≢false, cases_lt, cases_order, false_from_ne_true, eq-eqb, eqb-true, ltb-true, ltb-false}
+use Rattle.std.proofs.lemmas.Bool.{true≢false, cases_lt, cases_order, false_from_ne_true, eq-eqb, eqb-true, ltb-true, ltb-false, lt-ltb, le-ltb}
 use Rattle.std.proofs.lemmas.List.{get_or_default, get_or_push, get_or_append_left, get_or-map, length-map}
 use Rattle.std.proofs.lemmas.List.Sorted.{All-permutation, Contains-permutation, IsNonDecreasingBy-from_all_adjacent}
 use Rattle.std.proofs.lemmas.Option.{slice_get-get_or}
 use Rattle.heap_cells.specs.declared.cells.CellRecord.{CellRecord}
-use Rattle.heap_cells.specs.Inner.Order.{address_or, address_in, rank, IsOrder, record_with, IsPairOf, ArePairs}
+use Rattle.heap_cells.specs.Inner.Order.{address_or, address_in, rank, IsOrder, record_with, IsPairOf, ArePairs, AreRanked}
+use Rattle.heap_cells.specs.Inner.Resolving.{IsFirstFrom}
 use Rattle.heap_cells.proofs.FirstPlace.{position-at, position-none}
 
 pub lesser : (a b m n : ℕ) → m < 4294967296 → n < 4294967296 → rank a m ≤ rank b n → a ≤ b
@@ -148,13 +150,13 @@ not-less a m b n one other stands = by-order (cases_order a b)
         let greater : Less ≡ nat_cmp b a = nat_cmp_is b a Less more in
         absurd (true≢false (ap (λ o. is_lt (ordering_then o (nat_cmp n m))) greater ∙ stands))
 
-pub pairs-ranked : (rs : List CellRecord) (pairs : List (ℕ × ℕ)) → length rs < 4294967296 → ArePairs rs pairs → IsSorted (λ x y. ordering_then (nat_cmp x.0 y.0) (nat_cmp x.1 y.1)) pairs
+pub pairs-ranked : (pairs : List (ℕ × ℕ)) → All (λ (p : ℕ × ℕ). p.1 < 134217728) pairs → IsSorted (λ x y. ordering_then (nat_cmp x.0 y.0) (nat_cmp x.1 y.1)) pairs
     → IsNonDecreasingBy (λ (p : ℕ × ℕ). rank p.0 p.1) pairs
-pairs-ranked rs pairs few are sorted =
+pairs-ranked pairs few sorted =
     IsNonDecreasingBy-from_all_adjacent (λ (p : ℕ × ℕ). rank p.0 p.1) pairs
     (λ k d inside.
-    let one = (are.each k d (omega arith)).within in
-    let other = (are.each (k + 1) d inside).within in
+    let one = few k d (omega arith) in
+    let other = few (k + 1) d inside in
     not-less (get_or pairs k d).0 (get_or pairs k d).1 (get_or pairs (k + 1) d).0 (get_or pairs (k + 1) d).1 (omega (arith, one)) (omega (arith, other)) (sorted k d (omega arith) inside))
 
 -- the numbers of sorted pairs
@@ -175,3 +177,60 @@ order-is rs pairs order are sorted is = subst (IsOrder rs) is (record {
       let j_at = (are.each j (0, 0) within).address in
       rw (i_is, j_is, i_at, j_at) (sorted i j (0, 0) up within);
 })
+
+-- ---- ranked pairs
+
+abbrev pub numbers_of : List (ℕ × ℕ) → List ℕ
+numbers_of pairs = map (λ (p : ℕ × ℕ). p.1) pairs
+
+pub order-of : (rs : List CellRecord) (pairs : List (ℕ × ℕ)) → AreRanked rs pairs → IsOrder rs (numbers_of pairs)
+order-of rs pairs are = order-is rs pairs (numbers_of pairs) are.pairs_are are.sorted refl
+
+-- the address of the record whose number stands at a place
+pub address-at : (rs : List CellRecord) (pairs : List (ℕ × ℕ)) (k d : ℕ) → ArePairs rs pairs → k < length pairs
+    → address_in rs (get_or (numbers_of pairs) k d) ≡ (get_or pairs k (0, 0)).0
+address-at rs pairs k d are inside = ap (address_in rs) (get_or-map (λ (p : ℕ × ℕ). p.1) pairs k (0, 0) d inside) ∙ (are.each k (0, 0) inside).address
+
+pub addresses-rise : (pairs : List (ℕ × ℕ)) (i j : ℕ) → All (λ (p : ℕ × ℕ). p.1 < 4294967296) pairs → IsNonDecreasingBy (λ (p : ℕ × ℕ). rank p.0 p.1) pairs → i ≤ j → j < length pairs
+    → (get_or pairs i (0, 0)).0 ≤ (get_or pairs j (0, 0)).0
+addresses-rise pairs i j few sorted up inside =
+    lesser (get_or pairs i (0, 0)).0 (get_or pairs j (0, 0)).0 (get_or pairs i (0, 0)).1 (get_or pairs j (0, 0)).1 (few i (0, 0) (omega arith)) (few j (0, 0) inside) (sorted i j (0, 0) up inside)
+
+few-pairs : (rs : List CellRecord) (pairs : List (ℕ × ℕ)) → length rs ≤ 100000000 → ArePairs rs pairs → All (λ (p : ℕ × ℕ). p.1 < 4294967296) pairs
+few-pairs rs pairs few are k d inside = let one = (are.each k d inside).within in omega (arith, one, few)
+
+point-of : (rs : List CellRecord) (pairs : List (ℕ × ℕ)) (address at : ℕ) → length rs ≤ 100000000 → AreRanked rs pairs → IsFirstFrom pairs address at
+    → IsPointOf rs (numbers_of pairs) address at
+point-of rs pairs address at few are first = (
+  λ k d low before.
+      let inside : k < length pairs = omega (arith, before, first.within) in
+      let less : address_in rs (get_or (numbers_of pairs) k d) < address = let same = address-at rs pairs k d are.pairs_are inside in let front = first.front k before in omega (arith, same, front) in
+      lt-ltb (address_in rs (get_or (numbers_of pairs) k d)) address less,
+  λ k d low within.
+      let inside : k < length pairs = omega (arith, within, length-map pairs (λ (p : ℕ × ℕ). p.1)) in
+      let up = addresses-rise pairs at k (few-pairs rs pairs few are.pairs_are) are.sorted low inside in
+      let no_less : address ≤ address_in rs (get_or (numbers_of pairs) k d) =
+      let same = address-at rs pairs k d are.pairs_are inside in let behind = first.behind (omega (arith, low, inside)) in omega (arith, same, behind, up) in
+      le-ltb (address_in rs (get_or (numbers_of pairs) k d)) address no_less,
+)
+
+-- what stands at the first place whose address isn't lesser
+pub none-there : (rs : List CellRecord) (pairs : List (ℕ × ℕ)) (address at : ℕ) → length rs ≤ 100000000 → AreRanked rs pairs → IsFirstFrom pairs address at → length pairs ≤ at
+    → record_with rs address ≡ None
+none-there rs pairs address at few are first past =
+    past-the-end rs (numbers_of pairs) address at (order-of rs pairs are) (point-of rs pairs address at few are first) (omega (arith, past, length-map pairs (λ (p : ℕ × ℕ). p.1)))
+
+pub number-there : (rs : List CellRecord) (pairs : List (ℕ × ℕ)) (address at number : ℕ) → length rs ≤ 100000000 → AreRanked rs pairs → IsFirstFrom pairs address at → at < length pairs
+    → (get_or pairs at (0, 0)).1 ≡ number → (get_or pairs at (0, 0)).0 ≡ address → record_with rs address ≡ Some number
+number-there rs pairs address at number few are first inside is same =
+    let read : number ≡ get_or (numbers_of pairs) at number = sym (get_or-map (λ (p : ℕ × ℕ). p.1) pairs at (0, 0) number inside ∙ is) in
+    found-there rs (numbers_of pairs) address at number (order-of rs pairs are) (point-of rs pairs address at few are first) (omega (arith, inside, length-map pairs (λ (p : ℕ × ℕ). p.1))) read
+    (ap (address_in rs) read ∙ address-at rs pairs at number are.pairs_are inside ∙ same)
+
+pub other-address : (rs : List CellRecord) (pairs : List (ℕ × ℕ)) (address at : ℕ) → length rs ≤ 100000000 → AreRanked rs pairs → IsFirstFrom pairs address at → at < length pairs
+    → ((get_or pairs at (0, 0)).0 ≡ address → ⊥) → record_with rs address ≡ None
+other-address rs pairs address at few are first inside other =
+    let number = (get_or pairs at (0, 0)).1 in
+    let read : number ≡ get_or (numbers_of pairs) at number = sym (get_or-map (λ (p : ℕ × ℕ). p.1) pairs at (0, 0) number inside) in
+    other-there rs (numbers_of pairs) address at number (omega (arith, few)) (order-of rs pairs are) (point-of rs pairs address at few are first)
+    (omega (arith, inside, length-map pairs (λ (p : ℕ × ℕ). p.1))) read (λ same. other (sym (address-at rs pairs at number are.pairs_are inside) ∙ ap (address_in rs) (sym read) ∙ same))

@@ -1,7 +1,7 @@
 -- Resolving references in place.
 use Rattle.std.proofs.Common.{◌≡◌, ℕ, ◌+◌, ◌<◌, ◌≤◌, ◌⊎◌, true, false, eqb, inl, inr, List, [], ◌∷◌, ◌++◌, length, get_or, set, map, Option, None, Some, refl, sym, ◌∙◌, ap, subst, arith, below_more}
 use Rattle.std.specs.Prelude.{slice_get, All, Contains}
-use Rattle.std.specs.List.Sorted.{IsPermutation}
+use Rattle.std.specs.List.Sorted.{IsPermutation, IsNonDecreasingBy}
 use Rattle.std.proofs.lemmas.List.Sorted.{All-permutation, Contains-permutation}
 use Rattle.std.proofs.lemmas.List.Elements.{All-push, Contains-push, Contains-append_left}
 use Rattle.std.proofs.lemmas.Option.{get_or_from_slice_get, slice_get_within, slice_get-get_or}
@@ -11,12 +11,13 @@ use Rattle.std.proofs.lemmas.List.{get_or_default, get_or-set_other, get_or-map,
 use Rattle.heap_cells.specs.declared.cells.CellRecord.{CellRecord}
 use Rattle.heap_cells.specs.declared.cells.Slot.{Slot}
 use Rattle.heap_cells.specs.declared.cells.Slot.TheVariants as slot
-use Rattle.heap_cells.specs.Inner.Order.{record_with}
-use Rattle.heap_cells.specs.Inner.Resolving.{cell_or_gone, settled, reference_of, AreReferences}
+use Rattle.heap_cells.specs.Inner.Order.{record_with, rank, AreRanked}
+use Rattle.heap_cells.specs.Inner.Resolving.{cell_or_gone, settled, reference_of, found_at, AreReferences, IsFirstFrom}
+use Rattle.heap_cells.proofs.OrderFacts.{lesser}
 
 -- those among the first slots
 pub record AreFound (slots : List Slot) (references : List (ℕ × ℕ)) (upto : ℕ) : Type 0 where
-  pub within : All (λ (r : ℕ × ℕ). r.1 < length slots) references
+  pub sound : All (λ (r : ℕ × ℕ). slice_get slots r.1 ≡ Some (slot.Gone r.0)) references
   pub complete : (i address : ℕ) → i < upto → slice_get slots i ≡ Some (slot.Gone address) → Contains references (address, i)
 
 -- each slot is as it was or settled, and those of the first references are settled
@@ -25,25 +26,34 @@ pub record AreResolving (rs : List CellRecord) (olds slots : List Slot) (referen
   pub each : (i : ℕ) (d : Slot) → i < length olds → (get_or slots i d ≡ get_or olds i d) ⊎ (get_or slots i d ≡ settled rs (get_or olds i d))
   pub over : (k : ℕ) (d : Slot) → k < upto → get_or slots (get_or references k (0, 0)).1 d ≡ settled rs (get_or olds (get_or references k (0, 0)).1 d)
 
+-- the first references are settled, and the pairs in front of a place have lesser addresses than those that are left
+pub record IsMerging (pairs : List (ℕ × ℕ)) (olds slots : List Slot) (references : List (ℕ × ℕ)) (at k : ℕ) : Type 0 where
+  pub within : at ≤ length pairs
+  pub front : (i j : ℕ) → i < at → k ≤ j → j < length references → (get_or pairs i (0, 0)).0 < (get_or references j (0, 0)).0
+  pub resolving : (rs : List CellRecord) → length rs ≤ 100000000 → AreRanked rs pairs → AreResolving rs olds slots references k
+
 -- ---- the references are found
 
 pub found-none : (slots : List Slot) → AreFound slots [] 0
-found-none slots = record { within = λ k d inside. absurd (omega arith); complete = λ i address before. absurd (omega arith) }
+found-none slots = record { sound = λ k d inside. absurd (omega arith); complete = λ i address before. absurd (omega arith) }
 
 append-none : {X : Type 0} (xs : List X) → xs ++ [] ≡ xs
 append-none [] = refl
 append-none (x ∷ xs) = ap (λ l. x ∷ l) (append-none xs)
 
-within-more : (slots : List Slot) (references : List (ℕ × ℕ)) (i : ℕ) (s : Slot) → i < length slots → All (λ (r : ℕ × ℕ). r.1 < length slots) references
-    → All (λ (r : ℕ × ℕ). r.1 < length slots) (references ++ reference_of s i)
-within-more slots references i (slot.Imm at) inside all = subst (All (λ (r : ℕ × ℕ). r.1 < length slots)) (sym (append-none references)) all
-within-more slots references i (slot.Cell ix) inside all = subst (All (λ (r : ℕ × ℕ). r.1 < length slots)) (sym (append-none references)) all
-within-more slots references i (slot.Gone address) inside all = All-push (λ (r : ℕ × ℕ). r.1 < length slots) references (address, i) all inside
+abbrev IsOf : List Slot → ℕ × ℕ → Type 0
+IsOf slots r = slice_get slots r.1 ≡ Some (slot.Gone r.0)
+
+sound-more : (slots : List Slot) (references : List (ℕ × ℕ)) (i : ℕ) (s : Slot) → slice_get slots i ≡ Some s → All (λ (r : ℕ × ℕ). IsOf slots r) references
+    → All (λ (r : ℕ × ℕ). IsOf slots r) (references ++ reference_of s i)
+sound-more slots references i (slot.Imm at) is all = subst (All (λ (r : ℕ × ℕ). IsOf slots r)) (sym (append-none references)) all
+sound-more slots references i (slot.Cell ix) is all = subst (All (λ (r : ℕ × ℕ). IsOf slots r)) (sym (append-none references)) all
+sound-more slots references i (slot.Gone address) is all = All-push (λ (r : ℕ × ℕ). IsOf slots r) references (address, i) all is
 
 pub found-more : (slots : List Slot) (references more : List (ℕ × ℕ)) (i : ℕ) (d : Slot) → i < length slots → AreFound slots references i
     → more ≡ references ++ reference_of (get_or slots i d) i → AreFound slots more (i + 1)
 found-more slots references more i d inside found is = subst (λ l. AreFound slots l (i + 1)) (sym is) (record {
-  within = within-more slots references i (get_or slots i d) inside found.within;
+  sound = sound-more slots references i (get_or slots i d) (slice_get-get_or slots i d inside) found.sound;
   complete = λ j address before at. below_more (λ k. (a : ℕ) → slice_get slots k ≡ Some (slot.Gone a) → Contains (references ++ reference_of (get_or slots i d) i) (a, k)) i
       (λ k earlier a stands. Contains-append_left references (reference_of (get_or slots i d) i) (a, k) (found.complete k a earlier stands))
       (λ a stands. here a (get_or_from_slice_get slots i (slot.Gone a) d stands)) j before address at;
@@ -54,34 +64,46 @@ found-more slots references more i d inside found is = subst (λ l. AreFound slo
 
 pub found-all : (slots : List Slot) (references : List (ℕ × ℕ)) (i : ℕ) → i ≡ length slots → AreFound slots references i → AreReferences slots references
 found-all slots references i all found = record {
-  within = found.within;
+  sound = found.sound;
   complete = λ j address at. found.complete j address (let inside = slice_get_within slots j (slot.Gone address) at in omega (arith, inside, all)) at;
 }
 
 -- ---- each slot is settled
 
-settled-found : (rs : List CellRecord) (address : ℕ) (found : Option ℕ) → record_with rs address ≡ found → settled rs (cell_or_gone address found) ≡ cell_or_gone address found
-settled-found rs address None is = ap (cell_or_gone address) is
-settled-found rs address (Some n) is = refl
-
--- what is settled stays so
-settled-settled : (rs : List CellRecord) (s : Slot) → settled rs (settled rs s) ≡ settled rs s
-settled-settled rs (slot.Imm place) = refl
-settled-settled rs (slot.Cell ix) = refl
-settled-settled rs (slot.Gone address) = settled-found rs address (record_with rs address) refl
-
 pub resolving-none : (rs : List CellRecord) (slots : List Slot) (references : List (ℕ × ℕ)) → AreResolving rs slots slots references 0
 resolving-none rs slots references = record { count = refl; each = λ i d inside. inl refl; over = λ k d before. absurd (omega arith) }
 
--- a slot that is as it was or settled, settled again
-again : (rs : List CellRecord) (s old : Slot) → (s ≡ old) ⊎ (s ≡ settled rs old) → settled rs s ≡ settled rs old
-again rs s old (inl same) = ap (settled rs) same
-again rs s old (inr over) = ap (settled rs) over ∙ settled-settled rs old
+-- what is found of a reference is that it is settled
+found-settled : (rs : List CellRecord) (olds : List Slot) (address i : ℕ) (d : Slot) (number : Option ℕ) → slice_get olds i ≡ Some (slot.Gone address) → number ≡ record_with rs address
+    → cell_or_gone address number ≡ settled rs (get_or olds i d)
+found-settled rs olds address i d number is found = ap (cell_or_gone address) found ∙ ap (settled rs) (sym (get_or_from_slice_get olds i (slot.Gone address) d is))
 
-pub resolving-more : (rs : List CellRecord) (olds slots : List Slot) (references : List (ℕ × ℕ)) (k : ℕ) (d now : Slot) → (get_or references k (0, 0)).1 < length olds
-    → AreResolving rs olds slots references k → now ≡ settled rs (get_or slots (get_or references k (0, 0)).1 d)
-    → AreResolving rs olds (set slots (get_or references k (0, 0)).1 now) references (k + 1)
-resolving-more rs olds slots references k d now inside before is = record {
+pub resolving-more : (rs : List CellRecord) (olds slots : List Slot) (references : List (ℕ × ℕ)) (k : ℕ) (number : Option ℕ) → k < length references → AreReferences olds references
+    → AreResolving rs olds slots references k → number ≡ record_with rs (get_or references k (0, 0)).0
+    → AreResolving rs olds (found_at slots (get_or references k (0, 0)).1 number) references (k + 1)
+resolving-more rs olds slots references k None listed are before found = record {
+  count = before.count;
+  each = before.each;
+  over = λ j e. below_more (λ j. get_or slots (get_or references j (0, 0)).1 e ≡ settled rs (get_or olds (get_or references j (0, 0)).1 e)) k
+      (λ j earlier. before.over j e earlier) (stays e (before.each i e inside)) j;
+}
+  where
+    i : ℕ
+    i = (get_or references k (0, 0)).1
+
+    address : ℕ
+    address = (get_or references k (0, 0)).0
+
+    is : slice_get olds i ≡ Some (slot.Gone address)
+    is = are.sound k (0, 0) listed
+
+    inside : i < length olds
+    inside = slice_get_within olds i (slot.Gone address) is
+
+    stays : (e : Slot) → (get_or slots i e ≡ get_or olds i e) ⊎ (get_or slots i e ≡ settled rs (get_or olds i e)) → get_or slots i e ≡ settled rs (get_or olds i e)
+    stays e (inl same) = same ∙ get_or_from_slice_get olds i (slot.Gone address) e is ∙ found-settled rs olds address i e None is found
+    stays e (inr over) = over
+resolving-more rs olds slots references k (Some number) listed are before found = record {
   count = length-set slots i now ∙ before.count;
   each = λ j e within. each j e within (eqb_tells j i);
   over = λ j e. below_more (λ j. get_or (set slots i now) (get_or references j (0, 0)).1 e ≡ settled rs (get_or olds (get_or references j (0, 0)).1 e)) k
@@ -91,15 +113,21 @@ resolving-more rs olds slots references k d now inside before is = record {
     i : ℕ
     i = (get_or references k (0, 0)).1
 
-    within : i < length slots
-    within = omega (arith, inside, before.count)
+    address : ℕ
+    address = (get_or references k (0, 0)).0
 
-    now-is : now ≡ settled rs (get_or olds i d)
-    now-is = is ∙ again rs (get_or slots i d) (get_or olds i d) (before.each i d inside)
+    now : Slot
+    now = slot.Cell (record { 0 = number })
+
+    is : slice_get olds i ≡ Some (slot.Gone address)
+    is = are.sound k (0, 0) listed
+
+    within : i < length slots
+    within = let inside = slice_get_within olds i (slot.Gone address) is in omega (arith, inside, before.count)
 
     here : (j : ℕ) (e : Slot) → j ≡ i → get_or (set slots i now) j e ≡ settled rs (get_or olds j e)
     here j e same =
-        get_or-set_at slots i j now e same within ∙ now-is ∙ ap (settled rs) (get_or_default olds i d e inside) ∙ ap (λ n. settled rs (get_or olds n e)) (sym same)
+        get_or-set_at slots i j now e same within ∙ found-settled rs olds address i e (Some number) is found ∙ ap (λ n. settled rs (get_or olds n e)) (sym same)
 
     each : (j : ℕ) (e : Slot) → j < length olds → ((eqb j i ≡ true) × (j ≡ i)) ⊎ ((eqb j i ≡ false) × (j ≡ i → ⊥))
         → (get_or (set slots i now) j e ≡ get_or olds j e) ⊎ (get_or (set slots i now) j e ≡ settled rs (get_or olds j e))
@@ -135,6 +163,34 @@ resolving-all rs olds slots references k are all resolving =
 -- in another order
 pub references-moved : (slots : List Slot) (references sorted : List (ℕ × ℕ)) → AreReferences slots references → IsPermutation references sorted → AreReferences slots sorted
 references-moved slots references sorted are moved = record {
-  within = All-permutation (λ (r : ℕ × ℕ). r.1 < length slots) references sorted moved are.within;
+  sound = All-permutation (λ (r : ℕ × ℕ). IsOf slots r) references sorted moved are.sound;
   complete = λ i address at. Contains-permutation references sorted (address, i) moved (are.complete i address at);
+}
+
+-- ---- the merge
+
+-- the addresses of references rise where they are ranked
+pub references-rise : (slots : List Slot) (references : List (ℕ × ℕ)) → length slots ≤ 100000000 → AreReferences slots references
+    → IsNonDecreasingBy (λ (p : ℕ × ℕ). rank p.0 p.1) references → IsNonDecreasingBy (λ (p : ℕ × ℕ). p.0) references
+references-rise slots references few are sorted i j d up inside =
+    lesser (get_or references i d).0 (get_or references j d).0 (get_or references i d).1 (get_or references j d).1 (place i (omega arith)) (place j inside) (sorted i j d up inside)
+  where
+    place : (k : ℕ) → k < length references → (get_or references k d).1 < 4294967296
+    place k listed = let there = slice_get_within slots (get_or references k d).1 (slot.Gone (get_or references k d).0) (are.sound k d listed) in omega (arith, there, few)
+
+pub merging-none : (pairs : List (ℕ × ℕ)) (slots : List Slot) (references : List (ℕ × ℕ)) → IsMerging pairs slots slots references 0 0
+merging-none pairs slots references = record {
+  within = omega arith;
+  front = λ i j before. absurd (omega arith);
+  resolving = λ rs few are. resolving-none rs slots references;
+}
+
+pub merging-more : (pairs : List (ℕ × ℕ)) (olds slots : List Slot) (references : List (ℕ × ℕ)) (at next k : ℕ) (number : Option ℕ) → k < length references → AreReferences olds references
+    → IsNonDecreasingBy (λ (p : ℕ × ℕ). p.0) references → IsMerging pairs olds slots references at k → IsFirstFrom pairs (get_or references k (0, 0)).0 next
+    → ((rs : List CellRecord) → length rs ≤ 100000000 → AreRanked rs pairs → number ≡ record_with rs (get_or references k (0, 0)).0)
+    → IsMerging pairs olds (found_at slots (get_or references k (0, 0)).1 number) references next (k + 1)
+merging-more pairs olds slots references at next k number listed are rise before first found = record {
+  within = first.within;
+  front = λ i j earlier later inside. let less = first.front i earlier in let up = rise k j (0, 0) (omega arith) inside in omega (arith, less, up);
+  resolving = λ rs few ranked. resolving-more rs olds slots references k number listed are (before.resolving rs few ranked) (found rs few ranked);
 }

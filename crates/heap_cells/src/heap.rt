@@ -115,10 +115,11 @@ impl Heap {
         }
         let Indexed {
             mut arena,
-            order,
+            ranks,
             own,
         } = index_cells(alloc, gathering.arena, own)?;
-        resolve(alloc, &mut arena.slots, &order, &arena.cells)?;
+        resolve(alloc, &mut arena.slots, &ranks)?;
+        let order = ranks.numbers(alloc)?;
         Ok(Heap {
             texts,
             arena,

@@ -1,29 +1,33 @@
 // Of the cells with one address the first is kept.
 ghost use Rattle.std.specs.Prelude.{◌≡◌, ◌+◌, ◌<◌, ◌≤◌, ◌++◌, [], ℕ, List, length, take, OnOk, IfOk};
-ghost use Rattle.std.specs.List.{list_all};
 ghost use Rattle.term_forms.specs.declared.enc.Enc.{Enc};
 ghost use Rattle.heap_cells.specs.Cells.{first_cells};
 ghost use Rattle.heap_cells.specs.Inner.Keeping.{moved_record, AreOrdered, IsKept, IsIndexed};
-ghost use Rattle.heap_cells.specs.Inner.Order.{AreFirsts};
+ghost use Rattle.heap_cells.specs.Inner.Order.{AreFirsts, AreRanked};
 ghost use Rattle.heap_cells.specs.Inner.Records.{AreSlots, cells_in, slots_at, start_at};
 
 use crate::arena::{Arena, slots_of};
 use crate::cells::CellRecord;
-use crate::order::{firsts_of, order_of};
+use crate::order::{firsts_of, ranks_of};
+use crate::ranks::{Ranks, are_apart};
 use std::alloc::{AllocError, Global};
 
-// Cells with their numbers by address, and how many of them come from the process's own heap.
+// Cells with their addresses and numbers by address, and how many of them come from the process's own heap.
 #[derive(Drop)]
 pub(crate) struct Indexed {
     pub arena: Arena,
-    pub order: Vec<u32>,
+    pub ranks: Ranks,
     pub own: u32,
 }
 
-fn are_all(tests: &[bool]) -> bool
-    ensures { result ≡ list_all (λ test. test) tests.now }
+// Which of the cells stand in front of all others with their address.
+fn mark_firsts(alloc: Global, ranks: Ranks, cells: &[CellRecord]) -> Result<Vec<bool>, AllocError>
+    requires few { length cells.now ≤ 100000000 }
+    requires ranked { AreRanked cells.now ranks }
+    ensures { IfOk result (λ firsts. AreFirsts cells.now firsts.items) }
 {
-    tests.iter().all(|test| *test)
+    let order = ranks.numbers(alloc)?;
+    firsts_of(alloc, &order, cells)
 }
 
 // One more cell, which is the one with this number in another arena.
@@ -97,26 +101,26 @@ fn keep_firsts(
 // those of the process's own heap.
 pub(crate) fn index_cells(alloc: Global, all: Arena, own: usize) -> Result<Indexed, AllocError>
     requires own { own ≤ length all.cells.items }
-    requires cells { length all.cells.items < 4294967296 }
+    requires cells { length all.cells.items ≤ 100000000 }
     requires slots { length all.slots.items < 4294967296 }
     requires ordered { AreOrdered all.cells.items (length all.slots.items) }
     ensures { IfOk result (λ found. (text : List ℕ) (seam : ℕ) (enc : Enc) → AreSlots text seam enc [] all.cells.items all.slots.items
         → IsIndexed text seam enc (cells_in text enc all.cells.items) own found) }
 {
-    let order = order_of(alloc, &all.cells)?;
-    let firsts = firsts_of(alloc, &order, &all.cells)?;
-    if are_all(&firsts) {
+    let ranks = ranks_of(alloc, &all.cells)?;
+    if are_apart(&ranks) {
         return Ok(Indexed {
             arena: all,
-            order,
+            ranks,
             own: own as u32,
         });
     }
+    let firsts = mark_firsts(alloc, ranks, &all.cells)?;
     let (arena, own) = keep_firsts(alloc, all, &firsts, own)?;
-    let order = order_of(alloc, &arena.cells)?;
+    let ranks = ranks_of(alloc, &arena.cells)?;
     Ok(Indexed {
         arena,
-        order,
+        ranks,
         own: own as u32,
     })
 }

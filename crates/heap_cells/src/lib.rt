@@ -13,6 +13,7 @@ mod heap;
 mod keeping;
 mod loading;
 mod order;
+mod ranks;
 mod resolving;
 mod texts;
 

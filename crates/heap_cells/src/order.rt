@@ -1,9 +1,10 @@
 // The numbers of cells by address.
-ghost use Rattle.std.specs.Prelude.{◌≡◌, ◌<◌, ◌≤◌, ◌||◌, ◌-◌, ◌==◌, length, map, nat_lt, not, true, false, IfOk, slice_index_or};
+ghost use Rattle.std.specs.Prelude.{◌≡◌, ◌<◌, ◌≤◌, ◌||◌, ◌-◌, ◌==◌, length, nat_lt, not, true, false, IfOk, slice_index_or};
 ghost use Rattle.std.specs.List.Sorted.{IsNonDecreasingBy, IsPartitionPoint};
-ghost use Rattle.heap_cells.specs.Inner.Order.{address_in, IsOrder, record_with, ArePairs, AreFirsts};
+ghost use Rattle.heap_cells.specs.Inner.Order.{address_in, IsOrder, record_with, ArePairs, AreRanked, AreFirsts};
 
 use crate::cells::CellRecord;
+use crate::ranks::Ranks;
 use std::alloc::{AllocError, Global};
 
 fn address_of(cells: &[CellRecord], n: u32) -> u64
@@ -40,32 +41,26 @@ pub(crate) fn number_of(order: &[u32], cells: &[CellRecord], address: u64) -> Op
 }
 
 // The address of each cell, with the cell's number.
-fn pairs_of(alloc: Global, cells: &[CellRecord]) -> Result<Vec<(u64, u32)>, AllocError>
-    requires { length cells.now < 4294967296 }
-    ensures { IfOk result (λ pairs. ArePairs cells.now pairs.items) }
+fn pairs_of(alloc: Global, cells: &[CellRecord]) -> Result<Ranks, AllocError>
+    requires { length cells.now ≤ 100000000 }
+    ensures { IfOk result (ArePairs cells.now) }
 {
-    let mut pairs = Vec::with_capacity(alloc, cells.len())?;
+    let mut pairs = Ranks::around(alloc, address_of(cells, 0), cells.len())?;
     for i in 0..cells.len() {
         let number = i as u32;
-        pairs.push((address_of(cells, number), number))?;
+        pairs.push(alloc, address_of(cells, number), number)?;
     }
     Ok(pairs)
 }
 
-fn numbers_of(alloc: Global, pairs: &[(u64, u32)]) -> Result<Vec<u32>, AllocError>
-    ensures { IfOk result (λ numbers. numbers.items ≡ map (λ pair. pair.1) pairs.now) }
+// The same by address, and those of cells with one address by number.
+pub(crate) fn ranks_of(alloc: Global, cells: &[CellRecord]) -> Result<Ranks, AllocError>
+    requires { length cells.now ≤ 100000000 }
+    ensures { IfOk result (AreRanked cells.now) }
 {
-    pairs.iter().map(|pair| pair.1).collect(alloc)
-}
-
-// The numbers of all cells by address, and those of cells with one address by number.
-pub(crate) fn order_of(alloc: Global, cells: &[CellRecord]) -> Result<Vec<u32>, AllocError>
-    requires { length cells.now < 4294967296 }
-    ensures { IfOk result (λ order. IsOrder cells.now order.items) }
-{
-    let mut pairs = pairs_of(alloc, cells)?;
-    pairs.sort_unstable();
-    numbers_of(alloc, &pairs)
+    let mut ranks = pairs_of(alloc, cells)?;
+    ranks.sort();
+    Ok(ranks)
 }
 
 // Whether no number in front of a place belongs to a cell with the same address as the number there.

@@ -1,78 +1,104 @@
 // References become the cells that they lead to.
-ghost use Rattle.std.specs.Prelude.{◌≡◌, ◌<◌, ◌++◌, length, map, IfOk, OnOk};
-ghost use Rattle.heap_cells.specs.Inner.Order.{IsOrder};
-ghost use Rattle.heap_cells.specs.Inner.Resolving.{settled, reference_of, AreReferences};
+ghost use Rattle.std.specs.Prelude.{◌≡◌, ℕ, ◌<◌, ◌≤◌, ◌++◌, List, length, map, slice_index_or, IfOk, OnOk};
+ghost use Rattle.std.specs.List.Sorted.{IsNonDecreasingBy};
+ghost use Rattle.heap_cells.specs.declared.cells.CellRecord.{CellRecord};
+ghost use Rattle.heap_cells.specs.Inner.Order.{AreRanked, record_with};
+ghost use Rattle.heap_cells.specs.Inner.Resolving.{settled, reference_of, found_at, AreReferences, IsFirstFrom};
 
-use crate::cells::{CellIx, CellRecord, Slot};
-use crate::order::number_of;
+use crate::cells::{CellIx, Slot};
+use crate::ranks::Ranks;
 use std::alloc::{AllocError, Global};
 
-fn resolved(slot: Slot, order: &[u32], cells: &[CellRecord]) -> Slot
-    requires few { length cells.now < 4294967296 }
-    requires order { IsOrder cells.now order.now }
-    ensures { result ≡ settled cells.now slot }
-{
-    let Slot::Gone(address) = slot else {
-        return slot;
-    };
-    match number_of(order, cells, address) {
-        Some(n) => Slot::Cell(CellIx::new(n)),
-        None => slot,
-    }
-}
-
 fn push_reference(
-    references: &mut Vec<(u64, u32)>,
+    alloc: Global,
+    references: &mut Ranks,
     slot: Slot,
     place: u32,
 ) -> Result<(), AllocError>
-    ensures { OnOk result (references.new.items ≡ references.old.items ++ reference_of slot place) }
+    requires { place < 134217728 }
+    ensures { OnOk result (references.new ≡ references.old ++ reference_of slot place) }
 {
     if let Slot::Gone(address) = slot {
-        references.push((address, place))?;
+        references.push(alloc, address, place)?;
     }
     Ok(())
 }
 
-// The address of each slot that is a reference, with the slot's place.
-fn references_of(alloc: Global, slots: &[Slot]) -> Result<Vec<(u64, u32)>, AllocError>
-    requires { length slots.now < 4294967296 }
-    ensures { IfOk result (λ references. AreReferences slots.now references.items) }
+// The address of the first pair.
+fn first_address(ranks: &Ranks) -> u64
+    ensures { result ≡ (slice_index_or ranks.now 0 (0, 0)).0 }
 {
-    let mut references = Vec::new(alloc);
+    if ranks.len() == 0 { 0 } else { ranks.get(0).0 }
+}
+
+// The address of each slot that is a reference, with the slot's place.
+fn references_of(alloc: Global, slots: &[Slot], ranks: &Ranks) -> Result<Ranks, AllocError>
+    requires { length slots.now ≤ 100000000 }
+    ensures { IfOk result (AreReferences slots.now) }
+{
+    let mut references = Ranks::around(alloc, first_address(ranks), 0)?;
     for i in 0..slots.len() {
-        push_reference(&mut references, slots[i], i as u32)?;
+        push_reference(alloc, &mut references, slots[i], i as u32)?;
     }
     Ok(references)
 }
 
-fn resolve_each(slots: &mut [Slot], references: &[(u64, u32)], order: &[u32], cells: &[CellRecord])
-    requires references { AreReferences slots.old references.now }
-    requires few { length cells.now < 4294967296 }
-    requires order { IsOrder cells.now order.now }
-    ensures { slots.new ≡ map (settled cells.now) slots.old }
+// The place of the first pair whose address isn't lesser, which no pair in front of the place `from` is.
+fn first_from(ranks: &Ranks, from: usize, address: u64) -> usize
+    requires within { from ≤ length ranks.now }
+    requires front { (i : ℕ) → i < from → (slice_index_or ranks.now i (0, 0)).0 < address }
+    ensures { IsFirstFrom ranks.now address result }
 {
-    for reference in references {
-        let i = reference.1 as usize;
-        slots[i] = resolved(slots[i], order, cells);
+    let mut at = from;
+    while at < ranks.len() && ranks.get(at).0 < address {
+        at += 1;
+    }
+    at
+}
+
+// The number of the first cell with the address, whose pair would stand at the place.
+fn number_there(ranks: &Ranks, at: usize, address: u64) -> Option<u32>
+    requires { IsFirstFrom ranks.now address at }
+    ensures { (cells : List CellRecord) → length cells ≤ 100000000 → AreRanked cells ranks.now → result ≡ record_with cells address }
+{
+    if at == ranks.len() {
+        return None;
+    }
+    let (found, number) = ranks.get(at);
+    if found == address { Some(number) } else { None }
+}
+
+fn put_cell(slots: &mut [Slot], place: usize, number: Option<u32>)
+    requires { place < length slots.old }
+    ensures { slots.new ≡ found_at slots.old place number }
+{
+    if let Some(n) = number {
+        slots[place] = Slot::Cell(CellIx::new(n));
+    }
+}
+
+// Both lists ascend, so that one pass over the two finds each reference's cell.
+fn resolve_each(slots: &mut [Slot], references: &Ranks, ranks: &Ranks)
+    requires references { AreReferences slots.old references.now }
+    requires ascend { IsNonDecreasingBy (λ pair. pair.0) references.now }
+    ensures { (cells : List CellRecord) → length cells ≤ 100000000 → AreRanked cells ranks.now → slots.new ≡ map (settled cells) slots.old }
+{
+    let mut at = 0;
+    for k in 0..references.len() {
+        let (address, place) = references.get(k);
+        at = first_from(ranks, at, address);
+        let number = number_there(ranks, at, address);
+        put_cell(slots, place as usize, number);
     }
 }
 
 // Each reference to the address of a cell becomes that cell, if there is memory.
-pub(crate) fn resolve(
-    alloc: Global,
-    slots: &mut Vec<Slot>,
-    order: &[u32],
-    cells: &[CellRecord],
-) -> Result<(), AllocError>
-    requires slots { length slots.old.items < 4294967296 }
-    requires few { length cells.now < 4294967296 }
-    requires order { IsOrder cells.now order.now }
-    ensures { OnOk result (slots.new.items ≡ map (settled cells.now) slots.old.items) }
+pub(crate) fn resolve(alloc: Global, slots: &mut Vec<Slot>, ranks: &Ranks) -> Result<(), AllocError>
+    requires { length slots.old.items ≤ 100000000 }
+    ensures { OnOk result ((cells : List CellRecord) → length cells ≤ 100000000 → AreRanked cells ranks.now → slots.new.items ≡ map (settled cells) slots.old.items) }
 {
-    // By address, so that what is looked up one after the other lies close together.
-    let mut references = references_of(alloc, slots)?;
-    references.sort_unstable();
-    resolve_each(slots, &references, order, cells);
+    let mut references = references_of(alloc, slots, ranks)?;
+    references.sort();
+    resolve_each(slots, &references, ranks);
     Ok(())
 }

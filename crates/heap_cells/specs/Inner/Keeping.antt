@@ -5,7 +5,7 @@ use Rattle.heap_cells.specs.declared.arena.Arena.{Arena}
 use Rattle.heap_cells.specs.declared.cells.CellRecord.{CellRecord}
 use Rattle.heap_cells.specs.declared.keeping.Indexed.{Indexed}
 use Rattle.heap_cells.specs.Cells.{Cell, first_cells}
-use Rattle.heap_cells.specs.Inner.Order.{IsOrder}
+use Rattle.heap_cells.specs.Inner.Order.{AreRanked}
 use Rattle.heap_cells.specs.Inner.Records.{cells_in, AreSlots, start_at}
 
 -- the slots of each record lie behind those of the one before it, and within so many
@@ -29,5 +29,5 @@ pub record IsKept (text : List ℕ) (seam : ℕ) (enc : Enc) (cells : List Cell)
 -- the first of these cells with each address, where so many are the process's own
 pub record IsIndexed (text : List ℕ) (seam : ℕ) (enc : Enc) (cells : List Cell) (own : ℕ) (found : Indexed) : Type 0 where
   pub kept : IsKept text seam enc (first_cells [] cells) found.arena
-  pub order_is : IsOrder found.arena.cells.items found.order.items
+  pub ranks_are : AreRanked found.arena.cells.items found.ranks
   pub own_is : found.own ≡ length (first_cells [] (take own cells))

@@ -44,3 +44,8 @@ pub record IsPairOf (records : List CellRecord) (pair : ℕ × ℕ) : Type 0 whe
 pub record ArePairs (records : List CellRecord) (pairs : List (ℕ × ℕ)) : Type 0 where
   pub each : All (IsPairOf records) pairs
   pub complete : (n : ℕ) → n < length records → Contains pairs (address_in records n, n)
+
+-- the same by address and then by number
+pub record AreRanked (records : List CellRecord) (pairs : List (ℕ × ℕ)) : Type 0 where
+  pub pairs_are : ArePairs records pairs
+  pub sorted : IsNonDecreasingBy (λ pair. rank pair.0 pair.1) pairs

@@ -3,4 +3,4 @@ use Rattle.heap_cells.specs.Inner.Order.{address_in}
 use Rattle.heap_cells.proofs.order.pairs_of.Given as goal
 
 abbrev pub invariant-loop-i : goal.invariant-loop-i
-invariant-loop-i l = (length l.pairs.items ≡ l.i) × ((k : ℕ) (d : ℕ × ℕ) → k < l.i → get_or l.pairs.items k d ≡ (address_in l.cells k, k))
+invariant-loop-i l = (length l.pairs ≡ l.i) × ((k : ℕ) (d : ℕ × ℕ) → k < l.i → get_or l.pairs k d ≡ (address_in l.cells k, k))

@@ -4,12 +4,12 @@ use Rattle.heap_cells.proofs.ResolvingFacts.{AreFound, found-none, found-more, f
 use Rattle.heap_cells.proofs.resolving.references_of.Goals as goal
 
 pub loop-i-init : goal.loop-i-init
-loop-i-init c = subst (λ l. AreFound c.args.slots.now l 0) (sym c.new-references.ensures.items) (found-none c.args.slots.now)
+loop-i-init c = subst (λ l. AreFound c.args.slots.now l 0) (sym c.in_ok-references.ensures) (found-none c.args.slots.now)
 
 pub loop-i-preserved : goal.loop-i-preserved
 loop-i-preserved c =
-    found-more c.args.slots.now c.loop-i.references.items c.push_reference.new.references.items c.loop-i.i (slot.Imm 0) c.loop-i-test.true c.loop-i.invariant
+    found-more c.args.slots.now c.loop-i.references c.push_reference.new.references c.loop-i.i (slot.Imm 0) c.loop-i-test.true c.loop-i.invariant
     c.in_ok-push_reference.ensures
 
 pub returns : goal.returns
-returns c = found-all c.args.slots.now c.loop-i.references.items c.loop-i.i (omega arith) c.loop-i.invariant
+returns c = found-all c.args.slots.now c.loop-i.references c.loop-i.i (omega arith) c.loop-i.invariant

@@ -1,16 +1,26 @@
-use Rattle.heap_cells.specs.declared.cells.Slot.TheVariants as slot
-use Rattle.heap_cells.proofs.ResolvingFacts.{resolving-none, resolving-more, resolving-all}
+use Rattle.std.proofs.Common.{◌≡◌, ℕ, ◌+◌, List, get_or, sym, ◌∙◌, ap, subst, arith}
+use Rattle.heap_cells.specs.declared.cells.Slot.{Slot}
+use Rattle.heap_cells.specs.Inner.Order.{record_with}
+use Rattle.heap_cells.specs.Inner.Resolving.{found_at, IsFirstFrom}
+use Rattle.heap_cells.proofs.ResolvingFacts.{IsMerging, merging-none, merging-more, resolving-all}
 use Rattle.heap_cells.proofs.resolving.resolve_each.Goals as goal
 
-pub loop-reference-init : goal.loop-reference-init
-loop-reference-init c = resolving-none c.args.cells.now c.args.slots.now c.args.references.now
+pub loop-k-init : goal.loop-k-init
+loop-k-init c = merging-none c.args.ranks.now c.args.slots.now c.args.references.now
 
-pub loop-reference-preserved : goal.loop-reference-preserved
-loop-reference-preserved c =
-    resolving-more c.args.cells.now c.args.slots.now c.loop-reference.slots c.args.references.now c.loop-reference.reference-index (slot.Imm 0) c.resolved.result
-    (c.requires.references.within c.loop-reference.reference-index (0, 0) c.loop-reference-test.true) c.loop-reference.invariant c.resolved.ensures
+pub loop-k-preserved : goal.loop-k-preserved
+loop-k-preserved c =
+    let pair = c.get-address.ensures in
+    let number = c.number_there-number.result in
+    let slots : c.put_cell.new.slots ≡ found_at c.loop-k.slots (get_or c.args.references.now c.loop-k.k (0, 0)).1 number =
+    c.put_cell.ensures ∙ ap (λ (r : ℕ × ℕ). found_at c.loop-k.slots r.1 number) pair in
+    subst (λ (l : List Slot). IsMerging c.args.ranks.now c.args.slots.now l c.args.references.now c.first_from-at.result (c.loop-k.k + 1)) (sym slots)
+    (merging-more c.args.ranks.now c.args.slots.now c.loop-k.slots c.args.references.now c.loop-k.at c.first_from-at.result c.loop-k.k number (omega arith)
+    c.requires.references c.requires.ascend c.loop-k.invariant
+    (subst (λ (r : ℕ × ℕ). IsFirstFrom c.args.ranks.now r.0 c.first_from-at.result) pair c.first_from-at.ensures)
+    (λ rs few ranked. c.number_there-number.ensures rs few ranked ∙ ap (λ (r : ℕ × ℕ). record_with rs r.0) pair))
 
 pub returns : goal.returns
-returns c =
-    resolving-all c.args.cells.now c.args.slots.now c.loop-reference.slots c.args.references.now c.loop-reference.reference-index c.requires.references
-    c.loop-reference-test.false c.loop-reference.invariant
+returns c cells few ranked =
+    resolving-all cells c.args.slots.now c.loop-k.slots c.args.references.now c.loop-k.k c.requires.references
+    (omega arith) (c.loop-k.invariant.resolving cells few ranked)

@@ -1,7 +1,5 @@
-use Rattle.std.proofs.Common.{◌≡◌, ℕ, ◌≤◌, List, length, map, ◌∙◌, ap, arith}
-use Rattle.heap_cells.specs.declared.cells.CellRecord.{CellRecord}
+use Rattle.std.proofs.Common.{◌≡◌, ℕ, ◌≤◌, arith}
 use Rattle.heap_cells.specs.Inner.Gathering.{AreAll}
-use Rattle.heap_cells.specs.Inner.Resolving.{settled}
 use Rattle.heap_cells.specs.Inner.Texts.{text_of, seam_of}
 use Rattle.heap_cells.specs.declared.gathering.Gathering.{Gathering}
 use Rattle.heap_cells.specs.declared.texts.Texts.{Texts}
@@ -17,8 +15,8 @@ index_cells-requires-clause-ordered c =
 whole : (texts : Texts) (g : Gathering) (own dense limit : ℕ) → AreAll texts g own → g.dense ≡ dense → limit ≡ dense → g.weight ≤ limit → dense ≤ 100000000 → IsWhole texts g own
 whole texts g own dense limit all same is kept few = record { all = all; kept = omega (arith, same, is, kept); limit = omega (arith, same, few) }
 
-pub resolve-requires-clause-slots : goal.resolve-requires-clause-slots
-resolve-requires-clause-slots c =
+pub resolve-requires : goal.resolve-requires
+resolve-requires c =
     let texts = c.args.texts in
     let g = c.in_ok-gathering.gathering in
     let own = c.in_ok-gathering.own in
@@ -28,17 +26,6 @@ resolve-requires-clause-slots c =
     let few = few-indexed texts g own found is_whole indexed in
     omega (arith, few)
 
-pub resolve-requires-clause-few : goal.resolve-requires-clause-few
-resolve-requires-clause-few c =
-    let texts = c.args.texts in
-    let g = c.in_ok-gathering.gathering in
-    let own = c.in_ok-gathering.own in
-    let found = c.in_ok-arena.field-0 in
-    let is_whole = whole texts g own c.args.dense c.from.result c.in_ok-gathering.ensures.all c.in_ok-gathering.ensures.limit c.from.ensures c.if-gathering-from.false c.requires.limit in
-    let indexed = c.in_ok-arena.ensures (text_of texts) (seam_of texts) texts.enc c.in_ok-gathering.ensures.all.gathered.slots_are in
-    let few = few-indexed texts g own found is_whole indexed in
-    omega (arith, few, ap length c.deref-2.ensures.value)
-
 pub invariant_of-result : goal.invariant_of-result
 invariant_of-result c =
     let texts = c.args.texts in
@@ -47,8 +34,9 @@ invariant_of-result c =
     let found = c.in_ok-arena.field-0 in
     let is_whole = whole texts g own c.args.dense c.from.result c.in_ok-gathering.ensures.all c.in_ok-gathering.ensures.limit c.from.ensures c.if-gathering-from.false c.requires.limit in
     let indexed = c.in_ok-arena.ensures (text_of texts) (seam_of texts) texts.enc c.in_ok-gathering.ensures.all.gathered.slots_are in
-    arena-indexed texts g own found c.resolve.new.slots.items c.requires.heap c.requires.literals is_whole indexed
-    (c.in_ok-resolve.ensures ∙ ap (λ (l : List CellRecord). map (settled l) found.arena.slots.items) c.deref-2.ensures.value)
+    let few = few-indexed texts g own found is_whole indexed in
+    arena-indexed texts g own found c.resolve.new.slots.items c.in_ok-order.order.items c.requires.heap c.requires.literals is_whole indexed
+    (c.in_ok-resolve.ensures found.arena.cells.items (omega (arith, few)) indexed.ranks_are) c.in_ok-order.ensures
 
 pub returns-clause-answer : goal.returns-clause-answer
 returns-clause-answer c =

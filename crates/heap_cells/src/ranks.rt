@@ -1,0 +1,164 @@
+// Pairs of an address and a number.
+ghost use Rattle.std.specs.Prelude.{◌≡◌, ◌<◌, ◌≤◌, ◌++◌, ◌∷◌, [], ℕ, length, map, slice_index_or, IfOk, OnOk, IfSome, true, false};
+ghost use Rattle.std.specs.List.Sorted.{IsNonDecreasingBy, IsPermutation};
+ghost use Rattle.heap_cells.specs.Inner.Order.{rank};
+ghost use Rattle.heap_cells.specs.Inner.Ranks.{pair_at, AreApart};
+
+use std::alloc::{AllocError, Global};
+use std::marker::Model;
+
+// A number is less than this: a heap has at most 100,000,000 cells and elements.
+const NUMBERS: u64 = 134217728;
+
+// How far above the base an address is at most that fits into 64 bits with its number.
+const REACH: u64 = 137438953472;
+
+// In 64 bits each, as long as all addresses lie in reach of a base, and else as they are.
+#[derive(Drop)]
+enum Kept {
+    Narrow(Vec<u64>),
+    Wide(Vec<(u64, u32)>),
+}
+
+// Pairs of an address and a number. Those of one heap mostly lie close together, and are kept and sorted in half of the
+// memory then. Contracts see the list of the pairs.
+#[derive(Drop)]
+pub(crate) struct Ranks {
+    base: u64,
+    kept: Kept,
+}
+
+impl Model for Ranks {
+    ghost use Rattle.std.specs.Prelude.{ℕ, List, ◌≤◌};
+    ghost use Rattle.heap_cells.specs.Inner.Ranks.{pairs_in, AreNumbered};
+
+    ghost Value = { List (ℕ × ℕ) };
+
+    ghost view = { λ r. pairs_in r.base r.kept };
+
+    ghost invariant = { λ r. (r.base ≤ 18446743936270598143) × AreNumbered r.kept };
+}
+
+fn pair_at(base: u64, rank: u64) -> (u64, u32)
+    requires { base ≤ 18446743936270598143 }
+    ensures { result ≡ pair_at base rank }
+{
+    (base + rank / NUMBERS, (rank % NUMBERS) as u32)
+}
+
+// The pair as one number, where its address lies in reach of the base.
+fn rank_of(base: u64, address: u64, number: u32) -> Option<u64>
+    requires { number < 134217728 }
+    ensures { IfSome result (λ rank. pair_at base rank ≡ (address, number)) }
+{
+    let above = address.checked_sub(base)?;
+    if above < REACH {
+        Some(above * NUMBERS + u64::from(number))
+    } else {
+        None
+    }
+}
+
+fn pairs_at(alloc: Global, base: u64, ranks: &[u64]) -> Result<Vec<(u64, u32)>, AllocError>
+    requires { base ≤ 18446743936270598143 }
+    ensures { IfOk result (λ pairs. pairs.items ≡ map (pair_at base) ranks.now) }
+{
+    let mut pairs = Vec::with_capacity(alloc, ranks.len())?;
+    for rank in ranks {
+        pairs.push(pair_at(base, *rank))?;
+    }
+    Ok(pairs)
+}
+
+impl Ranks {
+    // No pairs, and room for so many whose addresses lie around this one.
+    pub fn around(alloc: Global, address: u64, count: usize) -> Result<Ranks, AllocError>
+        ensures { IfOk result (λ ranks. ranks ≡ []) }
+    {
+        let base = address.saturating_sub(REACH / 2).min(u64::MAX - REACH);
+        let ranks = Vec::with_capacity(alloc, count)?;
+        Ok(Ranks {
+            base,
+            kept: Kept::Narrow(ranks),
+        })
+    }
+
+    pub fn len(&self) -> usize
+        ensures { result ≡ length self.now }
+    {
+        match &self.kept {
+            Kept::Narrow(ranks) => ranks.len(),
+            Kept::Wide(pairs) => pairs.len(),
+        }
+    }
+
+    pub fn get(&self, i: usize) -> (u64, u32)
+        requires { i < length self.now }
+        ensures { result ≡ slice_index_or self.now i (0, 0) }
+    {
+        match &self.kept {
+            Kept::Narrow(ranks) => pair_at(self.base, ranks[i]),
+            Kept::Wide(pairs) => pairs[i],
+        }
+    }
+
+    // One more pair. Where its address is out of reach, all are kept as they are from then on.
+    pub fn push(&mut self, alloc: Global, address: u64, number: u32) -> Result<(), AllocError>
+        requires { number < 134217728 }
+        ensures { OnOk result (self.new ≡ self.old ++ (address, number) ∷ []) }
+    {
+        match &mut self.kept {
+            Kept::Wide(pairs) => {
+                pairs.push((address, number))?;
+                Ok(())
+            }
+            Kept::Narrow(ranks) => match rank_of(self.base, address, number) {
+                Some(rank) => {
+                    ranks.push(rank)?;
+                    Ok(())
+                }
+                None => {
+                    let mut pairs = pairs_at(alloc, self.base, ranks)?;
+                    pairs.push((address, number))?;
+                    self.kept = Kept::Wide(pairs);
+                    Ok(())
+                }
+            },
+        }
+    }
+
+    // The same pairs by address, and those with one address by number.
+    pub fn sort(&mut self)
+        ensures permutation { IsPermutation self.old self.new }
+        ensures sorted { IsNonDecreasingBy (λ pair. rank pair.0 pair.1) self.new }
+    {
+        match &mut self.kept {
+            Kept::Narrow(ranks) => ranks.sort_unstable(),
+            Kept::Wide(pairs) => pairs.sort_unstable(),
+        }
+    }
+
+    // The numbers of the pairs.
+    pub fn numbers(&self, alloc: Global) -> Result<Vec<u32>, AllocError>
+        ensures { IfOk result (λ numbers. numbers.items ≡ map (λ pair. pair.1) self.now) }
+    {
+        let mut numbers = Vec::with_capacity(alloc, self.len())?;
+        for i in 0..self.len() {
+            numbers.push(self.get(i).1)?;
+        }
+        Ok(numbers)
+    }
+}
+
+// Whether no two pairs that stand beside one another have one address.
+pub(crate) fn are_apart(ranks: &Ranks) -> bool
+    ensures apart { result ≡ true → AreApart ranks.now }
+    ensures beside { result ≡ false → AreApart ranks.now → ⊥ }
+{
+    for i in 1..ranks.len() {
+        if ranks.get(i - 1).0 == ranks.get(i).0 {
+            return false;
+        }
+    }
+    true
+}
