@@ -42,7 +42,7 @@ elem-port : (text port : List ℕ) → (text ≡ codes "p" ++ port) ⊎ (text �
 elem-port text port (inl short) = let n = ap length short in omega (arith, n)
 elem-port text port (inr long) = let n = ap length long in omega (arith, n)
 
-elem-some : (text : List ℕ) (e : Element) → IsElem text e → 0 < length text
+pub elem-some : (text : List ℕ) (e : Element) → IsElem text e → 0 < length text
 elem-some text Nil is = let n = ap length is in omega (arith, n)
 elem-some text (Small integer) is = let n = ap length is.0 in omega (arith, n)
 elem-some text (Atom bytes) is = let n = ap length is.1 in omega (arith, n)

@@ -1,5 +1,6 @@
 pub mod FirstFacts
 pub mod FirstPlace
+pub mod FoundFacts
 pub mod GatheringFacts
 pub mod HeapFacts
 pub mod KeepingFacts

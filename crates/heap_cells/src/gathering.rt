@@ -1,25 +1,22 @@
 // The heap lines of the bodies are gathered one by one.
-ghost use Rattle.std.specs.Prelude.{◌≡◌, ◌+◌, ◌^◌, ◌<◌, ◌≤◌, ◌-◌, ◌∷◌, ◌++◌, [], List, map, length, slice_range, All, OnOk, IfOk};
-ghost use Rattle.std.specs.Option.{option_map};
+ghost use Rattle.std.specs.Prelude.{◌≡◌, ◌+◌, ◌^◌, ◌<◌, ◌≤◌, ◌-◌, ◌∷◌, ◌++◌, [], List, length, slice_range, OnOk, IfOk};
 ghost use Rattle.std.specs.List.{filter_map};
 ghost use Rattle.field_lines.specs.Lines.{TextLine};
 ghost use Rattle.field_lines.specs.Shown.{shown_line};
-ghost use Rattle.term_forms.specs.Places.{elements_of};
-ghost use Rattle.term_forms.specs.SeenForms.{heap_form};
-ghost use Rattle.term_forms.specs.SeenPlaces.{placed};
-ghost use Rattle.heap_cells.specs.Cells.{Cell, spelled_cell, cell_of, elements_in, kind_of, line_cells};
-ghost use Rattle.heap_cells.specs.Inner.Gathering.{slot_for, form_found, slots_found, new_record, AreSmall, IsLineAt, IsBodyAt, IsGathered, Leads, AreAll};
+ghost use Rattle.heap_cells.specs.Cells.{Cell, spelled_cell, cell_of, line_cells};
+ghost use Rattle.heap_cells.specs.Inner.Found.{read_in};
+ghost use Rattle.heap_cells.specs.Inner.Gathering.{form_found, slots_found, new_record, AreSmall, IsLineAt, IsBodyAt, IsGathered, Leads, AreAll};
 ghost use Rattle.heap_cells.specs.Inner.Parts.{IsPart};
 ghost use Rattle.heap_cells.specs.Inner.Texts.{text_of, seam_of};
 
 use crate::arena::Arena;
-use crate::cells::{CellRecord, Kind, Slot};
+use crate::cells::CellRecord;
+use crate::found::{Found, found_weight, push_found, read_found};
 use crate::texts::{Texts, part};
 use field_lines::Line;
 use field_lines::reading::lines;
 use std::alloc::{AllocError, Global};
-use term_forms::shapes::{Elem, Form};
-use term_forms::{PlacedElem, PlacedElems, heap_line, placed_form};
+use term_forms::heap_line;
 
 // The cells of the lines so far, with references not resolved, and how many lines and elements there are so far. Where
 // these are more than the limit, no more cells are kept.
@@ -30,111 +27,25 @@ pub(crate) struct Gathering {
     pub dense: u32,
 }
 
-fn kind_of(form: &Form<'_>) -> Kind
-    ensures { result ≡ kind_of (heap_form form.now) }
-{
-    match form {
-        Form::List(_, _) => Kind::List,
-        Form::Tuple(_) => Kind::Tuple,
-        Form::Float(_) => Kind::Float,
-        Form::Long(_) => Kind::Long,
-        Form::Pid(_) => Kind::Pid,
-        Form::Port(_) => Kind::Port,
-        Form::Ext(_, _) => Kind::Ext,
-        Form::HeapBin(_, _) => Kind::HeapBin,
-        Form::RefBin(_, _, _) => Kind::RefBin,
-        Form::SubBin(_, _, _) => Kind::SubBin,
-        Form::Flat(_, _) => Kind::Flat,
-        Form::Hash(_, _) => Kind::Hash,
-        Form::Node(_) => Kind::Node,
-    }
-}
-
-fn element_count(form: &Form<'_>) -> u64
-    ensures value { result ≡ length (elements_of (heap_form form.now)) }
-    ensures few { result ≤ 2 ^ 63 }
-{
-    match form {
-        Form::List(_, _) => 2,
-        Form::Flat(_, values) => values.left() + 1,
-        Form::Tuple(elements) => elements.left(),
-        Form::Hash(_, children) => children.left(),
-        Form::Node(children) => children.left(),
-        _ => 0,
-    }
-}
-
-fn slot_for(found: &PlacedElem<'_>, from: usize) -> Slot
-    requires { from + found.now.at < 4294967296 }
-    ensures { result ≡ slot_for from (placed found.now) }
-{
-    match found.elem {
-        Elem::Ref(address) => Slot::Gone(address),
-        _ => Slot::Imm((from + found.at) as u32),
-    }
-}
-
-// The slots of the elements of a form, whose text begins at a place.
-fn push_slots(
-    slots: &mut Vec<Slot>,
-    elements: PlacedElems<'_>,
-    from: usize,
-) -> Result<(), AllocError>
-    requires { All (λ p. from + p.at < 4294967296) elements }
-    ensures { OnOk result (slots.new.items ≡ slots.old.items ++ map (slot_for from) elements.entry) }
-{
-    for found in elements {
-        slots.push(slot_for(&found, from))?;
-    }
-    Ok(())
-}
-
-fn found_weight(found: &Option<(Form<'_>, PlacedElems<'_>)>) -> u64
-    ensures { result ≡ 1 + length (elements_in (form_found found.now)) }
-{
-    match found {
-        Some((form, _)) => 1 + element_count(form),
-        None => 1,
-    }
-}
-
-// The slots of a form that was found, and its kind.
-fn push_found(
-    slots: &mut Vec<Slot>,
-    found: Option<(Form<'_>, PlacedElems<'_>)>,
-    from: usize,
-) -> Result<Option<Kind>, AllocError>
-    requires { AreSmall from found }
-    ensures slots { OnOk result (slots.new.items ≡ slots.old.items ++ slots_found from found.entry) }
-    ensures kind { IfOk result (λ kind. kind ≡ option_map kind_of (form_found found.entry)) }
-{
-    match found {
-        None => Ok(None),
-        Some((form, elements)) => {
-            push_slots(slots, elements, from)?;
-            Ok(Some(kind_of(&form)))
-        }
-    }
-}
-
 // One more cell, the text of whose form stands from a place up to another one.
 fn push_cell(
     arena: &mut Arena,
     address: u64,
     from: usize,
     upto: usize,
-    found: Option<(Form<'_>, PlacedElems<'_>)>,
+    text: &[u8],
+    found: Found<'_>,
 ) -> Result<(), AllocError>
-    requires places { AreSmall from found }
+    requires places { AreSmall from (read_in text.now found) }
     requires ordered { from ≤ upto }
     requires within { upto < 4294967296 }
     requires few { length arena.old.slots.items < 4294967296 }
     ensures cells { OnOk result (arena.new.cells.items
-        ≡ arena.old.cells.items ++ new_record address from upto (length arena.old.slots.items) (form_found found.entry) ∷ []) }
-    ensures slots { OnOk result (arena.new.slots.items ≡ arena.old.slots.items ++ slots_found from found.entry) }
+        ≡ arena.old.cells.items ++ new_record address from upto (length arena.old.slots.items) (form_found (read_in text.now found.entry)) ∷ []) }
+    ensures slots { OnOk result (arena.new.slots.items ≡ arena.old.slots.items ++ slots_found from (read_in text.now found.entry)) }
 {
     let first = arena.slots.len() as u32;
-    let kind = push_found(&mut arena.slots, found, from)?;
+    let kind = push_found(&mut arena.slots, text, found, from)?;
     arena.cells.push(CellRecord {
         address,
         at: from as u32,
@@ -165,12 +76,13 @@ fn gather_cell(
         → Leads (text_of texts.now) texts.now.enc g.old (spelled_cell texts.now.enc (address, slice_range (text_of texts.now) from upto) ∷ rest) all
         → Leads (text_of texts.now) texts.now.enc g.new rest all) }
 {
-    let found = placed_form(part(texts, from, upto), texts.enc);
-    g.weight += found_weight(&found);
+    let text = part(texts, from, upto);
+    let found = read_found(text, texts.enc);
+    g.weight += found_weight(text, &found);
     if g.weight > u64::from(g.dense) {
         return Ok(());
     }
-    push_cell(&mut g.arena, address, from, upto, found)
+    push_cell(&mut g.arena, address, from, upto, text, found)
 }
 
 // The cell of a line, where the line is a heap line.

@@ -8,6 +8,7 @@
 mod arena;
 mod cells;
 mod faults;
+mod found;
 mod gathering;
 mod heap;
 mod keeping;

@@ -4,6 +4,7 @@ use Rattle.std.proofs.lemmas.Result.{IfOk-weaker}
 use Rattle.term_forms.specs.Forms.{IsForm}
 use Rattle.term_forms.specs.SeenForms.{heap_form}
 use Rattle.heap_cells.specs.Cells.{spelled_cell, elements_in}
+use Rattle.heap_cells.specs.Inner.Found.{read_in}
 use Rattle.heap_cells.specs.Inner.Gathering.{form_found}
 use Rattle.heap_cells.specs.Inner.Texts.{text_of, seam_of}
 use Rattle.heap_cells.specs.declared.cells.CellRecord.{CellRecord}
@@ -23,37 +24,37 @@ weight-few texts from upto weight part found is forms counts =
 
 pub overflow_add-g : goal.overflow_add-g
 overflow_add-g c =
-    let most = weight-few c.args.texts.now c.args.from c.args.upto c.found_weight.result c.part.result.now c.placed_form-found.result c.part.ensures
-    c.placed_form-found.ensures.found c.found_weight.ensures in
+    let most = weight-few c.args.texts.now c.args.from c.args.upto c.found_weight.result c.part-text.result.now (read_in c.part-text.result.now c.read_found-found.result) c.part-text.ensures
+    c.read_found-found.ensures.spelled c.found_weight.ensures in
     omega (arith, most, c.requires.room)
 
 pub returns-then-g-from-clause-weight : goal.returns-then-g-from-clause-weight
 returns-then-g-from-clause-weight c =
-    let most = weight-few c.args.texts.now c.args.from c.args.upto c.found_weight.result c.part.result.now c.placed_form-found.result c.part.ensures
-    c.placed_form-found.ensures.found c.found_weight.ensures in
+    let most = weight-few c.args.texts.now c.args.from c.args.upto c.found_weight.result c.part-text.result.now (read_in c.part-text.result.now c.read_found-found.result) c.part-text.ensures
+    c.read_found-found.ensures.spelled c.found_weight.ensures in
     omega (arith, most)
 
 pub push_cell-requires-clause-places : goal.push_cell-requires-clause-places
 push_cell-requires-clause-places c =
-    let size = ap length c.part.ensures in
+    let size = ap length c.part-text.ensures in
     let most = part-few (text_of c.args.texts.now) c.args.from c.args.upto in
     let within = c.requires.part.within in
     let ordered = c.requires.part.ordered in
-    found-small c.part.result.now c.args.from c.placed_form-found.result (omega (arith, size, most, within, ordered, c.requires.small)) c.placed_form-found.ensures.places
+    found-small c.part-text.result.now c.args.from (read_in c.part-text.result.now c.read_found-found.result) (omega (arith, size, most, within, ordered, c.requires.small)) c.read_found-found.ensures.places
 
 pub returns-clause-weight : goal.returns-clause-weight
 returns-clause-weight c =
-    let most = weight-few c.args.texts.now c.args.from c.args.upto c.found_weight.result c.part.result.now c.placed_form-found.result c.part.ensures
-    c.placed_form-found.ensures.found c.found_weight.ensures in
+    let most = weight-few c.args.texts.now c.args.from c.args.upto c.found_weight.result c.part-text.result.now (read_in c.part-text.result.now c.read_found-found.result) c.part-text.ensures
+    c.read_found-found.ensures.spelled c.found_weight.ensures in
     omega (arith, most)
 
 pub returns-clause-gathered : goal.returns-clause-gathered
 returns-clause-gathered c =
     let texts = c.args.texts.now in
     let text = text_of texts in
-    let found = c.placed_form-found.result in
-    let is = found-is text (seam_of texts) texts.enc c.args.from c.args.upto c.part.result.now found c.requires.part c.part.ensures c.placed_form-found.ensures.form
-    c.placed_form-found.ensures.elements c.placed_form-found.ensures.places in
+    let found = (read_in c.part-text.result.now c.read_found-found.result) in
+    let is = found-is text (seam_of texts) texts.enc c.args.from c.args.upto c.part-text.result.now found c.requires.part c.part-text.ensures c.read_found-found.ensures.form_is
+    c.read_found-found.ensures.elements c.read_found-found.ensures.places in
     let old = c.args.g.now.arena in
     let new = c.push_cell.new.arena in
     OnOk-both c.push_cell.result c.push_cell.ensures.cells c.push_cell.ensures.slots
@@ -65,7 +66,7 @@ returns-clause-gathered c =
             few,
             ap length cells,
             ap length slots,
-            slots-found-count c.args.from found c.placed_form-found.ensures.elements,
+            slots-found-count c.args.from found c.read_found-found.ensures.elements,
             c.found_weight.ensures,
             length-append {A = CellRecord},
             length-append {A = Slot},
@@ -76,9 +77,9 @@ pub returns-clause-leads : goal.returns-clause-leads
 returns-clause-leads c =
     let texts = c.args.texts.now in
     let text = text_of texts in
-    let found = c.placed_form-found.result in
-    let is = found-is text (seam_of texts) texts.enc c.args.from c.args.upto c.part.result.now found c.requires.part c.part.ensures c.placed_form-found.ensures.form
-    c.placed_form-found.ensures.elements c.placed_form-found.ensures.places in
+    let found = (read_in c.part-text.result.now c.read_found-found.result) in
+    let is = found-is text (seam_of texts) texts.enc c.args.from c.args.upto c.part-text.result.now found c.requires.part c.part-text.ensures c.read_found-found.ensures.form_is
+    c.read_found-found.ensures.elements c.read_found-found.ensures.places in
     let weight = c.found_weight.ensures ∙ found-weight text (seam_of texts) texts.enc c.args.address c.args.from c.args.upto found is in
     let new : Gathering = record { arena = c.push_cell.new.arena; weight = c.args.g.now.weight + c.found_weight.result; dense = c.args.g.now.dense } in
     IfOk-weaker c.push_cell.result _ _

@@ -2,7 +2,7 @@ use Rattle.std.proofs.Common.{◌≡◌, ◌+◌, ◌<◌, ◌++◌, map}
 use Rattle.std.specs.Prelude.{All}
 use Rattle.term_forms.specs.Places.{Placed}
 use Rattle.heap_cells.specs.Inner.Gathering.{slot_for}
-use Rattle.heap_cells.proofs.gathering.push_slots.Given as goal
+use Rattle.heap_cells.proofs.found.push_slots.Given as goal
 
 abbrev pub invariant-loop-found : goal.invariant-loop-found
 invariant-loop-found l =

@@ -4,7 +4,7 @@ use Rattle.std.proofs.lemmas.List.Elements.{All-tail}
 use Rattle.term_forms.specs.Places.{Placed}
 use Rattle.term_forms.specs.SeenPlaces.{placed}
 use Rattle.heap_cells.specs.Inner.Gathering.{slot_for}
-use Rattle.heap_cells.proofs.gathering.push_slots.Goals as goal
+use Rattle.heap_cells.proofs.found.push_slots.Goals as goal
 
 pub loop-found-preserved : goal.loop-found-preserved
 loop-found-preserved c =
