@@ -93,12 +93,39 @@ fn resolve_each(slots: &mut [Slot], references: &Ranks, ranks: &Ranks)
 }
 
 // Each reference to the address of a cell becomes that cell, if there is memory.
-pub(crate) fn resolve(alloc: Global, slots: &mut Vec<Slot>, ranks: &Ranks) -> Result<(), AllocError>
-    requires { length slots.old.items ≤ 100000000 }
-    ensures { OnOk result ((cells : List CellRecord) → length cells ≤ 100000000 → AreRanked cells ranks.now → slots.new.items ≡ map (settled cells) slots.old.items) }
+fn resolve_part(alloc: Global, slots: &mut [Slot], ranks: &Ranks) -> Result<(), AllocError>
+    requires { length slots.old ≤ 100000000 }
+    ensures { OnOk result ((cells : List CellRecord) → length cells ≤ 100000000 → AreRanked cells ranks.now → slots.new ≡ map (settled cells) slots.old) }
 {
     let mut references = references_of(alloc, slots, ranks)?;
     references.sort();
     resolve_each(slots, &references, ranks);
     Ok(())
+}
+
+// The same in parts, halved so many times: only the references of one part at a time take memory.
+fn resolve_parts(
+    alloc: Global,
+    slots: &mut [Slot],
+    ranks: &Ranks,
+    halvings: u32,
+) -> Result<(), AllocError>
+    requires { length slots.old ≤ 100000000 }
+    ensures { OnOk result ((cells : List CellRecord) → length cells ≤ 100000000 → AreRanked cells ranks.now → slots.new ≡ map (settled cells) slots.old) }
+{
+    if halvings == 0 {
+        return resolve_part(alloc, slots, ranks);
+    }
+    let half = slots.len() / 2;
+    let (first, rest) = slots.split_at_mut(half);
+    resolve_parts(alloc, first, ranks, halvings - 1)?;
+    resolve_parts(alloc, rest, ranks, halvings - 1)
+}
+
+// The same for all slots of a heap.
+pub(crate) fn resolve(alloc: Global, slots: &mut Vec<Slot>, ranks: &Ranks) -> Result<(), AllocError>
+    requires { length slots.old.items ≤ 100000000 }
+    ensures { OnOk result ((cells : List CellRecord) → length cells ≤ 100000000 → AreRanked cells ranks.now → slots.new.items ≡ map (settled cells) slots.old.items) }
+{
+    resolve_parts(alloc, slots, ranks, 2)
 }
