@@ -19,19 +19,18 @@ pub(crate) enum Child {
 }
 
 // The element of a cell at a place, as a term.
+#[inline(always)]
 fn term_at(heap: &Heap, ix: CellIx, place: u32) -> Option<Child>
     requires cell { number ix < length heap.now.cells }
     requires bounded { IsBounded heap.now }
     ensures { IsKidAt heap.now.cells (terms (elements_at heap.now.cells (number ix))) place 100000000 result }
 {
-    let kids = heap.kids(ix);
-    if place >= kids {
-        return None;
-    }
-    Some(Child::Term(heap.slots(ix)[place as usize], ix, place))
+    let slot = *heap.slots(ix).get(place as usize)?;
+    Some(Child::Term(slot, ix, place))
 }
 
 // The head or the tail of a list cell, as a term.
+#[inline(always)]
 fn head_or_tail(heap: &Heap, ix: CellIx, place: u32) -> Option<Child>
     requires cell { number ix < length heap.now.cells }
     requires bounded { IsBounded heap.now }
@@ -61,6 +60,7 @@ fn key_or_value(heap: &Heap, ix: CellIx, keys: CellIx, place: u32) -> Option<Chi
 }
 
 // A child of a flat map.
+#[inline(never)]
 fn pair_part(heap: &Heap, ix: CellIx, place: u32) -> Option<Child>
     requires cell { number ix < length heap.now.cells }
     requires bounded { IsBounded heap.now }
@@ -90,6 +90,7 @@ fn item_at(heap: &Heap, ix: CellIx, place: u32) -> Option<Child>
 }
 
 // A child of a hash map or of an inner node.
+#[inline(never)]
 fn member_at(heap: &Heap, ix: CellIx, place: u32) -> Option<Child>
     requires cell { number ix < length heap.now.cells }
     requires bounded { IsBounded heap.now }
@@ -104,6 +105,7 @@ fn member_at(heap: &Heap, ix: CellIx, place: u32) -> Option<Child>
 }
 
 /// The child at a place from 0 of a cell, by what the cell is in the walk.
+#[inline(always)]
 pub(crate) fn child_at(heap: &Heap, ix: CellIx, kind: NodeKind, place: u32) -> Option<Child>
     requires cell { number ix < length heap.now.cells }
     requires bounded { IsBounded heap.now }

@@ -33,6 +33,7 @@ pub(crate) enum Opened {
 }
 
 // Whether the walk is in the cell.
+#[inline(always)]
 fn is_open(heap: &Heap, path: &Path, ix: CellIx) -> bool
     requires cell { number ix < length heap.now.cells }
     requires serves { Serves heap.now path.now.cells }
@@ -77,6 +78,7 @@ fn open_keyed(heap: &Heap, path: &Path, ix: CellIx, keys: CellIx) -> Opened
 }
 
 // A flat map that the walk isn't in.
+#[inline(never)]
 fn open_flat(heap: &Heap, path: &Path, ix: CellIx) -> Opened
     requires cell { number ix < length heap.now.cells }
     requires serves { Serves heap.now path.now.cells }
@@ -96,6 +98,7 @@ fn open_flat(heap: &Heap, path: &Path, ix: CellIx) -> Opened
 }
 
 // A cell as a term.
+#[inline(always)]
 fn open_cell(heap: &Heap, path: &Path, ix: CellIx) -> Opened
     requires cell { number ix < length heap.now.cells }
     requires serves { Serves heap.now path.now.cells }
@@ -118,6 +121,7 @@ fn open_cell(heap: &Heap, path: &Path, ix: CellIx) -> Opened
 }
 
 // A term, by its slot.
+#[inline(always)]
 fn open_slot(heap: &Heap, path: &Path, slot: Slot) -> Opened
     requires slot { IsWithin (length heap.now.cells) (slot_target slot) }
     requires serves { Serves heap.now path.now.cells }
@@ -149,6 +153,7 @@ fn open_member(heap: &Heap, path: &Path, parent: CellIx, place: u32, ix: CellIx)
 }
 
 // An item of the hash map or the inner node `parent`.
+#[inline(never)]
 fn open_item(heap: &Heap, path: &Path, parent: CellIx, place: u32) -> Opened
     requires item { IsItemAt heap.now.cells (number parent) place }
     requires serves { Serves heap.now path.now.cells }
@@ -162,6 +167,7 @@ fn open_item(heap: &Heap, path: &Path, parent: CellIx, place: u32) -> Opened
 }
 
 /// A child of an open cell.
+#[inline(always)]
 pub(crate) fn open_child(heap: &Heap, path: &Path, child: Child) -> Opened
     requires kid { IsKid heap.now.cells child }
     requires serves { Serves heap.now path.now.cells }

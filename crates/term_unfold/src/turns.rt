@@ -16,7 +16,7 @@ use crate::judging::enter;
 use crate::node::NodeKind;
 use crate::openings::{Opened, open_child};
 use crate::path::{Entry, Path};
-use heap_cells::{Heap, Kid};
+use heap_cells::{Heap, Kid, Slot};
 use term_forms::shapes::Elem;
 
 /// What the walk writes where it comes to a child: a text in front, and the child's own text or not.
@@ -139,7 +139,10 @@ fn is_nil_child(heap: &Heap, child: Child) -> bool
     ensures { result ≡ is_nil_term (child_shown heap.now.cells child) }
 {
     match child {
-        Child::Term(_, cell, place) => matches!(heap.kid(cell, place), Kid::Imm(Elem::Nil)),
+        Child::Term(Slot::Imm(_), cell, place) => {
+            matches!(heap.kid(cell, place), Kid::Imm(Elem::Nil))
+        }
+        Child::Term(_, _, _) => false,
         Child::Item(_, _) => false,
     }
 }
