@@ -161,12 +161,12 @@ break-body device sink section limit (load.SectionTooLarge at len) cause small =
 break-body device sink section limit load.Read cause small = cause
 break-body device sink section limit load.Memory cause small = tt
 
--- the text in other words
-pub Copies-text : {T : Type 0} {o p : Option Files} {n m : Now} {f g t s : ℕ} {w u : Option (List ℕ)} {a c most : ℕ} {text : List ℕ → List ℕ} {result : Result T RedactFault} (whole : List ℕ → List ℕ)
-    → Copies (device o p n m f g t s) (change w u a c) most text result → ((dump : List ℕ) → n ≡ told dump → text dump ≡ whole dump)
+-- the text in other words, and a bound that is no smaller
+pub Copies-text : {T : Type 0} {o p : Option Files} {n m : Now} {f g t s : ℕ} {w u : Option (List ℕ)} {a c few : ℕ} {text : List ℕ → List ℕ} {result : Result T RedactFault}
+    (most : ℕ) (whole : List ℕ → List ℕ) → Copies (device o p n m f g t s) (change w u a c) few text result → few ≤ most → ((dump : List ℕ) → n ≡ told dump → text dump ≡ whole dump)
     → Copies (device o p n m f g t s) (change w u a c) most whole result
-Copies-text {w = w} {u = u} {result = result} whole copies same = record {
-  reads = copies.reads;
+Copies-text {w = w} {u = u} {result = result} most whole copies fits same = record {
+  reads = ReadsAtMost-within fits copies.reads;
   later = copies.later;
   writes = λ dump is. subst (λ l. WritesAll w u l result) (same dump is) (copies.writes dump is);
   fault = copies.fault;

@@ -13,7 +13,7 @@ pub mod Leads
 pub mod Pieces
 pub mod Places
 pub mod PlainLines
-pub mod Reaching
+pub mod Offsets
 pub mod Sections
 pub mod Stays
 pub mod Steps

@@ -65,9 +65,22 @@ fn redact_lead(piece: &mut [u8], enc: Enc) -> Stretch
     }
 }
 
+// Makes the payloads in a body zero, which a header of this part begins.
+pub(crate) fn redact_body(body: &mut [u8], part: Part, enc: Enc)
+    ensures { body.new ≡ redacted_body enc part body.old }
+{
+    match part {
+        Part::Heap => redact_heap(body, enc),
+        Part::Binary => {
+            redact_lead(body, enc);
+        }
+        Part::Other => {}
+    }
+}
+
 // Copies what stands from an offset up to the body of a binary, which ends at another, and that body with its payload made
 // zero. The first piece reaches as far into the body as its number and colon may.
-fn put_near<D: Dumps, K: Sink>(
+pub(crate) fn put_binary<D: Dumps, K: Sink>(
     dumps: &mut D,
     from: u64,
     body: u64,
@@ -88,28 +101,4 @@ fn put_near<D: Dumps, K: Sink>(
     let stretch = redact_lead(&mut buffer[lead..count], enc);
     put_bytes(sink, &buffer[..count])?;
     copy(dumps, from + count as u64, upto, stretch, buffer, sink)
-}
-
-// The same for a body that may lie at any distance. Mostly it lies near, so that the first piece has all.
-pub(crate) fn put_binary<D: Dumps, K: Sink>(
-    dumps: &mut D,
-    from: u64,
-    body: u64,
-    upto: u64,
-    enc: Enc,
-    buffer: &mut [u8],
-    sink: &mut K,
-) -> Result<(), RedactFault>
-    requires held { HasUpto (D.now dumps.old) upto }
-    requires ordered { from ≤ body }
-    requires some { body < upto }
-    requires room { 17 ≤ length buffer.old }
-    ensures { Copies (used D.files D.now D.faults D.taken dumps.old dumps.new) (changed K.written K.faults sink.old sink.new) (upto - from)
-        (λ dump. between from body dump ++ redacted_body enc Part.Binary (between body upto dump)) result }
-{
-    if body - from <= (buffer.len() - 17) as u64 {
-        return put_near(dumps, from, body, upto, enc, buffer, sink);
-    }
-    copy(dumps, from, body, Stretch::Plain, buffer, sink)?;
-    put_near(dumps, body, body, upto, enc, buffer, sink)
 }

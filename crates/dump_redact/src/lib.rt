@@ -10,7 +10,8 @@
 //! ```
 //!
 //! What a redacted dump is stands in `specs/Redacted.antt`, over the lines of a dump; the laws in `specs/Laws.antt` say what
-//! stays. The bodies of heaps are loaded one at a time, and all else is copied in pieces.
+//! stays. As many sections are redacted at once as lie whole in a piece of 64 KiB. Of a larger section the body is loaded if
+//! it is a heap, and all else is copied in pieces.
 #![tactic(auto)]
 
 mod bodies;
@@ -20,6 +21,7 @@ mod heaps;
 mod laws;
 mod parts;
 mod redacting;
+mod spans;
 
 pub use faults::RedactFault;
 pub use laws::{binaries_stay, bodies_are_redacted, payloads_stay, redacted_stays, sections_stay};

@@ -1,5 +1,5 @@
 // A dump is written with its payloads made zero.
-ghost use Rattle.std.specs.Prelude.{◌≡◌, ℕ, ◌-◌, ◌<◌, ◌≤◌, List, length, true, None, Some, IfOk, IfErr, IsErrOf, IsSome, OnOk};
+ghost use Rattle.std.specs.Prelude.{◌≡◌, ℕ, ◌+◌, ◌-◌, ◌<◌, ◌≤◌, ◌⊎◌, List, length, true, None, Some, IfErr, IsErrOf, IsSome, OnOk};
 ghost use Rattle.dump_io.specs.Dumps.{told, used, ReadsAtMost};
 ghost use Rattle.dump_io.specs.Sinks.{changed, WritesAll};
 ghost use Rattle.section_index.specs.Bodies.{section_at};
@@ -8,26 +8,16 @@ ghost use Rattle.dump_redact.specs.Redacted.{enc_of, redacted};
 ghost use Rattle.dump_redact.specs.Refusals.{is_heap, large_fault, IsCauseOf};
 ghost use Rattle.dump_redact.specs.declared.faults.RedactFault.{RedactFault};
 ghost use Rattle.dump_redact.specs.Inner.Copying.{Copies};
-ghost use Rattle.dump_redact.specs.Inner.Places.{part_in, reach, text_upto, text_for, HasBody, fault_at};
+ghost use Rattle.dump_redact.specs.Inner.Places.{length_between, text_between, text_of_section, HasBody, HasRoom, fault_at};
 
 use crate::bodies::{put_binary, put_heap};
-use crate::copying::{Stretch, copy, make_buffer};
+use crate::copying::{Stretch, copy, make_buffer, put_bytes, read_piece};
 use crate::faults::RedactFault;
 use crate::parts::{Part, part_of};
+use crate::spans::{enc_of, next_place, offset, redact_sections};
 use dump_io::{Dumps, Limits, Sink};
-use section_index::{Index, Version};
+use section_index::Index;
 use std::alloc::Global;
-use term_forms::Enc;
-
-// How a version writes payloads.
-fn enc_of(version: Version) -> Enc
-    ensures { result ≡ enc_of version }
-{
-    match version {
-        Version::V03 | Version::V04 => Enc::Hex,
-        Version::V05 => Enc::Base64,
-    }
-}
 
 // The refusal of the section at a place, where it is a heap or literals with more bytes than the limit.
 fn judge(index: &Index, i: usize, limits: &Limits) -> Option<RedactFault>
@@ -59,45 +49,59 @@ fn large(index: &Index, limits: &Limits) -> Option<RedactFault>
     None
 }
 
-// The part that the body of the section at a place is. An empty body has no payload.
-fn part_at(index: &Index, i: usize) -> Part
-    requires { i < length index.now.headers }
-    ensures part { result ≡ part_in (section_at index.now i) }
-    ensures within { (section_at index.now i).end ≤ index.now.size }
+// Copies the sections from a place up to another, which together fit into the buffer, redacted.
+fn put_sections<D: Dumps, K: Sink>(
+    dumps: &mut D,
+    index: &Index,
+    i: usize,
+    next: usize,
+    buffer: &mut [u8],
+    sink: &mut K,
+) -> Result<(), RedactFault>
+    requires over { IsBuiltOver (D.now dumps.old) index.now }
+    requires some { i < next }
+    requires within { next ≤ length index.now.headers }
+    requires room { length_between index.now i next ≤ length buffer.old }
+    ensures { Copies (used D.files D.now D.faults D.taken dumps.old dumps.new) (changed K.written K.faults sink.old sink.new) (length_between index.now i next)
+        (λ dump. text_between index.now i next (redacted dump)) result }
 {
-    let section = index.section(i);
-    if section.body < section.end {
-        part_of(section.tag)
-    } else {
-        Part::Other
-    }
+    let from = offset(index, i);
+    let upto = offset(index, next);
+    let count = read_piece(dumps, from, upto, buffer)?;
+    let piece = &mut buffer[..count];
+    redact_sections(piece, index, i, next);
+    put_bytes(sink, piece)
 }
 
-// Copies what stands from an offset up to the body of the heap at a place, writes that body redacted, and says where it
-// ends.
+// Copies the line of the header of a heap, and writes its body redacted.
 fn put_heap_from<D: Dumps, K: Sink>(
     alloc: Global,
     dumps: &mut D,
     index: &Index,
     i: usize,
-    done: u64,
     limits: &Limits,
     buffer: &mut [u8],
     sink: &mut K,
-) -> Result<u64, RedactFault>
+) -> Result<(), RedactFault>
     requires over { IsBuiltOver (D.now dumps.old) index.now }
     requires place { i < length index.now.headers }
-    requires before { done ≤ (section_at index.now i).at }
     requires body { HasBody (D.now dumps.old) (section_at index.now i) }
     requires small { fault_at limits.now.section (section_at index.now i) ≡ None }
     requires heap { is_heap (section_at index.now i) ≡ true }
     requires room { 0 < length buffer.old }
-    ensures copies { Copies (used D.files D.now D.faults D.taken dumps.old dumps.new) (changed K.written K.faults sink.old sink.new) ((section_at index.now i).end - done)
-        (text_upto (enc_of index.now.version) Part.Heap (section_at index.now i) done) result }
-    ensures reached { IfOk result (λ upto. upto ≡ (section_at index.now i).end) }
+    ensures { let section = section_at index.now i in
+        Copies (used D.files D.now D.faults D.taken dumps.old dumps.new) (changed K.written K.faults sink.old sink.new) (section.end - section.at)
+        (text_of_section (enc_of index.now.version) Part.Heap section) result }
 {
     let section = index.section(i);
-    copy(dumps, done, section.body, Stretch::Plain, buffer, sink)?;
+    copy(
+        dumps,
+        section.at,
+        section.body,
+        Stretch::Plain,
+        buffer,
+        sink,
+    )?;
     put_heap(
         alloc,
         dumps,
@@ -106,66 +110,72 @@ fn put_heap_from<D: Dumps, K: Sink>(
         limits,
         enc_of(index.version()),
         sink,
-    )?;
-    Ok(section.end)
+    )
 }
 
-// The same for a binary.
-fn put_binary_from<D: Dumps, K: Sink>(
-    dumps: &mut D,
-    index: &Index,
-    i: usize,
-    done: u64,
-    buffer: &mut [u8],
-    sink: &mut K,
-) -> Result<u64, RedactFault>
-    requires place { i < length index.now.headers }
-    requires before { done ≤ (section_at index.now i).at }
-    requires body { HasBody (D.now dumps.old) (section_at index.now i) }
-    requires room { 17 ≤ length buffer.old }
-    ensures copies { Copies (used D.files D.now D.faults D.taken dumps.old dumps.new) (changed K.written K.faults sink.old sink.new) ((section_at index.now i).end - done)
-        (text_upto (enc_of index.now.version) Part.Binary (section_at index.now i) done) result }
-    ensures reached { IfOk result (λ upto. upto ≡ (section_at index.now i).end) }
-{
-    let section = index.section(i);
-    put_binary(
-        dumps,
-        done,
-        section.body,
-        section.end,
-        enc_of(index.version()),
-        buffer,
-        sink,
-    )?;
-    Ok(section.end)
-}
-
-// Writes the dump up to the end of the section at a place, where its body may have payloads, and says how far it is
-// written: what stands from there on is still to be copied.
-fn put_section<D: Dumps, K: Sink>(
+// Copies the section at a place, which doesn't fit into the buffer, redacted. So its body has a byte.
+fn put_large<D: Dumps, K: Sink>(
     alloc: Global,
     dumps: &mut D,
     index: &Index,
     i: usize,
-    done: u64,
     limits: &Limits,
     buffer: &mut [u8],
     sink: &mut K,
-) -> Result<u64, RedactFault>
+) -> Result<(), RedactFault>
     requires over { IsBuiltOver (D.now dumps.old) index.now }
     requires place { i < length index.now.headers }
-    requires before { done ≤ (section_at index.now i).at }
     requires small { fault_at limits.now.section (section_at index.now i) ≡ None }
-    requires room { 17 ≤ length buffer.old }
-    ensures copies { let section = section_at index.now i in let part = part_in section in
-        Copies (used D.files D.now D.faults D.taken dumps.old dumps.new) (changed K.written K.faults sink.old sink.new) (reach part section done - done)
-        (text_for (enc_of index.now.version) part section done) result }
-    ensures reached { IfOk result (λ upto. upto ≡ reach (part_in (section_at index.now i)) (section_at index.now i) done) }
+    requires room { HasRoom buffer.old }
+    requires large { length buffer.old < length_between index.now i (i + 1) }
+    ensures { Copies (used D.files D.now D.faults D.taken dumps.old dumps.new) (changed K.written K.faults sink.old sink.new) (length_between index.now i (i + 1))
+        (λ dump. text_between index.now i (i + 1) (redacted dump)) result }
 {
-    match part_at(index, i) {
-        Part::Heap => put_heap_from(alloc, dumps, index, i, done, limits, buffer, sink),
-        Part::Binary => put_binary_from(dumps, index, i, done, buffer, sink),
-        Part::Other => Ok(done),
+    let section = index.section(i);
+    match part_of(section.tag) {
+        Part::Heap => put_heap_from(alloc, dumps, index, i, limits, buffer, sink),
+        Part::Binary => {
+            let enc = enc_of(index.version());
+            put_binary(
+                dumps,
+                section.at,
+                section.body,
+                section.end,
+                enc,
+                buffer,
+                sink,
+            )
+        }
+        Part::Other => copy(dumps, section.at, section.end, Stretch::Plain, buffer, sink),
+    }
+}
+
+// Copies the sections from a place up to another, redacted: they fit into the buffer together, or there is one.
+fn put_some<D: Dumps, K: Sink>(
+    alloc: Global,
+    dumps: &mut D,
+    index: &Index,
+    i: usize,
+    next: usize,
+    limits: &Limits,
+    buffer: &mut [u8],
+    sink: &mut K,
+) -> Result<(), RedactFault>
+    requires over { IsBuiltOver (D.now dumps.old) index.now }
+    requires some { i < next }
+    requires within { next ≤ length index.now.headers }
+    requires small { fault_at limits.now.section (section_at index.now i) ≡ None }
+    requires room { HasRoom buffer.old }
+    requires fits { (next ≡ i + 1) ⊎ (length_between index.now i next ≤ length buffer.old) }
+    ensures { Copies (used D.files D.now D.faults D.taken dumps.old dumps.new) (changed K.written K.faults sink.old sink.new) (length_between index.now i next)
+        (λ dump. text_between index.now i next (redacted dump)) result }
+{
+    let from = offset(index, i);
+    let upto = offset(index, next);
+    if upto.saturating_sub(from) <= buffer.len() as u64 {
+        put_sections(dumps, index, i, next, buffer, sink)
+    } else {
+        put_large(alloc, dumps, index, i, limits, buffer, sink)
     }
 }
 
@@ -180,14 +190,16 @@ fn put_dump<D: Dumps, K: Sink>(
 ) -> Result<(), RedactFault>
     requires over { IsBuiltOver (D.now dumps.old) index.now }
     requires small { large_fault limits.now.section (sections_in index.now) ≡ None }
-    requires room { 17 ≤ length buffer.old }
+    requires room { HasRoom buffer.old }
     ensures { Copies (used D.files D.now D.faults D.taken dumps.old dumps.new) (changed K.written K.faults sink.old sink.new) index.now.size redacted result }
 {
-    let mut done = 0;
-    for i in 0..index.len() {
-        done = put_section(alloc, dumps, index, i, done, limits, buffer, sink)?;
+    let mut i = 0;
+    while i < index.len() {
+        let next = next_place(index, i, buffer.len());
+        put_some(alloc, dumps, index, i, next, limits, buffer, sink)?;
+        i = next;
     }
-    copy(dumps, done, index.size(), Stretch::Plain, buffer, sink)
+    Ok(())
 }
 
 /// Writes the dump that is open with its binary payloads made zero: as many bytes, with the same sections. The index is
@@ -201,8 +213,9 @@ fn put_dump<D: Dumps, K: Sink>(
 ///
 /// `SectionTooLarge` comes exactly where the body of a heap or of literals has more bytes than the limit on sections; it
 /// names the first in the dump, and nothing is read or written then. `Read` comes only where the device's count of faults
-/// rose, and `Write` only where the sink's did; `Memory` may come where memory is taken for a body, or for the pieces of
-/// at most 65,536 bytes in which all other bytes are copied. A proper front of the redacted dump was written then.
+/// rose, and `Write` only where the sink's did; `Memory` may come where memory is taken for the body of a heap or of literals
+/// that is no part of a piece, or for the pieces of at most 65,536 bytes in which all other bytes are copied. A proper front of
+/// the redacted dump was written then.
 /// Whatever the answer, at most as many bytes are read as the file has.
 pub fn redact<D: Dumps, K: Sink>(
     alloc: Global,

@@ -1,18 +1,20 @@
--- Where payloads stand, and how far a dump is redacted.
-use Rattle.std.specs.Prelude.{◌≡◌, ℕ, ◌-◌, ◌&&◌, ◌<◌, ◌≤◌, List, ◌++◌, length, drop, nat_lt, Option, None, Some, option_map, if◌then◌else◌}
+-- Where payloads stand, and what a dump has between two sections.
+use Rattle.std.specs.Prelude.{◌≡◌, ℕ, ◌+◌, ◌-◌, ◌&&◌, ◌<◌, ◌≤◌, List, ◌++◌, length, take, drop, slice_get, nat_lt, Option, None, Some, option_map, if◌then◌else◌}
 use Rattle.std.specs.List.{between}
 use Rattle.dump_io.specs.Dumps.{Now, IsOpen, size_of}
+use Rattle.dump_io.specs.Limits.{usual}
 use Rattle.dump_io.specs.Lines.{text_of}
 use Rattle.section_index.specs.Bodies.{body_length}
-use Rattle.section_index.specs.Sections.{Section, tag_of}
+use Rattle.section_index.specs.Index.{Contents}
+use Rattle.section_index.specs.Sections.{Section, next_at}
 use Rattle.term_forms.specs.declared.enc.Enc.{Enc}
 use Rattle.term_forms.specs.Words.{led_of, IsLed}
 use Rattle.dump_redact.specs.declared.faults.RedactFault.{RedactFault}
 use Rattle.dump_redact.specs.declared.faults.RedactFault.TheVariants.{SectionTooLarge}
 use Rattle.dump_redact.specs.declared.parts.Part.{Part}
-use Rattle.dump_redact.specs.declared.parts.Part.TheVariants.{Heap, Binary, Other}
+use Rattle.dump_redact.specs.declared.parts.Part.TheVariants.{Heap}
 use Rattle.dump_redact.specs.Bodies.{redacted_body}
-use Rattle.dump_redact.specs.Redacted.{part_of, payload_in}
+use Rattle.dump_redact.specs.Redacted.{payload_in}
 use Rattle.dump_redact.specs.Refusals.{is_heap}
 
 -- where the payload begins in a heap line, if it has one
@@ -24,25 +26,29 @@ abbrev pub IsLeadOf : List ℕ → Option ℕ → Type 0
 IsLeadOf body None = led_of body ≡ None
 IsLeadOf body (Some place) = (n : ℕ) × IsLed body n (drop place body)
 
--- the part that a section's body is, where an empty body has no payload
-abbrev pub part_in : Section → Part
-part_in section = if nat_lt section.body section.end then part_of (tag_of section.text) else Other
+-- the offset at which the section at a place begins, and past the last one the size of the dump
+abbrev pub offset_of : Contents → ℕ → ℕ
+offset_of index i = next_at (slice_get index.headers i) index.size
 
--- how far a dump is written behind a section, which was written so far before it: a part without payloads waits
-abbrev pub reach : Part → Section → ℕ → ℕ
-reach Heap section done = section.end
-reach Binary section done = section.end
-reach Other section done = done
+-- how many bytes the sections from one place up to another have
+abbrev pub length_between : Contents → ℕ → ℕ → ℕ
+length_between index i next = offset_of index next - offset_of index i
 
--- what a dump has from a place up to the end of a section, with that section's body redacted
-abbrev pub text_upto : Enc → Part → Section → ℕ → List ℕ → List ℕ
-text_upto enc part section done dump = between done section.body dump ++ redacted_body enc part (between section.body section.end dump)
+-- and those bytes of a dump
+abbrev pub text_between : Contents → ℕ → ℕ → List ℕ → List ℕ
+text_between index i next dump = between (offset_of index i) (offset_of index next) dump
 
--- what is written of it there
-abbrev pub text_for : Enc → Part → Section → ℕ → List ℕ → List ℕ
-text_for enc Heap section done dump = text_upto enc Heap section done dump
-text_for enc Binary section done dump = text_upto enc Binary section done dump
-text_for enc Other section done dump = between done done dump
+-- what a dump has of one section, with its body redacted
+abbrev pub text_of_section : Enc → Part → Section → List ℕ → List ℕ
+text_of_section enc part section dump = between section.at section.body dump ++ redacted_body enc part (between section.body section.end dump)
+
+-- bytes of which those between two places are redacted as a body
+abbrev pub redacted_between : Enc → Part → ℕ → ℕ → List ℕ → List ℕ
+redacted_between enc part low high bytes = take low bytes ++ (redacted_body enc part (between low high bytes) ++ drop high bytes)
+
+-- a piece has room for the line of a header, and for a number of 16 digits and its colon behind it
+abbrev pub HasRoom : List ℕ → Type 0
+HasRoom piece = usual.header + 18 ≤ length piece
 
 -- the body has a byte, and lies in what is open
 pub record HasBody (now : Now) (section : Section) : Type 0 where

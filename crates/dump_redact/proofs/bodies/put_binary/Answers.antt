@@ -1,21 +1,69 @@
-use Rattle.std.proofs.Common.{ℕ, List, ◌-◌, ◌++◌, refl, ap, arith}
+use Rattle.std.proofs.Common.{◌+◌, ◌-◌, ◌≤◌, ◌++◌, length, take, refl, arith, length-append}
 use Rattle.std.specs.List.{between}
-use Rattle.std.proofs.lemmas.List.Edits.{between_none}
 use Rattle.std.proofs.lemmas.Result.{err_from_is_err_and}
+use Rattle.dump_io.specs.Dumps.{used}
+use Rattle.dump_io.specs.Laws.Reads.{ReadsAtMost-within}
+use Rattle.dump_io.specs.Sinks.{changed}
+use borrow.Rule.Slice.PartMut.{put_mid}
 use Rattle.dump_redact.specs.declared.parts.Part.TheVariants.{Binary}
 use Rattle.dump_redact.specs.Bodies.{redacted_body}
-use Rattle.dump_redact.proofs.Copies.{HasCopied-done, Copies-cut, Copies-last}
+use Rattle.dump_redact.specs.Inner.Copying.{copied}
+use Rattle.dump_redact.proofs.Copies.{HasCopied-read, HasCopied-done, Copies-put, Copies-piece, Copies-failed, Copies-broken, Copies-last, break-read}
+use Rattle.dump_redact.proofs.Leads.{near-piece}
+use Rattle.dump_redact.proofs.Pieces.{told-size, piece-told, length-part}
+use Rattle.dump_redact.proofs.Sections.{length-body}
 use Rattle.dump_redact.proofs.bodies.put_binary.Goals as goal
 
-pub returns-in_err-copy : goal.returns-in_err-copy
-returns-in_err-copy g c =
+pub returns-in_err-count : goal.returns-in_err-count
+returns-in_err-count g c =
     let p = err_from_is_err_and c.from_residual.result c.from_residual.ensures.1 in
-    let rest = λ (dump : List ℕ). redacted_body c.args.enc Binary (between c.args.body c.args.upto dump) in
-    rw (p.1, p.2) (Copies-cut (c.args.upto - c.args.from) (λ dump. between c.args.from c.args.body dump ++ rest dump) rest c.in_err-copy.ensures (omega (arith, c.requires.some)) (λ dump is. refl))
+    let d = g.D.Dumps in
+    let k = g.K.Sink in
+    let read = c.in_err-count.ensures in
+    let device = used d.files d.now d.faults d.taken c.args.dumps.now c.read_piece.new.dumps in
+    let sink = changed k.written k.faults c.args.sink.now c.args.sink.now in
+    rw (p.1, p.2) (Copies-failed _ (ReadsAtMost-within (omega arith) read.reads) (break-read device sink c.in_err-count.field-0.0 read.fault) (λ dump is.
+    let front = between c.args.from c.args.body dump in
+    let rest = between c.args.body c.args.upto dump in
+    omega (
+      arith,
+      length-append front (redacted_body c.args.enc Binary rest),
+      length-body c.args.enc Binary rest,
+      length-part dump c.args.body c.args.upto (told-size (d.now c.args.dumps.now) dump c.args.upto is c.requires.held.1),
+      c.requires.some,
+    )))
+
+pub returns-in_err-put_bytes : goal.returns-in_err-put_bytes
+returns-in_err-put_bytes g c =
+    let p = err_from_is_err_and c.from_residual-in_err-put_bytes.result c.from_residual-in_err-put_bytes.ensures.1 in
+    let now = g.D.Dumps.now c.args.dumps.now in
+    let read = c.in_ok-count.ensures in
+    let count = c.in_ok-count.count in
+    let from = c.args.from in
+    let body = c.args.body in
+    let upto = c.args.upto in
+    let put = c.in_err-put_bytes.ensures in
+    let buffer = c.read_piece.new.buffer in
+    let within : count ≤ length buffer = omega (arith, c.read_piece.auto.buffer, read.count) in
+    rw (p.1, p.2) (Copies-broken (upto - from) (λ dump. between from body dump ++ redacted_body c.args.enc Binary (between body upto dump)) (λ dump. copied c.redact_lead-stretch.result (between (from + count) upto dump))
+    (HasCopied-read read.reads) (Copies-put (omega (arith, read.reads.taken_most)) put.puts put.fault) (omega arith) (λ dump is.
+    near-piece c.args.enc buffer c.redact_lead-stretch.new.piece c.redact_lead-stretch.result dump from body count upto (length c.args.buffer.now) c.redact_lead-stretch.ensures
+    (piece-told now from count buffer dump is read.piece within) c.redact_lead-stretch.auto.piece c.requires.near read.count within c.requires.ordered c.requires.some (told-size now dump upto is c.requires.held.1)))
 
 pub returns : goal.returns
 returns g c =
-    let front = λ (dump : List ℕ). between c.args.from c.args.body dump in
-    let rest = λ (dump : List ℕ). redacted_body c.args.enc Binary (between c.args.body c.args.upto dump) in
-    Copies-last (c.args.upto - c.args.from) (λ dump. front dump ++ rest dump) (HasCopied-done c.in_ok-copy.ensures) c.put_near-2.ensures (omega (arith, c.requires.ordered, c.requires.some))
-    (λ dump is. ap (λ l. front dump ++ (l ++ rest dump)) (between_none dump c.args.body))
+    let now = g.D.Dumps.now c.args.dumps.now in
+    let read = c.in_ok-count.ensures in
+    let count = c.in_ok-count.count in
+    let from = c.args.from in
+    let body = c.args.body in
+    let upto = c.args.upto in
+    let put = c.in_ok-put_bytes.ensures in
+    let buffer = c.read_piece.new.buffer in
+    let new = c.redact_lead-stretch.new.piece in
+    let within : count ≤ length buffer = omega (arith, c.read_piece.auto.buffer, read.count) in
+    let piece = take count (put_mid (body - from) (count - (body - from)) buffer new) in
+    Copies-last (upto - from) (λ dump. between from body dump ++ redacted_body c.args.enc Binary (between body upto dump)) (HasCopied-done (Copies-piece (λ _. piece) read.reads put.puts put.fault (λ dump is. refl))) c.copy.ensures
+    (omega (arith, read.count, c.requires.some)) (λ dump is.
+    near-piece c.args.enc buffer new c.redact_lead-stretch.result dump from body count upto (length c.args.buffer.now) c.redact_lead-stretch.ensures
+    (piece-told now from count buffer dump is read.piece within) c.redact_lead-stretch.auto.piece c.requires.near read.count within c.requires.ordered c.requires.some (told-size now dump upto is c.requires.held.1))

@@ -1,78 +1,83 @@
-use Rattle.std.proofs.Common.{ℕ, ◌+◌, ◌<◌, ◌≤◌, List, ◌++◌, length, drop, sym, ◌∙◌, ap, subst, arith}
+use Rattle.std.proofs.Common.{◌≡◌, ℕ, ◌+◌, ◌^◌, ◌<◌, ◌≤◌, List, ◌++◌, length, sym, ◌∙◌, ap, arith, rules}
 use Rattle.std.specs.List.{between}
-use Rattle.std.proofs.lemmas.List.{take-append-drop}
+use Rattle.std.proofs.lemmas.List.Edits.{between_none}
 use Rattle.std.proofs.lemmas.Result.{err_from_is_err_and}
-use Rattle.dump_io.specs.Dumps.{used}
-use Rattle.dump_io.specs.Sinks.{changed}
+use Rattle.dump_io.specs.Laws.Puts.{grown-nil}
+use Rattle.dump_io.specs.Laws.Reads.{ReadsAtMost-none}
+use Rattle.dump_io.specs.Sinks.{grown}
 use Rattle.section_index.specs.Bodies.{section_at}
 use Rattle.section_index.specs.Index.{sections_in}
 use Rattle.dump_redact.specs.Redacted.{redacted}
-use Rattle.dump_redact.specs.Inner.Copying.{HasCopied}
-use Rattle.dump_redact.specs.Inner.Places.{part_in, reach}
-use Rattle.dump_redact.proofs.Copies.{HasCopied-then, Copies-broken, Copies-last}
-use Rattle.dump_redact.proofs.Judging.{none-at, place-at}
-use Rattle.dump_redact.proofs.Reaching.{IsUpto, written, upto-before, upto-within, upto-count, upto-text, IsUpto-next, last-at, last-text}
+use Rattle.dump_redact.specs.Inner.Places.{offset_of, text_between}
+use Rattle.dump_redact.proofs.Copies.{HasCopied-then, Copies-broken, Copies-done, Copies-text}
+use Rattle.dump_redact.proofs.Judging.{none-at}
+use Rattle.dump_redact.proofs.Offsets.{built-told, place-in, offset-rise, offset-end, offset-within, whole-text}
+use Rattle.dump_redact.proofs.Stretches.{between-join}
 use Rattle.dump_redact.proofs.redacting.put_dump.Goals as goal
 
-pub put_section-requires-clause-before : goal.put_section-requires-clause-before
-put_section-requires-clause-before g c =
+pub loop-i-init : goal.loop-i-init
+loop-i-init g c =
+    let d = g.D.Dumps in
     let index = c.args.index.now in
-    let i = c.loop-i.i in
-    let inside : i < length (sections_in index) = omega (arith, c.len-i-end.ensures.sections, c.loop-i-test.true) in
-    upto-before (g.D.Dumps.now c.args.dumps.now) index i c.loop-i.done (section_at index i) c.requires.over (place-at index i inside) c.loop-i.invariant.upto
+    let w = g.K.Sink.written c.args.sink.now in
+    let small : d.taken c.args.dumps.now < 2 ^ 64 = search rules in
+    record {
+      place = omega arith;
+      copied = record {
+        reads = ReadsAtMost-none _ small;
+        later = omega arith;
+        gained = λ dump is. sym (ap (grown w) (between_none (redacted dump) (offset_of index 0)) ∙ grown-nil w);
+      };
+    }
 
-pub put_section-requires-clause-small : goal.put_section-requires-clause-small
-put_section-requires-clause-small g c =
+pub put_some-requires-clause-small : goal.put_some-requires-clause-small
+put_some-requires-clause-small g c =
     let index = c.args.index.now in
     let i = c.loop-i.i in
-    let inside : i < length (sections_in index) = omega (arith, c.len-i-end.ensures.sections, c.loop-i-test.true) in
-    none-at c.args.limits.now.section (sections_in index) i (section_at index i) c.requires.small (place-at index i inside)
+    let inside : i < length index.headers = omega (arith, c.len.ensures.value, c.loop-i-test.true) in
+    none-at c.args.limits.now.section (sections_in index) i (section_at index i) c.requires.small (place-in index i inside)
 
 pub loop-i-preserved : goal.loop-i-preserved
 loop-i-preserved g c =
-    let d = g.D.Dumps in
-    let k = g.K.Sink in
-    let now = d.now c.args.dumps.now in
     let index = c.args.index.now in
+    let bounded = c.len.ensures.bounded in
     let i = c.loop-i.i in
-    let done = c.loop-i.done in
-    let s = section_at index i in
+    let next = c.next_place-next.result in
+    let found = c.next_place-next.ensures in
     let all = c.loop-i.invariant in
-    let one = c.in_ok-done.ensures in
-    let inside : i < length (sections_in index) = omega (arith, c.len-i-end.ensures.sections, c.loop-i-test.true) in
-    let place = place-at index i inside in
-    let upto = reach (part_in s) s done in
+    let start = offset-rise index bounded 0 i (omega arith) all.place in
+    let rise = offset-rise index bounded i next (omega (arith, found.some)) found.within in
     record {
-      upto = subst (IsUpto now index (i + 1)) (sym one.reached) (IsUpto-next now index i done s c.requires.over place all.upto);
-      copied = subst (λ n. HasCopied (used d.files d.now d.faults d.taken c.args.dumps.now c.put_section.new.dumps) (changed k.written k.faults c.args.sink.now c.put_section.new.sink) n (written n)) (sym one.reached)
-          (HasCopied-then upto (written upto) all.copied one.copies (upto-count now index i done s c.requires.over place all.upto) (upto-text now index i done s c.requires.over place all.upto));
+      place = found.within;
+      copied = HasCopied-then (offset_of index next) (λ dump. text_between index 0 next (redacted dump)) all.copied c.in_ok-put_some.ensures (omega (arith, rise)) (λ dump is.
+          between-join (redacted dump) (offset_of index 0) (offset_of index i) (offset_of index next) start rise);
     }
 
-pub returns-in_err-done : goal.returns-in_err-done
-returns-in_err-done g c =
+pub returns-in_err-put_some : goal.returns-in_err-put_some
+returns-in_err-put_some g c =
     let p = err_from_is_err_and c.from_residual.result c.from_residual.ensures.1 in
-    let now = g.D.Dumps.now c.args.dumps.now in
     let index = c.args.index.now in
+    let bounded = c.len.ensures.bounded in
     let i = c.loop-i.i in
-    let done = c.loop-i.done in
-    let s = section_at index i in
+    let next = c.next_place-next.result in
+    let found = c.next_place-next.ensures in
     let all = c.loop-i.invariant in
-    let inside : i < length (sections_in index) = omega (arith, c.len-i-end.ensures.sections, c.loop-i-test.true) in
-    let place = place-at index i inside in
-    let upto = reach (part_in s) s done in
-    let rest = λ (dump : List ℕ). drop upto (redacted dump) in
-    rw (p.1, p.2) (Copies-broken index.size redacted rest all.copied c.in_err-done.ensures.copies (upto-within now index i done s c.requires.over place all.upto) (λ dump is.
-    ap (λ l. l ++ rest dump) (upto-text now index i done s c.requires.over place all.upto dump is) ∙ take-append-drop upto (redacted dump)))
+    let start = offset-rise index bounded 0 i (omega arith) all.place in
+    let rise = offset-rise index bounded i next (omega (arith, found.some)) found.within in
+    let inside = offset-within index bounded next found.within in
+    let rest = λ (dump : List ℕ). between (offset_of index next) index.size (redacted dump) in
+    rw (p.1, p.2) (Copies-broken index.size redacted rest all.copied c.in_err-put_some.ensures (omega (arith, rise, inside)) (λ dump is.
+    ap (λ l. l ++ rest dump) (between-join (redacted dump) (offset_of index 0) (offset_of index i) (offset_of index next) start rise)
+    ∙ between-join (redacted dump) (offset_of index 0) (offset_of index next) index.size (omega (arith, start, rise)) inside
+    ∙ whole-text index bounded dump (built-told (g.D.Dumps.now c.args.dumps.now) index dump c.requires.over is)))
 
 pub returns : goal.returns
 returns g c =
-    let now = g.D.Dumps.now c.args.dumps.now in
     let index = c.args.index.now in
+    let bounded = c.len.ensures.bounded in
     let i = c.loop-i.i in
-    let done = c.loop-i.done in
     let all = c.loop-i.invariant in
-    let past : length (sections_in index) ≤ i = omega (arith, c.len-i-end.ensures.sections, c.loop-i-test.false) in
-    let ends = last-at now index i done past all.upto in
-    let size = c.size.ensures.value in
-    Copies-last index.size redacted all.copied c.copy.ensures (omega (arith, size, ends, all.upto.reached.before)) (λ dump is.
-    ap (λ n. written done dump ++ between done n dump) size ∙ last-text now index i done c.requires.over past all.upto dump is)
+    let past : i ≡ length index.headers = omega (arith, all.place, c.len.ensures.value, c.loop-i-test.false) in
+    Copies-text index.size redacted (Copies-done all.copied) (offset-within index bounded i all.place) (λ dump is.
+    ap (λ n. between (offset_of index 0) n (redacted dump)) (offset-end index bounded i past)
+    ∙ whole-text index bounded dump (built-told (g.D.Dumps.now c.args.dumps.now) index dump c.requires.over is))

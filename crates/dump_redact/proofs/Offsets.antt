@@ -1,0 +1,239 @@
+-- Where the sections of a dump begin and end, and what is made of a piece with some of them.
+use Rattle.std.proofs.Common.{◌≡◌, ℕ, Bool, true, false, codes, if◌then◌else◌, zero, suc, ◌+◌, ◌-◌, ◌<◌, ◌≤◌, List, [], ◌∷◌, ◌++◌, length, take, drop, slice_get, Some, refl, sym, ◌∙◌, ap, ap₂, subst, arith, append_assoc}
+use Rattle.std.specs.Prelude.{All, unwrap_or}
+use Rattle.std.specs.List.{between}
+use Rattle.std.specs.Str.{bytes_eq}
+use Rattle.std.proofs.lemmas.List.{take_all, take_at, drop_at, drop-drop}
+use Rattle.std.proofs.lemmas.Option.{get_or_from_slice_get, slice_get_within}
+use borrow.Rule.Slice.PartMut.{put_mid}
+use Rattle.dump_io.specs.Dumps.{Now, closed, told, sized, IsOpen, size_of}
+use Rattle.dump_io.specs.Lines.{Header, headers}
+use Rattle.section_index.specs.Bodies.{section_at}
+use Rattle.section_index.specs.Index.{Contents, AreBounded, IsIndexOf, IsBuiltOver, sections_in}
+use Rattle.section_index.specs.Sections.{Section, section, sections, sections_of, next_at, tag_of}
+use Rattle.section_index.specs.Tiling.{Tile}
+use Rattle.section_index.specs.declared.opening.Version.TheVariants.{V05}
+use Rattle.term_forms.specs.declared.enc.Enc.{Enc}
+use Rattle.dump_redact.specs.declared.parts.Part.{Part}
+use Rattle.dump_redact.specs.declared.parts.Part.TheVariants.{Heap, Binary, Other}
+use Rattle.dump_redact.specs.Bodies.{redacted_body}
+use Rattle.dump_redact.specs.Laws.{IsRedacted}
+use Rattle.dump_redact.specs.Redacted.{redacted, enc_of, version_of, part_of}
+use Rattle.dump_redact.specs.Refusals.{is_heap}
+use Rattle.dump_redact.specs.Inner.Places.{offset_of, text_between, text_of_section, redacted_between}
+use Rattle.dump_redact.proofs.Heads.{keeps-length}
+use Rattle.dump_redact.proofs.Judging.{place-at}
+use Rattle.dump_redact.proofs.Pieces.{length-part}
+use Rattle.dump_redact.proofs.Sections.{redacts-sections, keeps-others}
+use Rattle.dump_redact.proofs.Stretches.{between-join}
+
+-- what is open has the size of the index that was built over it
+pub built-size : (now : Now) (index : Contents) → IsBuiltOver now index → IsOpen now × (index.size ≡ size_of now)
+built-size closed index over = absurd over
+built-size (told dump) index over = (tt, over.size)
+built-size (sized size) index over = (tt, over)
+
+-- the index of a dump that is told
+pub built-told : (now : Now) (index : Contents) (dump : List ℕ) → IsBuiltOver now index → now ≡ told dump → IsIndexOf dump index
+built-told now index dump over is = subst (λ n. IsBuiltOver n index) is over
+
+pub index-sections : (dump : List ℕ) (index : Contents) → IsIndexOf dump index → sections_in index ≡ sections dump
+index-sections dump index of = ap (λ hs. sections_of hs index.size) of.headers ∙ ap (sections_of (headers dump)) of.size
+
+pub index-enc : (dump : List ℕ) (index : Contents) → IsIndexOf dump index → enc_of (version_of dump) ≡ enc_of index.version
+index-enc dump index of = ap (λ o. enc_of (unwrap_or o V05)) of.version
+
+All-at : {X : Type 0} (P : X → Type 0) (xs : List X) (i : ℕ) (x : X) → All P xs → slice_get xs i ≡ Some x → P x
+All-at P xs i x all is = subst P (get_or_from_slice_get xs i x x is) (all i x (slice_get_within xs i x is))
+
+-- the section at a place is redacted by itself
+pub section-redacted : (dump : List ℕ) (index : Contents) (i : ℕ) (s : Section) → IsIndexOf dump index → slice_get (sections_in index) i ≡ Some s
+    → IsRedacted (enc_of index.version) dump (redacted dump) s
+section-redacted dump index i s of is =
+    subst (λ enc. IsRedacted enc dump (redacted dump) s) (index-enc dump index of)
+    (All-at (IsRedacted (enc_of (version_of dump)) dump (redacted dump)) (sections dump) i s (redacts-sections dump)
+    (ap (λ l. slice_get l i) (sym (index-sections dump index of)) ∙ is))
+
+-- ---- offsets
+
+tile-within : (from size : ℕ) (ss : List Section) → Tile from size ss → from ≤ size
+tile-within from size [] tile = omega (arith, tile)
+tile-within from size (s ∷ ss) tile = omega (arith, tile.0, tile.1, tile.2, tile-within s.end size ss tile.3)
+
+-- an index that has a header has a byte
+pub size-some : (heads : List Header) (size : ℕ) → 1 ≤ length heads → Tile 0 size (sections_of heads size) → 0 < size
+size-some [] size some tile = absurd (omega (arith, some))
+size-some (header ∷ heads) size some tile =
+    omega (arith, tile.1, tile.2, tile-within (next_at (slice_get heads 0) size) size (sections_of heads size) tile.3)
+
+rise : (heads : List Header) (size from i j : ℕ) → Tile from size (sections_of heads size) → i ≤ j → j ≤ length heads
+    → next_at (slice_get heads i) size ≤ next_at (slice_get heads j) size
+rise [] size from i j tile le within = omega arith
+rise (header ∷ heads) size from zero zero tile le within = omega arith
+rise (header ∷ heads) size from zero (suc j) tile le within =
+    omega (arith, tile.1, tile.2, rise heads size (next_at (slice_get heads 0) size) zero j tile.3 (omega arith) (omega (arith, within)))
+rise (header ∷ heads) size from (suc i) zero tile le within = absurd (omega (arith, le))
+rise (header ∷ heads) size from (suc i) (suc j) tile le within =
+    rise heads size (next_at (slice_get heads 0) size) i j tile.3 (omega (arith, le)) (omega (arith, within))
+
+first-offset : (heads : List Header) (size : ℕ) → Tile 0 size (sections_of heads size) → next_at (slice_get heads 0) size ≡ 0
+first-offset [] size tile = sym tile
+first-offset (header ∷ heads) size tile = tile.0
+
+last-offset : (heads : List Header) (size : ℕ) → next_at (slice_get heads (length heads)) size ≡ size
+last-offset [] size = refl
+last-offset (header ∷ heads) size = last-offset heads size
+
+offsets : (heads : List Header) (size i : ℕ) (s : Section) → slice_get (sections_of heads size) i ≡ Some s
+    → (s.at ≡ next_at (slice_get heads i) size) × (s.end ≡ next_at (slice_get heads (i + 1)) size)
+offsets [] size i s is = cc
+offsets (header ∷ heads) size zero s is =
+    let same : section header.at header.body (next_at (slice_get heads 0) size) header.text ≡ s = cc in
+    (ap (λ (x : Section). x.at) (sym same), ap (λ (x : Section). x.end) (sym same))
+offsets (header ∷ heads) size (suc i) s is =
+    let next : suc (i + 1) ≡ suc i + 1 = omega arith in
+    let rest = offsets heads size i s is in
+    (rest.0, rest.1 ∙ ap (λ n. next_at (slice_get (header ∷ heads) n) size) next)
+
+ordered : (heads : List Header) (size from i : ℕ) (s : Section) → Tile from size (sections_of heads size) → slice_get (sections_of heads size) i ≡ Some s
+    → (s.at < s.body) × (s.body ≤ s.end)
+ordered [] size from i s tile is = cc
+ordered (header ∷ heads) size from zero s tile is =
+    let same : section header.at header.body (next_at (slice_get heads 0) size) header.text ≡ s = cc in
+    subst (λ (x : Section). (x.at < x.body) × (x.body ≤ x.end)) same (tile.1, tile.2)
+ordered (header ∷ heads) size from (suc i) s tile is = ordered heads size (next_at (slice_get heads 0) size) i s tile.3 is
+
+count-sections : (heads : List Header) (size : ℕ) → length (sections_of heads size) ≡ length heads
+count-sections [] size = refl
+count-sections (header ∷ heads) size = ap suc (count-sections heads size)
+
+-- the section at a place is one of the list
+pub place-in : (index : Contents) (i : ℕ) → i < length index.headers → slice_get (sections_in index) i ≡ Some (section_at index i)
+place-in index i inside = place-at index i (omega (arith, inside, count-sections index.headers index.size))
+
+-- where it begins, and where it ends
+pub at-offset : (index : Contents) (i : ℕ) → i < length index.headers → (section_at index i).at ≡ offset_of index i
+at-offset index i inside = (offsets index.headers index.size i (section_at index i) (place-in index i inside)).0
+
+pub end-offset : (index : Contents) (i : ℕ) → i < length index.headers → (section_at index i).end ≡ offset_of index (i + 1)
+end-offset index i inside = (offsets index.headers index.size i (section_at index i) (place-in index i inside)).1
+
+-- offsets rise from place to place
+module _ (index : Contents) (bounded : AreBounded index) where
+  pub offset-start : offset_of index 0 ≡ 0
+  offset-start = first-offset index.headers index.size bounded.tiled
+
+  pub offset-end : (i : ℕ) → i ≡ length index.headers → offset_of index i ≡ index.size
+  offset-end i is = ap (offset_of index) is ∙ last-offset index.headers index.size
+
+  pub offset-rise : (i j : ℕ) → i ≤ j → j ≤ length index.headers → offset_of index i ≤ offset_of index j
+  offset-rise i j le within = rise index.headers index.size 0 i j bounded.tiled le within
+
+  pub offset-within : (i : ℕ) → i ≤ length index.headers → offset_of index i ≤ index.size
+  offset-within i within = omega (arith, offset-rise i (length index.headers) within (omega arith), offset-end (length index.headers) refl)
+
+  pub is-ordered : (i : ℕ) → i < length index.headers → ((section_at index i).at < (section_at index i).body) × ((section_at index i).body ≤ (section_at index i).end)
+  is-ordered i inside = ordered index.headers index.size 0 i (section_at index i) bounded.tiled (place-in index i inside)
+
+  pub offset-next : (i : ℕ) → i < length index.headers → offset_of index i < offset_of index (i + 1)
+  offset-next i inside = omega (arith, at-offset index i inside, end-offset index i inside, (is-ordered i inside).0, (is-ordered i inside).1)
+
+  pub offset-less : (i j : ℕ) → i < j → j ≤ length index.headers → offset_of index i < offset_of index j
+  offset-less i j less within = omega (arith, offset-next i (omega (arith, less, within)), offset-rise (i + 1) j (omega (arith, less)) within)
+
+-- what a dump has of a section, with its body redacted, is what the redacted dump has there
+pub section-text : (index : Contents) (i : ℕ) → i < length index.headers → (section_at index i).at < (section_at index i).body → (section_at index i).body ≤ (section_at index i).end
+    → (part : Part) → part_of (tag_of (section_at index i).text) ≡ part → (dump : List ℕ) → IsIndexOf dump index
+    → text_of_section (enc_of index.version) part (section_at index i) dump ≡ text_between index i (i + 1) (redacted dump)
+section-text index i inside line body part named dump of =
+    let s = section_at index i in
+    let own = section-redacted dump index i s of (place-in index i inside) in
+    ap (λ p. text_of_section (enc_of index.version) p s dump) (sym named)
+    ∙ ap₂ (λ l m. l ++ m) (sym own.line) (sym own.body)
+    ∙ between-join (redacted dump) s.at s.body s.end (omega (arith, line)) body
+    ∙ ap₂ (λ a e. between a e (redacted dump)) (at-offset index i inside) (end-offset index i inside)
+
+-- and a body without payloads is copied with what stands before it
+pub other-text : (enc : Enc) (s : Section) (dump : List ℕ) → s.at < s.body → s.body ≤ s.end → between s.at s.end dump ≡ text_of_section enc Other s dump
+other-text enc s dump line body =
+    sym (between-join dump s.at s.body s.end (omega (arith, line)) body) ∙ ap (λ l. between s.at s.body dump ++ l) (sym (keeps-others enc (between s.body s.end dump)))
+
+-- a header that begins a heap is one of a section that is loaded
+pub heap-part : (s : Section) → part_of (tag_of s.text) ≡ Heap → is_heap s ≡ true
+heap-part s is = by (is_heap s) (bytes_eq (tag_of s.text) (codes "binary")) refl refl
+  where
+    by : (a b : Bool) → is_heap s ≡ a → bytes_eq (tag_of s.text) (codes "binary") ≡ b → is_heap s ≡ true
+    by true b h e = h
+    by false true h e = absurd (let no : ⊥ = cc (is, ap₂ (λ x y. if x then Heap else (if y then Binary else Other)) h e) in no)
+    by false false h e = absurd (let no : ⊥ = cc (is, ap₂ (λ x y. if x then Heap else (if y then Binary else Other)) h e) in no)
+
+-- from the first section up to the last one is the whole dump
+pub whole-text : (index : Contents) → AreBounded index → (dump : List ℕ) → IsIndexOf dump index → between (offset_of index 0) index.size (redacted dump) ≡ redacted dump
+whole-text index bounded dump of =
+    let all : index.size - 0 ≡ index.size = omega arith in
+    ap (λ n. between n index.size (redacted dump)) (offset-start index bounded) ∙ ap (λ n. take n (redacted dump)) all ∙ take_all index.size (redacted dump) (omega (arith, keeps-length dump, of.size))
+
+-- ---- a piece of several sections
+
+-- a part of a piece is written anew as a redacted body
+pub redacted-part : (enc : Enc) (part : Part) (low high : ℕ) (piece new : List ℕ) → low ≤ high → new ≡ redacted_body enc part (take (high - low) (drop low piece))
+    → put_mid low (high - low) piece new ≡ redacted_between enc part low high piece
+redacted-part enc part low high piece new le is =
+    let ends : low + (high - low) ≡ high = omega (arith, le) in
+    ap (λ l. take low piece ++ (l ++ drop (high - low) (drop low piece))) is
+    ∙ ap (λ l. take low piece ++ (redacted_body enc part (between low high piece) ++ l)) (drop-drop (high - low) low piece ∙ ap (λ n. drop n piece) ends)
+
+-- a piece with what is redacted up to an offset `a`, and as it was from there on: one more part of it is redacted, from `b` to `e`
+redact-more : (enc : Enc) (part : Part) (from a b e upto : ℕ) (dump new piece : List ℕ) → length new ≡ length dump → from ≤ a → a ≤ b → b ≤ e → e ≤ upto → upto ≤ length dump
+    → between a b new ≡ between a b dump → between b e new ≡ redacted_body enc part (between b e dump)
+    → piece ≡ between from a new ++ between a upto dump
+    → redacted_between enc part (b - from) (e - from) piece ≡ between from e new ++ between e upto dump
+redact-more enc part from a b e upto dump new piece same low line some high within stays redacts is =
+    let front = between from b new in
+    let body = between b e dump in
+    let rest = between e upto dump in
+    let parts : piece ≡ front ++ (body ++ rest) =
+    is
+    ∙ ap (λ l. between from a new ++ l) (sym (between-join dump a b upto line (omega (arith, some, high))) ∙ ap (λ l. l ++ between b upto dump) (sym stays))
+    ∙ sym (append_assoc (between from a new) (between a b new) (between b upto dump))
+    ∙ ap (λ l. l ++ between b upto dump) (between-join new from a b low line)
+    ∙ ap (λ l. front ++ l) (sym (between-join dump b e upto some high)) in
+    let long : length front ≡ b - from = length-part new from b (omega (arith, same, some, high, within)) in
+    let size : length body ≡ e - b = length-part dump b e (omega (arith, high, within)) in
+    let count : e - from - (b - from) ≡ e - b = omega (arith, low, line) in
+    let ends : b - from + (e - b) ≡ e - from = omega (arith, low, line, some) in
+    let behind : drop (b - from) piece ≡ body ++ rest = ap (drop (b - from)) parts ∙ drop_at front (body ++ rest) (b - from) long in
+    let before : take (b - from) piece ≡ front = ap (take (b - from)) parts ∙ take_at front (body ++ rest) (b - from) long in
+    let middle : between (b - from) (e - from) piece ≡ body = ap (λ n. take n (drop (b - from) piece)) count ∙ ap (take (e - b)) behind ∙ take_at body rest (e - b) size in
+    let after : drop (e - from) piece ≡ rest =
+    ap (λ n. drop n piece) (sym ends) ∙ sym (drop-drop (e - b) (b - from) piece) ∙ ap (drop (e - b)) behind ∙ drop_at body rest (e - b) size in
+    ap₂ (λ l m. l ++ m) before (ap₂ (λ l m. redacted_body enc part l ++ m) middle after)
+    ∙ ap (λ l. front ++ (l ++ rest)) (sym redacts)
+    ∙ sym (append_assoc front (between b e new) rest)
+    ∙ ap (λ l. l ++ rest) (between-join new from b e (omega (arith, low, line)) some)
+
+-- a piece of the sections from `i` up to `next`, of which those up to `k` are redacted
+abbrev pub redacted_upto : Contents → ℕ → ℕ → ℕ → List ℕ → List ℕ
+redacted_upto index i k next dump = text_between index i k (redacted dump) ++ text_between index k next dump
+
+-- with one more of them redacted
+pub one-more-section : (index : Contents) → AreBounded index → (i k next : ℕ) → i ≤ k → k < next → next ≤ length index.headers → (dump piece : List ℕ) → IsIndexOf dump index
+    → piece ≡ redacted_upto index i k next dump
+    → redacted_between (enc_of index.version) (part_of (tag_of (section_at index k).text)) ((section_at index k).body - offset_of index i) ((section_at index k).end - offset_of index i) piece
+    ≡ redacted_upto index i (k + 1) next dump
+one-more-section index bounded i k next low high within dump piece of is =
+    let s = section_at index k in
+    let inside : k < length index.headers = omega (arith, high, within) in
+    let own = section-redacted dump index k s of (place-in index k inside) in
+    let order = is-ordered index bounded k inside in
+    let at = at-offset index k inside in
+    let end = end-offset index k inside in
+    redact-more (enc_of index.version) (part_of (tag_of s.text)) (offset_of index i) s.at s.body s.end (offset_of index next) dump (redacted dump) piece
+    (keeps-length dump)
+    (omega (arith, at, offset-rise index bounded i k low (omega (arith, inside))))
+    (omega (arith, order.0)) order.1
+    (omega (arith, end, offset-rise index bounded (k + 1) next (omega (arith, high)) within))
+    (omega (arith, of.size, offset-within index bounded next within))
+    own.line own.body
+    (is ∙ ap (λ a. between (offset_of index i) a (redacted dump) ++ between a (offset_of index next) dump) (sym at))
+    ∙ ap (λ e. between (offset_of index i) e (redacted dump) ++ between e (offset_of index next) dump) end

@@ -1,0 +1,81 @@
+// Spans of sections are redacted in place.
+ghost use Rattle.std.specs.Prelude.{◌≡◌, ℕ, ◌+◌, ◌-◌, ◌<◌, ◌≤◌, ◌⊎◌, List, length};
+ghost use Rattle.section_index.specs.Bodies.{section_at};
+ghost use Rattle.section_index.specs.Index.{AreBounded, IsIndexOf};
+ghost use Rattle.section_index.specs.Sections.{tag_of};
+ghost use Rattle.dump_redact.specs.Redacted.{enc_of, part_of, redacted};
+ghost use Rattle.dump_redact.specs.Inner.Places.{offset_of, length_between, text_between, redacted_between};
+
+use crate::bodies::redact_body;
+use crate::parts::part_of;
+use section_index::{Index, Version};
+use term_forms::Enc;
+
+// How a version writes payloads.
+pub(crate) fn enc_of(version: Version) -> Enc
+    ensures { result ≡ enc_of version }
+{
+    match version {
+        Version::V03 | Version::V04 => Enc::Hex,
+        Version::V05 => Enc::Base64,
+    }
+}
+
+// The offset at which the section at a place begins, and past the last one the size of the dump.
+pub(crate) fn offset(index: &Index, i: usize) -> u64
+    requires { i ≤ length index.now.headers }
+    ensures value { result ≡ offset_of index.now i }
+    ensures bounded { AreBounded index.now }
+{
+    if i < index.len() {
+        index.section(i).at
+    } else {
+        index.size()
+    }
+}
+
+// The place behind the sections from a place on which together have at most so many bytes, and behind one at least.
+pub(crate) fn next_place(index: &Index, i: usize, most: usize) -> usize
+    requires { i < length index.now.headers }
+    ensures some { i < result }
+    ensures within { result ≤ length index.now.headers }
+    ensures fits { (result ≡ i + 1) ⊎ (length_between index.now i result ≤ most) }
+{
+    let upto = offset(index, i).saturating_add(most as u64);
+    let mut next = i + 1;
+    while next < index.len() && offset(index, next + 1) <= upto {
+        next += 1;
+    }
+    next
+}
+
+// Redacts the body of the section at a place in a piece that begins at an offset and has the section whole.
+fn redact_section(piece: &mut [u8], index: &Index, i: usize, from: u64)
+    requires place { i < length index.now.headers }
+    requires begins { from ≤ (section_at index.now i).at }
+    requires ends { (section_at index.now i).end ≤ from + length piece.old }
+    ensures { let section = section_at index.now i in
+        piece.new ≡ redacted_between (enc_of index.now.version) (part_of (tag_of section.text)) (section.body - from) (section.end - from) piece.old }
+{
+    let section = index.section(i);
+    let body = (section.body - from) as usize;
+    let end = (section.end - from) as usize;
+    redact_body(
+        &mut piece[body..end],
+        part_of(section.tag),
+        enc_of(index.version()),
+    );
+}
+
+// Redacts the sections from a place up to another, of which the piece has all bytes and no others.
+pub(crate) fn redact_sections(piece: &mut [u8], index: &Index, i: usize, next: usize)
+    requires some { i < next }
+    requires within { next ≤ length index.now.headers }
+    requires size { length piece.old ≡ length_between index.now i next }
+    ensures { (dump : List ℕ) → IsIndexOf dump index.now → piece.old ≡ text_between index.now i next dump → piece.new ≡ text_between index.now i next (redacted dump) }
+{
+    let from = offset(index, i);
+    for k in i..next {
+        redact_section(piece, index, k, from);
+    }
+}
