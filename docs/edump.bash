@@ -10,7 +10,7 @@ _edump_pids() {
 
 _edump() {
     local word=${COMP_WORDS[COMP_CWORD]} command=${COMP_WORDS[1]}
-    local commands="index info procs proc memory ets ports nodes mods stack dict mail term ext reach binary links redact audit audit-json make trial"
+    local commands="index info procs proc memory ets ports nodes mods stack dict mail term ext reach cells binary links redact audit audit-json make trial"
     COMPREPLY=()
     if [ "$COMP_CWORD" -eq 1 ]; then
         COMPREPLY=($(compgen -W "$commands" -- "$word"))
@@ -23,7 +23,7 @@ _edump() {
         return
     fi
     case $command in
-        proc | stack | dict | mail | term | ext | reach)
+        proc | stack | dict | mail | term | ext | reach | cells)
             if [ "$COMP_CWORD" -eq 3 ]; then
                 local IFS=$'\n'
                 COMPREPLY=($(_edump_pids "${COMP_WORDS[2]}" | grep -F -- "$word"))

@@ -8,7 +8,7 @@ use Rattle.root_views.specs.declared.kinds.RootKind.TheVariants as bodies
 use Rattle.table_sections.specs.declared.kinds.TableKind.{TableKind}
 use Rattle.table_sections.specs.declared.kinds.TableKind.TheVariants as kinds
 use Rattle.command_words.specs.declared.words.Cmd.{Cmd}
-use Rattle.command_words.specs.declared.words.Cmd.TheVariants.{Index, Info, Procs, Proc, Memory, Ets, Ports, Nodes, Mods, Stack, Dict, Mail, Term, Ext, Reach, Binary, Links, Redact, Audit, AuditJson, Make, Trial}
+use Rattle.command_words.specs.declared.words.Cmd.TheVariants.{Index, Info, Procs, Proc, Memory, Ets, Ports, Nodes, Mods, Stack, Dict, Mail, Term, Ext, Reach, Cells, Binary, Links, Redact, Audit, AuditJson, Make, Trial}
 use Rattle.command_words.specs.Budgets.{budget_of}
 use Rattle.command_words.specs.MadeWords.{seed_and_count}
 
@@ -29,6 +29,8 @@ pub data Command : Type 0 where
   ext : List ℕ → List ℕ → ℕ → Command
   -- what the roots of the process with this pid reach
   reach : List ℕ → List ℕ → Command
+  -- what lies on the heap of the process with this pid
+  cells : List ℕ → List ℕ → Command
   -- the binary with this address
   binary : List ℕ → ℕ → Command
   links : List ℕ → Command
@@ -60,6 +62,7 @@ shown (Mail file pid nodes marked) = roots bodies.Mail file.now pid.now nodes ma
 shown (Term file pid addr nodes marked) = term file.now pid.now addr nodes marked
 shown (Ext file pid addr) = ext file.now pid.now addr
 shown (Reach file pid) = reach file.now pid.now
+shown (Cells file pid) = cells file.now pid.now
 shown (Binary file addr) = binary file.now addr
 shown (Links file) = links file.now
 shown (Redact file) = redact file.now
@@ -130,10 +133,11 @@ abbrev pub word_command : List ℕ → List ℕ → List ℕ → Option Command
 word_command name file word =
     if bytes_eq name (codes "proc") then Some (proc file word)
     else (if bytes_eq name (codes "reach") then Some (reach file word)
+    else (if bytes_eq name (codes "cells") then Some (cells file word)
     else (if bytes_eq name (codes "binary") then option_map (binary file) (hex_number word)
     else (if bytes_eq name (codes "make") then number_command name file word
     else (if bytes_eq name (codes "trial") then number_command name file word
-    else process_command name file word []))))
+    else process_command name file word [])))))
 
 -- the command of the words behind the program's name, or none
 abbrev pub command : List (List ℕ) → Option Command
@@ -155,6 +159,7 @@ file_of (roots kind file pid nodes marked) = Some file
 file_of (term file pid addr nodes marked) = Some file
 file_of (ext file pid addr) = Some file
 file_of (reach file pid) = Some file
+file_of (cells file pid) = Some file
 file_of (binary file addr) = Some file
 file_of (links file) = Some file
 file_of (redact file) = Some file

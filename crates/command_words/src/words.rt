@@ -91,6 +91,11 @@ pub enum Cmd<'a> {
         file: &'a str,
         pid: &'a str,
     },
+    /// `cells FILE PID`: what lies on a process's heap, each cell with its address, its kind and its size.
+    Cells {
+        file: &'a str,
+        pid: &'a str,
+    },
     /// `binary FILE ADDR`: the bytes of a binary.
     Binary {
         file: &'a str,
@@ -174,6 +179,7 @@ fn word_command<'a>(name: &str, file: &'a str, word: &'a str) -> Option<Cmd<'a>>
     match name {
         "proc" => Some(Cmd::Proc { file, pid: word }),
         "reach" => Some(Cmd::Reach { file, pid: word }),
+        "cells" => Some(Cmd::Cells { file, pid: word }),
         "binary" => binary_command(file, word),
         "make" => number_command(name, file, word),
         "trial" => number_command(name, file, word),

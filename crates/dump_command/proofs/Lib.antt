@@ -1,5 +1,6 @@
 pub mod Audits
 pub mod BinaryLoads
+pub mod CellLoads
 pub mod Endings
 pub mod Externals
 pub mod FoundLoads

@@ -30,9 +30,9 @@ use Rattle.dump_redact.specs.Redacted.{redacted}
 use Rattle.dump_redact.specs.Refusals.{heap_sections}
 use Rattle.audit_bodies.specs.Mailboxes.{audited_sections}
 use Rattle.dump_command.specs.Audits.{audit_in, status_of}
-use Rattle.command_words.specs.Command.{Command, index, info, procs, proc, memory, table, roots, term, ext, reach, binary, links, redact, audit, audit_json, make, trial, file_of}
+use Rattle.command_words.specs.Command.{Command, index, info, procs, proc, memory, table, roots, term, ext, reach, cells, binary, links, redact, audit, audit_json, make, trial, file_of}
 use Rattle.heap_cells.specs.Loading.{body_in}
-use Rattle.dump_command.specs.Terms.{base_of, binary_at, binary_cause, bad_binary, binary_count, binary_of, ext_of, heap_map, heap_of, literals_of, no_address, no_external, reach_of, roots_of, roots_section, term_of, too_dense}
+use Rattle.dump_command.specs.Terms.{base_of, binary_at, binary_cause, bad_binary, binary_count, binary_of, ext_of, heap_listing, heap_map, heap_of, literals_of, no_address, no_external, reach_of, roots_of, roots_section, term_of, too_dense}
 
 -- the first of these sections
 abbrev pub first_section : List Section → Section
@@ -71,6 +71,7 @@ bodies (roots kind file pid nodes marked) sections = one_of (roots_section kind 
 bodies (term file pid addr nodes marked) sections = heap_bodies pid sections
 bodies (ext file pid addr) sections = heap_bodies pid sections
 bodies (reach file pid) sections = root_bodies pid sections ++ heap_bodies pid sections
+bodies (cells file pid) sections = heap_bodies pid sections
 bodies (binary file addr) sections = one_of (binary_at addr sections)
 bodies (links file) sections = record_sections sections
 bodies (redact file) sections = heap_sections sections
@@ -105,6 +106,7 @@ report (roots kind file pid nodes marked) bytes = roots_of kind pid nodes marked
 report (term file pid addr nodes marked) bytes = term_of pid addr nodes marked bytes
 report (ext file pid addr) bytes = ext_of pid addr bytes
 report (reach file pid) bytes = reach_of pid bytes
+report (cells file pid) bytes = heap_listing pid bytes
 report (binary file addr) bytes = binary_of addr bytes
 report (links file) bytes = links_report (process_table bytes).processes
 report (redact file) bytes = redacted bytes
@@ -136,6 +138,7 @@ no_subject (roots kind file pid nodes marked) sections = no_process pid sections
 no_subject (term file pid addr nodes marked) sections = no_process pid sections
 no_subject (ext file pid addr) sections = no_process pid sections
 no_subject (reach file pid) sections = no_process pid sections
+no_subject (cells file pid) sections = no_process pid sections
 no_subject (binary file addr) sections = binary_cause addr (binary_at addr sections)
 no_subject cmd sections = None
 
@@ -154,6 +157,7 @@ refusal_held (roots kind file pid nodes marked) bytes limits = too_dense limits.
 refusal_held (term file pid addr nodes marked) bytes limits = option_or (too_dense limits.dense pid bytes) (no_address addr pid bytes)
 refusal_held (ext file pid addr) bytes limits = option_or (too_dense limits.dense pid bytes) (no_external addr (heap_map pid bytes))
 refusal_held (reach file pid) bytes limits = too_dense limits.dense pid bytes
+refusal_held (cells file pid) bytes limits = too_dense limits.dense pid bytes
 refusal_held (binary file addr) bytes limits = bad_binary addr bytes
 refusal_held cmd bytes limits = None
 

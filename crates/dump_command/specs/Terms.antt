@@ -20,6 +20,7 @@ use Rattle.report_text.specs.declared.refusals.Refusal.{Refusal}
 use Rattle.report_text.specs.declared.refusals.Refusal.TheVariants.{TooDense, NoAddress, NotExt, BadExt, NoBinary, BadBinary}
 use Rattle.root_views.specs.declared.kinds.RootKind.{RootKind}
 use Rattle.root_views.specs.declared.kinds.RootKind.TheVariants.{Stack, Dict, Mail}
+use Rattle.report_text.specs.Cells.{cells_report}
 use Rattle.report_text.specs.Reach.{reach_report, terms_of}
 use Rattle.root_views.specs.Kinds.{roots_in, roots_tag}
 use Rattle.report_text.specs.Roots.{answer_over, binary_report, ext_report, roots_report, term_report}
@@ -153,6 +154,10 @@ reached pid bytes = reached_by (heap_map pid bytes).cells (root_terms pid bytes)
 -- the report of what the roots of a process reach
 abbrev pub reach_of : List ℕ → List ℕ → List ℕ
 reach_of pid bytes = reach_report (heap_map pid bytes) (reached pid bytes)
+
+-- the report of what lies on the heap of a process
+abbrev pub heap_listing : List ℕ → List ℕ → List ℕ
+heap_listing pid bytes = cells_report (heap_map pid bytes)
 
 -- how many references to binaries the heap of a process has
 abbrev pub binary_count : List ℕ → List ℕ → ℕ

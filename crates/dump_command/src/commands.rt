@@ -8,6 +8,7 @@ ghost use Rattle.dump_command.specs.Inner.Runs.{Runs};
 mod audit;
 mod audit_json;
 mod binary;
+mod cells;
 mod ext;
 mod index;
 mod info;
@@ -29,6 +30,7 @@ use crate::stop::Stop;
 use audit::Audit;
 use audit_json::AuditJson;
 use binary::Binary;
+use cells::Cells;
 use command_words::Cmd;
 use dump_io::{Dumps, Limits, Sink};
 use ext::Ext;
@@ -142,6 +144,10 @@ pub(crate) fn run_command<D: Dumps, K: Sink>(
         Cmd::Reach { file, pid } => {
             let pid = pid.as_bytes();
             run_report(alloc, &Reach { file, pid }, limits, dumps, out)
+        }
+        Cmd::Cells { file, pid } => {
+            let pid = pid.as_bytes();
+            run_report(alloc, &Cells { file, pid }, limits, dumps, out)
         }
         Cmd::Binary { file, addr } => {
             let addr = *addr;

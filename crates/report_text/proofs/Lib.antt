@@ -1,3 +1,4 @@
+pub mod CellFacts
 pub mod FindingFacts
 pub mod LinkFacts
 pub mod TableFacts

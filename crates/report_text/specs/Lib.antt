@@ -1,4 +1,6 @@
+pub mod Cells
 pub mod Findings
+pub mod Inner
 pub mod Links
 pub mod Reach
 pub mod Refusals

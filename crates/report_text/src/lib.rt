@@ -11,6 +11,7 @@
 
 mod audit_report;
 mod binary_report;
+mod cell_report;
 mod ext_report;
 mod field_report;
 mod index_report;
@@ -24,6 +25,7 @@ mod table_report;
 
 pub use audit_report::put_findings;
 pub use binary_report::put_binary;
+pub use cell_report::put_cells;
 pub use ext_report::put_ext;
 pub use field_report::put_fields;
 pub use index_report::put_index;

@@ -1,0 +1,11 @@
+use Rattle.dump_command.proofs.CellLoads.{reads-cells}
+use Rattle.dump_command.proofs.Reading.{ReadsAtMost-same}
+use Rattle.dump_command.proofs.commands.cells.CellsReport.read.Goals as goal
+
+pub returns-clause-reads : goal.returns-clause-reads
+returns-clause-reads g c =
+    let d = g.D.Dumps in
+    let t = c.args.self.now in
+    let read = c.load_heap.ensures in
+    reads-cells t.file.now t.pid.now _ c.args.at.now.index.now _ _ read.reads
+    (λ some. ReadsAtMost-same d.files d.now d.faults d.taken _ _ _ read.reads (read.unread some)) read.heap
