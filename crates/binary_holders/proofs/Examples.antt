@@ -1,0 +1,37 @@
+-- The definitions at worked examples, which the checker computes.
+use Rattle.std.proofs.Common.{◌≡◌, [], ◌∷◌, map, refl}
+use Rattle.std.specs.Prelude.{codes}
+use Rattle.section_index.specs.Sections.{sections}
+use Rattle.term_forms.specs.Words.{led_of}
+use Rattle.binary_holders.specs.declared.rows.BinaryRow.{BinaryRow}
+use Rattle.binary_holders.specs.Held.{holders_of, holdings}
+use Rattle.binary_holders.specs.Sorting.{most_first}
+use Rattle.binary_holders.specs.StoredBinaries.{size_stated, stored}
+
+-- of the sections with one number the first is stored, and one without a number isn't
+stored_sections : map (λ b. b.section.at) (stored (sections (codes "=erl_crash_dump:0.5\n=binary:a0\n=binary:x\n=binary:00A0\n=binary\n=proc_heap:1\n=binary:1\n"))) ≡ 20 ∷ 75 ∷ []
+stored_sections = refl
+
+-- a size is a number of 1 to 16 hex digits in front of the first colon
+sizes : map size_stated (codes "5:aGVsbG8=\n" ∷ codes "fF:" ∷ codes "0000000000000010:" ∷ codes "00000000000000010:" ∷ codes ":5" ∷ codes "5" ∷ codes "5\n6:" ∷ [] ∷ [])
+    ≡ 5 ∷ 255 ∷ 16 ∷ 0 ∷ 0 ∷ 0 ∷ 0 ∷ 0 ∷ []
+unfolding led_of
+sizes = refl
+
+-- the second of three processes holds a binary of 5 bytes, by one cell
+one_holder : holdings (record { number = 1280; size = 5 } ∷ []) ([] ∷ (1280 ∷ 7 ∷ []) ∷ (7 ∷ []) ∷ []) ≡ record { process = 1; bytes = 5; count = 1; cells = 1 } ∷ []
+one_holder = refl
+
+-- a binary counts once for a process, whatever many cells refer to it, and a sum ends at 2^64 - 1
+counted_once : holdings (record { number = 1; size = 18446744073709551615 } ∷ record { number = 2; size = 3 } ∷ []) ((2 ∷ 2 ∷ []) ∷ (1 ∷ 2 ∷ []) ∷ [])
+    ≡ record { process = 0; bytes = 3; count = 1; cells = 2 } ∷ record { process = 1; bytes = 18446744073709551615; count = 2; cells = 2 } ∷ []
+counted_once = refl
+
+-- so many heaps hold a binary
+holder_count : map (holders_of ((2 ∷ 2 ∷ []) ∷ (1 ∷ 2 ∷ []) ∷ [])) (1 ∷ 2 ∷ 3 ∷ []) ≡ 1 ∷ 2 ∷ 0 ∷ []
+holder_count = refl
+
+-- the largest stands first, and of equal ones the first
+in_order : most_first (λ (row : BinaryRow). row.size) (record { size = 1; holders = 0; number = 1; at = 1 } ∷ record { size = 2; holders = 0; number = 2; at = 2 } ∷ record { size = 2; holders = 0; number = 3; at = 3 } ∷ [])
+    ≡ record { size = 2; holders = 0; number = 2; at = 2 } ∷ record { size = 2; holders = 0; number = 3; at = 3 } ∷ record { size = 1; holders = 0; number = 1; at = 1 } ∷ []
+in_order = refl

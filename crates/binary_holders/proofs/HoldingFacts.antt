@@ -1,0 +1,52 @@
+-- What processes hold, one heap after another.
+use Rattle.std.proofs.Common.{◌≡◌, ℕ, ◌+◌, ◌-◌, ◌^◌, ◌<◌, ◌≤◌, Bool, List, [], ◌∷◌, ◌++◌, length, map, filter, drop, Option, None, Some, if◌then◌else◌, sym, ◌∙◌, ap, arith}
+use Rattle.std.specs.Prelude.{nat_lt}
+use Rattle.std.specs.List.{between, enumerate_from}
+use Rattle.std.proofs.lemmas.List.{map_push, length-take, length-drop}
+use Rattle.std.proofs.lemmas.List.Elements.{filter-append}
+use Rattle.section_index.specs.Bodies.{section_at}
+use Rattle.section_index.specs.Index.{Contents}
+use Rattle.heap_cells.specs.Loading.{enc_of}
+use Rattle.binary_holders.specs.declared.rows.Holding.{Holding}
+use Rattle.binary_holders.specs.declared.sought.Binary.{Binary}
+use Rattle.binary_holders.specs.declared.tally.Tally.{Tally}
+use Rattle.binary_holders.specs.Held.{holding_of, holdings}
+use Rattle.binary_holders.specs.Inner.Places.{references_at}
+use Rattle.binary_holders.specs.Inner.Tallies.{counted, HasHeard}
+use Rattle.binary_holders.proofs.Scans.{few-references}
+use Rattle.binary_holders.proofs.TallyFacts.{held-is}
+
+enumerate-push : {X : Type 0} (n : ℕ) (xs : List X) (x : X) → enumerate_from n (xs ++ x ∷ []) ≡ enumerate_from n xs ++ (n + length xs, x) ∷ []
+enumerate-push n [] x = let here : n ≡ n + 0 = omega arith in ap (λ m. (m, x) ∷ []) here
+enumerate-push n (y ∷ xs) x =
+    let there : n + 1 + length xs ≡ n + length (y ∷ xs) = omega arith in
+    ap (λ l. (n, y) ∷ l) (enumerate-push (n + 1) xs x ∙ ap (λ m. enumerate_from (n + 1) xs ++ (m, x) ∷ []) there)
+
+abbrev has_some : Holding → Bool
+has_some holding = nat_lt 0 holding.count
+
+holdings-push : (binaries : List Binary) (heaps : List (List ℕ)) (refs : List ℕ)
+    → holdings binaries (heaps ++ refs ∷ [])
+    ≡ holdings binaries heaps ++ (if nat_lt 0 (holding_of binaries (length heaps, refs)).count then holding_of binaries (length heaps, refs) ∷ [] else [])
+holdings-push binaries heaps refs =
+    let zero_more : 0 + length heaps ≡ length heaps = omega arith in
+    ap (λ l. filter has_some (map (holding_of binaries) l)) (enumerate-push 0 heaps refs ∙ ap (λ m. enumerate_from 0 heaps ++ (m, refs) ∷ []) zero_more)
+    ∙ ap (filter has_some) (map_push (holding_of binaries) (enumerate_from 0 heaps) (length heaps, refs))
+    ∙ filter-append has_some (map (holding_of binaries) (enumerate_from 0 heaps)) (holding_of binaries (length heaps, refs) ∷ [])
+
+-- one process more
+pub held-more : (binaries : List Binary) (heaps : List (List ℕ)) (refs : List ℕ) (held : List Holding) (tally : Tally) (process : ℕ) → held ≡ holdings binaries heaps → process ≡ length heaps
+    → HasHeard binaries heaps refs tally → length refs < 2 ^ 64
+    → held ++ (if nat_lt 0 tally.count then counted process tally ∷ [] else []) ≡ holdings binaries (heaps ++ refs ∷ [])
+held-more binaries heaps refs held tally process so_far place heard few =
+    let is : counted process tally ≡ holding_of binaries (length heaps, refs) = held-is binaries heaps refs tally process heard few ∙ ap (λ n. holding_of binaries (n, refs)) place in
+    ap (λ l. l ++ (if nat_lt 0 tally.count then counted process tally ∷ [] else [])) so_far
+    ∙ ap (λ (h : Holding). holdings binaries heaps ++ (if nat_lt 0 h.count then h ∷ [] else [])) is
+    ∙ sym (holdings-push binaries heaps refs)
+
+-- a heap refers to no more binaries than the dump has bytes
+pub few-at : (dump : List ℕ) (index : Contents) (place : Option ℕ) → length (references_at dump index place) ≤ length dump
+few-at dump index None = omega (arith, few-references (enc_of index.version) [])
+few-at dump index (Some i) =
+    let s = section_at index i in
+    omega (arith, few-references (enc_of index.version) (between s.body s.end dump), length-take (s.end - s.body) (drop s.body dump), length-drop s.body dump)

@@ -1,0 +1,11 @@
+mod Examples
+mod HeapFacts
+mod HoldingFacts
+mod LineFacts
+mod MarkFacts
+mod Scans
+mod SortFacts
+mod StoredFacts
+mod SumFacts
+mod TallyFacts
+mod UsingFacts

@@ -1,0 +1,235 @@
+-- A line that refers to a binary has a mark behind its address, and is short.
+use Rattle.std.proofs.Common.{◌≡◌, ℕ, zero, suc, ◌+◌, ◌-◌, ◌<◌, ◌≤◌, ◌↔◌, Bool, true, false, List, [], ◌∷◌, ◌++◌, length, take, drop, Option, None, Some, if◌then◌else◌, refl, sym, ◌∙◌, ap, subst, arith, append_assoc, length-append}
+use Rattle.std.specs.Prelude.{codes, nat_eq, slice_index}
+use Rattle.std.specs.List.{concat, ends_with, filter_map, between}
+use Rattle.std.specs.Option.{option_and_then, option_to_list}
+use Rattle.std.proofs.lemmas.Bool.{and_parts, leb-true}
+use Rattle.std.proofs.lemmas.List.{take_all, get_or-take, get_or_append_left, get_or-append-add, take-append-drop, length-take-le, length-take, drop-drop, drop-take}
+use Rattle.std.proofs.lemmas.Option.{cond_some}
+use Rattle.memchr.specs.Find.{OccursAt, Nowhere}
+use Rattle.dump_io.specs.Laws.Lines.{AreLines-raw}
+use Rattle.dump_io.specs.Laws.Reads.{take-two}
+use Rattle.dump_io.specs.Lines.{lf, cr, raw_lines, text_of}
+use Rattle.dump_io.specs.Numbers.{hex_number}
+use Rattle.term_forms.specs.declared.enc.Enc.{Enc}
+use Rattle.term_forms.specs.Forms.{HeapForm, Cons, Tuple, Float, Long, Pid, Port, Ext, HeapBin, RefBin, SubBin, Flat, Hash, Node, IsForm, IsRange}
+use Rattle.term_forms.specs.ReadingForms.{form_of}
+use Rattle.term_forms.specs.Words.{colon, led_of, IsLed}
+use Rattle.binary_holders.specs.HeapReferences.{referred}
+use Rattle.binary_holders.specs.Inner.Lines.{text_reference, line_reference, line_references, HasNoLf, AreWhole}
+use Rattle.binary_holders.proofs.LineFacts.{join, lines-first, lines-join, references-whole, one-more}
+
+-- ---- what the laws of the grammar say
+
+abbrev pub AreLed : Type 0
+AreLed = (text : List ℕ) (n : ℕ) (rest : List ℕ) → (led_of text ≡ Some (n, rest)) ↔ IsLed text n rest
+
+abbrev pub AreForms : Enc → Type 0
+AreForms enc = (text : List ℕ) (f : HeapForm) → (form_of enc text ≡ Some f) ↔ IsForm enc text f
+
+abbrev pub mark : List ℕ
+mark = codes ":Yc"
+
+pub none-of : {X : Type 0} (o : Option X) → ((x : X) → o ≡ Some x → ⊥) → o ≡ None
+none-of None never = refl
+none-of (Some x) never = absurd (never x refl)
+
+-- a text that refers to a binary: its address in hex, the mark, and a range
+pub record Refers (text : List ℕ) : Type 0 where
+  pub hex : List ℕ
+  pub address : ℕ
+  pub is_hex : hex_number hex ≡ Some address
+  pub range : List ℕ
+  pub binary : ℕ
+  pub offset : ℕ
+  pub size : ℕ
+  pub is_range : IsRange range binary offset size
+  pub text_is : text ≡ hex ++ (mark ++ range)
+
+refers-form : (enc : Enc) → AreForms enc → (text hex rest : List ℕ) (address n : ℕ) (f : Option HeapForm) → hex_number hex ≡ Some address → text ≡ hex ++ colon ∷ rest
+    → form_of enc rest ≡ f → referred f ≡ Some n → Refers text
+refers-form enc forms text hex rest address n None is_hex is found refers = absurd (let no : ⊥ = cc (refers) in no)
+refers-form enc forms text hex rest address n (Some (RefBin binary offset size)) is_hex is found refers =
+    let spelled = (forms rest (RefBin binary offset size)).0 found in
+    record {
+      hex = hex;
+      address = address;
+      is_hex = is_hex;
+      range = spelled.0;
+      binary = binary;
+      offset = offset;
+      size = size;
+      is_range = spelled.2;
+      text_is = is ∙ ap (λ l. hex ++ colon ∷ l) spelled.1;
+    }
+refers-form enc forms text hex rest address n (Some (Cons head tail)) is_hex is found refers = absurd (let no : ⊥ = cc (refers) in no)
+refers-form enc forms text hex rest address n (Some (Tuple elements)) is_hex is found refers = absurd (let no : ⊥ = cc (refers) in no)
+refers-form enc forms text hex rest address n (Some (Float bytes)) is_hex is found refers = absurd (let no : ⊥ = cc (refers) in no)
+refers-form enc forms text hex rest address n (Some (Long number)) is_hex is found refers = absurd (let no : ⊥ = cc (refers) in no)
+refers-form enc forms text hex rest address n (Some (Pid pid)) is_hex is found refers = absurd (let no : ⊥ = cc (refers) in no)
+refers-form enc forms text hex rest address n (Some (Port port)) is_hex is found refers = absurd (let no : ⊥ = cc (refers) in no)
+refers-form enc forms text hex rest address n (Some (Ext size chars)) is_hex is found refers = absurd (let no : ⊥ = cc (refers) in no)
+refers-form enc forms text hex rest address n (Some (HeapBin size chars)) is_hex is found refers = absurd (let no : ⊥ = cc (refers) in no)
+refers-form enc forms text hex rest address n (Some (SubBin binary offset size)) is_hex is found refers = absurd (let no : ⊥ = cc (refers) in no)
+refers-form enc forms text hex rest address n (Some (Flat keys values)) is_hex is found refers = absurd (let no : ⊥ = cc (refers) in no)
+refers-form enc forms text hex rest address n (Some (Hash size children)) is_hex is found refers = absurd (let no : ⊥ = cc (refers) in no)
+refers-form enc forms text hex rest address n (Some (Node children)) is_hex is found refers = absurd (let no : ⊥ = cc (refers) in no)
+
+pub refers : (enc : Enc) → AreLed → AreForms enc → (text : List ℕ) (n : ℕ) → text_reference enc text ≡ Some n → Refers text
+refers enc leds forms text n is = by (led_of text) refl
+  where
+    by : (o : Option (ℕ × List ℕ)) → led_of text ≡ o → Refers text
+    by None found = absurd (let e = sym (ap (option_and_then (λ (led : ℕ × List ℕ). referred (form_of enc led.1))) found) ∙ is in let no : ⊥ = cc (e) in no)
+    by (Some led) found =
+        let whole = (leds text led.0 led.1).0 found in
+        refers-form enc forms text whole.0 led.1 led.0 n (form_of enc led.1) whole.1 whole.2 refl
+        (sym (ap (option_and_then (λ (led : ℕ × List ℕ). referred (form_of enc led.1))) found) ∙ is)
+
+-- ---- its length
+
+pub hex-short : (hex : List ℕ) (n : ℕ) → hex_number hex ≡ Some n → length hex ≤ 16
+hex-short hex n is =
+    let all = (cond_some _ _ _ is).0 in
+    let digits = (and_parts _ _ all).0 in
+    let count = (and_parts _ _ digits).0 in
+    leb-true _ _ (and_parts _ _ count).1
+
+range-short : (range : List ℕ) (binary offset size : ℕ) → IsRange range binary offset size → length range ≤ 50
+range-short range binary offset size is =
+    let first = is.2 in
+    let second = is.3 in
+    let one = hex-short first.0 binary first.1 in
+    let two = hex-short second.0 offset second.1 in
+    let three = hex-short is.1 size is.4 in
+    let whole = ap length first.2 ∙ length-append first.0 (colon ∷ is.0) in
+    let behind = ap length second.2 ∙ length-append second.0 (colon ∷ is.1) in
+    omega (arith, one, two, three, whole, behind)
+
+pub refers-short : (text : List ℕ) → Refers text → length text ≤ 69
+refers-short text is =
+    let one = hex-short is.hex is.address is.is_hex in
+    let more = range-short is.range is.binary is.offset is.size is.is_range in
+    let whole = ap length is.text_is ∙ length-append is.hex (mark ++ is.range) in
+    omega (arith, one, more, whole)
+
+-- ---- the mark in it
+
+mark-reads : (hex range : List ℕ) (j : ℕ) → j < 3 → slice_index (hex ++ (mark ++ range)) (length hex + j) ≡ slice_index mark j
+mark-reads hex range zero inside = get_or-append-add hex (mark ++ range) 0 0
+mark-reads hex range (suc zero) inside = get_or-append-add hex (mark ++ range) 1 0
+mark-reads hex range (suc (suc zero)) inside = get_or-append-add hex (mark ++ range) 2 0
+mark-reads hex range (suc (suc (suc j))) inside = absurd (omega (arith, inside))
+
+refers-mark : (text : List ℕ) → Refers text → (k : ℕ) × OccursAt text mark k
+refers-mark text is = (
+  length is.hex,
+  record {
+    fits = (let whole = ap length is.text_is ∙ length-append is.hex (mark ++ is.range) in omega (arith, whole));
+    reads = λ j inside. ap (λ l. slice_index l (length is.hex + j)) is.text_is ∙ mark-reads is.hex is.range j inside;
+  },
+)
+
+-- a text is a front of its line
+pub text-front : (raw : List ℕ) → (m : ℕ) × (text_of raw ≡ take m raw) × (length raw ≤ length (text_of raw) + 2)
+text-front raw = by (ends_with nat_eq raw (cr ∷ lf ∷ [])) (ends_with nat_eq raw (lf ∷ []))
+  where
+    by : (a b : Bool) → (m : ℕ) × ((if a then take (length raw - 2) raw else (if b then take (length raw - 1) raw else raw)) ≡ take m raw)
+        × (length raw ≤ length (if a then take (length raw - 2) raw else (if b then take (length raw - 1) raw else raw)) + 2)
+    by true b = (length raw - 2, refl, omega (arith, length-take (length raw - 2) raw))
+    by false true = (length raw - 1, refl, omega (arith, length-take (length raw - 1) raw))
+    by false false = (length raw, sym (take_all (length raw) raw (omega arith)), omega arith)
+
+occurs-take : (m k : ℕ) (bytes needle : List ℕ) → OccursAt (take m bytes) needle k → OccursAt bytes needle k
+occurs-take m k bytes needle is = record {
+  fits = omega (arith, is.fits, length-take m bytes);
+  reads = λ j inside.
+      let below : k + j < m = omega (arith, inside, is.fits, length-take m bytes) in
+      sym (get_or-take m bytes (k + j) 0 below) ∙ is.reads j inside;
+}
+
+occurs-left : (xs ys needle : List ℕ) (k : ℕ) → OccursAt xs needle k → OccursAt (xs ++ ys) needle k
+occurs-left xs ys needle k is = record {
+  fits = omega (arith, is.fits, length-append xs ys);
+  reads = λ j inside. get_or_append_left xs ys 0 (k + j) (omega (arith, inside, is.fits)) ∙ is.reads j inside;
+}
+
+occurs-right : (xs ys needle : List ℕ) (k : ℕ) → OccursAt ys needle k → OccursAt (xs ++ ys) needle (length xs + k)
+occurs-right xs ys needle k is = record {
+  fits = omega (arith, is.fits, length-append xs ys);
+  reads = λ j inside.
+      let same : length xs + k + j ≡ length xs + (k + j) = omega arith in
+      ap (λ n. slice_index (xs ++ ys) n) same ∙ get_or-append-add xs ys (k + j) 0 ∙ is.reads j inside;
+}
+
+-- ---- a line without the mark, and a long one
+
+module _ (enc : Enc) (leds : AreLed) (forms : AreForms enc) where
+  line-mark : (raw : List ℕ) (n : ℕ) → line_reference enc raw ≡ Some n → (k : ℕ) × OccursAt raw mark k
+  line-mark raw n is =
+      let found = refers-mark (text_of raw) (refers enc leds forms (text_of raw) n is) in
+      let front = text-front raw in
+      (found.0, occurs-take front.0 found.0 raw mark (subst (λ l. OccursAt l mark found.0) front.1 found.1))
+
+  pub line-long : (raw : List ℕ) → 72 ≤ length raw → line_reference enc raw ≡ None
+  line-long raw long =
+      none-of (line_reference enc raw) (λ n is.
+      let short = refers-short (text_of raw) (refers enc leds forms (text_of raw) n is) in
+      let front = text-front raw in
+      omega (arith, short, front.2, long))
+
+  lines-unmarked : (lines : List (List ℕ)) → ((k : ℕ) → OccursAt (concat lines) mark k → ⊥) → filter_map (line_reference enc) lines ≡ []
+  lines-unmarked [] none = refl
+  lines-unmarked (line ∷ lines) none =
+      one-more (line_reference enc) line lines
+      ∙ ap (λ o. option_to_list o ++ filter_map (line_reference enc) lines) (none-of (line_reference enc line) (λ n is.
+      let found = line-mark line n is in
+      none found.0 (occurs-left line (concat lines) mark found.0 found.1)))
+      ∙ lines-unmarked lines (λ k is. none (length line + k) (occurs-right line (concat lines) mark k is))
+
+  pub unmarked : (bytes : List ℕ) → ((k : ℕ) → OccursAt bytes mark k → ⊥) → line_references enc bytes ≡ []
+  unmarked bytes none =
+      lines-unmarked (raw_lines bytes) (λ k is. none k (subst (λ l. OccursAt l mark k) (AreLines-raw bytes).together is))
+
+  -- ---- the first line with the mark
+
+  pub marked : (bytes : List ℕ) (at start n : ℕ) → at < length bytes → Nowhere (OccursAt bytes mark) 0 at → start ≤ at
+      → AreWhole (take start (take at bytes)) → HasNoLf (drop start (take at bytes)) → n ≤ length (drop at bytes)
+      → raw_lines (drop at bytes) ≡ take n (drop at bytes) ∷ raw_lines (drop n (drop at bytes))
+      → line_references enc bytes ≡ option_to_list (line_reference enc (between start (at + n) bytes)) ++ line_references enc (drop (at + n) bytes)
+  marked bytes at start n inside before within whole free fits first =
+      let front = take start (take at bytes) in
+      let middle = drop start (take at bytes) in
+      let rest = drop at bytes in
+      let parts : bytes ≡ front ++ (middle ++ rest) =
+      sym (take-append-drop at bytes) ∙ ap (λ l. l ++ rest) (sym (take-append-drop start (take at bytes))) ∙ append_assoc front middle rest in
+      let len : length (take at bytes) ≡ at = length-take-le at bytes (omega (arith, inside)) in
+      let unseen : line_references enc front ≡ [] =
+      unmarked front (λ k is.
+      before k (omega arith) (let room = is.fits in omega (arith, room, length-take start (take at bytes), within))
+      (occurs-take at k bytes mark (occurs-take start k (take at bytes) mark is))) in
+      let size : at + n - start ≡ (at - start) + n = omega (arith, within) in
+      let cut : middle ≡ take (at - start) (drop start bytes) =
+      (let e : at ≡ start + (at - start) = omega (arith, within) in ap (λ m. drop start (take m bytes)) e) ∙ drop-take start (at - start) bytes in
+      let later : drop (at - start) (drop start bytes) ≡ rest = drop-drop (at - start) start bytes ∙ (let e : start + (at - start) ≡ at = omega (arith, within) in ap (λ m. drop m bytes) e) in
+      let line : between start (at + n) bytes ≡ middle ++ take n rest =
+      ap (λ m. take m (drop start bytes)) size ∙ take-two (at - start) n (drop start bytes) ∙ ap (λ l. l ++ take n (drop (at - start) (drop start bytes))) (sym cut) ∙ ap (λ l. middle ++ take n l) later in
+      ap (line_references enc) parts
+      ∙ references-whole enc front (middle ++ rest) whole
+      ∙ ap (λ l. l ++ line_references enc (middle ++ rest)) unseen
+      ∙ ap (filter_map (line_reference enc)) (lines-first middle rest (take n rest) (raw_lines (drop n rest)) free first)
+      ∙ one-more (line_reference enc) (middle ++ take n rest) (raw_lines (drop n rest))
+      ∙ ap (λ l. option_to_list (line_reference enc l) ++ line_references enc (drop n rest)) (sym line)
+      ∙ ap (λ l. option_to_list (line_reference enc (between start (at + n) bytes)) ++ line_references enc l) (drop-drop n at bytes)
+
+  -- ---- of a long line only a front matters
+
+  first-long : (front : List ℕ) (lines : List (List ℕ)) → 72 ≤ length front → filter_map (line_reference enc) (join front lines) ≡ filter_map (line_reference enc) (drop 1 lines)
+  first-long front [] long = one-more (line_reference enc) front [] ∙ ap (λ o. option_to_list o ++ []) (line-long front long)
+  first-long front (line ∷ lines) long =
+      one-more (line_reference enc) (front ++ line) lines
+      ∙ ap (λ o. option_to_list o ++ filter_map (line_reference enc) lines) (line-long (front ++ line) (omega (arith, long, length-append front line)))
+
+  pub long-front : (front rest : List ℕ) → HasNoLf front → 72 ≤ length front → line_references enc (front ++ rest) ≡ filter_map (line_reference enc) (drop 1 (raw_lines rest))
+  long-front [] rest free long = absurd (omega (arith, long))
+  long-front (c ∷ front) rest free long =
+      ap (filter_map (line_reference enc)) (lines-join c front rest free) ∙ first-long (c ∷ front) (raw_lines rest) long

@@ -1,0 +1,209 @@
+-- The stored binaries are found one section after another, and their sizes are read from the fronts of their bodies.
+use Rattle.std.proofs.Common.{◌≡◌, ◌≢◌, ℕ, zero, suc, ◌+◌, ◌-◌, ◌<◌, ◌≤◌, ◌==◌, ◌⊎◌, ⊎_elim, inl, inr, Bool, true, false, ◌||◌, List, [], ◌∷◌, ◌++◌, length, map, take, drop, get_or, slice_get, Option, None, Some, if◌then◌else◌, refl, sym, ◌∙◌, ap, subst, arith, append_assoc, append-nil}
+use Rattle.std.specs.Prelude.{All, min, unwrap_or, is_some}
+use Rattle.std.specs.BTreeMap.{BTreeMap, get}
+use Rattle.std.specs.List.{between, cons_option, filter_map}
+use Rattle.std.specs.Option.{option_map, option_to_list}
+use Rattle.std.specs.Ordering.{nat_cmp, is_eq}
+use Rattle.std.proofs.lemmas.Bool.{cases_eq, cases_lt, eq-eqb, ne_eqb}
+use Rattle.std.proofs.lemmas.Bool.Decides.{nat_tests}
+use Rattle.std.proofs.lemmas.List.{take_more, take-append-drop, take-take, take_all, map_push, get_or_append_left, get_or_push, length_push, length-map, length-take}
+use Rattle.std.proofs.lemmas.List.Elements.{All-push, All-from_get_or, filter_map-append}
+use Rattle.std.proofs.lemmas.List.Folds.{list_any_at, list_any_none}
+use Rattle.std.proofs.lemmas.Option.{get_or_from_slice_get, slice_get_within}
+use Rattle.dump_io.specs.Dumps.{Now, told, Gives}
+use Rattle.section_index.specs.Bodies.{section_at}
+use Rattle.section_index.specs.Index.{Contents, sections_in}
+use Rattle.section_index.specs.Sections.{Section}
+use Rattle.term_forms.specs.Words.{colon, led_of, IsLed}
+use Rattle.binary_holders.specs.declared.stored.Found.{Found}
+use Rattle.binary_holders.specs.declared.stored.StoredAt.{StoredAt}
+use Rattle.binary_holders.specs.StoredBinaries.{Stored, stored, stored_at, number_of, binary_of, firsts, is_among, size_stated}
+use Rattle.binary_holders.specs.Inner.Finding.{AreFound, numbers_of, stored_of}
+use Rattle.binary_holders.specs.Inner.Places.{ArePlaces, IsOnlyPlace}
+use Rattle.binary_holders.proofs.MarkFacts.{AreLed, hex-short, none-of}
+
+-- ---- one binary more
+
+abbrev numbers : List Stored → List ℕ
+numbers binaries = map (λ (b : Stored). b.number) binaries
+
+or-swap : (a b c : Bool) → ((a || b) || c) ≡ (b || (a || c))
+or-swap true true c = refl
+or-swap true false c = refl
+or-swap false true c = refl
+or-swap false false c = refl
+
+push-none : (seen : List ℕ) (y : Stored) (b : Bool) → (if b then firsts seen [] else y ∷ firsts (y.number ∷ seen) []) ≡ [] ++ (if b || false then [] else y ∷ [])
+push-none seen y true = refl
+push-none seen y false = refl
+
+-- it counts where its number isn't there yet
+firsts-push : (seen : List ℕ) (xs : List Stored) (y : Stored)
+    → firsts seen (xs ++ y ∷ []) ≡ firsts seen xs ++ (if is_among seen y.number || is_among (numbers (firsts seen xs)) y.number then [] else y ∷ [])
+firsts-push seen [] y = push-none seen y (is_among seen y.number)
+firsts-push seen (x ∷ xs) y = by (is_among seen x.number) (firsts-push seen xs y) (firsts-push (x.number ∷ seen) xs y)
+  where
+    by : (b : Bool) → firsts seen (xs ++ y ∷ []) ≡ firsts seen xs ++ (if is_among seen y.number || is_among (numbers (firsts seen xs)) y.number then [] else y ∷ [])
+        → firsts (x.number ∷ seen) (xs ++ y ∷ [])
+        ≡ firsts (x.number ∷ seen) xs ++ (if is_among (x.number ∷ seen) y.number || is_among (numbers (firsts (x.number ∷ seen) xs)) y.number then [] else y ∷ [])
+        → (if b then firsts seen (xs ++ y ∷ []) else x ∷ firsts (x.number ∷ seen) (xs ++ y ∷ []))
+        ≡ (if b then firsts seen xs else x ∷ firsts (x.number ∷ seen) xs)
+        ++ (if is_among seen y.number || is_among (numbers (if b then firsts seen xs else x ∷ firsts (x.number ∷ seen) xs)) y.number then [] else y ∷ [])
+    by true here later = here
+    by false here later =
+        ap (λ l. x ∷ l) later
+        ∙ ap (λ b. x ∷ (firsts (x.number ∷ seen) xs ++ (if b then [] else y ∷ [])))
+        (or-swap (x.number == y.number) (is_among seen y.number) (is_among (numbers (firsts (x.number ∷ seen) xs)) y.number))
+
+pub stored-push : (before : List Section) (s : Section)
+    → stored (before ++ s ∷ []) ≡ firsts [] (filter_map binary_of before ++ option_to_list (binary_of s))
+stored-push before s =
+    ap (firsts []) (filter_map-append binary_of before (s ∷ []) ∙ ap (λ l. filter_map binary_of before ++ l) (by (binary_of s)))
+  where
+    by : (o : Option Stored) → cons_option o [] ≡ option_to_list o
+    by None = refl
+    by (Some b) = refl
+
+-- a section that is none
+stored-passed : (before : List Section) (s : Section) → number_of s ≡ None → stored (before ++ s ∷ []) ≡ stored before
+stored-passed before s none =
+    stored-push before s ∙ ap (λ o. firsts [] (filter_map binary_of before ++ option_to_list (option_map (stored_at s) o))) none ∙ ap (firsts []) (append-nil (filter_map binary_of before))
+
+stored-more : (before : List Section) (s : Section) (n : ℕ) (b : Bool) → number_of s ≡ Some n → is_among (numbers (stored before)) n ≡ b
+    → stored (before ++ s ∷ []) ≡ stored before ++ (if b then [] else stored_at s n ∷ [])
+stored-more before s n b some among =
+    stored-push before s
+    ∙ ap (λ o. firsts [] (filter_map binary_of before ++ option_to_list (option_map (stored_at s) o))) some
+    ∙ firsts-push [] (filter_map binary_of before) (stored_at s n)
+    ∙ ap (λ t. stored before ++ (if t then [] else stored_at s n ∷ [])) among
+
+-- ---- what is known of the places
+
+numbers-as : (index : Contents) (binaries : List StoredAt) → numbers (map (stored_of index) binaries) ≡ numbers_of binaries
+numbers-as index [] = refl
+numbers-as index (b ∷ binaries) = ap (λ l. b.number ∷ l) (numbers-as index binaries)
+
+among-place : (ns : List ℕ) (n : ℕ) (o : Option ℕ) → IsOnlyPlace ns n o → is_among ns n ≡ is_some o
+among-place ns n None none = list_any_none (λ m. m == n) ns (All-from_get_or (λ m. (m == n) ≡ false) ns 0 (λ k inside. ne_eqb (get_or ns k 0) n (none k inside)))
+among-place ns n (Some p) only = list_any_at (λ m. m == n) ns p 0 only.0 (eq-eqb (get_or ns p 0) n only.1)
+
+among-found : (index : Contents) (sections : List Section) (found : Found) (n : ℕ) → AreFound index sections found → is_among (numbers (stored sections)) n ≡ is_some (get nat_cmp found.places n)
+among-found index sections found n are =
+    ap (λ l. is_among (numbers l) n) (sym are.are) ∙ ap (λ l. is_among l n) (numbers-as index found.binaries.items)
+    ∙ among-place (numbers_of found.binaries.items) n (get nat_cmp found.places n) (are.places.only n)
+
+apart : (n q : ℕ) → n ≢ q → is_eq (nat_cmp n q) ≡ false
+apart n q other = grind (arith, nat_tests)
+
+only-more : (ns : List ℕ) (n m : ℕ) (o : Option ℕ) → n ≢ m → IsOnlyPlace ns m o → IsOnlyPlace (ns ++ n ∷ []) m o
+only-more ns n m None other none = λ k inside is. ⊎_elim
+    (λ less. none k less (sym (get_or_append_left ns (n ∷ []) 0 k less) ∙ is))
+    (λ more. let last : length ns ≡ k = omega (arith, inside, more, length_push ns n) in other (sym (get_or_push ns n 0 k last) ∙ is))
+    (cases_lt k (length ns))
+only-more ns n m (Some p) other only = (
+  omega (arith, only.0, length_push ns n),
+  get_or_append_left ns (n ∷ []) 0 p only.0 ∙ only.1,
+  λ k inside is. ⊎_elim
+      (λ less. only.2 k less (sym (get_or_append_left ns (n ∷ []) 0 k less) ∙ is))
+      (λ more. absurd (let last : length ns ≡ k = omega (arith, inside, more, length_push ns n) in other (sym (get_or_push ns n 0 k last) ∙ is)))
+      (cases_lt k (length ns)),
+)
+
+only-new : (ns : List ℕ) (n : ℕ) → IsOnlyPlace ns n None → IsOnlyPlace (ns ++ n ∷ []) n (Some (length ns))
+only-new ns n none = (
+  omega (arith, length_push ns n),
+  get_or_push ns n 0 (length ns) refl,
+  λ k inside is. ⊎_elim
+      (λ less. absurd (none k less (sym (get_or_append_left ns (n ∷ []) 0 k less) ∙ is)))
+      (λ more. omega (arith, inside, more, length_push ns n))
+      (cases_lt k (length ns)),
+)
+
+pub places-new : (places after : BTreeMap ℕ ℕ) (ns : List ℕ) (n : ℕ) → ArePlaces places ns → get nat_cmp places n ≡ None → get nat_cmp after n ≡ Some (length ns)
+    → ((q : ℕ) → is_eq (nat_cmp n q) ≡ false → get nat_cmp after q ≡ get nat_cmp places q) → ArePlaces after (ns ++ n ∷ [])
+places-new places after ns n are none here others = record {
+  only = λ m. ⊎_elim
+      (λ same. subst (λ q. IsOnlyPlace (ns ++ n ∷ []) q (get nat_cmp after q)) same
+      (subst (IsOnlyPlace (ns ++ n ∷ []) n) (sym here) (only-new ns n (subst (IsOnlyPlace ns n) none (are.only n)))))
+      (λ other. subst (IsOnlyPlace (ns ++ n ∷ []) m) (sym (others m (apart n m other))) (only-more ns n m (get nat_cmp places m) other (are.only m)))
+      (cases_eq n m);
+}
+
+-- ---- one section more
+
+take-section : (sections : List Section) (i : ℕ) (s : Section) → slice_get sections i ≡ Some s → take (i + 1) sections ≡ take i sections ++ s ∷ []
+take-section sections i s at = take_more sections i s (slice_get_within sections i s at) ∙ ap (λ y. take i sections ++ y ∷ []) (get_or_from_slice_get sections i s s at)
+
+module _ (index : Contents) (i : ℕ) (at : slice_get (sections_in index) i ≡ Some (section_at index i)) (found : Found) (before : AreFound index (take i (sections_in index)) found) where
+  abbrev s : Section
+  s = section_at index i
+
+  same-found : stored (take (i + 1) (sections_in index)) ≡ stored (take i (sections_in index)) → AreFound index (take (i + 1) (sections_in index)) found
+  same-found same = record { are = before.are ∙ sym same; within = before.within; places = before.places }
+
+  pub found-passed : number_of s ≡ None → AreFound index (take (i + 1) (sections_in index)) found
+  found-passed none = same-found (ap stored (take-section (sections_in index) i s at) ∙ stored-passed (take i (sections_in index)) s none)
+
+  pub found-again : (n : ℕ) → number_of s ≡ Some n → is_some (get nat_cmp found.places n) ≡ true → AreFound index (take (i + 1) (sections_in index)) found
+  found-again n some there =
+      same-found (ap stored (take-section (sections_in index) i s at)
+      ∙ stored-more (take i (sections_in index)) s n true some (among-found index (take i (sections_in index)) found n before ∙ there)
+      ∙ append-nil (stored (take i (sections_in index))))
+
+  pub found-new : (n : ℕ) (after : Found) → number_of s ≡ Some n → is_some (get nat_cmp found.places n) ≡ false → i < length index.headers
+      → after.binaries.items ≡ found.binaries.items ++ (record { number = n; section = i }) ∷ []
+      → get nat_cmp after.places n ≡ Some (length found.binaries.items) → ((q : ℕ) → is_eq (nat_cmp n q) ≡ false → get nat_cmp after.places q ≡ get nat_cmp found.places q)
+      → AreFound index (take (i + 1) (sections_in index)) after
+  found-new n after some gone inside items here others =
+      let one : StoredAt = record { number = n; section = i } in
+      record {
+        are = ap (map (stored_of index)) items ∙ map_push (stored_of index) found.binaries.items one ∙ ap (λ l. l ++ stored_at s n ∷ []) before.are
+            ∙ sym (ap stored (take-section (sections_in index) i s at)
+            ∙ stored-more (take i (sections_in index)) s n false some (among-found index (take i (sections_in index)) found n before ∙ gone));
+        within = subst (All (λ (b : StoredAt). b.section < length index.headers)) (sym items) (All-push (λ (b : StoredAt). b.section < length index.headers) found.binaries.items one before.within inside);
+        places = subst (ArePlaces after.places) (sym (ap numbers_of items ∙ map_push (λ (b : StoredAt). b.number) found.binaries.items one))
+            (places-new found.places after.places (numbers_of found.binaries.items) n before.places (none-where (get nat_cmp found.places n) gone)
+            (here ∙ ap Some (sym (length-map found.binaries.items (λ (b : StoredAt). b.number)))) others);
+      }
+    where
+      none-where : {X : Type 0} (o : Option X) → is_some o ≡ false → o ≡ None
+      none-where None is = refl
+      none-where (Some x) is = absurd (let no : ⊥ = cc (is) in no)
+
+-- ---- the size that a body states
+
+take-front : (hex rest : List ℕ) (n k : ℕ) → n ≡ length hex + 1 + k → take n (hex ++ colon ∷ rest) ≡ hex ++ colon ∷ take k rest
+take-front [] rest zero k is = absurd (omega (arith, is))
+take-front [] rest (suc n) k is = let same : n ≡ k = omega (arith, is) in ap (λ m. colon ∷ take m rest) same
+take-front (c ∷ hex) rest zero k is = absurd (omega (arith, is))
+take-front (c ∷ hex) rest (suc n) k is = ap (λ l. c ∷ l) (take-front hex rest n k (omega (arith, is)))
+
+pub size-some : AreLed → (front body rest : List ℕ) (n : ℕ) → IsLed front n rest → front ≡ take 17 body → n ≡ size_stated body
+size-some leds front body rest n led is =
+    let more = drop 17 body in
+    let whole : body ≡ led.0 ++ colon ∷ (rest ++ more) =
+    sym (take-append-drop 17 body) ∙ (ap (λ f. f ++ more) (sym is ∙ led.2) ∙ append_assoc led.0 (colon ∷ rest) more) in
+    sym (ap (λ o. unwrap_or (option_map (λ (p : ℕ × List ℕ). p.0) o) 0) ((leds body n (rest ++ more)).1 (led.0, led.1, whole)))
+
+pub size-none : AreLed → (front body : List ℕ) → ((n : ℕ) (rest : List ℕ) → IsLed front n rest → ⊥) → front ≡ take 17 body → 0 ≡ size_stated body
+size-none leds front body none is =
+    sym (ap (λ o. unwrap_or (option_map (λ (p : ℕ × List ℕ). p.0) o) 0) (none-of (led_of body) (λ p found.
+    let led = (leds body p.0 p.1).0 found in
+    let short = hex-short led.0 p.0 led.1 in
+    none p.0 (take (16 - length led.0) p.1)
+    (led.0, led.1, is ∙ (ap (take 17) led.2 ∙ take-front led.0 p.1 17 (16 - length led.0) (omega (arith, short)))))))
+
+-- a front that was read is that of the body
+pub front-read : (now : Now) (dump front : List ℕ) (body end : ℕ) → now ≡ told dump → Gives now body front → length front ≡ min (end - body) 17 → front ≡ take 17 (between body end dump)
+front-read now dump front body end is gives size =
+    let read : front ≡ take (length front) (drop body dump) = subst (λ n. Gives n body front) is gives in
+    read ∙ ap (λ n. take n (drop body dump)) size ∙ by (cases_lt (end - body) 17)
+  where
+    by : (end - body < 17) ⊎ (17 ≤ end - body) → take (min (end - body) 17) (drop body dump) ≡ take 17 (take (end - body) (drop body dump))
+    by (inl less) =
+        let e : min (end - body) 17 ≡ end - body = omega (arith, less) in
+        ap (λ n. take n (drop body dump)) e ∙ sym (take_all 17 (take (end - body) (drop body dump)) (omega (arith, less, length-take (end - body) (drop body dump))))
+    by (inr more) =
+        let e : min (end - body) 17 ≡ 17 = omega (arith, more) in
+        ap (λ n. take n (drop body dump)) e ∙ sym (take-take 17 (end - body) (drop body dump) more)

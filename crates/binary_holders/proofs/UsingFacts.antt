@@ -1,0 +1,101 @@
+-- The use of the binaries of a dump, from what was found and heard.
+use Rattle.std.proofs.Common.{◌≡◌, ℕ, ◌+◌, ◌*◌, ◌<◌, ◌≤◌, Bool, true, false, cond, List, [], ◌∷◌, ◌++◌, length, map, get_or, Option, None, Some, Result, Ok, Err, if◌then◌else◌, refl, sym, ◌∙◌, ap, arith, codes}
+use Rattle.std.specs.Prelude.{IfOk, slice_index}
+use Rattle.std.specs.List.{cons_option, count_by, filter_map}
+use Rattle.std.specs.Option.{option_map, option_and_then}
+use Rattle.std.proofs.lemmas.List.{get_or-map, length-map, same_lists}
+use Rattle.std.proofs.lemmas.List.Sums.{sum_by-cons, sum_by_push}
+use Rattle.dump_io.specs.Numbers.{hex_number}
+use Rattle.section_index.specs.Index.{Contents, sections_in}
+use Rattle.section_index.specs.Lookups.{has_tag}
+use Rattle.section_index.specs.Sections.{Section, id_of}
+use Rattle.process_table.specs.Processes.{Process}
+use Rattle.binary_holders.specs.declared.rows.BinaryRow.{BinaryRow}
+use Rattle.binary_holders.specs.declared.sought.Binary.{Binary}
+use Rattle.binary_holders.specs.declared.stored.StoredAt.{StoredAt}
+use Rattle.binary_holders.specs.declared.tally.Tally.{Tally}
+use Rattle.binary_holders.specs.Held.{holders_of}
+use Rattle.binary_holders.specs.HeapReferences.{references_of}
+use Rattle.binary_holders.specs.StoredBinaries.{Stored, binary_of, firsts, is_among, stored_at}
+use Rattle.binary_holders.specs.Usage.{binaries_in, fronts_length, heaps_of, row_of, rows_in, sized, stored_in}
+use Rattle.binary_holders.specs.Inner.Finding.{stored_of}
+use Rattle.binary_holders.specs.Inner.Places.{heap_place, references_at}
+use Rattle.binary_holders.specs.Inner.Rows.{AreRows, row_at}
+use Rattle.binary_holders.specs.Inner.Tallies.{HasHeard, number_at}
+use Rattle.binary_holders.proofs.TallyFacts.{at-number, no_binary}
+
+map-map : {X Y Z : Type 0} (f : Y → Z) (g : X → Y) (xs : List X) → map f (map g xs) ≡ map (λ x. f (g x)) xs
+map-map f g [] = refl
+map-map f g (x ∷ xs) = ap (λ l. f (g x) ∷ l) (map-map f g xs)
+
+-- two facts of one answer
+pub both-ok : {T E : Type 0} (r : Result T E) (P Q : T → Type 0) → IfOk r P → IfOk r Q → IfOk r (λ x. P x × Q x)
+both-ok (Ok x) P Q p q = (p, q)
+both-ok (Err e) P Q p q = tt
+
+-- what the heaps refer to, by their places and by the pids
+pub heaps-are : (dump : List ℕ) (index : Contents) (processes : List Process) (heaps : List (Option ℕ)) → heaps ≡ map (λ (p : Process). heap_place (sections_in index) p.pid) processes
+    → map (references_at dump index) heaps ≡ heaps_of dump index (map (λ (p : Process). p.pid) processes)
+heaps-are dump index processes heaps is =
+    ap (map (references_at dump index)) is ∙ map-map (references_at dump index) (λ (p : Process). heap_place (sections_in index) p.pid) processes
+    ∙ sym (map-map (references_of dump index) (λ (p : Process). p.pid) processes)
+
+-- ---- the fronts of the stored binaries
+
+few-firsts : (seen : List ℕ) (xs : List Stored) → length (firsts seen xs) ≤ length xs
+few-firsts seen [] = omega arith
+few-firsts seen (x ∷ xs) = by (is_among seen x.number) (few-firsts seen xs) (few-firsts (x.number ∷ seen) xs)
+  where
+    by : (b : Bool) → length (firsts seen xs) ≤ length xs → length (firsts (x.number ∷ seen) xs) ≤ length xs
+        → length (if b then firsts seen xs else x ∷ firsts (x.number ∷ seen) xs) ≤ length (x ∷ xs)
+    by true here later = omega (arith, here)
+    by false here later = omega (arith, later)
+
+few-binaries : (sections : List Section) → length (filter_map binary_of sections) ≤ count_by (λ (s : Section). has_tag (codes "binary") s.text) sections
+few-binaries [] = omega arith
+few-binaries (s ∷ sections) =
+    let count = sum_by-cons (λ (t : Section). cond (has_tag (codes "binary") t.text) 1 0) s sections in
+    let least : length (cons_option (binary_of s) (filter_map binary_of sections)) ≤ cond (has_tag (codes "binary") s.text) 1 0 + length (filter_map binary_of sections) =
+    by (has_tag (codes "binary") s.text) (option_and_then hex_number (id_of s.text)) in
+    omega (arith, count, least, few-binaries sections)
+  where
+    by : (b : Bool) (o : Option ℕ) → length (cons_option (option_map (stored_at s) (if b then o else None)) (filter_map binary_of sections)) ≤ cond b 1 0 + length (filter_map binary_of sections)
+    by true None = omega arith
+    by true (Some n) = omega arith
+    by false o = omega arith
+
+pub fronts-enough : (index : Contents) (list : List StoredAt) → map (stored_of index) list ≡ stored_in index → 17 * length list ≤ fronts_length index
+fronts-enough index list are =
+    let size : length list ≡ length (stored_in index) = sym (length-map list (stored_of index)) ∙ ap length are in
+    omega (arith, size, few-firsts [] (filter_map binary_of (sections_in index)), few-binaries (sections_in index))
+
+pub sizes-are : (dump : List ℕ) (index : Contents) (list : List StoredAt) (binaries : List Binary) → map (stored_of index) list ≡ stored_in index
+    → binaries ≡ map (λ (b : StoredAt). sized dump (stored_of index b)) list → binaries ≡ binaries_in dump index
+sizes-are dump index list binaries are is = is ∙ sym (map-map (sized dump) (stored_of index) list) ∙ ap (map (sized dump)) are
+
+-- ---- the rows of the binaries
+
+abbrev no_place : StoredAt
+no_place = record { number = 0; section = 0 }
+
+pub rows-are : (dump : List ℕ) (index : Contents) (heaps : List (List ℕ)) (list : List StoredAt) (binaries : List Binary) (holders : List ℕ) (tally : Tally) (rows : List BinaryRow)
+    → map (stored_of index) list ≡ stored_in index → binaries ≡ binaries_in dump index → HasHeard binaries heaps [] tally → holders ≡ tally.holders.items
+    → AreRows index list binaries holders (length list) rows → rows ≡ rows_in dump index heaps
+rows-are dump index heaps list binaries holders tally rows are is heard counted found =
+    same_lists rows (map (λ (s : StoredAt). row_of dump heaps (stored_of index s)) list) (found.count ∙ sym (length-map list (λ (s : StoredAt). row_of dump heaps (stored_of index s))))
+    (λ k d inside.
+    let here : k < length list = omega (arith, inside, found.count) in
+    let s = get_or list k no_place in
+    let all : binaries ≡ map (λ (b : StoredAt). sized dump (stored_of index b)) list = is ∙ sym (ap (map (sized dump)) are) ∙ map-map (sized dump) (stored_of index) list in
+    let size : length binaries ≡ length list = ap length all ∙ length-map list (λ (b : StoredAt). sized dump (stored_of index b)) in
+    let binary : get_or binaries k no_binary ≡ sized dump (stored_of index s) =
+    ap (λ l. get_or l k no_binary) all ∙ get_or-map (λ (b : StoredAt). sized dump (stored_of index b)) list k no_place no_binary here in
+    let number : number_at binaries k ≡ s.number = at-number binaries k (omega (arith, here, size)) ∙ ap (λ (b : Binary). b.number) binary in
+    let count : slice_index holders k ≡ holders_of heaps s.number =
+    ap (λ l. slice_index l k) counted ∙ heard.holders k (omega (arith, here, size)) ∙ ap (holders_of (heaps ++ [] ∷ [])) number
+    ∙ sum_by_push (λ refs. cond (is_among refs s.number) 1 0) heaps [] ∙ (let e : holders_of heaps s.number + 0 ≡ holders_of heaps s.number = omega arith in e) in
+    found.each k d no_place no_binary here
+    ∙ ap (λ (b : Binary). row_at index s b (slice_index holders k)) binary
+    ∙ ap (row_at index s (sized dump (stored_of index s))) count
+    ∙ sym (get_or-map (λ (s : StoredAt). row_of dump heaps (stored_of index s)) list k no_place d here))
+    ∙ sym (map-map (row_of dump heaps) (stored_of index) list) ∙ ap (map (row_of dump heaps)) are

@@ -1,0 +1,20 @@
+use Rattle.std.proofs.Common.{◌≡◌, ◌+◌, ◌≤◌, [], List, ℕ, length, map, take}
+use Rattle.std.specs.List.{sum_by}
+use Rattle.dump_io.specs.Dumps.{told, used, ReadsAtMost}
+use Rattle.binary_holders.specs.Held.{holdings}
+use Rattle.binary_holders.specs.Inner.Places.{references_at, size_at}
+use Rattle.binary_holders.specs.Inner.Tallies.{HasHeard, HasRoom}
+use Rattle.binary_holders.proofs.holding.hear_each.Given as goal
+
+-- the heaps of the processes so far were heard
+abbrev pub invariant-loop-process : goal.invariant-loop-process
+invariant-loop-process g l =
+    let d = g.D.Dumps in
+    record {
+      buffer : 65608 ≤ length l.buffer;
+      reads : ReadsAtMost (used d.files d.now d.faults d.taken l.initial.dumps l.dumps) (sum_by (size_at l.index) (take l.process l.heaps));
+      turn : l.tally.turn ≡ l.process + 1;
+      room : HasRoom (length l.sought) l.tally;
+      held : (dump : List ℕ) → d.now l.initial.dumps ≡ told dump → l.held.items ≡ holdings l.sought (map (references_at dump l.index) (take l.process l.heaps));
+      heard : (dump : List ℕ) → d.now l.initial.dumps ≡ told dump → HasHeard l.sought (map (references_at dump l.index) (take l.process l.heaps)) [] l.tally;
+    }

@@ -1,0 +1,17 @@
+use Rattle.std.proofs.Common.{◌^◌, ◌<◌, [], length, ◌∙◌, ap, arith, rules}
+use Rattle.dump_io.specs.Dumps.{size_of}
+use Rattle.binary_holders.specs.Inner.Places.{references_at}
+use Rattle.binary_holders.proofs.HoldingFacts.{held-more, few-at}
+use Rattle.binary_holders.proofs.holding.hear_process.Goals as goal
+
+pub returns-clause-held : goal.returns-clause-held
+returns-clause-held g c = λ dump is before place heard so_far.
+    let refs = references_at dump c.args.index.now c.args.place in
+    let small : size_of (g.D.Dumps.now c.args.dumps.now) < 2 ^ 64 = search rules in
+    let few : length refs < 2 ^ 64 = let size = ap size_of is in omega (arith, small, size, few-at dump c.args.index.now c.args.place) in
+    c.in_ok-push_holding.ensures.pushed ∙ held-more c.args.sought.now before refs c.args.held.now.items c.hear_section.new.tally c.args.process so_far place
+    ((c.in-Ok.ensures.hears dump is).heard before [] heard) few
+
+pub returns-clause-heard : goal.returns-clause-heard
+returns-clause-heard g c = λ dump is before heard.
+    c.turn.ensures.heard c.args.sought.now before (references_at dump c.args.index.now c.args.place) ((c.in-Ok.ensures.hears dump is).heard before [] heard)

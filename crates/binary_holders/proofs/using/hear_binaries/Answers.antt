@@ -1,0 +1,18 @@
+use Rattle.std.proofs.Common.{[], map, ◌∙◌, ap, subst}
+use Rattle.binary_holders.specs.Held.{holdings}
+use Rattle.binary_holders.specs.Inner.Places.{references_at}
+use Rattle.binary_holders.specs.Inner.Tallies.{HasHeard}
+use Rattle.binary_holders.proofs.UsingFacts.{heaps-are}
+use Rattle.binary_holders.proofs.using.hear_binaries.Goals as goal
+
+pub returns-clause-held : goal.returns-clause-held
+returns-clause-held g c = λ dump is.
+    c.in_ok-held.ensures.held dump is
+    ∙ ap (λ l. holdings c.args.sought.now (map (references_at dump c.args.index.now) l)) c.as_slice.ensures.value
+    ∙ ap (holdings c.args.sought.now) (heaps-are dump c.args.index.now c.args.procs.now.processes c.in-Ok.heaps.items c.in-Ok.ensures.places)
+
+pub returns-clause-heard : goal.returns-clause-heard
+returns-clause-heard g c = λ dump is.
+    subst (λ l. HasHeard c.args.sought.now l [] c.hear_all.new.tally)
+    (ap (map (references_at dump c.args.index.now)) c.as_slice.ensures.value ∙ heaps-are dump c.args.index.now c.args.procs.now.processes c.in-Ok.heaps.items c.in-Ok.ensures.places)
+    (c.in_ok-held.ensures.heard dump is)

@@ -1,0 +1,21 @@
+-- To which of the binaries outside the heaps a heap refers.
+use Rattle.std.specs.Prelude.{ℕ, List, Option, None, Some}
+use Rattle.std.specs.List.{filter_map}
+use Rattle.section_index.specs.Index.{Contents}
+use Rattle.term_forms.specs.declared.enc.Enc.{Enc}
+use Rattle.term_forms.specs.Forms.{HeapForm, RefBin}
+use Rattle.heap_cells.specs.Cells.{line_cells}
+use Rattle.heap_cells.specs.Loading.{enc_of, heap_section, body_in}
+
+-- the number of the binary to which a form refers: that of a reference to a binary, and of no other form
+abbrev pub referred : Option HeapForm → Option ℕ
+referred (Some (RefBin number offset size)) = Some number
+referred form = None
+
+-- the numbers of the binaries to which the heap lines of a body refer, line by line; a number stands there for each line
+abbrev pub references : Enc → List ℕ → List ℕ
+references enc body = filter_map (λ cell. referred cell.form) (line_cells enc body)
+
+-- the same for the heap of a pid, which is the body of its first `proc_heap` section
+abbrev pub references_of : List ℕ → Contents → List ℕ → List ℕ
+references_of dump index pid = references (enc_of index.version) (body_in dump (heap_section index pid))

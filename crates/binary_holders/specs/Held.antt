@@ -1,0 +1,40 @@
+-- Which processes hold which binaries, by what their heaps refer to.
+use Rattle.std.specs.Prelude.{ℕ, ◌-◌, ◌^◌, Bool, List, map, filter, min, nat_lt}
+use Rattle.std.specs.List.{count_by, sum_by, enumerate_from}
+use Rattle.binary_holders.specs.declared.rows.Holding.{Holding}
+use Rattle.binary_holders.specs.declared.sought.Binary.{Binary}
+use Rattle.binary_holders.specs.StoredBinaries.{is_among}
+
+-- whether a heap with these references holds a binary
+abbrev pub holds : List ℕ → Binary → Bool
+holds references binary = is_among references binary.number
+
+-- a sum as it is kept, which is at most 2^64 - 1
+abbrev pub capped : ℕ → ℕ
+capped sum = min sum (2 ^ 64 - 1)
+
+-- the sizes of the binaries that a heap holds, together; each counts once
+abbrev pub bytes_held : List Binary → List ℕ → ℕ
+bytes_held binaries references = capped (sum_by (λ binary. binary.size) (filter (holds references) binaries))
+
+-- how many of the references are to one of the binaries
+abbrev pub cells_holding : List Binary → List ℕ → ℕ
+cells_holding binaries references = count_by (is_among (map (λ binary. binary.number) binaries)) references
+
+-- what the process at a place holds
+abbrev pub holding_of : List Binary → ℕ × List ℕ → Holding
+holding_of binaries (process, references) = record {
+  process = process;
+  bytes = bytes_held binaries references;
+  count = count_by (holds references) binaries;
+  cells = cells_holding binaries references;
+}
+
+-- the processes that hold one of the binaries at least, in their order; the heaps of all processes are given by what they
+-- refer to
+abbrev pub holdings : List Binary → List (List ℕ) → List Holding
+holdings binaries heaps = filter (λ holding. nat_lt 0 holding.count) (map (holding_of binaries) (enumerate_from 0 heaps))
+
+-- how many heaps hold the binary with a number
+abbrev pub holders_of : List (List ℕ) → ℕ → ℕ
+holders_of heaps number = count_by (λ references. is_among references number) heaps

@@ -1,0 +1,8 @@
+-- What only private functions cite: how the lines of a heap are told apart, and how what it refers to is counted.
+pub mod Finding
+pub mod Heaps
+pub mod Lines
+pub mod Pieces
+pub mod Places
+pub mod Rows
+pub mod Tallies

@@ -1,0 +1,40 @@
+-- Where binaries and heaps stand.
+use Rattle.std.specs.Prelude.{◌≡◌, ◌≢◌, ℕ, ◌<◌, List, length, map, position, slice_index, Option, None, Some, IfSome, codes}
+use Rattle.std.specs.BTreeMap.{BTreeMap, get}
+use Rattle.std.specs.Ordering.{nat_cmp}
+use Rattle.section_index.specs.Index.{Contents}
+use Rattle.section_index.specs.Lookups.{is_named}
+use Rattle.section_index.specs.Sections.{Section}
+use Rattle.heap_cells.specs.Loading.{enc_of, section_in, body_in, body_size}
+use Rattle.binary_holders.specs.declared.sought.Binary.{Binary}
+use Rattle.binary_holders.specs.HeapReferences.{references}
+
+-- the place of a number among others where no other place has it, or none where none has it
+abbrev pub IsOnlyPlace : List ℕ → ℕ → Option ℕ → Type 0
+IsOnlyPlace numbers number None = (k : ℕ) → k < length numbers → slice_index numbers k ≢ number
+IsOnlyPlace numbers number (Some p) =
+    (p < length numbers) × (slice_index numbers p ≡ number) × ((k : ℕ) → k < length numbers → slice_index numbers k ≡ number → k ≡ p)
+
+-- the numbers of some binaries
+abbrev pub numbers_in : List Binary → List ℕ
+numbers_in binaries = map (λ binary. binary.number) binaries
+
+-- a tree has the place of each number, and no number is there twice
+pub record ArePlaces (places : BTreeMap ℕ ℕ) (numbers : List ℕ) : Type 0 where
+  pub only : (number : ℕ) → IsOnlyPlace numbers number (get nat_cmp places number)
+
+-- the place of the heap of a pid: of the sections with heaps the first that has the pid
+abbrev pub heap_place : List Section → List ℕ → Option ℕ
+heap_place sections pid = position (λ section. is_named (codes "proc_heap") (Some pid) section.text) sections
+
+-- a place is that of a section of the index
+abbrev pub IsWithin : Contents → Option ℕ → Type 0
+IsWithin index place = IfSome place (λ i. i < length index.headers)
+
+-- what the heap at a place refers to, in the bytes of a dump; a process without a heap refers to nothing
+abbrev pub references_at : List ℕ → Contents → Option ℕ → List ℕ
+references_at dump index place = references (enc_of index.version) (body_in dump (section_in index place))
+
+-- how many bytes the heap at a place has
+abbrev pub size_at : Contents → Option ℕ → ℕ
+size_at index place = body_size (section_in index place)

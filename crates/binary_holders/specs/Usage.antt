@@ -1,0 +1,71 @@
+-- The binaries of a dump and their holders.
+use Rattle.std.specs.Prelude.{◌≡◌, ℕ, ◌*◌, List, [], ◌∷◌, map, nat_lt, codes}
+use Rattle.std.specs.List.{count_by, sum_by}
+use Rattle.dump_io.specs.Dumps.{Use, DeviceFailed}
+use Rattle.section_index.specs.Index.{Contents, sections_in}
+use Rattle.section_index.specs.Lookups.{has_tag}
+use Rattle.heap_cells.specs.Loading.{heap_section, body_size}
+use Rattle.binary_holders.specs.declared.faults.HolderFault.{HolderFault}
+use Rattle.binary_holders.specs.declared.faults.HolderFault.TheVariants.{Read, Memory}
+use Rattle.binary_holders.specs.declared.rows.BinaryRow.{BinaryRow}
+use Rattle.binary_holders.specs.declared.rows.Holding.{Holding}
+use Rattle.binary_holders.specs.declared.using.BinaryUse.{BinaryUse}
+use Rattle.binary_holders.specs.declared.sought.Binary.{Binary}
+use Rattle.binary_holders.specs.Held.{capped, holdings, holders_of}
+use Rattle.binary_holders.specs.HeapReferences.{references_of}
+use Rattle.binary_holders.specs.Sorting.{most_first}
+use Rattle.binary_holders.specs.StoredBinaries.{Stored, stored, size_in}
+
+-- what the heaps of these pids refer to, in their order
+abbrev pub heaps_of : List ℕ → Contents → List (List ℕ) → List (List ℕ)
+heaps_of dump index pids = map (references_of dump index) pids
+
+-- the stored binaries of a dump
+abbrev pub stored_in : Contents → List Stored
+stored_in index = stored (sections_in index)
+
+-- a stored binary by its number and its size
+abbrev pub sized : List ℕ → Stored → Binary
+sized dump binary = record { number = binary.number; size = size_in dump binary }
+
+-- all of them
+abbrev pub binaries_in : List ℕ → Contents → List Binary
+binaries_in dump index = map (sized dump) (stored_in index)
+
+-- the row of a stored binary: its size, how many heaps hold it, its number, and the offset of its section
+abbrev pub row_of : List ℕ → List (List ℕ) → Stored → BinaryRow
+row_of dump heaps binary = record {
+  size = size_in dump binary;
+  holders = holders_of heaps binary.number;
+  number = binary.number;
+  at = binary.section.at;
+}
+
+-- the rows of the stored binaries, in the order of the dump
+abbrev pub rows_in : List ℕ → Contents → List (List ℕ) → List BinaryRow
+rows_in dump index heaps = map (row_of dump heaps) (stored_in index)
+
+-- the use of the binaries of a dump by the processes with these pids: who holds how much, the most first; the binaries, the
+-- largest first; their sizes together, and how many of them somebody holds
+pub record IsUse (dump : List ℕ) (index : Contents) (pids : List (List ℕ)) (found : BinaryUse) : Type 0 where
+  pub held : found.held.items ≡ most_first (λ holding. holding.bytes) (holdings (binaries_in dump index) (heaps_of dump index pids))
+  pub binaries : found.binaries.items ≡ most_first (λ row. row.size) (rows_in dump index (heaps_of dump index pids))
+  pub bytes : found.bytes ≡ capped (sum_by (λ binary. binary.size) (binaries_in dump index))
+  pub with_holders : found.with_holders ≡ count_by (λ row. nat_lt 0 row.holders) (rows_in dump index (heaps_of dump index pids))
+
+-- who holds the binary with a number, and by how many cells
+abbrev pub holders_in : List ℕ → Contents → List (List ℕ) → ℕ → List Holding
+holders_in dump index pids number = holdings (record { number = number; size = 0 } ∷ []) (heaps_of dump index pids)
+
+-- how many bytes the heaps of these pids have together
+abbrev pub heaps_length : Contents → List (List ℕ) → ℕ
+heaps_length index pids = sum_by (λ pid. body_size (heap_section index pid)) pids
+
+-- how many bytes may be read of the `binary` sections: 20 of each
+abbrev pub fronts_length : Contents → ℕ
+fronts_length index = 20 * count_by (λ section. has_tag (codes "binary") section.text) (sections_in index)
+
+-- why holders aren't told: the device failed; memory may lack at any time
+abbrev pub IsCauseOf : Use → HolderFault → Type 0
+IsCauseOf device Read = DeviceFailed device
+IsCauseOf device Memory = Unit {0}

@@ -1,0 +1,26 @@
+// Why holders aren't told.
+ghost use Rattle.std.specs.Prelude.{◌≡◌, [], ◌∷◌, ◌++◌, OnOk, IfErr};
+
+use thiserror::Error;
+
+/// Why the holders of binaries aren't told.
+#[derive(Debug, Drop, Error)]
+pub enum HolderFault {
+    /// The device failed.
+    #[error("the dump can't be read")]
+    Read,
+    /// There was no memory for the binaries, or for the rows.
+    #[error("out of memory")]
+    Memory,
+}
+
+/// Puts a row behind the others.
+pub(crate) fn push_row<T: Drop>(rows: &mut Vec<T>, row: T) -> Result<(), HolderFault>
+    ensures rows { OnOk result (rows.new.items ≡ rows.old.items ++ row ∷ []) }
+    ensures fault { IfErr result (λ fault. fault ≡ HolderFault.Memory) }
+{
+    match rows.push(row) {
+        Ok(()) => Ok(()),
+        Err(_) => Err(HolderFault::Memory),
+    }
+}

@@ -1,0 +1,29 @@
+//! Which processes hold which of the binaries outside the heaps.
+//!
+//! A process holds such a binary where a cell of its heap refers to it. [`binary_use`] tells of each process how many of
+//! these binaries it holds and how large they are together, and of each binary how many processes hold it; [`holders`]
+//! tells of one binary who holds it. The heaps are read one at a time and in pieces, whatever their lengths.
+//!
+//! ```text
+//! let procs = Procs::load(alloc, &mut dumps, &index, &limits)?;
+//! let used = binary_use(alloc, &mut dumps, &index, &procs)?;
+//! for holding in &used.held {
+//!     let pid = procs.pid(holding.process); // it holds holding.bytes
+//! }
+//! ```
+#![tactic(auto)]
+
+mod faults;
+mod heap_places;
+mod holding;
+mod lines;
+mod rows;
+mod scanning;
+mod sought;
+mod stored;
+mod tally;
+mod using;
+
+pub use faults::HolderFault;
+pub use rows::{BinaryRow, Holding};
+pub use using::{BinaryUse, binary_use, holders};

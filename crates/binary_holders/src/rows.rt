@@ -1,0 +1,27 @@
+// What is told of processes and of binaries.
+
+/// What a process holds of some binaries.
+#[derive(Clone, Copy, Debug, PartialEq, Eq, Drop)]
+pub struct Holding {
+    /// The place of the process in the process table, from 0.
+    pub process: usize,
+    /// The sizes of the binaries that it holds, together, in bytes, each once; at most 2^64 - 1.
+    pub bytes: u64,
+    /// How many of the binaries it holds.
+    pub count: u64,
+    /// How many lines of its heap refer to one of them.
+    pub cells: u64,
+}
+
+/// A binary outside the heaps, and how many processes hold it.
+#[derive(Clone, Copy, Debug, PartialEq, Eq, Drop)]
+pub struct BinaryRow {
+    /// The size that its section states, in bytes, and 0 where it states none.
+    pub size: u64,
+    /// How many processes hold it.
+    pub holders: u64,
+    /// Its number, which is its address.
+    pub number: u64,
+    /// The offset in the file of its section's header.
+    pub at: u64,
+}

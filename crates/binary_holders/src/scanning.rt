@@ -1,0 +1,143 @@
+// A heap is read in pieces, and what its lines refer to is counted.
+ghost use Rattle.std.specs.Prelude.{◌≡◌, ℕ, List, ◌+◌, ◌-◌, ◌≤◌, ◌++◌, length, take, min, true, IfOk, OnOk, OnErr};
+ghost use Rattle.std.specs.List.{between};
+ghost use Rattle.std.specs.Option.{option_to_list};
+ghost use Rattle.dump_io.specs.Dumps.{told, used, size_of, IsOpen, DeviceFailed, ReadsAtMost};
+ghost use Rattle.binary_holders.specs.HeapReferences.{references};
+ghost use Rattle.binary_holders.specs.Inner.Lines.{line_references};
+ghost use Rattle.binary_holders.specs.Inner.Pieces.{HearsFront};
+ghost use Rattle.binary_holders.specs.Inner.Tallies.{HasRoom, Hears, KeepsRoom};
+
+use crate::lines::{MARK, line_start, next_reference};
+use crate::sought::Sought;
+use crate::tally::Tally;
+use dump_io::{Dumps, Failed, read_full};
+use memchr::memmem::Finder;
+use std::alloc::{AllocError, Global};
+use term_forms::{Enc, form_is_read, number_is_read};
+
+// The most bytes of a piece.
+const PIECE: usize = 65_536;
+
+// The most bytes that are kept of a line of which more is to come. A line that refers to a binary has at most 71 with its
+// end: 69 of text, and CR and LF.
+const KEPT: usize = 72;
+
+// Room for a piece, and for what is kept in front of it.
+const ROOM: usize = 65_608;
+
+/// A buffer for a piece, and for what is kept in front of it.
+pub(crate) fn make_buffer(alloc: Global) -> Result<Vec<u8>, AllocError>
+    ensures { IfOk result (λ buffer. length buffer.items ≡ ROOM) }
+{
+    vec![in alloc; 0u8; ROOM]
+}
+
+// Hears what a line refers to, where it refers to a binary.
+fn hear_line(number: Option<u64>, sought: &Sought, tally: &mut Tally)
+    requires { HasRoom (length sought.now) tally.old }
+    ensures room { KeepsRoom tally.old tally.new }
+    ensures hears { Hears sought.now tally.old tally.new (option_to_list number) }
+{
+    if let Some(number) = number {
+        tally.hear(sought, number);
+    }
+}
+
+// Hears what the lines of some bytes refer to.
+fn hear_lines(bytes: &[u8], enc: Enc, sought: &Sought, tally: &mut Tally)
+    requires { HasRoom (length sought.now) tally.old }
+    ensures room { KeepsRoom tally.old tally.new }
+    ensures hears { Hears sought.now tally.old tally.new (line_references enc bytes.now) }
+{
+    let mark = Finder::new(MARK);
+    let mut rest = bytes;
+    while let Some((number, behind)) = next_reference(&mark, rest, enc) {
+        hear_line(number, sought, tally);
+        rest = behind;
+    }
+}
+
+// Hears what the whole lines of some bytes refer to. Of a line that isn't whole it moves as many bytes to the beginning as
+// are kept, and says how many. In the last bytes of a heap each line is whole.
+fn hear_piece(
+    bytes: &mut [u8],
+    is_last: bool,
+    enc: Enc,
+    sought: &Sought,
+    tally: &mut Tally,
+) -> usize
+    requires { HasRoom (length sought.now) tally.old }
+    ensures room { KeepsRoom tally.old tally.new }
+    ensures few { result ≤ KEPT }
+    ensures within { result ≤ length bytes.new }
+    ensures none { is_last ≡ true → result ≡ 0 }
+    ensures hears { HearsFront enc sought.now tally.old tally.new bytes.old (take result bytes.new) is_last }
+{
+    number_is_read();
+    form_is_read(enc);
+    let whole = if is_last {
+        bytes.len()
+    } else {
+        line_start(bytes)
+    };
+    hear_lines(&bytes[..whole], enc, sought, tally);
+    let kept = (bytes.len() - whole).min(KEPT);
+    bytes.copy_within(whole..whole + kept, 0);
+    kept
+}
+
+// Reads the bytes of the open file between two offsets, or as many of them as a piece has, into a buffer behind those that
+// are kept, and says how many.
+fn read_piece<D: Dumps>(
+    dumps: &mut D,
+    from: u64,
+    upto: u64,
+    kept: usize,
+    buffer: &mut [u8],
+) -> Result<usize, Failed>
+    requires open { IsOpen (D.now dumps.old) }
+    requires within { upto ≤ size_of (D.now dumps.old) }
+    requires ordered { from ≤ upto }
+    requires room { kept + PIECE ≤ length buffer.old }
+    ensures reads { ReadsAtMost (used D.files D.now D.faults D.taken dumps.old dumps.new) (min PIECE (upto - from)) }
+    ensures failed { OnErr result (DeviceFailed (used D.files D.now D.faults D.taken dumps.old dumps.new)) }
+    ensures count { IfOk result (λ count. count ≡ min PIECE (upto - from)) }
+    ensures piece { IfOk result (λ count. (dump : List ℕ) → D.now dumps.old ≡ told dump
+        → take (kept + count) buffer.new ≡ take kept buffer.old ++ between from (from + count) dump) }
+{
+    let count = PIECE.min((upto - from) as usize);
+    read_full(dumps, from, &mut buffer[kept..kept + count])?;
+    Ok(count)
+}
+
+/// Hears what the lines of a heap refer to, whose body lies between two offsets.
+pub(crate) fn hear_heap<D: Dumps>(
+    dumps: &mut D,
+    from: u64,
+    upto: u64,
+    enc: Enc,
+    buffer: &mut [u8],
+    sought: &Sought,
+    tally: &mut Tally,
+) -> Result<(), Failed>
+    requires open { IsOpen (D.now dumps.old) }
+    requires within { upto ≤ size_of (D.now dumps.old) }
+    requires ordered { from ≤ upto }
+    requires buffer { ROOM ≤ length buffer.old }
+    requires room { HasRoom (length sought.now) tally.old }
+    ensures reads { ReadsAtMost (used D.files D.now D.faults D.taken dumps.old dumps.new) (upto - from) }
+    ensures failed { OnErr result (DeviceFailed (used D.files D.now D.faults D.taken dumps.old dumps.new)) }
+    ensures keeps { KeepsRoom tally.old tally.new }
+    ensures hears { OnOk result ((dump : List ℕ) → D.now dumps.old ≡ told dump
+        → Hears sought.now tally.old tally.new (references enc (between from upto dump))) }
+{
+    let mut at = from;
+    let mut kept = 0;
+    while at < upto {
+        let count = read_piece(dumps, at, upto, kept, buffer)?;
+        at += count as u64;
+        kept = hear_piece(&mut buffer[..kept + count], at == upto, enc, sought, tally);
+    }
+    Ok(())
+}

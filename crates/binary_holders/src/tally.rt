@@ -1,0 +1,99 @@
+// What a heap refers to is counted.
+ghost use Rattle.std.specs.Prelude.{◌≡◌, [], ◌∷◌, ◌+◌, ◌-◌, ◌<◌, ◌^◌, ℕ, List, ◌++◌, length, IfOk, slice_index, slice_set, min};
+ghost use Rattle.binary_holders.specs.declared.sought.Binary.{Binary};
+ghost use Rattle.binary_holders.specs.Inner.Tallies.{HasHeard, HasRoom, Hears, KeepsRoom, counted};
+
+use crate::rows::Holding;
+use crate::sought::Sought;
+use std::alloc::{AllocError, Global};
+
+/// What was heard so far: of the heap whose turn it is how many binaries it holds, of how many bytes, and by how many
+/// lines; and for each binary the turn of the last heap that holds it, and how many heaps do.
+#[derive(Drop)]
+pub(crate) struct Tally {
+    pub turn: u32,
+    pub count: u64,
+    pub bytes: u64,
+    pub cells: u64,
+    pub seen: Vec<u32>,
+    pub holders: Vec<u32>,
+}
+
+impl Tally {
+    /// Nothing was heard of the first heap, for so many binaries.
+    pub fn new(alloc: Global, count: usize) -> Result<Tally, AllocError>
+        ensures turn { IfOk result (λ tally. tally.turn ≡ 1) }
+        ensures room { IfOk result (HasRoom count) }
+        ensures heard { IfOk result (λ tally. (binaries : List Binary) → length binaries ≡ count → HasHeard binaries [] [] tally) }
+    {
+        let seen = vec![in alloc; 0u32; count]?;
+        let holders = vec![in alloc; 0u32; count]?;
+        Ok(Tally {
+            turn: 1,
+            count: 0,
+            bytes: 0,
+            cells: 0,
+            seen,
+            holders,
+        })
+    }
+
+    /// The next heap's turn comes.
+    pub fn turn(&mut self)
+        requires { self.old.turn + 1 < 2 ^ 32 }
+        ensures turn { self.new.turn ≡ self.old.turn + 1 }
+        ensures room { (count : ℕ) → HasRoom count self.old → HasRoom count self.new }
+        ensures heard { (binaries : List Binary) (heaps : List (List ℕ)) (references : List ℕ) → HasHeard binaries heaps references self.old
+            → HasHeard binaries (heaps ++ references ∷ []) [] self.new }
+    {
+        self.turn += 1;
+        self.count = 0;
+        self.bytes = 0;
+        self.cells = 0;
+    }
+
+    // The binary at a place is held, which it wasn't before. No count comes to the end of its type: the turn is the number
+    // of the heap.
+    fn hold(&mut self, place: usize, size: u64)
+        requires seen { place < length self.old.seen.items }
+        requires holders { place < length self.old.holders.items }
+        ensures turn { self.new.turn ≡ self.old.turn }
+        ensures seen { self.new.seen.items ≡ slice_set self.old.seen.items place self.old.turn }
+        ensures holders { self.new.holders.items ≡ slice_set self.old.holders.items place (min (slice_index self.old.holders.items place + 1) (2 ^ 32 - 1)) }
+        ensures count { self.new.count ≡ min (self.old.count + 1) (2 ^ 64 - 1) }
+        ensures bytes { self.new.bytes ≡ min (self.old.bytes + size) (2 ^ 64 - 1) }
+        ensures cells { self.new.cells ≡ self.old.cells }
+    {
+        self.seen[place] = self.turn;
+        self.holders[place] = self.holders[place].saturating_add(1);
+        self.count = self.count.saturating_add(1);
+        self.bytes = self.bytes.saturating_add(size);
+    }
+
+    /// A line refers to the binary with this number.
+    pub fn hear(&mut self, sought: &Sought, number: u64)
+        requires { HasRoom (length sought.now) self.old }
+        ensures room { KeepsRoom self.old self.new }
+        ensures hears { Hears sought.now self.old self.new (number ∷ []) }
+    {
+        let Some(place) = sought.place(number) else {
+            return;
+        };
+        self.cells = self.cells.saturating_add(1);
+        if self.seen[place] != self.turn {
+            self.hold(place, sought.binaries()[place].size);
+        }
+    }
+
+    /// What the process at a place holds, by its heap.
+    pub fn holding(&self, process: usize) -> Holding
+        ensures { result ≡ counted process self.now }
+    {
+        Holding {
+            process,
+            bytes: self.bytes,
+            count: self.count,
+            cells: self.cells,
+        }
+    }
+}

@@ -1,0 +1,253 @@
+// The binaries of a dump and their holders.
+ghost use Rattle.std.specs.Prelude.{◌≡◌, ℕ, List, [], ◌∷◌, ◌+◌, ◌<◌, length, map, nat_lt, All, IfOk, OnOk, IfErr};
+ghost use Rattle.std.specs.List.{sum_by, count_by};
+ghost use Rattle.dump_io.specs.Dumps.{told, used, ReadsAtMost};
+ghost use Rattle.section_index.specs.Index.{IsBuiltOver};
+ghost use Rattle.process_table.specs.Processes.{IsOver};
+ghost use Rattle.binary_holders.specs.Held.{capped, holdings};
+ghost use Rattle.binary_holders.specs.Sorting.{most_first};
+ghost use Rattle.binary_holders.specs.Usage.{IsUse, IsCauseOf, binaries_in, fronts_length, heaps_length, heaps_of, holders_in, stored_in};
+ghost use Rattle.binary_holders.specs.Inner.Finding.{numbers_of, stored_of};
+ghost use Rattle.binary_holders.specs.Inner.Places.{numbers_in};
+ghost use Rattle.binary_holders.specs.Inner.Rows.{AreRows, row_at};
+ghost use Rattle.binary_holders.specs.Inner.Tallies.{HasHeard};
+
+use crate::faults::{HolderFault, push_row};
+use crate::heap_places::heap_places;
+use crate::holding::hear_all;
+use crate::rows::{BinaryRow, Holding};
+use crate::sought::{Binary, Sought};
+use crate::stored::{StoredAt, find_stored, read_sizes};
+use crate::tally::Tally;
+use dump_io::Dumps;
+use process_table::Procs;
+use section_index::Index;
+use std::alloc::{AllocError, Global};
+use std::collections::BTreeMap;
+
+/// The binaries outside the heaps, and the processes that hold them.
+#[derive(Drop)]
+pub struct BinaryUse {
+    /// The processes that hold one of them, those that hold the most bytes first, and of equal ones the first of the dump.
+    pub held: Vec<Holding>,
+    /// The binaries, the largest first, and of equal ones the first of the dump.
+    pub binaries: Vec<BinaryRow>,
+    /// The sizes of the binaries together; at most 2^64 - 1.
+    pub bytes: u64,
+    /// How many of the binaries are held by a process.
+    pub with_holders: u64,
+}
+
+// The row of a binary.
+fn row_of(index: &Index, stored: &StoredAt, binary: &Binary, holders: u32) -> BinaryRow
+    requires { stored.now.section < length index.now.headers }
+    ensures { result ≡ row_at index.now stored.now binary.now holders }
+{
+    BinaryRow {
+        size: binary.size,
+        holders: u64::from(holders),
+        number: stored.number,
+        at: index.section(stored.section).at,
+    }
+}
+
+// The rows of the binaries, in the order of the dump.
+fn rows_of(
+    alloc: Global,
+    index: &Index,
+    stored: &[StoredAt],
+    binaries: &[Binary],
+    holders: &[u32],
+) -> Result<Vec<BinaryRow>, HolderFault>
+    requires within { All (λ binary. binary.section < length index.now.headers) stored.now }
+    requires sizes { length binaries.now ≡ length stored.now }
+    requires holders { length holders.now ≡ length stored.now }
+    ensures rows { IfOk result (λ rows. AreRows index.now stored.now binaries.now holders.now (length stored.now) rows.items) }
+    ensures fault { IfErr result (λ fault. fault ≡ HolderFault.Memory) }
+{
+    let mut rows = Vec::new(alloc);
+    for k in 0..stored.len() {
+        let row = row_of(index, &stored[k], &binaries[k], holders[k]);
+        push_row(&mut rows, row)?;
+    }
+    Ok(rows)
+}
+
+// The sizes of the binaries together, which are kept up to 2^64 - 1.
+fn sum_sizes(binaries: &[Binary]) -> u64
+    ensures { result ≡ capped (sum_by (λ binary. binary.size) binaries.now) }
+{
+    let mut sum = 0u64;
+    for binary in binaries {
+        sum = sum.saturating_add(binary.size);
+    }
+    sum
+}
+
+// How many binaries have a holder.
+fn count_held(rows: &[BinaryRow]) -> u64
+    ensures { result ≡ count_by (λ row. nat_lt 0 row.holders) rows.now }
+{
+    rows.iter().filter(|row| row.holders > 0).count() as u64
+}
+
+fn sort_holdings(held: &mut Vec<Holding>) -> Result<(), AllocError>
+    ensures { OnOk result (held.new.items ≡ most_first (λ holding. holding.bytes) held.old.items) }
+{
+    held.sort_by(|one, other| other.bytes.cmp(&one.bytes))
+}
+
+fn sort_rows(rows: &mut Vec<BinaryRow>) -> Result<(), AllocError>
+    ensures { OnOk result (rows.new.items ≡ most_first (λ row. row.size) rows.old.items) }
+{
+    rows.sort_by(|one, other| other.size.cmp(&one.size))
+}
+
+// The rows of what was heard, those with the most first, and how many binaries somebody holds.
+fn sorted(
+    mut held: Vec<Holding>,
+    mut rows: Vec<BinaryRow>,
+    bytes: u64,
+) -> Result<BinaryUse, HolderFault>
+    ensures held { IfOk result (λ found. found.held.items ≡ most_first (λ holding. holding.bytes) held.items) }
+    ensures binaries { IfOk result (λ found. found.binaries.items ≡ most_first (λ row. row.size) rows.items) }
+    ensures bytes { IfOk result (λ found. found.bytes ≡ bytes) }
+    ensures with_holders { IfOk result (λ found. found.with_holders ≡ count_by (λ row. nat_lt 0 row.holders) rows.items) }
+    ensures fault { IfErr result (λ fault. fault ≡ HolderFault.Memory) }
+{
+    let with_holders = count_held(&rows);
+    let Ok(()) = sort_holdings(&mut held) else {
+        return Err(HolderFault::Memory);
+    };
+    let Ok(()) = sort_rows(&mut rows) else {
+        return Err(HolderFault::Memory);
+    };
+    Ok(BinaryUse {
+        held,
+        binaries: rows,
+        bytes,
+        with_holders,
+    })
+}
+
+// What each process holds of some binaries, and how many processes hold each.
+fn hear_binaries<D: Dumps>(
+    alloc: Global,
+    dumps: &mut D,
+    index: &Index,
+    procs: &Procs,
+    sought: &Sought,
+) -> Result<(Vec<Holding>, Tally), HolderFault>
+    requires over { IsBuiltOver (D.now dumps.old) index.now }
+    requires procs { IsOver index.now procs.now }
+    ensures reads { ReadsAtMost (used D.files D.now D.faults D.taken dumps.old dumps.new) (heaps_length index.now (map (λ process. process.pid) procs.now.processes)) }
+    ensures fault { IfErr result (IsCauseOf (used D.files D.now D.faults D.taken dumps.old dumps.new)) }
+    ensures room { IfOk result (λ found. length found.1.holders.items ≡ length sought.now) }
+    ensures held { IfOk result (λ found. (dump : List ℕ) → D.now dumps.old ≡ told dump
+        → found.0.items ≡ holdings sought.now (heaps_of dump index.now (map (λ process. process.pid) procs.now.processes))) }
+    ensures heard { IfOk result (λ found. (dump : List ℕ) → D.now dumps.old ≡ told dump
+        → HasHeard sought.now (heaps_of dump index.now (map (λ process. process.pid) procs.now.processes)) [] found.1) }
+{
+    let _count = procs.len();
+    let Ok(heaps) = heap_places(alloc, index, procs) else {
+        return Err(HolderFault::Memory);
+    };
+    let Ok(mut tally) = Tally::new(alloc, sought.len()) else {
+        return Err(HolderFault::Memory);
+    };
+    let held = hear_all(alloc, dumps, index, heaps.as_slice(), sought, &mut tally)?;
+    Ok((held, tally))
+}
+
+// The stored binaries whose holders are sought, with their sizes.
+fn stored_sought<D: Dumps>(
+    alloc: Global,
+    dumps: &mut D,
+    index: &Index,
+) -> Result<(Vec<StoredAt>, Sought), HolderFault>
+    requires { IsBuiltOver (D.now dumps.old) index.now }
+    ensures reads { ReadsAtMost (used D.files D.now D.faults D.taken dumps.old dumps.new) (fronts_length index.now) }
+    ensures fault { IfErr result (IsCauseOf (used D.files D.now D.faults D.taken dumps.old dumps.new)) }
+    ensures within { IfOk result (λ found. All (λ binary. binary.section < length index.now.headers) found.0.items) }
+    ensures stored { IfOk result (λ found. map (stored_of index.now) found.0.items ≡ stored_in index.now) }
+    ensures numbers { IfOk result (λ found. numbers_in found.1 ≡ numbers_of found.0.items) }
+    ensures sizes { IfOk result (λ found. (dump : List ℕ) → D.now dumps.old ≡ told dump → found.1 ≡ binaries_in dump index.now) }
+{
+    let Ok(found) = find_stored(alloc, index) else {
+        return Err(HolderFault::Memory);
+    };
+    let binaries = read_sizes(alloc, dumps, index, found.binaries.as_slice())?;
+    Ok((found.binaries, Sought::new(binaries, found.places)))
+}
+
+/// Which processes hold how much of the binaries outside the heaps, and which binaries are large.
+///
+/// The stored binaries are the `binary` sections whose id is a hex number of 1 to 16 digits, of those with one number the
+/// first. The size of one is the hex number of 1 to 16 digits in front of the `:` with which its body begins, and 0 where it
+/// doesn't begin so. A process holds one where the first `proc_heap` section of its pid has a heap line whose form is a
+/// reference to a binary with that number; each binary counts once for a process. Sums are kept up to 2^64 - 1.
+///
+/// The index is one that was built over the file that is open, and the processes are those of the index; the file stays
+/// open. `Read` comes only where the device's count of faults rose, and `Memory` may come at any growth. Whatever the
+/// answer, at most as many bytes are read as the heaps have together, and 20 of each `binary` section. The heaps are read
+/// one at a time in pieces of at most 65,536 bytes.
+pub fn binary_use<D: Dumps>(
+    alloc: Global,
+    dumps: &mut D,
+    index: &Index,
+    procs: &Procs,
+) -> Result<BinaryUse, HolderFault>
+    requires over { IsBuiltOver (D.now dumps.old) index.now }
+    requires procs { IsOver index.now procs.now }
+    ensures reads { ReadsAtMost (used D.files D.now D.faults D.taken dumps.old dumps.new)
+        (fronts_length index.now + heaps_length index.now (map (λ process. process.pid) procs.now.processes)) }
+    ensures found { IfOk result (λ found. (dump : List ℕ) → D.now dumps.old ≡ told dump → IsUse dump index.now (map (λ process. process.pid) procs.now.processes) found) }
+    ensures fault { IfErr result (IsCauseOf (used D.files D.now D.faults D.taken dumps.old dumps.new)) }
+{
+    let (stored, sought) = stored_sought(alloc, dumps, index)?;
+    let (held, tally) = hear_binaries(alloc, dumps, index, procs, &sought)?;
+    let list = stored.as_slice();
+    let binaries = sought.binaries();
+    let holders = tally.holders.as_slice();
+    let rows = rows_of(alloc, index, list, binaries, holders)?;
+    let bytes = sum_sizes(binaries);
+    sorted(held, rows, bytes)
+}
+
+// One binary whose holders are sought, by its number alone.
+fn one_sought(alloc: Global, number: u64) -> Result<Sought, AllocError>
+    ensures { IfOk result (λ sought. sought ≡ (record { number = number; size = 0 }) ∷ []) }
+{
+    let mut places = BTreeMap::new(alloc);
+    places.insert(number, 0)?;
+    let mut binaries = Vec::new(alloc);
+    binaries.push(Binary { number, size: 0 })?;
+    Ok(Sought::new(binaries, places))
+}
+
+/// Which processes hold the binary with this number, in the order of the dump, and by how many lines of their heaps. What a
+/// process holds is told as at [`binary_use`], with the size taken for 0; nothing of the `binary` sections is read.
+///
+/// The index is one that was built over the file that is open, and the processes are those of the index; the file stays
+/// open. `Read` comes only where the device's count of faults rose, and `Memory` may come at any growth. Whatever the
+/// answer, at most as many bytes are read as the heaps have together, one heap at a time in pieces of at most 65,536 bytes.
+pub fn holders<D: Dumps>(
+    alloc: Global,
+    dumps: &mut D,
+    index: &Index,
+    procs: &Procs,
+    number: u64,
+) -> Result<Vec<Holding>, HolderFault>
+    requires over { IsBuiltOver (D.now dumps.old) index.now }
+    requires procs { IsOver index.now procs.now }
+    ensures reads { ReadsAtMost (used D.files D.now D.faults D.taken dumps.old dumps.new) (heaps_length index.now (map (λ process. process.pid) procs.now.processes)) }
+    ensures found { IfOk result (λ found. (dump : List ℕ) → D.now dumps.old ≡ told dump
+        → found.items ≡ holders_in dump index.now (map (λ process. process.pid) procs.now.processes) number) }
+    ensures fault { IfErr result (IsCauseOf (used D.files D.now D.faults D.taken dumps.old dumps.new)) }
+{
+    let Ok(sought) = one_sought(alloc, number) else {
+        return Err(HolderFault::Memory);
+    };
+    let (held, _tally) = hear_binaries(alloc, dumps, index, procs, &sought)?;
+    Ok(held)
+}

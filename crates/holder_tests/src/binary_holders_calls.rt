@@ -1,0 +1,223 @@
+use binary_holders::{BinaryUse, HolderFault, Holding, binary_use, holders};
+use dump_io::{Dumps, Limits, MemDumps};
+use process_table::Procs;
+use section_index::{Index, build};
+use std::alloc::{AllocError, Global};
+use std::test::Fail;
+
+// Three processes, of which two hold binaries. One number is written by two sections, one body is cut, and one section has no
+// number.
+const SAMPLE: &[u8] = b"=erl_crash_dump:0.5
+=proc:<0.1.0>
+=proc:<0.2.0>
+=proc:<0.3.0>
+=proc_heap:<0.2.0>
+10:Yc500:0:5
+18:lI1|N
+20:Yc500:1:2
+28:YcAF0:0:1
+30:Ysaf0:0:1
+38:Yc77:0:1
+40:Yc900:0:1
+=proc_heap:<0.1.0>
+10:YcAf0:0:1
+10:YcaF0:0:1
+=proc_heap:<0.2.0>
+10:Yc900:0:1
+=binary:500
+5:aGVsbG8=
+=binary:AF0
+20:AAAA
+=binary:0500
+7:AAAAAAAAAA==
+=binary:900
+A:AAAAAAAAAAAAAA==
+=binary:x
+9:AAAAAAAAAAAA
+=binary:1
+no size
+=binary:2
+20:
+=end
+";
+
+fn device(alloc: Global, cuts: &[usize], fails: &[u64]) -> Result<MemDumps, AllocError> {
+    MemDumps::holding(alloc, "S", SAMPLE, cuts, fails)
+}
+
+// Holdings as rows of the place, the bytes, how many binaries, and how many cells.
+fn draw_holdings(out: &mut Vec<u8>, held: &[Holding]) -> Result<(), AllocError> {
+    let alloc = *out.allocator();
+    for holding in held {
+        out.extend_from_slice(
+            format!(in alloc; "{} {} {} {}\n", holding.process, holding.bytes, holding.count, holding.cells)?.as_bytes(),
+        )?;
+    }
+    Ok(())
+}
+
+// What was found, as rows.
+fn drawn(alloc: Global, found: &BinaryUse) -> Result<Vec<u8>, AllocError> {
+    let mut out = Vec::new(alloc);
+    draw_holdings(&mut out, &found.held)?;
+    for row in &found.binaries {
+        out.extend_from_slice(
+            format!(in alloc; "{} {} {:X} {}\n", row.size, row.holders, row.number, row.at)?.as_bytes(),
+        )?;
+    }
+    out.extend_from_slice(
+        format!(in alloc; "{} {} {}\n", found.binaries.len(), found.bytes, found.with_holders)?.as_bytes(),
+    )?;
+    Ok(out)
+}
+
+// A dump of one process with this heap, and the binary 500 of 5 bytes.
+fn with_heap(
+    alloc: Global,
+    version: &str,
+    heap: &[u8],
+    cuts: &[usize],
+) -> Result<MemDumps, AllocError> {
+    let mut text = Vec::new(alloc);
+    text.extend_from_slice(
+        format!(in alloc; "=erl_crash_dump:{version}\n=proc:<0.1.0>\n=proc_heap:<0.1.0>\n")?.as_bytes(),
+    )?;
+    text.extend_from_slice(heap)?;
+    text.extend_from_slice(b"=binary:500\n5:\n=end\n")?;
+    MemDumps::holding(alloc, "S", &text, cuts, &[])
+}
+
+// The index and the processes of what the device holds.
+fn load(alloc: Global, dumps: &mut MemDumps) -> Result<(Index, Procs), Fail> {
+    let limits = Limits::usual();
+    let index = build(alloc, dumps, "S", &limits)?;
+    let procs = Procs::load(alloc, dumps, &index, &limits)?;
+    Ok((index, procs))
+}
+
+// Who holds the binary 500 of a dump of one process with this heap.
+fn drawn_holders(
+    alloc: Global,
+    version: &str,
+    heap: &[u8],
+    cuts: &[usize],
+) -> Result<Vec<u8>, Fail> {
+    let mut dumps = with_heap(alloc, version, heap, cuts)?;
+    let (index, procs) = load(alloc, &mut dumps)?;
+    let held = holders(alloc, &mut dumps, &index, &procs, 0x500)?;
+    let mut out = Vec::new(alloc);
+    draw_holdings(&mut out, &held)?;
+    Ok(out)
+}
+
+#[test]
+fn the_most_stands_first(rt: HostRuntime) -> Result<(), Fail> {
+    let alloc = rt.alloc();
+    for cuts in [&[][..], &[1], &[7, 3]] {
+        let mut dumps = device(alloc, cuts, &[])?;
+        let (index, procs) = load(alloc, &mut dumps)?;
+        let found = binary_use(alloc, &mut dumps, &index, &procs)?;
+        let expected: &[u8] = b"1 47 3 4
+0 32 1 2
+32 2 AF0 267
+32 0 2 389
+10 1 900 315
+5 1 500 244
+0 0 1 371
+5 79 3
+";
+        let text = drawn(alloc, &found)?;
+        assert_eq!(rt; text.as_slice(), expected);
+    }
+    Ok(())
+}
+
+#[test]
+fn holders_are_told_by_their_lines(rt: HostRuntime) -> Result<(), Fail> {
+    let alloc = rt.alloc();
+    let mut dumps = device(alloc, &[], &[])?;
+    let (index, procs) = load(alloc, &mut dumps)?;
+    let mut out = Vec::new(alloc);
+    for number in [0x500, 0xAF0, 0x900, 0x77, 2] {
+        let held = holders(alloc, &mut dumps, &index, &procs, number)?;
+        draw_holdings(&mut out, &held)?;
+        out.extend_from_slice(b"-\n")?;
+    }
+    // A number that no section has is one like any other.
+    let expected: &[u8] = b"1 0 1 2
+-
+0 0 1 2
+1 0 1 1
+-
+1 0 1 1
+-
+1 0 1 1
+-
+-
+";
+    assert_eq!(rt; out.as_slice(), expected);
+    Ok(())
+}
+
+#[test]
+fn a_line_counts_wherever_pieces_end_in_it(rt: HostRuntime) -> Result<(), Fail> {
+    let alloc = rt.alloc();
+    let line: &[u8] = b"0000000000000010:Yc0000000000000500:0000000000000000:0000000000000005\r\n";
+    for before in 65_464..65_540 {
+        // A line in front of it, whose bytes are none of a reference, is as long as to end here.
+        let mut heap = vec![in alloc; b'x'; before]?;
+        heap.extend_from_slice(b"\n")?;
+        heap.extend_from_slice(line)?;
+        heap.extend_from_slice(b"18:Yc500:0:1")?;
+        heap.extend_from_slice(b"\n")?;
+        let text = drawn_holders(alloc, "0.4", &heap, &[])?;
+        assert_eq!(rt; text.as_slice(), b"0 0 1 2\n".as_slice());
+    }
+    Ok(())
+}
+
+#[test]
+fn the_rest_of_a_long_line_is_no_line(rt: HostRuntime) -> Result<(), Fail> {
+    let alloc = rt.alloc();
+    for (begin, length, end, answer) in [
+        ("10:Yc500:0:1", 200_000, "10:Yc500:0:1\n", ""),
+        ("x", 131_000, "20:Yc500:0:1\n30:Yc500:0:1\n", "0 0 1 1\n"),
+        ("10:Yc500:0:1\n", 65_536, ":Yc500:0:1\n", "0 0 1 1\n"),
+        ("0", 17, ":Yc500:0:1\n", ""),
+        ("10:Yc500:0:1:Yc500:0:1\n", 0, "20:Yc500:0:1\n", "0 0 1 1\n"),
+    ] {
+        let mut heap = Vec::from_slice(alloc, begin.as_bytes())?;
+        for _ in 0..length {
+            heap.push(b'0')?;
+        }
+        heap.extend_from_slice(end.as_bytes())?;
+        let text = drawn_holders(alloc, "0.5", &heap, &[])?;
+        assert_eq!(rt; text.as_slice(), answer.as_bytes());
+    }
+    Ok(())
+}
+
+#[test]
+fn a_failed_read_tells_nothing(rt: HostRuntime) -> Result<(), Fail> {
+    let alloc = rt.alloc();
+    let mut answers = Vec::new(alloc);
+    for call in 1..18u64 {
+        let mut dumps = device(alloc, &[], &[call])?;
+        let Ok(index) = build(alloc, &mut dumps, "S", &Limits::usual()) else {
+            answers.push(b'i')?;
+            continue;
+        };
+        let Ok(procs) = Procs::load(alloc, &mut dumps, &index, &Limits::usual()) else {
+            answers.push(b'p')?;
+            continue;
+        };
+        answers.push(match binary_use(alloc, &mut dumps, &index, &procs) {
+            Ok(_) => b'.',
+            Err(HolderFault::Read) => b'r',
+            Err(HolderFault::Memory) => b'm',
+        })?;
+    }
+    // The file is opened and read once, no process has a body, and five binaries and two heaps are read.
+    assert_eq!(rt; answers.as_slice(), b"iirrrrrrr........".as_slice());
+    Ok(())
+}
