@@ -1,11 +1,11 @@
 #!/bin/sh
 # Times `edump index` and `edump info` on a dump of 1 GiB, once with 500,000 and once with 900,000 sections, warm,
 # beside a C loop and grep; then `edump procs` on a dump of 1 GiB with 200,000 processes, beside `edump index`; then the
-# load of heaps, beside the reading of their lines through `heap_line` and `form`, and the walk of a term; then the
-# previews of binaries; then an external term, read and written; then `edump audit` beside `edump procs`, and `edump
-# audit-json` beside `edump audit`; and then `edump redact` of a dump of 1 GiB beside `cat`, each into a file that isn't there
-# before. Each command runs in turn for a number of rounds; the script prints its median in seconds, how many times that of
-# another this is, and the most memory that it had.
+# load of heaps, beside the reading of their lines through `heap_line` and `form`, `edump term` beside a program in C that
+# writes the same, and the walk of a term; then the previews of binaries; then an external term, read and written; then
+# `edump audit` beside `edump procs`, and `edump audit-json` beside `edump audit`; and then `edump redact` of a dump of 1 GiB
+# beside `cat`, each into a file that isn't there before. Each command runs in turn for a number of rounds; the script prints
+# its median in seconds, how many times that of another this is, and the most memory that it had.
 #
 #   bench/run.sh [ROUNDS]
 #
@@ -15,7 +15,7 @@ rounds=${1:-20}
 here=$(CDPATH= cd -- "$(dirname -- "$0")" && pwd) || exit 1
 folder=$(mktemp -d) || exit 1
 trap 'rm -rf "$folder"' EXIT
-cc -O2 -o "$folder/bench" "$here/bench.c" || exit 1
+cc -O2 -o "$folder/bench" "$here/bench.c" && cc -O2 -o "$folder/term" "$here/term.c" || exit 1
 bench="$folder/bench"
 dump="$folder/dump"
 edump="$here/../crates/edump/out/edump"
@@ -93,10 +93,11 @@ for shape in "list 1000000 0" "list 10000000 1" "tuples 1000000"; do
     for _ in $(seq "$rounds"); do
         round lines /dev/null "$heap_bench" lines "$dump"
         round load /dev/null "$heap_bench" load "$dump" "<0.1.0>" 10
+        round term "$folder/out" "$edump" term "$dump" "<0.1.0>" 10 1000000000
+        round plain "$folder/plain" "$folder/term" "$dump" "<0.1.0>" 10
         [ "$2" -gt 1000000 ] && continue
         round previews /dev/null "$heap_bench" previews "$dump" "<0.1.0>" 10
         round walk /dev/null "$heap_bench" walk "$dump" "<0.1.0>" 10
-        round term /dev/null "$edump" term "$dump" "<0.1.0>" 10 1000000000
         round reach /dev/null "$edump" reach "$dump" "<0.1.0>"
     done
     echo "a heap of $2 cells, $1${3:+, in order $3}, $size bytes of text:"
@@ -106,9 +107,9 @@ for shape in "list 1000000 0" "list 10000000 1" "tuples 1000000"; do
     [ "$2" -gt 1000000 ] && continue
     awk -v walk="$(median walk)" -v load="$(median previews)" -v cells="$2" \
         'BEGIN { printf "judge and print: %.1f million nodes a second\n", 2 * cells / (walk - load) / 1000000 }'
-    tell term "edump term" load "the load"
     tell reach "edump reach" load "the load"
 done
+rm -f "$folder/out" "$folder/plain"
 
 # References to binaries, over few and over many sections.
 for sections in 10000 100000; do

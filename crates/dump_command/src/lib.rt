@@ -1,4 +1,5 @@
-//! The commands of edump: their words, their run from a device to two sinks, and the real devices.
+//! The commands of edump: their run from a device to two sinks. Their words are those of command_words, whose [`Cmd`] and
+//! [`read_words`] stand here too.
 //!
 //! ```
 //! let mut dumps = FileDumps::new(&rt);

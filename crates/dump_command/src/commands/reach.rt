@@ -1,14 +1,10 @@
 // `reach`: which cells of a process's heap its roots reach.
 ghost use Rattle.std.specs.Prelude.{◌≡◌, ◌<◌, [], length, IfOk, IfErr, IfSome};
 ghost use Rattle.dump_io.specs.Dumps.{used, ReadsAtMost};
-ghost use Rattle.dump_io.specs.Sinks.{changed, Puts};
 ghost use Rattle.section_index.specs.Index.{sections_in, IsBuiltOver};
 ghost use Rattle.section_rows.specs.Loading.{bodies_length, first_large, large_fault};
 ghost use Rattle.heap_cells.specs.Loading.{section_in};
-ghost use Rattle.heap_reach.specs.Reached.{is_in};
-ghost use Rattle.heap_reach.specs.Rounds.{reached_by, IsReachOf};
-ghost use Rattle.heap_reach.specs.Unreached.{unreached_of};
-ghost use Rattle.report_text.specs.Reach.{reach_report};
+ghost use Rattle.heap_reach.specs.Rounds.{IsReachOf};
 ghost use Rattle.command_words.specs.Command.{reach};
 ghost use Rattle.dump_command.specs.Terms.{roots_section};
 ghost use Rattle.dump_command.specs.Inner.ReachLoads.{reach_text, roots_at, terms_loaded, ArePlaces, AreWithin, HoldsRoots, IsUnread};
@@ -18,7 +14,7 @@ use crate::open::Opened;
 use crate::report::Report;
 use crate::status::DONE;
 use crate::stop::Stop;
-use dump_io::{Dumps, Failed, Sink};
+use dump_io::{Dumps, Sink};
 use heap_cells::Heap;
 use report_text::{add_roots, put_reach};
 use root_views::RootKind;
@@ -111,23 +107,6 @@ fn add_all(reach: &mut heap_reach::Reach<'_>, roots: &RootBodies)
     add_roots(reach, RootKind::Mail, roots.mail.bytes.as_slice());
 }
 
-// Writes what the roots reach.
-fn put_reached<K: Sink>(
-    sink: &mut K,
-    heap: &Heap,
-    reach: &heap_reach::Reach<'_>,
-    roots: &RootBodies,
-    unreached: &[u64],
-) -> Result<(), Failed>
-    requires heap { reach.now.heap ≡ heap.now }
-    requires roots { IsReachOf reach.now (terms_loaded roots.now) }
-    requires unreached { unreached.now ≡ unreached_of heap.now (is_in reach.now.marks) }
-    ensures { Puts (changed K.written K.faults sink.old sink.new) (reach_report heap.now (reached_by heap.now.cells (terms_loaded roots.now))) result }
-{
-    let _roots = roots;
-    put_reach(sink, heap, reach, unreached)
-}
-
 impl Report for Reach<'_> {
     type Loaded = Loaded;
 
@@ -151,7 +130,7 @@ impl Report for Reach<'_> {
         let mut reach = heap_reach::Reach::new(at.alloc, heap)?;
         add_all(&mut reach, roots);
         let unreached = reach.unreached(at.alloc)?;
-        put_reached(out, heap, &reach, roots, unreached.as_slice())?;
+        put_reach(out, heap, &reach, unreached.as_slice())?;
         Ok(DONE)
     }
 }
