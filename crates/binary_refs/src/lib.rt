@@ -15,5 +15,6 @@ mod wholes;
 
 pub use entries::Preview;
 pub use faults::{BinFault, PreviewFault};
+pub use places::BinaryPlaces;
 pub use previews::Previews;
 pub use wholes::{decode_payload, whole};

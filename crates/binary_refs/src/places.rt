@@ -11,6 +11,7 @@ ghost use Rattle.binary_refs.specs.Inner.Places.{address_at, ArePairs, AreOrdere
 use dump_io::hex_u64;
 use section_index::Index;
 use std::alloc::{AllocError, Global};
+use std::marker::Model;
 
 // The number that an id writes in hex.
 fn hex_id(id: Option<&[u8]>) -> Option<u64>
@@ -66,13 +67,55 @@ fn pairs_of(alloc: Global, index: &Index) -> Result<Vec<(u64, u32)>, AllocError>
 }
 
 // The same by address, and those with one address by place.
-pub(crate) fn places_of(alloc: Global, index: &Index) -> Result<Vec<(u64, u32)>, AllocError>
+fn places_of(alloc: Global, index: &Index) -> Result<Vec<(u64, u32)>, AllocError>
     ensures { IfOk result (λ pairs. AreOrdered (sections_in index.now) pairs.items) }
 {
     let _count = index.len();
     let mut pairs = pairs_of(alloc, index)?;
     pairs.sort_unstable();
     Ok(pairs)
+}
+
+/// The `binary` sections of an index in the order of their addresses. Contracts see the index.
+#[derive(Drop)]
+pub struct BinaryPlaces<'a> {
+    index: &'a Index,
+    pairs: Vec<(u64, u32)>,
+}
+
+impl<'a> Model for BinaryPlaces<'a> {
+    ghost use Rattle.section_index.specs.Index.{Contents, sections_in};
+    ghost use Rattle.binary_refs.specs.Inner.Places.{AreOrdered};
+
+    ghost Value = { Contents };
+
+    ghost view = { λ places. places.index.now };
+
+    ghost invariant = { λ places. AreOrdered (sections_in places.index.now) places.pairs.items };
+}
+
+impl<'a> BinaryPlaces<'a> {
+    /// Sorts the `binary` sections of an index. An error comes only where memory lacks.
+    pub fn find(alloc: Global, index: &'a Index) -> Result<BinaryPlaces<'a>, AllocError>
+        ensures { IfOk result (λ places. places ≡ index.now) }
+    {
+        let pairs = places_of(alloc, index)?;
+        Ok(BinaryPlaces { index, pairs })
+    }
+
+    /// The index of the sections.
+    pub(crate) fn index(&self) -> &'a Index
+        ensures { result.now ≡ self.now }
+    {
+        self.index
+    }
+
+    /// Their addresses and their places.
+    pub(crate) fn pairs(&self) -> &[(u64, u32)]
+        ensures { AreOrdered (sections_in self.now) result.now }
+    {
+        &self.pairs
+    }
 }
 
 // How many of the pairs have a lesser address: these come first.

@@ -17,7 +17,7 @@ ghost use Rattle.binary_refs.specs.Inner.Places.{AreOrdered};
 use crate::entries::{Entry, Preview};
 use crate::faults::PreviewFault;
 use crate::few_bytes::FewBytes;
-use crate::places::places_of;
+use crate::places::BinaryPlaces;
 use crate::stored::{Range, is_within, range_of, read_stored};
 use dump_io::{Dumps, Failed};
 use heap_cells::{CellIx, Heap, Kind, Seat};
@@ -305,10 +305,27 @@ impl Previews {
                 entries: Vec::new(alloc),
             });
         }
-        let Ok(places) = places_of(alloc, index) else {
+        let Ok(places) = BinaryPlaces::find(alloc, index) else {
             return Err(PreviewFault::Memory);
         };
-        let entries = read_entries(alloc, dumps, index, &places, heap)?;
+        Previews::load_with(alloc, dumps, &places, heap)
+    }
+
+    /// The same with the order of the `binary` sections in hand, for whoever loads the previews of many heaps.
+    pub fn load_with<D: Dumps>(
+        alloc: Global,
+        dumps: &mut D,
+        places: &BinaryPlaces<'_>,
+        heap: &Heap,
+    ) -> Result<Previews, PreviewFault>
+        requires { IsBuiltOver (D.now dumps.old) places.now }
+        ensures reads { ReadsAtMost (used D.files D.now D.faults D.taken dumps.old dumps.new) (128 * length (binaries heap.now.cells)) }
+        ensures previews { IfOk result (λ previews. (dump : List ℕ) → D.now dumps.old ≡ told dump → previews ≡ previews_of dump places.now heap.now.enc heap.now.cells) }
+        ensures stated { IfOk result (λ previews. map stating previews ≡ binaries heap.now.cells) }
+        ensures each { IfOk result (AreFor heap.now.cells) }
+        ensures fault { IfErr result (IsCauseOf (used D.files D.now D.faults D.taken dumps.old dumps.new)) }
+    {
+        let entries = read_entries(alloc, dumps, places.index(), places.pairs(), heap)?;
         Ok(Previews { entries })
     }
 

@@ -1,6 +1,6 @@
 -- What is known of a good dump that is open and held in memory.
 use Rattle.std.proofs.Common.{◌≡◌, ℕ, List, Option, Some, sym, ◌∙◌, ap, subst, arith}
-use Rattle.std.specs.Prelude.{All, Err, position}
+use Rattle.std.specs.Prelude.{All, Err}
 use Rattle.std.specs.List.{between}
 use Rattle.std.proofs.lemmas.Bool.{cond-true}
 use Rattle.std.specs.Str.{bytes_eq}
@@ -14,31 +14,25 @@ use Rattle.dump_io.specs.Limits.{Numbers}
 use Rattle.section_index.specs.declared.bodies.BodyFault.{BodyFault}
 use Rattle.section_index.specs.declared.bodies.BodyFault.TheVariants as body_faults
 use Rattle.section_index.specs.Bodies.{section_at, IsBodyOf, IsCauseOf}
-use Rattle.section_index.specs.Index.{Contents, index_of, sections_in}
+use Rattle.section_index.specs.Index.{Contents, IsIndexOf, sections_in}
 use Rattle.section_index.specs.Laws.{index-is}
-use Rattle.section_index.specs.Lookups.{is_named}
 use Rattle.section_index.specs.Sections.{Section}
 use Rattle.section_rows.specs.Loading.{AreRefused}
 use Rattle.process_table.specs.Records.{record_sections}
 use Rattle.heap_cells.specs.declared.faults.HeapFault.{HeapFault}
 use Rattle.heap_cells.specs.declared.faults.HeapFault.TheVariants as heap_faults
-use Rattle.heap_cells.specs.Loading.{enc_of, section_in, body_in, heap_section, literals_section, section_fault}
+use Rattle.heap_cells.specs.Loading.{enc_of, section_in, body_in, heap_section, literals_section, bodies_fault, section_fault}
 use Rattle.heap_cells.specs.Loading as heaps
 use Rattle.root_views.specs.declared.kinds.RootKind.{RootKind}
-use Rattle.root_views.specs.Kinds.{roots_tag}
-use Rattle.dump_trial.specs.Trial.{root_body}
+use Rattle.dump_trial.specs.Trial.{root_body, root_section}
 use Rattle.dump_trial.specs.Inner.Held.{bytes_in, IsOpened}
 use Rattle.dump_trial.proofs.Contained.{IsSmall}
 use Rattle.dump_trial.proofs.Memory.{memory-records, memory-body, memory-heap}
 
--- the index is that of the bytes
-pub index-opened : (now : Now) (index : Contents) (limits : Numbers) → IsOpened now index limits → index ≡ index_of (bytes_in now)
-index-opened now index limits held = index-is (bytes_in now) index held.of
-
 -- each body is within the limit
-small-opened : (now : Now) (index : Contents) (limits : Numbers) → IsOpened now index limits → All IsSmall (sections_in index)
-small-opened now index limits held =
-    subst (λ i. All IsSmall (sections_in i)) (sym (index-opened now index limits held)) held.good.bodies
+small-opened : (now : Now) (index : Contents) (limits : Numbers) → IsOpened now limits → IsIndexOf (bytes_in now) index → All IsSmall (sections_in index)
+small-opened now index limits held of =
+    subst (λ i. All IsSmall (sections_in i)) (sym (index-is (bytes_in now) index of)) held.good.bodies
 
 -- what a call does to the device
 abbrev around : HeldDump → HeldDump → Use
@@ -49,44 +43,57 @@ never-fails : (old new : HeldDump) → DeviceFailed (around old new) → ⊥
 never-fails old new failed = omega (arith, failed)
 
 -- only memory may lack for the processes
-pub records-opened : (old new : HeldDump) (index : Contents) (limits : Numbers) (fault : BodyFault) → IsOpened (now_of old) index limits
-    → AreRefused (record_sections (sections_in index)) limits.section (around old new) fault → fault ≡ body_faults.Memory
-records-opened old new index limits fault held cause =
-    memory-records (sections_in index) (around old new) fault (small-opened (now_of old) index limits held) (never-fails old new)
+pub records-opened : (old new : HeldDump) (index : Contents) (limits : Numbers) (fault : BodyFault) → IsOpened (now_of old) limits
+    → IsIndexOf (bytes_in (now_of old)) index → AreRefused (record_sections (sections_in index)) limits.section (around old new) fault → fault ≡ body_faults.Memory
+records-opened old new index limits fault held of cause =
+    memory-records (sections_in index) (around old new) fault (small-opened (now_of old) index limits held of) (never-fails old new)
     (subst (λ (l : Numbers). AreRefused (record_sections (sections_in index)) l.section (around old new) fault) held.bounds cause)
 
 -- for a body
-pub body-opened : (old new : HeldDump) (index : Contents) (limits : Numbers) (i : ℕ) (fault : BodyFault) → IsOpened (now_of old) index limits
-    → IsCauseOf (section_at index i) limits.section (around old new) fault → fault ≡ body_faults.Memory
-body-opened old new index limits i fault held cause =
-    memory-body index i (around old new) fault (small-opened (now_of old) index limits held) (never-fails old new)
+pub body-opened : (old new : HeldDump) (index : Contents) (limits : Numbers) (i : ℕ) (fault : BodyFault) → IsOpened (now_of old) limits
+    → IsIndexOf (bytes_in (now_of old)) index → IsCauseOf (section_at index i) limits.section (around old new) fault → fault ≡ body_faults.Memory
+body-opened old new index limits i fault held of cause =
+    memory-body index i (around old new) fault (small-opened (now_of old) index limits held of) (never-fails old new)
     (subst (λ (l : Numbers). IsCauseOf (section_at index i) l.section (around old new) fault) held.bounds cause)
 
--- for a heap
-pub heap-opened : (old new : HeldDump) (index : Contents) (limits : Numbers) (pid : List ℕ) (fault : HeapFault) → IsOpened (now_of old) index limits
-    → ((dump : List ℕ) → now_of old ≡ told dump
-    → heaps.IsAnswerFor (enc_of index.version) (body_in dump (heap_section index pid)) (body_in dump (literals_section index)) limits.dense (Err fault))
-    → heaps.IsCauseOf (section_fault limits.section index pid) limits.dense (around old new) fault → fault ≡ heap_faults.Memory
-heap-opened old new index limits pid fault held answer cause =
-    let bytes = bytes_in (now_of old) in
-    memory-heap bytes index pid (around old new) fault (small-opened (now_of old) index limits held) (held.good.heaps index pid) (never-fails old new)
-    (subst (λ (l : Numbers). heaps.IsAnswerFor (enc_of index.version) (body_in bytes (heap_section index pid)) (body_in bytes (literals_section index)) l.dense (Err fault))
-    held.bounds (answer bytes held.opened))
-    (subst (λ (l : Numbers). heaps.IsCauseOf (section_fault l.section index pid) l.dense (around old new) fault) held.bounds cause)
+-- what a fault tells of the bodies at two places, and why it comes
+abbrev IsAnswerAt : Contents → Numbers → Option ℕ → Option ℕ → HeapFault → List ℕ → Type 0
+IsAnswerAt index limits heap literals fault dump =
+    heaps.IsAnswerFor (enc_of index.version) (body_in dump (section_in index heap)) (body_in dump (section_in index literals)) limits.dense (Err fault)
 
--- the body of roots, by the place of its section
-pub root-at : (bytes : List ℕ) (index : Contents) (kind : RootKind) (tag pid : List ℕ) (place : Option ℕ) → index ≡ index_of bytes → tag ≡ roots_tag kind
-    → place ≡ position (λ (section : Section). is_named tag (Some pid) section.text) (sections_in index)
-    → root_body bytes kind pid ≡ body_in bytes (section_in index place)
-root-at bytes index kind tag pid place same tagged found =
-    ap (λ (i : Contents). body_in bytes (section_in i (position (λ (section : Section). is_named (roots_tag kind) (Some pid) section.text) (sections_in i)))) (sym same)
-    ∙ ap (λ t. body_in bytes (section_in index (position (λ (section : Section). is_named t (Some pid) section.text) (sections_in index)))) (sym tagged)
-    ∙ ap (λ p. body_in bytes (section_in index p)) (sym found)
+abbrev IsCauseAt : Contents → Numbers → Option ℕ → Option ℕ → Use → HeapFault → Type 0
+IsCauseAt index limits heap literals device fault =
+    heaps.IsCauseOf (bodies_fault limits.section (section_in index heap) (section_in index literals)) limits.dense device fault
+
+-- for a heap, by the places of its sections
+pub heap-opened : (old new : HeldDump) (at index : Contents) (limits : Numbers) (pid : List ℕ) (heap literals : Option ℕ) (fault : HeapFault)
+    → IsOpened (now_of old) limits → IsIndexOf (bytes_in (now_of old)) index → at ≡ index
+    → section_in index heap ≡ heap_section index pid → section_in index literals ≡ literals_section index
+    → ((dump : List ℕ) → now_of old ≡ told dump → IsAnswerAt at limits heap literals fault dump) → IsCauseAt at limits heap literals (around old new) fault
+    → fault ≡ heap_faults.Memory
+heap-opened old new at index limits pid heap literals fault held of same own shared answer cause =
+    let bytes = bytes_in (now_of old) in
+    let told_answer : IsAnswerAt index limits heap literals fault bytes = subst (λ i. IsAnswerAt i limits heap literals fault bytes) same (answer bytes held.opened) in
+    let told_cause : IsCauseAt index limits heap literals (around old new) fault = subst (λ i. IsCauseAt i limits heap literals (around old new) fault) same cause in
+    memory-heap bytes index pid (around old new) fault (small-opened (now_of old) index limits held of) (held.good.heaps index pid) (never-fails old new)
+    (subst (λ (l : Numbers). heaps.IsAnswerFor (enc_of index.version) (body_in bytes (heap_section index pid)) (body_in bytes (literals_section index)) l.dense (Err fault))
+    held.bounds
+    (subst (λ h. heaps.IsAnswerFor (enc_of index.version) (body_in bytes h) (body_in bytes (literals_section index)) limits.dense (Err fault)) own
+    (subst (λ l. heaps.IsAnswerFor (enc_of index.version) (body_in bytes (section_in index heap)) (body_in bytes l) limits.dense (Err fault)) shared told_answer)))
+    (subst (λ (l : Numbers). heaps.IsCauseOf (section_fault l.section index pid) l.dense (around old new) fault) held.bounds
+    (subst (λ h. heaps.IsCauseOf (bodies_fault limits.section h (literals_section index)) limits.dense (around old new) fault) own
+    (subst (λ l. heaps.IsCauseOf (bodies_fault limits.section (section_in index heap) l) limits.dense (around old new) fault) shared told_cause)))
+
+-- the body of roots, by its section
+pub root-at : (bytes : List ℕ) (index : Contents) (kind : RootKind) (pid : List ℕ) (section : Option Section) → IsIndexOf bytes index
+    → section ≡ root_section index kind pid → root_body bytes kind pid ≡ body_in bytes section
+root-at bytes index kind pid section of found =
+    ap (λ (i : Contents). body_in bytes (root_section i kind pid)) (sym (index-is bytes index of)) ∙ ap (body_in bytes) (sym found)
 
 -- the bytes that were read of a section
-pub read-opened : (now : Now) (index : Contents) (limits : Numbers) (section : Section) (body : List ℕ) → IsOpened now index limits
+pub read-opened : (now : Now) (limits : Numbers) (section : Section) (body : List ℕ) → IsOpened now limits
     → IsBodyOf now section body → body ≡ between section.body section.end (bytes_in now)
-read-opened now index limits section body held is = subst (λ n. IsBodyOf n section body) held.opened is
+read-opened now limits section body held is = subst (λ n. IsBodyOf n section body) held.opened is
 
 -- a file is the one of its name
 pub file-held : (file : DumpFile) (name bytes : List ℕ) → name_of file ≡ name → bytes_of file ≡ bytes → files_of file name ≡ Some bytes

@@ -1,9 +1,11 @@
 // The roots of processes are counted, and those that are bad.
 ghost use Rattle.std.specs.Prelude.{◌≡◌, ◌+◌, ◌<◌, ◌^◌, IfOk};
+ghost use Rattle.section_index.specs.Index.{IsIndexOf};
 ghost use Rattle.root_views.specs.Kinds.{roots_in};
 ghost use Rattle.dump_trial.specs.Trial.{root_body, tally_in, process_tally, tally_of};
 ghost use Rattle.dump_trial.specs.Inner.Tallies.{plus, AreAtMost};
 
+use crate::finder::Finder;
 use crate::held::Held;
 use crate::tally::{Tally, count_roots};
 use process_table::Procs;
@@ -29,31 +31,39 @@ fn plus(a: Tally, b: Tally) -> Tally
 fn count_kind(
     alloc: Global,
     held: &mut Held,
+    finder: &Finder<'_>,
     pid: &[u8],
     kind: RootKind,
     walker: &mut Walker<'_>,
 ) -> Result<Tally, AllocError>
+    requires { IsIndexOf held.old finder.now }
     ensures tally { IfOk result (λ tally. tally ≡ tally_in walker.old.heap.cells (roots_in kind (root_body held.old kind pid.now))) }
     ensures few { IfOk result (AreAtMost 1073741824) }
     ensures walker { walker.new ≡ walker.old }
     ensures held { held.new ≡ held.old }
 {
-    let body = held.root_body(alloc, kind, pid)?;
+    let body = held.root_body(alloc, finder, kind, pid)?;
     Ok(count_roots(walker, kind, body.as_slice(), JUDGED_NODES))
 }
 
 // Counts the roots of one process.
-fn count_process(alloc: Global, held: &mut Held, pid: &[u8]) -> Result<Tally, AllocError>
+fn count_process(
+    alloc: Global,
+    held: &mut Held,
+    finder: &Finder<'_>,
+    pid: &[u8],
+) -> Result<Tally, AllocError>
+    requires { IsIndexOf held.old finder.now }
     ensures tally { IfOk result (λ tally. tally ≡ process_tally held.old pid.now) }
     ensures few { IfOk result (AreAtMost 3221225472) }
     ensures held { held.new ≡ held.old }
 {
-    let heap = held.heap(alloc, pid)?;
-    let previews = held.previews(alloc, &heap)?;
+    let heap = held.heap(alloc, finder, pid)?;
+    let previews = held.previews(alloc, finder, &heap)?;
     let mut walker = Walker::new(alloc, &heap, &previews)?;
-    let stack = count_kind(alloc, held, pid, RootKind::Stack, &mut walker)?;
-    let dict = count_kind(alloc, held, pid, RootKind::Dict, &mut walker)?;
-    let mail = count_kind(alloc, held, pid, RootKind::Mail, &mut walker)?;
+    let stack = count_kind(alloc, held, finder, pid, RootKind::Stack, &mut walker)?;
+    let dict = count_kind(alloc, held, finder, pid, RootKind::Dict, &mut walker)?;
+    let mail = count_kind(alloc, held, finder, pid, RootKind::Mail, &mut walker)?;
     Ok(plus(stack, plus(dict, mail)))
 }
 
@@ -61,14 +71,16 @@ fn count_process(alloc: Global, held: &mut Held, pid: &[u8]) -> Result<Tally, Al
 pub(crate) fn count_processes(
     alloc: Global,
     held: &mut Held,
+    finder: &Finder<'_>,
     procs: &Procs,
 ) -> Result<Tally, AllocError>
+    requires { IsIndexOf held.old finder.now }
     ensures tally { IfOk result (λ tally. tally ≡ tally_of held.old procs.now.processes) }
     ensures held { held.new ≡ held.old }
 {
     let mut all = Tally { roots: 0, bad: 0 };
     for p in 0..procs.len() {
-        let one = count_process(alloc, held, procs.at(p).pid)?;
+        let one = count_process(alloc, held, finder, procs.at(p).pid)?;
         all = plus(all, one);
     }
     Ok(all)

@@ -1,12 +1,13 @@
-// A good dump that is held in memory, with its index.
+// A good dump that is held in memory.
 ghost use Rattle.std.specs.Prelude.{◌≡◌, ◌≤◌, length, All, IfOk};
 ghost use Rattle.dump_io.specs.Limits.{usual};
 ghost use Rattle.process_table.specs.Processes.{IsIn, process_table};
 ghost use Rattle.binary_refs.specs.Previews.{AreFor};
-ghost use Rattle.section_index.specs.Index.{index_of};
+ghost use Rattle.section_index.specs.Index.{IsIndexOf};
 ghost use Rattle.dump_trial.specs.Trial.{cells_in, root_body};
 ghost use Rattle.dump_trial.specs.Inner.Held.{IsGood};
 
+use crate::finder::Finder;
 use crate::only_memory;
 use binary_refs::Previews;
 use dump_io::{DumpFile, HeldDump, Limits};
@@ -20,11 +21,10 @@ use std::marker::Model;
 // The name under which the dump is held.
 const NAME: &str = "made";
 
-/// A good dump that is held in memory and open, with its index. Contracts see its bytes.
+/// A good dump that is held in memory and open. Contracts see its bytes.
 #[derive(Drop)]
 pub(crate) struct Held {
     dumps: HeldDump,
-    index: Index,
     limits: Limits,
 }
 
@@ -37,42 +37,33 @@ impl Model for Held {
 
     ghost view = { λ held. bytes_in (now_of held.dumps) };
 
-    ghost invariant = { λ held. IsOpened (now_of held.dumps) held.index held.limits };
+    ghost invariant = { λ held. IsOpened (now_of held.dumps) held.limits };
 }
 
 impl Held {
-    /// Holds the bytes of a good dump and opens it.
-    pub(crate) fn open(alloc: Global, bytes: Vec<u8>) -> Result<Held, AllocError>
+    /// Holds the bytes of a good dump, opens it and gives its index.
+    pub(crate) fn open(alloc: Global, bytes: Vec<u8>) -> Result<(Held, Index), AllocError>
         requires { IsGood bytes.items }
-        ensures { IfOk result (λ held. held ≡ bytes.items) }
+        ensures held { IfOk result (λ opened. opened.0 ≡ bytes.items) }
+        ensures index { IfOk result (λ opened. IsIndexOf bytes.items opened.1) }
     {
         let limits = Limits::usual();
         let name = String::from_str(alloc, NAME)?;
         let mut dumps = HeldDump::new(DumpFile::new(name, bytes));
         match build(alloc, &mut dumps, NAME, &limits) {
-            Ok(index) => Ok(Held {
-                dumps,
-                index,
-                limits,
-            }),
+            Ok(index) => Ok((Held { dumps, limits }, index)),
             Err(fault) => Err(only_memory::of_opening(fault)),
         }
     }
 
-    /// The index of the dump.
-    pub(crate) fn index(&self) -> &Index
-        ensures { result.now ≡ index_of self.now }
-    {
-        &self.index
-    }
-
     /// The processes of the dump.
-    pub(crate) fn procs(&mut self, alloc: Global) -> Result<Procs, AllocError>
+    pub(crate) fn procs(&mut self, alloc: Global, index: &Index) -> Result<Procs, AllocError>
+        requires { IsIndexOf self.old index.now }
         ensures table { IfOk result (λ procs. procs ≡ process_table self.old) }
-        ensures named { IfOk result (λ procs. All (IsIn (index_of self.old)) procs.processes) }
+        ensures named { IfOk result (λ procs. All (IsIn index.now) procs.processes) }
         ensures same { self.new ≡ self.old }
     {
-        match Procs::load(alloc, &mut self.dumps, &self.index, &self.limits) {
+        match Procs::load(alloc, &mut self.dumps, index, &self.limits) {
             Ok(procs) => Ok(procs),
             Err(fault) => Err(only_memory::of_body(fault)),
         }
@@ -82,39 +73,55 @@ impl Held {
     pub(crate) fn root_body(
         &mut self,
         alloc: Global,
+        finder: &Finder<'_>,
         kind: RootKind,
         pid: &[u8],
     ) -> Result<Vec<u8>, AllocError>
+        requires { IsIndexOf self.old finder.now }
         ensures body { IfOk result (λ body. body.items ≡ root_body self.old kind pid.now) }
         ensures few { IfOk result (λ body. length body.items ≤ usual.section) }
         ensures same { self.new ≡ self.old }
     {
-        let Some(i) = self.index.first(kind.tag(), Some(pid)) else {
+        let Some(i) = finder.roots(kind, pid) else {
             return Ok(Vec::new(alloc));
         };
-        match read_body(alloc, &mut self.dumps, &self.index, i, &self.limits) {
+        match read_body(alloc, &mut self.dumps, finder.index(), i, &self.limits) {
             Ok(body) => Ok(body),
             Err(fault) => Err(only_memory::of_body(fault)),
         }
     }
 
     /// The heap of a pid.
-    pub(crate) fn heap(&mut self, alloc: Global, pid: &[u8]) -> Result<Heap, AllocError>
+    pub(crate) fn heap(
+        &mut self,
+        alloc: Global,
+        finder: &Finder<'_>,
+        pid: &[u8],
+    ) -> Result<Heap, AllocError>
+        requires { IsIndexOf self.old finder.now }
         ensures cells { IfOk result (λ heap. heap.cells ≡ cells_in self.old pid.now) }
         ensures same { self.new ≡ self.old }
     {
-        match Heap::load(alloc, &mut self.dumps, &self.index, pid, &self.limits) {
+        let place = finder.heap(pid);
+        let literals = finder.literals();
+        match Heap::load_at(alloc, &mut self.dumps, finder.index(), place, literals, &self.limits) {
             Ok(heap) => Ok(heap),
             Err(fault) => Err(only_memory::of_heap(fault)),
         }
     }
 
     /// The previews of a heap.
-    pub(crate) fn previews(&mut self, alloc: Global, heap: &Heap) -> Result<Previews, AllocError>
+    pub(crate) fn previews(
+        &mut self,
+        alloc: Global,
+        finder: &Finder<'_>,
+        heap: &Heap,
+    ) -> Result<Previews, AllocError>
+        requires { IsIndexOf self.old finder.now }
         ensures each { IfOk result (AreFor heap.now.cells) }
         ensures same { self.new ≡ self.old }
     {
-        match Previews::load(alloc, &mut self.dumps, &self.index, heap) {
+        match Previews::load_with(alloc, &mut self.dumps, finder.binaries(), heap) {
             Ok(previews) => Ok(previews),
             Err(fault) => Err(only_memory::of_previews(fault)),
         }

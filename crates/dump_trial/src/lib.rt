@@ -5,6 +5,7 @@
 #![tactic(auto)]
 
 mod counting;
+mod finder;
 mod held;
 mod only_memory;
 mod summary;

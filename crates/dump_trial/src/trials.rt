@@ -1,10 +1,12 @@
 // A made dump is held in memory and read.
 ghost use Rattle.std.specs.Prelude.{◌≡◌, ◌≤◌, length, All, None, IfOk};
+ghost use Rattle.section_index.specs.Index.{IsIndexOf};
 ghost use Rattle.process_table.specs.Processes.{IsIn};
 ghost use Rattle.dump_audit.specs.Findings.{audit_of, findings};
 ghost use Rattle.dump_trial.specs.Trial.{queue_limit, summary_of, trial_of};
 
 use crate::counting::count_processes;
+use crate::finder::Finder;
 use crate::held::Held;
 use crate::summary::Summary;
 use dump_audit::audit;
@@ -27,14 +29,16 @@ fn count_findings(alloc: Global, index: &Index, procs: &Procs) -> Result<u64, Al
     Ok(found.len() as u64)
 }
 
-fn summarize(alloc: Global, held: &mut Held) -> Result<Summary, AllocError>
+fn summarize(alloc: Global, held: &mut Held, index: &Index) -> Result<Summary, AllocError>
+    requires { IsIndexOf held.old index.now }
     ensures { IfOk result (λ summary. summary ≡ summary_of held.old) }
 {
-    let procs = held.procs(alloc)?;
-    let tally = count_processes(alloc, held, &procs)?;
-    let findings = count_findings(alloc, held.index(), &procs)?;
+    let procs = held.procs(alloc, index)?;
+    let finder = Finder::new(alloc, index)?;
+    let tally = count_processes(alloc, held, &finder, &procs)?;
+    let findings = count_findings(alloc, index, &procs)?;
     Ok(Summary {
-        sections: held.index().len() as u64,
+        sections: index.len() as u64,
         processes: procs.len() as u64,
         tally,
         findings,
@@ -51,6 +55,6 @@ pub fn trial(alloc: Global, seed: u64, count: u32) -> Result<Summary, AllocError
 {
     made_dump_is_accepted(seed, count);
     let bytes = make(alloc, seed, count)?;
-    let mut held = Held::open(alloc, bytes)?;
-    summarize(alloc, &mut held)
+    let (mut held, index) = Held::open(alloc, bytes)?;
+    summarize(alloc, &mut held, &index)
 }

@@ -66,8 +66,12 @@ too_large limit (Some section) =
     if nat_lt limit (body_length section) then Some (SectionTooLarge section.at (body_length section)) else None
 
 -- that of the heap stands before that of the literals
+abbrev pub bodies_fault : ℕ → Option Section → Option Section → Option HeapFault
+bodies_fault limit heap literals = option_or (too_large limit heap) (too_large limit literals)
+
+-- the same by the pid of the heap
 abbrev pub section_fault : ℕ → Contents → List ℕ → Option HeapFault
-section_fault limit index pid = option_or (too_large limit (heap_section index pid)) (too_large limit (literals_section index))
+section_fault limit index pid = bodies_fault limit (heap_section index pid) (literals_section index)
 
 -- the map of the heap with these bodies
 pub record IsMapOf (enc : Enc) (heap literals : List ℕ) (found : HeapMap) : Type 0 where

@@ -7,7 +7,7 @@ ghost use Rattle.heap_cells.specs.HeapMap.{IsBounded, address_at, form_at, eleme
 ghost use Rattle.dump_io.specs.Dumps.{ReadsAtMost, used, told};
 ghost use Rattle.section_index.specs.Index.{IsBuiltOver};
 ghost use Rattle.heap_cells.specs.declared.faults.HeapFault.{HeapFault};
-ghost use Rattle.heap_cells.specs.Loading.{enc_of, heap_section, literals_section, body_size, body_in, section_fault, IsAnswerFor, IsCauseOf, IsOfTheTexts};
+ghost use Rattle.heap_cells.specs.Loading.{enc_of, heap_section, literals_section, section_in, body_size, body_in, bodies_fault, section_fault, IsAnswerFor, IsCauseOf, IsOfTheTexts};
 ghost use Rattle.heap_cells.specs.Targets.{number, target, slot_target, kid_target, KeepsElement, IsSeatOf, IsSeatWithin, IsWithin};
 
 use crate::arena::{Arena, kid_of, slots_of};
@@ -92,6 +92,34 @@ impl Heap {
     {
         let heap = index.first(b"proc_heap", Some(pid));
         let literals = index.first_tag(b"literals");
+        Heap::load_at(alloc, dumps, index, heap, literals, limits)
+    }
+
+    /// The same of two sections whose places among those of the index are known, for whoever loads many heaps. A section that
+    /// isn't there is empty.
+    pub fn load_at<D: Dumps>(
+        alloc: Global,
+        dumps: &mut D,
+        index: &Index,
+        heap: Option<usize>,
+        literals: Option<usize>,
+        limits: &Limits,
+    ) -> Result<Heap, HeapFault>
+        requires over { IsBuiltOver (D.now dumps.old) index.now }
+        requires heap { IfSome heap (λ i. i < length index.now.headers) }
+        requires literals { IfSome literals (λ i. i < length index.now.headers) }
+        ensures reads { ReadsAtMost (used D.files D.now D.faults D.taken dumps.old dumps.new)
+            (body_size (section_in index.now heap) + body_size (section_in index.now literals)) }
+        ensures answer { (dump : List ℕ) → D.now dumps.old ≡ told dump
+            → IsAnswerFor (enc_of index.now.version) (body_in dump (section_in index.now heap)) (body_in dump (section_in index.now literals)) limits.now.dense result }
+        ensures enc { IfOk result (λ heap. heap.enc ≡ enc_of index.now.version) }
+        ensures fault { IfErr result (IsCauseOf (bodies_fault limits.now.section (section_in index.now heap) (section_in index.now literals)) limits.now.dense
+            (used D.files D.now D.faults D.taken dumps.old dumps.new)) }
+        ensures loaded { OnOk result (bodies_fault limits.now.section (section_in index.now heap) (section_in index.now literals) ≡ None) }
+        ensures too_large { (fault : HeapFault) → bodies_fault limits.now.section (section_in index.now heap) (section_in index.now literals) ≡ Some fault
+            → IsErrOf result fault }
+        ensures unread { IsSome (bodies_fault limits.now.section (section_in index.now heap) (section_in index.now literals)) → dumps.new ≡ dumps.old }
+    {
         judge_size(index, heap, limits)?;
         judge_size(index, literals, limits)?;
         let texts = read_texts(alloc, dumps, index, heap, literals, limits)?;

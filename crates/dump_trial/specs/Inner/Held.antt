@@ -3,7 +3,7 @@ use Rattle.std.specs.Prelude.{◌≡◌, ℕ, ◌≤◌, List, [], All}
 use Rattle.dump_io.specs.Dumps.{Now, closed, told, sized}
 use Rattle.dump_io.specs.Limits.{Numbers, usual}
 use Rattle.section_index.specs.Bodies.{body_length}
-use Rattle.section_index.specs.Index.{Contents, IsIndexOf}
+use Rattle.section_index.specs.Index.{Contents}
 use Rattle.section_index.specs.Opening.{IsAccepted}
 use Rattle.section_index.specs.Sections.{sections}
 use Rattle.dump_write.specs.Heaps.{heap_weight}
@@ -20,9 +20,8 @@ bytes_in closed = []
 bytes_in (told bytes) = bytes
 bytes_in (sized size) = []
 
--- a good dump is open, this is its index, and the limits are the usual ones
-pub record IsOpened (now : Now) (index : Contents) (limits : Numbers) : Type 0 where
+-- a good dump is open, and the limits are the usual ones
+pub record IsOpened (now : Now) (limits : Numbers) : Type 0 where
   pub opened : now ≡ told (bytes_in now)
   pub good : IsGood (bytes_in now)
-  pub of : IsIndexOf (bytes_in now) index
   pub bounds : limits ≡ usual

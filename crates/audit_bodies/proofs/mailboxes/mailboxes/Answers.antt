@@ -1,11 +1,12 @@
-use Rattle.std.proofs.Common.{◌≡◌, ℕ, List, [], ◌∷◌, ◌++◌, map, take, sym, ◌∙◌, ap, subst, arith}
-use Rattle.std.specs.Prelude.{All}
-use Rattle.std.proofs.lemmas.List.{map-append, take_all}
-use Rattle.std.proofs.lemmas.List.Elements.{All-map}
+use Rattle.std.proofs.Common.{◌≡◌, ℕ, ◌<◌, List, [], ◌∷◌, ◌++◌, length, map, take, sym, ◌∙◌, ap, subst}
+use Rattle.std.specs.Prelude.{All, IfSome, Some, position}
+use Rattle.std.proofs.lemmas.List.{map-append}
+use Rattle.std.proofs.lemmas.List.Elements.{All-append, All-cons, All-nil}
 use Rattle.section_index.specs.Index.{sections_in}
+use Rattle.section_index.specs.Lookups.{is_named}
 use Rattle.audit_bodies.specs.Mailboxes.{mailbox_place}
 use Rattle.audit_bodies.specs.Inner.Mailboxes.{IsWithin}
-use Rattle.audit_bodies.proofs.MailPlaces.{every, mailbox-within, one-more}
+use Rattle.audit_bodies.proofs.MailPlaces.{one-more}
 use Rattle.audit_bodies.proofs.mailboxes.mailboxes.Goals as goal
 
 abbrev pid : List ℕ × ℕ → List ℕ
@@ -13,25 +14,25 @@ pid p = p.0
 
 pub loop-p-preserved : goal.loop-p-preserved
 loop-p-preserved c =
-    let place_of = mailbox_place (sections_in c.args.index.now) in
+    let index = c.args.index.now in
+    let place_of = mailbox_place (sections_in index) in
     let found = c.args.found.now.places in
     let before = take c.loop-p.p found in
     let p : List ℕ × ℕ = (c.at-section.result.0.now, c.at-section.result.1) in
-    let place : c.copied-place.result ≡ place_of p.0 =
-    c.copied-place.ensures ∙ c.get.ensures.value ∙ c.in_ok-firsts.ensures.found p.0 in
-    c.in_ok-push.ensures.items
-    ∙ ap (λ l. l ++ c.copied-place.result ∷ []) c.loop-p.invariant
-    ∙ ap (λ o. map place_of (map pid before) ++ o ∷ []) place
-    ∙ sym (map-append place_of (map pid before) (p.0 ∷ []))
-    ∙ ap (map place_of) (sym (map-append pid before (p ∷ [])))
-    ∙ ap (λ l. map place_of (map pid l)) (sym (one-more found c.loop-p.p p c.at-section.ensures))
-
-pub returns-clause-within : goal.returns-clause-within
-returns-clause-within c =
-    let sections = sections_in c.args.index.now in
-    let found = c.args.found.now.places in
-    let all : c.loop-p.places.items ≡ map (mailbox_place sections) (map pid found) =
-    c.loop-p.invariant ∙ ap (λ l. map (mailbox_place sections) (map pid l)) (take_all c.loop-p.p found (omega (arith, c.len-p-end.ensures, c.loop-p-test.false))) in
-    subst (All (IsWithin c.args.index.now)) (sym all)
-    (All-map (IsWithin c.args.index.now) (mailbox_place sections) (map pid found)
-    (every (λ id. IsWithin c.args.index.now (mailbox_place sections id)) (map pid found) (λ id. mailbox-within sections _ id c.find.ensures.count)))
+    let firsts = c.in_ok-firsts.firsts in
+    let place : c.get-place.result ≡ place_of p.0 =
+    c.get-place.ensures.place
+    ∙ ap (λ tag. position (λ s. is_named tag (Some p.0) s.text) (sections_in firsts.index)) (c.in_ok-firsts.ensures.tag ∙ c.as_slice.ensures)
+    ∙ ap (λ i. mailbox_place (sections_in i) p.0) c.in_ok-firsts.ensures.index in
+    record {
+      places = c.in_ok-push.ensures.items
+          ∙ ap (λ l. l ++ c.get-place.result ∷ []) c.loop-p.invariant.places
+          ∙ ap (λ o. map place_of (map pid before) ++ o ∷ []) place
+          ∙ sym (map-append place_of (map pid before) (p.0 ∷ []))
+          ∙ ap (map place_of) (sym (map-append pid before (p ∷ [])))
+          ∙ ap (λ l. map place_of (map pid l)) (sym (one-more found c.loop-p.p p c.at-section.ensures));
+      within = subst (All (IsWithin index)) (sym c.in_ok-push.ensures.items)
+          (All-append (IsWithin index) c.loop-p.places.items (c.get-place.result ∷ []) c.loop-p.invariant.within
+          (All-cons (IsWithin index) c.get-place.result [] (subst (λ i. IfSome c.get-place.result (λ n. n < length i.headers)) c.in_ok-firsts.ensures.index c.get-place.ensures.within)
+          (All-nil (IsWithin index))));
+    }

@@ -17,9 +17,3 @@ pub returns-then-not-has_reference-clause-each : goal.returns-then-not-has_refer
 returns-then-not-has_reference-clause-each g c =
     let none = c.has_reference.ensures c.if-not-has_reference.true in
     are-for c.args.heap.now.cells c.new.result.items (ap (map stating) c.new.ensures.items ∙ sym none)
-
-pub invariant_of-result-2 : goal.invariant_of-result-2
-invariant_of-result-2 g c = entries-sorted c.args.heap.now.cells c.in_ok-entries.entries.items c.in_ok-entries.ensures.stated
-
-pub returns-clause-each : goal.returns-clause-each
-returns-clause-each g c = are-for c.args.heap.now.cells c.in_ok-entries.entries.items c.in_ok-entries.ensures.stated

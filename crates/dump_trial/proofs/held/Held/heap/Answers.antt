@@ -1,7 +1,10 @@
+use Rattle.std.proofs.Common.{sym, subst}
+use Rattle.section_index.specs.Index.{IsIndexOf}
 use Rattle.dump_trial.proofs.Opened.{heap-opened}
 use Rattle.dump_trial.proofs.held.Held.heap.Goals as goal
 
 pub of_heap-requires : goal.of_heap-requires
 of_heap-requires c =
-    heap-opened c.self.inside.dumps c.load.new.dumps c.self.inside.index c.self.inside.limits c.args.pid.now c.in-Err.fault c.self.invariant
-    c.in-Err.ensures.answer c.in-Err.ensures.fault
+    heap-opened c.self.inside.dumps c.load_at.new.dumps c.index.result.now c.args.finder.now c.self.inside.limits c.args.pid.now _ _ c.in-Err.fault c.self.invariant
+    (subst (λ bytes. IsIndexOf bytes c.args.finder.now) (sym c.self.view_is) c.requires) c.index.ensures c.heap-place.ensures.section
+    c.literals-literals.ensures.section c.in-Err.ensures.answer c.in-Err.ensures.fault

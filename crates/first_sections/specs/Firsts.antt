@@ -1,0 +1,8 @@
+-- The first sections of a tag.
+use Rattle.std.specs.Prelude.{ℕ, List}
+use Rattle.section_index.specs.Index.{Contents}
+
+-- the tag whose sections are looked up by their ids, and the index of which they are
+pub record Firsts : Type 0 where
+  pub tag : List ℕ
+  pub index : Contents
