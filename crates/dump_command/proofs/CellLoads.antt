@@ -6,7 +6,7 @@ use Rattle.dump_io.specs.Limits.{Numbers}
 use Rattle.section_index.specs.Index.{Contents, sections_in}
 use Rattle.heap_cells.specs.HeapMap.{HeapMap}
 use Rattle.heap_cells.specs.Loading.{body_size, heap_section, literals_section}
-use Rattle.report_text.specs.Cells.{cells_report, cells_text}
+use Rattle.term_text.specs.Cells.{cells_report, cells_text}
 use Rattle.command_words.specs.Command.{cells}
 use Rattle.dump_command.specs.Terms.{heap_map}
 use Rattle.dump_command.specs.Inner.Heaps.{heap_listed, HoldsHeap, IsHeapless}

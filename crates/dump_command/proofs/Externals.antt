@@ -8,7 +8,7 @@ use Rattle.dump_io.specs.Limits.{Numbers}
 use Rattle.section_index.specs.Index.{Contents}
 use Rattle.heap_cells.specs.HeapMap.{HeapMap, form_at, number_at}
 use Rattle.heap_cells.specs.Loading.{body_size, heap_section, literals_section}
-use Rattle.report_text.specs.Roots.{ext_report}
+use Rattle.term_text.specs.Roots.{ext_report}
 use Rattle.command_words.specs.Command.{ext}
 use Rattle.dump_command.specs.Report.{refusal_held}
 use Rattle.dump_command.specs.Terms.{address_cause, ext_of, external_at, external_cause, external_in, heap_map, no_external}

@@ -30,7 +30,7 @@ use Rattle.report_text.specs.declared.refusals.Refusal.{Refusal}
 use Rattle.report_text.specs.declared.refusals.Refusal.TheVariants.{TooDense}
 use Rattle.root_views.specs.declared.kinds.RootKind.{RootKind}
 use Rattle.root_views.specs.Kinds.{roots_in, roots_tag}
-use Rattle.report_text.specs.Roots.{answer_over, roots_report, term_report}
+use Rattle.term_text.specs.Roots.{answer_over, roots_report, term_report}
 use Rattle.command_words.specs.Command.{Command, roots, term}
 use Rattle.dump_command.specs.Report.{bodies, heap_bodies, no_process, no_subject, one_of, refusal_held, refusal_listed, reread, too_large}
 use Rattle.dump_command.specs.Terms.{address_cause, answer_in, base_of, binary_count, dense_cause, heap_map, named_section, no_address, previews_in, roots_of, roots_over, roots_section, term_of, too_dense}

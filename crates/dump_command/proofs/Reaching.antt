@@ -18,7 +18,7 @@ use Rattle.heap_reach.specs.Rounds.{reached_by}
 use Rattle.heap_reach.specs.Unreached.{ascending, count_below, missed_below}
 use Rattle.root_views.specs.declared.kinds.RootKind.{RootKind}
 use Rattle.root_views.specs.declared.kinds.RootKind.TheVariants.{Stack, Dict, Mail}
-use Rattle.report_text.specs.Reach.{terms_of, totals_line, unreached_line}
+use Rattle.term_text.specs.Reach.{terms_of, totals_line, unreached_line}
 use Rattle.root_views.specs.Kinds.{roots_in}
 use Rattle.command_words.specs.Command.{Command, reach}
 use Rattle.dump_command.specs.Report.{heap_bodies, one_of, root_bodies}

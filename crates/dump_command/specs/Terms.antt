@@ -20,10 +20,10 @@ use Rattle.report_text.specs.declared.refusals.Refusal.{Refusal}
 use Rattle.report_text.specs.declared.refusals.Refusal.TheVariants.{TooDense, NoAddress, NotExt, BadExt, NoBinary, BadBinary}
 use Rattle.root_views.specs.declared.kinds.RootKind.{RootKind}
 use Rattle.root_views.specs.declared.kinds.RootKind.TheVariants.{Stack, Dict, Mail}
-use Rattle.report_text.specs.Cells.{cells_report}
-use Rattle.report_text.specs.Reach.{reach_report, terms_of}
+use Rattle.term_text.specs.Cells.{cells_report}
+use Rattle.term_text.specs.Reach.{reach_report, terms_of}
 use Rattle.root_views.specs.Kinds.{roots_in, roots_tag}
-use Rattle.report_text.specs.Roots.{answer_over, binary_report, ext_report, roots_report, term_report}
+use Rattle.term_text.specs.Roots.{answer_over, binary_report, ext_report, roots_report, term_report}
 
 -- the first section with this tag of the process with this pid
 abbrev pub named_section : List ℕ → List ℕ → List Section → Option Section

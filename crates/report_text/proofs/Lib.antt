@@ -1,6 +1,3 @@
-pub mod CellFacts
 pub mod FindingFacts
 pub mod LinkFacts
 pub mod TableFacts
-pub mod ReachFacts
-pub mod HexFacts

@@ -1,9 +1,5 @@
-pub mod Cells
 pub mod Findings
-pub mod Inner
 pub mod Links
-pub mod Reach
 pub mod Refusals
 pub mod Reports
-pub mod Roots
 pub mod Tables

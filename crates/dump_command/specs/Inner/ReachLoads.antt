@@ -9,7 +9,7 @@ use Rattle.term_forms.specs.Elements.{Element}
 use Rattle.heap_cells.specs.Loading.{section_in, IsBodyIn}
 use Rattle.heap_reach.specs.Rounds.{reached_by}
 use Rattle.root_views.specs.declared.kinds.RootKind.TheVariants.{Stack, Dict, Mail}
-use Rattle.report_text.specs.Reach.{reach_report, terms_of}
+use Rattle.term_text.specs.Reach.{reach_report, terms_of}
 use Rattle.root_views.specs.Kinds.{roots_in}
 use Rattle.dump_command.specs.Report.{one_of}
 use Rattle.dump_command.specs.Terms.{roots_section}

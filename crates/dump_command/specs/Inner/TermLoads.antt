@@ -4,7 +4,7 @@ use Rattle.std.specs.Global.{Vec}
 use Rattle.term_unfold.specs.Walks.{walk}
 use Rattle.root_views.specs.declared.kinds.RootKind.{RootKind}
 use Rattle.root_views.specs.Kinds.{roots_in}
-use Rattle.report_text.specs.Roots.{answer_over, ext_report, binary_report, roots_report, term_report}
+use Rattle.term_text.specs.Roots.{answer_over, ext_report, binary_report, roots_report, term_report}
 use Rattle.dump_command.specs.declared.commands.roots.Loaded.{Loaded}
 use Rattle.dump_command.specs.declared.commands.term.Loaded.{Loaded as TermLoaded}
 

@@ -10,7 +10,8 @@ use crate::status::DONE;
 use crate::stop::Stop;
 use binary_refs::{BinFault, whole};
 use dump_io::{Dumps, Sink};
-use report_text::{Refusal, put_binary};
+use report_text::Refusal;
+use term_text::put_binary;
 
 #[derive(Clone, Copy)]
 pub(crate) struct Binary<'a> {

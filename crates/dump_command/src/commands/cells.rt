@@ -1,6 +1,6 @@
 // `cells`: what lies on the heap of a process.
 ghost use Rattle.command_words.specs.Command.{cells};
-ghost use Rattle.report_text.specs.Cells.{cells_report};
+ghost use Rattle.term_text.specs.Cells.{cells_report};
 
 use crate::commands::subjects::load_heap;
 use crate::open::Opened;
@@ -9,7 +9,7 @@ use crate::status::DONE;
 use crate::stop::Stop;
 use dump_io::{Dumps, Sink};
 use heap_cells::Heap;
-use report_text::put_cells;
+use term_text::put_cells;
 
 #[derive(Clone, Copy)]
 pub(crate) struct Cells<'a> {

@@ -16,7 +16,8 @@ use binary_refs::decode_payload;
 use dump_io::{Dumps, Sink};
 use etf_terms::judge;
 use heap_cells::{Heap, Seat};
-use report_text::{Refusal, put_ext};
+use report_text::Refusal;
+use term_text::put_ext;
 use std::alloc::{AllocError, Global};
 use term_forms::shapes::Form;
 

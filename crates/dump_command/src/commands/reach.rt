@@ -16,7 +16,7 @@ use crate::status::DONE;
 use crate::stop::Stop;
 use dump_io::{Dumps, Sink};
 use heap_cells::Heap;
-use report_text::{add_roots, put_reach};
+use term_text::{add_roots, put_reach};
 use root_views::RootKind;
 use section_index::BodyFault;
 

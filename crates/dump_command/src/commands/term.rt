@@ -12,7 +12,7 @@ use crate::stop::Stop;
 use binary_refs::Previews;
 use dump_io::{Dumps, Sink};
 use heap_cells::Heap;
-use report_text::put_term;
+use term_text::put_term;
 use term_unfold::Walker;
 
 #[derive(Clone, Copy)]

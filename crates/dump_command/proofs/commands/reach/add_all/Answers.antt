@@ -2,7 +2,7 @@ use Rattle.std.proofs.Common.{◌≡◌, ℕ, List, [], ◌++◌, ◌∙◌, ap,
 use Rattle.term_forms.specs.Elements.{Element}
 use Rattle.heap_reach.specs.Rounds.{IsReachOf}
 use Rattle.root_views.specs.declared.kinds.RootKind.TheVariants.{Stack, Dict, Mail}
-use Rattle.report_text.specs.Reach.{terms_of}
+use Rattle.term_text.specs.Reach.{terms_of}
 use Rattle.root_views.specs.Kinds.{roots_in}
 use Rattle.dump_command.specs.Inner.ReachLoads.{terms_loaded}
 use Rattle.dump_command.proofs.commands.reach.add_all.Goals as goal

@@ -1,6 +1,6 @@
 use Rattle.std.proofs.Common.{[], refl, sym, ◌∙◌, ap}
 use Rattle.std.specs.Option.{unwrap_or}
-use Rattle.report_text.specs.Roots.{binary_report}
+use Rattle.term_text.specs.Roots.{binary_report}
 use Rattle.section_index.specs.Sections.{sections}
 use Rattle.command_words.specs.Command.{binary}
 use Rattle.dump_command.specs.Terms.{bad_cause, binary_at}

@@ -1,0 +1,89 @@
+-- The report of the cells of a heap: what each is, how large, and how many there are of each kind.
+use Rattle.std.specs.Prelude.{ℕ, zero, suc, List, [], ◌∷◌, ◌++◌, length, take, decimal, codes, count_by, Option, None, Some}
+use Rattle.std.specs.List.{concat, flat_map}
+use Rattle.std.specs.Option.{option_and_then, option_map}
+use Rattle.std.specs.Str.{bytes_eq}
+use Rattle.dump_io.specs.Numbers.{hexadecimal}
+use Rattle.term_forms.specs.Forms.{HeapForm, Cons, Tuple, Float, Long, Pid, Port, Ext, HeapBin, RefBin, SubBin, Flat, Hash, Node}
+use Rattle.heap_cells.specs.Cells.{Cell, kind_of}
+use Rattle.heap_cells.specs.HeapMap.{HeapMap}
+use Rattle.heap_cells.specs.declared.cells.Kind.{Kind}
+use Rattle.heap_cells.specs.declared.cells.Kind.TheVariants as kind
+
+-- the word for a kind of cells; one without a kind is malformed
+abbrev pub kind_word : Option Kind → List ℕ
+kind_word None = codes "malformed"
+kind_word (Some kind.List) = codes "list"
+kind_word (Some kind.Tuple) = codes "tuple"
+kind_word (Some kind.Float) = codes "float"
+kind_word (Some kind.Long) = codes "bignum"
+kind_word (Some kind.Pid) = codes "pid"
+kind_word (Some kind.Port) = codes "port"
+kind_word (Some kind.Ext) = codes "external"
+kind_word (Some kind.HeapBin) = codes "heap-binary"
+kind_word (Some kind.RefBin) = codes "ref-binary"
+kind_word (Some kind.SubBin) = codes "sub-binary"
+kind_word (Some kind.Flat) = codes "flat-map"
+kind_word (Some kind.Hash) = codes "hash-map"
+kind_word (Some kind.Node) = codes "map-node"
+
+-- all kinds in the order in which they are counted
+abbrev pub all_kinds : List (Option Kind)
+all_kinds =
+    Some kind.List ∷ Some kind.Tuple ∷ Some kind.Float ∷ Some kind.Long ∷ Some kind.Pid ∷ Some kind.Port ∷ Some kind.Ext
+    ∷ Some kind.HeapBin ∷ Some kind.RefBin ∷ Some kind.SubBin ∷ Some kind.Flat ∷ Some kind.Hash ∷ Some kind.Node ∷ None ∷ []
+
+-- how large a form is: the number of its elements, of its bytes, or what a hash map states; of numbers, pids and ports none is told
+abbrev pub size_in : HeapForm → Option ℕ
+size_in (Cons head tail) = Some 2
+size_in (Tuple elements) = Some (length elements)
+size_in (Float bytes) = None
+size_in (Long number) = None
+size_in (Pid pid) = None
+size_in (Port port) = None
+size_in (Ext size chars) = Some size
+size_in (HeapBin size chars) = Some size
+size_in (RefBin address offset size) = Some size
+size_in (SubBin address offset size) = Some size
+size_in (Flat keys values) = Some (length values)
+size_in (Hash size children) = Some size
+size_in (Node children) = Some (length children)
+
+-- a size, or `-` where none is told
+abbrev pub size_text : Option ℕ → List ℕ
+size_text None = codes "-"
+size_text (Some size) = decimal size
+
+-- the word for the kind of a form
+abbrev pub word_of : Option HeapForm → List ℕ
+word_of form = kind_word (option_map kind_of form)
+
+-- the line of a cell: its address, its kind and its size, with a tab between them
+abbrev pub cell_line : Cell → List ℕ
+cell_line cell =
+    concat (hexadecimal cell.address ∷ codes "\t" ∷ word_of cell.form ∷ codes "\t" ∷ size_text (option_and_then size_in cell.form) ∷ codes "\n" ∷ [])
+
+-- how many of some cells have the kind with this word
+abbrev pub count_of : List Cell → List ℕ → ℕ
+count_of cells word = count_by (λ cell. bytes_eq (word_of cell.form) word) cells
+
+-- the line of a kind with this word, which occurs so many times; one that doesn't occur has none
+abbrev pub count_line : List ℕ → ℕ → List ℕ
+count_line word zero = []
+count_line word (suc more) = concat (codes "kind\t" ∷ decimal (suc more) ∷ codes "\t" ∷ word ∷ codes "\n" ∷ [])
+
+-- the line of a kind among some cells
+abbrev pub kind_line : List Cell → Option Kind → List ℕ
+kind_line cells kind = count_line (kind_word kind) (count_of cells (kind_word kind))
+
+-- the last line: how many cells there are
+abbrev pub cells_line : ℕ → List ℕ
+cells_line count = concat (codes "cells " ∷ decimal count ∷ codes "\n" ∷ [])
+
+-- the report of some cells
+abbrev pub cells_text : List Cell → List ℕ
+cells_text cells = flat_map cell_line cells ++ (flat_map (kind_line cells) all_kinds ++ cells_line (length cells))
+
+-- the report of the heap's own cells, which stand before the literals
+abbrev pub cells_report : HeapMap → List ℕ
+cells_report heap = cells_text (take heap.own heap.cells)

@@ -1,0 +1,4 @@
+pub mod Cells
+pub mod Inner
+pub mod Reach
+pub mod Roots

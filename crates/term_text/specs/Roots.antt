@@ -1,0 +1,64 @@
+-- The texts of the roots of a process, of one term, of an external term, and of a whole binary. Offsets are of the file.
+use Rattle.std.specs.Prelude.{ℕ, zero, suc, ◌+◌, ◌/◌, Bool, List, [], ◌∷◌, ◌++◌, length, take, drop, decimal, codes}
+use Rattle.std.specs.List.{concat, flat_map}
+use Rattle.dump_io.specs.Numbers.{hexadecimal, hex_byte}
+use Rattle.etf_terms.specs.Reading.{external_text}
+use Rattle.term_forms.specs.Elements.{Element, Ref}
+use Rattle.term_unfold.specs.Walks.{Walk, answer}
+use Rattle.root_views.specs.Roots.{Content, Term, Info, Dist, Unread, BodyRoot}
+
+-- the answer to an element within a budget of nodes, over a heap and its previews
+abbrev pub answer_over : Walk → ℕ → Bool → Element → List ℕ
+answer_over walk budget marked e = answer walk.heap.enc walk.previews walk.heap.cells e budget marked
+
+-- what a root is, where `say` answers to an element
+abbrev pub content_text : (Element → List ℕ) → Content → List ℕ
+content_text say (Term e) = say e
+content_text say (Info text) = codes "# " ++ text
+content_text say (Dist text) = codes "D " ++ decimal (length text)
+content_text say Unread = codes "?"
+
+-- a root's line begins with its offset, where the body begins at this one, and its label
+abbrev pub root_heading : ℕ → BodyRoot → List ℕ
+root_heading base root = concat (decimal (base + root.at) ∷ codes " " ∷ root.label ∷ codes " " ∷ [])
+
+-- the line of a root
+abbrev pub root_line : (Element → List ℕ) → ℕ → BodyRoot → List ℕ
+root_line say base root = root_heading base root ++ (content_text say root.content ++ codes "\n")
+
+-- the last line: how many roots there are
+abbrev pub roots_line : ℕ → List ℕ
+roots_line count = concat (codes "roots " ∷ decimal count ∷ codes "\n" ∷ [])
+
+-- the report of the roots of a body that begins at this offset
+abbrev pub roots_report : (Element → List ℕ) → ℕ → List BodyRoot → List ℕ
+roots_report say base roots = flat_map (root_line say base) roots ++ roots_line (length roots)
+
+-- the report of one term: the answer to the reference to this address
+abbrev pub term_report : (Element → List ℕ) → ℕ → List ℕ
+term_report say address = say (Ref address) ++ codes "\n"
+
+-- the report of an external term that these bytes are
+abbrev pub ext_report : List ℕ → List ℕ
+ext_report bytes = external_text bytes ++ codes "\n"
+
+-- a line of bytes in upper-case hex
+abbrev pub hex_line : List ℕ → List ℕ
+hex_line bytes = flat_map hex_byte bytes ++ codes "\n"
+
+-- so many lines of 32 bytes, or of as many as are left
+abbrev pub hex_lines : ℕ → List ℕ → List ℕ
+hex_lines zero bytes = []
+hex_lines (suc lines) bytes = hex_line (take 32 bytes) ++ hex_lines lines (drop 32 bytes)
+
+-- as many lines as hold all bytes
+abbrev pub line_count : List ℕ → ℕ
+line_count bytes = (length bytes + 31) / 32
+
+-- the first line: the address of a binary, and how many bytes it has
+abbrev pub binary_heading : ℕ → ℕ → List ℕ
+binary_heading address size = concat (codes "binary " ∷ hexadecimal address ∷ codes " size " ∷ decimal size ∷ codes "\n" ∷ [])
+
+-- the report of the binary with this address
+abbrev pub binary_report : ℕ → List ℕ → List ℕ
+binary_report address bytes = binary_heading address (length bytes) ++ hex_lines (line_count bytes) bytes

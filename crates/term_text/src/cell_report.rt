@@ -1,0 +1,198 @@
+// The report of `cells`.
+ghost use Rattle.std.specs.Prelude.{◌≡◌, ◌<◌, length, take};
+ghost use Rattle.std.specs.List.{flat_map};
+ghost use Rattle.std.specs.Option.{option_and_then, option_map};
+ghost use Rattle.std.specs.Str.{bytes_eq};
+ghost use Rattle.dump_io.specs.Pieces.{piece_text};
+ghost use Rattle.dump_io.specs.Sinks.{changed, Puts};
+ghost use Rattle.term_forms.specs.SeenForms.{heap_form};
+ghost use Rattle.heap_cells.specs.Targets.{number};
+ghost use Rattle.term_text.specs.Cells.{all_kinds, cell_line, cells_line, cells_report, count_line, count_of, kind_line, kind_word, size_in, size_text, word_of};
+ghost use Rattle.term_text.specs.Inner.Cells.{cell_at};
+
+use dump_io::{Failed, Piece, Sink, put_pieces};
+use heap_cells::{CellIx, Heap, Kind};
+use term_forms::shapes::Form;
+
+fn kind_word(kind: Option<Kind>) -> &'static [u8]
+    ensures { result.now ≡ kind_word kind }
+{
+    match kind {
+        None => b"malformed",
+        Some(Kind::List) => b"list",
+        Some(Kind::Tuple) => b"tuple",
+        Some(Kind::Float) => b"float",
+        Some(Kind::Long) => b"bignum",
+        Some(Kind::Pid) => b"pid",
+        Some(Kind::Port) => b"port",
+        Some(Kind::Ext) => b"external",
+        Some(Kind::HeapBin) => b"heap-binary",
+        Some(Kind::RefBin) => b"ref-binary",
+        Some(Kind::SubBin) => b"sub-binary",
+        Some(Kind::Flat) => b"flat-map",
+        Some(Kind::Hash) => b"hash-map",
+        Some(Kind::Node) => b"map-node",
+    }
+}
+
+// How large a form is, where that is told.
+fn size_in(form: &Form<'_>) -> Option<u64>
+    ensures { result ≡ size_in (heap_form form.now) }
+{
+    match form {
+        Form::List(_, _) => Some(2),
+        Form::Tuple(elements) | Form::Node(elements) | Form::Flat(_, elements) => {
+            Some(elements.left())
+        }
+        Form::Ext(size, _)
+        | Form::HeapBin(size, _)
+        | Form::RefBin(_, _, size)
+        | Form::SubBin(_, _, size)
+        | Form::Hash(size, _) => Some(*size),
+        Form::Float(_) | Form::Long(_) | Form::Pid(_) | Form::Port(_) => None,
+    }
+}
+
+fn size_of(form: &Option<Form<'_>>) -> Option<u64>
+    ensures { result ≡ option_and_then size_in (option_map heap_form form.now) }
+{
+    match form {
+        None => None,
+        Some(form) => size_in(form),
+    }
+}
+
+fn size_piece<'a>(size: Option<u64>) -> Piece<'a>
+    ensures { piece_text result ≡ size_text size }
+{
+    match size {
+        None => Piece::Bytes(b"-"),
+        Some(size) => Piece::Dec(size),
+    }
+}
+
+fn put_cell<K: Sink>(sink: &mut K, heap: &Heap, ix: CellIx) -> Result<(), Failed>
+    requires { number ix < length heap.now.cells }
+    ensures { Puts (changed K.written K.faults sink.old sink.new) (cell_line (cell_at heap.now.cells (number ix))) result }
+{
+    let tab = Piece::Bytes(b"\t");
+    put_pieces(
+        sink,
+        &[
+            Piece::Hex(heap.addr(ix)),
+            tab,
+            Piece::Bytes(kind_word(heap.kind(ix))),
+            tab,
+            size_piece(size_of(&heap.form(ix))),
+            Piece::Bytes(b"\n"),
+        ],
+    )
+}
+
+fn put_own<K: Sink>(sink: &mut K, heap: &Heap) -> Result<(), Failed>
+    ensures { Puts (changed K.written K.faults sink.old sink.new) (flat_map cell_line (take heap.now.own heap.now.cells)) result }
+{
+    for n in 0..heap.own() {
+        put_cell(sink, heap, heap.cell(n))?;
+    }
+    Ok(())
+}
+
+// Whether a cell has the kind with this word.
+fn has_word(heap: &Heap, ix: CellIx, word: &[u8]) -> bool
+    requires { number ix < length heap.now.cells }
+    ensures { result ≡ bytes_eq (word_of (cell_at heap.now.cells (number ix)).form) word.now }
+{
+    kind_word(heap.kind(ix)) == word
+}
+
+// How many of the heap's own cells have the kind with this word.
+fn count_of(heap: &Heap, word: &[u8]) -> u32
+    ensures { result ≡ count_of (take heap.now.own heap.now.cells) word.now }
+{
+    let mut count = 0;
+    for n in 0..heap.own() {
+        if has_word(heap, heap.cell(n), word) {
+            count += 1;
+        }
+    }
+    count
+}
+
+fn put_count<K: Sink>(sink: &mut K, word: &[u8], count: u32) -> Result<(), Failed>
+    ensures { Puts (changed K.written K.faults sink.old sink.new) (count_line word.now count) result }
+{
+    if count == 0 {
+        return Ok(());
+    }
+    put_pieces(
+        sink,
+        &[
+            Piece::Bytes(b"kind\t"),
+            Piece::Dec(u64::from(count)),
+            Piece::Bytes(b"\t"),
+            Piece::Bytes(word),
+            Piece::Bytes(b"\n"),
+        ],
+    )
+}
+
+// Writes a line for a kind of which the heap has cells of its own.
+fn put_kind<K: Sink>(sink: &mut K, heap: &Heap, kind: Option<Kind>) -> Result<(), Failed>
+    ensures { Puts (changed K.written K.faults sink.old sink.new) (kind_line (take heap.now.own heap.now.cells) kind) result }
+{
+    let word = kind_word(kind);
+    put_count(sink, word, count_of(heap, word))
+}
+
+// All kinds, in the order in which they are counted.
+const KINDS: [Option<Kind>; 14] = [
+    Some(Kind::List),
+    Some(Kind::Tuple),
+    Some(Kind::Float),
+    Some(Kind::Long),
+    Some(Kind::Pid),
+    Some(Kind::Port),
+    Some(Kind::Ext),
+    Some(Kind::HeapBin),
+    Some(Kind::RefBin),
+    Some(Kind::SubBin),
+    Some(Kind::Flat),
+    Some(Kind::Hash),
+    Some(Kind::Node),
+    None,
+];
+
+fn put_kinds<K: Sink>(sink: &mut K, heap: &Heap) -> Result<(), Failed>
+    ensures { Puts (changed K.written K.faults sink.old sink.new) (flat_map (kind_line (take heap.now.own heap.now.cells)) all_kinds) result }
+{
+    for kind in KINDS {
+        put_kind(sink, heap, kind)?;
+    }
+    Ok(())
+}
+
+fn put_total<K: Sink>(sink: &mut K, heap: &Heap) -> Result<(), Failed>
+    ensures { Puts (changed K.written K.faults sink.old sink.new) (cells_line (length (take heap.now.own heap.now.cells))) result }
+{
+    put_pieces(
+        sink,
+        &[
+            Piece::Bytes(b"cells "),
+            Piece::Dec(u64::from(heap.own())),
+            Piece::Bytes(b"\n"),
+        ],
+    )
+}
+
+/// Writes a line for each of the heap's own cells, in the order of the dump, `ADDR KIND SIZE` with a tab between them; then
+/// `kind COUNT KIND` for each kind that occurs, with tabs; and then `cells N`. The size of a list cell is 2, that of a tuple,
+/// a flat map or an inner node of a hash map the number of its elements, values or children, that of a binary or an external
+/// term its length in bytes, and that of a hash map what it states; other cells have `-`.
+pub fn put_cells<K: Sink>(sink: &mut K, heap: &Heap) -> Result<(), Failed>
+    ensures { Puts (changed K.written K.faults sink.old sink.new) (cells_report heap.now) result }
+{
+    put_own(sink, heap)?;
+    put_kinds(sink, heap)?;
+    put_total(sink, heap)
+}

@@ -1,0 +1,22 @@
+//! The texts of the reports on terms and on heaps.
+//!
+//! ```
+//! let heap = Heap::load(rt.alloc(), &mut dumps, &index, b"<0.1.0>", &limits)?;
+//! put_cells(&mut out, &heap)?;
+//! ```
+//!
+//! Each call writes one report to a sink. It takes no memory. `Failed` comes only where the sink's count of faults rose, and a
+//! proper front of the text was written then.
+#![tactic(auto)]
+
+mod binary_report;
+mod cell_report;
+mod ext_report;
+mod reach_report;
+mod root_report;
+
+pub use binary_report::put_binary;
+pub use cell_report::put_cells;
+pub use ext_report::put_ext;
+pub use reach_report::{add_roots, put_reach};
+pub use root_report::{put_roots, put_term};

@@ -1,0 +1,117 @@
+// The report of what the roots of a process reach.
+ghost use Rattle.std.specs.Prelude.{◌≡◌, ◌+◌, ◌≤◌, List, ◌++◌, length};
+ghost use Rattle.std.specs.List.{flat_map};
+ghost use Rattle.dump_io.specs.Sinks.{changed, Puts};
+ghost use Rattle.root_views.specs.Kinds.{roots_in};
+ghost use Rattle.root_views.specs.Seen.{content};
+ghost use Rattle.term_forms.specs.Elements.{Element};
+ghost use Rattle.heap_reach.specs.Reached.{is_in};
+ghost use Rattle.heap_reach.specs.Rounds.{reached_by, IsReachOf};
+ghost use Rattle.heap_reach.specs.Unreached.{count_below, one_if, unreached_of};
+ghost use Rattle.term_text.specs.Reach.{reach_report, term_in, terms_of, totals_line, unreached_line};
+
+use dump_io::{Failed, Piece, Sink, put_pieces};
+use heap_cells::Heap;
+use heap_reach::Reach;
+use root_views::{RootKind, What};
+
+// Adds what a root reaches, where it is a term.
+fn add_content(reach: &mut Reach<'_>, what: &What<'_>)
+    ensures heap { reach.new.heap ≡ reach.old.heap }
+    ensures roots { (roots : List Element) → IsReachOf reach.old roots → IsReachOf reach.new (roots ++ term_in (content what.now)) }
+{
+    if let What::Term(e) = what {
+        reach.root(*e);
+    }
+}
+
+/// Adds what the roots of a body reach: those of them that are terms. It takes no memory.
+pub fn add_roots(reach: &mut Reach<'_>, kind: RootKind, body: &[u8])
+    ensures heap { reach.new.heap ≡ reach.old.heap }
+    ensures roots { (roots : List Element) → IsReachOf reach.old roots → IsReachOf reach.new (roots ++ terms_of (roots_in kind body.now)) }
+{
+    for found in kind.roots(body) {
+        add_content(reach, &found.what);
+    }
+}
+
+fn one_if(b: bool) -> u32
+    ensures value { result ≡ one_if b }
+    ensures few { result ≤ 1 }
+{
+    if b { 1 } else { 0 }
+}
+
+// How many of the cells from a number up to another are reached.
+fn count_reached(heap: &Heap, reach: &Reach<'_>, first: u32, end: u32) -> u32
+    requires heap { reach.now.heap ≡ heap.now }
+    requires order { first ≤ end }
+    requires within { end ≤ length heap.now.cells }
+    ensures { result + count_below (is_in reach.now.marks) first ≡ count_below (is_in reach.now.marks) end }
+{
+    let mut count = 0;
+    for n in first..end {
+        count += one_if(reach.reached(heap.cell(n)));
+    }
+    count
+}
+
+fn put_unreached<K: Sink>(sink: &mut K, addr: u64) -> Result<(), Failed>
+    ensures { Puts (changed K.written K.faults sink.old sink.new) (unreached_line addr) result }
+{
+    put_pieces(
+        sink,
+        &[
+            Piece::Bytes(b"unreached "),
+            Piece::Hex(addr),
+            Piece::Bytes(b"\n"),
+        ],
+    )
+}
+
+fn put_each<K: Sink>(sink: &mut K, unreached: &[u64]) -> Result<(), Failed>
+    ensures { Puts (changed K.written K.faults sink.old sink.new) (flat_map unreached_line unreached.now) result }
+{
+    for addr in unreached {
+        put_unreached(sink, *addr)?;
+    }
+    Ok(())
+}
+
+fn put_totals<K: Sink>(sink: &mut K, own: u32, reached: u32, literals: u32) -> Result<(), Failed>
+    ensures { Puts (changed K.written K.faults sink.old sink.new) (totals_line own reached literals) result }
+{
+    put_pieces(
+        sink,
+        &[
+            Piece::Bytes(b"own "),
+            Piece::Dec(u64::from(own)),
+            Piece::Bytes(b" reached "),
+            Piece::Dec(u64::from(reached)),
+            Piece::Bytes(b" literals "),
+            Piece::Dec(u64::from(literals)),
+            Piece::Bytes(b"\n"),
+        ],
+    )
+}
+
+/// Writes `unreached ADDR` for each of the heap's own cells that isn't reached, ascending, and then `own N reached R
+/// literals L`: how many own cells there are, how many of them are reached, and how many of the literals are. The heap is
+/// that of `reach`, and `unreached` what it gives.
+pub fn put_reach<K: Sink>(
+    sink: &mut K,
+    heap: &Heap,
+    reach: &Reach<'_>,
+    unreached: &[u64],
+) -> Result<(), Failed>
+    requires heap { reach.now.heap ≡ heap.now }
+    requires unreached { unreached.now ≡ unreached_of heap.now (is_in reach.now.marks) }
+    ensures { (roots : List Element) → IsReachOf reach.now roots
+        → Puts (changed K.written K.faults sink.old sink.new) (reach_report heap.now (reached_by heap.now.cells roots)) result }
+{
+    let own = heap.own();
+    let reached = count_reached(heap, reach, 0, own);
+    let literals = count_reached(heap, reach, own, heap.cells());
+    put_each(sink, unreached)?;
+    put_totals(sink, own, reached, literals)
+}

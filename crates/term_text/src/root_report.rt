@@ -1,0 +1,191 @@
+// The reports of the roots of a process, and of one term.
+ghost use Rattle.std.specs.Prelude.{◌≡◌, ◌+◌, ◌<◌, ◌^◌, [], length, IfOk};
+ghost use Rattle.std.specs.List.{flat_map};
+ghost use Rattle.dump_io.specs.Sinks.{changed, Puts};
+ghost use Rattle.root_views.specs.Kinds.{roots_in};
+ghost use Rattle.root_views.specs.Seen.{content, root};
+ghost use Rattle.term_forms.specs.Seen.{element};
+ghost use Rattle.term_unfold.specs.Text.{reason};
+ghost use Rattle.term_unfold.specs.Walks.{judged_text};
+ghost use Rattle.term_text.specs.Roots.{answer_over, content_text, root_heading, root_line, roots_line, roots_report, term_report};
+
+use dump_io::{Failed, Piece, Sink, put_pieces, write_all};
+use heap_cells::Why;
+use root_views::{Root, RootKind, What};
+use term_forms::shapes::Elem;
+use term_unfold::{Verdict, Walker};
+
+fn why_text(why: Why) -> &'static [u8]
+    ensures { result.now ≡ reason why }
+{
+    match why {
+        Why::Missing => b"missing",
+        Why::Malformed => b"malformed",
+        Why::OnPath => b"onpath",
+    }
+}
+
+fn put_bad<K: Sink>(sink: &mut K, addr: u64, why: Why) -> Result<(), Failed>
+    ensures { Puts (changed K.written K.faults sink.old sink.new) (judged_text (Verdict.Bad addr why) []) result }
+{
+    put_pieces(
+        sink,
+        &[
+            Piece::Bytes(b"! "),
+            Piece::Bytes(why_text(why)),
+            Piece::Bytes(b" "),
+            Piece::Hex(addr),
+        ],
+    )
+}
+
+// Writes the answer to an element.
+fn put_answer<K: Sink>(
+    sink: &mut K,
+    walker: &mut Walker<'_>,
+    e: Elem<'_>,
+    budget: u32,
+    marked: bool,
+) -> Result<(), Failed>
+    requires budget { 0 < budget }
+    ensures puts { Puts (changed K.written K.faults sink.old sink.new) (answer_over walker.old budget marked (element e.entry)) result }
+    ensures same { walker.new ≡ walker.old }
+{
+    if marked {
+        return walker.print(e, budget, true, sink);
+    }
+    match walker.judge(e, budget) {
+        Verdict::Bad(addr, why) => put_bad(sink, addr, why),
+        Verdict::Clean => walker.print(e, budget, false, sink),
+    }
+}
+
+// Writes what a root is.
+fn put_content<K: Sink>(
+    sink: &mut K,
+    walker: &mut Walker<'_>,
+    what: &What<'_>,
+    budget: u32,
+    marked: bool,
+) -> Result<(), Failed>
+    requires budget { 0 < budget }
+    ensures puts { Puts (changed K.written K.faults sink.old sink.new) (content_text (answer_over walker.old budget marked) (content what.now)) result }
+    ensures same { walker.new ≡ walker.old }
+{
+    match what {
+        What::Term(e) => put_answer(sink, walker, *e, budget, marked),
+        What::Info(text) => put_pieces(sink, &[Piece::Bytes(b"# "), Piece::Bytes(text)]),
+        What::Dist(text) => put_pieces(sink, &[Piece::Bytes(b"D "), Piece::Dec(text.len() as u64)]),
+        What::Unread => write_all(sink, b"?"),
+    }
+}
+
+fn put_heading<K: Sink>(sink: &mut K, base: u64, found: &Root<'_>) -> Result<(), Failed>
+    requires { base + found.now.at < 2 ^ 64 }
+    ensures { Puts (changed K.written K.faults sink.old sink.new) (root_heading base (root found.now)) result }
+{
+    put_pieces(
+        sink,
+        &[
+            Piece::Dec(base + found.at as u64),
+            Piece::Bytes(b" "),
+            Piece::Bytes(found.label),
+            Piece::Bytes(b" "),
+        ],
+    )
+}
+
+fn put_root<K: Sink>(
+    sink: &mut K,
+    walker: &mut Walker<'_>,
+    base: u64,
+    found: &Root<'_>,
+    budget: u32,
+    marked: bool,
+) -> Result<(), Failed>
+    requires place { base + found.now.at < 2 ^ 64 }
+    requires budget { 0 < budget }
+    ensures puts { Puts (changed K.written K.faults sink.old sink.new) (root_line (answer_over walker.old budget marked) base (root found.now)) result }
+    ensures same { walker.new ≡ walker.old }
+{
+    put_heading(sink, base, found)?;
+    put_content(sink, walker, &found.what, budget, marked)?;
+    write_all(sink, b"\n")
+}
+
+// Writes a line for each root, and tells how many there are.
+fn put_each<K: Sink>(
+    sink: &mut K,
+    walker: &mut Walker<'_>,
+    kind: RootKind,
+    body: &[u8],
+    base: u64,
+    budget: u32,
+    marked: bool,
+) -> Result<u64, Failed>
+    requires places { base + length body.now < 2 ^ 64 }
+    requires budget { 0 < budget }
+    ensures puts { Puts (changed K.written K.faults sink.old sink.new) (flat_map (root_line (answer_over walker.old budget marked) base) (roots_in kind body.now)) result }
+    ensures count { IfOk result (λ count. count ≡ length (roots_in kind body.now)) }
+    ensures same { walker.new ≡ walker.old }
+{
+    let mut count = 0;
+    for found in kind.roots(body) {
+        put_root(sink, walker, base, &found, budget, marked)?;
+        count += 1;
+    }
+    Ok(count)
+}
+
+fn put_count<K: Sink>(sink: &mut K, count: u64) -> Result<(), Failed>
+    ensures { Puts (changed K.written K.faults sink.old sink.new) (roots_line count) result }
+{
+    put_pieces(
+        sink,
+        &[
+            Piece::Bytes(b"roots "),
+            Piece::Dec(count),
+            Piece::Bytes(b"\n"),
+        ],
+    )
+}
+
+/// Writes a line for each root of a body, `OFFSET LABEL REST`, and then `roots N`.
+///
+/// The rest is the answer to a term: its text, within as many nodes as the budget says, or `! ` with the first bad
+/// address among them, where bad addresses aren't marked in the text. It is `# TEXT` for an info, `D LENGTH` for a
+/// message in the external format, and `?` for what isn't read. Each root has the whole budget, and one that is bad
+/// doesn't hinder those after it. `base` is the offset of the body in the file, and offsets are of the file.
+pub fn put_roots<K: Sink>(
+    sink: &mut K,
+    walker: &mut Walker<'_>,
+    kind: RootKind,
+    body: &[u8],
+    base: u64,
+    budget: u32,
+    marked: bool,
+) -> Result<(), Failed>
+    requires places { base + length body.now < 2 ^ 64 }
+    requires budget { 0 < budget }
+    ensures puts { Puts (changed K.written K.faults sink.old sink.new) (roots_report (answer_over walker.old budget marked) base (roots_in kind body.now)) result }
+    ensures same { walker.new ≡ walker.old }
+{
+    let count = put_each(sink, walker, kind, body, base, budget, marked)?;
+    put_count(sink, count)
+}
+
+/// Writes the answer to the reference to an address, as for the roots of a process.
+pub fn put_term<K: Sink>(
+    sink: &mut K,
+    walker: &mut Walker<'_>,
+    addr: u64,
+    budget: u32,
+    marked: bool,
+) -> Result<(), Failed>
+    requires budget { 0 < budget }
+    ensures puts { Puts (changed K.written K.faults sink.old sink.new) (term_report (answer_over walker.old budget marked) addr) result }
+    ensures same { walker.new ≡ walker.old }
+{
+    put_answer(sink, walker, Elem::Ref(addr), budget, marked)?;
+    write_all(sink, b"\n")
+}
