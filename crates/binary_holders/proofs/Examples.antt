@@ -3,9 +3,7 @@ use Rattle.std.proofs.Common.{◌≡◌, [], ◌∷◌, map, refl}
 use Rattle.std.specs.Prelude.{codes}
 use Rattle.section_index.specs.Sections.{sections}
 use Rattle.term_forms.specs.Words.{led_of}
-use Rattle.binary_holders.specs.declared.rows.BinaryRow.{BinaryRow}
 use Rattle.binary_holders.specs.Held.{holders_of, holdings}
-use Rattle.binary_holders.specs.Sorting.{most_first}
 use Rattle.binary_holders.specs.StoredBinaries.{size_stated, stored}
 
 -- of the sections with one number the first is stored, and one without a number isn't
@@ -30,8 +28,3 @@ counted_once = refl
 -- so many heaps hold a binary
 holder_count : map (holders_of ((2 ∷ 2 ∷ []) ∷ (1 ∷ 2 ∷ []) ∷ [])) (1 ∷ 2 ∷ 3 ∷ []) ≡ 1 ∷ 2 ∷ 0 ∷ []
 holder_count = refl
-
--- the largest stands first, and of equal ones the first
-in_order : most_first (λ (row : BinaryRow). row.size) (record { size = 1; holders = 0; number = 1; at = 1 } ∷ record { size = 2; holders = 0; number = 2; at = 2 } ∷ record { size = 2; holders = 0; number = 3; at = 3 } ∷ [])
-    ≡ record { size = 2; holders = 0; number = 2; at = 2 } ∷ record { size = 2; holders = 0; number = 3; at = 3 } ∷ record { size = 1; holders = 0; number = 1; at = 1 } ∷ []
-in_order = refl

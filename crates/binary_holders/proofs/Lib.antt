@@ -4,7 +4,6 @@ mod HoldingFacts
 mod LineFacts
 mod MarkFacts
 mod Scans
-mod SortFacts
 mod StoredFacts
 mod SumFacts
 mod TallyFacts

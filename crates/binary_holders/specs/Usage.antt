@@ -13,7 +13,7 @@ use Rattle.binary_holders.specs.declared.using.BinaryUse.{BinaryUse}
 use Rattle.binary_holders.specs.declared.sought.Binary.{Binary}
 use Rattle.binary_holders.specs.Held.{capped, holdings, holders_of}
 use Rattle.binary_holders.specs.HeapReferences.{references_of}
-use Rattle.binary_holders.specs.Sorting.{most_first}
+use Rattle.size_order.specs.Sorting.{most_first}
 use Rattle.binary_holders.specs.StoredBinaries.{Stored, stored, size_in}
 
 -- what the heaps of these pids refer to, in their order

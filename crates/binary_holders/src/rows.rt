@@ -1,5 +1,7 @@
 // What is told of processes and of binaries.
 
+use size_order::Measured;
+
 /// What a process holds of some binaries.
 #[derive(Clone, Copy, Debug, PartialEq, Eq, Drop)]
 pub struct Holding {
@@ -13,6 +15,14 @@ pub struct Holding {
     pub cells: u64,
 }
 
+impl Measured for Holding {
+    ghost size = { λ holding. holding.bytes };
+
+    fn size(&self) -> u64 {
+        self.bytes
+    }
+}
+
 /// A binary outside the heaps, and how many processes hold it.
 #[derive(Clone, Copy, Debug, PartialEq, Eq, Drop)]
 pub struct BinaryRow {
@@ -24,4 +34,12 @@ pub struct BinaryRow {
     pub number: u64,
     /// The offset in the file of its section's header.
     pub at: u64,
+}
+
+impl Measured for BinaryRow {
+    ghost size = { λ row. row.size };
+
+    fn size(&self) -> u64 {
+        self.size
+    }
 }

@@ -5,7 +5,7 @@ ghost use Rattle.dump_io.specs.Dumps.{told, used, ReadsAtMost};
 ghost use Rattle.section_index.specs.Index.{IsBuiltOver};
 ghost use Rattle.process_table.specs.Processes.{IsOver};
 ghost use Rattle.binary_holders.specs.Held.{capped, holdings};
-ghost use Rattle.binary_holders.specs.Sorting.{most_first};
+ghost use Rattle.size_order.specs.Sorting.{most_first};
 ghost use Rattle.binary_holders.specs.Usage.{IsUse, IsCauseOf, binaries_in, fronts_length, heaps_length, heaps_of, holders_in, stored_in};
 ghost use Rattle.binary_holders.specs.Inner.Finding.{numbers_of, stored_of};
 ghost use Rattle.binary_holders.specs.Inner.Places.{numbers_in};
@@ -22,6 +22,7 @@ use crate::tally::Tally;
 use dump_io::Dumps;
 use process_table::Procs;
 use section_index::Index;
+use size_order::sort_most_first;
 use std::alloc::{AllocError, Global};
 use std::collections::BTreeMap;
 
@@ -91,18 +92,6 @@ fn count_held(rows: &[BinaryRow]) -> u64
     rows.iter().filter(|row| row.holders > 0).count() as u64
 }
 
-fn sort_holdings(held: &mut Vec<Holding>) -> Result<(), AllocError>
-    ensures { OnOk result (held.new.items ≡ most_first (λ holding. holding.bytes) held.old.items) }
-{
-    held.sort_by(|one, other| other.bytes.cmp(&one.bytes))
-}
-
-fn sort_rows(rows: &mut Vec<BinaryRow>) -> Result<(), AllocError>
-    ensures { OnOk result (rows.new.items ≡ most_first (λ row. row.size) rows.old.items) }
-{
-    rows.sort_by(|one, other| other.size.cmp(&one.size))
-}
-
 // The rows of what was heard, those with the most first, and how many binaries somebody holds.
 fn sorted(
     mut held: Vec<Holding>,
@@ -116,10 +105,10 @@ fn sorted(
     ensures fault { IfErr result (λ fault. fault ≡ HolderFault.Memory) }
 {
     let with_holders = count_held(&rows);
-    let Ok(()) = sort_holdings(&mut held) else {
+    let Ok(()) = sort_most_first(&mut held) else {
         return Err(HolderFault::Memory);
     };
-    let Ok(()) = sort_rows(&mut rows) else {
+    let Ok(()) = sort_most_first(&mut rows) else {
         return Err(HolderFault::Memory);
     };
     Ok(BinaryUse {

@@ -7,7 +7,7 @@ use Rattle.binary_holders.specs.declared.rows.BinaryRow.{BinaryRow}
 use Rattle.binary_holders.specs.declared.rows.Holding.{Holding}
 use Rattle.binary_holders.specs.declared.sought.Binary.{Binary}
 use Rattle.binary_holders.specs.Held.{capped, holdings}
-use Rattle.binary_holders.specs.Sorting.{most_first}
+use Rattle.size_order.specs.Sorting.{most_first}
 use Rattle.binary_holders.specs.Usage.{heaps_of, rows_in}
 use Rattle.binary_holders.specs.Inner.Rows.{AreRows}
 use Rattle.binary_holders.proofs.UsingFacts.{both-ok, rows-are}

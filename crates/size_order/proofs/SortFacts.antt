@@ -15,7 +15,7 @@ use Rattle.std.proofs.lemmas.List.Elements.{All-nil, All-cons, All-head, All-tai
 use Rattle.std.proofs.lemmas.List.Sorted.{sorted_far, ranks_by}
 use Rattle.std.proofs.lemmas.Cmp.{back_total, nat_cmp_total}
 use Rattle.std.proofs.lemmas.Map.Keys.{ge_from_not_lt}
-use Rattle.binary_holders.specs.Sorting.{put_row, most_first}
+use Rattle.size_order.specs.Sorting.{put_row, most_first}
 
 module _ {X : Type 0} (key : X → ℕ) where
   -- the two have one key
