@@ -1,9 +1,9 @@
 -- What processes hold, one heap after another.
-use Rattle.std.proofs.Common.{◌≡◌, ℕ, ◌+◌, ◌-◌, ◌^◌, ◌<◌, ◌≤◌, Bool, List, [], ◌∷◌, ◌++◌, length, map, filter, drop, Option, None, Some, if◌then◌else◌, sym, ◌∙◌, ap, arith}
-use Rattle.std.specs.Prelude.{nat_lt}
+use Rattle.std.proofs.Common.{◌≡◌, ℕ, ◌+◌, ◌-◌, ◌^◌, ◌<◌, ◌≤◌, Bool, true, false, List, [], ◌∷◌, ◌++◌, length, map, filter, drop, Option, None, Some, if◌then◌else◌, sym, ◌∙◌, ap, append-nil, arith, subst}
+use Rattle.std.specs.Prelude.{All, nat_lt}
 use Rattle.std.specs.List.{between, enumerate_from}
 use Rattle.std.proofs.lemmas.List.{map_push, length-take, length-drop}
-use Rattle.std.proofs.lemmas.List.Elements.{filter-append}
+use Rattle.std.proofs.lemmas.List.Elements.{All-push, filter-append}
 use Rattle.section_index.specs.Bodies.{section_at}
 use Rattle.section_index.specs.Index.{Contents}
 use Rattle.heap_cells.specs.Loading.{enc_of}
@@ -11,6 +11,7 @@ use Rattle.binary_holders.specs.declared.rows.Holding.{Holding}
 use Rattle.binary_holders.specs.declared.sought.Binary.{Binary}
 use Rattle.binary_holders.specs.declared.tally.Tally.{Tally}
 use Rattle.binary_holders.specs.Held.{holding_of, holdings}
+use Rattle.binary_holders.specs.Usage.{NamesProcess}
 use Rattle.binary_holders.specs.Inner.Places.{references_at}
 use Rattle.binary_holders.specs.Inner.Tallies.{counted, HasHeard}
 use Rattle.binary_holders.proofs.Scans.{few-references}
@@ -43,6 +44,15 @@ held-more binaries heaps refs held tally process so_far place heard few =
     ap (λ l. l ++ (if nat_lt 0 tally.count then counted process tally ∷ [] else [])) so_far
     ∙ ap (λ (h : Holding). holdings binaries heaps ++ (if nat_lt 0 h.count then h ∷ [] else [])) is
     ∙ sym (holdings-push binaries heaps refs)
+
+-- each is one of so many processes
+pub named-more : (count process : ℕ) (held : List Holding) (tally : Tally) → process < count → All (NamesProcess count) held
+    → All (NamesProcess count) (held ++ (if nat_lt 0 tally.count then counted process tally ∷ [] else []))
+named-more count process held tally inside named = by (nat_lt 0 tally.count)
+  where
+    by : (b : Bool) → All (NamesProcess count) (held ++ (if b then counted process tally ∷ [] else []))
+    by true = All-push (NamesProcess count) held (counted process tally) named inside
+    by false = subst (All (NamesProcess count)) (sym (append-nil held)) named
 
 -- a heap refers to no more binaries than the dump has bytes
 pub few-at : (dump : List ℕ) (index : Contents) (place : Option ℕ) → length (references_at dump index place) ≤ length dump

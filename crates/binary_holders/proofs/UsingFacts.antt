@@ -11,13 +11,14 @@ use Rattle.section_index.specs.Lookups.{has_tag}
 use Rattle.section_index.specs.Sections.{Section, id_of}
 use Rattle.process_table.specs.Processes.{Process}
 use Rattle.binary_holders.specs.declared.rows.BinaryRow.{BinaryRow}
+use Rattle.binary_holders.specs.declared.rows.Holding.{Holding}
 use Rattle.binary_holders.specs.declared.sought.Binary.{Binary}
 use Rattle.binary_holders.specs.declared.stored.StoredAt.{StoredAt}
 use Rattle.binary_holders.specs.declared.tally.Tally.{Tally}
 use Rattle.binary_holders.specs.Held.{holders_of}
 use Rattle.binary_holders.specs.HeapReferences.{references_of}
 use Rattle.binary_holders.specs.StoredBinaries.{Stored, binary_of, firsts, is_among, stored_at}
-use Rattle.binary_holders.specs.Usage.{binaries_in, fronts_length, heaps_of, row_of, rows_in, sized, stored_in}
+use Rattle.binary_holders.specs.Usage.{Usage, binaries_in, fronts_length, heaps_of, row_of, rows_in, sized, stored_in}
 use Rattle.binary_holders.specs.Inner.Finding.{stored_of}
 use Rattle.binary_holders.specs.Inner.Places.{heap_place, references_at}
 use Rattle.binary_holders.specs.Inner.Rows.{AreRows, row_at}
@@ -32,6 +33,14 @@ map-map f g (x ∷ xs) = ap (λ l. f (g x) ∷ l) (map-map f g xs)
 pub both-ok : {T E : Type 0} (r : Result T E) (P Q : T → Type 0) → IfOk r P → IfOk r Q → IfOk r (λ x. P x × Q x)
 both-ok (Ok x) P Q p q = (p, q)
 both-ok (Err e) P Q p q = tt
+
+-- a use by its four parts
+abbrev pub usage : List Holding → List BinaryRow → ℕ → ℕ → Usage
+usage held binaries bytes with_holders = record { held = held; binaries = binaries; bytes = bytes; with_holders = with_holders }
+
+pub usage-same : {h k : List Holding} {b c : List BinaryRow} {m n v w : ℕ} → h ≡ k → b ≡ c → m ≡ n → v ≡ w → usage h b m v ≡ usage k c n w
+usage-same {h} {k} {b} {c} {m} {n} {v} {w} held binaries bytes with_holders =
+    ap (λ x. usage x b m v) held ∙ ap (λ x. usage k x m v) binaries ∙ ap (λ x. usage k c x v) bytes ∙ ap (λ x. usage k c n x) with_holders
 
 -- what the heaps refer to, by their places and by the pids
 pub heaps-are : (dump : List ℕ) (index : Contents) (processes : List Process) (heaps : List (Option ℕ)) → heaps ≡ map (λ (p : Process). heap_place (sections_in index) p.pid) processes

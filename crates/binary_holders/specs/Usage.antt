@@ -1,5 +1,5 @@
 -- The binaries of a dump and their holders.
-use Rattle.std.specs.Prelude.{◌≡◌, ℕ, ◌*◌, List, [], ◌∷◌, map, nat_lt, codes}
+use Rattle.std.specs.Prelude.{ℕ, ◌*◌, ◌<◌, List, [], ◌∷◌, map, nat_lt, codes}
 use Rattle.std.specs.List.{count_by, sum_by}
 use Rattle.dump_io.specs.Dumps.{Use, DeviceFailed}
 use Rattle.section_index.specs.Index.{Contents, sections_in}
@@ -45,13 +45,35 @@ row_of dump heaps binary = record {
 abbrev pub rows_in : List ℕ → Contents → List (List ℕ) → List BinaryRow
 rows_in dump index heaps = map (row_of dump heaps) (stored_in index)
 
--- the use of the binaries of a dump by the processes with these pids: who holds how much, the most first; the binaries, the
--- largest first; their sizes together, and how many of them somebody holds
-pub record IsUse (dump : List ℕ) (index : Contents) (pids : List (List ℕ)) (found : BinaryUse) : Type 0 where
-  pub held : found.held.items ≡ most_first (λ holding. holding.bytes) (holdings (binaries_in dump index) (heaps_of dump index pids))
-  pub binaries : found.binaries.items ≡ most_first (λ row. row.size) (rows_in dump index (heaps_of dump index pids))
-  pub bytes : found.bytes ≡ capped (sum_by (λ binary. binary.size) (binaries_in dump index))
-  pub with_holders : found.with_holders ≡ count_by (λ row. nat_lt 0 row.holders) (rows_in dump index (heaps_of dump index pids))
+-- what is told of the binaries of a dump: who holds how much, the most first; the binaries, the largest first; their sizes
+-- together; and how many of them somebody holds
+pub record Usage : Type 0 where
+  pub held : List Holding
+  pub binaries : List BinaryRow
+  pub bytes : ℕ
+  pub with_holders : ℕ
+
+-- the use of the binaries of a dump by the processes with these pids
+abbrev pub usage_of : List ℕ → Contents → List (List ℕ) → Usage
+usage_of dump index pids = record {
+  held = most_first (λ holding. holding.bytes) (holdings (binaries_in dump index) (heaps_of dump index pids));
+  binaries = most_first (λ row. row.size) (rows_in dump index (heaps_of dump index pids));
+  bytes = capped (sum_by (λ binary. binary.size) (binaries_in dump index));
+  with_holders = count_by (λ row. nat_lt 0 row.holders) (rows_in dump index (heaps_of dump index pids));
+}
+
+-- what was found tells this, wherever it lies
+abbrev pub shown_use : BinaryUse → Usage
+shown_use found = record {
+  held = found.held.items;
+  binaries = found.binaries.items;
+  bytes = found.bytes;
+  with_holders = found.with_holders;
+}
+
+-- a holding is that of one of so many processes
+abbrev pub NamesProcess : ℕ → Holding → Type 0
+NamesProcess count holding = holding.process < count
 
 -- who holds the binary with a number, and by how many cells
 abbrev pub holders_in : List ℕ → Contents → List (List ℕ) → ℕ → List Holding

@@ -1,6 +1,7 @@
 // Where the heaps of processes are: of the sections with heaps the first of each pid.
-ghost use Rattle.std.specs.Prelude.{◌≡◌, ◌+◌, ◌<◌, length, map, take, slice_get, slice_index_or, is_some, None, Some, All, IfOk};
+ghost use Rattle.std.specs.Prelude.{◌≡◌, ◌+◌, ◌<◌, ◌≤◌, length, map, take, slice_get, slice_index_or, is_some, None, Some, All, IfOk};
 ghost use Rattle.std.specs.Option.{option_copied};
+ghost use Rattle.dump_io.specs.Limits.{usual};
 ghost use Rattle.section_index.specs.Bodies.{section_at};
 ghost use Rattle.section_index.specs.Index.{sections_in};
 ghost use Rattle.process_table.specs.Processes.{IsOver};
@@ -75,6 +76,7 @@ pub(crate) fn heap_places(
     requires { IsOver index.now procs.now }
     ensures places { IfOk result (λ heaps. heaps.items ≡ map (λ process. heap_place (sections_in index.now) process.pid) procs.now.processes) }
     ensures within { IfOk result (λ heaps. All (IsWithin index.now) heaps.items) }
+    ensures few { IfOk result (λ heaps. length heaps.items ≤ usual.sections) }
 {
     let mut heaps = no_heaps(alloc, procs.len())?;
     for i in 0..index.len() {

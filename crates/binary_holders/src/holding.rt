@@ -5,7 +5,7 @@ ghost use Rattle.dump_io.specs.Dumps.{told, used, DeviceFailed, ReadsAtMost};
 ghost use Rattle.section_index.specs.Index.{IsBuiltOver};
 ghost use Rattle.heap_cells.specs.Loading.{enc_of};
 ghost use Rattle.binary_holders.specs.Held.{holdings};
-ghost use Rattle.binary_holders.specs.Usage.{IsCauseOf};
+ghost use Rattle.binary_holders.specs.Usage.{IsCauseOf, NamesProcess};
 ghost use Rattle.binary_holders.specs.Inner.Places.{IsWithin, references_at, size_at};
 ghost use Rattle.binary_holders.specs.Inner.Tallies.{HasHeard, HasRoom, Hears, KeepsRoom, counted};
 ghost use Rattle.binary_holders.specs.declared.scanning.TheConstants.{ROOM};
@@ -98,6 +98,7 @@ fn hear_process<D: Dumps>(
     ensures room { OnOk result (HasRoom (length sought.now) tally.new) }
     ensures held { OnOk result ((dump : List ℕ) → D.now dumps.old ≡ told dump → (before : List (List ℕ)) → process ≡ length before
         → HasHeard sought.now before [] tally.old → held.old.items ≡ holdings sought.now before → held.new.items ≡ holdings sought.now (before ++ references_at dump index.now place ∷ [])) }
+    ensures named { OnOk result ((count : ℕ) → process < count → All (NamesProcess count) held.old.items → All (NamesProcess count) held.new.items) }
     ensures heard { OnOk result ((dump : List ℕ) → D.now dumps.old ≡ told dump → (before : List (List ℕ))
         → HasHeard sought.now before [] tally.old → HasHeard sought.now (before ++ references_at dump index.now place ∷ []) [] tally.new) }
 {
@@ -131,6 +132,7 @@ fn hear_each<D: Dumps>(
     ensures room { OnOk result (HasRoom (length sought.now) tally.new) }
     ensures held { IfOk result (λ held. (dump : List ℕ) → D.now dumps.old ≡ told dump
         → held.items ≡ holdings sought.now (map (references_at dump index.now) heaps.now)) }
+    ensures named { IfOk result (λ held. All (NamesProcess (length heaps.now)) held.items) }
     ensures heard { OnOk result ((dump : List ℕ) → D.now dumps.old ≡ told dump
         → HasHeard sought.now (map (references_at dump index.now) heaps.now) [] tally.new) }
 {
@@ -170,6 +172,7 @@ pub(crate) fn hear_all<D: Dumps>(
     ensures room { OnOk result (HasRoom (length sought.now) tally.new) }
     ensures held { IfOk result (λ held. (dump : List ℕ) → D.now dumps.old ≡ told dump
         → held.items ≡ holdings sought.now (map (references_at dump index.now) heaps.now)) }
+    ensures named { IfOk result (λ held. All (NamesProcess (length heaps.now)) held.items) }
     ensures heard { OnOk result ((dump : List ℕ) → D.now dumps.old ≡ told dump
         → HasHeard sought.now (map (references_at dump index.now) heaps.now) [] tally.new) }
 {

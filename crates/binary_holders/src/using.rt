@@ -6,7 +6,7 @@ ghost use Rattle.section_index.specs.Index.{IsBuiltOver};
 ghost use Rattle.process_table.specs.Processes.{IsOver};
 ghost use Rattle.binary_holders.specs.Held.{capped, holdings};
 ghost use Rattle.size_order.specs.Sorting.{most_first};
-ghost use Rattle.binary_holders.specs.Usage.{IsUse, IsCauseOf, binaries_in, fronts_length, heaps_length, heaps_of, holders_in, stored_in};
+ghost use Rattle.binary_holders.specs.Usage.{IsCauseOf, NamesProcess, binaries_in, fronts_length, heaps_length, heaps_of, holders_in, shown_use, stored_in, usage_of};
 ghost use Rattle.binary_holders.specs.Inner.Finding.{numbers_of, stored_of};
 ghost use Rattle.binary_holders.specs.Inner.Places.{numbers_in};
 ghost use Rattle.binary_holders.specs.Inner.Rows.{AreRows, row_at};
@@ -102,6 +102,7 @@ fn sorted(
     ensures binaries { IfOk result (λ found. found.binaries.items ≡ most_first (λ row. row.size) rows.items) }
     ensures bytes { IfOk result (λ found. found.bytes ≡ bytes) }
     ensures with_holders { IfOk result (λ found. found.with_holders ≡ count_by (λ row. nat_lt 0 row.holders) rows.items) }
+    ensures named { (count : ℕ) → All (NamesProcess count) held.items → IfOk result (λ found. All (NamesProcess count) found.held.items) }
     ensures fault { IfErr result (λ fault. fault ≡ HolderFault.Memory) }
 {
     let with_holders = count_held(&rows);
@@ -134,10 +135,10 @@ fn hear_binaries<D: Dumps>(
     ensures room { IfOk result (λ found. length found.1.holders.items ≡ length sought.now) }
     ensures held { IfOk result (λ found. (dump : List ℕ) → D.now dumps.old ≡ told dump
         → found.0.items ≡ holdings sought.now (heaps_of dump index.now (map (λ process. process.pid) procs.now.processes))) }
+    ensures named { IfOk result (λ found. All (NamesProcess (length procs.now.processes)) found.0.items) }
     ensures heard { IfOk result (λ found. (dump : List ℕ) → D.now dumps.old ≡ told dump
         → HasHeard sought.now (heaps_of dump index.now (map (λ process. process.pid) procs.now.processes)) [] found.1) }
 {
-    let _count = procs.len();
     let Ok(heaps) = heap_places(alloc, index, procs) else {
         return Err(HolderFault::Memory);
     };
@@ -190,7 +191,9 @@ pub fn binary_use<D: Dumps>(
     requires procs { IsOver index.now procs.now }
     ensures reads { ReadsAtMost (used D.files D.now D.faults D.taken dumps.old dumps.new)
         (fronts_length index.now + heaps_length index.now (map (λ process. process.pid) procs.now.processes)) }
-    ensures found { IfOk result (λ found. (dump : List ℕ) → D.now dumps.old ≡ told dump → IsUse dump index.now (map (λ process. process.pid) procs.now.processes) found) }
+    ensures found { IfOk result (λ found. (dump : List ℕ) → D.now dumps.old ≡ told dump
+        → shown_use found ≡ usage_of dump index.now (map (λ process. process.pid) procs.now.processes)) }
+    ensures named { IfOk result (λ found. All (NamesProcess (length procs.now.processes)) found.held.items) }
     ensures fault { IfErr result (IsCauseOf (used D.files D.now D.faults D.taken dumps.old dumps.new)) }
 {
     let (stored, sought) = stored_sought(alloc, dumps, index)?;
@@ -232,6 +235,7 @@ pub fn holders<D: Dumps>(
     ensures reads { ReadsAtMost (used D.files D.now D.faults D.taken dumps.old dumps.new) (heaps_length index.now (map (λ process. process.pid) procs.now.processes)) }
     ensures found { IfOk result (λ found. (dump : List ℕ) → D.now dumps.old ≡ told dump
         → found.items ≡ holders_in dump index.now (map (λ process. process.pid) procs.now.processes) number) }
+    ensures named { IfOk result (λ found. All (NamesProcess (length procs.now.processes)) found.items) }
     ensures fault { IfErr result (IsCauseOf (used D.files D.now D.faults D.taken dumps.old dumps.new)) }
 {
     let Ok(sought) = one_sought(alloc, number) else {

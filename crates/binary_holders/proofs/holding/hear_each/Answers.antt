@@ -27,6 +27,7 @@ loop-process-preserved g c =
           let done = map (references_at dump index) (take p heaps) in
           one.held dump told done (sym (length-map (take p heaps) (references_at dump index) ∙ length-take-le p heaps (omega (arith, inside)))) (before.heard dump is) (before.held dump is)
           ∙ ap (holdings c.args.sought.now) (sym (map_more (references_at dump index) heaps p None inside));
+      named = one.named (length heaps) inside before.named;
       heard = λ dump is.
           let told = before.reads.same_now ∙ is in
           let done = map (references_at dump index) (take p heaps) in

@@ -1,7 +1,9 @@
 use Rattle.std.proofs.Common.{◌≡◌, ◌+◌, ◌≤◌, [], List, ℕ, length, map, take}
+use Rattle.std.specs.Prelude.{All}
 use Rattle.std.specs.List.{sum_by}
 use Rattle.dump_io.specs.Dumps.{told, used, ReadsAtMost}
 use Rattle.binary_holders.specs.Held.{holdings}
+use Rattle.binary_holders.specs.Usage.{NamesProcess}
 use Rattle.binary_holders.specs.Inner.Places.{references_at, size_at}
 use Rattle.binary_holders.specs.Inner.Tallies.{HasHeard, HasRoom}
 use Rattle.binary_holders.proofs.holding.hear_each.Given as goal
@@ -16,5 +18,6 @@ invariant-loop-process g l =
       turn : l.tally.turn ≡ l.process + 1;
       room : HasRoom (length l.sought) l.tally;
       held : (dump : List ℕ) → d.now l.initial.dumps ≡ told dump → l.held.items ≡ holdings l.sought (map (references_at dump l.index) (take l.process l.heaps));
+      named : All (NamesProcess (length l.heaps)) l.held.items;
       heard : (dump : List ℕ) → d.now l.initial.dumps ≡ told dump → HasHeard l.sought (map (references_at dump l.index) (take l.process l.heaps)) [] l.tally;
     }

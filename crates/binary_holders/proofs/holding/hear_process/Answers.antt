@@ -1,7 +1,9 @@
-use Rattle.std.proofs.Common.{◌^◌, ◌<◌, [], length, ◌∙◌, ap, arith, rules}
+use Rattle.std.proofs.Common.{◌^◌, ◌<◌, [], length, sym, ◌∙◌, ap, arith, rules, subst}
+use Rattle.std.specs.Prelude.{All}
 use Rattle.dump_io.specs.Dumps.{size_of}
+use Rattle.binary_holders.specs.Usage.{NamesProcess}
 use Rattle.binary_holders.specs.Inner.Places.{references_at}
-use Rattle.binary_holders.proofs.HoldingFacts.{held-more, few-at}
+use Rattle.binary_holders.proofs.HoldingFacts.{held-more, few-at, named-more}
 use Rattle.binary_holders.proofs.holding.hear_process.Goals as goal
 
 pub returns-clause-held : goal.returns-clause-held
@@ -15,3 +17,7 @@ returns-clause-held g c = λ dump is before place heard so_far.
 pub returns-clause-heard : goal.returns-clause-heard
 returns-clause-heard g c = λ dump is before heard.
     c.turn.ensures.heard c.args.sought.now before (references_at dump c.args.index.now c.args.place) ((c.in-Ok.ensures.hears dump is).heard before [] heard)
+
+pub returns-clause-named : goal.returns-clause-named
+returns-clause-named g c = λ count inside named.
+    subst (All (NamesProcess count)) (sym c.in_ok-push_holding.ensures.pushed) (named-more count c.args.process c.args.held.now.items c.hear_section.new.tally inside named)

@@ -10,7 +10,7 @@ use Rattle.binary_holders.specs.Held.{capped, holdings}
 use Rattle.size_order.specs.Sorting.{most_first}
 use Rattle.binary_holders.specs.Usage.{heaps_of, rows_in}
 use Rattle.binary_holders.specs.Inner.Rows.{AreRows}
-use Rattle.binary_holders.proofs.UsingFacts.{both-ok, rows-are}
+use Rattle.binary_holders.proofs.UsingFacts.{both-ok, rows-are, usage-same}
 use Rattle.binary_holders.proofs.using.binary_use.Goals as goal
 
 pub returns-clause-found : goal.returns-clause-found
@@ -34,10 +34,11 @@ returns-clause-found g c =
     let heaps = heaps_of dump index (map (λ (p : Process). p.pid) c.args.procs.now.processes) in
     let told_rows : rows ≡ rows_in dump index heaps =
     rows-are dump index heaps list sought holders tally rows stored.stored sizes (heard.heard dump told) c.as_slice-holders.ensures.value found in
-    record {
-      held = all.0 ∙ ap (most_first (λ (h : Holding). h.bytes)) (heard.held dump told ∙ ap (λ l. holdings l heaps) sizes);
-      binaries = all.1.0 ∙ ap (most_first (λ (r : BinaryRow). r.size)) told_rows;
-      bytes = all.1.1.0 ∙ c.sum_sizes-bytes.ensures ∙ ap (λ l. capped (sum_by (λ (b : Binary). b.size) l)) (c.binaries-binaries.ensures ∙ sizes);
-      with_holders = all.1.1.1 ∙ ap (count_by (λ (r : BinaryRow). nat_lt 0 r.holders)) told_rows;
-    })
+    usage-same (all.0 ∙ ap (most_first (λ (h : Holding). h.bytes)) (heard.held dump told ∙ ap (λ l. holdings l heaps) sizes))
+    (all.1.0 ∙ ap (most_first (λ (r : BinaryRow). r.size)) told_rows)
+    (all.1.1.0 ∙ c.sum_sizes-bytes.ensures ∙ ap (λ l. capped (sum_by (λ (b : Binary). b.size) l)) (c.binaries-binaries.ensures ∙ sizes))
+    (all.1.1.1 ∙ ap (count_by (λ (r : BinaryRow). nat_lt 0 r.holders)) told_rows))
     (both-ok c.sorted.result _ _ sorted.held (both-ok c.sorted.result _ _ sorted.binaries (both-ok c.sorted.result _ _ sorted.bytes sorted.with_holders)))
+
+pub returns-clause-named : goal.returns-clause-named
+returns-clause-named g c = c.sorted.ensures.named (length c.args.procs.now.processes) c.in_ok-held.ensures.named

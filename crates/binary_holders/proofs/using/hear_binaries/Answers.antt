@@ -1,6 +1,11 @@
-use Rattle.std.proofs.Common.{[], map, ◌∙◌, ap, subst}
+use Rattle.std.proofs.Common.{◌≡◌, [], length, map, ◌∙◌, ap, subst}
+use Rattle.std.specs.Prelude.{All}
+use Rattle.std.proofs.lemmas.List.{length-map}
+use Rattle.section_index.specs.Index.{sections_in}
+use Rattle.process_table.specs.Processes.{Process}
 use Rattle.binary_holders.specs.Held.{holdings}
-use Rattle.binary_holders.specs.Inner.Places.{references_at}
+use Rattle.binary_holders.specs.Usage.{NamesProcess}
+use Rattle.binary_holders.specs.Inner.Places.{heap_place, references_at}
 use Rattle.binary_holders.specs.Inner.Tallies.{HasHeard}
 use Rattle.binary_holders.proofs.UsingFacts.{heaps-are}
 use Rattle.binary_holders.proofs.using.hear_binaries.Goals as goal
@@ -16,3 +21,10 @@ returns-clause-heard g c = λ dump is.
     subst (λ l. HasHeard c.args.sought.now l [] c.hear_all.new.tally)
     (ap (map (references_at dump c.args.index.now)) c.as_slice.ensures.value ∙ heaps-are dump c.args.index.now c.args.procs.now.processes c.in-Ok.heaps.items c.in-Ok.ensures.places)
     (c.in_ok-held.ensures.heard dump is)
+
+pub returns-clause-named : goal.returns-clause-named
+returns-clause-named g c =
+    let processes = c.args.procs.now.processes in
+    let size : length c.as_slice.result.now ≡ length processes =
+    ap length (c.as_slice.ensures.value ∙ c.in-Ok.ensures.places) ∙ length-map processes (λ (p : Process). heap_place (sections_in c.args.index.now) p.pid) in
+    subst (λ n. All (NamesProcess n) c.in_ok-held.held.items) size c.in_ok-held.ensures.named
