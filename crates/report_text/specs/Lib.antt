@@ -1,4 +1,5 @@
 pub mod Findings
+pub mod Holders
 pub mod Links
 pub mod Refusals
 pub mod Reports

@@ -5,6 +5,8 @@ use Rattle.std.specs.List.{concat, flat_map}
 use Rattle.dump_io.specs.Colons.{has_colon}
 use Rattle.field_lines.specs.Fields.{key_of, value_of}
 use Rattle.field_lines.specs.Lines.{TextLine, text_lines}
+use Rattle.section_index.specs.Bodies.{section_at}
+use Rattle.section_index.specs.Index.{Contents}
 use Rattle.process_table.specs.Processes.{Process, ProcessTable}
 use Rattle.section_rows.specs.Rows.{Kept, Row, Table, text_in}
 use Rattle.report_text.specs.Reports.{newline, text_or_dash}
@@ -21,6 +23,10 @@ cell_text cell = text_or_dash (text_in cell)
 abbrev pub process_line : Process → List ℕ
 process_line p =
     concat (p.pid ∷ tab ∷ cell_text p.state ∷ tab ∷ cell_text p.name ∷ tab ∷ cell_text p.queue ∷ tab ∷ cell_text p.memory ∷ newline ∷ [])
+
+-- the end of a line that speaks of a process: its pid, its name, and where the header of its section begins
+abbrev pub process_end : Contents → Process → List ℕ
+process_end index p = concat (p.pid ∷ tab ∷ cell_text p.name ∷ tab ∷ decimal (section_at index p.section).at ∷ newline ∷ [])
 
 -- the last line: how many processes there are, and how many sections were passed over
 abbrev pub processes_line : ℕ → ℕ → List ℕ

@@ -11,6 +11,7 @@
 
 mod audit_report;
 mod field_report;
+mod holder_report;
 mod index_report;
 mod info_report;
 mod link_report;
@@ -20,6 +21,7 @@ mod table_report;
 
 pub use audit_report::put_findings;
 pub use field_report::put_fields;
+pub use holder_report::{put_binaries, put_holders};
 pub use index_report::put_index;
 pub use info_report::put_info;
 pub use link_report::put_links;

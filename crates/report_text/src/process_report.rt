@@ -1,13 +1,15 @@
-// The report of `procs`.
-ghost use Rattle.std.specs.Prelude.{◌≡◌, length};
+// The report of `procs`, and what other reports say of a process.
+ghost use Rattle.std.specs.Prelude.{◌≡◌, ◌<◌, All, length};
 ghost use Rattle.std.specs.List.{flat_map};
 ghost use Rattle.dump_io.specs.Sinks.{changed, Puts};
+ghost use Rattle.process_table.specs.Processes.{IsIn, process_at};
 ghost use Rattle.process_table.specs.Shown.{shown_process};
 ghost use Rattle.section_rows.specs.Shown.{shown_cell};
-ghost use Rattle.report_text.specs.Tables.{cell_text, process_line, processes_line, procs_report};
+ghost use Rattle.report_text.specs.Tables.{cell_text, process_end, process_line, processes_line, procs_report};
 
 use dump_io::{Failed, Piece, Sink, put_pieces};
 use process_table::{Kept, Proc, Procs};
+use section_index::Index;
 
 // The text of a field, or `-`.
 fn text_of<'a>(cell: &Option<Kept<'a>>) -> &'a [u8]
@@ -35,6 +37,32 @@ fn put_process<K: Sink>(sink: &mut K, process: &Proc<'_>) -> Result<(), Failed>
             Piece::Bytes(text_of(&process.queue)),
             tab,
             Piece::Bytes(text_of(&process.memory)),
+            Piece::Bytes(b"\n"),
+        ],
+    )
+}
+
+// Writes the end of a line that speaks of the process at a place.
+pub(crate) fn put_process_end<K: Sink>(
+    sink: &mut K,
+    index: &Index,
+    procs: &Procs,
+    place: usize,
+) -> Result<(), Failed>
+    requires place { place < length procs.now.processes }
+    requires processes { All (IsIn index.now) procs.now.processes }
+    ensures { Puts (changed K.written K.faults sink.old sink.new) (process_end index.now (process_at procs.now.processes place)) result }
+{
+    let process = procs.at(place);
+    let tab = Piece::Bytes(b"\t");
+    put_pieces(
+        sink,
+        &[
+            Piece::Bytes(process.pid),
+            tab,
+            Piece::Bytes(text_of(&process.name)),
+            tab,
+            Piece::Dec(index.section(process.section).at),
             Piece::Bytes(b"\n"),
         ],
     )
