@@ -49,9 +49,11 @@ fn device(alloc: Global, cuts: &[usize], fails: &[u64]) -> Result<MemDumps, Allo
 fn draw_holdings(out: &mut Vec<u8>, held: &[Holding]) -> Result<(), AllocError> {
     let alloc = *out.allocator();
     for holding in held {
-        out.extend_from_slice(
-            format!(in alloc; "{} {} {} {}\n", holding.process, holding.bytes, holding.count, holding.cells)?.as_bytes(),
-        )?;
+        out.extend_from_slice(format!(in alloc;
+            "{} {} {} {}\n",
+            holding.process, holding.bytes, holding.count, holding.cells
+        )?
+        .as_bytes())?;
     }
     Ok(())
 }
@@ -61,13 +63,19 @@ fn drawn(alloc: Global, found: &BinaryUse) -> Result<Vec<u8>, AllocError> {
     let mut out = Vec::new(alloc);
     draw_holdings(&mut out, &found.held)?;
     for row in &found.binaries {
-        out.extend_from_slice(
-            format!(in alloc; "{} {} {:X} {}\n", row.size, row.holders, row.number, row.at)?.as_bytes(),
-        )?;
+        out.extend_from_slice(format!(in alloc;
+            "{} {} {:X} {}\n",
+            row.size, row.holders, row.number, row.at
+        )?
+        .as_bytes())?;
     }
-    out.extend_from_slice(
-        format!(in alloc; "{} {} {}\n", found.binaries.len(), found.bytes, found.with_holders)?.as_bytes(),
-    )?;
+    out.extend_from_slice(format!(in alloc;
+        "{} {} {}\n",
+        found.binaries.len(),
+        found.bytes,
+        found.with_holders
+    )?
+    .as_bytes())?;
     Ok(out)
 }
 
@@ -79,9 +87,9 @@ fn with_heap(
     cuts: &[usize],
 ) -> Result<MemDumps, AllocError> {
     let mut text = Vec::new(alloc);
-    text.extend_from_slice(
-        format!(in alloc; "=erl_crash_dump:{version}\n=proc:<0.1.0>\n=proc_heap:<0.1.0>\n")?.as_bytes(),
-    )?;
+    text.extend_from_slice(format!(in alloc;
+        "=erl_crash_dump:{version}\n=proc:<0.1.0>\n=proc_heap:<0.1.0>\n"
+    )?.as_bytes())?;
     text.extend_from_slice(heap)?;
     text.extend_from_slice(b"=binary:500\n5:\n=end\n")?;
     MemDumps::holding(alloc, "S", &text, cuts, &[])
