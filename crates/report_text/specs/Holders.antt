@@ -13,12 +13,14 @@ use Rattle.report_text.specs.Tables.{process_end, tab}
 -- the line of a process that holds binaries: how many bytes they have together, how many they are, and which process it is
 abbrev pub held_line : Contents → List Process → Holding → List ℕ
 held_line index processes held =
-    concat (codes "held\t" ∷ decimal held.bytes ∷ tab ∷ decimal held.count ∷ tab ∷ []) ++ process_end index (process_at processes held.process)
+    concat (codes "held\t" ∷ decimal held.bytes ∷ tab ∷ decimal held.count ∷ tab ∷ [])
+    ++ process_end index (process_at processes held.process)
 
 -- the line of a binary: its size, how many processes hold it, its number, and where the header of its section begins
 abbrev pub stored_line : BinaryRow → List ℕ
 stored_line row =
-    concat (codes "binary\t" ∷ decimal row.size ∷ tab ∷ decimal row.holders ∷ tab ∷ hexadecimal row.number ∷ tab ∷ decimal row.at ∷ newline ∷ [])
+    concat (codes "binary\t" ∷ decimal row.size ∷ tab ∷ decimal row.holders ∷ tab ∷ hexadecimal row.number ∷ tab
+    ∷ decimal row.at ∷ newline ∷ [])
 
 -- the last line: how many binaries there are, how many bytes they have together, and how many of them somebody holds
 abbrev pub binaries_line : ℕ → ℕ → ℕ → List ℕ

@@ -54,13 +54,14 @@ pub(crate) fn put_process_end<K: Sink>(
     ensures { Puts (changed K.written K.faults sink.old sink.new) (process_end index.now (process_at procs.now.processes place)) result }
 {
     let process = procs.at(place);
+    let name = text_of(&process.name);
     let tab = Piece::Bytes(b"\t");
     put_pieces(
         sink,
         &[
             Piece::Bytes(process.pid),
             tab,
-            Piece::Bytes(text_of(&process.name)),
+            Piece::Bytes(name),
             tab,
             Piece::Dec(index.section(process.section).at),
             Piece::Bytes(b"\n"),

@@ -1,4 +1,4 @@
-use Rattle.std.proofs.Common.{take, None, arith}
+use Rattle.std.proofs.Common.{take, None}
 use Rattle.std.proofs.lemmas.Option.{slice_get-get_or}
 use Rattle.dump_io.specs.Laws.Puts.{HasPut-more, Puts-broken}
 use Rattle.term_text.specs.Cells.{all_kinds, kind_line}
