@@ -4,3 +4,4 @@ pub mod Links
 pub mod Refusals
 pub mod Reports
 pub mod Tables
+pub mod Triage

@@ -30,7 +30,12 @@ fn slogan_of(first_body: &[u8]) -> &[u8]
     }
 }
 
-fn put_heading<K: Sink>(sink: &mut K, index: &Index, first_body: &[u8]) -> Result<(), Failed>
+// Writes the version, the size, the number of sections and the slogan.
+pub(crate) fn put_heading<K: Sink>(
+    sink: &mut K,
+    index: &Index,
+    first_body: &[u8],
+) -> Result<(), Failed>
     ensures { Puts (changed K.written K.faults sink.old sink.new)
         (info_heading (version_text index.now.version) index.now.size (length index.now.headers) (find_value first_body.now (codes "Slogan"))) result }
 {

@@ -10,6 +10,7 @@
 #![tactic(auto)]
 
 mod audit_report;
+mod count_lines;
 mod field_report;
 mod holder_report;
 mod index_report;
@@ -18,6 +19,7 @@ mod link_report;
 mod process_report;
 mod refusals;
 mod table_report;
+mod triage_report;
 
 pub use audit_report::put_findings;
 pub use field_report::put_fields;
@@ -28,3 +30,4 @@ pub use link_report::put_links;
 pub use process_report::put_procs;
 pub use refusals::{Refusal, put_refusal};
 pub use table_report::put_rows;
+pub use triage_report::put_triage;

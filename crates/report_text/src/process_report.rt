@@ -12,7 +12,7 @@ use process_table::{Kept, Proc, Procs};
 use section_index::Index;
 
 // The text of a field, or `-`.
-fn text_of<'a>(cell: &Option<Kept<'a>>) -> &'a [u8]
+pub(crate) fn text_of<'a>(cell: &Option<Kept<'a>>) -> &'a [u8]
     ensures { result.now ≡ cell_text (shown_cell cell.now) }
 {
     match cell {
@@ -78,7 +78,8 @@ fn put_processes<K: Sink>(sink: &mut K, procs: &Procs) -> Result<(), Failed>
     Ok(())
 }
 
-fn put_count<K: Sink>(sink: &mut K, procs: &Procs) -> Result<(), Failed>
+// Writes how many processes there are, and how many sections of processes were passed over.
+pub(crate) fn put_processes_line<K: Sink>(sink: &mut K, procs: &Procs) -> Result<(), Failed>
     ensures { Puts (changed K.written K.faults sink.old sink.new) (processes_line (length procs.now.processes) procs.now.repeated) result }
 {
     put_pieces(
@@ -100,5 +101,5 @@ pub fn put_procs<K: Sink>(sink: &mut K, procs: &Procs) -> Result<(), Failed>
     ensures { Puts (changed K.written K.faults sink.old sink.new) (procs_report procs.now) result }
 {
     put_processes(sink, procs)?;
-    put_count(sink, procs)
+    put_processes_line(sink, procs)
 }

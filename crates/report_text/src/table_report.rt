@@ -11,7 +11,7 @@ use dump_io::{Failed, Piece, Sink, put_dec, put_pieces, write_all};
 use table_sections::Rows;
 
 // The text of a cell, or `-`.
-fn text_at(rows: &Rows, i: usize, c: usize) -> &[u8]
+pub(crate) fn text_at(rows: &Rows, i: usize, c: usize) -> &[u8]
     requires row { i < length rows.now.rows }
     requires column { c < rows.now.width }
     ensures { result.now ≡ text_or_dash (text_in (cell_at (row_at rows.now.rows i) c)) }

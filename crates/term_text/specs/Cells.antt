@@ -1,5 +1,5 @@
 -- The report of the cells of a heap: what each is, how large, and how many there are of each kind.
-use Rattle.std.specs.Prelude.{ℕ, zero, suc, List, [], ◌∷◌, ◌++◌, length, take, decimal, codes, count_by, Option, None, Some}
+use Rattle.std.specs.Prelude.{ℕ, List, [], ◌∷◌, ◌++◌, length, take, decimal, codes, count_by, Option, None, Some}
 use Rattle.std.specs.List.{concat, flat_map}
 use Rattle.std.specs.Option.{option_and_then, option_map}
 use Rattle.std.specs.Str.{bytes_eq}
@@ -9,6 +9,7 @@ use Rattle.heap_cells.specs.Cells.{Cell, kind_of}
 use Rattle.heap_cells.specs.HeapMap.{HeapMap}
 use Rattle.heap_cells.specs.declared.cells.Kind.{Kind}
 use Rattle.heap_cells.specs.declared.cells.Kind.TheVariants as kind
+use Rattle.report_lines.specs.Lines.{count_line, newline, tab}
 
 -- the word for a kind of cells; one without a kind is malformed
 abbrev pub kind_word : Option Kind → List ℕ
@@ -61,24 +62,19 @@ word_of form = kind_word (option_map kind_of form)
 -- the line of a cell: its address, its kind and its size, with a tab between them
 abbrev pub cell_line : Cell → List ℕ
 cell_line cell =
-    concat (hexadecimal cell.address ∷ codes "\t" ∷ word_of cell.form ∷ codes "\t" ∷ size_text (option_and_then size_in cell.form) ∷ codes "\n" ∷ [])
+    concat (hexadecimal cell.address ∷ tab ∷ word_of cell.form ∷ tab ∷ size_text (option_and_then size_in cell.form) ∷ newline ∷ [])
 
 -- how many of some cells have the kind with this word
 abbrev pub count_of : List Cell → List ℕ → ℕ
 count_of cells word = count_by (λ cell. bytes_eq (word_of cell.form) word) cells
 
--- the line of a kind with this word, which occurs so many times; one that doesn't occur has none
-abbrev pub count_line : List ℕ → ℕ → List ℕ
-count_line word zero = []
-count_line word (suc more) = concat (codes "kind\t" ∷ decimal (suc more) ∷ codes "\t" ∷ word ∷ codes "\n" ∷ [])
-
 -- the line of a kind among some cells
 abbrev pub kind_line : List Cell → Option Kind → List ℕ
-kind_line cells kind = count_line (kind_word kind) (count_of cells (kind_word kind))
+kind_line cells kind = count_line (codes "kind\t") (kind_word kind) (count_of cells (kind_word kind))
 
 -- the last line: how many cells there are
 abbrev pub cells_line : ℕ → List ℕ
-cells_line count = concat (codes "cells " ∷ decimal count ∷ codes "\n" ∷ [])
+cells_line count = concat (codes "cells " ∷ decimal count ∷ newline ∷ [])
 
 -- the report of some cells
 abbrev pub cells_text : List Cell → List ℕ

@@ -7,11 +7,12 @@ ghost use Rattle.dump_io.specs.Pieces.{piece_text};
 ghost use Rattle.dump_io.specs.Sinks.{changed, Puts};
 ghost use Rattle.term_forms.specs.SeenForms.{heap_form};
 ghost use Rattle.heap_cells.specs.Targets.{number};
-ghost use Rattle.term_text.specs.Cells.{all_kinds, cell_line, cells_line, cells_report, count_line, count_of, kind_line, kind_word, size_in, size_text, word_of};
+ghost use Rattle.term_text.specs.Cells.{all_kinds, cell_line, cells_line, cells_report, count_of, kind_line, kind_word, size_in, size_text, word_of};
 ghost use Rattle.term_text.specs.Inner.Cells.{cell_at};
 
 use dump_io::{Failed, Piece, Sink, put_pieces};
 use heap_cells::{CellIx, Heap, Kind};
+use report_lines::put_count_line;
 use term_forms::shapes::Form;
 
 fn kind_word(kind: Option<Kind>) -> &'static [u8]
@@ -119,30 +120,12 @@ fn count_of(heap: &Heap, word: &[u8]) -> u32
     count
 }
 
-fn put_count<K: Sink>(sink: &mut K, word: &[u8], count: u32) -> Result<(), Failed>
-    ensures { Puts (changed K.written K.faults sink.old sink.new) (count_line word.now count) result }
-{
-    if count == 0 {
-        return Ok(());
-    }
-    put_pieces(
-        sink,
-        &[
-            Piece::Bytes(b"kind\t"),
-            Piece::Dec(u64::from(count)),
-            Piece::Bytes(b"\t"),
-            Piece::Bytes(word),
-            Piece::Bytes(b"\n"),
-        ],
-    )
-}
-
 // Writes a line for a kind of which the heap has cells of its own.
 fn put_kind<K: Sink>(sink: &mut K, heap: &Heap, kind: Option<Kind>) -> Result<(), Failed>
     ensures { Puts (changed K.written K.faults sink.old sink.new) (kind_line (take heap.now.own heap.now.cells) kind) result }
 {
     let word = kind_word(kind);
-    put_count(sink, word, count_of(heap, word))
+    put_count_line(sink, b"kind\t", word, u64::from(count_of(heap, word)))
 }
 
 // All kinds, in the order in which they are counted.

@@ -1,0 +1,2 @@
+-- What only private functions cite: how states are counted.
+pub mod States

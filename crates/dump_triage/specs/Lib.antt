@@ -1,0 +1,4 @@
+pub mod FindingCounts
+pub mod Inner
+pub mod Ranking
+pub mod Triage

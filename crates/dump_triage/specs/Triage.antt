@@ -1,0 +1,85 @@
+-- What stands out in a dump.
+use Rattle.std.specs.Prelude.{ℕ, ◌-◌, ◌^◌, List, map, take, length, codes, count_by, nat_lt, unwrap_or, Option, None, Some, if◌then◌else◌}
+use Rattle.std.specs.Option.{option_and_then}
+use Rattle.std.specs.Str.{bytes_eq}
+use Rattle.dump_io.specs.Numbers.{dec_number}
+use Rattle.section_index.specs.Index.{Contents}
+use Rattle.section_rows.specs.Rows.{Kept, Row, cell_at, text_in}
+use Rattle.process_table.specs.Processes.{Process}
+use Rattle.dump_audit.specs.Findings.{audit_of, findings}
+use Rattle.dump_triage.specs.FindingCounts.{counts_of}
+use Rattle.dump_triage.specs.Ranking.{AreWithin, largest}
+use Rattle.dump_triage.specs.declared.finding_counts.FindingCounts.{FindingCounts}
+use Rattle.dump_triage.specs.declared.ranked.Ranked.{Ranked}
+
+-- ---- states
+
+-- the text of a process's state, which is `-` where there is none
+abbrev pub state_text : Process → List ℕ
+state_text process = unwrap_or (text_in process.state) (codes "-")
+
+-- the texts of the states of processes
+abbrev pub state_texts : List Process → List (List ℕ)
+state_texts processes = map state_text processes
+
+-- how many of some texts are this one
+abbrev pub count_of : List (List ℕ) → List ℕ → ℕ
+count_of texts text = count_by (bytes_eq text) texts
+
+-- how often the text at a place stands in the list, which is told at the first of its places alone
+abbrev pub count_at_first : List (List ℕ) → ℕ × List ℕ → Option ℕ
+count_at_first texts (place, text) = if nat_lt 0 (count_of (take place texts) text) then None else Some (count_of texts text)
+
+-- the states that most processes are in: the first process that is in it, and how many are
+abbrev pub commonest_states : ℕ → List Process → List Ranked
+commonest_states most processes = largest most (count_at_first (state_texts processes)) (state_texts processes)
+
+-- ---- numbers of processes and tables
+
+-- the number that the text of a cell writes
+abbrev pub number_in : Option Kept → Option ℕ
+number_in cell = option_and_then dec_number (text_in cell)
+
+-- the processes with the longest message queues
+abbrev pub longest_queues : ℕ → List Process → List Ranked
+longest_queues most processes = largest most (λ item. number_in item.1.queue) processes
+
+-- the processes with the most memory, in bytes
+abbrev pub largest_processes : ℕ → List Process → List Ranked
+largest_processes most processes = largest most (λ item. number_in item.1.memory) processes
+
+-- the words of an ETS table, in the last of its columns
+abbrev pub words_in : Row → Option ℕ
+words_in row = number_in (cell_at row 4)
+
+-- the ETS tables with the most words
+abbrev pub largest_tables : ℕ → List Row → List Ranked
+largest_tables most rows = largest most (λ item. words_in item.1) rows
+
+-- ---- all of it
+
+-- what stands out: rows of places of processes and of tables, and numbers of findings
+pub record Triaged : Type 0 where
+  pub states : List Ranked
+  pub queues : List Ranked
+  pub memory : List Ranked
+  pub tables : List Ranked
+  pub findings : FindingCounts
+
+-- what stands out in a dump with this index, these processes and these ETS tables, with at most so many rows of each kind;
+-- message queues are judged by no limit
+abbrev pub triage_of : Contents → List Process → List Row → ℕ → Triaged
+triage_of index processes rows most = record {
+  states = commonest_states most processes;
+  queues = longest_queues most processes;
+  memory = largest_processes most processes;
+  tables = largest_tables most rows;
+  findings = counts_of (findings (audit_of index processes (2 ^ 64 - 1) None));
+}
+
+-- the rows are of places of these processes and of these tables
+pub record Fits (processes : List Process) (rows : List Row) (triage : Triaged) : Type 0 where
+  pub states : AreWithin (length processes) triage.states
+  pub queues : AreWithin (length processes) triage.queues
+  pub memory : AreWithin (length processes) triage.memory
+  pub tables : AreWithin (length rows) triage.tables

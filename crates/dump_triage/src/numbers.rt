@@ -1,0 +1,100 @@
+// The processes and the ETS tables by the numbers that their sections state.
+ghost use Rattle.std.specs.Prelude.{◌≡◌, ◌<◌, length, map, slice_get, Some, IfOk};
+ghost use Rattle.section_rows.specs.Rows.{row_at};
+ghost use Rattle.section_rows.specs.Shown.{shown_cell};
+ghost use Rattle.dump_triage.specs.Ranking.{rows_by};
+ghost use Rattle.dump_triage.specs.Triage.{largest_processes, largest_tables, longest_queues, number_in, words_in};
+
+use crate::ranked::{Ranked, first_rows, push_row};
+use dump_io::dec_u64;
+use process_table::{Kept, Procs};
+use std::alloc::{AllocError, Global};
+use table_sections::Rows;
+
+// The number that the text of a cell writes.
+fn number_in(cell: &Option<Kept<'_>>) -> Option<u64>
+    ensures { result ≡ number_in (shown_cell cell.now) }
+{
+    let Some(kept) = cell else {
+        return None;
+    };
+    dec_u64(kept.text)
+}
+
+// The rows of the processes by their message queues, in the order of the dump.
+fn queue_rows(alloc: Global, procs: &Procs) -> Result<Vec<Ranked>, AllocError>
+    ensures { IfOk result (λ rows. rows.items ≡ rows_by (λ item. number_in item.1.queue) procs.now.processes) }
+{
+    let mut rows = Vec::new(alloc);
+    for p in 0..procs.len() {
+        push_row(&mut rows, p, number_in(&procs.queue(p)))?;
+    }
+    Ok(rows)
+}
+
+// The rows of the processes by their memory, in the order of the dump.
+fn memory_rows(alloc: Global, procs: &Procs) -> Result<Vec<Ranked>, AllocError>
+    ensures { IfOk result (λ rows. rows.items ≡ rows_by (λ item. number_in item.1.memory) procs.now.processes) }
+{
+    let mut rows = Vec::new(alloc);
+    for p in 0..procs.len() {
+        let process = procs.at(p);
+        push_row(&mut rows, p, number_in(&process.memory))?;
+    }
+    Ok(rows)
+}
+
+// The words of the ETS table at a place.
+fn words_at(tables: &Rows, i: usize) -> Option<u64>
+    requires place { i < length tables.now.rows }
+    requires width { tables.now.width ≡ 5 }
+    ensures { result ≡ words_in (row_at tables.now.rows i) }
+{
+    dec_u64(tables.cell(i, 4)?)
+}
+
+// The rows of the ETS tables by their words, in the order of the dump.
+fn table_rows(alloc: Global, tables: &Rows) -> Result<Vec<Ranked>, AllocError>
+    requires { tables.now.width ≡ 5 }
+    ensures { IfOk result (λ rows. rows.items ≡ rows_by (λ item. words_in item.1) tables.now.rows) }
+{
+    let mut rows = Vec::new(alloc);
+    for i in 0..tables.len() {
+        push_row(&mut rows, i, words_at(tables, i))?;
+    }
+    Ok(rows)
+}
+
+// The processes with the longest message queues, at most so many.
+pub(crate) fn longest_queues(
+    alloc: Global,
+    procs: &Procs,
+    most: u64,
+) -> Result<Vec<Ranked>, AllocError>
+    ensures { IfOk result (λ rows. rows.items ≡ longest_queues most procs.now.processes) }
+{
+    first_rows(queue_rows(alloc, procs)?, most)
+}
+
+// The processes with the most memory, at most so many.
+pub(crate) fn largest_processes(
+    alloc: Global,
+    procs: &Procs,
+    most: u64,
+) -> Result<Vec<Ranked>, AllocError>
+    ensures { IfOk result (λ rows. rows.items ≡ largest_processes most procs.now.processes) }
+{
+    first_rows(memory_rows(alloc, procs)?, most)
+}
+
+// The ETS tables with the most words, at most so many.
+pub(crate) fn largest_tables(
+    alloc: Global,
+    tables: &Rows,
+    most: u64,
+) -> Result<Vec<Ranked>, AllocError>
+    requires { tables.now.width ≡ 5 }
+    ensures { IfOk result (λ rows. rows.items ≡ largest_tables most tables.now.rows) }
+{
+    first_rows(table_rows(alloc, tables)?, most)
+}

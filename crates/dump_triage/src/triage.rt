@@ -1,0 +1,122 @@
+// What stands out in a dump.
+ghost use Rattle.std.specs.Prelude.{◌≡◌, ◌-◌, ◌^◌, None, All, IfOk};
+ghost use Rattle.process_table.specs.Processes.{IsIn};
+ghost use Rattle.table_sections.specs.Tables.{IsOver};
+ghost use Rattle.table_sections.specs.declared.kinds.TableKind.TheVariants.{Ets};
+ghost use Rattle.dump_audit.specs.Findings.{audit_of, findings};
+ghost use Rattle.dump_triage.specs.FindingCounts.{counts_of};
+ghost use Rattle.dump_triage.specs.Triage.{Fits, triage_of};
+
+use crate::finding_counts::{FindingCounts, counts_of};
+use crate::numbers::{largest_processes, largest_tables, longest_queues};
+use crate::ranked::Ranked;
+use crate::states::commonest_states;
+use dump_audit::audit;
+use link_graph::Graph;
+use process_table::Procs;
+use section_index::Index;
+use std::alloc::{AllocError, Global};
+use std::marker::Model;
+use table_sections::Rows;
+
+/// What stands out in a dump. Each list has the largest number first, and of equal ones the first of the dump.
+#[derive(Drop)]
+pub struct Triage {
+    states: Vec<Ranked>,
+    queues: Vec<Ranked>,
+    memory: Vec<Ranked>,
+    tables: Vec<Ranked>,
+    findings: FindingCounts,
+}
+
+impl Model for Triage {
+    ghost use Rattle.dump_triage.specs.Triage.{Triaged};
+
+    ghost Value = { Triaged };
+
+    ghost view = { λ t. record {
+        states = t.states.items;
+        queues = t.queues.items;
+        memory = t.memory.items;
+        tables = t.tables.items;
+        findings = t.findings;
+    } };
+}
+
+// How many findings there are of each kind, in an audit that isn't full, where no message queue is too long.
+fn count_findings(
+    alloc: Global,
+    index: &Index,
+    procs: &Procs,
+) -> Result<FindingCounts, AllocError>
+    requires { All (IsIn index.now) procs.now.processes }
+    ensures { IfOk result (λ counts. counts ≡ counts_of (findings (audit_of index.now procs.now.processes (2 ^ 64 - 1) None))) }
+{
+    let graph = Graph::build(alloc, procs)?;
+    let findings = audit(alloc, index, procs, &graph, u64::MAX)?;
+    Ok(counts_of(&findings))
+}
+
+impl Triage {
+    /// What stands out in a dump with these processes and these ETS tables, which are of its index: at most `most` states,
+    /// message queues, processes and tables, and the numbers of findings.
+    ///
+    /// A process without a `State` is in the state `-`. A message queue, a memory or the words of a table count where they are
+    /// numbers of decimal digits below 2^64 and not 0. Findings are those of [`audit`](dump_audit::audit) with the limit
+    /// 2^64 - 1, which no message queue passes. `AllocError` may come at any growth.
+    pub fn of(
+        alloc: Global,
+        index: &Index,
+        procs: &Procs,
+        tables: &Rows,
+        most: u64,
+    ) -> Result<Triage, AllocError>
+        requires sections { All (IsIn index.now) procs.now.processes }
+        requires tables { IsOver Ets index.now tables.now }
+        ensures value { IfOk result (λ triage. triage ≡ triage_of index.now procs.now.processes tables.now.rows most) }
+        ensures fits { IfOk result (Fits procs.now.processes tables.now.rows) }
+    {
+        Ok(Triage {
+            states: commonest_states(alloc, procs, most)?,
+            queues: longest_queues(alloc, procs, most)?,
+            memory: largest_processes(alloc, procs, most)?,
+            tables: largest_tables(alloc, tables, most)?,
+            findings: count_findings(alloc, index, procs)?,
+        })
+    }
+
+    /// The states of processes by how many are in them; a state has the place of the first process that is in it.
+    pub fn states(&self) -> &[Ranked]
+        ensures { result.now ≡ self.now.states }
+    {
+        self.states.as_slice()
+    }
+
+    /// The processes by the lengths of their message queues.
+    pub fn queues(&self) -> &[Ranked]
+        ensures { result.now ≡ self.now.queues }
+    {
+        self.queues.as_slice()
+    }
+
+    /// The processes by their memory, in bytes.
+    pub fn memory(&self) -> &[Ranked]
+        ensures { result.now ≡ self.now.memory }
+    {
+        self.memory.as_slice()
+    }
+
+    /// The ETS tables by their words.
+    pub fn tables(&self) -> &[Ranked]
+        ensures { result.now ≡ self.now.tables }
+    {
+        self.tables.as_slice()
+    }
+
+    /// How many findings there are of each kind.
+    pub fn findings(&self) -> FindingCounts
+        ensures { result ≡ self.now.findings }
+    {
+        self.findings
+    }
+}

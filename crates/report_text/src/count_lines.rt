@@ -1,0 +1,30 @@
+// The lines of what is counted.
+ghost use Rattle.std.specs.Prelude.{◌≡◌};
+ghost use Rattle.dump_io.specs.Sinks.{changed, Puts};
+ghost use Rattle.report_text.specs.Tables.{count_line};
+
+use dump_io::{Failed, Piece, Sink, put_pieces};
+
+// Writes the line of something that occurs so many times: a word, the number and what it is. What doesn't occur has none.
+pub(crate) fn put_count_line<'x, K: Sink>(
+    sink: &mut K,
+    word: &'x [u8],
+    counted: &'x [u8],
+    count: u64,
+) -> Result<(), Failed>
+    ensures { Puts (changed K.written K.faults sink.old sink.new) (count_line word.now counted.now count) result }
+{
+    if count == 0 {
+        return Ok(());
+    }
+    put_pieces(
+        sink,
+        &[
+            Piece::Bytes(word),
+            Piece::Dec(count),
+            Piece::Bytes(b"\t"),
+            Piece::Bytes(counted),
+            Piece::Bytes(b"\n"),
+        ],
+    )
+}
