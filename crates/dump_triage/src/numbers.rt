@@ -1,5 +1,5 @@
 // The processes and the ETS tables by the numbers that their sections state.
-ghost use Rattle.std.specs.Prelude.{◌≡◌, ◌<◌, length, map, slice_get, Some, IfOk};
+ghost use Rattle.std.specs.Prelude.{◌≡◌, ◌<◌, length, IfOk};
 ghost use Rattle.section_rows.specs.Rows.{row_at};
 ghost use Rattle.section_rows.specs.Shown.{shown_cell};
 ghost use Rattle.dump_triage.specs.Ranking.{rows_by};

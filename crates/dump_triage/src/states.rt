@@ -1,6 +1,6 @@
 // How many processes are in which state. The texts of states are sought by their order, since whoever writes a dump could give
 // all of them one hash.
-ghost use Rattle.std.specs.Prelude.{◌≡◌, ◌+◌, ◌<◌, codes, length, slice_get, take, unwrap_or, Some, IfOk, OnOk};
+ghost use Rattle.std.specs.Prelude.{◌≡◌, ◌+◌, ◌<◌, ◌^◌, codes, length, take, unwrap_or, IfOk, OnOk};
 ghost use Rattle.section_rows.specs.Rows.{text_in};
 ghost use Rattle.section_rows.specs.Shown.{shown_cell};
 ghost use Rattle.process_table.specs.Processes.{process_at};
@@ -26,7 +26,7 @@ fn state_text<'a>(state: &Option<Kept<'a>>) -> &'a [u8]
 // The state of the process at a place.
 fn state_at(procs: &Procs, p: usize) -> &[u8]
     requires { p < length procs.now.processes }
-    ensures { slice_get (state_texts procs.now.processes) p ≡ Some result.now }
+    ensures { result.now ≡ state_text (process_at procs.now.processes p) }
 {
     let process = procs.at(p);
     state_text(&process.state)
@@ -46,6 +46,7 @@ fn count_state<'a>(
     p: usize,
 ) -> Result<(), AllocError>
     requires place { p < length procs.now.processes }
+    requires fits { p + 1 < 2 ^ 64 }
     requires before { AreCounted counts.old (take p (state_texts procs.now.processes)) }
     ensures { OnOk result (AreCounted counts.new (take (p + 1) (state_texts procs.now.processes))) }
 {
@@ -56,10 +57,7 @@ fn count_state<'a>(
 }
 
 // How many processes are in each state.
-fn count_states<'a>(
-    alloc: Global,
-    procs: &'a Procs,
-) -> Result<BTreeMap<&'a [u8], u64>, AllocError>
+fn count_states<'a>(alloc: Global, procs: &'a Procs) -> Result<BTreeMap<&'a [u8], u64>, AllocError>
     ensures { IfOk result (λ counts. AreCounted counts (state_texts procs.now.processes)) }
 {
     let mut counts = BTreeMap::new(alloc);
@@ -71,11 +69,7 @@ fn count_states<'a>(
 
 // How many processes are in the state of the process at a place, where that is the first of them. The number is taken from the
 // tree, so that the next of them doesn't find it.
-fn take_count<'a>(
-    counts: &mut BTreeMap<&'a [u8], u64>,
-    procs: &'a Procs,
-    p: usize,
-) -> Option<u64>
+fn take_count<'a>(counts: &mut BTreeMap<&'a [u8], u64>, procs: &'a Procs, p: usize) -> Option<u64>
     requires place { p < length procs.now.processes }
     requires left { AreLeft counts.old (state_texts procs.now.processes) p }
     ensures count { result ≡ count_at_first (state_texts procs.now.processes) (p, state_text (process_at procs.now.processes p)) }

@@ -35,20 +35,16 @@ impl Model for Triage {
     ghost Value = { Triaged };
 
     ghost view = { λ t. record {
-        states = t.states.items;
-        queues = t.queues.items;
-        memory = t.memory.items;
-        tables = t.tables.items;
-        findings = t.findings;
+      states = t.states.items;
+      queues = t.queues.items;
+      memory = t.memory.items;
+      tables = t.tables.items;
+      findings = t.findings;
     } };
 }
 
 // How many findings there are of each kind, in an audit that isn't full, where no message queue is too long.
-fn count_findings(
-    alloc: Global,
-    index: &Index,
-    procs: &Procs,
-) -> Result<FindingCounts, AllocError>
+fn count_findings(alloc: Global, index: &Index, procs: &Procs) -> Result<FindingCounts, AllocError>
     requires { All (IsIn index.now) procs.now.processes }
     ensures { IfOk result (λ counts. counts ≡ counts_of (findings (audit_of index.now procs.now.processes (2 ^ 64 - 1) None))) }
 {

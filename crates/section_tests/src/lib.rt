@@ -1,10 +1,12 @@
-//! Tests of the crates over sections: the index, rows, processes, tables, links and audits.
+//! Tests of the crates over sections: the index, rows, processes, tables, links, audits and what stands out.
 //!
 //! They stand apart from what they test, whose proof would else be made once more with them.
 #![tactic(auto)]
 
 #[cfg(test)]
 mod dump_audit_calls;
+#[cfg(test)]
+mod dump_triage_calls;
 #[cfg(test)]
 mod link_graph_calls;
 #[cfg(test)]

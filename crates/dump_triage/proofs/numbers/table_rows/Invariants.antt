@@ -1,0 +1,8 @@
+use Rattle.std.proofs.Common.{◌≡◌, take}
+use Rattle.dump_triage.specs.Ranking.{rows_by}
+use Rattle.dump_triage.specs.Triage.{words_in}
+use Rattle.dump_triage.proofs.numbers.table_rows.Given as goal
+
+-- the rows of the places so far
+abbrev pub invariant-loop-i : goal.invariant-loop-i
+invariant-loop-i l = l.rows.items ≡ rows_by (λ item. words_in item.1) (take l.i l.tables.rows)

@@ -1,0 +1,23 @@
+use Rattle.std.proofs.Common.{arith}
+use Rattle.std.proofs.lemmas.List.{length-map}
+use Rattle.process_table.specs.Processes.{process_at}
+use Rattle.dump_triage.specs.Triage.{count_at_first, state_text, state_texts}
+use Rattle.dump_triage.proofs.RankFacts.{rows-all, rows-more}
+use Rattle.dump_triage.proofs.StateFacts.{state-there}
+use Rattle.dump_triage.proofs.states.state_rows.Goals as goal
+
+pub loop-p-preserved : goal.loop-p-preserved
+loop-p-preserved c =
+    let processes = c.args.procs.now.processes in
+    let p = c.loop-p.p in
+    record {
+      rows =
+          rows-more (count_at_first (state_texts processes)) (state_texts processes) p (state_text (process_at processes p)) _ _ _
+          (state-there processes p (omega arith)) c.loop-p.invariant.rows c.take_count.ensures.count c.in_ok-push_row.ensures;
+      left = c.take_count.ensures.left;
+    }
+
+pub returns : goal.returns
+returns c =
+    let processes = c.args.procs.now.processes in
+    rows-all (count_at_first (state_texts processes)) (state_texts processes) c.loop-p.p c.loop-p.rows.items (omega (arith, length-map processes state_text)) c.loop-p.invariant.rows

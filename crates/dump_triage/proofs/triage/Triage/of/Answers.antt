@@ -1,0 +1,16 @@
+use Rattle.std.proofs.Common.{length, sym, subst}
+use Rattle.dump_triage.specs.Ranking.{AreWithin}
+use Rattle.dump_triage.proofs.RankFacts.{triage-fits}
+use Rattle.dump_triage.proofs.triage.Triage.of.Goals as goal
+
+pub returns-clause-fits : goal.returns-clause-fits
+returns-clause-fits c =
+    let processes = c.args.procs.now.processes in
+    let rows = c.args.tables.now.rows in
+    let fits = triage-fits c.args.index.now processes rows c.args.most in
+    record {
+      states = subst (AreWithin (length processes)) (sym c.in_ok-commonest_states.ensures) fits.states;
+      queues = subst (AreWithin (length processes)) (sym c.in_ok-longest_queues.ensures) fits.queues;
+      memory = subst (AreWithin (length processes)) (sym c.in_ok-largest_processes.ensures) fits.memory;
+      tables = subst (AreWithin (length rows)) (sym c.in_ok-largest_tables.ensures) fits.tables;
+    }

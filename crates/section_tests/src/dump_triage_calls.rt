@@ -1,0 +1,87 @@
+use dump_io::{Dumps, Failed, Limits, MemDumps, MemSink, Sink, put_dec, write_all};
+use dump_triage::{FindingCounts, Ranked, Triage};
+use process_table::Procs;
+use section_index::build;
+use std::alloc::Global;
+use std::test::Fail;
+use table_sections::{Rows, TableKind};
+
+// A state occurs twice and two of them once, one of which is none; two queues are equally long, one is empty and one is no
+// number; the largest memory stands last; and one of the tables has no words.
+const DUMP: &str = "=proc:<0.1.0>
+State: Running
+Message queue length: 3
+Memory: 0007
+=proc:<0.2.0>
+State: Waiting
+Message queue length: 0
+Memory: 18446744073709551616
+Link list: [<0.1.0>]
+=proc:<0.3.0>
+Message queue length: x
+Memory: 8
+=proc:<0.4.0>
+State: Waiting
+Message queue length: 3
+Memory: 18446744073709551615
+Link list: [<0.1.0>, <0.3.0>, {from,<0.1.0>,#Ref<0.1>}]
+=ets:a
+Words: 5
+=ets:b
+=ets:c
+Words: 6
+=end
+";
+
+fn triage_of<D: Dumps>(alloc: Global, dumps: &mut D, most: u64) -> Result<Triage, Fail> {
+    let limits = Limits::usual();
+    let index = build(alloc, dumps, "F", &limits)?;
+    let procs = Procs::load(alloc, dumps, &index, &limits)?;
+    let tables = Rows::load(alloc, dumps, &index, TableKind::Ets, &limits)?;
+    Ok(Triage::of(alloc, &index, &procs, &tables, most)?)
+}
+
+// Writes each row as its place and its number.
+fn print<K: Sink>(sink: &mut K, rows: &[Ranked]) -> Result<(), Failed> {
+    for row in rows {
+        put_dec(sink, row.place as u64)?;
+        write_all(sink, b" ")?;
+        put_dec(sink, row.number)?;
+        write_all(sink, b"\n")?;
+    }
+    write_all(sink, b"-\n")
+}
+
+fn print_all<K: Sink>(sink: &mut K, triage: &Triage) -> Result<(), Failed> {
+    print(sink, triage.states())?;
+    print(sink, triage.queues())?;
+    print(sink, triage.memory())?;
+    print(sink, triage.tables())
+}
+
+#[test]
+fn what_stands_out_is_told(rt: HostRuntime) -> Result<(), Fail> {
+    let alloc = rt.alloc();
+    let text = format!(in alloc; "=erl_crash_dump:0.5\n{DUMP}")?;
+    let mut dumps = MemDumps::holding(alloc, "F", text.as_bytes(), &[], &[])?;
+    let mut sink = MemSink::new(alloc, 0, Vec::new(alloc));
+    let all = triage_of(alloc, &mut dumps, 10)?;
+    let one = triage_of(alloc, &mut dumps, 1)?;
+    if print_all(&mut sink, &all).is_err() || print_all(&mut sink, &one).is_err() {
+        return Err("a write failed".into());
+    }
+    assert_eq!(rt;
+        sink.written(),
+        b"1 2\n0 1\n2 1\n-\n0 3\n3 3\n-\n3 18446744073709551615\n2 8\n0 7\n-\n2 6\n0 5\n-\n1 2\n-\n0 3\n-\n3 18446744073709551615\n-\n2 6\n-\n"
+            .as_slice()
+    );
+    let counts = FindingCounts {
+        links: 3,
+        monitors_to: 0,
+        monitors_from: 1,
+        unread_links: 0,
+        unread_queues: 1,
+    };
+    assert_eq!(rt; all.findings(), counts);
+    Ok(())
+}
