@@ -1,5 +1,5 @@
 // The report of `triage`.
-ghost use Rattle.std.specs.Prelude.{◌≡◌, ◌<◌, length, All};
+ghost use Rattle.std.specs.Prelude.{◌≡◌, ◌<◌, length, codes, All};
 ghost use Rattle.std.specs.List.{flat_map};
 ghost use Rattle.dump_io.specs.Sinks.{changed, Puts};
 ghost use Rattle.field_lines.specs.Lines.{text_lines};
@@ -9,6 +9,7 @@ ghost use Rattle.table_sections.specs.Tables.{IsOver};
 ghost use Rattle.table_sections.specs.declared.kinds.TableKind.TheVariants.{Ets};
 ghost use Rattle.dump_triage.specs.Ranking.{AreWithin};
 ghost use Rattle.dump_triage.specs.Triage.{Fits};
+ghost use Rattle.report_text.specs.Tables.{count_line};
 ghost use Rattle.report_text.specs.Triage.{finding_counts, memory_line, process_number_line, state_count_line, table_words_line, triage_heading, triage_report, triage_rows};
 
 use crate::count_lines::put_count_line;
@@ -181,16 +182,21 @@ fn put_triage_rows<K: Sink>(
     put_tables(sink, tables, triage.tables())
 }
 
-// Writes how many findings there are of each kind that occurs.
+// Writes how many findings there are of a kind, where there are some.
+fn put_finding_count<'x, K: Sink>(sink: &mut K, kind: &'x [u8], count: u64) -> Result<(), Failed>
+    ensures { Puts (changed K.written K.faults sink.old sink.new) (count_line (codes "finding\t") kind.now count) result }
+{
+    put_count_line(sink, b"finding\t", kind, count)
+}
+
 fn put_finding_counts<K: Sink>(sink: &mut K, counts: FindingCounts) -> Result<(), Failed>
     ensures { Puts (changed K.written K.faults sink.old sink.new) (finding_counts counts) result }
 {
-    let word = b"finding\t".as_slice();
-    put_count_line(sink, word, b"link", counts.links)?;
-    put_count_line(sink, word, b"monitor-to", counts.monitors_to)?;
-    put_count_line(sink, word, b"monitor-from", counts.monitors_from)?;
-    put_count_line(sink, word, b"unread-links", counts.unread_links)?;
-    put_count_line(sink, word, b"unread-queue", counts.unread_queues)
+    put_finding_count(sink, b"link", counts.links)?;
+    put_finding_count(sink, b"monitor-to", counts.monitors_to)?;
+    put_finding_count(sink, b"monitor-from", counts.monitors_from)?;
+    put_finding_count(sink, b"unread-links", counts.unread_links)?;
+    put_finding_count(sink, b"unread-queue", counts.unread_queues)
 }
 
 /// Writes one page on a dump: version, size, number of sections and slogan, as in [`put_info`](crate::put_info); `memory KEY VALUE`
