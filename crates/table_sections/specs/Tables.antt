@@ -1,7 +1,8 @@
 -- The tables of a dump.
-use Rattle.std.specs.Prelude.{◌≡◌, ℕ, List, length, map, filter}
+use Rattle.std.specs.Prelude.{◌≡◌, ℕ, ◌<◌, List, length, map, filter, All}
 use Rattle.section_index.specs.Index.{Contents, sections_in}
 use Rattle.section_index.specs.Sections.{Section, sections}
+use Rattle.section_rows.specs.Loading.{sections_at}
 use Rattle.section_rows.specs.Rows.{Table, rows_of}
 use Rattle.table_sections.specs.declared.kinds.TableKind.{TableKind}
 use Rattle.table_sections.specs.Kinds.{columns_of, lists}
@@ -16,6 +17,16 @@ table_of kind bytes = record {
   width = length (columns_of kind);
   rows = rows_of bytes (columns_of kind) (listed kind (sections bytes));
 }
+
+-- the places among the sections of a dump, from 0, of those that a table lists
+pub record TablePlaces : Type 0 where
+  pub kind : TableKind
+  pub places : List ℕ
+
+-- they are those that the table lists of the index's sections
+pub record AreListed (index : Contents) (found : TablePlaces) : Type 0 where
+  pub listed : sections_at index found.places ≡ listed found.kind (sections_in index)
+  pub within : All (λ i. i < length index.headers) found.places
 
 -- the rows are those of the index's sections, whatever their cells
 pub record IsOver (kind : TableKind) (index : Contents) (table : Table) : Type 0 where

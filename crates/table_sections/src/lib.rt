@@ -1,6 +1,7 @@
 //! The tables of a dump beside the process table: the ETS tables, the ports, the other nodes, and the modules.
 //!
-//! [`Rows::load`] finds the sections of a table and reads their bodies one after another.
+//! [`Rows::load`] finds the sections of a table and reads their bodies one after another. [`TableSections::find`] finds them
+//! alone, for a caller that has more to judge before [`Rows::read`].
 #![tactic(auto)]
 
 mod kinds;
@@ -8,4 +9,5 @@ mod places;
 mod rows;
 
 pub use kinds::TableKind;
+pub use places::TableSections;
 pub use rows::Rows;

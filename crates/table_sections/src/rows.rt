@@ -5,10 +5,10 @@ ghost use Rattle.dump_io.specs.Dumps.{told, used, ReadsAtMost};
 ghost use Rattle.section_index.specs.Index.{IsBuiltOver, sections_in};
 ghost use Rattle.section_rows.specs.Loading.{bodies_length, first_large, AreRefused};
 ghost use Rattle.section_rows.specs.Rows.{row_at, cell_at, text_in, AreEven};
-ghost use Rattle.table_sections.specs.Tables.{listed, table_of, IsOver};
+ghost use Rattle.table_sections.specs.Tables.{listed, table_of, AreListed, IsOver};
 
 use crate::kinds::{TableKind, columns};
-use crate::places::places;
+use crate::places::TableSections;
 use dump_io::{Dumps, Limits};
 use section_index::{BodyFault, Index};
 use section_rows::SectionRows;
@@ -52,9 +52,34 @@ impl Rows {
         ensures fault { IfErr result (AreRefused (listed kind (sections_in index.now)) limits.now.section (used D.files D.now D.faults D.taken dumps.old dumps.new)) }
         ensures unread { IsSome (first_large limits.now.section (listed kind (sections_in index.now))) → dumps.new ≡ dumps.old }
     {
-        let Ok(places) = places(alloc, index, kind) else {
+        let Ok(found) = TableSections::find(alloc, index, kind) else {
             return Err(BodyFault::Memory);
         };
+        Rows::read(alloc, dumps, index, found, limits)
+    }
+
+    /// Reads the bodies of the sections of a table that were found in an index, one after another. The index is one that
+    /// was built over the file that is open, and the file stays open.
+    ///
+    /// It gives what [`Rows::load`] does, which finds the sections first. A caller that has more to judge on the index
+    /// finds them by [`TableSections::find`], and reads once it has judged.
+    pub fn read<D: Dumps>(
+        alloc: Global,
+        dumps: &mut D,
+        index: &Index,
+        found: TableSections,
+        limits: &Limits,
+    ) -> Result<Rows, BodyFault>
+        requires over { IsBuiltOver (D.now dumps.old) index.now }
+        requires found { AreListed index.now found }
+        ensures reads { ReadsAtMost (used D.files D.now D.faults D.taken dumps.old dumps.new) (bodies_length (listed found.kind (sections_in index.now))) }
+        ensures table { IfOk result (λ rows. (bytes : List ℕ) → D.now dumps.old ≡ told bytes → rows ≡ table_of found.kind bytes) }
+        ensures over { IfOk result (IsOver found.kind index.now) }
+        ensures loaded { OnOk result (first_large limits.now.section (listed found.kind (sections_in index.now)) ≡ None) }
+        ensures fault { IfErr result (AreRefused (listed found.kind (sections_in index.now)) limits.now.section (used D.files D.now D.faults D.taken dumps.old dumps.new)) }
+        ensures unread { IsSome (first_large limits.now.section (listed found.kind (sections_in index.now))) → dumps.new ≡ dumps.old }
+    {
+        let (kind, places) = found.into_parts();
         let rows = SectionRows::load(alloc, dumps, index, &places, columns(kind), limits)?;
         Ok(Rows { rows })
     }
