@@ -9,7 +9,8 @@ use Rattle.link_graph.specs.Graph.{links_of}
 use Rattle.dump_audit.specs.Findings.{Audit, partner_pid, findings}
 use Rattle.dump_audit.specs.declared.finding.Finding.{Finding}
 use Rattle.dump_audit.specs.declared.finding.Finding.TheVariants.{LinkOneSided, MonitorTo, MonitorFrom, Mailbox, UnreadLinks, UnreadQueue, LinkGone, ToGone, FromGone, QueueCount}
-use Rattle.report_text.specs.Reports.{newline, space, state_line}
+use Rattle.report_lines.specs.Lines.{newline, space}
+use Rattle.report_text.specs.Reports.{state_line}
 
 -- the pid of the process at a place
 abbrev pub pid_at : List Process → ℕ → List ℕ

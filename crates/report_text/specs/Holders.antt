@@ -7,8 +7,8 @@ use Rattle.process_table.specs.Processes.{Process, process_at}
 use Rattle.binary_holders.specs.declared.rows.BinaryRow.{BinaryRow}
 use Rattle.binary_holders.specs.declared.rows.Holding.{Holding}
 use Rattle.binary_holders.specs.Usage.{Usage}
-use Rattle.report_text.specs.Reports.{newline}
-use Rattle.report_text.specs.Tables.{process_end, tab}
+use Rattle.report_lines.specs.Lines.{newline, tab}
+use Rattle.report_text.specs.Tables.{process_end}
 
 -- the line of a process that holds binaries: how many bytes they have together, how many they are, and which process it is
 abbrev pub held_line : Contents → List Process → Holding → List ℕ

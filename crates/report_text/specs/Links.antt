@@ -6,7 +6,7 @@ use Rattle.process_table.specs.Processes.{Process}
 use Rattle.link_graph.specs.Kinds.{Kind, Link, LinkPort, To, ToPort, ToName, From, FromPort, Other}
 use Rattle.link_graph.specs.Entries.{LinkEntry}
 use Rattle.link_graph.specs.Graph.{links_of}
-use Rattle.report_text.specs.Reports.{newline, space}
+use Rattle.report_lines.specs.Lines.{newline, space}
 
 -- the word of a kind of entries
 abbrev pub kind_word : Kind → List ℕ

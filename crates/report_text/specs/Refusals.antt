@@ -4,9 +4,9 @@ use Rattle.std.specs.List.{concat}
 use Rattle.dump_io.specs.Numbers.{hexadecimal}
 use Rattle.section_index.specs.declared.opening.OpenFault.{OpenFault}
 use Rattle.section_index.specs.declared.opening.OpenFault.TheVariants.{Compressed, NotADump, Version, TooLarge, HeaderTooLong, TooManySections, HeadersTooLarge, Read, Memory}
+use Rattle.report_lines.specs.Lines.{newline}
 use Rattle.report_text.specs.declared.refusals.Refusal.{Refusal}
 use Rattle.report_text.specs.declared.refusals.Refusal.TheVariants.{Open, NoProcess, SectionTooLarge, TooDense, NoAddress, NotExt, BadExt, NoBinary, BadBinary}
-use Rattle.report_text.specs.Reports.{newline}
 
 -- what a dump that isn't opened is refused for, part by part
 abbrev pub open_cause : OpenFault → List (List ℕ)

@@ -9,14 +9,7 @@ use Rattle.section_index.specs.declared.opening.Version.{Version}
 use Rattle.section_index.specs.declared.opening.Version.TheVariants.{V03, V04, V05}
 use Rattle.section_index.specs.Sections.{Section, sections_of}
 use Rattle.section_index.specs.Index.{state_of}
-
--- the text between two parts of a line
-abbrev pub space : List ℕ
-space = codes " "
-
--- the end of a line
-abbrev pub newline : List ℕ
-newline = codes "\n"
+use Rattle.report_lines.specs.Lines.{newline, space}
 
 -- the line of a section: where its header begins, where its body begins and ends, and its header's text
 abbrev pub section_line : Section → List ℕ

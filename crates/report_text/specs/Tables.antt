@@ -1,6 +1,6 @@
 -- The texts of the reports over the process table, the fields of a section, and the other tables. Offsets are of
 -- the file.
-use Rattle.std.specs.Prelude.{ℕ, zero, suc, ◌+◌, Bool, List, [], ◌∷◌, ◌++◌, length, filter, decimal, codes, Option, nat_lt, if◌then◌else◌}
+use Rattle.std.specs.Prelude.{ℕ, ◌+◌, Bool, List, [], ◌∷◌, ◌++◌, length, filter, decimal, codes, Option, nat_lt, if◌then◌else◌}
 use Rattle.std.specs.List.{concat, flat_map}
 use Rattle.dump_io.specs.Colons.{has_colon}
 use Rattle.field_lines.specs.Fields.{key_of, value_of}
@@ -9,20 +9,12 @@ use Rattle.section_index.specs.Bodies.{section_at}
 use Rattle.section_index.specs.Index.{Contents}
 use Rattle.process_table.specs.Processes.{Process, ProcessTable}
 use Rattle.section_rows.specs.Rows.{Kept, Row, Table, text_in}
-use Rattle.report_text.specs.Reports.{newline, text_or_dash}
-
--- the text between two cells of a row
-abbrev pub tab : List ℕ
-tab = codes "\t"
+use Rattle.report_lines.specs.Lines.{newline, tab}
+use Rattle.report_text.specs.Reports.{text_or_dash}
 
 -- the text of a cell, or `-` where there is none
 abbrev pub cell_text : Option Kept → List ℕ
 cell_text cell = text_or_dash (text_in cell)
-
--- the line of something that is counted: behind a word the number and what it is; what doesn't occur has none
-abbrev pub count_line : List ℕ → List ℕ → ℕ → List ℕ
-count_line word counted zero = []
-count_line word counted (suc more) = concat (word ∷ decimal (suc more) ∷ tab ∷ counted ∷ newline ∷ [])
 
 -- the line of a process: its pid, its state, its name, the length of its message queue, and its memory
 abbrev pub process_line : Process → List ℕ

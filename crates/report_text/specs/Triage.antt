@@ -10,8 +10,9 @@ use Rattle.process_table.specs.Processes.{Process, ProcessTable, process_at}
 use Rattle.dump_triage.specs.Triage.{Triaged}
 use Rattle.dump_triage.specs.declared.finding_counts.FindingCounts.{FindingCounts}
 use Rattle.dump_triage.specs.declared.ranked.Ranked.{Ranked}
-use Rattle.report_text.specs.Reports.{info_heading, newline, state_line, version_text}
-use Rattle.report_text.specs.Tables.{cell_text, count_line, process_end, processes_line, tab}
+use Rattle.report_lines.specs.Lines.{count_line, newline, tab}
+use Rattle.report_text.specs.Reports.{info_heading, state_line, version_text}
+use Rattle.report_text.specs.Tables.{cell_text, process_end, processes_line}
 
 -- the line of a field of the `memory` section; a line without a colon has none
 abbrev pub memory_line : TextLine → List ℕ

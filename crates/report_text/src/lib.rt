@@ -10,7 +10,6 @@
 #![tactic(auto)]
 
 mod audit_report;
-mod count_lines;
 mod field_report;
 mod holder_report;
 mod index_report;

@@ -3,7 +3,7 @@ ghost use Rattle.std.specs.Prelude.{[], ◌∷◌, codes, decimal};
 ghost use Rattle.std.specs.List.{concat};
 ghost use Rattle.dump_io.specs.Pieces.{piece_text};
 ghost use Rattle.dump_io.specs.Sinks.{changed, Puts};
-ghost use Rattle.report_text.specs.Reports.{newline};
+ghost use Rattle.report_lines.specs.Lines.{newline};
 ghost use Rattle.report_text.specs.Refusals.{IsRefusal, IsRefusing, refusal_line};
 
 use dump_io::{Failed, Piece, Sink, Text, put_pieces, write_all};

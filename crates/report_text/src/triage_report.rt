@@ -9,10 +9,9 @@ ghost use Rattle.table_sections.specs.Tables.{IsOver};
 ghost use Rattle.table_sections.specs.declared.kinds.TableKind.TheVariants.{Ets};
 ghost use Rattle.dump_triage.specs.Ranking.{AreWithin};
 ghost use Rattle.dump_triage.specs.Triage.{Fits};
-ghost use Rattle.report_text.specs.Tables.{count_line};
+ghost use Rattle.report_lines.specs.Lines.{count_line};
 ghost use Rattle.report_text.specs.Triage.{finding_counts, memory_line, process_number_line, state_count_line, table_words_line, triage_heading, triage_report, triage_rows};
 
-use crate::count_lines::put_count_line;
 use crate::index_report::put_state;
 use crate::info_report::put_heading;
 use crate::process_report::{put_process_end, put_processes_line, text_of};
@@ -22,6 +21,7 @@ use dump_triage::{FindingCounts, Ranked, Triage};
 use field_lines::Line;
 use field_lines::reading::{field, lines};
 use process_table::Procs;
+use report_lines::put_count_line;
 use section_index::Index;
 use table_sections::Rows;
 

@@ -6,6 +6,7 @@ use Rattle.term_forms.specs.Elements.{Element}
 use Rattle.root_views.specs.Roots.{BodyRoot, Content, Term, Info, Dist, Unread}
 use Rattle.heap_cells.specs.HeapMap.{HeapMap}
 use Rattle.heap_reach.specs.Unreached.{count_below, unreached_of}
+use Rattle.report_lines.specs.Lines.{newline}
 
 -- the element of a root that is a term
 abbrev pub term_in : Content → List Element
@@ -20,12 +21,12 @@ terms_of roots = flat_map (λ root. term_in root.content) roots
 
 -- the line of a cell that isn't reached
 abbrev pub unreached_line : ℕ → List ℕ
-unreached_line address = concat (codes "unreached " ∷ hexadecimal address ∷ codes "\n" ∷ [])
+unreached_line address = concat (codes "unreached " ∷ hexadecimal address ∷ newline ∷ [])
 
 -- the last line: how many cells a heap has of its own, how many of them are reached, and how many literals are
 abbrev pub totals_line : ℕ → ℕ → ℕ → List ℕ
 totals_line own reached literals =
-    concat (codes "own " ∷ decimal own ∷ codes " reached " ∷ decimal reached ∷ codes " literals " ∷ decimal literals ∷ codes "\n" ∷ [])
+    concat (codes "own " ∷ decimal own ∷ codes " reached " ∷ decimal reached ∷ codes " literals " ∷ decimal literals ∷ newline ∷ [])
 
 -- the report on a heap of which this set of cells is reached: the literals stand behind its own cells
 abbrev pub reach_report : HeapMap → (ℕ → Bool) → List ℕ

@@ -6,6 +6,7 @@ use Rattle.etf_terms.specs.Reading.{external_text}
 use Rattle.term_forms.specs.Elements.{Element, Ref}
 use Rattle.term_unfold.specs.Walks.{Walk, answer}
 use Rattle.root_views.specs.Roots.{Content, Term, Info, Dist, Unread, BodyRoot}
+use Rattle.report_lines.specs.Lines.{newline, space}
 
 -- the answer to an element within a budget of nodes, over a heap and its previews
 abbrev pub answer_over : Walk → ℕ → Bool → Element → List ℕ
@@ -20,15 +21,15 @@ content_text say Unread = codes "?"
 
 -- a root's line begins with its offset, where the body begins at this one, and its label
 abbrev pub root_heading : ℕ → BodyRoot → List ℕ
-root_heading base root = concat (decimal (base + root.at) ∷ codes " " ∷ root.label ∷ codes " " ∷ [])
+root_heading base root = concat (decimal (base + root.at) ∷ space ∷ root.label ∷ space ∷ [])
 
 -- the line of a root
 abbrev pub root_line : (Element → List ℕ) → ℕ → BodyRoot → List ℕ
-root_line say base root = root_heading base root ++ (content_text say root.content ++ codes "\n")
+root_line say base root = root_heading base root ++ (content_text say root.content ++ newline)
 
 -- the last line: how many roots there are
 abbrev pub roots_line : ℕ → List ℕ
-roots_line count = concat (codes "roots " ∷ decimal count ∷ codes "\n" ∷ [])
+roots_line count = concat (codes "roots " ∷ decimal count ∷ newline ∷ [])
 
 -- the report of the roots of a body that begins at this offset
 abbrev pub roots_report : (Element → List ℕ) → ℕ → List BodyRoot → List ℕ
@@ -36,15 +37,15 @@ roots_report say base roots = flat_map (root_line say base) roots ++ roots_line 
 
 -- the report of one term: the answer to the reference to this address
 abbrev pub term_report : (Element → List ℕ) → ℕ → List ℕ
-term_report say address = say (Ref address) ++ codes "\n"
+term_report say address = say (Ref address) ++ newline
 
 -- the report of an external term that these bytes are
 abbrev pub ext_report : List ℕ → List ℕ
-ext_report bytes = external_text bytes ++ codes "\n"
+ext_report bytes = external_text bytes ++ newline
 
 -- a line of bytes in upper-case hex
 abbrev pub hex_line : List ℕ → List ℕ
-hex_line bytes = flat_map hex_byte bytes ++ codes "\n"
+hex_line bytes = flat_map hex_byte bytes ++ newline
 
 -- so many lines of 32 bytes, or of as many as are left
 abbrev pub hex_lines : ℕ → List ℕ → List ℕ
@@ -57,7 +58,7 @@ line_count bytes = (length bytes + 31) / 32
 
 -- the first line: the address of a binary, and how many bytes it has
 abbrev pub binary_heading : ℕ → ℕ → List ℕ
-binary_heading address size = concat (codes "binary " ∷ hexadecimal address ∷ codes " size " ∷ decimal size ∷ codes "\n" ∷ [])
+binary_heading address size = concat (codes "binary " ∷ hexadecimal address ∷ codes " size " ∷ decimal size ∷ newline ∷ [])
 
 -- the report of the binary with this address
 abbrev pub binary_report : ℕ → List ℕ → List ℕ

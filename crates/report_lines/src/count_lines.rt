@@ -1,12 +1,14 @@
 // The lines of what is counted.
 ghost use Rattle.std.specs.Prelude.{◌≡◌};
 ghost use Rattle.dump_io.specs.Sinks.{changed, Puts};
-ghost use Rattle.report_text.specs.Tables.{count_line};
+ghost use Rattle.report_lines.specs.Lines.{count_line};
 
 use dump_io::{Failed, Piece, Sink, put_pieces};
 
-// Writes the line of something that occurs so many times: a word, the number and what it is. What doesn't occur has none.
-pub(crate) fn put_count_line<'x, K: Sink>(
+/// Writes the line of something that occurs so many times: a word with a tab behind it, the number, and what it is. What
+/// doesn't occur has no line. `Failed` comes only where the sink's count of faults rose, and a proper front of the line was
+/// written then.
+pub fn put_count_line<'x, K: Sink>(
     sink: &mut K,
     word: &'x [u8],
     counted: &'x [u8],

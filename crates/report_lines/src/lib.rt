@@ -1,0 +1,6 @@
+//! Parts of lines that several reports have.
+#![tactic(auto)]
+
+mod count_lines;
+
+pub use count_lines::put_count_line;
