@@ -8,6 +8,7 @@
 //                                     heap is a list of so many cells, 40 bytes each with their LF; with ORDER 1 their
 //                                     addresses stand in no order
 //   bench tuples FILE CELLS           the same with tuples, each inside the one before
+//   bench graph FILE CELLS            the same with tuples, each of which leads to the next one and to another at random
 //   bench binaries FILE CELLS BINS    the same with references to binaries, over so many sections of binaries
 //   bench links FILE BYTES PROCESSES  writes a dump of so many bytes and processes, each with five links and monitors
 //                                     and a heap
@@ -103,6 +104,22 @@ static int write_tuples(const char *name, long cells) {
     return end_dump(f);
 }
 
+// The next number of a row that looks random.
+static unsigned long random_after(unsigned long random) {
+    return random * 6364136223846793005 + 1442695040888963407;
+}
+
+static int write_graph(const char *name, long cells) {
+    FILE *f = begin_process(name);
+    unsigned long random = 1;
+    if (!f) return 1;
+    for (long i = 0; i < cells; i++) {
+        random = random_after(random);
+        fprintf(f, "%012lX:t2:H%012lX,H%012lX\n", address(i, 0), address((i + 1) % cells, 0), address((random >> 20) % cells, 0));
+    }
+    return end_dump(f);
+}
+
 static int write_binaries(const char *name, long cells, long bins) {
     FILE *f = begin_process(name);
     if (!f) return 1;
@@ -184,7 +201,7 @@ static int write_payloads(const char *name, long bytes, long size) {
     for (long i = 1; at < bytes; i++) {
         at += fprintf(f, "=binary:%lX\n%lX:", i * 16, size) + size / 3 * 4 + 1;
         for (long n = size / 3 * 4; n > 0; n--) {
-            random = random * 6364136223846793005 + 1442695040888963407;
+            random = random_after(random);
             putc_unlocked(digits[random >> 58], f);
         }
         putc('\n', f);
@@ -237,6 +254,7 @@ int main(int count, char **words) {
     if (count == 5 && !strcmp(words[1], "procs")) return write_processes(words[2], atol(words[3]), atol(words[4]));
     if (count == 5 && !strcmp(words[1], "list")) return write_list(words[2], atol(words[3]), atoi(words[4]));
     if (count == 4 && !strcmp(words[1], "tuples")) return write_tuples(words[2], atol(words[3]));
+    if (count == 4 && !strcmp(words[1], "graph")) return write_graph(words[2], atol(words[3]));
     if (count == 5 && !strcmp(words[1], "binaries")) return write_binaries(words[2], atol(words[3]), atol(words[4]));
     if (count == 5 && !strcmp(words[1], "links")) return write_links(words[2], atol(words[3]), atol(words[4]));
     if (count == 4 && !strcmp(words[1], "lonely")) return write_lonely(words[2], atol(words[3]));
