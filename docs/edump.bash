@@ -10,7 +10,7 @@ _edump_pids() {
 
 _edump() {
     local word=${COMP_WORDS[COMP_CWORD]} command=${COMP_WORDS[1]}
-    local commands="index info procs proc memory ets ports nodes mods stack dict mail term ext reach cells binary links redact audit audit-json make trial"
+    local commands="index info procs proc memory ets ports nodes mods stack dict mail term ext reach cells binary binaries holders triage links redact audit audit-json make trial"
     COMPREPLY=()
     if [ "$COMP_CWORD" -eq 1 ]; then
         COMPREPLY=($(compgen -W "$commands" -- "$word"))

@@ -1,8 +1,8 @@
 -- How much of a term is shown, by the last words of a command.
-use Rattle.std.specs.Prelude.{ℕ, Bool, true, false, ◌&&◌, List, [], ◌∷◌, Option, None, Some, codes, nat_le, if◌then◌else◌}
-use Rattle.std.specs.Option.{option_map, option_and_then}
+use Rattle.std.specs.Prelude.{ℕ, Bool, true, false, List, [], ◌∷◌, Option, None, Some, codes, if◌then◌else◌}
+use Rattle.std.specs.Option.{option_map}
 use Rattle.std.specs.Str.{bytes_eq}
-use Rattle.dump_io.specs.Numbers.{dec_number}
+use Rattle.command_words.specs.Ranges.{number_upto}
 use Rattle.command_words.specs.declared.budgets.Budget.{Budget}
 
 -- so many nodes of a term, with bad addresses marked in its text or not
@@ -10,12 +10,8 @@ abbrev pub budget : Bool → ℕ → Budget
 budget marked nodes = record { nodes = nodes; marked = marked }
 
 -- the number of nodes that a word writes: from 1 to 1,000,000,000
-abbrev pub allowed_nodes : ℕ → Option ℕ
-allowed_nodes n = if nat_le 1 n && nat_le n 1000000000 then Some n else None
-
--- the same of a word, which is decimal
 abbrev pub nodes_of : List ℕ → Option ℕ
-nodes_of word = option_and_then allowed_nodes (dec_number word)
+nodes_of word = number_upto 1000000000 word
 
 -- whether a word is `marked`
 abbrev pub is_mark : List ℕ → Bool

@@ -8,9 +8,10 @@ use Rattle.root_views.specs.declared.kinds.RootKind.TheVariants as bodies
 use Rattle.table_sections.specs.declared.kinds.TableKind.{TableKind}
 use Rattle.table_sections.specs.declared.kinds.TableKind.TheVariants as kinds
 use Rattle.command_words.specs.declared.words.Cmd.{Cmd}
-use Rattle.command_words.specs.declared.words.Cmd.TheVariants.{Index, Info, Procs, Proc, Memory, Ets, Ports, Nodes, Mods, Stack, Dict, Mail, Term, Ext, Reach, Cells, Binary, Links, Redact, Audit, AuditJson, Make, Trial}
+use Rattle.command_words.specs.declared.words.Cmd.TheVariants.{Index, Info, Procs, Proc, Memory, Ets, Ports, Nodes, Mods, Stack, Dict, Mail, Term, Ext, Reach, Cells, Binary, Binaries, Holders, Triage, Links, Redact, Audit, AuditJson, Make, Trial}
 use Rattle.command_words.specs.Budgets.{budget_of}
 use Rattle.command_words.specs.MadeWords.{seed_and_count}
+use Rattle.command_words.specs.Ranges.{number_upto}
 
 -- a command and what it is asked for
 pub data Command : Type 0 where
@@ -33,6 +34,12 @@ pub data Command : Type 0 where
   cells : List ℕ → List ℕ → Command
   -- the binary with this address
   binary : List ℕ → ℕ → Command
+  -- which processes hold how much of the binaries
+  binaries : List ℕ → Command
+  -- who holds the binary with this address
+  holders : List ℕ → ℕ → Command
+  -- what to read first, with at most so many rows of each table
+  triage : List ℕ → ℕ → Command
   links : List ℕ → Command
   -- the dump with its payloads made zero
   redact : List ℕ → Command
@@ -64,6 +71,9 @@ shown (Ext file pid addr) = ext file.now pid.now addr
 shown (Reach file pid) = reach file.now pid.now
 shown (Cells file pid) = cells file.now pid.now
 shown (Binary file addr) = binary file.now addr
+shown (Binaries file) = binaries file.now
+shown (Holders file addr) = holders file.now addr
+shown (Triage file count) = triage file.now count
 shown (Links file) = links file.now
 shown (Redact file) = redact file.now
 shown (Audit file limit full) = audit file.now limit full
@@ -71,7 +81,7 @@ shown (AuditJson file limit full) = audit_json file.now limit full
 shown (Make seed count) = make seed count
 shown (Trial seed count) = trial seed count
 
--- a command of one word, which is the name of a file
+-- a command of one word, which is the name of a file; `triage` then shows 10 rows of each table
 abbrev pub file_command : List ℕ → List ℕ → Option Command
 file_command name file =
     if bytes_eq name (codes "index") then Some (index file)
@@ -82,8 +92,10 @@ file_command name file =
     else (if bytes_eq name (codes "ports") then Some (table kinds.Ports file)
     else (if bytes_eq name (codes "nodes") then Some (table kinds.Nodes file)
     else (if bytes_eq name (codes "mods") then Some (table kinds.Mods file)
+    else (if bytes_eq name (codes "binaries") then Some (binaries file)
+    else (if bytes_eq name (codes "triage") then Some (triage file 10)
     else (if bytes_eq name (codes "links") then Some (links file)
-    else (if bytes_eq name (codes "redact") then Some (redact file) else None)))))))))
+    else (if bytes_eq name (codes "redact") then Some (redact file) else None)))))))))))
 
 -- the roots of a process, within the budget of the last words
 abbrev pub roots_command : RootKind → List ℕ → List ℕ → List (List ℕ) → Option Command
@@ -135,9 +147,11 @@ word_command name file word =
     else (if bytes_eq name (codes "reach") then Some (reach file word)
     else (if bytes_eq name (codes "cells") then Some (cells file word)
     else (if bytes_eq name (codes "binary") then option_map (binary file) (hex_number word)
+    else (if bytes_eq name (codes "holders") then option_map (holders file) (hex_number word)
+    else (if bytes_eq name (codes "triage") then option_map (triage file) (number_upto 1000 word)
     else (if bytes_eq name (codes "make") then number_command name file word
     else (if bytes_eq name (codes "trial") then number_command name file word
-    else process_command name file word [])))))
+    else process_command name file word [])))))))
 
 -- the command of the words behind the program's name, or none
 abbrev pub command : List (List ℕ) → Option Command
@@ -161,6 +175,9 @@ file_of (ext file pid addr) = Some file
 file_of (reach file pid) = Some file
 file_of (cells file pid) = Some file
 file_of (binary file addr) = Some file
+file_of (binaries file) = Some file
+file_of (holders file addr) = Some file
+file_of (triage file count) = Some file
 file_of (links file) = Some file
 file_of (redact file) = Some file
 file_of (audit file limit full) = Some file
@@ -172,6 +189,7 @@ file_of (trial seed count) = None
 abbrev pub IsInRange : Command → Type 0
 IsInRange (roots kind file pid nodes marked) = 0 < nodes
 IsInRange (term file pid addr nodes marked) = 0 < nodes
+IsInRange (triage file count) = (1 ≤ count) × (count ≤ 1000)
 IsInRange (make seed count) = (1 ≤ count) × (count ≤ 200000)
 IsInRange (trial seed count) = (1 ≤ count) × (count ≤ 200000)
 IsInRange cmd = Unit {0}

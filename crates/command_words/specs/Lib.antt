@@ -1,3 +1,4 @@
 pub mod Budgets
 pub mod Command
 pub mod MadeWords
+pub mod Ranges

@@ -1,17 +1,9 @@
 -- The numbers behind a command that makes a dump: decimal, with leading zeros or without.
-use Rattle.std.specs.Prelude.{ℕ, Bool, ◌&&◌, List, Option, None, Some, nat_le, if◌then◌else◌}
+use Rattle.std.specs.Prelude.{ℕ, List, Option}
+use Rattle.std.specs.Option.{option_and_then, option_map}
 use Rattle.dump_io.specs.Numbers.{dec_number}
+use Rattle.command_words.specs.Ranges.{number_upto}
 
--- a made dump has from 1 to 200,000 processes
-abbrev pub is_count : ℕ → Bool
-is_count count = nat_le 1 count && nat_le count 200000
-
--- a seed and a count, where both are numbers and the count is one of a made dump
-abbrev pub counted : Option ℕ → Option ℕ → Option (ℕ × ℕ)
-counted None count = None
-counted (Some seed) None = None
-counted (Some seed) (Some count) = if is_count count then Some (seed, count) else None
-
--- the seed and the count that two words write, or none
+-- the seed and the count of processes that two words write, or none: a made dump has from 1 to 200,000 processes
 abbrev pub seed_and_count : List ℕ → List ℕ → Option (ℕ × ℕ)
-seed_and_count seed count = counted (dec_number seed) (dec_number count)
+seed_and_count seed count = option_and_then (λ s. option_map (λ c. (s, c)) (number_upto 200000 count)) (dec_number seed)

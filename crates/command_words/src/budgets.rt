@@ -3,12 +3,12 @@ ghost use Rattle.std.specs.Prelude.{◌≡◌, ◌<◌, [], ◌∷◌, map, IfSo
 ghost use Rattle.std.specs.String.{string_bytes};
 ghost use Rattle.command_words.specs.Budgets.{budget, budget_of, counted, is_mark, nodes_of};
 
-use dump_io::dec_u64;
+use crate::numbers::number_upto;
 
 // The number of nodes where the words have none.
 const USUAL_NODES: u32 = 10_000;
 
-const MOST_NODES: u64 = 1_000_000_000;
+const MOST_NODES: u32 = 1_000_000_000;
 
 /// How much of a term is shown.
 #[derive(Clone, Copy, Debug, PartialEq, Eq)]
@@ -31,11 +31,7 @@ fn nodes_of(word: &str) -> Option<u32>
     ensures told { result ≡ nodes_of word.now }
     ensures some { IfSome result (λ nodes. 0 < nodes) }
 {
-    let nodes = dec_u64(word.as_bytes())?;
-    if nodes == 0 || nodes > MOST_NODES {
-        return None;
-    }
-    Some(nodes as u32)
+    number_upto(word, MOST_NODES)
 }
 
 fn is_mark(word: &str) -> bool

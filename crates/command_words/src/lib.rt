@@ -11,6 +11,7 @@
 
 mod budgets;
 mod made_words;
+mod numbers;
 mod words;
 
 pub use words::{Cmd, read_words};

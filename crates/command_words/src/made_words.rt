@@ -4,20 +4,21 @@ ghost use Rattle.std.specs.Option.{IfSome};
 ghost use Rattle.command_words.specs.Command.{number_command, shown, IsInRange};
 ghost use Rattle.command_words.specs.MadeWords.{seed_and_count};
 
+use crate::numbers::number_upto;
 use crate::words::Cmd;
 use dump_io::dec_u64;
 
-// The seed and the count of processes, from 1 to 200,000, that two words write.
+// The most processes of a made dump.
+const MOST_PROCESSES: u32 = 200_000;
+
+// The seed and the count of processes that two words write.
 fn seed_and_count(seed: &str, count: &str) -> Option<(u64, u32)>
     ensures numbers { result ≡ seed_and_count seed.now count.now }
     ensures range { IfSome result (λ numbers. (1 ≤ numbers.1) × (numbers.1 ≤ 200000)) }
 {
     let seed = dec_u64(seed.as_bytes())?;
-    let count = dec_u64(count.as_bytes())?;
-    if count < 1 || count > 200_000 {
-        return None;
-    }
-    Some((seed, count as u32))
+    let count = number_upto(count, MOST_PROCESSES)?;
+    Some((seed, count))
 }
 
 /// The command of two numbers that has this name.

@@ -2,13 +2,20 @@
 ghost use Rattle.std.specs.Prelude.{◌≡◌, [], map, option_map};
 ghost use Rattle.std.specs.Option.{IfSome};
 ghost use Rattle.std.specs.String.{string_bytes};
-ghost use Rattle.command_words.specs.Command.{audit, audit_command, audit_json, binary, command, ext_command, file_command, full_of, process_command, roots_command, term_command, word_command, shown, IsInRange};
+ghost use Rattle.command_words.specs.Command.{audit, audit_command, audit_json, binary, command, ext_command, file_command, full_of, holders, process_command, roots_command, term_command, triage, word_command, shown, IsInRange};
+ghost use Rattle.command_words.specs.Ranges.{number_upto};
 ghost use Rattle.dump_io.specs.Numbers.{hex_number};
 
 use crate::budgets::{Budget, read_budget};
 use crate::made_words::number_command;
+use crate::numbers::number_upto;
 use dump_io::{dec_u64, hex_u64};
 use root_views::RootKind;
+
+// How many rows of each table `triage` shows where its words have no number.
+const USUAL_ROWS: u32 = 10;
+
+const MOST_ROWS: u32 = 1_000;
 
 /// A command with its words.
 #[derive(Clone, Copy, Debug, PartialEq, Eq)]
@@ -101,6 +108,21 @@ pub enum Cmd<'a> {
         file: &'a str,
         addr: u64,
     },
+    /// `binaries FILE`: which processes hold how much of the binaries outside the heaps, and which of these are large.
+    Binaries {
+        file: &'a str,
+    },
+    /// `holders FILE ADDR`: which processes hold a binary.
+    Holders {
+        file: &'a str,
+        addr: u64,
+    },
+    /// `triage FILE [N]`: what to read first of a dump: its state and its memory, and of the processes and ETS tables
+    /// those that stand out, at most so many by each measure.
+    Triage {
+        file: &'a str,
+        count: u32,
+    },
     /// `links FILE`: the links and monitors of all processes.
     Links {
         file: &'a str,
@@ -166,6 +188,11 @@ fn file_command<'a>(name: &str, file: &'a str) -> Option<Cmd<'a>>
         "ports" => Some(Cmd::Ports { file }),
         "nodes" => Some(Cmd::Nodes { file }),
         "mods" => Some(Cmd::Mods { file }),
+        "binaries" => Some(Cmd::Binaries { file }),
+        "triage" => Some(Cmd::Triage {
+            file,
+            count: USUAL_ROWS,
+        }),
         "links" => Some(Cmd::Links { file }),
         "redact" => Some(Cmd::Redact { file }),
         _ => None,
@@ -181,6 +208,8 @@ fn word_command<'a>(name: &str, file: &'a str, word: &'a str) -> Option<Cmd<'a>>
         "reach" => Some(Cmd::Reach { file, pid: word }),
         "cells" => Some(Cmd::Cells { file, pid: word }),
         "binary" => binary_command(file, word),
+        "holders" => holders_command(file, word),
+        "triage" => triage_command(file, word),
         "make" => number_command(name, file, word),
         "trial" => number_command(name, file, word),
         _ => process_command(name, file, word, &[]),
@@ -193,6 +222,22 @@ fn binary_command<'a>(file: &'a str, word: &str) -> Option<Cmd<'a>>
 {
     let addr = hex_u64(word.as_bytes())?;
     Some(Cmd::Binary { file, addr })
+}
+
+fn holders_command<'a>(file: &'a str, word: &str) -> Option<Cmd<'a>>
+    ensures reads { option_map shown result ≡ option_map (holders file.now) (hex_number word.now) }
+    ensures range { IfSome result (λ cmd. IsInRange (shown cmd)) }
+{
+    let addr = hex_u64(word.as_bytes())?;
+    Some(Cmd::Holders { file, addr })
+}
+
+fn triage_command<'a>(file: &'a str, word: &str) -> Option<Cmd<'a>>
+    ensures reads { option_map shown result ≡ option_map (triage file.now) (number_upto 1000 word.now) }
+    ensures range { IfSome result (λ cmd. IsInRange (shown cmd)) }
+{
+    let count = number_upto(word, MOST_ROWS)?;
+    Some(Cmd::Triage { file, count })
 }
 
 fn process_command<'a>(name: &str, file: &'a str, pid: &'a str, words: &[String]) -> Option<Cmd<'a>>

@@ -1,5 +1,5 @@
 -- What the load of a heap gives whose cells are listed.
-use Rattle.std.proofs.Common.{◌≡◌, ℕ, ◌+◌, List, [], take, Result, Ok, Err, refl, ◌∙◌, ap, arith}
+use Rattle.std.proofs.Common.{ℕ, ◌+◌, List, [], take, Result, Ok, Err, refl, ◌∙◌, ap, arith}
 use Rattle.std.specs.Prelude.{IsSome, MatchResult}
 use Rattle.dump_io.specs.Dumps.{Use, ReadsAtMost}
 use Rattle.dump_io.specs.Limits.{Numbers}

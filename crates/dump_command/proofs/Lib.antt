@@ -6,6 +6,7 @@ pub mod Externals
 pub mod FoundLoads
 pub mod HeapLoads
 pub mod Heaps
+pub mod HolderLoads
 pub mod Info
 pub mod Messages
 pub mod Opened
@@ -17,3 +18,4 @@ pub mod Runs
 pub mod SameFindings
 pub mod SameHeaps
 pub mod SameTrees
+pub mod TriageLoads

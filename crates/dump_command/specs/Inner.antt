@@ -3,6 +3,7 @@ pub mod Alone
 pub mod Audits
 pub mod Fields
 pub mod Heaps
+pub mod Holders
 pub mod Info
 pub mod Opened
 pub mod ReachLoads
@@ -11,3 +12,4 @@ pub mod Runs
 pub mod Stops
 pub mod TermLoads
 pub mod TermStops
+pub mod TriageLoads

@@ -6,6 +6,7 @@ use Rattle.std.specs.Option.{option_map, option_or, option_and}
 use Rattle.dump_io.specs.Limits.{Numbers}
 use Rattle.dump_io.specs.Lines.{headers}
 use Rattle.section_index.specs.Bodies.{body_length}
+use Rattle.section_index.specs.Index.{index_of}
 use Rattle.section_index.specs.Opening.{opening, first_id}
 use Rattle.section_index.specs.Sections.{Section, section, sections, tag_of}
 use Rattle.section_index.specs.Tags.{tag_counts}
@@ -23,6 +24,7 @@ use Rattle.process_table.specs.Processes.{process_table}
 use Rattle.process_table.specs.Records.{record_sections}
 use Rattle.section_index.specs.Lookups.{has_tag, is_named}
 use Rattle.section_rows.specs.Loading.{bodies_length, first_large}
+use Rattle.table_sections.specs.declared.kinds.TableKind.TheVariants.{Ets}
 use Rattle.table_sections.specs.Tables.{listed, table_of}
 use Rattle.dump_write.specs.Made.{made}
 use Rattle.dump_trial.specs.Trial.{trial_of}
@@ -30,8 +32,10 @@ use Rattle.dump_redact.specs.Redacted.{redacted}
 use Rattle.dump_redact.specs.Refusals.{heap_sections}
 use Rattle.audit_bodies.specs.Mailboxes.{audited_sections}
 use Rattle.dump_command.specs.Audits.{audit_in, status_of}
-use Rattle.command_words.specs.Command.{Command, index, info, procs, proc, memory, table, roots, term, ext, reach, cells, binary, links, redact, audit, audit_json, make, trial, file_of}
+use Rattle.command_words.specs.Command.{Command, index, info, procs, proc, memory, table, roots, term, ext, reach, cells, binary, binaries, holders, triage, links, redact, audit, audit_json, make, trial, file_of}
 use Rattle.heap_cells.specs.Loading.{body_in}
+use Rattle.dump_command.specs.Holders.{binaries_listing, fronts_bytes, heaps_bytes, holders_listing}
+use Rattle.dump_command.specs.Triage.{Told, triage_over}
 use Rattle.dump_command.specs.Terms.{base_of, binary_at, binary_cause, bad_binary, binary_count, binary_of, ext_of, heap_listing, heap_map, heap_of, literals_of, no_address, no_external, reach_of, roots_of, roots_section, term_of, too_dense}
 
 -- the first of these sections
@@ -59,6 +63,11 @@ heap_bodies pid sections = one_of (heap_of pid sections) ++ one_of (literals_of 
 abbrev pub root_bodies : List ℕ → List Section → List Section
 root_bodies pid sections = (one_of (roots_section Stack pid sections) ++ one_of (roots_section Dict pid sections)) ++ one_of (roots_section Mail pid sections)
 
+-- the first section, the first one on memory, those of the processes and those of the ETS tables
+abbrev pub triage_sections : List Section → List Section
+triage_sections sections =
+    ((first_section sections ∷ one_of (memory_section sections)) ++ record_sections sections) ++ listed Ets sections
+
 -- the bodies that a command loads, in the order in which they are judged and read
 abbrev pub bodies : Command → List Section → List Section
 bodies (index file) sections = []
@@ -73,6 +82,9 @@ bodies (ext file pid addr) sections = heap_bodies pid sections
 bodies (reach file pid) sections = root_bodies pid sections ++ heap_bodies pid sections
 bodies (cells file pid) sections = heap_bodies pid sections
 bodies (binary file addr) sections = one_of (binary_at addr sections)
+bodies (binaries file) sections = record_sections sections
+bodies (holders file addr) sections = record_sections sections
+bodies (triage file most) sections = triage_sections sections
 bodies (links file) sections = record_sections sections
 bodies (redact file) sections = heap_sections sections
 bodies (audit file limit full) sections = audited_sections full sections
@@ -92,6 +104,15 @@ tags_of sections = map (λ s. tag_of s.text) sections
 abbrev pub fields_of : List ℕ → Option Section → List ℕ
 fields_of bytes found = fields_report (base_of found) (body_in bytes found)
 
+-- what is told of the bodies of a triage
+abbrev pub told_in : List ℕ → List Section → Told
+told_in bytes sections = record {
+  first = body_of bytes (first_section sections);
+  memory = body_in bytes (memory_section sections);
+  procs = process_table bytes;
+  tables = table_of Ets bytes;
+}
+
 -- the report of a command on the bytes of a dump
 abbrev pub report : Command → List ℕ → List ℕ
 report (index file) bytes = index_report (headers bytes) (length bytes)
@@ -108,6 +129,9 @@ report (ext file pid addr) bytes = ext_of pid addr bytes
 report (reach file pid) bytes = reach_of pid bytes
 report (cells file pid) bytes = heap_listing pid bytes
 report (binary file addr) bytes = binary_of addr bytes
+report (binaries file) bytes = binaries_listing bytes
+report (holders file addr) bytes = holders_listing addr bytes
+report (triage file most) bytes = triage_over most (index_of bytes) (told_in bytes (sections bytes))
 report (links file) bytes = links_report (process_table bytes).processes
 report (redact file) bytes = redacted bytes
 report (audit file limit full) bytes = audit_report (audit_in limit full bytes)
@@ -140,6 +164,7 @@ no_subject (ext file pid addr) sections = no_process pid sections
 no_subject (reach file pid) sections = no_process pid sections
 no_subject (cells file pid) sections = no_process pid sections
 no_subject (binary file addr) sections = binary_cause addr (binary_at addr sections)
+no_subject (holders file addr) sections = binary_cause addr (binary_at addr sections)
 no_subject cmd sections = None
 
 -- the refusal of the first of these bodies that is longer than the limit
@@ -176,10 +201,13 @@ abbrev pub loaded_bytes : Command → List ℕ → ℕ
 loaded_bytes cmd bytes = bodies_length (bodies cmd (sections bytes))
 
 -- the most bytes that a command takes from the device after it has read the dump once: those of the bodies that
--- it loads, and 128 for each reference to a binary in the heap of a process; a redacted dump is copied from the dump whole
+-- it loads, and 128 for each reference to a binary in the heap of a process; for the holders of binaries those of the heaps,
+-- and for the sizes of these some of each of their sections; a redacted dump is copied from the dump whole
 abbrev pub reread : Command → List ℕ → ℕ
 reread (roots kind file pid nodes marked) bytes = loaded_bytes (roots kind file pid nodes marked) bytes + 128 * binary_count pid bytes
 reread (term file pid addr nodes marked) bytes = loaded_bytes (term file pid addr nodes marked) bytes + 128 * binary_count pid bytes
+reread (binaries file) bytes = loaded_bytes (binaries file) bytes + (fronts_bytes bytes + heaps_bytes bytes)
+reread (holders file addr) bytes = loaded_bytes (holders file addr) bytes + heaps_bytes bytes
 reread (redact file) bytes = length bytes
 reread cmd bytes = loaded_bytes cmd bytes
 

@@ -7,9 +7,11 @@ ghost use Rattle.dump_command.specs.Inner.Runs.{Runs};
 
 mod audit;
 mod audit_json;
+mod binaries;
 mod binary;
 mod cells;
 mod ext;
+mod holders;
 mod index;
 mod info;
 mod links;
@@ -23,17 +25,20 @@ mod roots;
 mod subjects;
 mod tables;
 mod term;
+mod triage;
 mod trial;
 
 use crate::report::run_report;
 use crate::stop::Stop;
 use audit::Audit;
 use audit_json::AuditJson;
+use binaries::Binaries;
 use binary::Binary;
 use cells::Cells;
 use command_words::Cmd;
 use dump_io::{Dumps, Limits, Sink};
 use ext::Ext;
+use holders::Holders;
 use index::Index;
 use info::Info;
 use links::Links;
@@ -49,6 +54,7 @@ use std::alloc::Global;
 use table_sections::TableKind;
 use tables::Table;
 use term::Term;
+use triage::Triage;
 use trial::run_trial;
 
 /// Runs a command from a device to the sink of its report, and answers its status.
@@ -152,6 +158,15 @@ pub(crate) fn run_command<D: Dumps, K: Sink>(
         Cmd::Binary { file, addr } => {
             let addr = *addr;
             run_report(alloc, &Binary { file, addr }, limits, dumps, out)
+        }
+        Cmd::Binaries { file } => run_report(alloc, &Binaries { file }, limits, dumps, out),
+        Cmd::Holders { file, addr } => {
+            let addr = *addr;
+            run_report(alloc, &Holders { file, addr }, limits, dumps, out)
+        }
+        Cmd::Triage { file, count } => {
+            let count = *count;
+            run_report(alloc, &Triage { file, count }, limits, dumps, out)
         }
         Cmd::Links { file } => run_report(alloc, &Links { file }, limits, dumps, out),
         Cmd::Redact { file } => run_redact(alloc, file, limits, dumps, out),

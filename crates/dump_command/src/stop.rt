@@ -2,6 +2,7 @@
 ghost use Rattle.std.specs.Prelude.{◌≡◌};
 ghost use Rattle.dump_command.specs.Inner.Stops.{or_stop};
 
+use binary_holders::HolderFault;
 use binary_refs::PreviewFault;
 use dump_io::Failed;
 use dump_redact::RedactFault;
@@ -87,6 +88,19 @@ impl From<PreviewFault> for Stop {
         match fault {
             PreviewFault::Read => Stop::NotRead,
             PreviewFault::Memory => Stop::NoMemory,
+        }
+    }
+}
+
+impl From<HolderFault> for Stop {
+    ghost use Rattle.dump_command.specs.Inner.Stops.{stop_of_holders};
+
+    ghost from_gives = { λ fault stop. stop ≡ stop_of_holders fault };
+
+    fn from(fault: HolderFault) -> Stop {
+        match fault {
+            HolderFault::Read => Stop::NotRead,
+            HolderFault::Memory => Stop::NoMemory,
         }
     }
 }

@@ -4,6 +4,8 @@ use Rattle.section_index.specs.declared.bodies.BodyFault.{BodyFault}
 use Rattle.section_index.specs.declared.bodies.BodyFault.TheVariants as body_faults
 use Rattle.section_index.specs.declared.opening.OpenFault.{OpenFault}
 use Rattle.section_index.specs.declared.opening.OpenFault.TheVariants as open_faults
+use Rattle.binary_holders.specs.declared.faults.HolderFault.{HolderFault}
+use Rattle.binary_holders.specs.declared.faults.HolderFault.TheVariants as holder_faults
 use Rattle.dump_redact.specs.declared.faults.RedactFault.{RedactFault}
 use Rattle.dump_redact.specs.declared.faults.RedactFault.TheVariants as redact_faults
 use Rattle.report_text.specs.declared.refusals.Refusal.TheVariants.{Open, SectionTooLarge}
@@ -36,6 +38,11 @@ stop_of_json json_faults.Memory = NoMemory
 abbrev pub or_stop : {T : Type 0} → Result T BodyFault → Result T Stop
 or_stop (Ok value) = Ok value
 or_stop (Err fault) = Err (stop_of_body fault)
+
+-- what stops a command of which the holders of binaries aren't told
+abbrev pub stop_of_holders : HolderFault → Stop
+stop_of_holders holder_faults.Read = NotRead
+stop_of_holders holder_faults.Memory = NoMemory
 
 -- what stops `redact`
 abbrev pub stop_of_redact : RedactFault → Stop

@@ -8,7 +8,7 @@ ghost use Rattle.section_index.specs.Index.{IsBuiltOver, sections_in};
 ghost use Rattle.section_index.specs.Sections.{Section};
 ghost use Rattle.section_rows.specs.Loading.{first_large, large_fault, AreRefused};
 ghost use Rattle.dump_command.specs.Report.{no_process, one_of, process_section};
-ghost use Rattle.dump_command.specs.Terms.{address_cause, base_of};
+ghost use Rattle.dump_command.specs.Terms.{address_cause, base_of, binary_at, binary_cause};
 ghost use Rattle.dump_command.specs.Inner.Heaps.{heap_listed, HoldsHeap, IsHeapless};
 ghost use Rattle.dump_command.specs.Inner.Fields.{HasPlaces};
 ghost use Rattle.dump_command.specs.Inner.TermStops.{Judges};
@@ -32,6 +32,16 @@ pub(crate) fn find_process(at: &Opened<'_>, pid: &[u8]) -> Result<usize, Stop>
         return Err(Stop::Refused(Refusal::NoProcess(Text::new(pid))));
     };
     Ok(place)
+}
+
+/// Refuses an address that no section of a binary has for its id.
+pub(crate) fn find_binary(at: &Opened<'_>, addr: u64) -> Result<(), Stop>
+    ensures { Judges (binary_cause addr (binary_at addr (sections_in at.now.index.now))) result }
+{
+    match at.index.first_hex(b"binary", addr) {
+        None => Err(Stop::Refused(Refusal::NoBinary { addr })),
+        Some(_) => Ok(()),
+    }
 }
 
 /// The refusal of a section whose body has more bytes than the limit. One that isn't there is empty.

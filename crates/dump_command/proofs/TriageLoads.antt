@@ -1,0 +1,180 @@
+-- What a command has read that tells what stands out in a dump.
+use Rattle.std.proofs.Common.{◌≡◌, ℕ, ◌+◌, true, false, if◌then◌else◌, List, [], ◌∷◌, ◌++◌, Option, None, Some, refl, sym, ◌∙◌, ap, subst, inl, inr, arith}
+use Rattle.std.specs.Prelude.{nat_lt}
+use Rattle.std.specs.Option.{option_map, option_or}
+use Rattle.std.proofs.lemmas.List.Sums.{sum_by-append, sum_by-cons}
+use Rattle.dump_io.specs.Dumps.{Use, DeviceFailed, ReadsAtMost}
+use Rattle.dump_io.specs.Limits.{Numbers}
+use Rattle.section_index.specs.Bodies.{body_length}
+use Rattle.section_index.specs.Index.{Contents, index_of, sections_in}
+use Rattle.section_index.specs.Laws.{index-is}
+use Rattle.section_index.specs.Sections.{Section}
+use Rattle.section_index.specs.declared.bodies.BodyFault.{BodyFault}
+use Rattle.section_index.specs.declared.bodies.BodyFault.TheVariants as body_faults
+use Rattle.section_rows.specs.Loading.{bodies_length, first_large, large_fault, AreRefused}
+use Rattle.process_table.specs.Records.{record_sections}
+use Rattle.table_sections.specs.declared.kinds.TableKind.TheVariants.{Ets}
+use Rattle.table_sections.specs.Tables.{listed}
+use Rattle.heap_cells.specs.Loading.{body_in, body_size, section_in}
+use Rattle.command_words.specs.Command.{triage}
+use Rattle.process_table.specs.Processes.{process_table}
+use Rattle.dump_command.specs.Report.{first_section, memory_section, one_of, refusal_listed, report, told_in, triage_sections}
+use Rattle.dump_command.specs.Triage.{Told, triage_over}
+use Rattle.dump_command.specs.Inner.Opened.{IsIndexed}
+use Rattle.dump_command.specs.Inner.Reading.{HasRead, IsHalted, Takes}
+use Rattle.dump_command.specs.Inner.Stops.{stop_of_body}
+use Rattle.dump_command.specs.declared.stop.Stop.TheVariants.{NoMemory}
+use Rattle.dump_command.specs.Inner.TriageLoads.{shown_bodies, triage_text, AreFound, HoldsBodies, IsUnread}
+use Rattle.dump_command.specs.declared.commands.triage.Places.{Places}
+use Rattle.dump_command.specs.declared.commands.triage.Loaded.{Loaded}
+use Rattle.dump_command.proofs.FoundLoads.{bytes-one}
+use Rattle.dump_command.proofs.Reading.{body_fault, refused, HasRead-listed, StopsFor-large, Takes-listed, Takes-none}
+use Rattle.dump_command.proofs.Runs.{sections-index}
+
+-- ---- bodies in a row
+
+-- the first of two lists that is too large is one of the first list, or one of the second
+large-append : (limit : ℕ) (xs ys : List Section) → large_fault limit (xs ++ ys) ≡ option_or (large_fault limit xs) (large_fault limit ys)
+large-append limit [] ys = refl
+large-append limit (s ∷ xs) ys =
+    elim (nat_lt limit (body_length s)) as (λ b. option_map body_fault (if b then Some s else first_large limit (xs ++ ys))
+    ≡ option_or (option_map body_fault (if b then Some s else first_large limit xs)) (large_fault limit ys)) [ true ↦ refl | false ↦ large-append limit xs ys ]
+
+-- where none of both lists is too large, none of either is
+small-both : (limit : ℕ) (xs ys : List Section) → large_fault limit (xs ++ ys) ≡ None → (large_fault limit xs ≡ None) × (large_fault limit ys ≡ None)
+small-both limit xs ys none = by (large_fault limit xs) (large_fault limit ys) (sym (large-append limit xs ys) ∙ none)
+  where
+    by : (o p : Option BodyFault) → option_or o p ≡ None → (o ≡ None) × (p ≡ None)
+    by None p is = (refl, is)
+    by (Some fault) p is = absurd (let no : ⊥ = cc (is) in no)
+
+-- bodies of which none is too large aren't read where the device fails or memory lacks
+pub IsUnread-small : (limit : ℕ) (ss : List Section) (device step : Use) (fault : BodyFault) → large_fault limit ss ≡ None → (DeviceFailed step → DeviceFailed device)
+    → AreRefused ss limit step fault → IsUnread device fault
+IsUnread-small limit ss device step body_faults.Read none later cause = inl (refl, later cause.0)
+IsUnread-small limit ss device step body_faults.Memory none later cause = inr refl
+IsUnread-small limit ss device step (body_faults.SectionTooLarge at len) none later cause = absurd (let no : ⊥ = cc (sym none ∙ cause) in no)
+
+-- ---- the bodies of a triage
+
+-- the first section and the first one on memory, and these with those of the processes
+abbrev heads : List Section → List Section
+heads ss = first_section ss ∷ one_of (memory_section ss)
+
+abbrev fronts : List Section → List Section
+fronts ss = heads ss ++ record_sections ss
+
+-- the first that is too large
+pub large-triage : (limit : ℕ) (index : Contents) (places : Places) → AreFound index places
+    → option_or (option_or (option_or (large_fault limit (one_of (section_in index (Some 0)))) (large_fault limit (one_of (section_in index places.memory))))
+    (large_fault limit (record_sections (sections_in index)))) (large_fault limit (listed places.tables.kind (sections_in index)))
+    ≡ large_fault limit (triage_sections (sections_in index))
+large-triage limit index places found =
+    let ss = sections_in index in
+    let first = large_fault limit (first_section ss ∷ []) in
+    let procs = large_fault limit (record_sections ss) in
+    ap (λ s. option_or (option_or (option_or first (large_fault limit (one_of s))) procs) (large_fault limit (listed places.tables.kind ss))) found.memory
+    ∙ ap (λ k. option_or (option_or (option_or first (large_fault limit (one_of (memory_section ss)))) procs) (large_fault limit (listed k ss))) found.kind
+    ∙ ap (λ o. option_or (option_or o procs) (large_fault limit (listed Ets ss))) (sym (large-append limit (first_section ss ∷ []) (one_of (memory_section ss))))
+    ∙ ap (λ o. option_or o (large_fault limit (listed Ets ss))) (sym (large-append limit (heads ss) (record_sections ss)))
+    ∙ sym (large-append limit (fronts ss) (listed Ets ss))
+
+-- none of them is too large
+pub record AreSmall (limit : ℕ) (index : Contents) (places : Places) : Type 0 where
+  pub first : large_fault limit (one_of (section_in index (Some 0))) ≡ None
+  pub memory : large_fault limit (one_of (section_in index places.memory)) ≡ None
+  pub procs : large_fault limit (record_sections (sections_in index)) ≡ None
+  pub tables : large_fault limit (listed places.tables.kind (sections_in index)) ≡ None
+
+pub AreSmall-all : (limit : ℕ) (index : Contents) (places : Places) → AreFound index places → large_fault limit (triage_sections (sections_in index)) ≡ None
+    → AreSmall limit index places
+AreSmall-all limit index places found none =
+    let ss = sections_in index in
+    let last = small-both limit (fronts ss) (listed Ets ss) none in
+    let third = small-both limit (heads ss) (record_sections ss) last.0 in
+    let second = small-both limit (first_section ss ∷ []) (one_of (memory_section ss)) third.0 in
+    record {
+      first = second.0;
+      memory = ap (λ s. large_fault limit (one_of s)) found.memory ∙ second.1;
+      procs = third.1;
+      tables = ap (λ k. large_fault limit (listed k ss)) found.kind ∙ last.1;
+    }
+
+-- how many bytes they have together
+pub triage-length : (index : Contents) (places : Places) → AreFound index places → bodies_length (triage_sections (sections_in index))
+    ≡ ((body_size (section_in index (Some 0)) + body_size (section_in index places.memory)) + bodies_length (record_sections (sections_in index)))
+    + bodies_length (listed places.tables.kind (sections_in index))
+triage-length index places found =
+    let ss = sections_in index in
+    omega (
+      arith,
+      sum_by-append body_length (fronts ss) (listed Ets ss),
+      sum_by-append body_length (heads ss) (record_sections ss),
+      sum_by-cons body_length (first_section ss) (one_of (memory_section ss)),
+      bytes-one (section_in index places.memory),
+      ap (λ s. bodies_length (one_of s)) found.memory,
+      ap (λ k. bodies_length (listed k ss)) found.kind,
+    )
+
+-- ---- the command
+
+module _ (file : List ℕ) (most : ℕ) (limits : Numbers) (index : Contents) (step : Use) where
+  -- there was no memory for the places
+  pub IsHalted-places : ReadsAtMost step 0 → IsHalted (triage file most) limits index step NoMemory
+  IsHalted-places none = record { takes = Takes-none (triage file most) limits index step none; cause = tt }
+
+  -- a body is too large
+  pub IsHalted-triage : (fault : BodyFault) → ReadsAtMost step 0 → Some fault ≡ large_fault limits.section (triage_sections (sections_in index))
+      → IsHalted (triage file most) limits index step (stop_of_body fault)
+  IsHalted-triage fault none is =
+      record {
+        takes = Takes-none (triage file most) limits index step none;
+        cause = StopsFor-large step _ (first_large limits.section (triage_sections (sections_in index))) fault (sym is)
+            (λ why large bytes all. ap (λ o. option_or o None) large);
+      }
+
+  -- none is
+  listed-triage : None ≡ large_fault limits.section (triage_sections (sections_in index)) → refusal_listed (triage file most) (sections_in index) limits ≡ None
+  listed-triage is = by (first_large limits.section (triage_sections (sections_in index))) is
+    where
+      by : (first : Option Section) → None ≡ option_map body_fault first → option_map refused first ≡ None
+      by None is = refl
+      by (Some s) is = absurd (let no : ⊥ = cc (is) in no)
+
+  takes-triage : None ≡ large_fault limits.section (triage_sections (sections_in index)) → ReadsAtMost step (bodies_length (triage_sections (sections_in index)))
+      → Takes (triage file most) limits index step
+  takes-triage small reads =
+      Takes-listed (triage file most) limits index step _ (listed-triage small) reads
+      (λ bytes all. omega (arith, ap (λ ss. bodies_length (triage_sections ss)) (sections-index bytes index all.of)))
+
+  -- they weren't read
+  pub IsHalted-unread : (fault : BodyFault) → None ≡ large_fault limits.section (triage_sections (sections_in index))
+      → ReadsAtMost step (bodies_length (triage_sections (sections_in index))) → IsUnread step fault → IsHalted (triage file most) limits index step (stop_of_body fault)
+  IsHalted-unread fault small reads (inl cause) =
+      subst (λ f. IsHalted (triage file most) limits index step (stop_of_body f)) (sym cause.0) (record { takes = takes-triage small reads; cause = cause.1 })
+  IsHalted-unread fault small reads (inr is) =
+      subst (λ f. IsHalted (triage file most) limits index step (stop_of_body f)) (sym is) (record { takes = takes-triage small reads; cause = tt })
+
+  -- what stands out in what was read stands out in the dump
+  triage-told : (loaded : Loaded) → HoldsBodies index step.now_before loaded → (bytes : List ℕ) → IsIndexed bytes limits index step.now_before
+      → triage_text most index loaded ≡ report (triage file most) bytes
+  triage-told loaded holds bytes all =
+      let held = subst (λ n. HoldsBodies index n loaded) all.opened holds in
+      let same = sections-index bytes index all.of in
+      let told_of : List ℕ → List ℕ → Told = λ first memory. record { first = first; memory = memory; procs = loaded.procs; tables = loaded.tables } in
+      let first = body_in bytes (section_in index (Some 0)) in
+      ap (λ i. triage_over most i (shown_bodies loaded)) (index-is bytes index all.of)
+      ∙ ap (λ b. triage_over most (index_of bytes) (told_of b loaded.memory.bytes.items)) held.first
+      ∙ ap (λ b. triage_over most (index_of bytes) (told_of first b)) held.memory
+      ∙ ap (λ t. triage_over most (index_of bytes) (record { first = first; memory = body_in bytes (memory_section (sections_in index)); procs = t; tables = loaded.tables }))
+      (held.procs bytes refl)
+      ∙ ap (λ t. triage_over most (index_of bytes) (record { first = first; memory = body_in bytes (memory_section (sections_in index)); procs = process_table bytes; tables = t }))
+      (held.tables bytes refl)
+      ∙ ap (λ ss. triage_over most (index_of bytes) (told_in bytes ss)) same
+
+  pub HasRead-triage : (loaded : Loaded) → None ≡ large_fault limits.section (triage_sections (sections_in index))
+      → ReadsAtMost step (bodies_length (triage_sections (sections_in index))) → HoldsBodies index step.now_before loaded
+      → HasRead (triage file most) limits index step (triage_text most index loaded) 0
+  HasRead-triage loaded small reads holds =
+      HasRead-listed (triage file most) limits index step (triage_text most index loaded) (takes-triage small reads) (listed-triage small)
+      (λ bytes all. (refl, triage-told loaded holds bytes all, refl))

@@ -1,0 +1,47 @@
+-- What the report of `triage` is written of.
+use Rattle.std.specs.Prelude.{◌≡◌, ◌⊎◌, ℕ, ◌<◌, List, length, All, Some, IfSome}
+use Rattle.dump_io.specs.Dumps.{Now, Use, told, DeviceFailed}
+use Rattle.section_index.specs.Index.{Contents, sections_in}
+use Rattle.section_index.specs.declared.bodies.BodyFault.{BodyFault}
+use Rattle.section_index.specs.declared.bodies.BodyFault.TheVariants.{Read, Memory}
+use Rattle.process_table.specs.Processes.{process_table, IsIn}
+use Rattle.process_table.specs.Records.{proc_places}
+use Rattle.table_sections.specs.declared.kinds.TableKind.TheVariants.{Ets}
+use Rattle.table_sections.specs.Tables.{table_of, AreListed, IsOver}
+use Rattle.heap_cells.specs.Loading.{section_in, IsBodyIn}
+use Rattle.dump_command.specs.Report.{memory_section}
+use Rattle.dump_command.specs.Triage.{Told, triage_over}
+use Rattle.dump_command.specs.declared.commands.triage.Places.{Places}
+use Rattle.dump_command.specs.declared.commands.triage.Loaded.{Loaded}
+
+-- what was loaded, wherever it lies
+abbrev pub shown_bodies : Loaded → Told
+shown_bodies loaded = record { first = loaded.first.bytes.items; memory = loaded.memory.bytes.items; procs = loaded.procs; tables = loaded.tables }
+
+-- the text of what stands out in it, with at most so many rows by each measure
+abbrev pub triage_text : ℕ → Contents → Loaded → List ℕ
+triage_text most index loaded = triage_over most index (shown_bodies loaded)
+
+-- the sections behind the first one are those of the index
+pub record AreFound (index : Contents) (places : Places) : Type 0 where
+  pub memory : section_in index places.memory ≡ memory_section (sections_in index)
+  pub within : IfSome places.memory (λ i. i < length index.headers)
+  pub procs : places.procs ≡ proc_places (sections_in index)
+  pub kind : places.tables.kind ≡ Ets
+  pub tables : AreListed index places.tables
+
+-- what was read is of what is open
+pub record HoldsBodies (index : Contents) (now : Now) (loaded : Loaded) : Type 0 where
+  pub first : IsBodyIn now (section_in index (Some 0)) loaded.first.bytes.items
+  pub memory : IsBodyIn now (memory_section (sections_in index)) loaded.memory.bytes.items
+  pub procs : (bytes : List ℕ) → now ≡ told bytes → loaded.procs ≡ process_table bytes
+  pub tables : (bytes : List ℕ) → now ≡ told bytes → loaded.tables ≡ table_of Ets bytes
+
+-- each process and each table is one of the index
+pub record Fits (index : Contents) (loaded : Loaded) : Type 0 where
+  pub sections : All (IsIn index) loaded.procs.processes
+  pub tables : IsOver Ets index loaded.tables
+
+-- bodies of which none is too large aren't read where the device fails or memory lacks
+abbrev pub IsUnread : Use → BodyFault → Type 0
+IsUnread device fault = ((fault ≡ Read) × DeviceFailed device) ⊎ (fault ≡ Memory)

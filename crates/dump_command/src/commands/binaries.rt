@@ -1,0 +1,49 @@
+// `binaries`: which processes hold how much of the binaries outside the heaps.
+ghost use Rattle.command_words.specs.Command.{binaries};
+ghost use Rattle.dump_command.specs.Inner.Holders.{binaries_text, AreNamed};
+
+use crate::open::Opened;
+use crate::report::Report;
+use crate::status::DONE;
+use crate::stop::Stop;
+use binary_holders::{BinaryUse, binary_use};
+use dump_io::{Dumps, Sink};
+use process_table::Procs;
+use report_text::put_binaries;
+
+#[derive(Clone, Copy)]
+pub(crate) struct Binaries<'a> {
+    pub(crate) file: &'a str,
+}
+
+/// The processes, and what they hold.
+#[derive(Drop)]
+pub(crate) struct Loaded {
+    procs: Procs,
+    found: BinaryUse,
+}
+
+impl Report for Binaries<'_> {
+    type Loaded = Loaded;
+
+    ghost command = { λ c. binaries c.file.now };
+
+    ghost text = { λ _ index loaded. binaries_text index loaded };
+
+    ghost fits = { λ _ index loaded. AreNamed index loaded.procs loaded.found.held.items };
+
+    fn file(&self) -> &str {
+        self.file
+    }
+
+    fn read<D: Dumps>(&self, at: &Opened<'_>, dumps: &mut D) -> Result<Loaded, Stop> {
+        let procs = Procs::load(at.alloc, dumps, at.index, at.limits)?;
+        let found = binary_use(at.alloc, dumps, at.index, &procs)?;
+        Ok(Loaded { procs, found })
+    }
+
+    fn put<K: Sink>(&self, at: &Opened<'_>, loaded: &Loaded, out: &mut K) -> Result<u8, Stop> {
+        put_binaries(out, at.index, &loaded.procs, &loaded.found)?;
+        Ok(DONE)
+    }
+}

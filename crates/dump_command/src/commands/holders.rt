@@ -1,0 +1,52 @@
+// `holders`: who holds a binary.
+ghost use Rattle.command_words.specs.Command.{holders};
+ghost use Rattle.dump_command.specs.Inner.Holders.{holders_text, AreNamed};
+
+use crate::commands::subjects::find_binary;
+use crate::open::Opened;
+use crate::report::Report;
+use crate::status::DONE;
+use crate::stop::Stop;
+use binary_holders::{Holding, holders};
+use dump_io::{Dumps, Sink};
+use process_table::Procs;
+use report_text::put_holders;
+
+#[derive(Clone, Copy)]
+pub(crate) struct Holders<'a> {
+    pub(crate) file: &'a str,
+    pub(crate) addr: u64,
+}
+
+/// The processes, and those that hold the binary.
+#[derive(Drop)]
+pub(crate) struct Loaded {
+    procs: Procs,
+    held: Vec<Holding>,
+}
+
+impl Report for Holders<'_> {
+    type Loaded = Loaded;
+
+    ghost command = { λ c. holders c.file.now c.addr };
+
+    ghost text = { λ _ index loaded. holders_text index loaded };
+
+    ghost fits = { λ _ index loaded. AreNamed index loaded.procs loaded.held.items };
+
+    fn file(&self) -> &str {
+        self.file
+    }
+
+    fn read<D: Dumps>(&self, at: &Opened<'_>, dumps: &mut D) -> Result<Loaded, Stop> {
+        find_binary(at, self.addr)?;
+        let procs = Procs::load(at.alloc, dumps, at.index, at.limits)?;
+        let held = holders(at.alloc, dumps, at.index, &procs, self.addr)?;
+        Ok(Loaded { procs, held })
+    }
+
+    fn put<K: Sink>(&self, at: &Opened<'_>, loaded: &Loaded, out: &mut K) -> Result<u8, Stop> {
+        put_holders(out, at.index, &loaded.procs, loaded.held.as_slice())?;
+        Ok(DONE)
+    }
+}

@@ -1,0 +1,139 @@
+// `triage`: what to read first of a dump.
+ghost use Rattle.std.specs.Prelude.{◌≡◌, ◌≤◌, length, None, IfOk, IfErr};
+ghost use Rattle.dump_io.specs.Dumps.{used, ReadsAtMost};
+ghost use Rattle.section_index.specs.Index.{sections_in, IsBuiltOver};
+ghost use Rattle.section_rows.specs.Loading.{bodies_length, large_fault};
+ghost use Rattle.command_words.specs.Command.{triage};
+ghost use Rattle.dump_command.specs.Report.{triage_sections};
+ghost use Rattle.dump_command.specs.Inner.TriageLoads.{triage_text, AreFound, Fits, HoldsBodies, IsUnread};
+
+use crate::commands::subjects::{Body, large_body, read_found};
+use crate::open::Opened;
+use crate::report::Report;
+use crate::status::DONE;
+use crate::stop::Stop;
+use dump_io::{Dumps, Sink};
+use dump_triage::Triage as Found;
+use process_table::{ProcSections, Procs};
+use report_text::put_triage;
+use section_index::BodyFault;
+use std::alloc::AllocError;
+use table_sections::{Rows, TableKind, TableSections};
+
+#[derive(Clone, Copy)]
+pub(crate) struct Triage<'a> {
+    pub(crate) file: &'a str,
+    pub(crate) count: u32,
+}
+
+/// The sections whose bodies are loaded behind the first one.
+#[derive(Drop)]
+pub(crate) struct Places {
+    memory: Option<usize>,
+    procs: ProcSections,
+    tables: TableSections,
+}
+
+/// The bodies of the first section and of the first one on memory, the processes and the ETS tables.
+#[derive(Drop)]
+pub(crate) struct Loaded {
+    first: Body,
+    memory: Body,
+    procs: Procs,
+    tables: Rows,
+}
+
+fn find_places(at: &Opened<'_>) -> Result<Places, AllocError>
+    ensures { IfOk result (AreFound at.now.index.now) }
+{
+    let memory = at.index.first_tag(b"memory");
+    let procs = ProcSections::find(at.alloc, at.index)?;
+    let tables = TableSections::find(at.alloc, at.index, TableKind::Ets)?;
+    Ok(Places {
+        memory,
+        procs,
+        tables,
+    })
+}
+
+// The refusal of the first of the sections whose body has more bytes than the limit.
+fn large_section(at: &Opened<'_>, places: &Places) -> Option<BodyFault>
+    requires some { 1 ≤ length at.now.index.now.headers }
+    requires places { AreFound at.now.index.now places.now }
+    ensures { result ≡ large_fault at.now.limits.now.section (triage_sections (sections_in at.now.index.now)) }
+{
+    let first = large_body(at, Some(0));
+    let memory = large_body(at, places.memory);
+    let procs = places.procs.large(at.index, at.limits);
+    let tables = places.tables.large(at.index, at.limits);
+    first.or(memory).or(procs).or(tables)
+}
+
+// Reads the bodies, of which none is too large, one after another.
+fn read_bodies<D: Dumps>(
+    at: &Opened<'_>,
+    dumps: &mut D,
+    places: Places,
+) -> Result<Loaded, BodyFault>
+    requires over { IsBuiltOver (D.now dumps.old) at.now.index.now }
+    requires some { 1 ≤ length at.now.index.now.headers }
+    requires places { AreFound at.now.index.now places }
+    requires small { large_fault at.now.limits.now.section (triage_sections (sections_in at.now.index.now)) ≡ None }
+    ensures reads { ReadsAtMost (used D.files D.now D.faults D.taken dumps.old dumps.new) (bodies_length (triage_sections (sections_in at.now.index.now))) }
+    ensures bodies { IfOk result (HoldsBodies at.now.index.now (D.now dumps.old)) }
+    ensures fits { IfOk result (Fits at.now.index.now) }
+    ensures fault { IfErr result (IsUnread (used D.files D.now D.faults D.taken dumps.old dumps.new)) }
+{
+    let first = read_found(at, dumps, Some(0))?;
+    let memory = read_found(at, dumps, places.memory)?;
+    let procs = Procs::read(at.alloc, dumps, at.index, places.procs, at.limits)?;
+    let tables = Rows::read(at.alloc, dumps, at.index, places.tables, at.limits)?;
+    Ok(Loaded {
+        first,
+        memory,
+        procs,
+        tables,
+    })
+}
+
+impl Report for Triage<'_> {
+    type Loaded = Loaded;
+
+    ghost command = { λ c. triage c.file.now c.count };
+
+    ghost text = { λ c index loaded. triage_text c.count index loaded };
+
+    ghost fits = { λ _ index loaded. Fits index loaded };
+
+    fn file(&self) -> &str {
+        self.file
+    }
+
+    fn read<D: Dumps>(&self, at: &Opened<'_>, dumps: &mut D) -> Result<Loaded, Stop> {
+        let places = find_places(at)?;
+        if let Some(fault) = large_section(at, &places) {
+            return Err(Stop::from(fault));
+        }
+        Ok(read_bodies(at, dumps, places)?)
+    }
+
+    fn put<K: Sink>(&self, at: &Opened<'_>, loaded: &Loaded, out: &mut K) -> Result<u8, Stop> {
+        let Loaded {
+            first,
+            memory,
+            procs,
+            tables,
+        } = loaded;
+        let found = Found::of(at.alloc, at.index, procs, tables, u64::from(self.count))?;
+        put_triage(
+            out,
+            at.index,
+            first.bytes.as_slice(),
+            memory.bytes.as_slice(),
+            procs,
+            tables,
+            &found,
+        )?;
+        Ok(DONE)
+    }
+}
