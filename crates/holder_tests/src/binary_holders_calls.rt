@@ -1,3 +1,7 @@
+ghost use Rattle.std.specs.Prelude.{IfOk};
+ghost use Rattle.section_index.specs.Index.{IsBuiltOver};
+ghost use Rattle.process_table.specs.Processes.{IsOver};
+
 use binary_holders::{BinaryUse, HolderFault, Holding, binary_use, holders};
 use dump_io::{Dumps, Limits, MemDumps};
 use process_table::Procs;
@@ -96,11 +100,34 @@ fn with_heap(
 }
 
 // The index and the processes of what the device holds.
-fn load(alloc: Global, dumps: &mut MemDumps) -> Result<(Index, Procs), Fail> {
+fn load<D: Dumps>(alloc: Global, dumps: &mut D) -> Result<(Index, Procs), Fail>
+    ensures over { IfOk result (λ found. IsBuiltOver (D.now dumps.new) found.0) }
+    ensures procs { IfOk result (λ found. IsOver found.0 found.1) }
+{
     let limits = Limits::usual();
     let index = build(alloc, dumps, "S", &limits)?;
     let procs = Procs::load(alloc, dumps, &index, &limits)?;
     Ok((index, procs))
+}
+
+// What is found on the device, as rows.
+fn draw_use<D: Dumps>(alloc: Global, dumps: &mut D) -> Result<Vec<u8>, Fail> {
+    let (index, procs) = load(alloc, dumps)?;
+    let found = binary_use(alloc, dumps, &index, &procs)?;
+    Ok(drawn(alloc, &found)?)
+}
+
+// Who holds the binary with a number on the device, as rows behind others.
+fn draw_holders<D: Dumps>(
+    alloc: Global,
+    dumps: &mut D,
+    number: u64,
+    out: &mut Vec<u8>,
+) -> Result<(), Fail> {
+    let (index, procs) = load(alloc, dumps)?;
+    let held = holders(alloc, dumps, &index, &procs, number)?;
+    draw_holdings(out, &held)?;
+    Ok(())
 }
 
 // Who holds the binary 500 of a dump of one process with this heap.
@@ -111,10 +138,8 @@ fn drawn_holders(
     cuts: &[usize],
 ) -> Result<Vec<u8>, Fail> {
     let mut dumps = with_heap(alloc, version, heap, cuts)?;
-    let (index, procs) = load(alloc, &mut dumps)?;
-    let held = holders(alloc, &mut dumps, &index, &procs, 0x500)?;
     let mut out = Vec::new(alloc);
-    draw_holdings(&mut out, &held)?;
+    draw_holders(alloc, &mut dumps, 0x500, &mut out)?;
     Ok(out)
 }
 
@@ -123,8 +148,7 @@ fn the_most_stands_first(rt: HostRuntime) -> Result<(), Fail> {
     let alloc = rt.alloc();
     for cuts in [&[][..], &[1], &[7, 3]] {
         let mut dumps = device(alloc, cuts, &[])?;
-        let (index, procs) = load(alloc, &mut dumps)?;
-        let found = binary_use(alloc, &mut dumps, &index, &procs)?;
+        let text = draw_use(alloc, &mut dumps)?;
         let expected: &[u8] = b"1 47 3 4
 0 32 1 2
 32 2 AF0 267
@@ -134,7 +158,6 @@ fn the_most_stands_first(rt: HostRuntime) -> Result<(), Fail> {
 0 0 1 371
 5 79 3
 ";
-        let text = drawn(alloc, &found)?;
         assert_eq!(rt; text.as_slice(), expected);
     }
     Ok(())
@@ -144,11 +167,9 @@ fn the_most_stands_first(rt: HostRuntime) -> Result<(), Fail> {
 fn holders_are_told_by_their_lines(rt: HostRuntime) -> Result<(), Fail> {
     let alloc = rt.alloc();
     let mut dumps = device(alloc, &[], &[])?;
-    let (index, procs) = load(alloc, &mut dumps)?;
     let mut out = Vec::new(alloc);
     for number in [0x500, 0xAF0, 0x900, 0x77, 2] {
-        let held = holders(alloc, &mut dumps, &index, &procs, number)?;
-        draw_holdings(&mut out, &held)?;
+        draw_holders(alloc, &mut dumps, number, &mut out)?;
         out.extend_from_slice(b"-\n")?;
     }
     // A number that no section has is one like any other.
