@@ -17,7 +17,7 @@ loop-line-preserved g c =
         so_far.0 ++ memory_line line,
         HasPut-then so_far.1 c.in_ok-put_memory_line.ensures,
         append_assoc so_far.0 (memory_line line) (flat_map memory_line rest)
-        ∙ ap (λ ls. so_far.0 ++ flat_map memory_line ls) (sym c.in-Some.ensures.steps) ∙ so_far.2,
+            ∙ ap (λ ls. so_far.0 ++ flat_map memory_line ls) (sym c.in-Some.ensures.steps) ∙ so_far.2,
       ),
     )
 
