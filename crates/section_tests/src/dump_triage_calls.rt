@@ -33,6 +33,31 @@ Words: 6
 =end
 ";
 
+// The states, the queues, the memory and the tables, first all and then one of each.
+const PRINTED: &str = "1 2
+0 1
+2 1
+-
+0 3
+3 3
+-
+3 18446744073709551615
+2 8
+0 7
+-
+2 6
+0 5
+-
+1 2
+-
+0 3
+-
+3 18446744073709551615
+-
+2 6
+-
+";
+
 fn triage_of<D: Dumps>(alloc: Global, dumps: &mut D, most: u64) -> Result<Triage, Fail> {
     let limits = Limits::usual();
     let index = build(alloc, dumps, "F", &limits)?;
@@ -70,11 +95,7 @@ fn what_stands_out_is_told(rt: HostRuntime) -> Result<(), Fail> {
     if print_all(&mut sink, &all).is_err() || print_all(&mut sink, &one).is_err() {
         return Err("a write failed".into());
     }
-    assert_eq!(rt;
-        sink.written(),
-        b"1 2\n0 1\n2 1\n-\n0 3\n3 3\n-\n3 18446744073709551615\n2 8\n0 7\n-\n2 6\n0 5\n-\n1 2\n-\n0 3\n-\n3 18446744073709551615\n-\n2 6\n-\n"
-            .as_slice()
-    );
+    assert_eq!(rt; sink.written(), PRINTED.as_bytes());
     let counts = FindingCounts {
         links: 3,
         monitors_to: 0,
