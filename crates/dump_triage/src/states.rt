@@ -80,7 +80,8 @@ fn take_count<'a>(counts: &mut BTreeMap<&'a [u8], u64>, procs: &'a Procs, p: usi
 
 // The rows of the states, in the order in which they first appear.
 fn state_rows(alloc: Global, procs: &Procs) -> Result<Vec<Ranked>, AllocError>
-    ensures { IfOk result (λ rows. rows.items ≡ rows_by (count_at_first (state_texts procs.now.processes)) (state_texts procs.now.processes)) }
+    ensures { IfOk result (λ rows. rows.items
+        ≡ rows_by (count_at_first (state_texts procs.now.processes)) (state_texts procs.now.processes)) }
 {
     let mut counts = count_states(alloc, procs)?;
     let mut rows = Vec::new(alloc);

@@ -16,7 +16,8 @@ use Rattle.report_text.specs.Tables.{cell_text, process_end, processes_line}
 
 -- the line of a field of the `memory` section; a line without a colon has none
 abbrev pub memory_line : TextLine → List ℕ
-memory_line line = if has_colon line.text then concat (codes "memory\t" ∷ key_of line.text ∷ tab ∷ value_of line.text ∷ newline ∷ []) else []
+memory_line line =
+    if has_colon line.text then concat (codes "memory\t" ∷ key_of line.text ∷ tab ∷ value_of line.text ∷ newline ∷ []) else []
 
 -- the first lines: those of `info`, the memory of the node, and how many processes there are
 abbrev pub triage_heading : Contents → List ℕ → List ℕ → ProcessTable → List ℕ
@@ -30,14 +31,16 @@ state_count_line processes row = count_line (codes "state\t") (cell_text (proces
 
 -- the line of a process by a number of it: behind a word the number, and which process it is
 abbrev pub process_number_line : List ℕ → Contents → List Process → Ranked → List ℕ
-process_number_line word index processes row = concat (word ∷ decimal row.number ∷ tab ∷ []) ++ process_end index (process_at processes row.place)
+process_number_line word index processes row =
+    concat (word ∷ decimal row.number ∷ tab ∷ []) ++ process_end index (process_at processes row.place)
 
 -- the line of an ETS table by its words, with its id and its name, which are the first and the third of its columns, and the
 -- offset of its section
 abbrev pub table_words_line : List Row → Ranked → List ℕ
 table_words_line rows row =
     let table = row_at rows row.place in
-    concat (codes "ets\t" ∷ decimal row.number ∷ tab ∷ cell_text (cell_at table 0) ∷ tab ∷ cell_text (cell_at table 2) ∷ tab ∷ decimal table.at ∷ newline ∷ [])
+    concat (codes "ets\t" ∷ decimal row.number ∷ tab ∷ cell_text (cell_at table 0) ∷ tab ∷ cell_text (cell_at table 2)
+    ∷ tab ∷ decimal table.at ∷ newline ∷ [])
 
 -- the lines of states, message queues, processes and tables
 abbrev pub triage_rows : Contents → List Process → List Row → Triaged → List ℕ

@@ -61,7 +61,8 @@ fn put_node<K: Sink>(
     memory_body: &[u8],
     procs: &Procs,
 ) -> Result<(), Failed>
-    ensures { Puts (changed K.written K.faults sink.old sink.new) (triage_heading index.now first_body.now memory_body.now procs.now) result }
+    ensures { Puts (changed K.written K.faults sink.old sink.new)
+        (triage_heading index.now first_body.now memory_body.now procs.now) result }
 {
     put_heading(sink, index, first_body)?;
     put_memory(sink, memory_body)?;
@@ -79,7 +80,8 @@ fn put_state_count<K: Sink>(sink: &mut K, procs: &Procs, row: &Ranked) -> Result
 
 fn put_states<K: Sink>(sink: &mut K, procs: &Procs, rows: &[Ranked]) -> Result<(), Failed>
     requires { AreWithin (length procs.now.processes) rows.now }
-    ensures { Puts (changed K.written K.faults sink.old sink.new) (flat_map (state_count_line procs.now.processes) rows.now) result }
+    ensures { Puts (changed K.written K.faults sink.old sink.new)
+        (flat_map (state_count_line procs.now.processes) rows.now) result }
 {
     for row in rows {
         put_state_count(sink, procs, row)?;
@@ -97,7 +99,8 @@ fn put_process_number<K: Sink>(
 ) -> Result<(), Failed>
     requires place { row.now.place < length procs.now.processes }
     requires sections { All (IsIn index.now) procs.now.processes }
-    ensures { Puts (changed K.written K.faults sink.old sink.new) (process_number_line word.now index.now procs.now.processes row.now) result }
+    ensures { Puts (changed K.written K.faults sink.old sink.new)
+        (process_number_line word.now index.now procs.now.processes row.now) result }
 {
     put_pieces(
         sink,
@@ -174,7 +177,8 @@ fn put_triage_rows<K: Sink>(
     requires sections { All (IsIn index.now) procs.now.processes }
     requires width { tables.now.width ≡ 5 }
     requires fits { Fits procs.now.processes tables.now.rows triage.now }
-    ensures { Puts (changed K.written K.faults sink.old sink.new) (triage_rows index.now procs.now.processes tables.now.rows triage.now) result }
+    ensures { Puts (changed K.written K.faults sink.old sink.new)
+        (triage_rows index.now procs.now.processes tables.now.rows triage.now) result }
 {
     put_states(sink, procs, triage.states())?;
     put_process_numbers(sink, b"queue\t", index, procs, triage.queues())?;

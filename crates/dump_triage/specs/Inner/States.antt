@@ -21,4 +21,5 @@ pub record AreCounted (counts : BTreeMap (Bor (List ℕ)) ℕ) (texts : List (Li
 
 -- the same, without those texts that stand in front of a place
 pub record AreLeft (counts : BTreeMap (Bor (List ℕ)) ℕ) (texts : List (List ℕ)) (place : ℕ) : Type 0 where
-  pub each : (text : List ℕ) → counted counts text ≡ (if nat_lt 0 (count_of (take place texts) text) then None else unless_zero (count_of texts text))
+  pub each : (text : List ℕ)
+      → counted counts text ≡ (if nat_lt 0 (count_of (take place texts) text) then None else unless_zero (count_of texts text))
