@@ -10,6 +10,10 @@
 //   bench tuples FILE CELLS           the same with tuples, each inside the one before
 //   bench graph FILE CELLS            the same with tuples, each of which leads to the next one and to another at random
 //   bench binaries FILE CELLS BINS    the same with references to binaries, over so many sections of binaries
+//   bench holders FILE BYTES PROCESSES BINS  writes a dump of so many bytes of heaps and so many processes, of which each has five
+//                                     references to binaries among its heap's lines, over so many sections of binaries
+//   bench repeated FILE BYTES         writes a dump of one process, whose heap is so many bytes of a hundred lines that repeat, ten of
+//                                     them references to binaries
 //   bench links FILE BYTES PROCESSES  writes a dump of so many bytes and processes, each with five links and monitors
 //                                     and a heap
 //   bench lonely FILE PROCESSES       writes a dump of so many processes, each with five links of which the partners know nothing
@@ -120,13 +124,49 @@ static int write_graph(const char *name, long cells) {
     return end_dump(f);
 }
 
+static void write_binary_sections(FILE *f, long bins) {
+    for (long i = 0; i < bins; i++)
+        fprintf(f, "=binary:%lX\n30:QUJDREVGR0hJSktMTU5PUFFSU1RVVldYWVphYmNkZWZnaGlqa2xtbm9wcXJzdHV2\n", i * 16 + 16);
+}
+
 static int write_binaries(const char *name, long cells, long bins) {
     FILE *f = begin_process(name);
     if (!f) return 1;
     for (long i = 0; i < cells; i++)
         fprintf(f, "%012lX:Yc%lX:%lX:8\n", address(i, 0), i % bins * 16 + 16, i % 32);
-    for (long i = 0; i < bins; i++)
-        fprintf(f, "=binary:%lX\n30:QUJDREVGR0hJSktMTU5PUFFSU1RVVldYWVphYmNkZWZnaGlqa2xtbm9wcXJzdHV2\n", i * 16 + 16);
+    write_binary_sections(f, bins);
+    return end_dump(f);
+}
+
+static int write_holders(const char *name, long bytes, long count, long bins) {
+    FILE *f = fopen(name, "w");
+    if (!f) return 1;
+    unsigned long random = 1;
+    long at = fprintf(f, "=erl_crash_dump:0.5\nSlogan: a benchmark\n");
+    for (long i = 1; i <= count; i++) {
+        long until = bytes / count * i;
+        at += fprintf(f, "=proc:<0.%ld.0>\nState: Waiting\nMessage queue length: 0\nMemory: %ld\n", i, 2640 + i % 1000);
+        at += fprintf(f, "=proc_heap:<0.%ld.0>\n", i);
+        for (int k = 0; k < 5; k++) {
+            random = random_after(random);
+            at += fprintf(f, "%012lX:Yc%lX:0:30\n", at, (random >> 20) % bins * 16 + 16);
+        }
+        while (at < until)
+            at += fprintf(f, "%012lX:lI%08ld|H%012lX\n", at, at % 100000000, at + 16);
+    }
+    write_binary_sections(f, bins);
+    return end_dump(f);
+}
+
+static int write_repeated(const char *name, long bytes) {
+    FILE *f = begin_process(name);
+    if (!f) return 1;
+    for (long at = 0, i = 0; at < bytes; i++) {
+        long n = i % 100;
+        at += n % 10 ? fprintf(f, "%012lX:lI%08ld|H%012lX\n", address(n, 0), n, address(n + 1, 0))
+                     : fprintf(f, "%012lX:Yc%lX:0:30\n", address(n, 0), n * 16 + 16);
+    }
+    write_binary_sections(f, 100);
     return end_dump(f);
 }
 
@@ -256,6 +296,8 @@ int main(int count, char **words) {
     if (count == 4 && !strcmp(words[1], "tuples")) return write_tuples(words[2], atol(words[3]));
     if (count == 4 && !strcmp(words[1], "graph")) return write_graph(words[2], atol(words[3]));
     if (count == 5 && !strcmp(words[1], "binaries")) return write_binaries(words[2], atol(words[3]), atol(words[4]));
+    if (count == 6 && !strcmp(words[1], "holders")) return write_holders(words[2], atol(words[3]), atol(words[4]), atol(words[5]));
+    if (count == 4 && !strcmp(words[1], "repeated")) return write_repeated(words[2], atol(words[3]));
     if (count == 5 && !strcmp(words[1], "links")) return write_links(words[2], atol(words[3]), atol(words[4]));
     if (count == 4 && !strcmp(words[1], "lonely")) return write_lonely(words[2], atol(words[3]));
     if (count == 4 && !strcmp(words[1], "star")) return write_star(words[2], atol(words[3]));

@@ -1,7 +1,7 @@
 #!/bin/sh
 # Times `edump index` and `edump info` on a dump of 1 GiB, once with 500,000 and once with 900,000 sections, warm,
-# beside a C loop and grep; then `edump procs` on a dump of 1 GiB with 200,000 processes, beside `edump index`; then the
-# load of heaps, beside the reading of their lines through `heap_line` and `form`, `edump term` beside a program in C that
+# beside a C loop and grep; then `edump procs` and `edump triage` on a dump of 1 GiB with 200,000
+# processes; then the load of heaps, beside the reading of their lines through `heap_line` and `form`, `edump term` beside a program in C that
 # writes the same, and the walk of a term; then the previews of binaries; then an external term, read and written; then
 # `edump audit` beside `edump procs`, and `edump audit-json` beside `edump audit`; and then `edump redact` of a dump of 1 GiB
 # beside `cat`, each into a file that isn't there before. Each command runs in turn for a number of rounds; the script prints
@@ -73,9 +73,11 @@ echo "a dump of 1 GiB with $processes processes, $rounds rounds, $(tail -n 1 "$f
 for _ in $(seq "$rounds"); do
     round index /dev/null "$edump" index "$dump"
     round procs /dev/null "$edump" procs "$dump"
+    round triage /dev/null "$edump" triage "$dump"
 done
 tell index "edump index" index "edump index"
 tell procs "edump procs" index "edump index"
+tell triage "edump triage" procs "edump procs"
 # What the process table takes beside the index and the texts that it keeps.
 for name in index procs; do sort -n -k 2 "$folder/$name.times" | tail -n 1; done |
     awk -v kept="$kept" -v count="$processes" \
@@ -123,6 +125,24 @@ for sections in 10000 100000; do
     echo "a million references to $sections binaries:"
     tell load "load" load "itself"
     tell previews "and previews" load "the load"
+done
+
+# Who holds binaries: a million references in 200,000 heaps, and one heap of 4 GiB.
+for shape in "holders 1073741824 200000 100000" "repeated 4294967296"; do
+    rm -f "$folder"/*.times
+    # shellcheck disable=SC2086
+    "$bench" "${shape%% *}" "$dump" ${shape#* } || exit 1
+    sync "$dump"
+    for _ in $(seq "$rounds"); do
+        round index /dev/null "$edump" index "$dump"
+        round procs /dev/null "$edump" procs "$dump"
+        round triage /dev/null "$edump" triage "$dump"
+        round binaries /dev/null "$edump" binaries "$dump"
+    done
+    echo "a dump of $(wc -c <"$dump") bytes, $shape:"
+    tell index "edump index" index "itself"
+    tell binaries "edump binaries" index "edump index"
+    tell triage "edump triage" procs "edump procs"
 done
 
 # An external term, a list of small tuples: read and written into nothing. As many zeros are none, and are only read from the

@@ -1,12 +1,12 @@
 -- A line that refers to a binary has a mark behind its address, and is short.
-use Rattle.std.proofs.Common.{◌≡◌, ℕ, zero, suc, ◌+◌, ◌-◌, ◌<◌, ◌≤◌, ◌↔◌, Bool, true, false, List, [], ◌∷◌, ◌++◌, length, take, drop, Option, None, Some, if◌then◌else◌, refl, sym, ◌∙◌, ap, subst, arith, append_assoc, length-append}
+use Rattle.std.proofs.Common.{◌≡◌, ℕ, zero, suc, ◌+◌, ◌-◌, ◌<◌, ◌≤◌, ◌==◌, ◌↔◌, Bool, true, false, List, [], ◌∷◌, ◌++◌, length, take, take-take, drop, Option, None, Some, if◌then◌else◌, refl, sym, ◌∙◌, ap, subst, arith, append_assoc, length-append}
 use Rattle.std.specs.Prelude.{codes, nat_eq, slice_index}
 use Rattle.std.specs.List.{concat, ends_with, filter_map, between}
 use Rattle.std.specs.Option.{option_and_then, option_to_list}
 use Rattle.std.proofs.lemmas.Bool.{and_parts, leb-true}
 use Rattle.std.proofs.lemmas.List.{take_all, get_or-take, get_or_append_left, get_or-append-add, take-append-drop, length-take-le, length-take, drop-drop, drop-take}
 use Rattle.std.proofs.lemmas.Option.{cond_some}
-use Rattle.memchr.specs.Find.{OccursAt, Nowhere}
+use Rattle.memchr.specs.Find.{OccursAt, Nowhere, Passes, is_byte}
 use Rattle.dump_io.specs.Laws.Lines.{AreLines-raw}
 use Rattle.dump_io.specs.Laws.Reads.{take-two}
 use Rattle.dump_io.specs.Lines.{lf, cr, raw_lines, text_of}
@@ -189,6 +189,27 @@ module _ (enc : Enc) (leds : AreLed) (forms : AreForms enc) where
   pub unmarked : (bytes : List ℕ) → ((k : ℕ) → OccursAt bytes mark k → ⊥) → line_references enc bytes ≡ []
   unmarked bytes none =
       lines-unmarked (raw_lines bytes) (λ k is. none k (subst (λ l. OccursAt l mark k) (AreLines-raw bytes).together is))
+
+  -- the lines before the first `Y` refer to no binary
+  pub plain : (bytes : List ℕ) → Nowhere (Passes (is_byte 89) bytes) 0 (length bytes) → line_references enc bytes ≡ []
+  plain bytes none =
+      unmarked bytes (λ k is.
+      none (k + 1) (omega arith) (let room = is.fits in omega (arith, room)) (ap (λ c. c == 89) (is.reads 1 (omega arith))))
+
+  pub plain-front : (bytes : List ℕ) (place start : ℕ) → place ≤ length bytes → Nowhere (Passes (is_byte 89) bytes) 0 place → start ≤ place
+      → AreWhole (take start (take place bytes)) → line_references enc (drop start bytes) ≡ line_references enc bytes
+  plain-front bytes place start inside before within whole =
+      let front = take start (take place bytes) in
+      let unseen : line_references enc front ≡ [] =
+      unmarked front (λ k is.
+      let here = occurs-take place k bytes mark (occurs-take start k (take place bytes) mark is) in
+      before (k + 1) (omega arith) (let room = is.fits in omega (arith, room, length-take start (take place bytes), within)) (ap (λ c. c == 89) (here.reads 1 (omega arith)))) in
+      let same : front ≡ take start bytes = take-take start place bytes within in
+      sym (
+        ap (line_references enc) (sym (take-append-drop start bytes) ∙ ap (λ l. l ++ drop start bytes) (sym same))
+            ∙ references-whole enc front (drop start bytes) whole
+            ∙ ap (λ l. l ++ line_references enc (drop start bytes)) unseen
+      )
 
   -- ---- the first line with the mark
 

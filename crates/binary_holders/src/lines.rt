@@ -50,9 +50,22 @@ fn line_len(bytes: &[u8]) -> usize
     }
 }
 
-/// Looks for the first line with the mark, and gives the number to which it refers, where it does, and the bytes behind it.
-/// No line before that one refers to a binary, and where there is none no line does.
-pub(crate) fn next_reference<'a>(
+// The lines from the first one on in which a `Y` stands. No line before it refers to a binary, since the form of one that does
+// begins with that letter, and few other lines have it.
+fn skip_plain(bytes: &[u8], enc: Enc) -> &[u8]
+    ensures same { line_references enc result.now ≡ line_references enc bytes.now }
+    ensures within { length result.now ≤ length bytes.now }
+{
+    number_is_read();
+    form_is_read(enc);
+    match memchr(b'Y', bytes) {
+        Some(place) => &bytes[line_start(&bytes[..place])..],
+        None => b"",
+    }
+}
+
+// The same, line by line from the first one on.
+fn next_marked<'a>(
     mark: &Finder<'_>,
     bytes: &'a [u8],
     enc: Enc,
@@ -69,4 +82,20 @@ pub(crate) fn next_reference<'a>(
     let end = at + line_len(&bytes[at..]);
     let number = text_reference(line_text(&bytes[start..end]), enc);
     Some((number, &bytes[end..]))
+}
+
+/// Looks for the first line with the mark, and gives the number to which it refers, where it does, and the bytes behind it.
+/// No line before that one refers to a binary, and where there is none no line does. The lines before the first one with a `Y`
+/// are passed over at once.
+pub(crate) fn next_reference<'a>(
+    mark: &Finder<'_>,
+    bytes: &'a [u8],
+    enc: Enc,
+) -> Option<(Option<u64>, &'a [u8])>
+    requires { mark.now ≡ codes ":Yc" }
+    ensures found { IfSome result (λ found. line_references enc bytes.now ≡ option_to_list found.0 ++ line_references enc found.1.now) }
+    ensures shorter { IfSome result (λ found. length found.1.now < length bytes.now) }
+    ensures none { IfNone result (line_references enc bytes.now ≡ []) }
+{
+    next_marked(mark, skip_plain(bytes, enc), enc)
 }

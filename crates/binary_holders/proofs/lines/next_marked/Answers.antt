@@ -6,7 +6,7 @@ use Rattle.dump_io.specs.Lines.{raw_lines}
 use Rattle.memchr.specs.Find.{OccursAt, Nowhere}
 use Rattle.binary_holders.specs.Inner.Lines.{line_references, line_reference, text_reference}
 use Rattle.binary_holders.proofs.MarkFacts.{unmarked, marked, mark}
-use Rattle.binary_holders.proofs.lines.next_reference.Goals as goal
+use Rattle.binary_holders.proofs.lines.next_marked.Goals as goal
 
 pub returns-in_err-at-clause-none : goal.returns-in_err-at-clause-none
 returns-in_err-at-clause-none c =
