@@ -206,9 +206,9 @@ module _ (enc : Enc) (leds : AreLed) (forms : AreForms enc) where
       before (k + 1) (omega arith) (let room = is.fits in omega (arith, room, length-take start (take place bytes), within)) (ap (λ c. c == 89) (here.reads 1 (omega arith)))) in
       let same : front ≡ take start bytes = take-take start place bytes within in
       sym (
-        ap (line_references enc) (sym (take-append-drop start bytes) ∙ ap (λ l. l ++ drop start bytes) (sym same))
-            ∙ references-whole enc front (drop start bytes) whole
-            ∙ ap (λ l. l ++ line_references enc (drop start bytes)) unseen
+      ap (line_references enc) (sym (take-append-drop start bytes) ∙ ap (λ l. l ++ drop start bytes) (sym same))
+      ∙ references-whole enc front (drop start bytes) whole
+      ∙ ap (λ l. l ++ line_references enc (drop start bytes)) unseen
       )
 
   -- ---- the first line with the mark

@@ -65,11 +65,7 @@ fn skip_plain(bytes: &[u8], enc: Enc) -> &[u8]
 }
 
 // The same, line by line from the first one on.
-fn next_marked<'a>(
-    mark: &Finder<'_>,
-    bytes: &'a [u8],
-    enc: Enc,
-) -> Option<(Option<u64>, &'a [u8])>
+fn next_marked<'a>(mark: &Finder<'_>, bytes: &'a [u8], enc: Enc) -> Option<(Option<u64>, &'a [u8])>
     requires { mark.now ≡ codes ":Yc" }
     ensures found { IfSome result (λ found. line_references enc bytes.now ≡ option_to_list found.0 ++ line_references enc found.1.now) }
     ensures shorter { IfSome result (λ found. length found.1.now < length bytes.now) }

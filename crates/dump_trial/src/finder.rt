@@ -20,11 +20,7 @@ fn find_heaps(alloc: Global, index: &Index) -> Result<FirstSections<'_>, AllocEr
 }
 
 // The first sections with the roots of a kind.
-fn find_roots(
-    alloc: Global,
-    index: &Index,
-    kind: RootKind,
-) -> Result<FirstSections<'_>, AllocError>
+fn find_roots(alloc: Global, index: &Index, kind: RootKind) -> Result<FirstSections<'_>, AllocError>
     ensures { IfOk result (λ found. found ≡ firsts index.now (roots_tag kind)) }
 {
     FirstSections::find(alloc, index, kind.tag())

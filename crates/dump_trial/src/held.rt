@@ -104,7 +104,14 @@ impl Held {
     {
         let place = finder.heap(pid);
         let literals = finder.literals();
-        match Heap::load_at(alloc, &mut self.dumps, finder.index(), place, literals, &self.limits) {
+        match Heap::load_at(
+            alloc,
+            &mut self.dumps,
+            finder.index(),
+            place,
+            literals,
+            &self.limits,
+        ) {
             Ok(heap) => Ok(heap),
             Err(fault) => Err(only_memory::of_heap(fault)),
         }

@@ -17,9 +17,9 @@ use dump_io::{Dumps, Sink};
 use etf_terms::judge;
 use heap_cells::{Heap, Seat};
 use report_text::Refusal;
-use term_text::put_ext;
 use std::alloc::{AllocError, Global};
 use term_forms::shapes::Form;
+use term_text::put_ext;
 
 #[derive(Clone, Copy)]
 pub(crate) struct Ext<'a> {

@@ -16,9 +16,9 @@ use crate::status::DONE;
 use crate::stop::Stop;
 use dump_io::{Dumps, Sink};
 use heap_cells::Heap;
-use term_text::{add_roots, put_reach};
 use root_views::RootKind;
 use section_index::BodyFault;
+use term_text::{add_roots, put_reach};
 
 #[derive(Clone, Copy)]
 pub(crate) struct Reach<'a> {

@@ -13,8 +13,8 @@ use crate::stop::Stop;
 use binary_refs::Previews;
 use dump_io::{Dumps, Sink};
 use heap_cells::Heap;
-use term_text::put_roots;
 use root_views::RootKind;
+use term_text::put_roots;
 use term_unfold::Walker;
 
 #[derive(Clone, Copy)]
