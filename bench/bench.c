@@ -12,8 +12,8 @@
 //   bench binaries FILE CELLS BINS    the same with references to binaries, over so many sections of binaries
 //   bench holders FILE BYTES PROCESSES BINS  writes a dump of so many bytes of heaps and so many processes, of which each has five
 //                                     references to binaries among its heap's lines, over so many sections of binaries
-//   bench repeated FILE BYTES         writes a dump of one process, whose heap is so many bytes of a hundred lines that repeat, ten of
-//                                     them references to binaries
+//   bench repeated FILE BYTES         writes a dump of one process, whose heap is so many bytes of a hundred lines that repeat, four
+//                                     of them references to binaries
 //   bench links FILE BYTES PROCESSES  writes a dump of so many bytes and processes, each with five links and monitors
 //                                     and a heap
 //   bench lonely FILE PROCESSES       writes a dump of so many processes, each with five links of which the partners know nothing
@@ -163,7 +163,7 @@ static int write_repeated(const char *name, long bytes) {
     if (!f) return 1;
     for (long at = 0, i = 0; at < bytes; i++) {
         long n = i % 100;
-        at += n % 10 ? fprintf(f, "%012lX:lI%08ld|H%012lX\n", address(n, 0), n, address(n + 1, 0))
+        at += n % 25 ? fprintf(f, "%012lX:lI%08ld|H%012lX\n", address(n, 0), n, address(n + 1, 0))
                      : fprintf(f, "%012lX:Yc%lX:0:30\n", address(n, 0), n * 16 + 16);
     }
     write_binary_sections(f, 100);

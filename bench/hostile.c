@@ -19,6 +19,9 @@
 //   hostile nested FILE N     an external term of N lists of one element, each in the one before
 //   hostile counts FILE N     N external tuples that want as many elements as a tuple can, of which one stands there
 //   hostile quoted FILE N     an external term of N atoms of as many bytes as an atom can have, each of which is quoted
+//   hostile letters FILE N    a heap of N lines that are the letter with which references to binaries begin
+//   hostile states FILE N     N processes, each in a state of its own, all of which begin with the same hundred bytes
+//   hostile numbers FILE N    N sections of one binary, and a heap with as many references to it
 #include <stdio.h>
 #include <stdlib.h>
 #include <string.h>
@@ -204,6 +207,21 @@ static void star(FILE *f, long count) {
     for (long i = 2; i <= count; i++) fprintf(f, "=proc:<0.%ld.0>\nLink list: [<0.1.0>]\n", i);
 }
 
+static void letters(FILE *f, long count) {
+    put_heap(f);
+    for (long i = 0; i < count; i++) fputs(plain ? "X\n" : "Y\n", f);
+}
+
+static void states(FILE *f, long count) {
+    for (long i = 0; i < count; i++) fprintf(f, "=proc:<0.%ld.0>\nState: %0100d%08ld\n", i + 1, 0, plain ? 0 : i);
+}
+
+static void numbers(FILE *f, long count) {
+    put_heap(f);
+    for (long i = 0; i < count; i++) fprintf(f, "%012lX:Yc%lX:0:3\n", 16 * (i + 1), plain ? i + 1 : 1);
+    for (long i = 0; i < count; i++) fprintf(f, "=binary:%lX\n3:AAAA\n", plain ? i + 1 : 1);
+}
+
 // A heap of one cell of these bytes, in base64.
 static void put_external(FILE *f, const unsigned char *bytes, long count) {
     static const char digits[] = "ABCDEFGHIJKLMNOPQRSTUVWXYZabcdefghijklmnopqrstuvwxyz0123456789+/";
@@ -282,6 +300,7 @@ static const struct {
     {"pids", pids}, {"tags", tags}, {"mailboxes", mailboxes}, {"kinds", kinds}, {"payload", payload}, {"external", external},
     {"subs", subs}, {"address", one_address}, {"falling", falling}, {"commas", commas}, {"equals", equals}, {"roots", roots},
     {"one_pid", one_pid}, {"star", star}, {"nested", nested}, {"counts", counts}, {"quoted", quoted},
+    {"letters", letters}, {"states", states}, {"numbers", numbers},
 };
 
 int main(int count, char **words) {

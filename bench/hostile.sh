@@ -1,9 +1,10 @@
 #!/bin/sh
 # Times every command on dumps that someone wrote to make a reader slow, beside an ordinary dump with as many processes,
-# sections, entries, roots or bytes of a heap, and on dumps of the same shapes twice as large. A row has the shape, the command, the seconds on the hostile dump, the seconds on
-# the ordinary one and how many times these that is, and how many times the seconds the larger dump takes. Behind a row
-# stands `SLOW` where it takes more than 5 times as long as the ordinary one, or more than 2.3 times as long twice as large;
-# what takes less than a twentieth of a second isn't told from the start of a program, and is passed over.
+# sections, entries, roots or bytes of a heap, and on dumps of the same shapes twice as large. A row has the shape, the command,
+# the seconds on the hostile dump, the seconds on the ordinary one and how many times these that is, and how many times the
+# seconds the larger dump takes. Behind a row stands `SLOW` where it takes more than 5 times as long as the ordinary one, or more
+# than 2.3 times as long twice as large; what takes less than a twentieth of a second isn't told from the start of a program, and
+# is passed over.
 #
 #   bench/hostile.sh [ROUNDS]
 #
@@ -48,7 +49,7 @@ shape() {
     "$folder/hostile" "$1" "$folder/once" "$2" || exit 1
     "$folder/hostile" plain "$1" "$folder/plain" "$2" || exit 1
     "$folder/hostile" "$1" "$folder/twice" $((2 * $2)) || exit 1
-    for command in index info procs memory ets ports nodes mods links redact; do
+    for command in index info procs memory ets ports nodes mods links redact binaries triage; do
         tell "$1" "$command"
     done
     tell "$1" audit 5
@@ -61,7 +62,9 @@ shape() {
     tell "$1" term "<0.1.0>" 10
     tell "$1" ext "<0.1.0>" 10
     tell "$1" reach "<0.1.0>"
+    tell "$1" cells "<0.1.0>"
     tell "$1" binary 10
+    tell "$1" holders 1
 }
 
 shape pids 100000
@@ -81,4 +84,7 @@ shape star 200000
 shape nested 2000000
 shape counts 2000000
 shape quoted 200
+shape letters 10000000
+shape states 200000
+shape numbers 500000
 exit "$slow"

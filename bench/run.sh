@@ -1,16 +1,17 @@
 #!/bin/sh
 # Times `edump index` and `edump info` on a dump of 1 GiB, once with 500,000 and once with 900,000 sections, warm,
-# beside a C loop and grep; then `edump procs` and `edump triage` on a dump of 1 GiB with 200,000
-# processes; then the load of heaps, beside the reading of their lines through `heap_line` and `form`, `edump term` beside a program in C that
-# writes the same, and the walk of a term; then the previews of binaries; then an external term, read and written; then
-# `edump audit` beside `edump procs`, and `edump audit-json` beside `edump audit`; and then `edump redact` of a dump of 1 GiB
-# beside `cat`, each into a file that isn't there before. Each command runs in turn for a number of rounds; the script prints
-# its median in seconds, how many times that of another this is, and the most memory that it had.
+# beside a C loop and grep; then `edump procs` and `edump triage` on a dump of 1 GiB with 200,000 processes, beside `edump
+# index`; then the load of heaps, beside the reading of their lines through `heap_line` and `form`, `edump term` beside a program
+# in C that writes the same, and the walk of a term; then the previews of binaries, and `edump binaries` beside `edump index`;
+# then an external term, read and written; then `edump audit` beside `edump procs`, and `edump audit-json` beside `edump audit`;
+# and then `edump redact` of a dump of 1 GiB beside `cat`, each into a file that isn't there before. Each command runs in turn for
+# a number of rounds; the script prints its median in seconds, how many times that of another this is, and the most memory that it
+# had.
 #
 #   bench/run.sh [ROUNDS]
 #
 # grep's output goes into a file, since grep stops at the first match where it is thrown away. The script writes its
-# files into a folder of its own, which needs 2.2 GB, and removes them afterwards.
+# files into a folder of its own, which needs 4.3 GB, and removes them afterwards.
 rounds=${1:-20}
 here=$(CDPATH= cd -- "$(dirname -- "$0")" && pwd) || exit 1
 folder=$(mktemp -d) || exit 1
