@@ -5,7 +5,7 @@ use Rattle.std.specs.Bool.{then_some}
 use Rattle.std.specs.Global.{Vec}
 use Rattle.std.specs.Option.{option_map, option_or}
 use Rattle.std.proofs.lemmas.List.{length-map}
-use Rattle.dump_io.specs.Dumps.{Use, DeviceFailed}
+use Rattle.dump_io.specs.Dumps.{DeviceState, DeviceFailed}
 use Rattle.section_index.specs.Bodies.{body_length}
 use Rattle.section_index.specs.Index.{Contents, sections_in}
 use Rattle.section_index.specs.Sections.{Section}
@@ -55,28 +55,28 @@ none-large limit ss none = by (first_large limit ss) none
     by (Some s) is = absurd (let no : ⊥ = cc (is) in no)
 
 -- bodies of which none is too large aren't loaded where the device fails or memory lacks
-pub IsUncounted-small : (limit : ℕ) (ss : List Section) (device : Use) (fault : BodyFault) → first_large limit ss ≡ None → AreRefused ss limit device fault → IsUncounted device fault
-IsUncounted-small limit ss device Read none cause = inl (refl, cause.0)
-IsUncounted-small limit ss device Memory none cause = inr refl
-IsUncounted-small limit ss device (SectionTooLarge at len) none cause = absurd (let no : ⊥ = cc (sym (ap (option_map fault_of) none) ∙ cause) in no)
+pub IsUncounted-small : (limit : ℕ) (ss : List Section) (before after : DeviceState) (fault : BodyFault) → first_large limit ss ≡ None → AreRefused ss limit before after fault → IsUncounted before after fault
+IsUncounted-small limit ss before after Read none cause = inl (refl, cause.0)
+IsUncounted-small limit ss before after Memory none cause = inr refl
+IsUncounted-small limit ss before after (SectionTooLarge at len) none cause = absurd (let no : ⊥ = cc (sym (ap (option_map fault_of) none) ∙ cause) in no)
 
 -- the first of them that is too large is why they aren't loaded
-pub AreRefused-large : (limit : ℕ) (ss : List Section) (device : Use) (fault : BodyFault) → large_fault limit ss ≡ Some fault → AreRefused ss limit device fault
-AreRefused-large limit ss device (SectionTooLarge at len) is = is
-AreRefused-large limit ss device Memory is = tt
-AreRefused-large limit ss device Read is = absurd (unlike (first_large limit ss) is)
+pub AreRefused-large : (limit : ℕ) (ss : List Section) (before after : DeviceState) (fault : BodyFault) → large_fault limit ss ≡ Some fault → AreRefused ss limit before after fault
+AreRefused-large limit ss before after (SectionTooLarge at len) is = is
+AreRefused-large limit ss before after Memory is = tt
+AreRefused-large limit ss before after Read is = absurd (unlike (first_large limit ss) is)
   where
     unlike : (o : Option Section) → option_map fault_of o ≡ Some Read → ⊥
     unlike None is = let no : ⊥ = cc (is) in no
     unlike (Some s) is = let no : ⊥ = cc (is) in no
 
-pub AreRefused-small : (limit : ℕ) (ss : List Section) (device : Use) (fault : BodyFault) → first_large limit ss ≡ None → IsUncounted device fault → AreRefused ss limit device fault
-AreRefused-small limit ss device fault none (inl cause) = subst (AreRefused ss limit device) (sym cause.0) (cause.1, none)
-AreRefused-small limit ss device fault none (inr is) = subst (AreRefused ss limit device) (sym is) tt
+pub AreRefused-small : (limit : ℕ) (ss : List Section) (before after : DeviceState) (fault : BodyFault) → first_large limit ss ≡ None → IsUncounted before after fault → AreRefused ss limit before after fault
+AreRefused-small limit ss before after fault none (inl cause) = subst (AreRefused ss limit before after) (sym cause.0) (cause.1, none)
+AreRefused-small limit ss before after fault none (inr is) = subst (AreRefused ss limit before after) (sym is) tt
 
-pub IsUncounted-later : (step device : Use) (fault : BodyFault) → (DeviceFailed step → DeviceFailed device) → IsUncounted step fault → IsUncounted device fault
-IsUncounted-later step device fault later (inl cause) = inl (cause.0, later cause.1)
-IsUncounted-later step device fault later (inr is) = inr is
+pub IsUncounted-later : (step step' before after : DeviceState) (fault : BodyFault) → (DeviceFailed step step' → DeviceFailed before after) → IsUncounted step step' fault → IsUncounted before after fault
+IsUncounted-later step step' before after fault later (inl cause) = inl (cause.0, later cause.1)
+IsUncounted-later step step' before after fault later (inr is) = inr is
 
 -- the pids that were found are those of the process table
 pub pids-found : (found : ProcPlaces) (sections : List Section) → found ≡ proc_places sections → map (λ (p : List ℕ × ℕ). p.0) found.places ≡ pids_in sections

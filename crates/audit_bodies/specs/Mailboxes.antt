@@ -11,15 +11,15 @@ use Rattle.process_table.specs.Records.{record_sections, records, pid_of}
 use Rattle.root_views.specs.Roots.{message_count}
 use Rattle.dump_audit.specs.Findings.{is_cut}
 
--- the section at a place, and past the last one an empty section
+-- the section at a place; past the last one, an empty section
 abbrev pub section_in : List Section → ℕ → Section
 section_in sections place = unwrap_or (slice_get sections place) (section 0 0 0 [])
 
--- the place of a process's mailbox: of the sections with messages the first whose id is its pid
+-- the place of a process's mailbox: the first of the sections with messages whose id is its pid
 abbrev pub mailbox_place : List Section → List ℕ → Option ℕ
 mailbox_place sections pid = position (λ s. is_named (codes "proc_messages") (Some pid) s.text) sections
 
--- the pids of the process table, and the places of the mailboxes of its processes
+-- the pids of the process table
 abbrev pub pids_in : List Section → List (List ℕ)
 pids_in sections = map (λ r. pid_of r.1) (records sections)
 
@@ -31,21 +31,21 @@ mailbox_places sections = map (mailbox_place sections) (pids_in sections)
 abbrev pub mailboxes_at : List Section → List (Option ℕ) → List Section
 mailboxes_at sections places = filter_map (option_map (section_in sections)) places
 
--- how many messages the mailbox at a place has, unless the dump breaks off in it
+-- how many messages the mailbox at a place has, unless the dump is truncated in it
 abbrev pub mail_at : List ℕ → State → List Section → ℕ → Option ℕ
 mail_at bytes state sections place =
     if is_cut state place then None
     else Some (message_count (between (section_in sections place).body (section_in sections place).end bytes))
 
--- the same where there is a mailbox
+-- the same if there is a mailbox
 abbrev pub mail_in : List ℕ → State → List Section → Option ℕ → Option ℕ
 mail_in bytes state sections place = option_and_then (mail_at bytes state sections) place
 
--- for each process of the table how many messages it has, where that is known
+-- for each process of the table, how many messages it has, if that is known
 abbrev pub mails : List ℕ → List (Option ℕ)
 mails bytes = map (mail_in bytes (state_of (headers bytes)) (sections bytes)) (mailbox_places (sections bytes))
 
--- the bodies of an audit: those of the processes, and in a full audit their mailboxes, in the same order
+-- the sections with the mailboxes, in a full audit, in the order of their processes
 abbrev pub more_sections : Bool → List Section → List Section
 more_sections full sections = if full then mailboxes_at sections (mailbox_places sections) else []
 

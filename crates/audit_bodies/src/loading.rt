@@ -1,7 +1,7 @@
 // The bodies of an audit: all of them are judged on the index before one is read.
 ghost use Rattle.std.specs.Prelude.{◌≡◌, ℕ, List, [], ◌++◌, length, map, All, Some, None, ◌<◌, IfOk, IfErr, IsSome, OnOk, if◌then◌else◌};
 ghost use Rattle.std.specs.Option.{option_map};
-ghost use Rattle.dump_io.specs.Dumps.{told, used, ReadsAtMost};
+ghost use Rattle.dump_io.specs.Dumps.{told, ReadsAtMost};
 ghost use Rattle.section_index.specs.Index.{IsBuiltOver, sections_in, state_of};
 ghost use Rattle.section_rows.specs.Loading.{bodies_length, first_large, large_fault, sections_at, AreRefused};
 ghost use Rattle.process_table.specs.Processes.{process_table};
@@ -19,8 +19,8 @@ use section_index::{BodyFault, Index};
 use section_rows::large;
 use std::alloc::{AllocError, Global};
 
-// The bodies of an audit, as the index tells them: the sections of the processes, the mailbox of each process, where they
-// are counted, and those of them that are there.
+// The bodies of an audit, from the index: the sections of the processes; for a
+// full audit, the mailbox of each process; and those mailboxes that are there.
 #[derive(Drop)]
 struct BodyPlaces {
     found: ProcSections,
@@ -33,12 +33,12 @@ struct BodyPlaces {
 pub struct AuditBodies {
     /// The process table.
     pub procs: Procs,
-    /// For each process of the table the number of messages in its mailbox. It is unknown where there is no mailbox, and
-    /// where the dump breaks off in it.
+    /// In a full audit, for each process of the table the number of messages in its mailbox, which is
+    /// unknown if there is no mailbox, or if the dump is truncated in it. In any other audit `None`.
     pub mails: Option<Vec<Option<u64>>>,
 }
 
-// The mailboxes of the processes, for a full audit. Another one counts none.
+// The mailboxes of the processes, for a full audit. Any other audit counts none.
 fn find_mailboxes(
     alloc: Global,
     index: &Index,
@@ -69,7 +69,7 @@ fn find_places(alloc: Global, index: &Index, full: bool) -> Result<BodyPlaces, A
     })
 }
 
-// The refusal of the first body that is too large. The sections of all processes stand before their mailboxes.
+// The refusal of the first body that is too large. The sections of all processes come before their mailboxes.
 fn large_body(index: &Index, places: &BodyPlaces, limits: &Limits) -> Option<BodyFault>
     requires found { places.now.found ≡ proc_places (sections_in index.now) }
     requires present { sections_at index.now places.now.present.items ≡ mailboxes_at (sections_in index.now) places.now.mailboxes.items }
@@ -83,7 +83,7 @@ fn large_body(index: &Index, places: &BodyPlaces, limits: &Limits) -> Option<Bod
     large(index, places.present.as_slice(), limits)
 }
 
-// Reads the bodies of an audit, of which none is too large, one after another.
+// Reads the bodies of an audit, none of which is too large, one after another.
 fn read_bodies<D: Dumps>(
     alloc: Global,
     dumps: &mut D,
@@ -92,15 +92,15 @@ fn read_bodies<D: Dumps>(
     full: bool,
     limits: &Limits,
 ) -> Result<AuditBodies, BodyFault>
-    requires over { IsBuiltOver (D.now dumps.old) index.now }
+    requires over { IsBuiltOver (D.state dumps.old).now index.now }
     requires places { AreBodyPlaces full index.now places }
     requires small { large_fault limits.now.section (record_sections (sections_in index.now) ++ mailboxes_at (sections_in index.now) places.mailboxes.items) ≡ None }
-    ensures reads { ReadsAtMost (used D.files D.now D.faults D.taken dumps.old dumps.new) (bodies_length (record_sections (sections_in index.now) ++ mailboxes_at (sections_in index.now) places.mailboxes.items)) }
-    ensures table { IfOk result (λ read. (bytes : List ℕ) → D.now dumps.old ≡ told bytes → read.procs ≡ process_table bytes) }
-    ensures counts { IfOk result (λ read. (bytes : List ℕ) → D.now dumps.old ≡ told bytes → option_map (λ counts. counts.items) read.mails
+    ensures reads { ReadsAtMost (D.state dumps.old) (D.state dumps.new) (bodies_length (record_sections (sections_in index.now) ++ mailboxes_at (sections_in index.now) places.mailboxes.items)) }
+    ensures table { IfOk result (λ read. (bytes : List ℕ) → (D.state dumps.old).now ≡ told bytes → read.procs ≡ process_table bytes) }
+    ensures counts { IfOk result (λ read. (bytes : List ℕ) → (D.state dumps.old).now ≡ told bytes → option_map (λ counts. counts.items) read.mails
         ≡ (if full then Some (map (mail_in bytes (state_of index.now.headers) (sections_in index.now)) (mailbox_places (sections_in index.now))) else None)) }
     ensures auditable { IfOk result (IsAuditable index.now) }
-    ensures fault { IfErr result (IsUncounted (used D.files D.now D.faults D.taken dumps.old dumps.new)) }
+    ensures fault { IfErr result (IsUncounted (D.state dumps.old) (D.state dumps.new)) }
 {
     let procs = Procs::read(alloc, dumps, index, places.found, limits)?;
     let counts = count_messages(alloc, dumps, index, places.mailboxes.as_slice(), limits)?;
@@ -111,13 +111,14 @@ fn read_bodies<D: Dumps>(
 }
 
 impl AuditBodies {
-    /// Finds the bodies of an audit on an index, judges them all, and then reads them one after another; in a full audit
-    /// the mailboxes of the processes stand behind their sections. The index is one that was built over the file that is
-    /// open, and the file stays open.
+    /// Finds the bodies of an audit on an index, judges them all, and then reads them
+    /// one after another; in a full audit the mailboxes of the processes come after the
+    /// processes' sections. The index was built over the open file, which stays open.
     ///
-    /// `SectionTooLarge` comes exactly where one of these bodies has more bytes than the limit on sections, unless `Memory`
-    /// comes; it names the first such body, and nothing is read then. `Read` comes only where the device's count of faults
-    /// rose; `Memory` may come at any growth. At most as many bytes are read as the bodies have together.
+    /// Returns `SectionTooLarge` exactly when one of these bodies has more bytes than the limit
+    /// on a section's body, unless it returns `Memory`; it names the first such body, and
+    /// nothing is read then. Returns `Read` only if the device's count of faults rose; `Memory`
+    /// may come from any allocation. At most as many bytes are read as the bodies have together.
     pub fn load<D: Dumps>(
         alloc: Global,
         dumps: &mut D,
@@ -125,14 +126,14 @@ impl AuditBodies {
         full: bool,
         limits: &Limits,
     ) -> Result<AuditBodies, BodyFault>
-        requires { IsBuiltOver (D.now dumps.old) index.now }
-        ensures reads { ReadsAtMost (used D.files D.now D.faults D.taken dumps.old dumps.new) (bodies_length (audited_sections full (sections_in index.now))) }
-        ensures table { IfOk result (λ read. (bytes : List ℕ) → D.now dumps.old ≡ told bytes → read.procs ≡ process_table bytes) }
-        ensures counts { IfOk result (λ read. (bytes : List ℕ) → D.now dumps.old ≡ told bytes → option_map (λ counts. counts.items) read.mails
+        requires { IsBuiltOver (D.state dumps.old).now index.now }
+        ensures reads { ReadsAtMost (D.state dumps.old) (D.state dumps.new) (bodies_length (audited_sections full (sections_in index.now))) }
+        ensures table { IfOk result (λ read. (bytes : List ℕ) → (D.state dumps.old).now ≡ told bytes → read.procs ≡ process_table bytes) }
+        ensures counts { IfOk result (λ read. (bytes : List ℕ) → (D.state dumps.old).now ≡ told bytes → option_map (λ counts. counts.items) read.mails
             ≡ (if full then Some (map (mail_in bytes (state_of index.now.headers) (sections_in index.now)) (mailbox_places (sections_in index.now))) else None)) }
         ensures auditable { IfOk result (IsAuditable index.now) }
         ensures loaded { OnOk result (first_large limits.now.section (audited_sections full (sections_in index.now)) ≡ None) }
-        ensures fault { IfErr result (AreRefused (audited_sections full (sections_in index.now)) limits.now.section (used D.files D.now D.faults D.taken dumps.old dumps.new)) }
+        ensures fault { IfErr result (AreRefused (audited_sections full (sections_in index.now)) limits.now.section (D.state dumps.old) (D.state dumps.new)) }
         ensures unread { IsSome (first_large limits.now.section (audited_sections full (sections_in index.now))) → dumps.new ≡ dumps.old }
     {
         let Ok(places) = find_places(alloc, index, full) else {

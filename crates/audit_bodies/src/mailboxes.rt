@@ -1,4 +1,4 @@
-// The mailboxes of processes: of the sections with messages the first of each pid.
+// The mailboxes of processes: the first of the sections with messages of each pid.
 ghost use Rattle.std.specs.Prelude.{◌≡◌, ◌<◌, length, map, All, IfOk};
 ghost use Rattle.section_index.specs.Index.{sections_in};
 ghost use Rattle.section_rows.specs.Loading.{sections_at};

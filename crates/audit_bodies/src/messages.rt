@@ -1,6 +1,6 @@
-// The messages of processes are counted, one mailbox after another.
+// Counting the messages of processes, one mailbox after another.
 ghost use Rattle.std.specs.Prelude.{◌≡◌, ℕ, List, [], ◌∷◌, ◌<◌, ◌≤◌, length, map, All, IfOk, IfErr};
-ghost use Rattle.dump_io.specs.Dumps.{told, used, ReadsAtMost};
+ghost use Rattle.dump_io.specs.Dumps.{told, ReadsAtMost};
 ghost use Rattle.section_index.specs.Bodies.{section_at, body_length};
 ghost use Rattle.section_index.specs.Index.{IsBuiltOver, sections_in, state_of};
 ghost use Rattle.section_rows.specs.Loading.{bodies_length};
@@ -13,7 +13,7 @@ use root_views::messages;
 use section_index::{BodyFault, Index, State, read_body};
 use std::alloc::Global;
 
-// Whether the dump breaks off in the section at a place.
+// Whether the dump is truncated in the section at a place.
 fn is_cut(index: &Index, i: usize) -> bool
     ensures { result ≡ is_cut (state_of index.now.headers) i }
 {
@@ -23,7 +23,8 @@ fn is_cut(index: &Index, i: usize) -> bool
     }
 }
 
-// Loads the mailbox at a place, counts its messages, and lets it go. One in which the dump breaks off isn't counted.
+// Loads the mailbox at a place, counts its messages, and
+// frees it. If the dump is truncated in it, it isn't counted.
 fn count_at<D: Dumps>(
     alloc: Global,
     dumps: &mut D,
@@ -31,12 +32,12 @@ fn count_at<D: Dumps>(
     i: usize,
     limits: &Limits,
 ) -> Result<Option<u64>, BodyFault>
-    requires over { IsBuiltOver (D.now dumps.old) index.now }
+    requires over { IsBuiltOver (D.state dumps.old).now index.now }
     requires place { i < length index.now.headers }
     requires small { body_length (section_at index.now i) ≤ limits.now.section }
-    ensures reads { ReadsAtMost (used D.files D.now D.faults D.taken dumps.old dumps.new) (body_length (section_at index.now i)) }
-    ensures count { IfOk result (λ count. (bytes : List ℕ) → D.now dumps.old ≡ told bytes → count ≡ mail_at bytes (state_of index.now.headers) (sections_in index.now) i) }
-    ensures fault { IfErr result (IsUncounted (used D.files D.now D.faults D.taken dumps.old dumps.new)) }
+    ensures reads { ReadsAtMost (D.state dumps.old) (D.state dumps.new) (body_length (section_at index.now i)) }
+    ensures count { IfOk result (λ count. (bytes : List ℕ) → (D.state dumps.old).now ≡ told bytes → count ≡ mail_at bytes (state_of index.now.headers) (sections_in index.now) i) }
+    ensures fault { IfErr result (IsUncounted (D.state dumps.old) (D.state dumps.new)) }
 {
     if is_cut(index, i) {
         return Ok(None);
@@ -45,7 +46,7 @@ fn count_at<D: Dumps>(
     Ok(Some(messages(body.as_slice())))
 }
 
-// The same of a process that may have no mailbox.
+// The same for a process that may have no mailbox.
 fn count_in<D: Dumps>(
     alloc: Global,
     dumps: &mut D,
@@ -53,12 +54,12 @@ fn count_in<D: Dumps>(
     place: Option<usize>,
     limits: &Limits,
 ) -> Result<Option<u64>, BodyFault>
-    requires over { IsBuiltOver (D.now dumps.old) index.now }
+    requires over { IsBuiltOver (D.state dumps.old).now index.now }
     requires within { IsWithin index.now place }
     requires small { IsSmall index.now limits.now.section place }
-    ensures reads { ReadsAtMost (used D.files D.now D.faults D.taken dumps.old dumps.new) (bodies_length (mailboxes_at (sections_in index.now) (place ∷ []))) }
-    ensures count { IfOk result (λ count. (bytes : List ℕ) → D.now dumps.old ≡ told bytes → count ≡ mail_in bytes (state_of index.now.headers) (sections_in index.now) place) }
-    ensures fault { IfErr result (IsUncounted (used D.files D.now D.faults D.taken dumps.old dumps.new)) }
+    ensures reads { ReadsAtMost (D.state dumps.old) (D.state dumps.new) (bodies_length (mailboxes_at (sections_in index.now) (place ∷ []))) }
+    ensures count { IfOk result (λ count. (bytes : List ℕ) → (D.state dumps.old).now ≡ told bytes → count ≡ mail_in bytes (state_of index.now.headers) (sections_in index.now) place) }
+    ensures fault { IfErr result (IsUncounted (D.state dumps.old) (D.state dumps.new)) }
 {
     match place {
         None => Ok(None),
@@ -66,8 +67,8 @@ fn count_in<D: Dumps>(
     }
 }
 
-/// Counts the messages of the mailboxes at some places, of which none is too large. Each is loaded, counted and given up
-/// in turn.
+/// Counts the messages of the mailboxes at these places, none of
+/// which is too large. Each is loaded, counted and freed in turn.
 pub(crate) fn count_messages<D: Dumps>(
     alloc: Global,
     dumps: &mut D,
@@ -75,13 +76,13 @@ pub(crate) fn count_messages<D: Dumps>(
     places: &[Option<usize>],
     limits: &Limits,
 ) -> Result<Vec<Option<u64>>, BodyFault>
-    requires over { IsBuiltOver (D.now dumps.old) index.now }
+    requires over { IsBuiltOver (D.state dumps.old).now index.now }
     requires within { All (IsWithin index.now) places.now }
     requires small { All (IsSmall index.now limits.now.section) places.now }
-    ensures reads { ReadsAtMost (used D.files D.now D.faults D.taken dumps.old dumps.new) (bodies_length (mailboxes_at (sections_in index.now) places.now)) }
-    ensures counts { IfOk result (λ counts. (bytes : List ℕ) → D.now dumps.old ≡ told bytes → counts.items ≡ map (mail_in bytes (state_of index.now.headers) (sections_in index.now)) places.now) }
+    ensures reads { ReadsAtMost (D.state dumps.old) (D.state dumps.new) (bodies_length (mailboxes_at (sections_in index.now) places.now)) }
+    ensures counts { IfOk result (λ counts. (bytes : List ℕ) → (D.state dumps.old).now ≡ told bytes → counts.items ≡ map (mail_in bytes (state_of index.now.headers) (sections_in index.now)) places.now) }
     ensures all { IfOk result (λ counts. length counts.items ≡ length places.now) }
-    ensures fault { IfErr result (IsUncounted (used D.files D.now D.faults D.taken dumps.old dumps.new)) }
+    ensures fault { IfErr result (IsUncounted (D.state dumps.old) (D.state dumps.new)) }
 {
     let mut counts = Vec::new(alloc);
     for place in places {

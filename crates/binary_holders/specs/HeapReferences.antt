@@ -7,12 +7,12 @@ use Rattle.term_forms.specs.Forms.{HeapForm, RefBin}
 use Rattle.heap_cells.specs.Cells.{line_cells}
 use Rattle.heap_cells.specs.Loading.{enc_of, heap_section, body_in}
 
--- the number of the binary to which a form refers: that of a reference to a binary, and of no other form
+-- the number of the binary to which a form refers, if it is a reference to a binary
 abbrev pub referred : Option HeapForm → Option ℕ
 referred (Some (RefBin number offset size)) = Some number
 referred form = None
 
--- the numbers of the binaries to which the heap lines of a body refer, line by line; a number stands there for each line
+-- the numbers of the binaries to which the heap lines of a body refer, line by line, one for each such line
 abbrev pub references : Enc → List ℕ → List ℕ
 references enc body = filter_map (λ cell. referred cell.form) (line_cells enc body)
 

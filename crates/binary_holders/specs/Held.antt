@@ -1,4 +1,4 @@
--- Which processes hold which binaries, by what their heaps refer to.
+-- Which processes hold which binaries, from what their heaps refer to.
 use Rattle.std.specs.Prelude.{ℕ, ◌-◌, ◌^◌, Bool, List, map, filter, min, nat_lt}
 use Rattle.std.specs.List.{count_by, sum_by, enumerate_from}
 use Rattle.binary_holders.specs.declared.rows.Holding.{Holding}
@@ -9,7 +9,7 @@ use Rattle.binary_holders.specs.StoredBinaries.{is_among}
 abbrev pub holds : List ℕ → Binary → Bool
 holds references binary = is_among references binary.number
 
--- a sum as it is kept, which is at most 2^64 - 1
+-- a sum as it is stored, at most 2^64 - 1
 abbrev pub capped : ℕ → ℕ
 capped sum = min sum (2 ^ 64 - 1)
 
@@ -30,8 +30,8 @@ holding_of binaries (process, references) = record {
   cells = cells_holding binaries references;
 }
 
--- the processes that hold one of the binaries at least, in their order; the heaps of all processes are given by what they
--- refer to
+-- the processes that hold at least one of the binaries, in their
+-- order; the heap of each process is given by what it refers to
 abbrev pub holdings : List Binary → List (List ℕ) → List Holding
 holdings binaries heaps = filter (λ holding. nat_lt 0 holding.count) (map (holding_of binaries) (enumerate_from 0 heaps))
 

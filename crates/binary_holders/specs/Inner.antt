@@ -1,4 +1,5 @@
--- What only private functions cite: how the lines of a heap are told apart, and how what it refers to is counted.
+-- What only private functions cite: how the lines of a heap
+-- are distinguished, and how what it refers to is counted.
 pub mod Finding
 pub mod Heaps
 pub mod Lines

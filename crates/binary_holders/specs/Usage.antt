@@ -1,7 +1,7 @@
 -- The binaries of a dump and their holders.
 use Rattle.std.specs.Prelude.{ℕ, ◌*◌, ◌<◌, List, [], ◌∷◌, map, nat_lt, codes}
 use Rattle.std.specs.List.{count_by, sum_by}
-use Rattle.dump_io.specs.Dumps.{Use, DeviceFailed}
+use Rattle.dump_io.specs.Dumps.{DeviceState, DeviceFailed}
 use Rattle.section_index.specs.Index.{Contents, sections_in}
 use Rattle.section_index.specs.Lookups.{has_tag}
 use Rattle.heap_cells.specs.Loading.{heap_section, body_size}
@@ -24,7 +24,7 @@ heaps_of dump index pids = map (references_of dump index) pids
 abbrev pub stored_in : Contents → List Stored
 stored_in index = stored (sections_in index)
 
--- a stored binary by its number and its size
+-- a stored binary as its number and its size
 abbrev pub sized : List ℕ → Stored → Binary
 sized dump binary = record { number = binary.number; size = size_in dump binary }
 
@@ -41,12 +41,12 @@ row_of dump heaps binary = record {
   at = binary.section.at;
 }
 
--- the rows of the stored binaries, in the order of the dump
+-- the rows of the stored binaries, in dump order
 abbrev pub rows_in : List ℕ → Contents → List (List ℕ) → List BinaryRow
 rows_in dump index heaps = map (row_of dump heaps) (stored_in index)
 
--- what is told of the binaries of a dump: who holds how much, the most first; the binaries, the largest first; their sizes
--- together; and how many of them somebody holds
+-- what is found of the binaries of a dump: which processes hold how much, the most first; the
+-- binaries, the largest first; their sizes together; and how many of them a process holds
 pub record Usage : Type 0 where
   pub held : List Holding
   pub binaries : List BinaryRow
@@ -62,7 +62,7 @@ usage_of dump index pids = record {
   with_holders = count_by (λ row. nat_lt 0 row.holders) (rows_in dump index (heaps_of dump index pids));
 }
 
--- what was found tells this, wherever it lies
+-- the value of what was found, regardless of where it lies in memory
 abbrev pub shown_use : BinaryUse → Usage
 shown_use found = record {
   held = found.held.items;
@@ -71,11 +71,11 @@ shown_use found = record {
   with_holders = found.with_holders;
 }
 
--- a holding is that of one of so many processes
+-- a holding is that of one of this many processes
 abbrev pub NamesProcess : ℕ → Holding → Type 0
 NamesProcess count holding = holding.process < count
 
--- who holds the binary with a number, and by how many cells
+-- which processes hold the binary with a number, and by how many cells
 abbrev pub holders_in : List ℕ → Contents → List (List ℕ) → ℕ → List Holding
 holders_in dump index pids number = holdings (record { number = number; size = 0 } ∷ []) (heaps_of dump index pids)
 
@@ -87,7 +87,7 @@ heaps_length index pids = sum_by (λ pid. body_size (heap_section index pid)) pi
 abbrev pub fronts_length : Contents → ℕ
 fronts_length index = 20 * count_by (λ section. has_tag (codes "binary") section.text) (sections_in index)
 
--- why holders aren't told: the device failed; memory may lack at any time
-abbrev pub IsCauseOf : Use → HolderFault → Type 0
-IsCauseOf device Read = DeviceFailed device
-IsCauseOf device Memory = Unit {0}
+-- why holders aren't found: the device failed; memory may be lacking at any time
+abbrev pub IsCauseOf : DeviceState → DeviceState → HolderFault → Type 0
+IsCauseOf before after Read = DeviceFailed before after
+IsCauseOf before after Memory = Unit {0}

@@ -1,9 +1,9 @@
-// Why holders aren't told.
+// Why holders aren't found.
 ghost use Rattle.std.specs.Prelude.{◌≡◌, [], ◌∷◌, ◌++◌, OnOk, IfErr};
 
 use thiserror::Error;
 
-/// Why the holders of binaries aren't told.
+/// Why the holders of binaries aren't found.
 #[derive(Debug, Drop, Error)]
 pub enum HolderFault {
     /// The device failed.
@@ -14,7 +14,7 @@ pub enum HolderFault {
     Memory,
 }
 
-/// Puts a row behind the others.
+/// Appends a row.
 pub(crate) fn push_row<T: Drop>(rows: &mut Vec<T>, row: T) -> Result<(), HolderFault>
     ensures rows { OnOk result (rows.new.items ≡ rows.old.items ++ row ∷ []) }
     ensures fault { IfErr result (λ fault. fault ≡ HolderFault.Memory) }

@@ -1,4 +1,4 @@
-// Where the heaps of processes are: of the sections with heaps the first of each pid.
+// Where the heaps of processes are: the first of the sections with heaps of each pid.
 ghost use Rattle.std.specs.Prelude.{◌≡◌, ◌+◌, ◌<◌, ◌≤◌, length, map, take, slice_get, slice_index_or, is_some, None, Some, All, IfOk};
 ghost use Rattle.std.specs.Option.{option_copied};
 ghost use Rattle.dump_io.specs.Limits.{usual};
@@ -12,7 +12,7 @@ use process_table::Procs;
 use section_index::Index;
 use std::alloc::{AllocError, Global};
 
-// The id, where the section at a place is a heap.
+// The id, if the section at a place is a heap.
 fn heap_id(index: &Index, i: usize) -> Option<&[u8]>
     requires { i < length index.now.headers }
     ensures id { option_copied result ≡ heap_id (section_at index.now i) }
@@ -34,7 +34,7 @@ fn has_heap(heaps: &[Option<usize>], process: usize) -> bool
     heaps[process].is_some()
 }
 
-// Takes the section at a place, behind those before it.
+// Takes the section at a place, after those before it.
 fn take_heap(heaps: &mut [Option<usize>], index: &Index, i: usize, procs: &Procs)
     requires place { i < length index.now.headers }
     requires apart { AreApart procs.now.processes }
@@ -55,7 +55,7 @@ fn take_heap(heaps: &mut [Option<usize>], index: &Index, i: usize, procs: &Procs
     heaps[process] = Some(i);
 }
 
-// So many processes of which no heap is known.
+// This many processes, none of whose heaps is known.
 fn no_heaps(alloc: Global, count: usize) -> Result<Vec<Option<usize>>, AllocError>
     ensures count { IfOk result (λ heaps. length heaps.items ≡ count) }
     ensures none { IfOk result (λ heaps. All (λ heap. heap ≡ None) heaps.items) }

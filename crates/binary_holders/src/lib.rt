@@ -1,8 +1,9 @@
 //! Which processes hold which of the binaries outside the heaps.
 //!
-//! A process holds such a binary where a cell of its heap refers to it. [`binary_use`] tells of each process how many of
-//! these binaries it holds and how large they are together, and of each binary how many processes hold it; [`holders`]
-//! tells of one binary who holds it. The heaps are read one at a time and in pieces, whatever their lengths.
+//! A process holds such a binary if a cell of its heap refers to it. [`binary_use`] finds for
+//! each process how many of these binaries it holds and how large they are together, and for
+//! each binary how many processes hold it; [`holders`] finds for one binary which processes
+//! hold it. The heaps are read one at a time and in pieces, whatever their lengths.
 //!
 //! ```text
 //! let procs = Procs::load(alloc, &mut dumps, &index, &limits)?;

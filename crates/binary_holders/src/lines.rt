@@ -11,10 +11,10 @@ use term_forms::reading::form;
 use term_forms::shapes::Form;
 use term_forms::{Enc, form_is_read, heap_line, number_is_read};
 
-/// What stands behind the address of each line that refers to a binary outside the heap.
+/// What follows the address in each line that refers to a binary outside the heap.
 pub(crate) const MARK: &[u8] = b":Yc";
 
-// The number to which a text refers, where it is a heap line whose form is a reference to a binary.
+// The number to which a text refers, if it is a heap line whose form is a reference to a binary.
 fn text_reference(text: &[u8], enc: Enc) -> Option<u64>
     ensures { result ≡ text_reference enc text.now }
 {
@@ -25,7 +25,7 @@ fn text_reference(text: &[u8], enc: Enc) -> Option<u64>
     }
 }
 
-/// Where the last line begins: behind the last LF, or where there is none at the beginning.
+/// Where the last line begins: after the last LF, or at the beginning if there is none.
 pub(crate) fn line_start(bytes: &[u8]) -> usize
     ensures within { result ≤ length bytes.now }
     ensures whole { AreWhole (take result bytes.now) }
@@ -37,7 +37,7 @@ pub(crate) fn line_start(bytes: &[u8]) -> usize
     }
 }
 
-// How many bytes the first raw line of some bytes has.
+// How many bytes the first raw line has.
 fn line_len(bytes: &[u8]) -> usize
     requires { 0 < length bytes.now }
     ensures some { 0 < result }
@@ -50,8 +50,8 @@ fn line_len(bytes: &[u8]) -> usize
     }
 }
 
-// The lines from the first one on in which a `Y` stands. No line before it refers to a binary, since the form of one that does
-// begins with that letter, and few other lines have it.
+// The lines from the first one with a `Y` on. No line before it refers to a binary,
+// since the form of one that does begins with that letter, and few other lines have it.
 fn skip_plain(bytes: &[u8], enc: Enc) -> &[u8]
     ensures same { line_references enc result.now ≡ line_references enc bytes.now }
     ensures within { length result.now ≤ length bytes.now }
@@ -80,9 +80,9 @@ fn next_marked<'a>(mark: &Finder<'_>, bytes: &'a [u8], enc: Enc) -> Option<(Opti
     Some((number, &bytes[end..]))
 }
 
-/// Looks for the first line with the mark, and gives the number to which it refers, where it does, and the bytes behind it.
-/// No line before that one refers to a binary, and where there is none no line does. The lines before the first one with a `Y`
-/// are passed over at once.
+/// Looks for the first line with the mark, and returns the number to which it refers, if it
+/// does, and the bytes after it. No line before that one refers to a binary, and if there is
+/// no such line, none does. The lines before the first one with a `Y` are passed over at once.
 pub(crate) fn next_reference<'a>(
     mark: &Finder<'_>,
     bytes: &'a [u8],

@@ -1,4 +1,4 @@
-// What is told of processes and of binaries.
+// What is found of processes and of binaries.
 
 use size_order::Measured;
 
@@ -7,7 +7,8 @@ use size_order::Measured;
 pub struct Holding {
     /// The place of the process in the process table, from 0.
     pub process: usize,
-    /// The sizes of the binaries that it holds, together, in bytes, each once; at most 2^64 - 1.
+    /// The sizes of the binaries that it holds, together, in
+    /// bytes; each counts once, and the sum is at most 2^64 - 1.
     pub bytes: u64,
     /// How many of the binaries it holds.
     pub count: u64,
@@ -26,7 +27,7 @@ impl Measured for Holding {
 /// A binary outside the heaps, and how many processes hold it.
 #[derive(Clone, Copy, Debug, PartialEq, Eq, Drop)]
 pub struct BinaryRow {
-    /// The size that its section states, in bytes, and 0 where it states none.
+    /// The size that its section states, in bytes, or 0 if it states none.
     pub size: u64,
     /// How many processes hold it.
     pub holders: u64,

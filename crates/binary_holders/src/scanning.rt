@@ -1,8 +1,8 @@
-// A heap is read in pieces, and what its lines refer to is counted.
+// Reading a heap in pieces, and counting what its lines refer to.
 ghost use Rattle.std.specs.Prelude.{◌≡◌, ℕ, List, ◌+◌, ◌-◌, ◌≤◌, ◌++◌, length, take, min, true, IfOk, OnOk, OnErr};
 ghost use Rattle.std.specs.List.{between};
 ghost use Rattle.std.specs.Option.{option_to_list};
-ghost use Rattle.dump_io.specs.Dumps.{told, used, size_of, IsOpen, DeviceFailed, ReadsAtMost};
+ghost use Rattle.dump_io.specs.Dumps.{told, size_of, IsOpen, DeviceFailed, ReadsAtMost};
 ghost use Rattle.binary_holders.specs.HeapReferences.{references};
 ghost use Rattle.binary_holders.specs.Inner.Lines.{line_references};
 ghost use Rattle.binary_holders.specs.Inner.Pieces.{HearsFront};
@@ -16,24 +16,24 @@ use memchr::memmem::Finder;
 use std::alloc::{AllocError, Global};
 use term_forms::{Enc, form_is_read, number_is_read};
 
-// The most bytes of a piece.
+// The most bytes in a piece.
 const PIECE: usize = 65_536;
 
-// The most bytes that are kept of a line of which more is to come. A line that refers to a binary has at most 71 with its
-// end: 69 of text, and CR and LF.
+// The most bytes that are kept of a line of which more is to come. A line
+// that refers to a binary has at most 71 bytes: 69 of text, and CR and LF.
 const KEPT: usize = 72;
 
-// Room for a piece, and for what is kept in front of it.
+// Room for a piece, and for what is kept before it.
 const ROOM: usize = 65_608;
 
-/// A buffer for a piece, and for what is kept in front of it.
+/// A buffer for a piece, and for what is kept before it.
 pub(crate) fn make_buffer(alloc: Global) -> Result<Vec<u8>, AllocError>
     ensures { IfOk result (λ buffer. length buffer.items ≡ ROOM) }
 {
     vec![in alloc; 0u8; ROOM]
 }
 
-// Hears what a line refers to, where it refers to a binary.
+// Hears what a line refers to, if it refers to a binary.
 fn hear_line(number: Option<u64>, sought: &Sought, tally: &mut Tally)
     requires { HasRoom (length sought.now) tally.old }
     ensures room { KeepsRoom tally.old tally.new }
@@ -44,7 +44,7 @@ fn hear_line(number: Option<u64>, sought: &Sought, tally: &mut Tally)
     }
 }
 
-// Hears what the lines of some bytes refer to.
+// Hears what the lines of these bytes refer to.
 fn hear_lines(bytes: &[u8], enc: Enc, sought: &Sought, tally: &mut Tally)
     requires { HasRoom (length sought.now) tally.old }
     ensures room { KeepsRoom tally.old tally.new }
@@ -58,8 +58,8 @@ fn hear_lines(bytes: &[u8], enc: Enc, sought: &Sought, tally: &mut Tally)
     }
 }
 
-// Hears what the whole lines of some bytes refer to. Of a line that isn't whole it moves as many bytes to the beginning as
-// are kept, and says how many. In the last bytes of a heap each line is whole.
+// Hears what the whole lines of these bytes refer to. Of a line that isn't whole it moves as many bytes
+// to the beginning as are kept, and returns how many. In the last bytes of a heap each line is whole.
 fn hear_piece(
     bytes: &mut [u8],
     is_last: bool,
@@ -87,8 +87,8 @@ fn hear_piece(
     kept
 }
 
-// Reads the bytes of the open file between two offsets, or as many of them as a piece has, into a buffer behind those that
-// are kept, and says how many.
+// Reads the bytes of the open file between two offsets, or as many of them as a
+// piece can have, into a buffer after those that are kept, and returns how many.
 fn read_piece<D: Dumps>(
     dumps: &mut D,
     from: u64,
@@ -96,14 +96,14 @@ fn read_piece<D: Dumps>(
     kept: usize,
     buffer: &mut [u8],
 ) -> Result<usize, Failed>
-    requires open { IsOpen (D.now dumps.old) }
-    requires within { upto ≤ size_of (D.now dumps.old) }
+    requires open { IsOpen (D.state dumps.old).now }
+    requires within { upto ≤ size_of (D.state dumps.old).now }
     requires ordered { from ≤ upto }
     requires room { kept + PIECE ≤ length buffer.old }
-    ensures reads { ReadsAtMost (used D.files D.now D.faults D.taken dumps.old dumps.new) (min PIECE (upto - from)) }
-    ensures failed { OnErr result (DeviceFailed (used D.files D.now D.faults D.taken dumps.old dumps.new)) }
+    ensures reads { ReadsAtMost (D.state dumps.old) (D.state dumps.new) (min PIECE (upto - from)) }
+    ensures failed { OnErr result (DeviceFailed (D.state dumps.old) (D.state dumps.new)) }
     ensures count { IfOk result (λ count. count ≡ min PIECE (upto - from)) }
-    ensures piece { IfOk result (λ count. (dump : List ℕ) → D.now dumps.old ≡ told dump
+    ensures piece { IfOk result (λ count. (dump : List ℕ) → (D.state dumps.old).now ≡ told dump
         → take (kept + count) buffer.new ≡ take kept buffer.old ++ between from (from + count) dump) }
 {
     let count = PIECE.min((upto - from) as usize);
@@ -111,7 +111,7 @@ fn read_piece<D: Dumps>(
     Ok(count)
 }
 
-/// Hears what the lines of a heap refer to, whose body lies between two offsets.
+/// Hears what the lines of a heap whose body lies between two offsets refer to.
 pub(crate) fn hear_heap<D: Dumps>(
     dumps: &mut D,
     from: u64,
@@ -121,15 +121,15 @@ pub(crate) fn hear_heap<D: Dumps>(
     sought: &Sought,
     tally: &mut Tally,
 ) -> Result<(), Failed>
-    requires open { IsOpen (D.now dumps.old) }
-    requires within { upto ≤ size_of (D.now dumps.old) }
+    requires open { IsOpen (D.state dumps.old).now }
+    requires within { upto ≤ size_of (D.state dumps.old).now }
     requires ordered { from ≤ upto }
     requires buffer { ROOM ≤ length buffer.old }
     requires room { HasRoom (length sought.now) tally.old }
-    ensures reads { ReadsAtMost (used D.files D.now D.faults D.taken dumps.old dumps.new) (upto - from) }
-    ensures failed { OnErr result (DeviceFailed (used D.files D.now D.faults D.taken dumps.old dumps.new)) }
+    ensures reads { ReadsAtMost (D.state dumps.old) (D.state dumps.new) (upto - from) }
+    ensures failed { OnErr result (DeviceFailed (D.state dumps.old) (D.state dumps.new)) }
     ensures keeps { KeepsRoom tally.old tally.new }
-    ensures hears { OnOk result ((dump : List ℕ) → D.now dumps.old ≡ told dump
+    ensures hears { OnOk result ((dump : List ℕ) → (D.state dumps.old).now ≡ told dump
         → Hears sought.now tally.old tally.new (references enc (between from upto dump))) }
 {
     let mut at = from;

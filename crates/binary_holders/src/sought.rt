@@ -12,8 +12,8 @@ pub(crate) struct Binary {
     pub size: u64,
 }
 
-/// The binaries whose holders are sought, and the place of each by its number. They are found by the order of their
-/// numbers, since whoever writes a dump could give all of them one hash.
+/// The binaries whose holders are sought, and the place of each by its number. They are looked up
+/// by the order of their numbers, since whoever writes a dump could give all of them one hash.
 #[derive(Drop)]
 pub(crate) struct Sought {
     binaries: Vec<Binary>,
@@ -33,7 +33,7 @@ impl Model for Sought {
 }
 
 impl Sought {
-    /// These binaries, whose numbers have these places.
+    /// These binaries, with the places of their numbers.
     pub fn new(binaries: Vec<Binary>, places: BTreeMap<u64, u32>) -> Sought
         requires { ArePlaces places (numbers_in binaries.items) }
         ensures { result ≡ binaries.items }
@@ -48,7 +48,7 @@ impl Sought {
         self.binaries.len()
     }
 
-    /// The place of the binary with a number. No other one has it.
+    /// The place of the only binary with a number.
     pub fn place(&self, number: u64) -> Option<usize>
         ensures { IsOnlyPlace (numbers_in self.now) number result }
     {

@@ -1,13 +1,13 @@
-// The binaries outside the heaps, as the sections tell them.
+// The binaries outside the heaps, from the sections of a dump.
 ghost use Rattle.std.specs.Prelude.{◌≡◌, ℕ, List, ◌+◌, ◌*◌, ◌<◌, ◌≤◌, length, map, take, All, slice_get, Some, IfOk, OnOk, IfErr, OnErr};
 ghost use Rattle.std.specs.List.{between};
 ghost use Rattle.std.specs.Option.{option_copied, option_and_then};
-ghost use Rattle.dump_io.specs.Dumps.{told, used, DeviceFailed, ReadsAtMost};
+ghost use Rattle.dump_io.specs.Dumps.{told, DeviceFailed, ReadsAtMost};
 ghost use Rattle.dump_io.specs.Numbers.{hex_number};
 ghost use Rattle.section_index.specs.Bodies.{section_at};
 ghost use Rattle.section_index.specs.Index.{IsBuiltOver, sections_in};
 ghost use Rattle.binary_holders.specs.StoredBinaries.{number_of, size_stated};
-ghost use Rattle.binary_holders.specs.Usage.{sized, stored_in, IsCauseOf};
+ghost use Rattle.binary_holders.specs.Usage.{sized, IsCauseOf};
 ghost use Rattle.binary_holders.specs.Inner.Finding.{AreFound, numbers_of, stored_of};
 ghost use Rattle.binary_holders.specs.Inner.Places.{numbers_in};
 
@@ -26,21 +26,21 @@ pub(crate) struct StoredAt {
     pub section: usize,
 }
 
-/// The stored binaries in the order of the dump, and the place of each by its number.
+/// The stored binaries in dump order, and the place of each by its number.
 #[derive(Drop)]
 pub(crate) struct Found {
     pub binaries: Vec<StoredAt>,
     pub places: BTreeMap<u64, u32>,
 }
 
-// The number that an id writes in hex.
+// The number that an id is in hex.
 fn hex_id(id: Option<&[u8]>) -> Option<u64>
     ensures { result ≡ option_and_then hex_number (option_copied id.entry) }
 {
     hex_u64(id?)
 }
 
-// The number of the binary of the section at a place, where it is one.
+// The number of the binary in the section at a place, if it is one.
 fn number_at(index: &Index, i: usize) -> Option<u64>
     requires { i < length index.now.headers }
     ensures number { result ≡ number_of (section_at index.now i) }
@@ -54,7 +54,7 @@ fn number_at(index: &Index, i: usize) -> Option<u64>
     }
 }
 
-// Takes the section at a place, behind those before it.
+// Takes the section at a place, after those before it.
 fn find_at(found: &mut Found, index: &Index, i: usize) -> Result<(), AllocError>
     requires place { i < length index.now.headers }
     requires few { length found.old.binaries.items < 4294967296 }
@@ -74,7 +74,7 @@ fn find_at(found: &mut Found, index: &Index, i: usize) -> Result<(), AllocError>
     Ok(())
 }
 
-/// Finds the stored binaries of an index: of the `binary` sections with one number the first.
+/// Finds the stored binaries of an index: the first of the `binary` sections with each number.
 pub(crate) fn find_stored(alloc: Global, index: &Index) -> Result<Found, AllocError>
     ensures { IfOk result (AreFound index.now (sections_in index.now)) }
 {
@@ -88,7 +88,7 @@ pub(crate) fn find_stored(alloc: Global, index: &Index) -> Result<Found, AllocEr
     Ok(found)
 }
 
-// The size that a body states, by its front of 17 bytes or less.
+// The size that a body states, from its first 17 bytes, or fewer.
 fn size_stated(front: &[u8]) -> u64
     ensures { (body : List ℕ) → front.now ≡ take 17 body → result ≡ size_stated body }
 {
@@ -101,11 +101,11 @@ fn size_stated(front: &[u8]) -> u64
 
 // Reads the size that the body of the section at a place states.
 fn read_size<D: Dumps>(dumps: &mut D, index: &Index, i: usize) -> Result<u64, Failed>
-    requires over { IsBuiltOver (D.now dumps.old) index.now }
+    requires over { IsBuiltOver (D.state dumps.old).now index.now }
     requires place { i < length index.now.headers }
-    ensures reads { ReadsAtMost (used D.files D.now D.faults D.taken dumps.old dumps.new) 17 }
-    ensures failed { OnErr result (DeviceFailed (used D.files D.now D.faults D.taken dumps.old dumps.new)) }
-    ensures size { IfOk result (λ size. (dump : List ℕ) → D.now dumps.old ≡ told dump
+    ensures reads { ReadsAtMost (D.state dumps.old) (D.state dumps.new) 17 }
+    ensures failed { OnErr result (DeviceFailed (D.state dumps.old) (D.state dumps.new)) }
+    ensures size { IfOk result (λ size. (dump : List ℕ) → (D.state dumps.old).now ≡ told dump
         → size ≡ size_stated (between (section_at index.now i).body (section_at index.now i).end dump)) }
 {
     let section = index.section(i);
@@ -122,12 +122,12 @@ fn read_binary<D: Dumps>(
     index: &Index,
     stored: &StoredAt,
 ) -> Result<Binary, HolderFault>
-    requires over { IsBuiltOver (D.now dumps.old) index.now }
+    requires over { IsBuiltOver (D.state dumps.old).now index.now }
     requires within { stored.now.section < length index.now.headers }
-    ensures reads { ReadsAtMost (used D.files D.now D.faults D.taken dumps.old dumps.new) 17 }
-    ensures fault { IfErr result (IsCauseOf (used D.files D.now D.faults D.taken dumps.old dumps.new)) }
+    ensures reads { ReadsAtMost (D.state dumps.old) (D.state dumps.new) 17 }
+    ensures fault { IfErr result (IsCauseOf (D.state dumps.old) (D.state dumps.new)) }
     ensures number { IfOk result (λ binary. binary.number ≡ stored.now.number) }
-    ensures size { IfOk result (λ binary. (dump : List ℕ) → D.now dumps.old ≡ told dump → binary ≡ sized dump (stored_of index.now stored.now)) }
+    ensures size { IfOk result (λ binary. (dump : List ℕ) → (D.state dumps.old).now ≡ told dump → binary ≡ sized dump (stored_of index.now stored.now)) }
 {
     let Ok(size) = read_size(dumps, index, stored.section) else {
         return Err(HolderFault::Read);
@@ -145,12 +145,12 @@ pub(crate) fn read_sizes<D: Dumps>(
     index: &Index,
     stored: &[StoredAt],
 ) -> Result<Vec<Binary>, HolderFault>
-    requires over { IsBuiltOver (D.now dumps.old) index.now }
+    requires over { IsBuiltOver (D.state dumps.old).now index.now }
     requires within { All (λ binary. binary.section < length index.now.headers) stored.now }
-    ensures reads { ReadsAtMost (used D.files D.now D.faults D.taken dumps.old dumps.new) (17 * length stored.now) }
-    ensures fault { IfErr result (IsCauseOf (used D.files D.now D.faults D.taken dumps.old dumps.new)) }
+    ensures reads { ReadsAtMost (D.state dumps.old) (D.state dumps.new) (17 * length stored.now) }
+    ensures fault { IfErr result (IsCauseOf (D.state dumps.old) (D.state dumps.new)) }
     ensures numbers { IfOk result (λ binaries. numbers_in binaries.items ≡ numbers_of stored.now) }
-    ensures sizes { IfOk result (λ binaries. (dump : List ℕ) → D.now dumps.old ≡ told dump
+    ensures sizes { IfOk result (λ binaries. (dump : List ℕ) → (D.state dumps.old).now ≡ told dump
         → binaries.items ≡ map (λ binary. sized dump (stored_of index.now binary)) stored.now) }
 {
     let mut binaries = Vec::new(alloc);

@@ -1,4 +1,4 @@
-// What a heap refers to is counted.
+// Counting what a heap refers to.
 ghost use Rattle.std.specs.Prelude.{◌≡◌, [], ◌∷◌, ◌+◌, ◌-◌, ◌<◌, ◌^◌, ℕ, List, ◌++◌, length, IfOk, slice_index, slice_set, min};
 ghost use Rattle.binary_holders.specs.declared.sought.Binary.{Binary};
 ghost use Rattle.binary_holders.specs.Inner.Tallies.{HasHeard, HasRoom, Hears, KeepsRoom, counted};
@@ -7,8 +7,8 @@ use crate::rows::Holding;
 use crate::sought::Sought;
 use std::alloc::{AllocError, Global};
 
-/// What was heard so far: of the heap whose turn it is how many binaries it holds, of how many bytes, and by how many
-/// lines; and for each binary the turn of the last heap that holds it, and how many heaps do.
+/// What has been heard so far. Of the heap whose turn it is: how many binaries it holds, of how many bytes,
+/// and by how many lines. For each binary: the turn of the last heap that holds it, and how many heaps do.
 #[derive(Drop)]
 pub(crate) struct Tally {
     pub turn: u32,
@@ -20,7 +20,7 @@ pub(crate) struct Tally {
 }
 
 impl Tally {
-    /// Nothing was heard of the first heap, for so many binaries.
+    /// Nothing has been heard of the first heap yet, for this many binaries.
     pub fn new(alloc: Global, count: usize) -> Result<Tally, AllocError>
         ensures turn { IfOk result (λ tally. tally.turn ≡ 1) }
         ensures room { IfOk result (HasRoom count) }
@@ -38,7 +38,7 @@ impl Tally {
         })
     }
 
-    /// The next heap's turn comes.
+    /// Passes the turn to the next heap.
     pub fn turn(&mut self)
         requires { self.old.turn + 1 < 2 ^ 32 }
         ensures turn { self.new.turn ≡ self.old.turn + 1 }
@@ -52,8 +52,8 @@ impl Tally {
         self.cells = 0;
     }
 
-    // The binary at a place is held, which it wasn't before. No count comes to the end of its type: the turn is the number
-    // of the heap.
+    // The binary at a place is held, and wasn't before. No count
+    // reaches the end of its type: the turn is the number of the heap.
     fn hold(&mut self, place: usize, size: u64)
         requires seen { place < length self.old.seen.items }
         requires holders { place < length self.old.holders.items }
@@ -85,7 +85,7 @@ impl Tally {
         }
     }
 
-    /// What the process at a place holds, by its heap.
+    /// What the process at a place holds, from its heap.
     pub fn holding(&self, process: usize) -> Holding
         ensures { result ≡ counted process self.now }
     {

@@ -1,7 +1,7 @@
 // The binaries of a dump and their holders.
-ghost use Rattle.std.specs.Prelude.{◌≡◌, ℕ, List, [], ◌∷◌, ◌+◌, ◌<◌, length, map, nat_lt, All, IfOk, OnOk, IfErr};
+ghost use Rattle.std.specs.Prelude.{◌≡◌, ℕ, List, [], ◌∷◌, ◌+◌, ◌<◌, length, map, nat_lt, All, IfOk, IfErr};
 ghost use Rattle.std.specs.List.{sum_by, count_by};
-ghost use Rattle.dump_io.specs.Dumps.{told, used, ReadsAtMost};
+ghost use Rattle.dump_io.specs.Dumps.{told, ReadsAtMost};
 ghost use Rattle.section_index.specs.Index.{IsBuiltOver};
 ghost use Rattle.process_table.specs.Processes.{IsOver};
 ghost use Rattle.binary_holders.specs.Held.{capped, holdings};
@@ -29,9 +29,10 @@ use std::collections::BTreeMap;
 /// The binaries outside the heaps, and the processes that hold them.
 #[derive(Drop)]
 pub struct BinaryUse {
-    /// The processes that hold one of them, those that hold the most bytes first, and of equal ones the first of the dump.
+    /// The processes that hold one of them, those that hold the most
+    /// bytes first; of equal ones, the first in the dump first.
     pub held: Vec<Holding>,
-    /// The binaries, the largest first, and of equal ones the first of the dump.
+    /// The binaries, the largest first; of equal ones, the first in the dump first.
     pub binaries: Vec<BinaryRow>,
     /// The sizes of the binaries together; at most 2^64 - 1.
     pub bytes: u64,
@@ -52,7 +53,7 @@ fn row_of(index: &Index, stored: &StoredAt, binary: &Binary, holders: u32) -> Bi
     }
 }
 
-// The rows of the binaries, in the order of the dump.
+// The rows of the binaries, in dump order.
 fn rows_of(
     alloc: Global,
     index: &Index,
@@ -74,7 +75,7 @@ fn rows_of(
     Ok(rows)
 }
 
-// The sizes of the binaries together, which are kept up to 2^64 - 1.
+// The sizes of the binaries together; the sum stays at 2^64 - 1 once it reaches it.
 fn sum_sizes(binaries: &[Binary]) -> u64
     ensures { result ≡ capped (sum_by (λ binary. binary.size) binaries.now) }
 {
@@ -92,7 +93,7 @@ fn count_held(rows: &[BinaryRow]) -> u64
     rows.iter().filter(|row| row.holders > 0).count() as u64
 }
 
-// The rows of what was heard, those with the most first, and how many binaries somebody holds.
+// The rows of what was heard, those with the most first, and how many binaries a process holds.
 fn sorted(
     mut held: Vec<Holding>,
     mut rows: Vec<BinaryRow>,
@@ -120,7 +121,7 @@ fn sorted(
     })
 }
 
-// What each process holds of some binaries, and how many processes hold each.
+// What each process holds of these binaries, and how many processes hold each.
 fn hear_binaries<D: Dumps>(
     alloc: Global,
     dumps: &mut D,
@@ -128,15 +129,15 @@ fn hear_binaries<D: Dumps>(
     procs: &Procs,
     sought: &Sought,
 ) -> Result<(Vec<Holding>, Tally), HolderFault>
-    requires over { IsBuiltOver (D.now dumps.old) index.now }
+    requires over { IsBuiltOver (D.state dumps.old).now index.now }
     requires procs { IsOver index.now procs.now }
-    ensures reads { ReadsAtMost (used D.files D.now D.faults D.taken dumps.old dumps.new) (heaps_length index.now (map (λ process. process.pid) procs.now.processes)) }
-    ensures fault { IfErr result (IsCauseOf (used D.files D.now D.faults D.taken dumps.old dumps.new)) }
+    ensures reads { ReadsAtMost (D.state dumps.old) (D.state dumps.new) (heaps_length index.now (map (λ process. process.pid) procs.now.processes)) }
+    ensures fault { IfErr result (IsCauseOf (D.state dumps.old) (D.state dumps.new)) }
     ensures room { IfOk result (λ found. length found.1.holders.items ≡ length sought.now) }
-    ensures held { IfOk result (λ found. (dump : List ℕ) → D.now dumps.old ≡ told dump
+    ensures held { IfOk result (λ found. (dump : List ℕ) → (D.state dumps.old).now ≡ told dump
         → found.0.items ≡ holdings sought.now (heaps_of dump index.now (map (λ process. process.pid) procs.now.processes))) }
     ensures named { IfOk result (λ found. All (NamesProcess (length procs.now.processes)) found.0.items) }
-    ensures heard { IfOk result (λ found. (dump : List ℕ) → D.now dumps.old ≡ told dump
+    ensures heard { IfOk result (λ found. (dump : List ℕ) → (D.state dumps.old).now ≡ told dump
         → HasHeard sought.now (heaps_of dump index.now (map (λ process. process.pid) procs.now.processes)) [] found.1) }
 {
     let Ok(heaps) = heap_places(alloc, index, procs) else {
@@ -155,13 +156,13 @@ fn stored_sought<D: Dumps>(
     dumps: &mut D,
     index: &Index,
 ) -> Result<(Vec<StoredAt>, Sought), HolderFault>
-    requires { IsBuiltOver (D.now dumps.old) index.now }
-    ensures reads { ReadsAtMost (used D.files D.now D.faults D.taken dumps.old dumps.new) (fronts_length index.now) }
-    ensures fault { IfErr result (IsCauseOf (used D.files D.now D.faults D.taken dumps.old dumps.new)) }
+    requires { IsBuiltOver (D.state dumps.old).now index.now }
+    ensures reads { ReadsAtMost (D.state dumps.old) (D.state dumps.new) (fronts_length index.now) }
+    ensures fault { IfErr result (IsCauseOf (D.state dumps.old) (D.state dumps.new)) }
     ensures within { IfOk result (λ found. All (λ binary. binary.section < length index.now.headers) found.0.items) }
     ensures stored { IfOk result (λ found. map (stored_of index.now) found.0.items ≡ stored_in index.now) }
     ensures numbers { IfOk result (λ found. numbers_in found.1 ≡ numbers_of found.0.items) }
-    ensures sizes { IfOk result (λ found. (dump : List ℕ) → D.now dumps.old ≡ told dump → found.1 ≡ binaries_in dump index.now) }
+    ensures sizes { IfOk result (λ found. (dump : List ℕ) → (D.state dumps.old).now ≡ told dump → found.1 ≡ binaries_in dump index.now) }
 {
     let Ok(found) = find_stored(alloc, index) else {
         return Err(HolderFault::Memory);
@@ -172,29 +173,30 @@ fn stored_sought<D: Dumps>(
 
 /// Which processes hold how much of the binaries outside the heaps, and which binaries are large.
 ///
-/// The stored binaries are the `binary` sections whose id is a hex number of 1 to 16 digits, of those with one number the
-/// first. The size of one is the hex number of 1 to 16 digits in front of the `:` with which its body begins, and 0 where it
-/// doesn't begin so. A process holds one where the first `proc_heap` section of its pid has a heap line whose form is a
-/// reference to a binary with that number; each binary counts once for a process. Sums are kept up to 2^64 - 1.
+/// The stored binaries are the `binary` sections whose id is a hex number of 1 to 16 digits; of those with the same
+/// number only the first counts. The size of one is the hex number of 1 to 16 digits before the `:` with which its body
+/// begins, or 0 if the body doesn't begin so. A process holds one if the first `proc_heap` section of its pid has a heap
+/// line whose form is a reference to a binary with that number; each binary counts once for a process. A sum stays at
+/// 2^64 - 1 once it reaches it.
 ///
-/// The index is one that was built over the file that is open, and the processes are those of the index; the file stays
-/// open. `Read` comes only where the device's count of faults rose, and `Memory` may come at any growth. Whatever the
-/// answer, at most as many bytes are read as the heaps have together, and 20 of each `binary` section. The heaps are read
-/// one at a time in pieces of at most 65,536 bytes.
+/// The index was built over the open file, which stays open, and the processes are those of the
+/// index. Returns `Read` only if the device's count of faults rose; `Memory` may come from any
+/// allocation. Whatever it returns, at most as many bytes are read as the heaps have together, and
+/// 20 of each `binary` section. The heaps are read one at a time, in pieces of at most 65,536 bytes.
 pub fn binary_use<D: Dumps>(
     alloc: Global,
     dumps: &mut D,
     index: &Index,
     procs: &Procs,
 ) -> Result<BinaryUse, HolderFault>
-    requires over { IsBuiltOver (D.now dumps.old) index.now }
+    requires over { IsBuiltOver (D.state dumps.old).now index.now }
     requires procs { IsOver index.now procs.now }
-    ensures reads { ReadsAtMost (used D.files D.now D.faults D.taken dumps.old dumps.new)
+    ensures reads { ReadsAtMost (D.state dumps.old) (D.state dumps.new)
         (fronts_length index.now + heaps_length index.now (map (λ process. process.pid) procs.now.processes)) }
-    ensures found { IfOk result (λ found. (dump : List ℕ) → D.now dumps.old ≡ told dump
+    ensures found { IfOk result (λ found. (dump : List ℕ) → (D.state dumps.old).now ≡ told dump
         → shown_use found ≡ usage_of dump index.now (map (λ process. process.pid) procs.now.processes)) }
     ensures named { IfOk result (λ found. All (NamesProcess (length procs.now.processes)) found.held.items) }
-    ensures fault { IfErr result (IsCauseOf (used D.files D.now D.faults D.taken dumps.old dumps.new)) }
+    ensures fault { IfErr result (IsCauseOf (D.state dumps.old) (D.state dumps.new)) }
 {
     let (stored, sought) = stored_sought(alloc, dumps, index)?;
     let (held, tally) = hear_binaries(alloc, dumps, index, procs, &sought)?;
@@ -217,12 +219,14 @@ fn one_sought(alloc: Global, number: u64) -> Result<Sought, AllocError>
     Ok(Sought::new(binaries, places))
 }
 
-/// Which processes hold the binary with this number, in the order of the dump, and by how many lines of their heaps. What a
-/// process holds is told as at [`binary_use`], with the size taken for 0; nothing of the `binary` sections is read.
+/// Which processes hold the binary with this number, in dump order, and by how
+/// many lines of their heaps. What a process holds is counted as in
+/// [`binary_use`], with 0 for the size; nothing of the `binary` sections is read.
 ///
-/// The index is one that was built over the file that is open, and the processes are those of the index; the file stays
-/// open. `Read` comes only where the device's count of faults rose, and `Memory` may come at any growth. Whatever the
-/// answer, at most as many bytes are read as the heaps have together, one heap at a time in pieces of at most 65,536 bytes.
+/// The index was built over the open file, which stays open, and the processes are those
+/// of the index. Returns `Read` only if the device's count of faults rose; `Memory` may
+/// come from any allocation. Whatever it returns, at most as many bytes are read as the
+/// heaps have together, one heap at a time, in pieces of at most 65,536 bytes.
 pub fn holders<D: Dumps>(
     alloc: Global,
     dumps: &mut D,
@@ -230,13 +234,13 @@ pub fn holders<D: Dumps>(
     procs: &Procs,
     number: u64,
 ) -> Result<Vec<Holding>, HolderFault>
-    requires over { IsBuiltOver (D.now dumps.old) index.now }
+    requires over { IsBuiltOver (D.state dumps.old).now index.now }
     requires procs { IsOver index.now procs.now }
-    ensures reads { ReadsAtMost (used D.files D.now D.faults D.taken dumps.old dumps.new) (heaps_length index.now (map (λ process. process.pid) procs.now.processes)) }
-    ensures found { IfOk result (λ found. (dump : List ℕ) → D.now dumps.old ≡ told dump
+    ensures reads { ReadsAtMost (D.state dumps.old) (D.state dumps.new) (heaps_length index.now (map (λ process. process.pid) procs.now.processes)) }
+    ensures found { IfOk result (λ found. (dump : List ℕ) → (D.state dumps.old).now ≡ told dump
         → found.items ≡ holders_in dump index.now (map (λ process. process.pid) procs.now.processes) number) }
     ensures named { IfOk result (λ found. All (NamesProcess (length procs.now.processes)) found.items) }
-    ensures fault { IfErr result (IsCauseOf (used D.files D.now D.faults D.taken dumps.old dumps.new)) }
+    ensures fault { IfErr result (IsCauseOf (D.state dumps.old) (D.state dumps.new)) }
 {
     let Ok(sought) = one_sought(alloc, number) else {
         return Err(HolderFault::Memory);

@@ -1,5 +1,5 @@
--- The previews of a heap's references to binaries: the first bytes of the range to which a cell refers, 32 at most, or
--- that they are unknown.
+-- The previews of a heap's references to binaries: the first bytes of the
+-- range to which a cell refers, at most 32, or that they are unknown.
 use Rattle.std.specs.Prelude.{◌≡◌, ℕ, zero, suc, ◌+◌, ◌==◌, ◌≤◌, List, [], ◌∷◌, ◌++◌, length, take, drop, min, nat_le, position, slice_get, codes, is_some, Option, None, Some, if◌then◌else◌}
 use Rattle.std.specs.Option.{option_map, option_and_then, option_to_list}
 use Rattle.std.specs.List.{between}
@@ -22,35 +22,36 @@ use Rattle.binary_refs.specs.declared.entries.Preview.TheVariants.{Bytes, Unknow
 abbrev pub count_shown : ℕ → ℕ
 count_shown size = min size 32
 
--- the bytes of which the characters are the payload, where there are exactly so many
+-- the bytes whose payload the characters are, if there are exactly this many
 abbrev pub payload_of : Enc → ℕ → List ℕ → Option (List ℕ)
 payload_of enc count chars = option_and_then (λ bytes. if length bytes == count then Some bytes else None) (payload_bytes enc chars)
 
--- the bytes of a cover's characters, where these all stand there and are of the encoding
+-- the bytes of a cover's characters, if all of these are there and are of the encoding
 abbrev pub covered : Enc → List ℕ → Cover → Option (List ℕ)
 covered enc chars cover =
     if nat_le (cover.first + cover.chars) (length chars)
     then payload_of enc cover.bytes (take cover.chars (drop cover.first chars)) else None
 
--- so many bytes of them, behind those of the cover that come before the range
+-- this many of them, after those of the cover that come before the range
 abbrev pub covered_range : Enc → List ℕ → Cover → ℕ → Option (List ℕ)
 covered_range enc chars cover count = option_map (λ bytes. take count (drop cover.skip bytes)) (covered enc chars cover)
 
--- `count` bytes from the offset on, of a binary of `len` bytes with these characters; nothing is covered for no bytes
+-- `count` bytes from the offset on, of a binary of `len` bytes
+-- with these characters; for no bytes, nothing is covered
 abbrev pub bytes_from : Enc → ℕ → List ℕ → ℕ → ℕ → Option (List ℕ)
 bytes_from enc len chars offset count =
     if count == 0 then Some [] else covered_range enc chars (cover_of enc len offset count) count
 
--- what is shown of a range, which must lie within the binary's length
+-- what is shown of a range, if it lies within the binary's length
 abbrev pub in_chars : Enc → ℕ → List ℕ → ℕ → ℕ → Option (List ℕ)
 in_chars enc len chars offset size =
     if nat_le (offset + size) len then bytes_from enc len chars offset (count_shown size) else None
 
--- the same in the body of a `binary` section: its length in hex, `:`, and its characters
+-- the same from the body of a `binary` section: its length in hex, `:`, and its characters
 abbrev pub in_body : Enc → ℕ → ℕ → List ℕ → Option (List ℕ)
 in_body enc offset size body = option_and_then (λ led. in_chars enc led.0 led.1 offset size) (led_of body)
 
--- the place of the first `binary` section whose id writes the address in hex
+-- the place of the first `binary` section whose id is the address in hex
 abbrev pub binary_place : List Section → ℕ → Option ℕ
 binary_place sections address = position (λ section. has_hex (codes "binary") address section.text) sections
 
@@ -58,43 +59,44 @@ binary_place sections address = position (λ section. has_hex (codes "binary") a
 abbrev pub binary_section : Contents → ℕ → Option Section
 binary_section index address = option_and_then (slice_get (sections_in index)) (binary_place (sections_in index) address)
 
--- what is shown of a range of the binary with this address in the bytes of a dump
+-- what is shown of a range of the binary with this address, from the bytes of a dump
 abbrev pub in_dump : List ℕ → Contents → Enc → ℕ → ℕ → ℕ → Option (List ℕ)
 in_dump dump index enc address offset size =
     option_and_then (λ section. in_body enc offset size (between section.body section.end dump)) (binary_section index address)
 
--- the length and the characters of a binary that lies in the heap
+-- the length and the characters of a heap binary
 abbrev pub own_binary : HeapForm → Option (ℕ × List ℕ)
 own_binary (HeapBin size chars) = Some (size, chars)
 own_binary form = None
 
--- those of the heap's binary with this address, if the heap has one there
+-- those of the heap binary with this address, if the heap has one there
 abbrev pub heap_binary : List Cell → ℕ → Option (ℕ × List ℕ)
 heap_binary cells address = option_and_then own_binary (option_and_then (form_at cells) (number_at cells address))
 
--- what is shown of a range of a heap's binary, which must lie within its length
+-- what is shown of a range of a heap binary, if it lies within its length
 abbrev pub in_heap : Enc → ℕ → ℕ → ℕ × List ℕ → Option (List ℕ)
 in_heap enc offset size binary =
     if nat_le (offset + size) binary.0
     then option_map (λ bytes. take (count_shown size) (drop offset bytes)) (payload_bytes enc binary.1) else None
 
--- a part of a binary is shown from the heap's binary where there is one, and else from the dump
+-- a sub binary is shown from the heap binary if there is one, and otherwise from the dump
 abbrev pub in_part : Option (ℕ × List ℕ) → List ℕ → Contents → Enc → ℕ → ℕ → ℕ → Option (List ℕ)
 in_part None dump index enc address offset size = in_dump dump index enc address offset size
 in_part (Some binary) dump index enc address offset size = in_heap enc offset size binary
 
--- an entry: the number of a cell, the size that it states, and the bytes shown of it; none where they are unknown
+-- an entry: the number of a cell, the size that it states,
+-- and the bytes shown of it; `None` if they are unknown
 abbrev pub entry : ℕ → ℕ → Option (List ℕ) → Entry
 entry cell size bytes = record { cell = cell; size = size; bytes = bytes }
 
--- the entry of a cell with this number and form; references to binaries and parts of binaries have one
+-- the entry of a cell with this number and form; references to binaries and sub binaries have one
 abbrev pub entry_of : List ℕ → Contents → Enc → List Cell → ℕ → HeapForm → Option Entry
 entry_of dump index enc cells n (RefBin address offset size) = Some (entry n size (in_dump dump index enc address offset size))
 entry_of dump index enc cells n (SubBin address offset size) =
     Some (entry n size (in_part (heap_binary cells address) dump index enc address offset size))
 entry_of dump index enc cells n form = None
 
--- what the first n cells give by their numbers and forms, in order
+-- what the first n cells give, by their numbers and forms, in order
 abbrev pub by_number : {X : Type 0} → (ℕ → HeapForm → Option X) → List Cell → ℕ → List X
 by_number f cells zero = []
 by_number f cells (suc n) = by_number f cells n ++ option_to_list (option_and_then (f n) (form_at cells n))
@@ -113,7 +115,7 @@ stated n form = None
 abbrev pub binaries : List Cell → List (ℕ × ℕ)
 binaries cells = by_number stated cells (length cells)
 
--- what an entry states
+-- the number and the stated size of an entry
 abbrev pub stating : Entry → ℕ × ℕ
 stating e = (e.cell, e.size)
 
@@ -126,12 +128,12 @@ entry_at (e ∷ entries) n = if e.cell == n then Some e else entry_at entries n
 abbrev pub AreFor : List Cell → List Entry → Type 0
 AreFor cells entries = (n : ℕ) → is_some (entry_at entries n) ≡ is_some (option_and_then (stated n) (form_at cells n))
 
--- the entry of a cell that a preview tells
+-- the entry that a preview stands for
 abbrev pub told_entry : ℕ → Preview → Entry
 told_entry cell (Bytes bytes size) = entry cell size (Some bytes.now)
 told_entry cell (Unknown size) = entry cell size None
 
--- a preview has 32 bytes at most
+-- a preview has at most 32 bytes
 abbrev pub IsFew : Preview → Type 0
 IsFew (Bytes bytes size) = length bytes.now ≤ 32
 IsFew (Unknown size) = Unit {0}

@@ -1,9 +1,9 @@
--- Whole binaries, by the first line of their sections' bodies.
+-- Whole binaries, from the first lines of their sections' bodies.
 use Rattle.std.specs.Prelude.{◌≡◌, ℕ, ◌<◌, List, Option, None, Some, slice_get, nat_lt, if◌then◌else◌}
 use Rattle.std.specs.Global.{Vec}
 use Rattle.std.specs.Option.{option_map, option_and_then}
 use Rattle.std.specs.List.{between}
-use Rattle.dump_io.specs.Dumps.{Use, DeviceFailed}
+use Rattle.dump_io.specs.Dumps.{DeviceState, DeviceFailed}
 use Rattle.field_lines.specs.Lines.{text_lines}
 use Rattle.section_index.specs.Bodies.{body_length}
 use Rattle.section_index.specs.Index.{Contents}
@@ -15,7 +15,7 @@ use Rattle.binary_refs.specs.declared.faults.BinFault.TheVariants.{NoBinary, Sec
 use Rattle.heap_cells.specs.Loading.{enc_of}
 use Rattle.binary_refs.specs.Previews.{payload_of, binary_section}
 
--- the bytes of a vector, where there is one
+-- the bytes of a vector, if there is one
 abbrev pub bytes_in : Option (Vec ℕ) → Option (List ℕ)
 bytes_in bytes = option_map (λ (v : Vec ℕ). v.items) bytes
 
@@ -23,33 +23,33 @@ bytes_in bytes = option_map (λ (v : Vec ℕ). v.items) bytes
 abbrev pub first_text : List ℕ → Option (List ℕ)
 first_text body = option_map (λ line. line.text) (slice_get (text_lines body) 0)
 
--- the bytes of a text that is a length in hex, `:`, and the payload of so many bytes
+-- the bytes of a text that is a length in hex, `:`, and the payload of that many bytes
 abbrev pub bytes_of_text : Enc → List ℕ → Option (List ℕ)
 bytes_of_text enc text = option_and_then (λ led. payload_of enc led.0 led.1) (led_of text)
 
--- the bytes of a `binary` section's body, where its first line is such a text
+-- the bytes of a `binary` section's body, if its first line is such a text
 abbrev pub bytes_of_body : Enc → List ℕ → Option (List ℕ)
 bytes_of_body enc body = option_and_then (bytes_of_text enc) (first_text body)
 
--- the bytes of the first `binary` section with this address, in the bytes of a dump
+-- the bytes of the first `binary` section with this address, from the bytes of a dump
 abbrev pub whole_bytes : List ℕ → Contents → ℕ → Option (List ℕ)
 whole_bytes dump index address =
     option_and_then (λ section. bytes_of_body (enc_of index.version) (between section.body section.end dump)) (binary_section index address)
 
--- where the fault is that the binary is malformed, there are no such bytes
+-- if the fault is that the binary is malformed, there are no such bytes
 abbrev pub IsBadFor : Option (List ℕ) → BinFault → Type 0
 IsBadFor bytes (BadBinary at) = bytes ≡ None
 IsBadFor bytes fault = Unit {0}
 
--- why no bytes are given, by the section that was found: there is none, it is longer than the limit, its first line isn't
--- of the grammar, or the device failed; memory may lack at any time
-abbrev pub IsBinCauseOf : Option Section → ℕ → Use → BinFault → Type 0
-IsBinCauseOf found limit device NoBinary = found ≡ None
-IsBinCauseOf found limit device (SectionTooLarge at len) =
+-- why no bytes are given, by the section that was found: there is none, it is too large, its
+-- first line isn't of the grammar, or the device failed; memory may be lacking at any time
+abbrev pub IsBinCauseOf : Option Section → ℕ → DeviceState → DeviceState → BinFault → Type 0
+IsBinCauseOf found limit before after NoBinary = found ≡ None
+IsBinCauseOf found limit before after (SectionTooLarge at len) =
     (section : Section) × (found ≡ Some section) × (at ≡ section.at) × (len ≡ body_length section) × (limit < body_length section)
-IsBinCauseOf found limit device (BadBinary at) = (section : Section) × (found ≡ Some section) × (at ≡ section.at)
-IsBinCauseOf found limit device Read = DeviceFailed device
-IsBinCauseOf found limit device Memory = Unit {0}
+IsBinCauseOf found limit before after (BadBinary at) = (section : Section) × (found ≡ Some section) × (at ≡ section.at)
+IsBinCauseOf found limit before after Read = DeviceFailed before after
+IsBinCauseOf found limit before after Memory = Unit {0}
 
 -- how many bytes the body of the section that was found has
 abbrev pub found_length : Option Section → ℕ

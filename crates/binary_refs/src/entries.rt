@@ -1,12 +1,12 @@
-// What is kept of a cell that refers to a binary, and what is told of it.
+// What is kept of a cell that refers to a binary, and what is shown of it.
 use crate::few_bytes::FewBytes;
 
 /// The first bytes of the range to which a cell refers, and the size that the cell states.
 #[derive(Clone, Copy, Debug)]
 pub enum Preview<'a> {
-    /// The first bytes, 32 at most, and the size of the whole range.
+    /// The first bytes, at most 32, and the size of the whole range.
     Bytes(&'a [u8], u64),
-    /// The bytes are unknown; the size of the range as it is stated.
+    /// The bytes are unknown; the stated size of the range.
     Unknown(u64),
 }
 

@@ -1,4 +1,4 @@
-// Why binaries aren't given.
+// Why binaries aren't available.
 use thiserror::Error;
 
 /// Why the previews of a heap aren't loaded.
@@ -12,18 +12,18 @@ pub enum PreviewFault {
     Memory,
 }
 
-/// Why the bytes of a binary aren't given.
+/// Why the bytes of a binary aren't available.
 #[derive(Debug, Drop, Error)]
 pub enum BinFault {
     /// No `binary` section has the address.
     #[error("there is no such binary")]
     NoBinary,
-    /// The body of the section has more bytes than the limit on sections; `at` is the offset of the section in the file,
-    /// and `len` the number of bytes.
+    /// The body of the section has more bytes than the limit on a section's body; `at` is
+    /// the offset of the section in the file, and `len` the number of bytes of the body.
     #[error("the section at {at} is too large: {len} bytes")]
     SectionTooLarge { at: u64, len: u64 },
-    /// The first line of the body isn't the number of bytes in hex, `:`, and the characters of so many bytes; `at` is
-    /// the offset of the section in the file.
+    /// The first line of the body isn't the number of bytes in hex, `:`, and the
+    /// characters of that many bytes; `at` is the offset of the section in the file.
     #[error("the binary at {at} is malformed")]
     BadBinary { at: u64 },
     /// The device failed.

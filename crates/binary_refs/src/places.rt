@@ -13,14 +13,14 @@ use section_index::Index;
 use std::alloc::{AllocError, Global};
 use std::marker::Model;
 
-// The number that an id writes in hex.
+// The number that an id is in hex.
 fn hex_id(id: Option<&[u8]>) -> Option<u64>
     ensures { result ≡ option_and_then hex_number (option_copied id.entry) }
 {
     hex_u64(id?)
 }
 
-// The address that the id writes, where the tag is that of binaries.
+// The address that an id writes, if the tag is that of binaries.
 fn address_of(tag: &[u8], id: Option<&[u8]>) -> Option<u64>
     ensures { result ≡ (if bytes_eq tag.now (codes "binary") then option_and_then hex_number (option_copied id.entry) else None) }
 {
@@ -31,7 +31,7 @@ fn address_of(tag: &[u8], id: Option<&[u8]>) -> Option<u64>
     }
 }
 
-// The address of the section at a place, where it is a `binary` section.
+// The address of the section at a place, if it is a `binary` section.
 fn address_at(index: &Index, i: usize) -> Option<u64>
     requires { i < length index.now.headers }
     ensures { result ≡ address_at (sections_in index.now) i }
@@ -40,7 +40,7 @@ fn address_at(index: &Index, i: usize) -> Option<u64>
     address_of(section.tag, section.id)
 }
 
-// One more pair, where the section at a place is a `binary` section.
+// Appends a pair, if the section at a place is a `binary` section.
 fn push_pair(pairs: &mut Vec<(u64, u32)>, index: &Index, i: usize) -> Result<(), AllocError>
     requires place { i < length index.now.headers }
     requires sections { i < length (sections_in index.now) }
@@ -55,7 +55,7 @@ fn push_pair(pairs: &mut Vec<(u64, u32)>, index: &Index, i: usize) -> Result<(),
     Ok(())
 }
 
-// The address of each `binary` section, with the section's place.
+// The address of each `binary` section, with the place of the section.
 fn pairs_of(alloc: Global, index: &Index) -> Result<Vec<(u64, u32)>, AllocError>
     ensures { IfOk result (λ pairs. ArePairs (sections_in index.now) (length (sections_in index.now)) pairs.items) }
 {
@@ -66,7 +66,7 @@ fn pairs_of(alloc: Global, index: &Index) -> Result<Vec<(u64, u32)>, AllocError>
     Ok(pairs)
 }
 
-// The same by address, and those with one address by place.
+// The same sorted by address, and those with the same address by place.
 fn places_of(alloc: Global, index: &Index) -> Result<Vec<(u64, u32)>, AllocError>
     ensures { IfOk result (λ pairs. AreOrdered (sections_in index.now) pairs.items) }
 {
@@ -95,7 +95,7 @@ impl<'a> Model for BinaryPlaces<'a> {
 }
 
 impl<'a> BinaryPlaces<'a> {
-    /// Sorts the `binary` sections of an index. An error comes only where memory lacks.
+    /// Sorts the `binary` sections of an index. Returns an error only if memory is lacking.
     pub fn find(alloc: Global, index: &'a Index) -> Result<BinaryPlaces<'a>, AllocError>
         ensures { IfOk result (λ places. places ≡ index.now) }
     {
@@ -110,7 +110,7 @@ impl<'a> BinaryPlaces<'a> {
         self.index
     }
 
-    /// Their addresses and their places.
+    /// The addresses and the places of the sections.
     pub(crate) fn pairs(&self) -> &[(u64, u32)]
         ensures { AreOrdered (sections_in self.now) result.now }
     {
@@ -118,7 +118,7 @@ impl<'a> BinaryPlaces<'a> {
     }
 }
 
-// How many of the pairs have a lesser address: these come first.
+// How many of the pairs have a lower address: these come first.
 fn count_below(pairs: &[(u64, u32)], address: u64) -> usize
     requires { IsNonDecreasingBy (λ pair. pair.0) pairs.now }
     ensures within { result ≤ length pairs.now }
@@ -127,7 +127,7 @@ fn count_below(pairs: &[(u64, u32)], address: u64) -> usize
     pairs.partition_point(|pair| pair.0 < address)
 }
 
-// The place of a pair that has the address.
+// The place of a pair, if it has the address.
 fn place_with(pair: &(u64, u32), address: u64) -> Option<usize>
     ensures { result ≡ (if pair.now.0 == address then Some pair.now.1 else None) }
 {

@@ -2,7 +2,7 @@
 ghost use Rattle.std.specs.Prelude.{◌≡◌, ℕ, ◌+◌, ◌*◌, ◌<◌, ◌≤◌, ◌++◌, [], List, length, map, nat_lt, true, false, Some, None, IsSome, OnOk, OnErr, IfOk, IfErr, IfSome};
 ghost use Rattle.std.specs.Option.{option_map, option_and_then, option_to_list};
 ghost use Rattle.std.specs.List.Sorted.{IsNonDecreasingBy, IsPartitionPoint};
-ghost use Rattle.dump_io.specs.Dumps.{told, used, DeviceFailed, ReadsAtMost};
+ghost use Rattle.dump_io.specs.Dumps.{told, DeviceFailed, ReadsAtMost};
 ghost use Rattle.section_index.specs.Index.{IsBuiltOver, sections_in};
 ghost use Rattle.term_forms.specs.Payload.{IsPayloadOf};
 ghost use Rattle.term_forms.specs.Seen.{number_rest};
@@ -27,7 +27,7 @@ use std::marker::Model;
 use term_forms::shapes::Form;
 use term_forms::{Enc, payload_part};
 
-// The length and the characters of a binary that lies in the heap.
+// The length and the characters of a heap binary.
 fn own_binary<'a>(form: &Form<'a>) -> Option<(u64, &'a [u8])>
     ensures { option_map number_rest result ≡ own_binary (heap_form form.now) }
 {
@@ -37,14 +37,15 @@ fn own_binary<'a>(form: &Form<'a>) -> Option<(u64, &'a [u8])>
     }
 }
 
-// Whether a cell of this kind is a binary on the heap.
+// Whether a cell of this kind is a heap binary.
 fn is_own(kind: Option<Kind>) -> bool
     ensures { result ≡ is_own kind }
 {
     matches!(kind, Some(Kind::HeapBin))
 }
 
-// Those of the heap's binary with this address. The kind is asked first, so that no more of another cell is read.
+// Those of the heap binary with this address. The kind is
+// checked first, so that no more is read of any other cell.
 fn heap_binary(heap: &Heap, address: u64) -> Option<(u64, &[u8])>
     ensures found { option_map number_rest result ≡ heap_binary heap.now.cells address }
     ensures payload { IfSome result (λ binary. IsPayloadOf heap.now.enc binary.1.now binary.0) }
@@ -73,7 +74,7 @@ fn shown_in(chars: &[u8], enc: Enc, size: u64, range: &Range) -> Option<FewBytes
     Some(FewBytes::new(bytes))
 }
 
-// What is shown of a part of a binary, from the heap's binary where there is one, and else from the dump.
+// What is shown of a sub binary: from the heap binary if there is one, and otherwise from the dump.
 fn read_shown_part<D: Dumps>(
     dumps: &mut D,
     index: &Index,
@@ -81,11 +82,11 @@ fn read_shown_part<D: Dumps>(
     heap: &Heap,
     range: &Range,
 ) -> Result<Option<FewBytes>, Failed>
-    requires over { IsBuiltOver (D.now dumps.old) index.now }
+    requires over { IsBuiltOver (D.state dumps.old).now index.now }
     requires places { AreOrdered (sections_in index.now) places.now }
-    ensures reads { ReadsAtMost (used D.files D.now D.faults D.taken dumps.old dumps.new) 128 }
-    ensures failed { OnErr result (DeviceFailed (used D.files D.now D.faults D.taken dumps.old dumps.new)) }
-    ensures bytes { IfOk result (λ bytes. (dump : List ℕ) → D.now dumps.old ≡ told dump
+    ensures reads { ReadsAtMost (D.state dumps.old) (D.state dumps.new) 128 }
+    ensures failed { OnErr result (DeviceFailed (D.state dumps.old) (D.state dumps.new)) }
+    ensures bytes { IfOk result (λ bytes. (dump : List ℕ) → (D.state dumps.old).now ≡ told dump
         → bytes ≡ in_part (heap_binary heap.now.cells range.now.address) dump index.now heap.now.enc range.now.address range.now.offset range.now.size) }
 {
     match heap_binary(heap, range.address) {
@@ -100,7 +101,7 @@ fn new_entry(cell: u32, size: u64, bytes: Option<FewBytes>) -> Entry
     Entry { cell, size, bytes }
 }
 
-// The entry of the cell with this number and form, where it refers to a binary.
+// The entry of the cell with this number and form, if it refers to a binary.
 fn read_form<D: Dumps>(
     dumps: &mut D,
     index: &Index,
@@ -109,12 +110,12 @@ fn read_form<D: Dumps>(
     n: u32,
     form: &Form<'_>,
 ) -> Result<Option<Entry>, Failed>
-    requires over { IsBuiltOver (D.now dumps.old) index.now }
+    requires over { IsBuiltOver (D.state dumps.old).now index.now }
     requires places { AreOrdered (sections_in index.now) places.now }
-    ensures reads { ReadsAtMost (used D.files D.now D.faults D.taken dumps.old dumps.new) (128 * length (option_to_list (stated n (heap_form form.now)))) }
-    ensures failed { OnErr result (DeviceFailed (used D.files D.now D.faults D.taken dumps.old dumps.new)) }
+    ensures reads { ReadsAtMost (D.state dumps.old) (D.state dumps.new) (128 * length (option_to_list (stated n (heap_form form.now)))) }
+    ensures failed { OnErr result (DeviceFailed (D.state dumps.old) (D.state dumps.new)) }
     ensures stated { IfOk result (λ entry. option_map stating entry ≡ stated n (heap_form form.now)) }
-    ensures entry { IfOk result (λ entry. (dump : List ℕ) → D.now dumps.old ≡ told dump → entry ≡ entry_of dump index.now heap.now.enc heap.now.cells n (heap_form form.now)) }
+    ensures entry { IfOk result (λ entry. (dump : List ℕ) → (D.state dumps.old).now ≡ told dump → entry ≡ entry_of dump index.now heap.now.enc heap.now.cells n (heap_form form.now)) }
 {
     match form {
         Form::RefBin(address, offset, size) => {
@@ -138,7 +139,7 @@ fn refers(kind: Option<Kind>) -> bool
     matches!(kind, Some(Kind::RefBin | Kind::SubBin))
 }
 
-// The entry of the cell with a number, where it refers to a binary.
+// The entry of the cell with a number, if it refers to a binary.
 fn read_entry<D: Dumps>(
     dumps: &mut D,
     index: &Index,
@@ -146,13 +147,13 @@ fn read_entry<D: Dumps>(
     heap: &Heap,
     n: u32,
 ) -> Result<Option<Entry>, Failed>
-    requires over { IsBuiltOver (D.now dumps.old) index.now }
+    requires over { IsBuiltOver (D.state dumps.old).now index.now }
     requires places { AreOrdered (sections_in index.now) places.now }
     requires cell { n < length heap.now.cells }
-    ensures reads { ReadsAtMost (used D.files D.now D.faults D.taken dumps.old dumps.new) (128 * length (option_to_list (option_and_then (stated n) (form_at heap.now.cells n)))) }
-    ensures failed { OnErr result (DeviceFailed (used D.files D.now D.faults D.taken dumps.old dumps.new)) }
+    ensures reads { ReadsAtMost (D.state dumps.old) (D.state dumps.new) (128 * length (option_to_list (option_and_then (stated n) (form_at heap.now.cells n)))) }
+    ensures failed { OnErr result (DeviceFailed (D.state dumps.old) (D.state dumps.new)) }
     ensures stated { IfOk result (λ entry. option_map stating entry ≡ option_and_then (stated n) (form_at heap.now.cells n)) }
-    ensures entry { IfOk result (λ entry. (dump : List ℕ) → D.now dumps.old ≡ told dump
+    ensures entry { IfOk result (λ entry. (dump : List ℕ) → (D.state dumps.old).now ≡ told dump
         → entry ≡ option_and_then (entry_of dump index.now heap.now.enc heap.now.cells n) (form_at heap.now.cells n)) }
 {
     let ix = heap.cell(n);
@@ -165,7 +166,7 @@ fn read_entry<D: Dumps>(
     }
 }
 
-// One more entry, where the cell with a number refers to a binary.
+// Appends an entry, if the cell with a number refers to a binary.
 fn push_entry<D: Dumps>(
     entries: &mut Vec<Entry>,
     dumps: &mut D,
@@ -174,13 +175,13 @@ fn push_entry<D: Dumps>(
     heap: &Heap,
     n: u32,
 ) -> Result<(), PreviewFault>
-    requires over { IsBuiltOver (D.now dumps.old) index.now }
+    requires over { IsBuiltOver (D.state dumps.old).now index.now }
     requires places { AreOrdered (sections_in index.now) places.now }
     requires cell { n < length heap.now.cells }
-    ensures reads { ReadsAtMost (used D.files D.now D.faults D.taken dumps.old dumps.new) (128 * length (option_to_list (option_and_then (stated n) (form_at heap.now.cells n)))) }
-    ensures fault { IfErr result (IsCauseOf (used D.files D.now D.faults D.taken dumps.old dumps.new)) }
+    ensures reads { ReadsAtMost (D.state dumps.old) (D.state dumps.new) (128 * length (option_to_list (option_and_then (stated n) (form_at heap.now.cells n)))) }
+    ensures fault { IfErr result (IsCauseOf (D.state dumps.old) (D.state dumps.new)) }
     ensures stated { OnOk result (map stating entries.new.items ≡ map stating entries.old.items ++ option_to_list (option_and_then (stated n) (form_at heap.now.cells n))) }
-    ensures entry { OnOk result ((dump : List ℕ) → D.now dumps.old ≡ told dump
+    ensures entry { OnOk result ((dump : List ℕ) → (D.state dumps.old).now ≡ told dump
         → entries.new.items ≡ entries.old.items ++ option_to_list (option_and_then (entry_of dump index.now heap.now.enc heap.now.cells n) (form_at heap.now.cells n))) }
 {
     let Ok(entry) = read_entry(dumps, index, places, heap, n) else {
@@ -202,12 +203,12 @@ fn read_entries<D: Dumps>(
     places: &[(u64, u32)],
     heap: &Heap,
 ) -> Result<Vec<Entry>, PreviewFault>
-    requires over { IsBuiltOver (D.now dumps.old) index.now }
+    requires over { IsBuiltOver (D.state dumps.old).now index.now }
     requires places { AreOrdered (sections_in index.now) places.now }
-    ensures reads { ReadsAtMost (used D.files D.now D.faults D.taken dumps.old dumps.new) (128 * length (binaries heap.now.cells)) }
-    ensures fault { IfErr result (IsCauseOf (used D.files D.now D.faults D.taken dumps.old dumps.new)) }
+    ensures reads { ReadsAtMost (D.state dumps.old) (D.state dumps.new) (128 * length (binaries heap.now.cells)) }
+    ensures fault { IfErr result (IsCauseOf (D.state dumps.old) (D.state dumps.new)) }
     ensures stated { IfOk result (λ entries. map stating entries.items ≡ binaries heap.now.cells) }
-    ensures entries { IfOk result (λ entries. (dump : List ℕ) → D.now dumps.old ≡ told dump → entries.items ≡ previews_of dump index.now heap.now.enc heap.now.cells) }
+    ensures entries { IfOk result (λ entries. (dump : List ℕ) → (D.state dumps.old).now ≡ told dump → entries.items ≡ previews_of dump index.now heap.now.enc heap.now.cells) }
 {
     let mut entries = Vec::new(alloc);
     for n in 0..heap.cells() {
@@ -228,7 +229,7 @@ fn has_reference(heap: &Heap) -> bool
     false
 }
 
-// How many of the entries are those of cells with lesser numbers: these come first.
+// How many of the entries are those of cells with lower numbers: these come first.
 fn count_below(entries: &[Entry], n: u32) -> usize
     requires { IsNonDecreasingBy (λ e. e.cell) entries.now }
     ensures within { result ≤ length entries.now }
@@ -247,7 +248,7 @@ fn entry_with(entries: &[Entry], n: u32) -> &Entry
     &entries[count_below(entries, n)]
 }
 
-// What an entry tells.
+// What an entry shows.
 fn shown(entry: &Entry) -> Preview<'_>
     ensures told { told_entry entry.now.cell result ≡ entry.now }
     ensures few { IsFew result }
@@ -258,11 +259,11 @@ fn shown(entry: &Entry) -> Preview<'_>
     }
 }
 
-/// The previews of a heap: for each cell that refers to a binary the first bytes of the range to which it refers, 32 at
-/// most, or that they are unknown.
+/// The previews of a heap: for each cell that refers to a binary the first
+/// bytes of the range to which it refers, at most 32, or that they are unknown.
 ///
-/// The bytes are unknown exactly where the dump hasn't the binary, where the range lies past its end, or where the
-/// characters that write the bytes are cut off or are none of the encoding.
+/// The bytes are unknown exactly when the dump doesn't have the binary, when the range extends past
+/// its end, or when the characters that write the bytes are cut off or are none of the encoding.
 #[derive(Drop)]
 pub struct Previews {
     entries: Vec<Entry>,
@@ -281,23 +282,23 @@ impl Model for Previews {
 }
 
 impl Previews {
-    /// Reads the previews of a heap. The index is one that was built over the file that is open, and the file stays open.
+    /// Reads the previews of a heap. The index was built over the open file, which stays open.
     ///
-    /// `Read` comes only where the device's count of faults rose; `Memory` may come where memory is taken for the
-    /// previews. At most 128 bytes are read for each cell that refers to a binary, also where the previews aren't loaded.
-    /// The `binary` sections are sorted only where there is such a cell.
+    /// Returns `Read` only if the device's count of faults rose; `Memory` may come from allocating
+    /// the previews. At most 128 bytes are read for each cell that refers to a binary, even if the
+    /// previews aren't loaded. The `binary` sections are sorted only if there is such a cell.
     pub fn load<D: Dumps>(
         alloc: Global,
         dumps: &mut D,
         index: &Index,
         heap: &Heap,
     ) -> Result<Previews, PreviewFault>
-        requires { IsBuiltOver (D.now dumps.old) index.now }
-        ensures reads { ReadsAtMost (used D.files D.now D.faults D.taken dumps.old dumps.new) (128 * length (binaries heap.now.cells)) }
-        ensures previews { IfOk result (λ previews. (dump : List ℕ) → D.now dumps.old ≡ told dump → previews ≡ previews_of dump index.now heap.now.enc heap.now.cells) }
+        requires { IsBuiltOver (D.state dumps.old).now index.now }
+        ensures reads { ReadsAtMost (D.state dumps.old) (D.state dumps.new) (128 * length (binaries heap.now.cells)) }
+        ensures previews { IfOk result (λ previews. (dump : List ℕ) → (D.state dumps.old).now ≡ told dump → previews ≡ previews_of dump index.now heap.now.enc heap.now.cells) }
         ensures stated { IfOk result (λ previews. map stating previews ≡ binaries heap.now.cells) }
         ensures each { IfOk result (AreFor heap.now.cells) }
-        ensures fault { IfErr result (IsCauseOf (used D.files D.now D.faults D.taken dumps.old dumps.new)) }
+        ensures fault { IfErr result (IsCauseOf (D.state dumps.old) (D.state dumps.new)) }
     {
         // A heap without a reference to a binary needs no order of the sections.
         if !has_reference(heap) {
@@ -311,19 +312,19 @@ impl Previews {
         Previews::load_with(alloc, dumps, &places, heap)
     }
 
-    /// The same with the order of the `binary` sections in hand, for whoever loads the previews of many heaps.
+    /// The same with the `binary` sections already sorted, for a caller that loads the previews of many heaps.
     pub fn load_with<D: Dumps>(
         alloc: Global,
         dumps: &mut D,
         places: &BinaryPlaces<'_>,
         heap: &Heap,
     ) -> Result<Previews, PreviewFault>
-        requires { IsBuiltOver (D.now dumps.old) places.now }
-        ensures reads { ReadsAtMost (used D.files D.now D.faults D.taken dumps.old dumps.new) (128 * length (binaries heap.now.cells)) }
-        ensures previews { IfOk result (λ previews. (dump : List ℕ) → D.now dumps.old ≡ told dump → previews ≡ previews_of dump places.now heap.now.enc heap.now.cells) }
+        requires { IsBuiltOver (D.state dumps.old).now places.now }
+        ensures reads { ReadsAtMost (D.state dumps.old) (D.state dumps.new) (128 * length (binaries heap.now.cells)) }
+        ensures previews { IfOk result (λ previews. (dump : List ℕ) → (D.state dumps.old).now ≡ told dump → previews ≡ previews_of dump places.now heap.now.enc heap.now.cells) }
         ensures stated { IfOk result (λ previews. map stating previews ≡ binaries heap.now.cells) }
         ensures each { IfOk result (AreFor heap.now.cells) }
-        ensures fault { IfErr result (IsCauseOf (used D.files D.now D.faults D.taken dumps.old dumps.new)) }
+        ensures fault { IfErr result (IsCauseOf (D.state dumps.old) (D.state dumps.new)) }
     {
         let entries = read_entries(alloc, dumps, places.index(), places.pairs(), heap)?;
         Ok(Previews { entries })

@@ -1,7 +1,7 @@
-// What is shown of binaries whose bytes stand in `binary` sections.
+// What is shown of binaries whose bytes are in `binary` sections.
 ghost use Rattle.std.specs.Prelude.{◌≡◌, ℕ, ◌+◌, ◌≤◌, ◌<◌, List, length, take, drop, nat_le, IfSome, OnOk, OnErr, IfOk};
 ghost use Rattle.std.specs.Option.{option_map};
-ghost use Rattle.dump_io.specs.Dumps.{told, used, DeviceFailed, ReadsAtMost};
+ghost use Rattle.dump_io.specs.Dumps.{told, DeviceFailed, ReadsAtMost};
 ghost use Rattle.section_index.specs.Bodies.{section_at, body_length};
 ghost use Rattle.section_index.specs.Index.{IsBuiltOver, sections_in};
 ghost use Rattle.binary_refs.specs.Previews.{payload_of, bytes_from, in_body, in_dump};
@@ -36,7 +36,7 @@ pub(crate) fn range_of(address: u64, offset: u64, size: u64) -> Range
     }
 }
 
-// The number of bytes that a body begins with, and the place in the body at which the characters begin.
+// The number of bytes with which a body begins, and the place in the body at which the characters begin.
 #[derive(Clone, Copy)]
 struct Lead {
     length: u64,
@@ -65,19 +65,19 @@ fn read_part<D: Dumps>(
     from: u64,
     into: &mut [u8],
 ) -> Result<(), Failed>
-    requires over { IsBuiltOver (D.now dumps.old) index.now }
+    requires over { IsBuiltOver (D.state dumps.old).now index.now }
     requires place { place < length index.now.headers }
     requires within { from + length into.old ≤ body_length (section_at index.now place) }
-    ensures reads { ReadsAtMost (used D.files D.now D.faults D.taken dumps.old dumps.new) (length into.old) }
-    ensures failed { OnErr result (DeviceFailed (used D.files D.now D.faults D.taken dumps.old dumps.new)) }
-    ensures part { OnOk result ((dump : List ℕ) → D.now dumps.old ≡ told dump
+    ensures reads { ReadsAtMost (D.state dumps.old) (D.state dumps.new) (length into.old) }
+    ensures failed { OnErr result (DeviceFailed (D.state dumps.old) (D.state dumps.new)) }
+    ensures part { OnOk result ((dump : List ℕ) → (D.state dumps.old).now ≡ told dump
         → into.new ≡ take (length into.old) (drop from (body_at dump index.now place))) }
 {
     let (body, _) = body_of(index, place);
     read_full(dumps, body + from, into)
 }
 
-// The number of bytes that a body begins with, by the body's front of 17 bytes or less.
+// The number of bytes with which a body begins, from the first 17 bytes of the body, or fewer.
 fn lead_of(front: &[u8]) -> Option<Lead>
     ensures within { IfSome result (λ lead. lead.chars ≤ length front.now) }
     ensures lead { (body : List ℕ) → front.now ≡ take 17 body → IsLeadOf body result }
@@ -92,12 +92,12 @@ fn lead_of(front: &[u8]) -> Option<Lead>
 
 // Reads what a section's body begins with.
 fn read_lead<D: Dumps>(dumps: &mut D, index: &Index, place: usize) -> Result<Option<Lead>, Failed>
-    requires over { IsBuiltOver (D.now dumps.old) index.now }
+    requires over { IsBuiltOver (D.state dumps.old).now index.now }
     requires place { place < length index.now.headers }
-    ensures reads { ReadsAtMost (used D.files D.now D.faults D.taken dumps.old dumps.new) 17 }
-    ensures failed { OnErr result (DeviceFailed (used D.files D.now D.faults D.taken dumps.old dumps.new)) }
+    ensures reads { ReadsAtMost (D.state dumps.old) (D.state dumps.new) 17 }
+    ensures failed { OnErr result (DeviceFailed (D.state dumps.old) (D.state dumps.new)) }
     ensures within { IfOk result (λ lead. IfSome lead (λ lead. lead.chars ≤ body_length (section_at index.now place))) }
-    ensures lead { IfOk result (λ lead. (dump : List ℕ) → D.now dumps.old ≡ told dump → IsLeadOf (body_at dump index.now place) lead) }
+    ensures lead { IfOk result (λ lead. (dump : List ℕ) → (D.state dumps.old).now ≡ told dump → IsLeadOf (body_at dump index.now place) lead) }
 {
     let (_, len) = body_of(index, place);
     let mut buffer = [0; 17];
@@ -106,7 +106,7 @@ fn read_lead<D: Dumps>(dumps: &mut D, index: &Index, place: usize) -> Result<Opt
     Ok(lead_of(front))
 }
 
-// The bytes of a range, by the characters of its cover.
+// The bytes of a range, from the characters of its cover.
 fn decoded(chars: &[u8], enc: Enc, cover: &Cover, count: u32) -> Option<FewBytes>
     requires few { count ≤ 32 }
     requires bytes { cover.now.bytes ≤ 36 }
@@ -122,7 +122,7 @@ fn decoded(chars: &[u8], enc: Enc, cover: &Cover, count: u32) -> Option<FewBytes
     Some(FewBytes::new(&bytes[cover.skip as usize..][..count as usize]))
 }
 
-// Reads the characters of a cover, from a place in the body on, and gives the bytes of the range.
+// Reads the characters of a cover, from a place in the body on, and returns the bytes of the range.
 fn read_cover<D: Dumps>(
     dumps: &mut D,
     index: &Index,
@@ -132,16 +132,16 @@ fn read_cover<D: Dumps>(
     cover: &Cover,
     count: u32,
 ) -> Result<Option<FewBytes>, Failed>
-    requires over { IsBuiltOver (D.now dumps.old) index.now }
+    requires over { IsBuiltOver (D.state dumps.old).now index.now }
     requires place { place < length index.now.headers }
     requires few { count ≤ 32 }
     requires chars { cover.now.chars ≤ 64 }
     requires bytes { cover.now.bytes ≤ 36 }
     requires holds { cover.now.skip + count ≤ cover.now.bytes }
     requires within { from + cover.now.chars ≤ body_length (section_at index.now place) }
-    ensures reads { ReadsAtMost (used D.files D.now D.faults D.taken dumps.old dumps.new) 64 }
-    ensures failed { OnErr result (DeviceFailed (used D.files D.now D.faults D.taken dumps.old dumps.new)) }
-    ensures bytes { IfOk result (λ bytes. (dump : List ℕ) → D.now dumps.old ≡ told dump
+    ensures reads { ReadsAtMost (D.state dumps.old) (D.state dumps.new) 64 }
+    ensures failed { OnErr result (DeviceFailed (D.state dumps.old) (D.state dumps.new)) }
+    ensures bytes { IfOk result (λ bytes. (dump : List ℕ) → (D.state dumps.old).now ≡ told dump
         → bytes ≡ option_map (λ bytes. take count (drop cover.now.skip bytes)) (payload_of enc cover.now.bytes (take cover.now.chars (drop from (body_at dump index.now place))))) }
 {
     let mut buffer = [0; 64];
@@ -150,7 +150,8 @@ fn read_cover<D: Dumps>(
     Ok(decoded(chars, enc, cover, count))
 }
 
-// Reads bytes of a binary from an offset on, where the binary's length and its characters' place in the body are known.
+// Reads bytes of a binary from an offset on, given the
+// binary's length and the place of its characters in the body.
 fn read_bytes<D: Dumps>(
     dumps: &mut D,
     index: &Index,
@@ -160,14 +161,14 @@ fn read_bytes<D: Dumps>(
     offset: u64,
     count: u32,
 ) -> Result<Option<FewBytes>, Failed>
-    requires over { IsBuiltOver (D.now dumps.old) index.now }
+    requires over { IsBuiltOver (D.state dumps.old).now index.now }
     requires place { place < length index.now.headers }
     requires few { count ≤ 32 }
     requires range { offset + count ≤ lead.now.length }
     requires chars { lead.now.chars ≤ body_length (section_at index.now place) }
-    ensures reads { ReadsAtMost (used D.files D.now D.faults D.taken dumps.old dumps.new) 64 }
-    ensures failed { OnErr result (DeviceFailed (used D.files D.now D.faults D.taken dumps.old dumps.new)) }
-    ensures bytes { IfOk result (λ bytes. (dump : List ℕ) → D.now dumps.old ≡ told dump
+    ensures reads { ReadsAtMost (D.state dumps.old) (D.state dumps.new) 64 }
+    ensures failed { OnErr result (DeviceFailed (D.state dumps.old) (D.state dumps.new)) }
+    ensures bytes { IfOk result (λ bytes. (dump : List ℕ) → (D.state dumps.old).now ≡ told dump
         → bytes ≡ bytes_from enc lead.now.length (drop lead.now.chars (body_at dump index.now place)) offset count) }
 {
     if count == 0 {
@@ -175,7 +176,7 @@ fn read_bytes<D: Dumps>(
     }
     let (_, len) = body_of(index, place);
     let chars = len - lead.chars;
-    // No byte is written by fewer characters than one.
+    // Each byte is written by at least one character.
     if offset > chars {
         return Ok(None);
     }
@@ -194,7 +195,7 @@ fn read_bytes<D: Dumps>(
     )
 }
 
-// Whether the range lies within so many bytes.
+// Whether the range lies within a binary of `len` bytes.
 pub(crate) fn is_within(range: &Range, len: u64) -> bool
     ensures { result ≡ nat_le (range.now.offset + range.now.size) len }
 {
@@ -209,11 +210,11 @@ fn read_shown<D: Dumps>(
     enc: Enc,
     range: &Range,
 ) -> Result<Option<FewBytes>, Failed>
-    requires over { IsBuiltOver (D.now dumps.old) index.now }
+    requires over { IsBuiltOver (D.state dumps.old).now index.now }
     requires place { place < length index.now.headers }
-    ensures reads { ReadsAtMost (used D.files D.now D.faults D.taken dumps.old dumps.new) 128 }
-    ensures failed { OnErr result (DeviceFailed (used D.files D.now D.faults D.taken dumps.old dumps.new)) }
-    ensures bytes { IfOk result (λ bytes. (dump : List ℕ) → D.now dumps.old ≡ told dump
+    ensures reads { ReadsAtMost (D.state dumps.old) (D.state dumps.new) 128 }
+    ensures failed { OnErr result (DeviceFailed (D.state dumps.old) (D.state dumps.new)) }
+    ensures bytes { IfOk result (λ bytes. (dump : List ℕ) → (D.state dumps.old).now ≡ told dump
         → bytes ≡ in_body enc range.now.offset range.now.size (body_at dump index.now place)) }
 {
     let Some(lead) = read_lead(dumps, index, place)? else {
@@ -233,7 +234,8 @@ fn read_shown<D: Dumps>(
     )
 }
 
-// Reads what is shown of a range of a binary in the dump, which is looked up among the `binary` sections by address.
+// Reads what is shown of a range of a binary in the dump,
+// which is looked up by address among the `binary` sections.
 pub(crate) fn read_stored<D: Dumps>(
     dumps: &mut D,
     index: &Index,
@@ -241,11 +243,11 @@ pub(crate) fn read_stored<D: Dumps>(
     enc: Enc,
     range: &Range,
 ) -> Result<Option<FewBytes>, Failed>
-    requires over { IsBuiltOver (D.now dumps.old) index.now }
+    requires over { IsBuiltOver (D.state dumps.old).now index.now }
     requires places { AreOrdered (sections_in index.now) places.now }
-    ensures reads { ReadsAtMost (used D.files D.now D.faults D.taken dumps.old dumps.new) 128 }
-    ensures failed { OnErr result (DeviceFailed (used D.files D.now D.faults D.taken dumps.old dumps.new)) }
-    ensures bytes { IfOk result (λ bytes. (dump : List ℕ) → D.now dumps.old ≡ told dump
+    ensures reads { ReadsAtMost (D.state dumps.old) (D.state dumps.new) 128 }
+    ensures failed { OnErr result (DeviceFailed (D.state dumps.old) (D.state dumps.new)) }
+    ensures bytes { IfOk result (λ bytes. (dump : List ℕ) → (D.state dumps.old).now ≡ told dump
         → bytes ≡ in_dump dump index.now enc range.now.address range.now.offset range.now.size) }
 {
     let Some(place) = place_of(index, places, range.address) else {

@@ -1,7 +1,7 @@
 // The bytes of whole binaries.
 ghost use Rattle.std.specs.Prelude.{◌≡◌, ℕ, ◌<◌, List, length, Some, None, IfSome, IfOk, IfErr, OnOk, IsErrOf};
 ghost use Rattle.std.specs.Option.{option_map, option_copied};
-ghost use Rattle.dump_io.specs.Dumps.{told, used, ReadsAtMost};
+ghost use Rattle.dump_io.specs.Dumps.{told, ReadsAtMost};
 ghost use Rattle.section_index.specs.Bodies.{section_at, body_length};
 ghost use Rattle.section_index.specs.Index.{IsBuiltOver};
 ghost use Rattle.heap_cells.specs.Loading.{enc_of};
@@ -34,8 +34,8 @@ fn first_text(body: &[u8]) -> Option<&[u8]>
     Some(line.text)
 }
 
-/// Decodes `chars`, if they are the payload of exactly `count` bytes. `AllocError` comes where there is no memory for
-/// these bytes.
+/// Decodes `chars`, if they are the payload of exactly `count` bytes.
+/// Returns `AllocError` if there is no memory for these bytes.
 pub fn decode_payload(
     alloc: Global,
     enc: Enc,
@@ -46,7 +46,7 @@ pub fn decode_payload(
 {
     payload_bytes_are_read(enc);
     payload_is_of_one(enc);
-    // No byte is written by fewer characters than one.
+    // Each byte is written by at least one character.
     if count > chars.len() as u64 {
         return Ok(None);
     }
@@ -58,7 +58,7 @@ pub fn decode_payload(
     }
 }
 
-// The bytes of a body, where its first line is a length, `:`, and the payload of so many bytes.
+// The bytes of a body, if its first line is a length, `:`, and the payload of that many bytes.
 fn bytes_of_body(alloc: Global, enc: Enc, body: &[u8]) -> Result<Option<Vec<u8>>, AllocError>
     ensures { IfOk result (λ bytes. bytes_in bytes ≡ bytes_of_body enc body.now) }
 {
@@ -89,13 +89,13 @@ fn whole_at<D: Dumps>(
     i: usize,
     limits: &Limits,
 ) -> Result<Vec<u8>, BinFault>
-    requires over { IsBuiltOver (D.now dumps.old) index.now }
+    requires over { IsBuiltOver (D.state dumps.old).now index.now }
     requires place { i < length index.now.headers }
-    ensures reads { ReadsAtMost (used D.files D.now D.faults D.taken dumps.old dumps.new) (body_length (section_at index.now i)) }
-    ensures bytes { IfOk result (λ bytes. (dump : List ℕ) → D.now dumps.old ≡ told dump → bytes_of_body (enc_of index.now.version) (body_at dump index.now i) ≡ Some bytes.items) }
-    ensures bad { IfErr result (λ fault. (dump : List ℕ) → D.now dumps.old ≡ told dump → IsBadFor (bytes_of_body (enc_of index.now.version) (body_at dump index.now i)) fault) }
+    ensures reads { ReadsAtMost (D.state dumps.old) (D.state dumps.new) (body_length (section_at index.now i)) }
+    ensures bytes { IfOk result (λ bytes. (dump : List ℕ) → (D.state dumps.old).now ≡ told dump → bytes_of_body (enc_of index.now.version) (body_at dump index.now i) ≡ Some bytes.items) }
+    ensures bad { IfErr result (λ fault. (dump : List ℕ) → (D.state dumps.old).now ≡ told dump → IsBadFor (bytes_of_body (enc_of index.now.version) (body_at dump index.now i)) fault) }
     ensures loaded { OnOk result (refused limits.now.section (Some (section_at index.now i)) ≡ None) }
-    ensures fault { IfErr result (IsBinCauseOf (Some (section_at index.now i)) limits.now.section (used D.files D.now D.faults D.taken dumps.old dumps.new)) }
+    ensures fault { IfErr result (IsBinCauseOf (Some (section_at index.now i)) limits.now.section (D.state dumps.old) (D.state dumps.new)) }
     ensures refused { IfSome (refused limits.now.section (Some (section_at index.now i))) (IsErrOf result) }
     ensures unread { IfSome (refused limits.now.section (Some (section_at index.now i))) (λ _. dumps.new ≡ dumps.old) }
 {
@@ -112,7 +112,7 @@ fn whole_at<D: Dumps>(
     }
 }
 
-// The place of the first `binary` section whose id writes the address in hex.
+// The place of the first `binary` section whose id is the address in hex.
 fn place_of(index: &Index, addr: u64) -> Option<usize>
     ensures section { option_map (section_at index.now) result ≡ binary_section index.now addr }
     ensures within { IfSome result (λ i. i < length index.now.headers) }
@@ -121,14 +121,14 @@ fn place_of(index: &Index, addr: u64) -> Option<usize>
     index.first_hex(b"binary", addr)
 }
 
-/// Reads all bytes of the first `binary` section whose id writes an address in hex. The index is one that was built over
-/// the file that is open, and the file stays open.
+/// Reads all bytes of the first `binary` section whose id is an address
+/// in hex. The index was built over the open file, which stays open.
 ///
-/// `NoBinary` comes exactly where there is no such section, and `SectionTooLarge` exactly where its body has more bytes
-/// than the limit on sections; nothing is read then. `BadBinary` comes exactly where the body's first line isn't the
-/// number of bytes in hex, `:`, and the characters of so many bytes, unless `Read` or `Memory` comes: `Read` only where
-/// the device's count of faults rose, and `Memory` where memory is taken. At most as many bytes are read as the body has,
-/// also where none are given.
+/// Returns `NoBinary` exactly when there is no such section, and `SectionTooLarge` exactly when its body
+/// has more bytes than the limit on a section's body; nothing is read then. Returns `BadBinary` exactly
+/// when the body's first line isn't the number of bytes in hex, `:`, and the characters of that many
+/// bytes, unless it returns `Read` or `Memory`: `Read` only if the device's count of faults rose, and
+/// `Memory` from an allocation. At most as many bytes are read as the body has, even if none are returned.
 pub fn whole<D: Dumps>(
     alloc: Global,
     dumps: &mut D,
@@ -136,14 +136,14 @@ pub fn whole<D: Dumps>(
     addr: u64,
     limits: &Limits,
 ) -> Result<Vec<u8>, BinFault>
-    requires { IsBuiltOver (D.now dumps.old) index.now }
-    ensures reads { ReadsAtMost (used D.files D.now D.faults D.taken dumps.old dumps.new) (found_length (binary_section index.now addr)) }
-    ensures bytes { IfOk result (λ bytes. (dump : List ℕ) → D.now dumps.old ≡ told dump → whole_bytes dump index.now addr ≡ Some bytes.items) }
-    ensures bad { IfErr result (λ fault. (dump : List ℕ) → D.now dumps.old ≡ told dump → IsBadFor (whole_bytes dump index.now addr) fault) }
+    requires { IsBuiltOver (D.state dumps.old).now index.now }
+    ensures reads { ReadsAtMost (D.state dumps.old) (D.state dumps.new) (found_length (binary_section index.now addr)) }
+    ensures bytes { IfOk result (λ bytes. (dump : List ℕ) → (D.state dumps.old).now ≡ told dump → whole_bytes dump index.now addr ≡ Some bytes.items) }
+    ensures bad { IfErr result (λ fault. (dump : List ℕ) → (D.state dumps.old).now ≡ told dump → IsBadFor (whole_bytes dump index.now addr) fault) }
     ensures loaded { OnOk result (refused limits.now.section (binary_section index.now addr) ≡ None) }
-    ensures fault { IfErr result (IsBinCauseOf (binary_section index.now addr) limits.now.section (used D.files D.now D.faults D.taken dumps.old dumps.new)) }
+    ensures fault { IfErr result (IsBinCauseOf (binary_section index.now addr) limits.now.section (D.state dumps.old) (D.state dumps.new)) }
 
-    // These two refusals come before anything is read, and the device plays no part.
+    // These two refusals come before anything is read, whatever the device does.
     ensures refused { IfSome (refused limits.now.section (binary_section index.now addr)) (IsErrOf result) }
     ensures unread { IfSome (refused limits.now.section (binary_section index.now addr)) (λ _. dumps.new ≡ dumps.old) }
 {

@@ -1,9 +1,9 @@
-// A case, and the lines that tell it.
+// A case, and the lines that describe it.
 use crate::text::{put_expected, put_line};
 use dump_io::{Limits, dec_u64};
 use std::alloc::{AllocError, Global};
 
-/// The limits of a run, as they may be lowered.
+/// The limits of a run, which a case may lower.
 #[derive(Clone, Copy)]
 pub struct Bounds {
     pub dump: u64,
@@ -27,7 +27,7 @@ impl Bounds {
         }
     }
 
-    /// The limits of these numbers; the usual ones where a number is above its usual value.
+    /// The limits with these numbers, or the usual ones if `Limits::new` rejects these.
     pub fn limits(&self) -> Limits {
         let limits = Limits::new(
             self.dump,
@@ -40,7 +40,8 @@ impl Bounds {
         limits.unwrap_or(Limits::usual())
     }
 
-    // Lowers the limit of this name. `None` comes where there is no such limit, or the number isn't one of its type.
+    // Lowers the limit with this name. Returns `None` if there
+    // is no such limit, or if the number isn't one of its type.
     fn lower(&mut self, name: &str, number: u64) -> Option<()> {
         match name {
             "dump" => self.dump = number,
@@ -65,7 +66,7 @@ pub struct Case {
     is_same_dump: bool,
     /// Whether the case runs only once, as it is.
     pub is_once: bool,
-    /// On the fronts of how many bytes the case runs, where it doesn't run on the whole dump.
+    /// The lengths of the prefixes of the dump on which the case runs, if it doesn't run on the whole dump.
     pub fronts: Option<(usize, usize)>,
     pub bounds: Bounds,
     pub taken: u64,
@@ -114,7 +115,7 @@ impl Case {
         Ok(())
     }
 
-    /// Takes a line of the case; `false` comes where it tells nothing of one.
+    /// Takes a line of the case. Returns `false` if the line doesn't belong to a case.
     pub fn take(&mut self, alloc: Global, line: &str) -> Result<bool, AllocError> {
         let (word, rest) = line.split_once(' ').unwrap_or((line, ""));
         if let Some(kind) = word.strip_prefix('|') {
@@ -141,7 +142,7 @@ impl Case {
         Ok(())
     }
 
-    // `None` comes where there is no such setting.
+    // Returns `None` if there is no such setting.
     fn take_setting(&mut self, word: &str, rest: &str) -> Option<()> {
         match word {
             "limit" => {

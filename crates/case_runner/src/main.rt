@@ -1,7 +1,7 @@
-//! `case_runner FILES`: runs the cases of some files, and says how many passed and which did not.
+//! `case_runner FILES`: runs the cases in some files, and says how many passed and which did not.
 //!
-//! A case is a run of edump's words over a dump in memory, and what it leaves: its status, and all bytes on its output and
-//! its standard error. Its file has a line for each of these, which begins with a word or a sign:
+//! A case is a run of edump's words over a dump in memory, and what it leaves: its status, and all bytes on its
+//! output and its standard error. Its file has a line for each of these, which begins with a word or a sign:
 //!
 //! ```text
 //! # a remark
@@ -16,16 +16,19 @@
 //! ! an expected line of standard error
 //! ```
 //!
-//! The dump is the file `F`. Behind the sign of a line of it, or of what is expected, one letter may stand: with `-` the line
-//! lacks its LF, and `r` ends it with CR and LF; `h 1F 8B` is these bytes, `x 4095` so many letters `x`, and `k 3 TEXT` the text
-//! so many times: of a dump as lines, where `@0` stands for 16 times the line's number in hex and `@1` for 16 more, and of
-//! what is expected without LF. A case without a line of a dump runs on that of the case before. `limit` lowers one limit, and
-//! `taken` is the most bytes that the device gives.
+//! The dump is the file `F`. In a line of the dump, or of what is expected, one letter may follow
+//! the sign: with `-` the line lacks its LF, and `r` ends it with CR and LF; `h 1F 8B` stands for
+//! these bytes, `x 4095` for that many letters `x`, and `k 3 TEXT` for the text that many times:
+//! in a dump as lines, where `@0` stands for 16 times the line's number in hex and `@1` for 16
+//! more, and in what is expected without LF. A case without a line of a dump runs on that of the
+//! case before. `limit` lowers one limit, and `taken` is the most bytes that the device gives.
 //!
-//! Each case runs with reads and writes of several sizes, and must end alike. Then each call of the device fails once, which must
-//! end with the status of a read fault and nothing written, the first eight of them where a read gives a single byte too; and
-//! each write of a single byte fails once, which must leave the bytes before it. With the line `once` a case runs once, as it is; with `fronts 19 936` it runs once on each front of the dump
-//! from 19 to 935 bytes, and what it writes must end with a line that begins as is expected.
+//! Each case runs with reads and writes of several sizes, and must end alike. Then each call of
+//! the device fails once, which must end with the status of a read fault and nothing written;
+//! the first eight of them also fail when each read gives a single byte. And each write of a
+//! single byte fails once, which must leave the bytes before it. With the line `once` a case
+//! runs once, as it is. With `fronts 19 936` it runs once on each prefix of the dump from 19 to
+//! 935 bytes, and what it writes must end with a line that begins with what is expected.
 #![tactic(auto)]
 
 mod case;

@@ -5,8 +5,8 @@ use dump_command::status::UNREAD;
 use dump_io::{MemDumps, MemSink};
 use std::alloc::{AllocError, Global};
 
-/// How a run is hindered: to how many bytes its reads are cut, which call of the device fails, how many bytes a write to
-/// either sink takes, and which write to each of them fails. With 0 nothing is.
+/// How a run is hindered: to how many bytes its reads are cut, which call of the device fails, how many
+/// bytes a write to either sink takes, and which write to each of them fails. A 0 hinders nothing.
 #[derive(Clone, Copy)]
 pub struct Hindrance {
     pub cut: usize,
@@ -34,13 +34,13 @@ pub struct Outcome {
 }
 
 impl Outcome {
-    /// Whether the run ended so, and left these bytes.
+    /// Whether the run ended with this status, and left these bytes.
     pub fn is(&self, status: u64, out: &[u8], err: &[u8]) -> bool {
         self.status == status && self.out.written() == out && self.err.written() == err
     }
 
-    /// Whether the run ended with a fault of reading. Nothing was written then, or a front of the report that the case
-    /// expects, where its command writes while it reads.
+    /// Whether the run ended with a read fault. Nothing was written then, or, if the command
+    /// of the case writes while it reads, a prefix of the report that the case expects.
     pub fn is_unread(&self, case: &Case) -> bool {
         let out = self.out.written();
         let is_front = case.streams() && out.len() < case.out.len() && case.out.starts_with(out);
@@ -56,7 +56,7 @@ fn dumps_of(alloc: Global, dump: &[u8], hindrance: &Hindrance) -> Result<MemDump
     }
 }
 
-/// Runs a case, hindered so.
+/// Runs a case with this hindrance.
 pub fn run_case(alloc: Global, case: &Case, hindrance: &Hindrance) -> Result<Outcome, AllocError> {
     run_on(alloc, case, case.dump.as_slice(), hindrance)
 }

@@ -7,13 +7,13 @@ use std::alloc::{AllocError, Global};
 // To how many bytes reads and writes are cut; 0 cuts nothing.
 const CUTS: [usize; 5] = [0, 1, 2, 3, 7];
 
-// How many of the first calls fail in turn where each read gives one byte.
+// How many of the first calls fail in turn when each read gives one byte.
 const FIRST_CALLS: u64 = 8;
 
 // The most calls and writes that fail in turn.
 const MOST: usize = 1_000;
 
-// Whether the case ends alike with reads and writes of some sizes, and takes no more bytes than it may.
+// Whether the case ends alike with reads and writes of several sizes, and takes no more bytes than it may.
 fn passes_cuts(alloc: Global, case: &Case) -> Result<bool, AllocError> {
     for cut in CUTS {
         let end = run_case(
@@ -38,8 +38,8 @@ fn reads_all(case: &Case) -> bool {
     is_done && case.taken > 0
 }
 
-// How many calls of the device end the case with a fault of reading, where one of them fails; none where it ends otherwise
-// then.
+// How many calls of the device end the case with a read fault when
+// one of them fails; `None` if the case ends in another way then.
 fn failing_calls(alloc: Global, case: &Case, cut: usize) -> Result<Option<u64>, AllocError> {
     for failing_call in 1..MOST as u64 {
         let failing = Hindrance {
@@ -56,8 +56,8 @@ fn failing_calls(alloc: Global, case: &Case, cut: usize) -> Result<Option<u64>, 
     Ok(None)
 }
 
-// Whether the case ends with a fault of reading where one of the device's calls fails, with reads as long as they come and
-// with some forty reads of the dump. A case that isn't done may end before its first read.
+// Whether the case ends with a read fault when one of the device's calls fails, with reads as long as
+// they come and with some forty reads of the dump. A case that isn't done may end before its first read.
 fn passes_calls(alloc: Global, case: &Case) -> Result<bool, AllocError> {
     if case.status == u64::from(UNREAD) {
         return Ok(true);
@@ -71,7 +71,7 @@ fn passes_calls(alloc: Global, case: &Case) -> Result<bool, AllocError> {
     Ok(true)
 }
 
-// The same with reads of one byte, for the first calls: where none of them fails the case ends alike.
+// The same with reads of one byte, for the first calls; if none of them fails, the case ends alike.
 fn passes_first_calls(alloc: Global, case: &Case) -> Result<bool, AllocError> {
     for failing_call in 1..=FIRST_CALLS {
         let failing = Hindrance {
@@ -87,12 +87,12 @@ fn passes_first_calls(alloc: Global, case: &Case) -> Result<bool, AllocError> {
     Ok(true)
 }
 
-// The first bytes of a text, so many where it has them.
+// The first `count` bytes of a text, if it has that many.
 fn front(text: &[u8], count: usize) -> &[u8] {
     text.get(..count).unwrap_or(text)
 }
 
-// Whether the bytes before a write that fails stand in `out`, for each write.
+// Whether, for each write that fails, the bytes before it are in `out`.
 fn passes_writes(alloc: Global, case: &Case) -> Result<bool, AllocError> {
     for written in 0..case.out.len().min(MOST) {
         let failing = Hindrance {
@@ -124,7 +124,7 @@ fn passes_lines(alloc: Global, case: &Case) -> Result<bool, AllocError> {
     Ok(true)
 }
 
-// Whether the case ends as it must, where nothing hinders it.
+// Whether the case ends as it must when nothing hinders it.
 fn passes_once(alloc: Global, case: &Case) -> Result<bool, AllocError> {
     let end = run_case(alloc, case, &NONE)?;
     Ok(end.is(case.status, &case.out, &case.err) && end.taken <= case.taken)
@@ -141,12 +141,12 @@ fn last_line(text: &[u8]) -> &[u8] {
     last
 }
 
-// Whether a text ends with a line that begins so. Where nothing is expected it is empty.
+// Whether the last line of a text begins with what is expected. If nothing is expected, the text is empty.
 fn ends_as(text: &[u8], expected: &[u8]) -> bool {
     text.is_empty() == expected.is_empty() && last_line(text).starts_with(expected)
 }
 
-// Whether the case ends as it must on each front of its dump with so many bytes.
+// Whether the case ends as it must on each prefix of its dump with a length in this range.
 fn passes_fronts(alloc: Global, case: &Case, from: usize, upto: usize) -> Result<bool, AllocError> {
     for length in from..upto {
         let end = run_on(alloc, case, front(&case.dump, length), &NONE)?;

@@ -4,7 +4,7 @@ use crate::outcome::{NONE, run_case};
 use crate::passing::passes;
 use std::io;
 
-// Says what became of a case, where it did not pass.
+// Reports a case that did not pass.
 fn tell_failed(rt: &HostRuntime, case: &Case) -> io::Result<()> {
     let end = run_case(rt.alloc(), case, &NONE)?;
     let name = case.name.as_str();
@@ -20,7 +20,7 @@ fn tell_failed(rt: &HostRuntime, case: &Case) -> io::Result<()> {
     Ok(())
 }
 
-// Whether a case passed; where no case has begun there is none.
+// Whether a case passed, as a count; if no case has begun, there is none.
 fn end_case(rt: &HostRuntime, case: &Case) -> io::Result<u64> {
     if case.name.is_empty() {
         return Ok(0);
@@ -32,7 +32,7 @@ fn end_case(rt: &HostRuntime, case: &Case) -> io::Result<u64> {
     Ok(0)
 }
 
-/// Runs the cases of a file, tells each that does not pass, and answers how many passed.
+/// Runs the cases of a file, reports each that does not pass, and returns how many passed.
 pub fn run_file(rt: &HostRuntime, text: &str) -> io::Result<u64> {
     let alloc = rt.alloc();
     let mut case = Case::new(alloc);

@@ -6,7 +6,7 @@ fn put_text(into: &mut Vec<u8>, text: &str) -> Result<(), AllocError> {
     into.extend_from_slice(text.as_bytes())
 }
 
-// Bytes in hex, between spaces; `false` comes where one is none.
+// Bytes in hex, with spaces between them. Returns `false` if one of them is none.
 fn put_bytes(into: &mut Vec<u8>, text: &str) -> Result<bool, AllocError> {
     for word in text.split_whitespace() {
         match hex_u64(word.as_bytes()).and_then(|number| u8::try_from(number).ok()) {
@@ -56,7 +56,8 @@ fn put_numbered(into: &mut Vec<u8>, number: u64, text: &str) -> Result<(), Alloc
     put_text(into, "\n")
 }
 
-/// Puts what a line of a dump writes, by the letter behind its sign. `false` comes where it is no such line.
+/// Appends what a line of a dump stands for, by the letter
+/// after its sign. Returns `false` if it is no such line.
 pub fn put_line(into: &mut Vec<u8>, kind: &str, rest: &str) -> Result<bool, AllocError> {
     if kind != "k" {
         return put_expected(into, kind, rest);
@@ -70,7 +71,7 @@ pub fn put_line(into: &mut Vec<u8>, kind: &str, rest: &str) -> Result<bool, Allo
     Ok(true)
 }
 
-/// Puts what a line of what is expected writes, by the letter behind its sign.
+/// Appends what a line of what is expected stands for, by the letter after its sign.
 pub fn put_expected(into: &mut Vec<u8>, kind: &str, rest: &str) -> Result<bool, AllocError> {
     match kind {
         "" => {

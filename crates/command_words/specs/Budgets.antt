@@ -1,11 +1,11 @@
--- How much of a term is shown, by the last words of a command.
+-- How much of a term is shown, from the last words of a command.
 use Rattle.std.specs.Prelude.{ℕ, Bool, true, false, List, [], ◌∷◌, Option, None, Some, codes, if◌then◌else◌}
 use Rattle.std.specs.Option.{option_map}
 use Rattle.std.specs.Str.{bytes_eq}
 use Rattle.command_words.specs.Ranges.{number_upto}
 use Rattle.command_words.specs.declared.budgets.Budget.{Budget}
 
--- so many nodes of a term, with bad addresses marked in its text or not
+-- this many nodes of a term, with bad addresses marked in its text or not
 abbrev pub budget : Bool → ℕ → Budget
 budget marked nodes = record { nodes = nodes; marked = marked }
 
@@ -21,7 +21,7 @@ is_mark word = bytes_eq word (codes "marked")
 abbrev pub counted : Bool → List ℕ → Option Budget
 counted marked word = option_map (budget marked) (nodes_of word)
 
--- the last words are a number of nodes, which is 10,000 where it is left out, and then `marked` or nothing
+-- the last words are a number of nodes, which is 10,000 if it is left out, and then `marked` or nothing
 abbrev pub budget_of : List (List ℕ) → Option Budget
 budget_of [] = Some (budget false 10000)
 budget_of (word ∷ []) = if is_mark word then Some (budget true 10000) else counted false word

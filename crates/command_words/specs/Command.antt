@@ -1,4 +1,4 @@
--- The commands, by the words of the command line.
+-- The commands, from the words of the command line.
 use Rattle.std.specs.Prelude.{ℕ, ◌<◌, ◌≤◌, Bool, true, false, List, [], ◌∷◌, Option, None, Some, codes, if◌then◌else◌}
 use Rattle.std.specs.Option.{option_and_then, option_map}
 use Rattle.std.specs.Str.{bytes_eq}
@@ -22,7 +22,7 @@ pub data Command : Type 0 where
   proc : List ℕ → List ℕ → Command
   memory : List ℕ → Command
   table : TableKind → List ℕ → Command
-  -- the roots of the process with this pid, each within so many nodes, with bad addresses marked or not
+  -- the roots of the process with this pid, each within this many nodes, with bad addresses marked or not
   roots : RootKind → List ℕ → List ℕ → ℕ → Bool → Command
   -- the term at this address, in the heap of the process with this pid
   term : List ℕ → List ℕ → ℕ → ℕ → Bool → Command
@@ -30,15 +30,15 @@ pub data Command : Type 0 where
   ext : List ℕ → List ℕ → ℕ → Command
   -- what the roots of the process with this pid reach
   reach : List ℕ → List ℕ → Command
-  -- what lies on the heap of the process with this pid
+  -- what is on the heap of the process with this pid
   cells : List ℕ → List ℕ → Command
   -- the binary with this address
   binary : List ℕ → ℕ → Command
   -- which processes hold how much of the binaries
   binaries : List ℕ → Command
-  -- who holds the binary with this address
+  -- which processes hold the binary with this address
   holders : List ℕ → ℕ → Command
-  -- what to read first, with at most so many rows of each table
+  -- what to read first, with at most this many rows of each table
   triage : List ℕ → ℕ → Command
   links : List ℕ → Command
   -- the dump with its payloads made zero
@@ -47,12 +47,12 @@ pub data Command : Type 0 where
   audit : List ℕ → ℕ → Bool → Command
   -- the same as one JSON text
   audit_json : List ℕ → ℕ → Bool → Command
-  -- a dump is made of a seed and a count of processes
+  -- a dump made from a seed and a count of processes
   make : ℕ → ℕ → Command
-  -- the reports on such a dump are summed up
+  -- a summary of the reports on such a dump
   trial : ℕ → ℕ → Command
 
--- what a command is, where its words are lent
+-- the value of a command whose words are borrowed
 abbrev pub shown : Cmd → Command
 shown (Index file) = index file.now
 shown (Info file) = info file.now
@@ -81,7 +81,7 @@ shown (AuditJson file limit full) = audit_json file.now limit full
 shown (Make seed count) = make seed count
 shown (Trial seed count) = trial seed count
 
--- a command of one word, which is the name of a file; `triage` then shows 10 rows of each table
+-- a command with one word, which is the name of a file; `triage` then shows 10 rows of each table
 abbrev pub file_command : List ℕ → List ℕ → Option Command
 file_command name file =
     if bytes_eq name (codes "index") then Some (index file)
@@ -101,19 +101,19 @@ file_command name file =
 abbrev pub roots_command : RootKind → List ℕ → List ℕ → List (List ℕ) → Option Command
 roots_command kind file pid words = option_map (λ b. roots kind file pid b.nodes b.marked) (budget_of words)
 
--- the term at an address, which is written in hex
+-- the term at an address, which is in hex
 abbrev pub term_command : List ℕ → List ℕ → List (List ℕ) → Option Command
 term_command file pid [] = None
 term_command file pid (addr ∷ words) =
     option_and_then (λ a. option_map (λ b. term file pid a b.nodes b.marked) (budget_of words)) (hex_number addr)
 
--- the external term at an address, which is written in hex
+-- the external term at an address, which is in hex
 abbrev pub ext_command : List ℕ → List ℕ → List (List ℕ) → Option Command
 ext_command file pid [] = None
 ext_command file pid (addr ∷ []) = option_map (ext file pid) (hex_number addr)
 ext_command file pid (addr ∷ more ∷ words) = None
 
--- an audit is full where its last word is `full`
+-- an audit is full if its last word is `full`
 abbrev pub full_of : List (List ℕ) → Option Bool
 full_of [] = Some false
 full_of (word ∷ []) = if bytes_eq word (codes "full") then Some true else None
@@ -123,7 +123,7 @@ full_of (word ∷ more ∷ words) = None
 abbrev pub audit_command : (List ℕ → ℕ → Bool → Command) → List ℕ → List ℕ → List (List ℕ) → Option Command
 audit_command form file limit words = option_and_then (λ n. option_map (form file n) (full_of words)) (dec_number limit)
 
--- a command that may have more words behind the name of a file and another word
+-- a command that may have more words after the name of a file and another word
 abbrev pub process_command : List ℕ → List ℕ → List ℕ → List (List ℕ) → Option Command
 process_command name file word words =
     if bytes_eq name (codes "stack") then roots_command bodies.Stack file word words
@@ -134,13 +134,13 @@ process_command name file word words =
     else (if bytes_eq name (codes "audit") then audit_command audit file word words
     else (if bytes_eq name (codes "audit-json") then audit_command audit_json file word words else None))))))
 
--- a command of two numbers
+-- a command with two numbers
 abbrev pub number_command : List ℕ → List ℕ → List ℕ → Option Command
 number_command name seed count =
     if bytes_eq name (codes "make") then option_map (λ numbers. make numbers.0 numbers.1) (seed_and_count seed count)
     else (if bytes_eq name (codes "trial") then option_map (λ numbers. trial numbers.0 numbers.1) (seed_and_count seed count) else None)
 
--- a command of the name of a file and another word, or of two numbers
+-- a command with the name of a file and another word, or with two numbers
 abbrev pub word_command : List ℕ → List ℕ → List ℕ → Option Command
 word_command name file word =
     if bytes_eq name (codes "proc") then Some (proc file word)
@@ -153,7 +153,7 @@ word_command name file word =
     else (if bytes_eq name (codes "trial") then number_command name file word
     else process_command name file word [])))))))
 
--- the command of the words behind the program's name, or none
+-- the command that the words after the program's name are, or `None`
 abbrev pub command : List (List ℕ) → Option Command
 command [] = None
 command (name ∷ []) = None
@@ -161,7 +161,7 @@ command (name ∷ file ∷ []) = file_command name file
 command (name ∷ file ∷ word ∷ []) = word_command name file word
 command (name ∷ file ∷ word ∷ more ∷ words) = process_command name file word (more ∷ words)
 
--- the name of the file that a command opens, where it opens one
+-- the name of the file that a command opens, if it opens one
 abbrev pub file_of : Command → Option (List ℕ)
 file_of (index file) = Some file
 file_of (info file) = Some file
@@ -185,7 +185,7 @@ file_of (audit_json file limit full) = Some file
 file_of (make seed count) = None
 file_of (trial seed count) = None
 
--- the numbers of a command are those that it takes
+-- the numbers of a command are in the ranges that it takes
 abbrev pub IsInRange : Command → Type 0
 IsInRange (roots kind file pid nodes marked) = 0 < nodes
 IsInRange (term file pid addr nodes marked) = 0 < nodes

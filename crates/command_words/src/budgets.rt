@@ -1,11 +1,11 @@
-// How much of a term is shown, by the last words of a command.
+// How much of a term is shown, from the last words of a command.
 ghost use Rattle.std.specs.Prelude.{◌≡◌, ◌<◌, [], ◌∷◌, map, IfSome};
 ghost use Rattle.std.specs.String.{string_bytes};
 ghost use Rattle.command_words.specs.Budgets.{budget, budget_of, counted, is_mark, nodes_of};
 
 use crate::numbers::number_upto;
 
-// The number of nodes where the words have none.
+// The number of nodes if the words have none.
 const USUAL_NODES: u32 = 10_000;
 
 const MOST_NODES: u32 = 1_000_000_000;
@@ -68,8 +68,8 @@ fn two_words(nodes: &str, mark: &str) -> Option<Budget>
     counted(nodes, true)
 }
 
-/// The budget that the last words of a command tell: a number of nodes from 1 to 1,000,000,000, which is 10,000 where it is
-/// left out, and then the word `marked` or nothing.
+/// The budget that the last words of a command give: a number of nodes from 1 to
+/// 1,000,000,000, which is 10,000 if it is left out, and then the word `marked` or nothing.
 pub(crate) fn read_budget(words: &[String]) -> Option<Budget>
     ensures told { result ≡ budget_of (map string_bytes words.now) }
     ensures nodes { IfSome result (λ budget. 0 < budget.nodes) }

@@ -6,7 +6,7 @@
 //! }
 //! ```
 //!
-//! Which words are which command stands in `specs/Command.antt`.
+//! `specs/Command.antt` says which words are which command.
 #![tactic(auto)]
 
 mod budgets;

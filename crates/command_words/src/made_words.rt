@@ -21,7 +21,7 @@ fn seed_and_count(seed: &str, count: &str) -> Option<(u64, u32)>
     Some((seed, count))
 }
 
-/// The command of two numbers that has this name.
+/// The command with this name that takes two numbers.
 pub(crate) fn number_command<'a>(name: &str, seed: &str, count: &str) -> Option<Cmd<'a>>
     ensures reads { option_map shown result ≡ number_command name.now seed.now count.now }
     ensures range { IfSome result (λ cmd. IsInRange (shown cmd)) }

@@ -1,11 +1,11 @@
-// Numbers of words that are within a range.
+// Numbers in words, within a range.
 ghost use Rattle.std.specs.Prelude.{◌≡◌, ◌≤◌};
 ghost use Rattle.std.specs.Option.{IfSome};
 ghost use Rattle.command_words.specs.Ranges.{number_upto};
 
 use dump_io::dec_u64;
 
-/// The number from 1 to a most that a word writes.
+/// The number from 1 to `most` that a word writes.
 pub(crate) fn number_upto(word: &str, most: u32) -> Option<u32>
     ensures told { result ≡ number_upto most word.now }
     ensures least { IfSome result (λ n. 1 ≤ n) }

@@ -12,7 +12,7 @@ use crate::numbers::number_upto;
 use dump_io::{dec_u64, hex_u64};
 use root_views::RootKind;
 
-// How many rows of each table `triage` shows where its words have no number.
+// How many rows of each table `triage` shows if its words have no number.
 const USUAL_ROWS: u32 = 10;
 
 const MOST_ROWS: u32 = 1_000;
@@ -49,7 +49,7 @@ pub enum Cmd<'a> {
     Ports {
         file: &'a str,
     },
-    /// `nodes FILE`: the nodes that this one knew.
+    /// `nodes FILE`: the other nodes that the dumped node knew.
     Nodes {
         file: &'a str,
     },
@@ -57,22 +57,23 @@ pub enum Cmd<'a> {
     Mods {
         file: &'a str,
     },
-    /// `stack FILE PID [NODES] [marked]`: the roots of a process's stack, each within so many nodes. Bad addresses are
-    /// marked in the texts, or the first of a root stands in place of its text.
+    /// `stack FILE PID [NODES] [marked]`: the roots of a process's stack, each
+    /// within this many nodes. Bad addresses are marked in the texts; without
+    /// `marked`, the first bad address of a root stands in place of its text.
     Stack {
         file: &'a str,
         pid: &'a str,
         nodes: u32,
         marked: bool,
     },
-    /// `dict FILE PID [NODES] [marked]`: the same of its dictionary.
+    /// `dict FILE PID [NODES] [marked]`: the same for its dictionary.
     Dict {
         file: &'a str,
         pid: &'a str,
         nodes: u32,
         marked: bool,
     },
-    /// `mail FILE PID [NODES] [marked]`: the same of its mailbox.
+    /// `mail FILE PID [NODES] [marked]`: the same for its mailbox.
     Mail {
         file: &'a str,
         pid: &'a str,
@@ -87,18 +88,18 @@ pub enum Cmd<'a> {
         nodes: u32,
         marked: bool,
     },
-    /// `ext FILE PID ADDR`: the term at an address that stands in the External Term Format.
+    /// `ext FILE PID ADDR`: the external term at an address.
     Ext {
         file: &'a str,
         pid: &'a str,
         addr: u64,
     },
-    /// `reach FILE PID`: which cells of a process's heap its roots don't reach, and how many they do.
+    /// `reach FILE PID`: which cells of a process's heap its roots don't reach, and how many they do reach.
     Reach {
         file: &'a str,
         pid: &'a str,
     },
-    /// `cells FILE PID`: what lies on a process's heap, each cell with its address, its kind and its size.
+    /// `cells FILE PID`: what is on a process's heap: each cell with its address, its kind and its size.
     Cells {
         file: &'a str,
         pid: &'a str,
@@ -108,7 +109,8 @@ pub enum Cmd<'a> {
         file: &'a str,
         addr: u64,
     },
-    /// `binaries FILE`: which processes hold how much of the binaries outside the heaps, and which of these are large.
+    /// `binaries FILE`: which processes hold how much of the binaries
+    /// outside the heaps, and which of these binaries are large.
     Binaries {
         file: &'a str,
     },
@@ -117,8 +119,8 @@ pub enum Cmd<'a> {
         file: &'a str,
         addr: u64,
     },
-    /// `triage FILE [N]`: what to read first of a dump: its state and its memory, and of the processes and ETS tables
-    /// those that stand out, at most so many by each measure.
+    /// `triage FILE [N]`: what to read first of a dump: its state and its memory,
+    /// and the processes and ETS tables that stand out, at most N by each measure.
     Triage {
         file: &'a str,
         count: u32,
@@ -131,9 +133,9 @@ pub enum Cmd<'a> {
     Redact {
         file: &'a str,
     },
-    /// `audit FILE LIMIT [full]`: the one-sided links and monitors, the message queues that are longer than the limit, and
-    /// what can't be read. A full audit also has the links and monitors of processes that aren't in the dump, and the
-    /// message queues whose stated length isn't the number of their messages.
+    /// `audit FILE LIMIT [full]`: the one-sided links and monitors, the message queues that are longer than
+    /// the limit, and what can't be read. A full audit also has the links and monitors with processes that
+    /// aren't in the dump, and the message queues whose stated length isn't the number of their messages.
     Audit {
         file: &'a str,
         limit: u64,
@@ -145,19 +147,20 @@ pub enum Cmd<'a> {
         limit: u64,
         full: bool,
     },
-    /// `make SEED COUNT`: a dump that is made, of so many processes. No file is opened.
+    /// `make SEED COUNT`: a made dump with this many processes. No file is opened.
     Make {
         seed: u64,
         count: u32,
     },
-    /// `trial SEED COUNT`: how much there is in such a dump, and what is bad or one-sided. No file is opened.
+    /// `trial SEED COUNT`: how much there is in such a dump,
+    /// and what is bad or one-sided in it. No file is opened.
     Trial {
         seed: u64,
         count: u32,
     },
 }
 
-/// The command of the words behind the program's name. `None` comes exactly where they are no command.
+/// The command that the words after the program's name are. Returns `None` exactly when they are no command.
 pub fn read_words(words: &[String]) -> Option<Cmd<'_>>
     ensures reads { option_map shown result ≡ command (map string_bytes words.now) }
     ensures range { IfSome result (λ cmd. IsInRange (shown cmd)) }
@@ -317,7 +320,7 @@ fn ext_command<'a>(file: &'a str, pid: &'a str, words: &[String]) -> Option<Cmd<
     Some(Cmd::Ext { file, pid, addr })
 }
 
-// Whether an audit is full, by its last words.
+// Whether an audit is full, from its last words.
 fn full_of(words: &[String]) -> Option<bool>
     ensures { result ≡ full_of (map string_bytes words.now) }
 {

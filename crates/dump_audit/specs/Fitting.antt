@@ -1,4 +1,4 @@
--- A finding that fits some processes: the places and the numbers that it names are theirs.
+-- Findings that fit the processes: the places and the numbers that they name are theirs.
 use Rattle.std.specs.Prelude.{◌≡◌, ℕ, ◌<◌, Bool, true, false, List, length, slice_get, IsSomeAnd}
 use Rattle.process_table.specs.Processes.{Process, process_at}
 use Rattle.link_graph.specs.Kinds.{Kind, Link, To, From}
@@ -21,12 +21,13 @@ abbrev pub is_from : Kind → Bool
 is_from (From pid reference) = true
 is_from kind = false
 
--- the process at a place has an entry with this number, and it is of such a kind
+-- the process at a place has an entry with this number, which is of such a kind
 pub record HasEntry (is_kind : Kind → Bool) (processes : List Process) (p entry : ℕ) : Type 0 where
   pub inside : p < length processes
   pub there : IsSomeAnd (slice_get (links_of (process_at processes p).links).entries entry) (λ e. is_kind e.kind ≡ true)
 
--- what a finding says of the processes: each place is that of one, and an entry is of the finding's kind
+-- what a finding implies of the processes: each place is
+-- that of a process, and an entry is of the finding's kind
 abbrev pub Fits : List Process → Finding → Type 0
 Fits processes (LinkOneSided p q entry at other) = HasEntry is_link processes p entry × (q < length processes)
 Fits processes (MonitorTo p q entry at other) = HasEntry is_to processes p entry × (q < length processes)

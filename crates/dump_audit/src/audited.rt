@@ -1,4 +1,4 @@
-// What is audited: the sections, the processes and their links, with what is asked of many of them.
+// What is audited: the sections, the processes and their links, together with what is asked of many of them.
 ghost use Rattle.std.specs.Prelude.{◌≡◌, ◌<◌, length};
 ghost use Rattle.process_table.specs.Processes.{process_at};
 ghost use Rattle.dump_audit.specs.Findings.{section_offset};
@@ -16,14 +16,14 @@ pub(crate) struct Holder<'a> {
     pub pid: &'a [u8],
 }
 
-// What an entry's partner is.
+// What the process that an entry speaks of is to the audit.
 #[derive(Clone, Copy)]
 pub(crate) enum Partner {
     // A process that is judged, at this place.
     At(usize),
-    // None of the dump's, which is to be named.
+    // None of the dump's processes; this is to be reported.
     Gone,
-    // Another, of which nothing is said.
+    // Any other case, of which nothing is reported.
     Passed,
 }
 
@@ -61,7 +61,7 @@ impl<'a> Audited<'a> {
         self.index.section(self.procs.section(p)).at
     }
 
-    // The process at a place.
+    // The process at a place, as a holder.
     pub fn holder(&self, p: usize) -> Holder<'a>
         requires { p < length self.now.processes }
         ensures holder { IsHolder self.now result }

@@ -17,7 +17,7 @@ use process_table::Procs;
 use section_index::{Index, State};
 use std::alloc::{AllocError, Global};
 
-// Whether the dump breaks off in the section at this place.
+// Whether the dump is truncated in the section at this place.
 fn is_cut(state: State, section: usize) -> bool
     ensures { result ≡ is_cut state section }
 {
@@ -69,7 +69,7 @@ impl<'a> Audited<'a> {
         self.graph.unread(holder.p)
     }
 
-    // What is said of the link list of a process that isn't read.
+    // The finding on the link list of a process, if it is unread.
     fn unread_links(&self, holder: &Holder<'_>) -> Option<Finding>
         requires { IsHolder self.now holder.now }
         ensures { result ≡ option_map (λ line. UnreadLinks holder.now.p line.at (section_offset self.now.index (held self.now holder.now)))
@@ -83,7 +83,7 @@ impl<'a> Audited<'a> {
         })
     }
 
-    // Adds what is said of the link list of a process that is dumped.
+    // Adds the findings on the link list of a dumped process.
     fn add_links(&self, holder: &Holder<'_>, findings: &mut Vec<Finding>) -> Result<(), AllocError>
         requires holder { IsHolder self.now holder.now }
         requires dumped { is_dumped self.now.index (held self.now holder.now) ≡ true }
@@ -99,7 +99,7 @@ impl<'a> Audited<'a> {
         }
     }
 
-    // Adds what is said of the process at a place.
+    // Adds the findings on the process at a place.
     fn add_process(&self, p: usize, findings: &mut Vec<Finding>) -> Result<(), AllocError>
         requires { p < length self.now.processes }
         ensures { OnOk result (findings.new.items ≡ findings.old.items
@@ -130,14 +130,15 @@ impl<'a> Audited<'a> {
     }
 }
 
-// Whether the processes that aren't in the dump are named.
+// Whether processes that aren't in the dump are reported.
 fn names_gone(mails: &Option<&[Option<u64>]>, state: State) -> bool
     ensures { result ≡ (is_some (option_copied mails.now) && is_whole state) }
 {
     mails.is_some() && is_whole(state)
 }
 
-/// What [`audit`] finds where `mails` is `None`, and else what [`audit_full`] finds with these numbers of messages.
+/// What [`audit`] finds if `mails` is `None`, and otherwise
+/// what [`audit_full`] finds with these numbers of messages.
 pub fn audit_with(
     alloc: Global,
     index: &Index,
@@ -166,12 +167,13 @@ pub fn audit_with(
     audited.findings(alloc)
 }
 
-/// What there is to find in a dump, by process in dump order, and for each process first what its link list shows and
-/// then what its message queue does.
+/// All findings in a dump, process by process in dump order; for each
+/// process first those on its link list, then those on its message queue.
 ///
-/// A process counts unless the dump breaks off in its section. A link or a monitor between two such processes of the
-/// dumped node is told where the partner's list doesn't have its counterpart and isn't unread; a partner without a `Link
-/// list` line has no entry. A message queue is told where its stated length is above `limit`.
+/// A process counts unless the dump is truncated in its section. A link or a monitor between two
+/// such processes of the dumped node is reported if the partner's list lacks its counterpart and
+/// isn't unread; a partner without a `Link list` line has no entries. A link of a process to
+/// itself isn't reported. A message queue is reported if its stated length is above `limit`.
 pub fn audit(
     alloc: Global,
     index: &Index,
@@ -187,9 +189,9 @@ pub fn audit(
     audit_with(alloc, index, procs, graph, limit, None)
 }
 
-/// The same with two more kinds of findings: in a whole dump the links and monitors of processes of the dumped node that
-/// aren't in it, and the stated lengths of message queues that aren't the numbers of their messages. `mails` has that
-/// number for each process of the table, in its order, where it is known.
+/// The same with two more kinds of findings: in a whole dump, the links and monitors with processes of
+/// the dumped node that aren't in it; and the stated lengths of message queues that aren't the numbers of
+/// their messages. `mails` has that number for each process of the table, in its order, if it is known.
 pub fn audit_full(
     alloc: Global,
     index: &Index,

@@ -1,10 +1,11 @@
 // What an audit finds.
 
-/// A finding of an audit. Processes are named by their places in the process table, and entries by their numbers in
-/// the link list of `p`, both from 0. `at` and `other` are offsets in the file.
+/// A finding of an audit. Processes are identified by their places in the process table, and entries
+/// by their numbers in the link list of `p`, both from 0. `at` and `other` are offsets in the file.
 #[derive(Clone, Copy, Debug, PartialEq, Eq)]
 pub enum Finding {
-    /// `p` has a link to `q`, and `q` has none to `p`. `at` is that of the entry, and `other` that of the section of `q`.
+    /// `p` has a link to `q`, and `q` has none to `p`. `at` is the
+    /// offset of the entry, and `other` that of the section of `q`.
     LinkOneSided {
         p: u32,
         q: u32,
@@ -20,8 +21,8 @@ pub enum Finding {
         at: u64,
         other: u64,
     },
-    /// `p` is monitored by `q`, and `q` monitors neither `p` nor a name under the same reference. `at` and `other` are
-    /// as above.
+    /// `p` is monitored by `q`, and `q` monitors neither `p` nor a
+    /// name under the same reference. `at` and `other` are as above.
     MonitorFrom {
         p: u32,
         q: u32,
@@ -29,8 +30,8 @@ pub enum Finding {
         at: u64,
         other: u64,
     },
-    /// The stated length of the message queue of `p` is above the limit. `at` is that of the field's line, and `other`
-    /// that of the section of `p`, here and below.
+    /// The stated length of the message queue of `p` is above the limit. `at` is the
+    /// offset of the field's line, and `other` that of the section of `p`, here and below.
     Mailbox {
         p: u32,
         count: u64,
@@ -49,29 +50,30 @@ pub enum Finding {
         at: u64,
         other: u64,
     },
-    /// `p` has a link to a process of this node that isn't in the dump. `at` is that of the entry, here and in the next
-    /// two.
+    /// `p` has a link to a process of the dumped node that isn't in the
+    /// dump. `at` is the offset of the entry, here and in the next two.
     LinkGone {
         p: u32,
         entry: u32,
         at: u64,
         other: u64,
     },
-    /// `p` monitors a process of this node that isn't in the dump.
+    /// `p` monitors a process of the dumped node that isn't in the dump.
     ToGone {
         p: u32,
         entry: u32,
         at: u64,
         other: u64,
     },
-    /// `p` is monitored by a process of this node that isn't in the dump.
+    /// `p` is monitored by a process of the dumped node that isn't in the dump.
     FromGone {
         p: u32,
         entry: u32,
         at: u64,
         other: u64,
     },
-    /// The stated length of the message queue of `p` isn't the number of its messages. `at` is that of the field's line.
+    /// The stated length of the message queue of `p` isn't the number
+    /// of its messages. `at` is the offset of the field's line.
     QueueCount {
         p: u32,
         stated: u64,

@@ -1,4 +1,5 @@
-//! The audit of a dump: one-sided links and monitors, grown mailboxes, and what can't be read.
+//! The audit of a dump: one-sided links and monitors,
+//! mailboxes that have grown too long, and what can't be read.
 #![tactic(auto)]
 
 mod audited;

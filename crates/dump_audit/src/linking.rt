@@ -1,4 +1,4 @@
-// What is said of links and monitors.
+// The findings on links and monitors.
 ghost use Rattle.std.specs.Prelude.{◌≡◌, ◌<◌, ◌++◌, length, slice_get, Some, OnOk};
 ghost use Rattle.std.specs.Option.{option_to_list};
 ghost use Rattle.link_graph.specs.Kinds.{Link, To, From};
@@ -11,7 +11,7 @@ use crate::finding::Finding;
 use link_graph::{Entry, EntryKind};
 use std::alloc::AllocError;
 
-// Adds a finding, where there is one.
+// Adds a finding, if there is one.
 pub(crate) fn push_found(
     findings: &mut Vec<Finding>,
     found: Option<Finding>,
@@ -25,7 +25,7 @@ pub(crate) fn push_found(
 }
 
 impl<'a> Audited<'a> {
-    // What is said of a link to the process with this pid.
+    // The finding on a link to the process with this pid.
     fn link(&self, holder: &Holder<'_>, entry: u32, at: u64, pid: &[u8]) -> Option<Finding>
         requires { IsHolder self.now holder.now }
         ensures { result ≡ entry_finding self.now holder.now.p (held self.now holder.now) entry at (Link pid.now) }
@@ -54,7 +54,7 @@ impl<'a> Audited<'a> {
         }
     }
 
-    // What is said of a monitor of the process with this pid.
+    // The finding on a monitor of the process with this pid.
     fn monitor_to(
         &self,
         holder: &Holder<'_>,
@@ -90,7 +90,7 @@ impl<'a> Audited<'a> {
         }
     }
 
-    // What is said of a monitor by the process with this pid.
+    // The finding on a monitor by the process with this pid.
     fn monitor_from(
         &self,
         holder: &Holder<'_>,
@@ -128,7 +128,7 @@ impl<'a> Audited<'a> {
         }
     }
 
-    // What is said of the entry with this number.
+    // The finding on the entry with this number.
     fn finding(&self, holder: &Holder<'_>, number: u32, entry: &Entry<'_>) -> Option<Finding>
         requires { IsHolder self.now holder.now }
         ensures { result ≡ entry_finding self.now holder.now.p (held self.now holder.now) number entry.now.at (shown_kind entry.now.kind) }
@@ -160,7 +160,7 @@ impl<'a> Audited<'a> {
         self.graph.entry(holder.p, number)
     }
 
-    // Adds what is said of the entries of a process.
+    // Adds the findings on the entries of a process.
     pub fn add_entries(
         &self,
         holder: &Holder<'_>,

@@ -1,4 +1,4 @@
-// What is said of message queues.
+// The findings on message queues.
 ghost use Rattle.std.specs.Prelude.{◌≡◌, ◌++◌, OnOk};
 ghost use Rattle.section_rows.specs.Shown.{shown_kept};
 ghost use Rattle.dump_audit.specs.Findings.{mail_of, section_offset, stated_findings, queue_findings};
@@ -11,14 +11,14 @@ use process_table::Kept;
 use std::alloc::AllocError;
 
 impl<'a> Audited<'a> {
-    // How many messages the process at a place has, where it is known.
+    // How many messages the process at a place has, if that is known.
     fn mail(&self, p: usize) -> Option<u64>
         ensures { result ≡ mail_of self.now p }
     {
         *self.mails?.get(p)?
     }
 
-    // Adds what is said of a stated length.
+    // Adds the findings on a stated length.
     fn add_stated(
         &self,
         holder: &Holder<'_>,
@@ -55,7 +55,7 @@ impl<'a> Audited<'a> {
         }
     }
 
-    // Adds what is said of the length of a process's message queue.
+    // Adds the findings on the length of a process's message queue.
     pub fn add_queue(
         &self,
         holder: &Holder<'_>,

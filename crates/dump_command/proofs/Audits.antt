@@ -2,7 +2,7 @@
 use Rattle.std.proofs.Common.{◌≡◌, ℕ, Bool, List, [], ◌∷◌, map, Option, None, Some, Result, Ok, Err, refl, ◌∙◌, ap, inl, inr, if◌then◌else◌}
 use Rattle.std.specs.Prelude.{IfOk}
 use Rattle.std.specs.Option.{option_map}
-use Rattle.dump_io.specs.Dumps.{Use, told}
+use Rattle.dump_io.specs.Dumps.{DeviceState, told}
 use Rattle.dump_io.specs.Limits.{Numbers}
 use Rattle.dump_io.specs.Lines.{headers}
 use Rattle.section_index.specs.Index.{Contents, IsIndexOf, index_of, sections_in, state_of}
@@ -47,23 +47,23 @@ abbrev EndsByFinding : Command → Type 0
 EndsByFinding cmd = (found : List Finding) → IsEnding cmd (status_of found)
 
 -- the bodies of an audit were loaded, or weren't; what is written of it is told by a function of the audit
-ReadsFor-shown : (cmd : Command) (show : Audit → List ℕ) (limit : ℕ) (full : Bool) (limits : Numbers) (index : Contents) (step : Use) (loaded : Result AuditBodies BodyFault)
+ReadsFor-shown : (cmd : Command) (show : Audit → List ℕ) (limit : ℕ) (full : Bool) (limits : Numbers) (index : Contents) (before after : DeviceState) (loaded : Result AuditBodies BodyFault)
     → IsOfBodies cmd limits index → EndsByFinding cmd
     → ((bytes : List ℕ) → (show (audit_in limit full bytes) ≡ report cmd bytes) × (status_of (findings (audit_in limit full bytes)) ≡ report_status cmd bytes))
-    → Loads (bodies cmd (sections_in index)) limits.section step loaded
-    → IfOk loaded (λ read. (bytes : List ℕ) → step.now_before ≡ told bytes → read.procs ≡ process_table bytes)
-    → IfOk loaded (λ read. (bytes : List ℕ) → step.now_before ≡ told bytes → option_map (λ counts. counts.items) read.mails
+    → Loads (bodies cmd (sections_in index)) limits.section before after loaded
+    → IfOk loaded (λ read. (bytes : List ℕ) → before.now ≡ told bytes → read.procs ≡ process_table bytes)
+    → IfOk loaded (λ read. (bytes : List ℕ) → before.now ≡ told bytes → option_map (λ counts. counts.items) read.mails
     ≡ (if full then Some (map (mail_in bytes (state_of index.headers) (sections_in index)) (mailbox_places (sections_in index))) else None))
-    → ReadsFor cmd limits index step (λ read. show (loaded_audit limit index read)) (audit_status limit index) (or_stop loaded)
-ReadsFor-shown cmd show limit full limits index step (Ok read) of ends reports loads table counts =
-    ReadsFor-bodies cmd limits index step (λ r. show (loaded_audit limit index r)) (audit_status limit index) (Ok read) of loads (
+    → ReadsFor cmd limits index before after (λ read. show (loaded_audit limit index read)) (audit_status limit index) (or_stop loaded)
+ReadsFor-shown cmd show limit full limits index before after (Ok read) of ends reports loads table counts =
+    ReadsFor-bodies cmd limits index before after (λ r. show (loaded_audit limit index r)) (audit_status limit index) (Ok read) of loads (
       ends (findings (loaded_audit limit index read)),
       λ bytes all.
           let told = audit-told bytes index _ limit full _ all.of (ap (λ t. t.processes) (table bytes all.opened)) (counts bytes all.opened) in
           (ap show told ∙ (reports bytes).0, ap (λ a. status_of (findings a)) told ∙ (reports bytes).1),
     )
-ReadsFor-shown cmd show limit full limits index step (Err fault) of ends reports loads table counts =
-    ReadsFor-bodies cmd limits index step (λ r. show (loaded_audit limit index r)) (audit_status limit index) (Err fault) of loads tt
+ReadsFor-shown cmd show limit full limits index before after (Err fault) of ends reports loads table counts =
+    ReadsFor-bodies cmd limits index before after (λ r. show (loaded_audit limit index r)) (audit_status limit index) (Err fault) of loads tt
 
 ends-audit : (file : List ℕ) (limit : ℕ) (full : Bool) → EndsByFinding (audit file limit full)
 ends-audit file limit full [] = inl refl
@@ -74,23 +74,23 @@ ends-json file limit full [] = inl refl
 ends-json file limit full (f ∷ fs) = inr (refl, refl)
 
 -- in the form of a report
-pub ReadsFor-audit : (file : List ℕ) (limit : ℕ) (full : Bool) (limits : Numbers) (index : Contents) (step : Use) (loaded : Result AuditBodies BodyFault)
-    → Loads (audited_sections full (sections_in index)) limits.section step loaded
-    → IfOk loaded (λ read. (bytes : List ℕ) → step.now_before ≡ told bytes → read.procs ≡ process_table bytes)
-    → IfOk loaded (λ read. (bytes : List ℕ) → step.now_before ≡ told bytes → option_map (λ counts. counts.items) read.mails
+pub ReadsFor-audit : (file : List ℕ) (limit : ℕ) (full : Bool) (limits : Numbers) (index : Contents) (before after : DeviceState) (loaded : Result AuditBodies BodyFault)
+    → Loads (audited_sections full (sections_in index)) limits.section before after loaded
+    → IfOk loaded (λ read. (bytes : List ℕ) → before.now ≡ told bytes → read.procs ≡ process_table bytes)
+    → IfOk loaded (λ read. (bytes : List ℕ) → before.now ≡ told bytes → option_map (λ counts. counts.items) read.mails
     ≡ (if full then Some (map (mail_in bytes (state_of index.headers) (sections_in index)) (mailbox_places (sections_in index))) else None))
-    → ReadsFor (audit file limit full) limits index step (audit_text limit index) (audit_status limit index) (or_stop loaded)
-ReadsFor-audit file limit full limits index step loaded =
-    ReadsFor-shown (audit file limit full) audit_report limit full limits index step loaded
+    → ReadsFor (audit file limit full) limits index before after (audit_text limit index) (audit_status limit index) (or_stop loaded)
+ReadsFor-audit file limit full limits index before after loaded =
+    ReadsFor-shown (audit file limit full) audit_report limit full limits index before after loaded
     (record { there = refl; held = λ _. refl; taken = λ _. refl }) (ends-audit file limit full) (λ _. (refl, refl))
 
 -- and as one JSON text
-pub ReadsFor-json : (file : List ℕ) (limit : ℕ) (full : Bool) (limits : Numbers) (index : Contents) (step : Use) (loaded : Result AuditBodies BodyFault)
-    → Loads (audited_sections full (sections_in index)) limits.section step loaded
-    → IfOk loaded (λ read. (bytes : List ℕ) → step.now_before ≡ told bytes → read.procs ≡ process_table bytes)
-    → IfOk loaded (λ read. (bytes : List ℕ) → step.now_before ≡ told bytes → option_map (λ counts. counts.items) read.mails
+pub ReadsFor-json : (file : List ℕ) (limit : ℕ) (full : Bool) (limits : Numbers) (index : Contents) (before after : DeviceState) (loaded : Result AuditBodies BodyFault)
+    → Loads (audited_sections full (sections_in index)) limits.section before after loaded
+    → IfOk loaded (λ read. (bytes : List ℕ) → before.now ≡ told bytes → read.procs ≡ process_table bytes)
+    → IfOk loaded (λ read. (bytes : List ℕ) → before.now ≡ told bytes → option_map (λ counts. counts.items) read.mails
     ≡ (if full then Some (map (mail_in bytes (state_of index.headers) (sections_in index)) (mailbox_places (sections_in index))) else None))
-    → ReadsFor (audit_json file limit full) limits index step (json_of limit index) (audit_status limit index) (or_stop loaded)
-ReadsFor-json file limit full limits index step loaded =
-    ReadsFor-shown (audit_json file limit full) (λ a. json_text (audit_tree a)) limit full limits index step loaded
+    → ReadsFor (audit_json file limit full) limits index before after (json_of limit index) (audit_status limit index) (or_stop loaded)
+ReadsFor-json file limit full limits index before after loaded =
+    ReadsFor-shown (audit_json file limit full) (λ a. json_text (audit_tree a)) limit full limits index before after loaded
     (record { there = refl; held = λ _. refl; taken = λ _. refl }) (ends-json file limit full) (λ _. (refl, refl))

@@ -8,7 +8,7 @@ use Rattle.std.proofs.lemmas.Bool.{lt-ltb}
 use Rattle.std.proofs.lemmas.List.Sums.{sum_by-cons}
 use Rattle.std.proofs.lemmas.Option.{slice_get-get_or, unwrap_or-slice_get}
 use Rattle.std.proofs.lemmas.List.Quantifiers.{position-Some}
-use Rattle.dump_io.specs.Dumps.{Now, Use, told}
+use Rattle.dump_io.specs.Dumps.{Now, DeviceState, told}
 use Rattle.dump_io.specs.Limits.{Numbers}
 use Rattle.section_index.specs.Bodies.{body_length}
 use Rattle.section_index.specs.Index.{Contents, IsIndexOf, index_of, sections_in}
@@ -108,14 +108,14 @@ bad-small limit at None tells = absurd (let no : ⊥ = cc (tells) in no)
 bad-small limit at (Some s) tells = bad-test (nat_lt limit (body_length s)) at s tells
 
 -- the bytes weren't given
-pub IsHalted-binary : (file : List ℕ) (addr : ℕ) (limits : Numbers) (index : Contents) (step : Use) (fault : BinFault) → Takes (binary file addr) limits index step
-    → IsBinCauseOf (binary_section index addr) limits.section step fault
+pub IsHalted-binary : (file : List ℕ) (addr : ℕ) (limits : Numbers) (index : Contents) (before after : DeviceState) (fault : BinFault) → Takes (binary file addr) limits index before after
+    → IsBinCauseOf (binary_section index addr) limits.section before after fault
     → IfSome (refused limits.section (binary_section index addr)) (IsErrOf {T = Vec ℕ} (Err fault))
-    → ((bytes : List ℕ) → step.now_before ≡ told bytes → IsBadFor (whole_bytes bytes index addr) fault)
-    → IsHalted (binary file addr) limits index step (stop_of_binary addr fault)
-IsHalted-binary file addr limits index step faults.Read takes cause first bad = record { takes = takes; cause = cause }
-IsHalted-binary file addr limits index step faults.Memory takes cause first bad = record { takes = takes; cause = tt }
-IsHalted-binary file addr limits index step faults.NoBinary takes cause first bad =
+    → ((bytes : List ℕ) → before.now ≡ told bytes → IsBadFor (whole_bytes bytes index addr) fault)
+    → IsHalted (binary file addr) limits index before after (stop_of_binary addr fault)
+IsHalted-binary file addr limits index before after faults.Read takes cause first bad = record { takes = takes; cause = cause }
+IsHalted-binary file addr limits index before after faults.Memory takes cause first bad = record { takes = takes; cause = tt }
+IsHalted-binary file addr limits index before after faults.NoBinary takes cause first bad =
     record {
       takes = takes;
       cause = (
@@ -124,7 +124,7 @@ IsHalted-binary file addr limits index step faults.NoBinary takes cause first ba
             (sym (binary-found addr index) ∙ cause),
       );
     }
-IsHalted-binary file addr limits index step (faults.SectionTooLarge at len) takes cause first bad =
+IsHalted-binary file addr limits index before after (faults.SectionTooLarge at len) takes cause first bad =
     let s = cause.0 in
     record {
       takes = takes;
@@ -137,7 +137,7 @@ IsHalted-binary file addr limits index step (faults.SectionTooLarge at len) take
             ∙ ap (λ n. Some (SectionTooLarge n (body_length s))) (sym cause.2) ∙ ap (λ n. Some (SectionTooLarge at n)) (sym cause.3),
       );
     }
-IsHalted-binary file addr limits index step (faults.BadBinary at) takes cause first bad =
+IsHalted-binary file addr limits index before after (faults.BadBinary at) takes cause first bad =
     let s = cause.0 in
     record {
       takes = takes;

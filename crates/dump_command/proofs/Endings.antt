@@ -1,9 +1,9 @@
 -- How a run ends, by what its command left.
 use Rattle.std.proofs.Common.{◌≡◌, ◌⊎◌, ℕ, List, Option, None, Some, Result, Ok, Err, sym, ◌∙◌, subst, inl, inr}
 use Rattle.std.specs.Prelude.{IfErr, IsSomeAnd}
-use Rattle.dump_io.specs.Dumps.{Files, closed, IsAbsent, Use, DeviceFailed}
+use Rattle.dump_io.specs.Dumps.{Files, closed, IsAbsent, DeviceState, DeviceFailed}
 use Rattle.dump_io.specs.Limits.{Numbers}
-use Rattle.dump_io.specs.Sinks.{Change, SinkFailed, IsKept, Gained}
+use Rattle.dump_io.specs.Sinks.{SinkState, SinkFailed, IsKept, Gained}
 use Rattle.report_text.specs.declared.refusals.Refusal.{Refusal}
 use Rattle.report_text.specs.Refusals.{refusal_line}
 use Rattle.section_index.specs.Index.{IsHeld}
@@ -16,55 +16,55 @@ use Rattle.dump_command.specs.declared.stop.Stop.{Stop}
 use Rattle.dump_command.specs.declared.stop.Stop.TheVariants.{Refused, NotRead, NotWritten, NoMemory}
 
 -- the whole report was written
-reported : (cmd : Command) (limits : Numbers) (status : ℕ) (device : Use) (out err : Change) → IsEnding cmd status → IsDone cmd limits device out status → IsKept err
-    → Ends cmd limits status device out err
-reported cmd limits status device out err (inl zero_is) all kept =
-    inl (zero_is, subst (λ n. Reports cmd limits n device out err) zero_is (record { told = all.told; err_kept = kept }))
-reported cmd limits status device out err (inr three) all kept =
-    inr (inr (inl (three.0, subst (λ n. Reports cmd limits n device out err) three.0 (record { told = all.told; err_kept = kept }), three.1)))
+reported : (cmd : Command) (limits : Numbers) (status : ℕ) (before after : DeviceState) (out out' err err' : SinkState) → IsEnding cmd status → IsDone cmd limits before after out out' status → IsKept err err'
+    → Ends cmd limits status before after out out' err err'
+reported cmd limits status before after out out' err err' (inl zero_is) all kept =
+    inl (zero_is, subst (λ n. Reports cmd limits n before after out out' err err') zero_is (record { told = all.told; err_kept = kept }))
+reported cmd limits status before after out out' err err' (inr three) all kept =
+    inr (inr (inl (three.0, subst (λ n. Reports cmd limits n before after out out' err err') three.0 (record { told = all.told; err_kept = kept }), three.1)))
 
 -- the line of a refusal was written, or a front of it
-refused : (cmd : Command) (limits : Numbers) (status : ℕ) (device : Use) (out err : Change) (why : Refusal) → IsRefusedFor cmd limits device why → IsKept out
-    → EndsTold 2 (refusal_line why) status err → Ends cmd limits status device out err
-refused cmd limits status device out err why cause kept (inl line) =
+refused : (cmd : Command) (limits : Numbers) (status : ℕ) (before after : DeviceState) (out out' err err' : SinkState) (why : Refusal) → IsRefusedFor cmd limits before after why → IsKept out out'
+    → EndsTold 2 (refusal_line why) status err err' → Ends cmd limits status before after out out' err err'
+refused cmd limits status before after out out' err err' why cause kept (inl line) =
     inr (inl (
       line.0,
       record {
-        told = λ bytes dump. subst (λ r. IsSomeAnd r (λ w. Gained err (refusal_line w))) (sym (cause.told bytes dump)) line.1;
+        told = λ bytes dump. subst (λ r. IsSomeAnd r (λ w. Gained err err' (refusal_line w))) (sym (cause.told bytes dump)) line.1;
         out_kept = kept;
       },
     ))
-refused cmd limits status device out err why cause kept (inr cut) =
+refused cmd limits status before after out out' err err' why cause kept (inr cut) =
     inr (inr (inr (inr (inl (
       cut.0,
       record {
         failed = inr cut.2;
-        told = λ bytes dump. subst (λ w. IsFrontOf cmd bytes w out err) (sym (cause.told bytes dump)) (cut.1, cut.2, kept);
+        told = λ bytes dump. subst (λ w. IsFrontOf cmd bytes w out out' err err') (sym (cause.told bytes dump)) (cut.1, cut.2, kept);
       },
     )))))
 
 -- what a command left and how its run ended are a run of the command
-pub IsRunOf-ended : (cmd : Command) (limits : Numbers) (status : ℕ) (device : Use) (out err : Change) (ended : Result ℕ Stop) → Runs cmd limits device out ended
-    → EndsAs ended status err → IsRunOf cmd limits status device out err
-IsRunOf-ended cmd limits status device out err (Ok n) runs ends =
-    subst (λ m. IsRunOf cmd limits m device out err) (sym ends.0) (record {
-      ends = reported cmd limits n device out err runs.left.ends runs.left ends.1;
+pub IsRunOf-ended : (cmd : Command) (limits : Numbers) (status : ℕ) (before after : DeviceState) (out out' err err' : SinkState) (ended : Result ℕ Stop) → Runs cmd limits before after out out' ended
+    → EndsAs ended status err err' → IsRunOf cmd limits status before after out out' err err'
+IsRunOf-ended cmd limits status before after out out' err err' (Ok n) runs ends =
+    subst (λ m. IsRunOf cmd limits m before after out out' err err') (sym ends.0) (record {
+      ends = reported cmd limits n before after out out' err err' runs.left.ends runs.left ends.1;
       missing = λ gone. absurd (runs.left.there gone);
       taken = runs.taken;
     })
-IsRunOf-ended cmd limits status device out err (Err (Refused why)) runs ends =
+IsRunOf-ended cmd limits status before after out out' err err' (Err (Refused why)) runs ends =
     record {
-      ends = refused cmd limits status device out err why runs.left.0 runs.left.1 ends;
+      ends = refused cmd limits status before after out out' err err' why runs.left.0 runs.left.1 ends;
       missing = λ gone. absurd (runs.left.0.there gone);
       taken = runs.taken;
     }
-IsRunOf-ended cmd limits status device out err (Err NotRead) runs ends =
+IsRunOf-ended cmd limits status before after out out' err err' (Err NotRead) runs ends =
     record {
       ends = inr (inr (inr (inl (ends.0, runs.left.0, runs.left.1, ends.1))));
       missing = λ gone. (inl ends.0, runs.gone gone);
       taken = runs.taken;
     }
-IsRunOf-ended cmd limits status device out err (Err NotWritten) runs ends =
+IsRunOf-ended cmd limits status before after out out' err err' (Err NotWritten) runs ends =
     record {
       ends = inr (inr (inr (inr (inl (
         ends.0,
@@ -72,13 +72,13 @@ IsRunOf-ended cmd limits status device out err (Err NotWritten) runs ends =
           failed = inl runs.left.failed;
           told = λ bytes dump.
               let front = runs.left.told bytes dump in
-              subst (λ why. IsFrontOf cmd bytes why out err) (sym front.0) (front.1, runs.left.failed, ends.1);
+              subst (λ why. IsFrontOf cmd bytes why out out' err err') (sym front.0) (front.1, runs.left.failed, ends.1);
         },
       )))));
       missing = λ gone. absurd (runs.left.there gone);
       taken = runs.taken;
     }
-IsRunOf-ended cmd limits status device out err (Err NoMemory) runs ends =
+IsRunOf-ended cmd limits status before after out out' err err' (Err NoMemory) runs ends =
     record {
       ends = inr (inr (inr (inr (inr (ends.0, runs.left, ends.1)))));
       missing = λ gone. (inr ends.0, runs.gone gone);
@@ -91,46 +91,46 @@ held-there None name bytes is gone = gone
 held-there (Some files) name bytes is gone = let no : ⊥ = cc (sym gone ∙ is) in no
 
 -- a dump whose bytes are told was read where the device didn't fail
-there : (device : Use) (name : Option (List ℕ)) (bytes : List ℕ) → IsInputOf device name bytes → (IsMissingFrom device name → device.now_after ≡ closed)
-    → (DeviceFailed device → ⊥) → IsUnreadFrom device name → ⊥
-there device None bytes input shut well unread = unread
-there device (Some name) bytes input shut well (inl failed) = well failed
-there device (Some name) bytes (inl held) shut well (inr gone) = held-there device.files_before name bytes held gone
-there device (Some name) bytes (inr opened) shut well (inr gone) = let no : ⊥ = cc (sym (shut gone) ∙ opened) in no
+there : (before after : DeviceState) (name : Option (List ℕ)) (bytes : List ℕ) → IsInputOf before after name bytes → (IsMissingFrom before name → after.now ≡ closed)
+    → (DeviceFailed before after → ⊥) → IsUnreadFrom before after name → ⊥
+there before after None bytes input shut well unread = unread
+there before after (Some name) bytes input shut well (inl failed) = well failed
+there before after (Some name) bytes (inl held) shut well (inr gone) = held-there before.files name bytes held gone
+there before after (Some name) bytes (inr opened) shut well (inr gone) = let no : ⊥ = cc (sym (shut gone) ∙ opened) in no
 
 -- where nothing is refused and nothing failed the whole report was written, or memory was wanting
-complete : (cmd : Command) (limits : Numbers) (status : ℕ) (device : Use) (out err : Change) → IsRunOf cmd limits status device out err
-    → (bytes : List ℕ) → IsDumpOf device cmd bytes → refusal cmd bytes limits ≡ None
-    → (DeviceFailed device → ⊥) → (SinkFailed out → ⊥) → (SinkFailed err → ⊥) → Ends cmd limits status device out err
+complete : (cmd : Command) (limits : Numbers) (status : ℕ) (before after : DeviceState) (out out' err err' : SinkState) → IsRunOf cmd limits status before after out out' err err'
+    → (bytes : List ℕ) → IsDumpOf before after cmd bytes → refusal cmd bytes limits ≡ None
+    → (DeviceFailed before after → ⊥) → (SinkFailed out out' → ⊥) → (SinkFailed err err' → ⊥) → Ends cmd limits status before after out out' err err'
     → (status ≡ report_status cmd bytes) ⊎ (status ≡ 6)
-complete cmd limits status device out err run bytes dump accepted device_well out_well err_well (inl row) = inl (row.0 ∙ (row.1.told bytes dump).ends)
-complete cmd limits status device out err run bytes dump accepted device_well out_well err_well (inr (inl row)) =
-    absurd (let no : IsSomeAnd None (λ (why : Refusal). Gained err (refusal_line why)) =
-    subst (λ r. IsSomeAnd r (λ why. Gained err (refusal_line why))) accepted (row.1.told bytes dump) in no)
-complete cmd limits status device out err run bytes dump accepted device_well out_well err_well (inr (inr (inl row))) =
+complete cmd limits status before after out out' err err' run bytes dump accepted device_well out_well err_well (inl row) = inl (row.0 ∙ (row.1.told bytes dump).ends)
+complete cmd limits status before after out out' err err' run bytes dump accepted device_well out_well err_well (inr (inl row)) =
+    absurd (let no : IsSomeAnd None (λ (why : Refusal). Gained err err' (refusal_line why)) =
+    subst (λ r. IsSomeAnd r (λ why. Gained err err' (refusal_line why))) accepted (row.1.told bytes dump) in no)
+complete cmd limits status before after out out' err err' run bytes dump accepted device_well out_well err_well (inr (inr (inl row))) =
     inl (row.0 ∙ (row.1.told bytes dump).ends)
-complete cmd limits status device out err run bytes dump accepted device_well out_well err_well (inr (inr (inr (inl row)))) =
-    absurd (there device (file_of cmd) bytes dump (λ gone. (run.missing gone).1) device_well row.1)
-complete cmd limits status device out err run bytes dump accepted device_well out_well err_well (inr (inr (inr (inr (inl row))))) =
+complete cmd limits status before after out out' err err' run bytes dump accepted device_well out_well err_well (inr (inr (inr (inl row)))) =
+    absurd (there before after (file_of cmd) bytes dump (λ gone. (run.missing gone).1) device_well row.1)
+complete cmd limits status before after out out' err err' run bytes dump accepted device_well out_well err_well (inr (inr (inr (inr (inl row))))) =
     absurd (elim row.1.failed [ inl rose ↦ out_well rose | inr rose ↦ err_well rose ])
-complete cmd limits status device out err run bytes dump accepted device_well out_well err_well (inr (inr (inr (inr (inr row))))) = inr row.0
+complete cmd limits status before after out out' err err' run bytes dump accepted device_well out_well err_well (inr (inr (inr (inr (inr row))))) = inr row.0
 
-pub IsRunOf-complete : (cmd : Command) (limits : Numbers) (status : ℕ) (device : Use) (out err : Change) → IsRunOf cmd limits status device out err
-    → (bytes : List ℕ) → IsDumpOf device cmd bytes → refusal cmd bytes limits ≡ None
-    → (DeviceFailed device → ⊥) → (SinkFailed out → ⊥) → (SinkFailed err → ⊥) → (status ≡ report_status cmd bytes) ⊎ (status ≡ 6)
-IsRunOf-complete cmd limits status device out err run bytes dump accepted device_well out_well err_well =
-    complete cmd limits status device out err run bytes dump accepted device_well out_well err_well run.ends
+pub IsRunOf-complete : (cmd : Command) (limits : Numbers) (status : ℕ) (before after : DeviceState) (out out' err err' : SinkState) → IsRunOf cmd limits status before after out out' err err'
+    → (bytes : List ℕ) → IsDumpOf before after cmd bytes → refusal cmd bytes limits ≡ None
+    → (DeviceFailed before after → ⊥) → (SinkFailed out out' → ⊥) → (SinkFailed err err' → ⊥) → (status ≡ report_status cmd bytes) ⊎ (status ≡ 6)
+IsRunOf-complete cmd limits status before after out out' err err' run bytes dump accepted device_well out_well err_well =
+    complete cmd limits status before after out out' err err' run bytes dump accepted device_well out_well err_well run.ends
 
 -- a refusal that is handed on has a line
-pub IsProper-ended : (cmd : Command) (limits : Numbers) (device : Use) (out : Change) (ended : Result ℕ Stop) → Runs cmd limits device out ended → IfErr ended IsProper
-IsProper-ended cmd limits device out (Ok status) runs = tt
-IsProper-ended cmd limits device out (Err (Refused why)) runs = runs.left.0.proper
-IsProper-ended cmd limits device out (Err NotRead) runs = tt
-IsProper-ended cmd limits device out (Err NotWritten) runs = tt
-IsProper-ended cmd limits device out (Err NoMemory) runs = tt
+pub IsProper-ended : (cmd : Command) (limits : Numbers) (before after : DeviceState) (out out' : SinkState) (ended : Result ℕ Stop) → Runs cmd limits before after out out' ended → IfErr ended IsProper
+IsProper-ended cmd limits before after out out' (Ok status) runs = tt
+IsProper-ended cmd limits before after out out' (Err (Refused why)) runs = runs.left.0.proper
+IsProper-ended cmd limits before after out out' (Err NotRead) runs = tt
+IsProper-ended cmd limits before after out out' (Err NotWritten) runs = tt
+IsProper-ended cmd limits before after out out' (Err NoMemory) runs = tt
 
 -- the command is the one of the words
-pub IsRunOf-same : (words : Option Command) (mine cmd : Command) (limits : Numbers) (status : ℕ) (device : Use) (out err : Change)
-    → words ≡ Some mine → words ≡ Some cmd → IsRunOf mine limits status device out err → IsRunOf cmd limits status device out err
-IsRunOf-same words mine cmd limits status device out err first second run =
-    let same : mine ≡ cmd = cc in subst (λ k. IsRunOf k limits status device out err) same run
+pub IsRunOf-same : (words : Option Command) (mine cmd : Command) (limits : Numbers) (status : ℕ) (before after : DeviceState) (out out' err err' : SinkState)
+    → words ≡ Some mine → words ≡ Some cmd → IsRunOf mine limits status before after out out' err err' → IsRunOf cmd limits status before after out out' err err'
+IsRunOf-same words mine cmd limits status before after out out' err err' first second run =
+    let same : mine ≡ cmd = cc in subst (λ k. IsRunOf k limits status before after out out' err err') same run

@@ -3,7 +3,7 @@ use Rattle.std.proofs.Common.{◌≡◌, ℕ, ◌+◌, List, [], Some, Result, O
 use Rattle.std.specs.Prelude.{IfOk, unwrap_or}
 use Rattle.std.specs.Global.{Vec}
 use Rattle.std.specs.Option.{option_and_then, option_or}
-use Rattle.dump_io.specs.Dumps.{Now, Use, ReadsAtMost}
+use Rattle.dump_io.specs.Dumps.{Now, DeviceState, ReadsAtMost}
 use Rattle.dump_io.specs.Limits.{Numbers}
 use Rattle.section_index.specs.Index.{Contents}
 use Rattle.heap_cells.specs.HeapMap.{HeapMap, form_at, number_at}
@@ -45,19 +45,19 @@ module _ (pid : List ℕ) (addr : ℕ) (limits : Numbers) (index : Contents) (no
   pub ext-told : (payload : Vec ℕ) → external_at addr heap ≡ Some payload.items → ext_text payload ≡ ext_of pid addr bytes
   ext-told payload found = ap (λ o. ext_report (unwrap_or o [])) (sym found ∙ external-index)
 
-pub reads-ext : (file pid : List ℕ) (addr : ℕ) (limits : Numbers) (index : Contents) (step : Use) (heap : HeapMap) (result : Result (Vec ℕ) Stop)
-    → ReadsAtMost step (body_size (heap_section index pid) + body_size (literals_section index)) → HoldsHeap pid [] limits index step.now_before heap
+pub reads-ext : (file pid : List ℕ) (addr : ℕ) (limits : Numbers) (index : Contents) (before after : DeviceState) (heap : HeapMap) (result : Result (Vec ℕ) Stop)
+    → ReadsAtMost before after (body_size (heap_section index pid) + body_size (literals_section index)) → HoldsHeap pid [] limits index before.now heap
     → Judges (no_external addr heap) result → IfOk result (λ payload. external_at addr heap ≡ Some payload.items)
-    → ReadsFor (ext file pid addr) limits index step ext_text (λ _. 0) result
-reads-ext file pid addr limits index step heap (Ok payload) reads holds judged found =
+    → ReadsFor (ext file pid addr) limits index before after ext_text (λ _. 0) result
+reads-ext file pid addr limits index before after heap (Ok payload) reads holds judged found =
     let of = IsOfHeap-ext file pid addr limits index in
-    HasRead-listed (ext file pid addr) limits index step (ext_text payload) (Takes-heap _ _ _ _ _ of step heap holds reads) (none-listed _ _ _ _ _ of step.now_before heap holds)
+    HasRead-listed (ext file pid addr) limits index before after (ext_text payload) (Takes-heap _ _ _ _ _ of before after heap holds reads) (none-listed _ _ _ _ _ of before.now heap holds)
     (λ bytes all. (
-      ext-held pid addr limits index step.now_before heap holds bytes all file ∙ judged,
-      ext-told pid addr limits index step.now_before heap holds bytes all payload found,
+      ext-held pid addr limits index before.now heap holds bytes all file ∙ judged,
+      ext-told pid addr limits index before.now heap holds bytes all payload found,
       refl,
     ))
-reads-ext file pid addr limits index step heap (Err stop) reads holds judged found =
+reads-ext file pid addr limits index before after heap (Err stop) reads holds judged found =
     let of = IsOfHeap-ext file pid addr limits index in
-    IsHalted-held (ext file pid addr) limits index step (Vec ℕ) (no_external addr heap) stop (Takes-heap _ _ _ _ _ of step heap holds reads) (none-listed _ _ _ _ _ of step.now_before heap holds)
-    (λ bytes all. ext-held pid addr limits index step.now_before heap holds bytes all file) judged
+    IsHalted-held (ext file pid addr) limits index before after (Vec ℕ) (no_external addr heap) stop (Takes-heap _ _ _ _ _ of before after heap holds reads) (none-listed _ _ _ _ _ of before.now heap holds)
+    (λ bytes all. ext-held pid addr limits index before.now heap holds bytes all file) judged

@@ -4,7 +4,7 @@ use Rattle.std.specs.Prelude.{IsErrOf, IsSome, is_some, position}
 use Rattle.std.specs.Option.{option_map, option_or}
 use Rattle.std.proofs.lemmas.Bool.{lt-ltb, le-ltb}
 use Rattle.std.proofs.lemmas.List.Sums.{sum_by-append}
-use Rattle.dump_io.specs.Dumps.{Now, Use, told, DeviceFailed, ReadsAtMost}
+use Rattle.dump_io.specs.Dumps.{Now, DeviceState, told, DeviceFailed, ReadsAtMost}
 use Rattle.dump_io.specs.Limits.{Numbers}
 use Rattle.section_index.specs.Bodies.{body_length}
 use Rattle.section_index.specs.Index.{Contents, IsIndexOf, index_of, sections_in}
@@ -78,9 +78,9 @@ small-first (Some s) is = absurd (let no : ⊥ = cc (is) in no)
 
 module _ (pid : List ℕ) (before : List Section) (limits : Numbers) (index : Contents) where
   -- the process isn't there
-  pub IsHeapless-judged : (step : Use) (stop : Stop) → Judges {T = ℕ} (no_process pid (sections_in index)) (Err stop) → IsHeapless pid before limits index step stop
-  IsHeapless-judged step stop judged =
-      StopsFor-judged step _ ℕ (no_process pid (sections_in index)) stop judged
+  pub IsHeapless-judged : (old new : DeviceState) (stop : Stop) → Judges {T = ℕ} (no_process pid (sections_in index)) (Err stop) → IsHeapless pid before limits index old new stop
+  IsHeapless-judged old new stop judged =
+      StopsFor-judged old new _ ℕ (no_process pid (sections_in index)) stop judged
       (λ why is bytes all. ap (λ o. option_or (option_or o (too_large limits.section (before ++ heap_bodies pid (sections_in index)))) (too_dense limits.dense pid bytes)) is)
 
   -- and where it is there, its bodies are judged
@@ -91,10 +91,10 @@ module _ (pid : List ℕ) (before : List Section) (limits : Numbers) (index : Co
       ∙ too_large-append limits.section before (heap_bodies pid (sections_in index))
 
   -- a body before the heap is too large
-  pub IsHeapless-large : (step : Use) (fault : BodyFault) → no_process pid (sections_in index) ≡ None → Some fault ≡ option_map body_fault (first_large limits.section before)
-      → IsHeapless pid before limits index step (stop_of_body fault)
-  IsHeapless-large step fault there is =
-      StopsFor-large step _ (first_large limits.section before) fault (sym is)
+  pub IsHeapless-large : (old new : DeviceState) (fault : BodyFault) → no_process pid (sections_in index) ≡ None → Some fault ≡ option_map body_fault (first_large limits.section before)
+      → IsHeapless pid before limits index old new (stop_of_body fault)
+  IsHeapless-large old new fault there is =
+      StopsFor-large old new _ (first_large limits.section before) fault (sym is)
       (λ why large bytes all. ap (λ o. option_or o (too_dense limits.dense pid bytes))
       (listed-there there ∙ ap (λ o. option_or o (too_large limits.section (heap_bodies pid (sections_in index)))) large))
 
@@ -106,18 +106,18 @@ module _ (pid : List ℕ) (before : List Section) (limits : Numbers) (index : Co
 
 module _ (pid : List ℕ) (before : List Section) (limits : Numbers) (index : Contents) (clear : IsClear pid before limits index) where
   -- the heap itself wasn't loaded: a body that is too large stands before a heap that is too dense
-  pub IsHeapless-heap : (step : Use) (fault : HeapFault) → IsCauseOf (section_fault limits.section index pid) limits.dense step fault
+  pub IsHeapless-heap : (old new : DeviceState) (fault : HeapFault) → IsCauseOf (section_fault limits.section index pid) limits.dense old new fault
       → ((f : HeapFault) → section_fault limits.section index pid ≡ Some f → IsErrOf {T = HeapMap} (Err fault) f)
-      → ((bytes : List ℕ) → step.now_before ≡ told bytes
+      → ((bytes : List ℕ) → old.now ≡ told bytes
       → IsAnswerFor (enc_of index.version) (body_in bytes (heap_section index pid)) (body_in bytes (literals_section index)) limits.dense (Err fault))
-      → IsHeapless pid before limits index step (stop_of_heap fault)
-  IsHeapless-heap step heap_faults.Read cause first answers = cause
-  IsHeapless-heap step heap_faults.Memory cause first answers = tt
-  IsHeapless-heap step (heap_faults.SectionTooLarge at len) cause first answers = (
+      → IsHeapless pid before limits index old new (stop_of_heap fault)
+  IsHeapless-heap old new heap_faults.Read cause first answers = cause
+  IsHeapless-heap old new heap_faults.Memory cause first answers = tt
+  IsHeapless-heap old new (heap_faults.SectionTooLarge at len) cause first answers = (
     tt,
     λ bytes all. ap (λ o. option_or o (too_dense limits.dense pid bytes)) (clear.listed ∙ heap-too-large limits.section pid index at len cause),
   )
-  IsHeapless-heap step (heap_faults.TooDense count) cause first answers = (
+  IsHeapless-heap old new (heap_faults.TooDense count) cause first answers = (
     tt,
     λ bytes all.
         let right = answers bytes all.opened in
@@ -177,9 +177,9 @@ module _ (cmd : Command) (pid : List ℕ) (before : List Section) (limits : Numb
       )
 
   -- the heap wasn't loaded
-  pub IsHalted-heap : (step : Use) (stop : Stop) → ReadsAtMost step (body_size (heap_section index pid) + body_size (literals_section index))
-      → (IsSome (heap_listed pid before limits (sections_in index)) → ReadsAtMost step 0) → IsHeapless pid before limits index step stop → IsHalted cmd limits index step stop
-  IsHalted-heap step stop reads unread cause =
+  pub IsHalted-heap : (old new : DeviceState) (stop : Stop) → ReadsAtMost old new (body_size (heap_section index pid) + body_size (literals_section index))
+      → (IsSome (heap_listed pid before limits (sections_in index)) → ReadsAtMost old new 0) → IsHeapless pid before limits index old new stop → IsHalted cmd limits index old new stop
+  IsHalted-heap old new stop reads unread cause =
       record {
         takes = record {
           bytes = body_size (heap_section index pid) + body_size (literals_section index);
@@ -187,7 +187,7 @@ module _ (cmd : Command) (pid : List ℕ) (before : List Section) (limits : Numb
           few = λ bytes all. omega (arith, of.few bytes, bytes-loaded bytes all.of);
           unread = λ some. unread (subst IsSome listed-heap some);
         };
-        cause = StopsFor-too step _ _ stop cause (λ why is bytes all. ap (λ o. option_or o (refusal_held cmd bytes limits)) listed-heap
+        cause = StopsFor-too old new _ _ stop cause (λ why is bytes all. ap (λ o. option_or o (refusal_held cmd bytes limits)) listed-heap
             ∙ cause-too (heap_listed pid before limits (sections_in index)) (too_dense limits.dense pid bytes) (refusal_held cmd bytes limits) why (is bytes all) (of.dense bytes why));
       }
 
@@ -195,27 +195,27 @@ module _ (cmd : Command) (pid : List ℕ) (before : List Section) (limits : Numb
   pub none-listed : (now : Now) (heap : HeapMap) → HoldsHeap pid before limits index now heap → refusal_listed cmd (sections_in index) limits ≡ None
   none-listed now heap holds = listed-heap ∙ holds.listed
 
-  module _ (step : Use) (heap : HeapMap) (holds : HoldsHeap pid before limits index step.now_before heap) where
-    pub Takes-heap : ReadsAtMost step (body_size (heap_section index pid) + body_size (literals_section index)) → Takes cmd limits index step
-    Takes-heap reads = Takes-listed cmd limits index step _ (none-listed step.now_before heap holds) reads (λ bytes all. omega (arith, of.few bytes, bytes-loaded bytes all.of))
+  module _ (old new : DeviceState) (heap : HeapMap) (holds : HoldsHeap pid before limits index old.now heap) where
+    pub Takes-heap : ReadsAtMost old new (body_size (heap_section index pid) + body_size (literals_section index)) → Takes cmd limits index old new
+    Takes-heap reads = Takes-listed cmd limits index old new _ (none-listed old.now heap holds) reads (λ bytes all. omega (arith, of.few bytes, bytes-loaded bytes all.of))
 
     -- and so were the bodies before it
-    pub Takes-all : (count : ℕ) → ReadsAtMost step count → count ≤ bodies_length before + (body_size (heap_section index pid) + body_size (literals_section index)) → Takes cmd limits index step
-    Takes-all count reads few = Takes-listed cmd limits index step count (none-listed step.now_before heap holds) reads (λ bytes all. omega (arith, few, of.few bytes, bytes-loaded bytes all.of))
+    pub Takes-all : (count : ℕ) → ReadsAtMost old new count → count ≤ bodies_length before + (body_size (heap_section index pid) + body_size (literals_section index)) → Takes cmd limits index old new
+    Takes-all count reads few = Takes-listed cmd limits index old new count (none-listed old.now heap holds) reads (λ bytes all. omega (arith, few, of.few bytes, bytes-loaded bytes all.of))
 
     -- and so were the previews of its references to binaries
-    pub Takes-previews : (count : ℕ) → ((bytes : List ℕ) → bodies_length (bodies cmd (sections bytes)) + 128 * binary_count pid bytes ≤ reread cmd bytes) → ReadsAtMost step count
+    pub Takes-previews : (count : ℕ) → ((bytes : List ℕ) → bodies_length (bodies cmd (sections bytes)) + 128 * binary_count pid bytes ≤ reread cmd bytes) → ReadsAtMost old new count
         → count ≤ bodies_length before + (body_size (heap_section index pid) + body_size (literals_section index)) + 128 * length (binaries heap.cells)
-        → Takes cmd limits index step
+        → Takes cmd limits index old new
     Takes-previews count most reads few =
-        Takes-listed cmd limits index step count (none-listed step.now_before heap holds) reads
+        Takes-listed cmd limits index old new count (none-listed old.now heap holds) reads
         (λ bytes all. omega (arith, few, most bytes, bytes-loaded bytes all.of, ap (λ cells. length (binaries cells)) (holds.cells bytes all)))
 
 -- the previews weren't loaded
-pub IsHalted-previews : (cmd : Command) (limits : Numbers) (index : Contents) (step last : Use) (fault : PreviewFault) → Takes cmd limits index step
-    → IsPreviewCause last fault → (DeviceFailed last → DeviceFailed step) → IsHalted cmd limits index step (stop_of_previews fault)
-IsHalted-previews cmd limits index step last preview_faults.Read takes cause later = record { takes = takes; cause = later cause }
-IsHalted-previews cmd limits index step last preview_faults.Memory takes cause later = record { takes = takes; cause = tt }
+pub IsHalted-previews : (cmd : Command) (limits : Numbers) (index : Contents) (before after last last' : DeviceState) (fault : PreviewFault) → Takes cmd limits index before after
+    → IsPreviewCause last last' fault → (DeviceFailed last last' → DeviceFailed before after) → IsHalted cmd limits index before after (stop_of_previews fault)
+IsHalted-previews cmd limits index before after last last' preview_faults.Read takes cause later = record { takes = takes; cause = later cause }
+IsHalted-previews cmd limits index before after last last' preview_faults.Memory takes cause later = record { takes = takes; cause = tt }
 
 both-none : (first second : Option Refusal) → option_or first second ≡ None → (first ≡ None) × (second ≡ None)
 both-none None second none = (refl, none)
@@ -234,12 +234,12 @@ small-before pid before limits index now heap holds =
     (both-none (too_large limits.section before) (too_large limits.section bodies) (sym (too_large-append limits.section before bodies) ∙ small.1)).0
 
 -- and it wasn't read
-pub IsHalted-last : (cmd : Command) (pid : List ℕ) (before : List Section) (limits : Numbers) (index : Contents) (now : Now) (heap : HeapMap) (step last : Use) (fault : BodyFault)
-    → Takes cmd limits index step → HoldsHeap pid before limits index now heap → AreRefused before limits.section last fault → (DeviceFailed last → DeviceFailed step)
-    → IsHalted cmd limits index step (stop_of_body fault)
-IsHalted-last cmd pid before limits index now heap step last body_faults.Read takes holds cause later = record { takes = takes; cause = later cause.0 }
-IsHalted-last cmd pid before limits index now heap step last body_faults.Memory takes holds cause later = record { takes = takes; cause = tt }
-IsHalted-last cmd pid before limits index now heap step last (body_faults.SectionTooLarge at len) takes holds cause later =
+pub IsHalted-last : (cmd : Command) (pid : List ℕ) (before : List Section) (limits : Numbers) (index : Contents) (now : Now) (heap : HeapMap) (old new last last' : DeviceState) (fault : BodyFault)
+    → Takes cmd limits index old new → HoldsHeap pid before limits index now heap → AreRefused before limits.section last last' fault → (DeviceFailed last last' → DeviceFailed old new)
+    → IsHalted cmd limits index old new (stop_of_body fault)
+IsHalted-last cmd pid before limits index now heap old new last last' body_faults.Read takes holds cause later = record { takes = takes; cause = later cause.0 }
+IsHalted-last cmd pid before limits index now heap old new last last' body_faults.Memory takes holds cause later = record { takes = takes; cause = tt }
+IsHalted-last cmd pid before limits index now heap old new last last' (body_faults.SectionTooLarge at len) takes holds cause later =
     absurd (let no : ⊥ = cc (small-fault (first_large limits.section before) (small-before pid before limits index now heap holds), cause) in no)
 
 -- ---- what is told of a heap that was loaded

@@ -2,7 +2,7 @@
 use Rattle.std.proofs.Common.{◌≡◌, ℕ, ◌+◌, ◌≤◌, List, None, refl, sym, ◌∙◌, ap, arith}
 use Rattle.std.specs.Prelude.{IsSome, is_some}
 use Rattle.std.specs.Option.{option_map, option_or}
-use Rattle.dump_io.specs.Dumps.{Use, DeviceFailed, ReadsAtMost}
+use Rattle.dump_io.specs.Dumps.{DeviceState, DeviceFailed, ReadsAtMost}
 use Rattle.dump_io.specs.Limits.{Numbers}
 use Rattle.section_index.specs.Index.{Contents, IsIndexOf, index_of, sections_in}
 use Rattle.section_index.specs.Laws.{index-is}
@@ -42,10 +42,10 @@ module _ (cmd : Command) (limits : Numbers) (index : Contents) (more : List ℕ 
   taken-index bytes is = of.taken bytes ∙ ap (λ ss. bodies_length (record_sections ss) + more bytes) (sym (sections-index bytes index is))
 
   -- the processes weren't loaded
-  pub IsHalted-processes : (step : Use) (fault : BodyFault) → ReadsAtMost step (bodies_length (record_sections (sections_in index)))
-      → (IsSome (first_large limits.section (record_sections (sections_in index))) → ReadsAtMost step 0)
-      → AreRefused (record_sections (sections_in index)) limits.section step fault → IsHalted cmd limits index step (stop_of_body fault)
-  IsHalted-processes step fault reads unread cause =
+  pub IsHalted-processes : (before after : DeviceState) (fault : BodyFault) → ReadsAtMost before after (bodies_length (record_sections (sections_in index)))
+      → (IsSome (first_large limits.section (record_sections (sections_in index))) → ReadsAtMost before after 0)
+      → AreRefused (record_sections (sections_in index)) limits.section before after fault → IsHalted cmd limits index before after (stop_of_body fault)
+  IsHalted-processes before after fault reads unread cause =
       record {
         takes = record {
           bytes = bodies_length (record_sections (sections_in index));
@@ -53,7 +53,7 @@ module _ (cmd : Command) (limits : Numbers) (index : Contents) (more : List ℕ 
           few = λ bytes all. omega (arith, taken-index bytes all.of);
           unread = λ some. unread (sym (ap is_some listed-processes ∙ is_some-map refused (first_large limits.section (record_sections (sections_in index)))) ∙ some);
         };
-        cause = StopsFor-bodies step _ (record_sections (sections_in index)) limits.section fault cause
+        cause = StopsFor-bodies before after _ (record_sections (sections_in index)) limits.section fault cause
             (λ why is bytes all. ap (λ o. option_or o (refusal_held cmd bytes limits)) (listed-processes ∙ is));
       }
 
@@ -61,17 +61,17 @@ module _ (cmd : Command) (limits : Numbers) (index : Contents) (more : List ℕ 
   pub none-listed : first_large limits.section (record_sections (sections_in index)) ≡ None → refusal_listed cmd (sections_in index) limits ≡ None
   none-listed small = listed-processes ∙ ap (option_map refused) small
 
-  pub Takes-heard : (step : Use) (count heard : ℕ) → first_large limits.section (record_sections (sections_in index)) ≡ None → ReadsAtMost step count
-      → count ≤ bodies_length (record_sections (sections_in index)) + heard → ((bytes : List ℕ) → IsIndexed bytes limits index step.now_before → heard ≡ more bytes)
-      → Takes cmd limits index step
-  Takes-heard step count heard small reads few same =
-      Takes-listed cmd limits index step count (none-listed small) reads (λ bytes all. omega (arith, few, same bytes all, taken-index bytes all.of))
+  pub Takes-heard : (before after : DeviceState) (count heard : ℕ) → first_large limits.section (record_sections (sections_in index)) ≡ None → ReadsAtMost before after count
+      → count ≤ bodies_length (record_sections (sections_in index)) + heard → ((bytes : List ℕ) → IsIndexed bytes limits index before.now → heard ≡ more bytes)
+      → Takes cmd limits index before after
+  Takes-heard before after count heard small reads few same =
+      Takes-listed cmd limits index before after count (none-listed small) reads (λ bytes all. omega (arith, few, same bytes all, taken-index bytes all.of))
 
 -- the heaps weren't heard
-pub IsHalted-holders : (cmd : Command) (limits : Numbers) (index : Contents) (step last : Use) (fault : HolderFault) → Takes cmd limits index step
-    → IsCauseOf last fault → (DeviceFailed last → DeviceFailed step) → IsHalted cmd limits index step (stop_of_holders fault)
-IsHalted-holders cmd limits index step last holder_faults.Read takes cause later = record { takes = takes; cause = later cause }
-IsHalted-holders cmd limits index step last holder_faults.Memory takes cause later = record { takes = takes; cause = tt }
+pub IsHalted-holders : (cmd : Command) (limits : Numbers) (index : Contents) (before after last last' : DeviceState) (fault : HolderFault) → Takes cmd limits index before after
+    → IsCauseOf last last' fault → (DeviceFailed last last' → DeviceFailed before after) → IsHalted cmd limits index before after (stop_of_holders fault)
+IsHalted-holders cmd limits index before after last last' holder_faults.Read takes cause later = record { takes = takes; cause = later cause }
+IsHalted-holders cmd limits index before after last last' holder_faults.Memory takes cause later = record { takes = takes; cause = tt }
 
 -- ---- what is told of the processes that were loaded
 

@@ -1,7 +1,7 @@
 -- What a dump that was opened says, and one that wasn't.
 use Rattle.std.proofs.Common.{◌≡◌, ◌⊎◌, ℕ, ◌≤◌, List, length, Option, None, Some, Ok, Err, refl, sym, ◌∙◌, ap, inl, inr, arith}
 use Rattle.std.specs.Prelude.{IsErrOf}
-use Rattle.dump_io.specs.Dumps.{Files, Now, closed, told, sized, size_of, IsAbsent, Use, DeviceFailed}
+use Rattle.dump_io.specs.Dumps.{Files, Now, closed, told, sized, size_of, IsAbsent, DeviceState, DeviceFailed}
 use Rattle.dump_io.specs.Limits.{Numbers}
 use Rattle.section_index.specs.Index.{Contents, IsAnswerFor, IsBuiltOver, IsClosedOrNamed, IsFileOf, IsHeld, ReadsFile}
 use Rattle.section_index.specs.declared.opening.OpenFault.{OpenFault}
@@ -46,10 +46,10 @@ closed-absent (Some files) name (told all) named gone = absurd (let no : ⊥ = c
 closed-absent (Some files) name (sized size) named gone = absurd (let no : ⊥ = cc (sym gone ∙ named.1) in no)
 
 -- an index was built
-pub HasOpened-built : (name : List ℕ) (limits : Numbers) (device : Use) (index : Contents) → ReadsFile device name
-    → ((bytes : List ℕ) → IsFileOf device name bytes → IsAnswerFor bytes limits (Ok index))
-    → (IsAbsent device.files_before name → IsErrOf (Ok index) Read) → IsBuiltOver device.now_after index → HasOpened name limits device index
-HasOpened-built name limits device index reads answer absent over =
+pub HasOpened-built : (name : List ℕ) (limits : Numbers) (before after : DeviceState) (index : Contents) → ReadsFile before after name
+    → ((bytes : List ℕ) → IsFileOf before after name bytes → IsAnswerFor bytes limits (Ok index))
+    → (IsAbsent before.files name → IsErrOf (Ok index) Read) → IsBuiltOver after.now index → HasOpened name limits before after index
+HasOpened-built name limits before after index reads answer absent over =
     record {
       there = λ gone. let no : ⊥ = cc (absent gone) in no;
       same_files = reads.same_files;
@@ -60,36 +60,36 @@ HasOpened-built name limits device index reads answer absent over =
           record {
             accepted = right.0;
             of = right.1;
-            opened = told-file device.files_before name device.now_after bytes index reads.now over file;
+            opened = told-file before.files name after.now bytes index reads.now over file;
           };
-      taken = λ bytes file. omega (arith, reads.taken_most, size-file device.files_before name device.now_after bytes reads.now file);
+      taken = λ bytes file. omega (arith, reads.taken_most, size-file before.files name after.now bytes reads.now file);
     }
 
 -- no index was built
-pub IsUnopened-built : (name : List ℕ) (limits : Numbers) (device : Use) (fault : OpenFault) → ReadsFile device name
-    → ((bytes : List ℕ) → IsFileOf device name bytes → IsAnswerFor bytes limits (Err fault))
-    → (IsAbsent device.files_before name → IsErrOf {T = Contents} (Err fault) Read)
-    → (IsErrOf {T = Contents} (Err fault) Read → DeviceFailed device ⊎ IsAbsent device.files_before name)
-    → IsUnopened name limits device (stop_of_opening fault)
-IsUnopened-built name limits device Read reads answer absent read =
+pub IsUnopened-built : (name : List ℕ) (limits : Numbers) (before after : DeviceState) (fault : OpenFault) → ReadsFile before after name
+    → ((bytes : List ℕ) → IsFileOf before after name bytes → IsAnswerFor bytes limits (Err fault))
+    → (IsAbsent before.files name → IsErrOf {T = Contents} (Err fault) Read)
+    → (IsErrOf {T = Contents} (Err fault) Read → DeviceFailed before after ⊎ IsAbsent before.files name)
+    → IsUnopened name limits before after (stop_of_opening fault)
+IsUnopened-built name limits before after Read reads answer absent read =
     record {
       cause = read refl;
-      gone = closed-absent device.files_before name device.now_after reads.now;
-      taken = λ bytes file. omega (arith, reads.taken_most, size-file device.files_before name device.now_after bytes reads.now file);
+      gone = closed-absent before.files name after.now reads.now;
+      taken = λ bytes file. omega (arith, reads.taken_most, size-file before.files name after.now bytes reads.now file);
     }
-IsUnopened-built name limits device Memory reads answer absent read =
+IsUnopened-built name limits before after Memory reads answer absent read =
     record {
       cause = tt;
-      gone = closed-absent device.files_before name device.now_after reads.now;
-      taken = λ bytes file. omega (arith, reads.taken_most, size-file device.files_before name device.now_after bytes reads.now file);
+      gone = closed-absent before.files name after.now reads.now;
+      taken = λ bytes file. omega (arith, reads.taken_most, size-file before.files name after.now bytes reads.now file);
     }
-IsUnopened-built name limits device fault reads answer absent read =
+IsUnopened-built name limits before after fault reads answer absent read =
     record {
       cause = record {
         proper = tt;
         there = λ gone. let no : ⊥ = cc (absent gone) in no;
         told = λ bytes file. (fault, answer bytes file, refl);
       };
-      gone = closed-absent device.files_before name device.now_after reads.now;
-      taken = λ bytes file. omega (arith, reads.taken_most, size-file device.files_before name device.now_after bytes reads.now file);
+      gone = closed-absent before.files name after.now reads.now;
+      taken = λ bytes file. omega (arith, reads.taken_most, size-file before.files name after.now bytes reads.now file);
     }

@@ -3,7 +3,7 @@ use Rattle.std.proofs.Common.{◌≡◌, ℕ, ◌-◌, Bool, List, ◌++◌, Opt
 use Rattle.std.specs.Prelude.{IsSome}
 use Rattle.std.specs.Option.{option_map}
 use Rattle.std.specs.List.{flat_map}
-use Rattle.dump_io.specs.Dumps.{Now, Use, told, DeviceFailed}
+use Rattle.dump_io.specs.Dumps.{Now, DeviceState, told, DeviceFailed}
 use Rattle.dump_io.specs.Limits.{Numbers}
 use Rattle.section_index.specs.Index.{Contents, sections_in}
 use Rattle.section_index.specs.Sections.{Section}
@@ -57,12 +57,12 @@ no-large None none some = let no : ⊥ = cc (some) in no
 no-large (Some s) none some = let no : ⊥ = cc (none) in no
 
 -- the bodies with the roots weren't read
-pub IsHalted-roots : (cmd : Command) (pid : List ℕ) (before : List Section) (limits : Numbers) (index : Contents) (now : Now) (heap : HeapMap) (step last : Use) (fault : BodyFault)
-    → Takes cmd limits index step → HoldsHeap pid before limits index now heap → IsUnread (first_large limits.section before) last fault → (DeviceFailed last → DeviceFailed step)
-    → IsHalted cmd limits index step (stop_of_body fault)
-IsHalted-roots cmd pid before limits index now heap step last body_faults.Read takes holds cause later = record { takes = takes; cause = later cause }
-IsHalted-roots cmd pid before limits index now heap step last body_faults.Memory takes holds cause later = record { takes = takes; cause = tt }
-IsHalted-roots cmd pid before limits index now heap step last (body_faults.SectionTooLarge at len) takes holds cause later =
+pub IsHalted-roots : (cmd : Command) (pid : List ℕ) (before : List Section) (limits : Numbers) (index : Contents) (now : Now) (heap : HeapMap) (old new last last' : DeviceState) (fault : BodyFault)
+    → Takes cmd limits index old new → HoldsHeap pid before limits index now heap → IsUnread (first_large limits.section before) last last' fault → (DeviceFailed last last' → DeviceFailed old new)
+    → IsHalted cmd limits index old new (stop_of_body fault)
+IsHalted-roots cmd pid before limits index now heap old new last last' body_faults.Read takes holds cause later = record { takes = takes; cause = later cause }
+IsHalted-roots cmd pid before limits index now heap old new last last' body_faults.Memory takes holds cause later = record { takes = takes; cause = tt }
+IsHalted-roots cmd pid before limits index now heap old new last last' (body_faults.SectionTooLarge at len) takes holds cause later =
     absurd (no-large (first_large limits.section before) (small-before pid before limits index now heap holds) cause)
 
 -- ---- what is told

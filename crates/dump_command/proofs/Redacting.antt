@@ -2,9 +2,9 @@
 use Rattle.std.proofs.Common.{◌≡◌, ℕ, List, Option, None, Some, Result, Ok, Err, refl, sym, ◌∙◌, ap, subst, inl, inr, arith}
 use Rattle.std.specs.Prelude.{IfErr, IsErrOf, IsSome, OnOk}
 use Rattle.std.specs.Option.{option_map, option_or}
-use Rattle.dump_io.specs.Dumps.{Files, Now, told, Use, used, ReadsAtMost}
+use Rattle.dump_io.specs.Dumps.{told, DeviceState, ReadsAtMost}
 use Rattle.dump_io.specs.Limits.{Numbers}
-use Rattle.dump_io.specs.Sinks.{Change, GainedFront, IsKept, WritesAll}
+use Rattle.dump_io.specs.Sinks.{SinkState, GainedFront, IsKept, WritesAll}
 use Rattle.section_index.specs.Bodies.{body_length}
 use Rattle.section_index.specs.Index.{Contents, sections_in}
 use Rattle.section_index.specs.Sections.{Section}
@@ -21,7 +21,6 @@ use Rattle.dump_command.specs.Inner.Opened.{HasOpened}
 use Rattle.dump_command.specs.Inner.Reading.{Takes}
 use Rattle.dump_command.specs.Inner.Runs.{Runs}
 use Rattle.dump_command.specs.Inner.Stops.{redact_end}
-use Rattle.dump_command.proofs.Reading.{ReadsAtMost-same}
 use Rattle.dump_command.proofs.Runs.{through, IsThrough}
 
 -- the refusal of the first heap that is too large, as the command's and as that of the call
@@ -46,30 +45,26 @@ same-refusal None at len is = absurd (let no : ⊥ = cc is in no)
 same-refusal (Some s) at len is = let place : s.at ≡ at = cc is in let size : body_length s ≡ len = cc is in ap (λ n. Some (SectionTooLarge n (body_length s))) place ∙ ap (λ n. Some (SectionTooLarge at n)) size
 
 -- a dump that was opened and redacted, with what the call says of reads and of a heap that is too large
-module _ {D : Type 0} (files : D → Option Files) (now : D → Now) (faults_of taken : D → ℕ) (a b c : D) (file : List ℕ) (limits : Numbers) (index : Contents) (out : Change)
-    (opened : HasOpened file limits (used files now faults_of taken a b) index) (reads : ReadsAtMost (used files now faults_of taken b c) index.size)
-    (unread : IsSome (large_fault limits.section (sections_in index)) → c ≡ b) (unwritten : IsSome (large_fault limits.section (sections_in index)) → IsKept out) where
-  -- the dump from its opening on
-  abbrev pub device : Use
-  device = used files now faults_of taken a c
-
+module _ (a b c : DeviceState) (file : List ℕ) (limits : Numbers) (index : Contents) (out out' : SinkState)
+    (opened : HasOpened file limits a b index) (reads : ReadsAtMost b c index.size)
+    (unread : IsSome (large_fault limits.section (sections_in index)) → ReadsAtMost b c 0) (unwritten : IsSome (large_fault limits.section (sections_in index)) → IsKept out out') where
   abbrev large : Option Section
   large = first_large limits.section (heap_sections (sections_in index))
 
-  takes : Takes (redact file) limits index (used files now faults_of taken b c)
+  takes : Takes (redact file) limits index b c
   takes =
       record {
         bytes = index.size;
         reads = reads;
         few = λ all indexed. omega (arith, indexed.of.size);
-        unread = λ some. ReadsAtMost-same files now faults_of taken _ _ _ reads (unread (is-fault large some));
+        unread = λ some. unread (is-fault large some);
       }
 
-  known : IsThrough (redact file) limits index (now b) device
-  known = through files now faults_of taken a b c (redact file) file limits index refl opened takes
+  known : IsThrough (redact file) limits index b.now a c
+  known = through (redact file) file limits index refl opened takes
 
   -- the command is refused for that heap alone
-  refused : (bytes : List ℕ) → IsDumpOf device (redact file) bytes → refusal (redact file) bytes limits ≡ as_refusal large
+  refused : (bytes : List ℕ) → IsDumpOf a c (redact file) bytes → refusal (redact file) bytes limits ≡ as_refusal large
   refused bytes dump = (known.told bytes dump).1 ∙ by large
     where
       by : (o : Option Section) → option_or (as_refusal o) None ≡ as_refusal o
@@ -77,26 +72,26 @@ module _ {D : Type 0} (files : D → Option Files) (now : D → Now) (faults_of 
       by (Some s) = refl
 
   -- what is left where the call failed
-  left : (bytes : List ℕ) → IsDumpOf device (redact file) bytes → GainedFront out (redacted bytes) → IsLeftOf (redact file) bytes (refusal (redact file) bytes limits) out
-  left bytes dump front = subst (λ r. IsLeftOf (redact file) bytes r out) (sym (refused bytes dump)) (by large refl)
+  left : (bytes : List ℕ) → IsDumpOf a c (redact file) bytes → GainedFront out out' (redacted bytes) → IsLeftOf (redact file) bytes (refusal (redact file) bytes limits) out out'
+  left bytes dump front = subst (λ r. IsLeftOf (redact file) bytes r out out') (sym (refused bytes dump)) (by large refl)
     where
-      by : (o : Option Section) → large ≡ o → IsLeftOf (redact file) bytes (as_refusal o) out
+      by : (o : Option Section) → large ≡ o → IsLeftOf (redact file) bytes (as_refusal o) out out'
       by None e = inr front
       by (Some s) e = unwritten (subst (λ o. IsSome (as_fault o)) (sym e) refl)
 
   -- where the call says that no heap is too large nothing is refused
-  accepted : (bytes : List ℕ) → IsDumpOf device (redact file) bytes → as_fault large ≡ None → refusal (redact file) bytes limits ≡ None
+  accepted : (bytes : List ℕ) → IsDumpOf a c (redact file) bytes → as_fault large ≡ None → refusal (redact file) bytes limits ≡ None
   accepted bytes dump none = refused bytes dump ∙ no-refusal large none
 
-  stopped : ((bytes : List ℕ) → now b ≡ told bytes → GainedFront out (redacted bytes)) → HasStopped (redact file) limits device out
+  stopped : ((bytes : List ℕ) → b.now ≡ told bytes → GainedFront out out' (redacted bytes)) → HasStopped (redact file) limits a c out out'
   stopped front =
       record { absent = λ gone. absurd (known.there gone); told = λ bytes dump. left bytes dump (front bytes (known.told bytes dump).0.opened) }
 
-  pub Runs-redact : (result : Result (Unit {0}) RedactFault) → ((bytes : List ℕ) → now b ≡ told bytes → WritesAll out.before out.after (redacted bytes) result)
-      → IfErr result (IsCauseOf (large_fault limits.section (sections_in index)) (used files now faults_of taken b c) out)
+  pub Runs-redact : (result : Result (Unit {0}) RedactFault) → ((bytes : List ℕ) → b.now ≡ told bytes → WritesAll out.written out'.written (redacted bytes) result)
+      → IfErr result (IsCauseOf (large_fault limits.section (sections_in index)) b c out out')
       → OnOk result (large_fault limits.section (sections_in index) ≡ None)
       → ((fault : RedactFault) → large_fault limits.section (sections_in index) ≡ Some fault → IsErrOf result fault)
-      → Runs (redact file) limits device out (redact_end result)
+      → Runs (redact file) limits a c out out' (redact_end result)
   Runs-redact (Ok done) writes cause none too_large =
       record {
         left = record {

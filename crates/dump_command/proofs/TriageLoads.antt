@@ -3,7 +3,7 @@ use Rattle.std.proofs.Common.{◌≡◌, ℕ, ◌+◌, true, false, if◌then◌
 use Rattle.std.specs.Prelude.{nat_lt}
 use Rattle.std.specs.Option.{option_map, option_or}
 use Rattle.std.proofs.lemmas.List.Sums.{sum_by-append, sum_by-cons}
-use Rattle.dump_io.specs.Dumps.{Use, DeviceFailed, ReadsAtMost}
+use Rattle.dump_io.specs.Dumps.{DeviceState, DeviceFailed, ReadsAtMost}
 use Rattle.dump_io.specs.Limits.{Numbers}
 use Rattle.section_index.specs.Bodies.{body_length}
 use Rattle.section_index.specs.Index.{Contents, index_of, sections_in}
@@ -49,11 +49,11 @@ small-both limit xs ys none = by (large_fault limit xs) (large_fault limit ys) (
     by (Some fault) p is = absurd (let no : ⊥ = cc (is) in no)
 
 -- bodies of which none is too large aren't read where the device fails or memory lacks
-pub IsUnread-small : (limit : ℕ) (ss : List Section) (device step : Use) (fault : BodyFault) → large_fault limit ss ≡ None → (DeviceFailed step → DeviceFailed device)
-    → AreRefused ss limit step fault → IsUnread device fault
-IsUnread-small limit ss device step body_faults.Read none later cause = inl (refl, later cause.0)
-IsUnread-small limit ss device step body_faults.Memory none later cause = inr refl
-IsUnread-small limit ss device step (body_faults.SectionTooLarge at len) none later cause = absurd (let no : ⊥ = cc (sym none ∙ cause) in no)
+pub IsUnread-small : (limit : ℕ) (ss : List Section) (before after step step' : DeviceState) (fault : BodyFault) → large_fault limit ss ≡ None → (DeviceFailed step step' → DeviceFailed before after)
+    → AreRefused ss limit step step' fault → IsUnread before after fault
+IsUnread-small limit ss before after step step' body_faults.Read none later cause = inl (refl, later cause.0)
+IsUnread-small limit ss before after step step' body_faults.Memory none later cause = inr refl
+IsUnread-small limit ss before after step step' (body_faults.SectionTooLarge at len) none later cause = absurd (let no : ⊥ = cc (sym none ∙ cause) in no)
 
 -- ---- the bodies of a triage
 
@@ -118,18 +118,18 @@ triage-length index places found =
 
 -- ---- the command
 
-module _ (file : List ℕ) (most : ℕ) (limits : Numbers) (index : Contents) (step : Use) where
+module _ (file : List ℕ) (most : ℕ) (limits : Numbers) (index : Contents) (before after : DeviceState) where
   -- there was no memory for the places
-  pub IsHalted-places : ReadsAtMost step 0 → IsHalted (triage file most) limits index step NoMemory
-  IsHalted-places none = record { takes = Takes-none (triage file most) limits index step none; cause = tt }
+  pub IsHalted-places : ReadsAtMost before after 0 → IsHalted (triage file most) limits index before after NoMemory
+  IsHalted-places none = record { takes = Takes-none (triage file most) limits index before after none; cause = tt }
 
   -- a body is too large
-  pub IsHalted-triage : (fault : BodyFault) → ReadsAtMost step 0 → Some fault ≡ large_fault limits.section (triage_sections (sections_in index))
-      → IsHalted (triage file most) limits index step (stop_of_body fault)
+  pub IsHalted-triage : (fault : BodyFault) → ReadsAtMost before after 0 → Some fault ≡ large_fault limits.section (triage_sections (sections_in index))
+      → IsHalted (triage file most) limits index before after (stop_of_body fault)
   IsHalted-triage fault none is =
       record {
-        takes = Takes-none (triage file most) limits index step none;
-        cause = StopsFor-large step _ (first_large limits.section (triage_sections (sections_in index))) fault (sym is)
+        takes = Takes-none (triage file most) limits index before after none;
+        cause = StopsFor-large before after _ (first_large limits.section (triage_sections (sections_in index))) fault (sym is)
             (λ why large bytes all. ap (λ o. option_or o None) large);
       }
 
@@ -141,22 +141,22 @@ module _ (file : List ℕ) (most : ℕ) (limits : Numbers) (index : Contents) (s
       by None is = refl
       by (Some s) is = absurd (let no : ⊥ = cc (is) in no)
 
-  takes-triage : None ≡ large_fault limits.section (triage_sections (sections_in index)) → ReadsAtMost step (bodies_length (triage_sections (sections_in index)))
-      → Takes (triage file most) limits index step
+  takes-triage : None ≡ large_fault limits.section (triage_sections (sections_in index)) → ReadsAtMost before after (bodies_length (triage_sections (sections_in index)))
+      → Takes (triage file most) limits index before after
   takes-triage small reads =
-      Takes-listed (triage file most) limits index step _ (listed-triage small) reads
+      Takes-listed (triage file most) limits index before after _ (listed-triage small) reads
       (λ bytes all. omega (arith, ap (λ ss. bodies_length (triage_sections ss)) (sections-index bytes index all.of)))
 
   -- they weren't read
   pub IsHalted-unread : (fault : BodyFault) → None ≡ large_fault limits.section (triage_sections (sections_in index))
-      → ReadsAtMost step (bodies_length (triage_sections (sections_in index))) → IsUnread step fault → IsHalted (triage file most) limits index step (stop_of_body fault)
+      → ReadsAtMost before after (bodies_length (triage_sections (sections_in index))) → IsUnread before after fault → IsHalted (triage file most) limits index before after (stop_of_body fault)
   IsHalted-unread fault small reads (inl cause) =
-      subst (λ f. IsHalted (triage file most) limits index step (stop_of_body f)) (sym cause.0) (record { takes = takes-triage small reads; cause = cause.1 })
+      subst (λ f. IsHalted (triage file most) limits index before after (stop_of_body f)) (sym cause.0) (record { takes = takes-triage small reads; cause = cause.1 })
   IsHalted-unread fault small reads (inr is) =
-      subst (λ f. IsHalted (triage file most) limits index step (stop_of_body f)) (sym is) (record { takes = takes-triage small reads; cause = tt })
+      subst (λ f. IsHalted (triage file most) limits index before after (stop_of_body f)) (sym is) (record { takes = takes-triage small reads; cause = tt })
 
   -- what stands out in what was read stands out in the dump
-  triage-told : (loaded : Loaded) → HoldsBodies index step.now_before loaded → (bytes : List ℕ) → IsIndexed bytes limits index step.now_before
+  triage-told : (loaded : Loaded) → HoldsBodies index before.now loaded → (bytes : List ℕ) → IsIndexed bytes limits index before.now
       → triage_text most index loaded ≡ report (triage file most) bytes
   triage-told loaded holds bytes all =
       let held = subst (λ n. HoldsBodies index n loaded) all.opened holds in
@@ -173,8 +173,8 @@ module _ (file : List ℕ) (most : ℕ) (limits : Numbers) (index : Contents) (s
       ∙ ap (λ ss. triage_over most (index_of bytes) (told_in bytes ss)) same
 
   pub HasRead-triage : (loaded : Loaded) → None ≡ large_fault limits.section (triage_sections (sections_in index))
-      → ReadsAtMost step (bodies_length (triage_sections (sections_in index))) → HoldsBodies index step.now_before loaded
-      → HasRead (triage file most) limits index step (triage_text most index loaded) 0
+      → ReadsAtMost before after (bodies_length (triage_sections (sections_in index))) → HoldsBodies index before.now loaded
+      → HasRead (triage file most) limits index before after (triage_text most index loaded) 0
   HasRead-triage loaded small reads holds =
-      HasRead-listed (triage file most) limits index step (triage_text most index loaded) (takes-triage small reads) (listed-triage small)
+      HasRead-listed (triage file most) limits index before after (triage_text most index loaded) (takes-triage small reads) (listed-triage small)
       (λ bytes all. (refl, triage-told loaded holds bytes all, refl))

@@ -1,4 +1,4 @@
--- What a redacted dump says as the dump did.
+-- What is the same in a redacted dump.
 use Rattle.std.specs.Prelude.{◌≡◌, ℕ, Bool, true, false, List, map, option_map}
 use Rattle.section_index.specs.Sections.{sections}
 use Rattle.term_forms.specs.declared.enc.Enc.{Enc}
@@ -30,12 +30,12 @@ KeepsFindings = (bytes : List ℕ) (limit : ℕ) (full : Bool) → findings (aud
 
 -- ---- heaps
 
--- a binary on the heap with its characters made blank; another form stays
+-- a heap binary with its characters made blank; any other form stays
 abbrev pub blank_form : Enc → HeapForm → HeapForm
 blank_form enc (HeapBin size chars) = HeapBin size (map (blank enc) chars)
 blank_form enc form = form
 
--- a cell at the same address with such a form
+-- a cell with such a form, at the same address
 abbrev pub blank_cell : Enc → Cell → Cell
 blank_cell enc cell = record { address = cell.address; form = option_map (blank_form enc) cell.form }
 
@@ -50,11 +50,11 @@ blank_heap heap =
       literals_size = heap.literals_size;
     }
 
--- the heap of a process differs in the characters of its binaries alone
+-- the heap of a process differs only in the characters of its heap binaries
 abbrev pub KeepsHeaps : Type 0
 KeepsHeaps = (bytes pid : List ℕ) → heap_map pid (redacted bytes) ≡ blank_heap (heap_map pid bytes)
 
--- so that it has the same addresses in the same order
+-- so it has the same addresses in the same order
 abbrev pub KeepsAddresses : Type 0
 KeepsAddresses = (bytes pid : List ℕ) → addresses (heap_map pid (redacted bytes)).cells ≡ addresses (heap_map pid bytes).cells
 
@@ -68,7 +68,7 @@ found_roots kind pid bytes = roots_in kind (body_in bytes (roots_section kind pi
 abbrev pub KeepsRoots : Type 0
 KeepsRoots = (kind : RootKind) (bytes pid : List ℕ) → found_roots kind pid (redacted bytes) ≡ found_roots kind pid bytes
 
--- what a leaf holds, with the characters of a binary on the heap made blank
+-- what a leaf holds, with the characters of a heap binary made blank
 abbrev pub blank_value : Enc → Value → Value
 blank_value enc (Immediate element) = Immediate element
 blank_value enc (OfCell a form) = OfCell a (blank_form enc form)
@@ -80,7 +80,7 @@ abbrev mutual
   blank_tree enc (Bad address why) = Bad address why
   blank_tree enc (Branch kind children) = Branch kind (blank_trees enc children)
 
-  -- each of some trees
+  -- each of a list of trees
   pub blank_trees : Enc → Trees → Trees
   blank_trees enc none = none
   blank_trees enc (more tree trees) = more (blank_tree enc tree) (blank_trees enc trees)
@@ -89,15 +89,15 @@ abbrev mutual
 abbrev pub tree_in : List ℕ → Element → List ℕ → Tree
 tree_in pid root bytes = unfolding_of (heap_map pid bytes).cells root
 
--- the tree of each element differs in the characters of binaries on the heap alone
+-- the tree of each element differs only in the characters of heap binaries
 abbrev pub KeepsTrees : Type 0
 KeepsTrees = (bytes pid : List ℕ) (root : Element) → tree_in pid root (redacted bytes) ≡ blank_tree (payloads_of bytes) (tree_in pid root bytes)
 
--- so that within each budget the first bad address is the same, or none is bad
+-- so within each budget the first bad address is the same, or none is bad
 abbrev pub KeepsVerdicts : Type 0
 KeepsVerdicts = (bytes pid : List ℕ) (root : Element) (nodes : ℕ) → verdict (tree_in pid root (redacted bytes)) nodes ≡ verdict (tree_in pid root bytes) nodes
 
--- a form that is a binary, refers to one or is a part of one
+-- a form that is a heap binary, a reference to a binary or a sub binary
 abbrev pub is_binary_form : HeapForm → Bool
 is_binary_form (HeapBin size chars) = true
 is_binary_form (RefBin address offset size) = true

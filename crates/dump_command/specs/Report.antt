@@ -1,5 +1,5 @@
--- What each command reports of the bytes of a dump, and why it is refused. A command without a file reports of
--- no bytes.
+-- What each command reports on the bytes of a dump, and why it
+-- is refused. A command without a file reports on no bytes.
 use Rattle.std.specs.Prelude.{ℕ, ◌+◌, ◌*◌, List, [], ◌∷◌, ◌++◌, map, length, slice_get, unwrap_or, Option, None, Some, Bool, true, false, codes, find, is_some, if◌then◌else◌}
 use Rattle.std.specs.List.{between}
 use Rattle.std.specs.Option.{option_map, option_or, option_and}
@@ -50,7 +50,7 @@ process_section pid sections = find (λ s. is_named (codes "proc") (Some pid) s.
 abbrev pub memory_section : List Section → Option Section
 memory_section sections = find (λ s. has_tag (codes "memory") s.text) sections
 
--- a section that is there
+-- a section, if there is one
 abbrev pub one_of : Option Section → List Section
 one_of None = []
 one_of (Some s) = s ∷ []
@@ -100,11 +100,11 @@ body_of bytes section = between section.body section.end bytes
 abbrev pub tags_of : List Section → List (List ℕ)
 tags_of sections = map (λ s. tag_of s.text) sections
 
--- the fields of a section, and no rows where there is none
+-- the fields of a section, and no rows if there is none
 abbrev pub fields_of : List ℕ → Option Section → List ℕ
 fields_of bytes found = fields_report (base_of found) (body_in bytes found)
 
--- what is told of the bodies of a triage
+-- what the bodies of a triage hold
 abbrev pub told_in : List ℕ → List Section → Told
 told_in bytes sections = record {
   first = body_of bytes (first_section sections);
@@ -155,7 +155,7 @@ finds cmd = false
 abbrev pub no_process : List ℕ → List Section → Option Refusal
 no_process pid sections = if is_some (process_section pid sections) then None else Some (NoProcess pid)
 
--- a command is refused where its subject isn't there: no section is that of the process, or of the binary
+-- a command is refused if its subject isn't there: no section is that of the process, or of the binary
 abbrev pub no_subject : Command → List Section → Option Refusal
 no_subject (proc file pid) sections = no_process pid sections
 no_subject (roots kind file pid nodes marked) sections = no_process pid sections
@@ -167,12 +167,12 @@ no_subject (binary file addr) sections = binary_cause addr (binary_at addr secti
 no_subject (holders file addr) sections = binary_cause addr (binary_at addr sections)
 no_subject cmd sections = None
 
--- the refusal of the first of these bodies that is longer than the limit
+-- the refusal of the first of these bodies that has more bytes than the limit
 abbrev pub too_large : ℕ → List Section → Option Refusal
 too_large limit sections = option_map (λ s. SectionTooLarge s.at (body_length s)) (first_large limit sections)
 
--- why a command is refused for the sections of a dump, before it reads a body: what it asks for isn't there, or a body
--- that it loads is too large
+-- why a command is refused for the sections of a dump, before it reads a
+-- body: what it asks for isn't there, or a body that it loads is too large
 abbrev pub refusal_listed : Command → List Section → Numbers → Option Refusal
 refusal_listed cmd sections limits = option_or (no_subject cmd sections) (too_large limits.section (bodies cmd sections))
 
@@ -186,13 +186,13 @@ refusal_held (cells file pid) bytes limits = too_dense limits.dense pid bytes
 refusal_held (binary file addr) bytes limits = bad_binary addr bytes
 refusal_held cmd bytes limits = None
 
--- why a command on these bytes is refused before it reads a body: they are no dump that is read, or it is refused for
--- the sections
+-- why a command on these bytes is refused before it reads a body:
+-- they aren't accepted as a dump, or it is refused for their sections
 abbrev pub refusal_unread : Command → List ℕ → Numbers → Option Refusal
 refusal_unread cmd bytes limits = option_or (option_map Open (opening bytes limits)) (refusal_listed cmd (sections bytes) limits)
 
--- why a command on these bytes is refused under these limits, or none: the first cause that holds. A command without a
--- file isn't refused
+-- why a command on these bytes is refused under these limits, or `None`:
+-- the first cause that holds. A command without a file isn't refused
 abbrev pub refusal : Command → List ℕ → Numbers → Option Refusal
 refusal cmd bytes limits = option_and (file_of cmd) (option_or (refusal_unread cmd bytes limits) (refusal_held cmd bytes limits))
 
@@ -200,9 +200,10 @@ refusal cmd bytes limits = option_and (file_of cmd) (option_or (refusal_unread c
 abbrev pub loaded_bytes : Command → List ℕ → ℕ
 loaded_bytes cmd bytes = bodies_length (bodies cmd (sections bytes))
 
--- the most bytes that a command takes from the device after it has read the dump once: those of the bodies that
--- it loads, and 128 for each reference to a binary in the heap of a process; for the holders of binaries those of the heaps,
--- and for the sizes of these some of each of their sections; a redacted dump is copied from the dump whole
+-- the most bytes that a command takes from the device after it has read the dump once: those
+-- of the bodies that it loads, and 128 for each reference to a binary in the heap of a
+-- process; for the holders of binaries those of the heaps, and for the sizes of the binaries
+-- the first bytes of each of their sections; a redacted dump is copied from the whole dump
 abbrev pub reread : Command → List ℕ → ℕ
 reread (roots kind file pid nodes marked) bytes = loaded_bytes (roots kind file pid nodes marked) bytes + 128 * binary_count pid bytes
 reread (term file pid addr nodes marked) bytes = loaded_bytes (term file pid addr nodes marked) bytes + 128 * binary_count pid bytes
@@ -211,12 +212,12 @@ reread (holders file addr) bytes = loaded_bytes (holders file addr) bytes + heap
 reread (redact file) bytes = length bytes
 reread cmd bytes = loaded_bytes cmd bytes
 
--- nothing where there is a refusal
+-- nothing if there is a refusal
 abbrev pub unless_refused : Option Refusal → ℕ → ℕ
 unless_refused None count = count
 unless_refused (Some why) count = 0
 
--- the most bytes that a command takes from the device: those of the dump, and where it isn't refused before it reads a
--- body, those that it takes behind the pass over the dump
+-- the most bytes that a command takes from the device: those of the dump and, unless it
+-- is refused before it reads a body, those that it takes after the pass over the dump
 abbrev pub allowance : Command → List ℕ → Numbers → ℕ
 allowance cmd bytes limits = length bytes + unless_refused (refusal_unread cmd bytes limits) (reread cmd bytes)

@@ -1,117 +1,122 @@
--- What a run leaves, by the status with which it ends.
+-- What a run leaves, by the status with which it ends. `before` and `after` are the device around it, `out` and `out'` the sink
+-- of the report, and `err` and `err'` that of the lines on refusals.
 use Rattle.std.specs.Prelude.{◌≡◌, ◌⊎◌, ℕ, ◌≤◌, List, [], Option, None, Some, IsSomeAnd, IsTrue, codes}
 use Rattle.dump_io.specs.Counts.{plus_capped}
-use Rattle.dump_io.specs.Dumps.{closed, IsAbsent, Use, DeviceFailed}
+use Rattle.dump_io.specs.Dumps.{closed, IsAbsent, DeviceState, DeviceFailed}
 use Rattle.dump_io.specs.Limits.{Numbers}
-use Rattle.dump_io.specs.Sinks.{Change, SinkFailed, IsKept, Gained, GainedFront}
+use Rattle.dump_io.specs.Sinks.{SinkState, SinkFailed, IsKept, Gained, GainedFront}
 use Rattle.section_index.specs.Index.{IsFileOf}
 use Rattle.report_text.specs.declared.refusals.Refusal.{Refusal}
 use Rattle.report_text.specs.Refusals.{refusal_line}
 use Rattle.command_words.specs.Command.{Command, redact, file_of}
 use Rattle.dump_command.specs.Report.{report, report_status, finds, refusal, allowance}
 
--- these are the bytes of which a command reports: those of its file, and none where it has no file
-abbrev pub IsInputOf : Use → Option (List ℕ) → List ℕ → Type 0
-IsInputOf device None bytes = bytes ≡ []
-IsInputOf device (Some name) bytes = IsFileOf device name bytes
+-- these are the bytes on which a command reports: those of its file, and none if it has no file
+abbrev pub IsInputOf : DeviceState → DeviceState → Option (List ℕ) → List ℕ → Type 0
+IsInputOf before after None bytes = bytes ≡ []
+IsInputOf before after (Some name) bytes = IsFileOf before after name bytes
 
--- these are the bytes of which this command reports
-abbrev pub IsDumpOf : Use → Command → List ℕ → Type 0
-IsDumpOf device cmd bytes = IsInputOf device (file_of cmd) bytes
+-- these are the bytes on which this command reports
+abbrev pub IsDumpOf : DeviceState → DeviceState → Command → List ℕ → Type 0
+IsDumpOf before after cmd bytes = IsInputOf before after (file_of cmd) bytes
 
--- the files are told, and none has the name of the file that is to be opened
-abbrev pub IsMissingFrom : Use → Option (List ℕ) → Type 0
-IsMissingFrom device None = ⊥
-IsMissingFrom device (Some name) = IsAbsent device.files_before name
+-- the device tells its files, and none has the name of the file that is to be opened
+abbrev pub IsMissingFrom : DeviceState → Option (List ℕ) → Type 0
+IsMissingFrom before None = ⊥
+IsMissingFrom before (Some name) = IsAbsent before.files name
 
--- the files are told, and none has the name of the command's file
-abbrev pub IsMissing : Use → Command → Type 0
-IsMissing device cmd = IsMissingFrom device (file_of cmd)
+-- the device tells its files, and none has the name of the command's file
+abbrev pub IsMissing : DeviceState → Command → Type 0
+IsMissing before cmd = IsMissingFrom before (file_of cmd)
 
 -- the dump wasn't read: the device failed, or has no such file
-abbrev pub IsUnreadFrom : Use → Option (List ℕ) → Type 0
-IsUnreadFrom device None = ⊥
-IsUnreadFrom device (Some name) = DeviceFailed device ⊎ IsAbsent device.files_before name
+abbrev pub IsUnreadFrom : DeviceState → DeviceState → Option (List ℕ) → Type 0
+IsUnreadFrom before after None = ⊥
+IsUnreadFrom before after (Some name) = DeviceFailed before after ⊎ IsAbsent before.files name
 
 -- the command's dump wasn't read
-abbrev pub IsUnread : Use → Command → Type 0
-IsUnread device cmd = IsUnreadFrom device (file_of cmd)
+abbrev pub IsUnread : DeviceState → DeviceState → Command → Type 0
+IsUnread before after cmd = IsUnreadFrom before after (file_of cmd)
 
--- the whole report of these bytes was written, of which nothing is refused, and the status is that of the report
-pub record IsReported (cmd : Command) (limits : Numbers) (status : ℕ) (bytes : List ℕ) (out : Change) : Type 0 where
+-- the whole report on these bytes was written, for which
+-- nothing is refused, and the status is that of the report
+pub record IsReported (cmd : Command) (limits : Numbers) (status : ℕ) (bytes : List ℕ) (before after : SinkState) : Type 0 where
   pub accepted : refusal cmd bytes limits ≡ None
   pub ends : status ≡ report_status cmd bytes
-  pub written : Gained out (report cmd bytes)
+  pub written : Gained before after (report cmd bytes)
 
--- status 0 and 3: the whole report stands in `out`, and `err` is untouched
-pub record Reports (cmd : Command) (limits : Numbers) (status : ℕ) (device : Use) (out err : Change) : Type 0 where
-  pub told : (bytes : List ℕ) → IsDumpOf device cmd bytes → IsReported cmd limits status bytes out
-  pub err_kept : IsKept err
+-- status 0 and 3: the whole report is in `out`, and `err` is untouched
+pub record Reports (cmd : Command) (limits : Numbers) (status : ℕ) (before after : DeviceState) (out out' err err' : SinkState) : Type 0 where
+  pub told : (bytes : List ℕ) → IsDumpOf before after cmd bytes → IsReported cmd limits status bytes out out'
+  pub err_kept : IsKept err err'
 
--- status 2: the command is refused, the line that says why stands in `err`, and `out` is untouched
-pub record Refuses (cmd : Command) (limits : Numbers) (device : Use) (out err : Change) : Type 0 where
-  pub told : (bytes : List ℕ) → IsDumpOf device cmd bytes → IsSomeAnd (refusal cmd bytes limits) (λ why. Gained err (refusal_line why))
-  pub out_kept : IsKept out
+-- status 2: the command is refused, the line that says why is in `err`, and `out` is untouched
+pub record Refuses (cmd : Command) (limits : Numbers) (before after : DeviceState) (out out' err err' : SinkState) : Type 0 where
+  pub told : (bytes : List ℕ) → IsDumpOf before after cmd bytes → IsSomeAnd (refusal cmd bytes limits) (λ why. Gained err err' (refusal_line why))
+  pub out_kept : IsKept out out'
 
--- a front of the report stands in `out`, or of the line of the refusal in `err` where there is one; the other is untouched
-abbrev pub IsFrontOf : Command → List ℕ → Option Refusal → Change → Change → Type 0
-IsFrontOf cmd bytes None out err = GainedFront out (report cmd bytes) × SinkFailed out × IsKept err
-IsFrontOf cmd bytes (Some why) out err = GainedFront err (refusal_line why) × SinkFailed err × IsKept out
+-- a proper prefix of the report is in `out`, or, if the command is
+-- refused, one of the refusal's line is in `err`; the other is untouched
+abbrev pub IsFrontOf : Command → List ℕ → Option Refusal → SinkState → SinkState → SinkState → SinkState → Type 0
+IsFrontOf cmd bytes None out out' err err' = GainedFront out out' (report cmd bytes) × SinkFailed out out' × IsKept err err'
+IsFrontOf cmd bytes (Some why) out out' err err' = GainedFront err err' (refusal_line why) × SinkFailed err err' × IsKept out out'
 
 -- status 5: a write failed
-pub record BreaksOff (cmd : Command) (limits : Numbers) (device : Use) (out err : Change) : Type 0 where
-  pub failed : SinkFailed out ⊎ SinkFailed err
-  pub told : (bytes : List ℕ) → IsDumpOf device cmd bytes → IsFrontOf cmd bytes (refusal cmd bytes limits) out err
+pub record BreaksOff (cmd : Command) (limits : Numbers) (before after : DeviceState) (out out' err err' : SinkState) : Type 0 where
+  pub failed : SinkFailed out out' ⊎ SinkFailed err err'
+  pub told : (bytes : List ℕ) → IsDumpOf before after cmd bytes → IsFrontOf cmd bytes (refusal cmd bytes limits) out out' err err'
 
--- what a command that writes while it reads, and stopped before its report was whole, left in `out`: nothing, or a proper
--- front of the report; and nothing where the command is refused
-abbrev pub IsLeftOf : Command → List ℕ → Option Refusal → Change → Type 0
-IsLeftOf cmd bytes None out = IsKept out ⊎ GainedFront out (report cmd bytes)
-IsLeftOf cmd bytes (Some why) out = IsKept out
+-- what a command that writes while it reads, and stopped before its report was whole, left
+-- in `out`: nothing, or a proper prefix of the report; and nothing if the command is refused
+abbrev pub IsLeftOf : Command → List ℕ → Option Refusal → SinkState → SinkState → Type 0
+IsLeftOf cmd bytes None before after = IsKept before after ⊎ GainedFront before after (report cmd bytes)
+IsLeftOf cmd bytes (Some why) before after = IsKept before after
 
--- such a command left this in `out`, and nothing where it has no file
-pub record HasStopped (cmd : Command) (limits : Numbers) (device : Use) (out : Change) : Type 0 where
-  pub absent : IsMissing device cmd → IsKept out
-  pub told : (bytes : List ℕ) → IsDumpOf device cmd bytes → IsLeftOf cmd bytes (refusal cmd bytes limits) out
+-- such a command left this in `out`, and nothing if it has no file
+pub record HasStopped (cmd : Command) (limits : Numbers) (before after : DeviceState) (out out' : SinkState) : Type 0 where
+  pub absent : IsMissing before cmd → IsKept out out'
+  pub told : (bytes : List ℕ) → IsDumpOf before after cmd bytes → IsLeftOf cmd bytes (refusal cmd bytes limits) out out'
 
--- what a command that stopped before its report was whole left in `out`: nothing, but for `redact`, which writes while it reads
-abbrev pub IsLeft : Command → Numbers → Use → Change → Type 0
-IsLeft (redact file) limits device out = HasStopped (redact file) limits device out
-IsLeft cmd limits device out = IsKept out
+-- what a command that stopped before its report was whole left in
+-- `out`: nothing, except for `redact`, which writes while it reads
+abbrev pub IsLeft : Command → Numbers → DeviceState → DeviceState → SinkState → SinkState → Type 0
+IsLeft (redact file) limits before after out out' = HasStopped (redact file) limits before after out out'
+IsLeft cmd limits before after out out' = IsKept out out'
 
--- no more bytes are taken than the command is allowed
-abbrev pub TakesAtMost : Command → Numbers → Use → Type 0
-TakesAtMost cmd limits device =
-    (bytes : List ℕ) → IsDumpOf device cmd bytes → device.taken_after ≤ plus_capped device.taken_before (allowance cmd bytes limits)
+-- no more bytes are taken than the command may take
+abbrev pub TakesAtMost : Command → Numbers → DeviceState → DeviceState → Type 0
+TakesAtMost cmd limits before after =
+    (bytes : List ℕ) → IsDumpOf before after cmd bytes → after.taken ≤ plus_capped before.taken (allowance cmd bytes limits)
 
--- how a run of a command ends, and what then stands in `out` and in `err`: a row for each status
-abbrev pub Ends : Command → Numbers → ℕ → Use → Change → Change → Type 0
-Ends cmd limits status device out err =
-    ((status ≡ 0) × Reports cmd limits 0 device out err)
-    ⊎ ((status ≡ 2) × Refuses cmd limits device out err)
-    ⊎ ((status ≡ 3) × Reports cmd limits 3 device out err × IsTrue (finds cmd))
-    ⊎ ((status ≡ 4) × IsUnread device cmd × IsLeft cmd limits device out × IsKept err)
-    ⊎ ((status ≡ 5) × BreaksOff cmd limits device out err)
-    ⊎ ((status ≡ 6) × IsLeft cmd limits device out × IsKept err)
+-- how a run of a command ends, and what is then in `out` and in `err`: a row for each status
+abbrev pub Ends : Command → Numbers → ℕ → DeviceState → DeviceState → SinkState → SinkState → SinkState → SinkState → Type 0
+Ends cmd limits status before after out out' err err' =
+    ((status ≡ 0) × Reports cmd limits 0 before after out out' err err')
+    ⊎ ((status ≡ 2) × Refuses cmd limits before after out out' err err')
+    ⊎ ((status ≡ 3) × Reports cmd limits 3 before after out out' err err' × IsTrue (finds cmd))
+    ⊎ ((status ≡ 4) × IsUnread before after cmd × IsLeft cmd limits before after out out' × IsKept err err')
+    ⊎ ((status ≡ 5) × BreaksOff cmd limits before after out out' err err')
+    ⊎ ((status ≡ 6) × IsLeft cmd limits before after out out' × IsKept err err')
 
 -- what a run of a command leaves
-pub record IsRunOf (cmd : Command) (limits : Numbers) (status : ℕ) (device : Use) (out err : Change) : Type 0 where
-  pub ends : Ends cmd limits status device out err
-  -- without such a file the dump wasn't read, or memory was wanting, and none is open in the end
-  pub missing : IsMissing device cmd → ((status ≡ 4) ⊎ (status ≡ 6)) × (device.now_after ≡ closed)
-  -- whatever the status, no more bytes are taken than the command is allowed
-  pub taken : TakesAtMost cmd limits device
+pub record IsRunOf (cmd : Command) (limits : Numbers) (status : ℕ) (before after : DeviceState) (out out' err err' : SinkState) : Type 0 where
+  pub ends : Ends cmd limits status before after out out' err err'
+  -- if there is no such file, the dump wasn't read, or memory was lacking, and no file is open at the end
+  pub missing : IsMissing before cmd → ((status ≡ 4) ⊎ (status ≡ 6)) × (after.now ≡ closed)
+  -- whatever the status, no more bytes are taken than the command may take
+  pub taken : TakesAtMost cmd limits before after
 
 -- the line for words that are no command
 abbrev pub usage_line : List ℕ
 usage_line = codes "usage: edump COMMAND [WORDS]\n"
 
--- a line was written and the run ends with this status, or a front of the line and it ends with 5, where `err` failed
-abbrev pub EndsTold : ℕ → List ℕ → ℕ → Change → Type 0
-EndsTold status line result err =
-    ((result ≡ status) × Gained err line) ⊎ ((result ≡ 5) × GainedFront err line × SinkFailed err)
+-- a line was written and the run ends with this status, or a proper
+-- prefix of the line was and it ends with 5, since `err` failed
+abbrev pub EndsTold : ℕ → List ℕ → ℕ → SinkState → SinkState → Type 0
+EndsTold status line result before after =
+    ((result ≡ status) × Gained before after line) ⊎ ((result ≡ 5) × GainedFront before after line × SinkFailed before after)
 
 -- what a run leaves whose words are no command
-pub record IsUsage (status : ℕ) (out err : Change) : Type 0 where
-  pub ending : EndsTold 1 usage_line status err
-  pub out_kept : IsKept out
+pub record IsUsage (status : ℕ) (out out' err err' : SinkState) : Type 0 where
+  pub ending : EndsTold 1 usage_line status err err'
+  pub out_kept : IsKept out out'

@@ -1,4 +1,4 @@
--- What the commands on the terms of a process, and on a binary, say of the bytes of an accepted dump.
+-- What the commands on the terms of a process, and on a binary, report on the bytes of an accepted dump.
 use Rattle.std.specs.Prelude.{ℕ, Bool, List, [], ◌++◌, length, Option, None, Some, codes, find, is_some, nat_lt, unwrap_or, if◌then◌else◌}
 use Rattle.std.specs.Option.{option_and_then, option_map, option_or}
 use Rattle.section_index.specs.Index.{index_of}
@@ -41,7 +41,7 @@ roots_section kind pid sections = named_section (roots_tag kind) pid sections
 abbrev pub heap_of : List ℕ → List Section → Option Section
 heap_of pid sections = named_section (codes "proc_heap") pid sections
 
--- the section with the literals, to which each heap may refer
+-- the section with the literals, to which every heap may refer
 abbrev pub literals_of : List Section → Option Section
 literals_of sections = tagged_section (codes "literals") sections
 
@@ -80,7 +80,7 @@ previews_in bytes heap = previews_of bytes (index_of bytes) heap.enc heap.cells
 abbrev pub walk_of : List ℕ → List ℕ → Walk
 walk_of pid bytes = walk (heap_map pid bytes) (previews_in bytes (heap_map pid bytes))
 
--- the answer to an element of the process, within so many nodes, with bad addresses marked or not
+-- the answer to an element of the process, within this many nodes, with bad addresses marked or not
 abbrev pub answer_in : List ℕ → ℕ → Bool → List ℕ → Element → List ℕ
 answer_in pid nodes marked bytes e = answer_over (walk_of pid bytes) nodes marked e
 
@@ -105,7 +105,7 @@ term_of pid addr nodes marked bytes = term_report (answer_in pid nodes marked by
 abbrev pub dense_cause : ℕ → ℕ → Option Refusal
 dense_cause limit count = if nat_lt limit count then Some (TooDense count) else None
 
--- why the heap of a process is too dense, or none
+-- why the heap of a process is too dense, or `None`
 abbrev pub too_dense : ℕ → List ℕ → List ℕ → Option Refusal
 too_dense limit pid bytes = dense_cause limit (weight (payloads_of bytes) (heap_body pid bytes) (literals_body bytes))
 
@@ -117,7 +117,8 @@ address_cause addr found = if is_some found then None else Some (NoAddress addr)
 abbrev pub no_address : ℕ → List ℕ → List ℕ → Option Refusal
 no_address addr pid bytes = address_cause addr (number_at (heap_map pid bytes).cells addr)
 
--- the bytes of a cell in the External Term Format, which its characters write, since such a form has a payload; another form has none
+-- the bytes of an external term, which its characters write,
+-- since such a form has a payload; any other form has none
 abbrev pub external_in : Enc → HeapForm → Option (List ℕ)
 external_in enc (Ext size chars) = Some (unwrap_or (payload_of enc size chars) [])
 external_in enc form = None
@@ -126,12 +127,12 @@ external_in enc form = None
 abbrev pub external_at : ℕ → HeapMap → Option (List ℕ)
 external_at addr heap = option_and_then (external_in heap.enc) (option_and_then (form_at heap.cells) (number_at heap.cells addr))
 
--- the cell at the address isn't external, or its bytes aren't one external term
+-- the cell at the address isn't an external term, or its bytes aren't 131 and one term
 abbrev pub external_cause : ℕ → Option (List ℕ) → Option Refusal
 external_cause addr None = Some (NotExt addr)
 external_cause addr (Some bytes) = option_map (BadExt addr) (bad_place bytes)
 
--- why a heap gives no external term at an address, or none: it has no cell there, or that is no such term
+-- why a heap has no external term at an address, or `None`: it has no cell there, or that is no such term
 abbrev pub no_external : ℕ → HeapMap → Option Refusal
 no_external addr heap = option_or (address_cause addr (number_at heap.cells addr)) (external_cause addr (external_at addr heap))
 
@@ -139,15 +140,15 @@ no_external addr heap = option_or (address_cause addr (number_at heap.cells addr
 abbrev pub ext_of : List ℕ → ℕ → List ℕ → List ℕ
 ext_of pid addr bytes = ext_report (unwrap_or (external_at addr (heap_map pid bytes)) [])
 
--- the terms among the roots of a process of one kind
+-- the terms among the roots of one kind of a process
 abbrev pub terms_in : RootKind → List ℕ → List ℕ → List Element
 terms_in kind pid bytes = terms_of (roots_in kind (body_in bytes (roots_section kind pid (sections bytes))))
 
--- those among all its roots: its stack's, its dictionary's and its mailbox's
+-- those among all its roots: of its stack, its dictionary and its mailbox
 abbrev pub root_terms : List ℕ → List ℕ → List Element
 root_terms pid bytes = (terms_in Stack pid bytes ++ terms_in Dict pid bytes) ++ terms_in Mail pid bytes
 
--- whether a cell of the heap of a process is reached from its roots, by the number of the cell
+-- whether a cell of the heap of a process is reached from its roots, by the cell's number
 abbrev pub reached : List ℕ → List ℕ → ℕ → Bool
 reached pid bytes = reached_by (heap_map pid bytes).cells (root_terms pid bytes)
 
@@ -155,7 +156,7 @@ reached pid bytes = reached_by (heap_map pid bytes).cells (root_terms pid bytes)
 abbrev pub reach_of : List ℕ → List ℕ → List ℕ
 reach_of pid bytes = reach_report (heap_map pid bytes) (reached pid bytes)
 
--- the report of what lies on the heap of a process
+-- the report of what is on the heap of a process
 abbrev pub heap_listing : List ℕ → List ℕ → List ℕ
 heap_listing pid bytes = cells_report (heap_map pid bytes)
 
@@ -163,11 +164,11 @@ heap_listing pid bytes = cells_report (heap_map pid bytes)
 abbrev pub binary_count : List ℕ → List ℕ → ℕ
 binary_count pid bytes = length (binaries (heap_map pid bytes).cells)
 
--- the first `binary` section whose id writes the address in hex
+-- the first `binary` section whose id is the address in hex
 abbrev pub binary_at : ℕ → List Section → Option Section
 binary_at addr sections = find (λ s. has_hex (codes "binary") addr s.text) sections
 
--- the report of the binary at an address, of the bytes that its section writes
+-- the report of the binary at an address, with the bytes that its section writes
 abbrev pub binary_of : ℕ → List ℕ → List ℕ
 binary_of addr bytes = binary_report addr (unwrap_or (whole_bytes bytes (index_of bytes) addr) [])
 
@@ -176,7 +177,7 @@ abbrev pub bad_cause : Option Section → Option (List ℕ) → Option Refusal
 bad_cause found (Some bytes) = None
 bad_cause found None = option_map (λ s. BadBinary s.at) found
 
--- why a binary can't be written, or none
+-- why a binary can't be written, or `None`
 abbrev pub bad_binary : ℕ → List ℕ → Option Refusal
 bad_binary addr bytes = bad_cause (binary_at addr (sections bytes)) (whole_bytes bytes (index_of bytes) addr)
 

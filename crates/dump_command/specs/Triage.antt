@@ -1,4 +1,4 @@
--- What `triage` says of an index, of bodies, and of what was read of others.
+-- What `triage` reports, from an index, two bodies and what was read from the others.
 use Rattle.std.specs.Prelude.{ℕ, List}
 use Rattle.section_index.specs.Index.{Contents}
 use Rattle.section_rows.specs.Rows.{Table}
@@ -6,14 +6,15 @@ use Rattle.process_table.specs.Processes.{ProcessTable}
 use Rattle.dump_triage.specs.Triage.{triage_of}
 use Rattle.report_text.specs.Triage.{triage_report}
 
--- what its report tells: the body of the first section and that of the first one on memory, the processes and the ETS tables
+-- what its report is on: the body of the first section and that
+-- of the first one on memory, the processes and the ETS tables
 pub record Told : Type 0 where
   pub first : List ℕ
   pub memory : List ℕ
   pub procs : ProcessTable
   pub tables : Table
 
--- the report of these, with at most so many rows by each measure
+-- the report on these, with at most this many rows by each measure
 abbrev pub triage_over : ℕ → Contents → Told → List ℕ
 triage_over most index told =
     triage_report index told.first told.memory told.procs told.tables.rows (triage_of index told.procs.processes told.tables.rows most)

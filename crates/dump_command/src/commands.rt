@@ -1,7 +1,5 @@
 // Each command: what it loads, and what it writes.
 ghost use Rattle.std.specs.Prelude.{◌≡◌, None};
-ghost use Rattle.dump_io.specs.Dumps.{used};
-ghost use Rattle.dump_io.specs.Sinks.{changed};
 ghost use Rattle.command_words.specs.Command.{file_of, shown, IsInRange};
 ghost use Rattle.dump_command.specs.Inner.Runs.{Runs};
 
@@ -57,7 +55,7 @@ use term::Term;
 use triage::Triage;
 use trial::run_trial;
 
-/// Runs a command from a device to the sink of its report, and answers its status.
+/// Runs a command from a device to the sink of its report, and returns its status.
 pub(crate) fn run_command<D: Dumps, K: Sink>(
     alloc: Global,
     cmd: &Cmd<'_>,
@@ -66,7 +64,7 @@ pub(crate) fn run_command<D: Dumps, K: Sink>(
     out: &mut K,
 ) -> Result<u8, Stop>
     requires { IsInRange (shown cmd.now) }
-    ensures runs { Runs (shown cmd.now) limits.now (used D.files D.now D.faults D.taken dumps.old dumps.new) (changed K.written K.faults out.old out.new) result }
+    ensures runs { Runs (shown cmd.now) limits.now (D.state dumps.old) (D.state dumps.new) (K.state out.old) (K.state out.new) result }
 
     // A command without a file leaves the device as it is.
     ensures idle { file_of (shown cmd.now) ≡ None → dumps.new ≡ dumps.old }

@@ -1,6 +1,5 @@
 // How the run of a command ends.
 ghost use Rattle.std.specs.Prelude.{◌≡◌, MatchResult, IfErr};
-ghost use Rattle.dump_io.specs.Sinks.{changed};
 ghost use Rattle.dump_command.specs.Run.{EndsTold, usage_line};
 ghost use Rattle.dump_command.specs.Inner.Stops.{EndsAs, IsProper};
 
@@ -9,7 +8,7 @@ use crate::stop::Stop;
 use dump_io::{Failed, Sink, write_all};
 use report_text::put_refusal;
 
-// The status after a line was written: this one, or that of a failed write.
+// The status after a line was written: the given one, or that of a failed write.
 fn status_of(written: Result<(), Failed>, status: u8) -> u8
     ensures { MatchResult written (λ _. result ≡ status) (λ _. result ≡ 5) }
 {
@@ -19,17 +18,17 @@ fn status_of(written: Result<(), Failed>, status: u8) -> u8
     }
 }
 
-/// Writes the usage line, and answers the status.
+/// Writes the usage line, and returns the status.
 pub(crate) fn put_usage<E: Sink>(err: &mut E) -> u8
-    ensures { EndsTold 1 usage_line result (changed E.written E.faults err.old err.new) }
+    ensures { EndsTold 1 usage_line result (E.state err.old) (E.state err.new) }
 {
     status_of(write_all(err, b"usage: edump COMMAND [WORDS]\n"), USAGE)
 }
 
-/// Ends the run of a command: writes the line of a refusal, and answers the status.
+/// Ends the run of a command: writes the line of a refusal, and returns the status.
 pub(crate) fn end<E: Sink>(ended: Result<u8, Stop>, err: &mut E) -> u8
     requires { IfErr ended IsProper }
-    ensures { EndsAs ended result (changed E.written E.faults err.old err.new) }
+    ensures { EndsAs ended result (E.state err.old) (E.state err.new) }
 {
     match ended {
         Ok(status) => status,

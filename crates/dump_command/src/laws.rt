@@ -1,12 +1,12 @@
-// What a redacted dump says as the dump did, and what is read back of an audit. Each law is the contract of a function that
-// does nothing.
+// What is the same in a redacted dump, and what is read back of an
+// audit. Each law is the contract of a function that does nothing.
 ghost use Rattle.dump_command.specs.Audits.{AuditsReadBack};
 ghost use Rattle.dump_command.specs.Laws.{KeepsProcesses, KeepsFindings, KeepsHeaps, KeepsAddresses, KeepsRoots, KeepsTrees, KeepsVerdicts, KeepsLeaves};
 
 use dump_redact::{binaries_stay, bodies_are_redacted, sections_stay};
 use json_report::text_reads_back;
 
-/// A law, and no work: a redacted dump has the same processes, and an audit finds the same in it.
+/// States a law and does no work: a redacted dump has the same processes, and an audit finds the same in it.
 pub fn findings_stay()
     ensures processes { KeepsProcesses }
     ensures findings { KeepsFindings }
@@ -15,8 +15,8 @@ pub fn findings_stay()
     bodies_are_redacted();
 }
 
-/// A law, and no work: the heap of a process in a redacted dump has the same addresses in the same order, and its cells differ
-/// in the characters of binaries on the heap alone.
+/// States a law and does no work: the heap of a process in a redacted dump has the same
+/// addresses in the same order, and its cells differ only in the characters of heap binaries.
 pub fn heaps_stay()
     ensures heaps { KeepsHeaps }
     ensures addresses { KeepsAddresses }
@@ -26,9 +26,9 @@ pub fn heaps_stay()
     binaries_stay();
 }
 
-/// A law, and no work: each process of a redacted dump has the same roots, and the tree of each element differs in the
-/// characters of binaries on the heap alone. So within each budget the same address is the first that is bad. The text of each
-/// leaf that is no binary and refers to none stays.
+/// States a law and does no work: each process of a redacted dump has the same roots, and the tree of
+/// each element differs only in the characters of heap binaries. So within each budget the same address
+/// is the first that is bad. The text of each leaf stays the same unless it is a binary or refers to one.
 pub fn trees_stay()
     ensures roots { KeepsRoots }
     ensures trees { KeepsTrees }
@@ -40,8 +40,8 @@ pub fn trees_stay()
     heaps_stay();
 }
 
-/// A law, and no work: the text that `audit-json` writes of a dump in a file is, without its LF, read back as the tree of the
-/// audit.
+/// States a law and does no work: the text that `audit-json` writes for a
+/// dump in a file, without its LF, is read back as the tree of the audit.
 pub fn audits_read_back()
     ensures { AuditsReadBack }
 {

@@ -1,5 +1,5 @@
-//! The commands of edump: their run from a device to two sinks. Their words are those of command_words, whose [`Cmd`] and
-//! [`read_words`] stand here too.
+//! The commands of edump: running them from a device to two sinks. Their words are
+//! those of command_words, whose [`Cmd`] and [`read_words`] are re-exported here.
 //!
 //! ```
 //! let mut dumps = FileDumps::new(&rt);
@@ -8,8 +8,9 @@
 //! let status = run(rt.alloc(), &words, &Limits::usual(), &mut dumps, &mut out, &mut err);
 //! ```
 //!
-//! A command loads what its report needs and then writes it. Why it ends without its whole report is a `Stop`,
-//! to which the faults of all layers come by `?`; [`run`] makes a status of [`status`] and a line of it.
+//! A command loads what its report needs and then writes it. Why it ends
+//! without its whole report is a `Stop`, to which `?` converts the faults of
+//! all layers; [`run`] turns a `Stop` into a status of [`status`] and a line.
 #![tactic(auto)]
 
 mod commands;

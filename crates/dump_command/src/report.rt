@@ -1,7 +1,5 @@
 // A command that opens a dump: what it reads, what it writes, and its run.
 ghost use Rattle.std.specs.Prelude.{◌≡◌, ◌≤◌, ℕ, List, length, Some, IfOk};
-ghost use Rattle.dump_io.specs.Dumps.{used};
-ghost use Rattle.dump_io.specs.Sinks.{changed};
 ghost use Rattle.section_index.specs.Index.{Contents, IsBuiltOver};
 ghost use Rattle.command_words.specs.Command.{Command, file_of};
 ghost use Rattle.dump_command.specs.Inner.Runs.{Runs};
@@ -14,7 +12,7 @@ use std::alloc::Global;
 
 /// A command that opens a dump, reads all that its report needs, and then writes the report.
 pub(crate) trait Report {
-    /// What it reads of the dump beside the index.
+    /// What it reads of the dump besides the index.
     type Loaded: Drop;
 
     /// The command that this is.
@@ -26,32 +24,32 @@ pub(crate) trait Report {
     /// The status with which it ends.
     ghost status: { Self → Contents → Self.Loaded → ℕ } = { λ _ _ _. 0 };
 
-    /// What is asked of its words.
+    /// What it requires of its words.
     ghost asked: { Self → Type 0 } = { λ _. Unit {0} };
 
-    /// What its report asks of what was read.
+    /// What its report requires of what was read.
     ghost fits: { Self → Contents → Self.Loaded → Type 0 } = { λ _ _ _. Unit {0} };
 
     /// The name of the dump.
     fn file(&self) -> &str
         ensures { file_of (command self.now) ≡ Some result.now };
 
-    /// Reads what the report needs, or says why not.
+    /// Reads what the report needs, or returns why it didn't.
     fn read<D: Dumps>(&self, at: &Opened<'_>, dumps: &mut D) -> Result<Self::Loaded, Stop>
         requires asked { asked self.now }
-        requires over { IsBuiltOver (D.now dumps.old) at.now.index.now }
+        requires over { IsBuiltOver (D.state dumps.old).now at.now.index.now }
         requires some { 1 ≤ length at.now.index.now.headers }
-        ensures reads { ReadsFor (command self.now) at.now.limits.now at.now.index.now (used D.files D.now D.faults D.taken dumps.old dumps.new) (text self.now at.now.index.now) (status self.now at.now.index.now) result }
+        ensures reads { ReadsFor (command self.now) at.now.limits.now at.now.index.now (D.state dumps.old) (D.state dumps.new) (text self.now at.now.index.now) (status self.now at.now.index.now) result }
         ensures fits { IfOk result (fits self.now at.now.index.now) };
 
-    /// Writes the report, and gives the status.
+    /// Writes the report, and returns the status.
     fn put<K: Sink>(&self, at: &Opened<'_>, loaded: &Self::Loaded, out: &mut K) -> Result<u8, Stop>
         requires asked { asked self.now }
         requires fits { fits self.now at.now.index.now loaded.now }
-        ensures { Tells (changed K.written K.faults out.old out.new) (text self.now at.now.index.now loaded.now) (status self.now at.now.index.now loaded.now) result };
+        ensures { Tells (K.state out.old) (K.state out.new) (text self.now at.now.index.now loaded.now) (status self.now at.now.index.now loaded.now) result };
 }
 
-/// Runs a command from a device to the sink of its report, and answers its status.
+/// Runs a command from a device to the sink of its report, and returns its status.
 pub(crate) fn run_report<R: Report, D: Dumps, K: Sink>(
     alloc: Global,
     report: &R,
@@ -60,7 +58,7 @@ pub(crate) fn run_report<R: Report, D: Dumps, K: Sink>(
     out: &mut K,
 ) -> Result<u8, Stop>
     requires { R.asked report.now }
-    ensures { Runs (R.command report.now) limits.now (used D.files D.now D.faults D.taken dumps.old dumps.new) (changed K.written K.faults out.old out.new) result }
+    ensures { Runs (R.command report.now) limits.now (D.state dumps.old) (D.state dumps.new) (K.state out.old) (K.state out.new) result }
 {
     let index = open(alloc, report.file(), limits, dumps)?;
     let at = Opened {

@@ -1,9 +1,9 @@
-// The run of the words of a command line.
+// Running the words of a command line.
 ghost use Rattle.std.specs.Prelude.{◌≡◌, ◌⊎◌, ℕ, List, map, None, Some};
 ghost use Rattle.std.specs.Option.{option_and_then};
 ghost use Rattle.std.specs.String.{string_bytes};
-ghost use Rattle.dump_io.specs.Dumps.{used, DeviceFailed};
-ghost use Rattle.dump_io.specs.Sinks.{changed, SinkFailed};
+ghost use Rattle.dump_io.specs.Dumps.{DeviceFailed};
+ghost use Rattle.dump_io.specs.Sinks.{SinkFailed};
 ghost use Rattle.command_words.specs.Command.{Command, command, file_of};
 ghost use Rattle.dump_command.specs.Report.{refusal, report_status};
 ghost use Rattle.dump_command.specs.Run.{IsDumpOf, IsRunOf, IsUsage};
@@ -14,25 +14,27 @@ use command_words::read_words;
 use dump_io::{Dumps, Limits, Sink};
 use std::alloc::Global;
 
-/// Runs the command of the words behind the program's name, and answers its status.
+/// Runs the command that the words after the program's name are, and returns its status.
 ///
-/// | Status | Comes |
+/// | Status | Returned |
 /// |---|---|
-/// | 0 | the whole report stands in `out`, and it isn't an audit with a finding |
-/// | 1 | exactly where the words are no command, unless `err` failed; the usage line stands in `err` |
-/// | 2 | exactly where the dump is refused, unless 4, 5 or 6; the line that says why stands in `err` |
-/// | 3 | exactly where an audit has a finding, and its whole report stands in `out` |
-/// | 4 | only where the count of faults of `dumps` rose, or where its files are told and none has that name |
-/// | 5 | only where the count of faults of `out` or of `err` rose |
-/// | 6 | want of memory, which may come at any growth |
+/// | 0 | the whole report is in `out`, and isn't that of an audit with a finding |
+/// | 1 | exactly when the words are no command, unless `err` failed; the usage line is in `err` |
+/// | 2 | exactly when the command is refused, unless 4, 5 or 6; the line that says why is in `err` |
+/// | 3 | exactly when an audit has a finding, and its whole report is in `out` |
+/// | 4 | only if the count of faults of `dumps` rose, or if `dumps` tells its files and none has that name |
+/// | 5 | only if the count of faults of `out` or of `err` rose |
+/// | 6 | a lack of memory, which any allocation may cause |
 ///
-/// `out` is untouched at 1, 2, 4 and 6. At 5 the sink that failed holds a proper front of its text, of the report or of the
-/// line, and the other is untouched. The bytes of the dump are
-/// those of the file of the command's name, where `dumps` tells its files, or those that are open at the end,
-/// where it tells these alone. Where they are told and nothing of the command on them is refused and nothing failed, the status is
-/// 3 for an audit with a finding and else 0, or 6.
+/// On 1, 2, 4 and 6 `out` is untouched, except that `redact`, which writes while it reads, may leave
+/// a proper prefix of its report there on 4 and 6. On 5 the sink that failed holds a proper prefix
+/// of its text, the report or the line, and the other is untouched. The bytes of the dump are those
+/// of the file with the command's name, if `dumps` tells its files, or those that are open at the
+/// end, if it tells only these. If they are told, nothing of the command on them is refused and
+/// nothing failed, the status is 3 for an audit with a finding and otherwise 0, or it is 6.
 ///
-/// A command that opens no file, as `make`, reports of no bytes and leaves `dumps` as it is; it ends with 0, 5 or 6.
+/// A command that opens no file, such as `make`, reports on no
+/// bytes and leaves `dumps` as it is; it ends with 0, 5 or 6.
 pub fn run<D: Dumps, K: Sink, E: Sink>(
     alloc: Global,
     words: &[String],
@@ -41,22 +43,22 @@ pub fn run<D: Dumps, K: Sink, E: Sink>(
     out: &mut K,
     err: &mut E,
 ) -> u8
-    // What is left where the words are no command.
+    // What is left if the words are no command.
     ensures usage { command (map string_bytes words.now) ≡ None
-        → IsUsage result (changed K.written K.faults out.old out.new) (changed E.written E.faults err.old err.new) }
+        → IsUsage result (K.state out.old) (K.state out.new) (E.state err.old) (E.state err.new) }
 
-    // Where they are none, or one that opens no file, the device plays no part.
+    // If they are none, or one that opens no file, the device plays no part.
     ensures idle { option_and_then file_of (command (map string_bytes words.now)) ≡ None → dumps.new ≡ dumps.old }
 
-    // What is left where they are one.
+    // What is left if they are one.
     ensures ends { (cmd : Command) → command (map string_bytes words.now) ≡ Some cmd → IsRunOf cmd limits.now result
-        (used D.files D.now D.faults D.taken dumps.old dumps.new) (changed K.written K.faults out.old out.new) (changed E.written E.faults err.old err.new) }
+        (D.state dumps.old) (D.state dumps.new) (K.state out.old) (K.state out.new) (E.state err.old) (E.state err.new) }
 
-    // Where nothing is refused and nothing failed the whole report was written, or memory was wanting.
+    // If nothing is refused and nothing failed, the whole report was written, or memory was lacking.
     ensures complete { (cmd : Command) (bytes : List ℕ) → command (map string_bytes words.now) ≡ Some cmd
-        → IsDumpOf (used D.files D.now D.faults D.taken dumps.old dumps.new) cmd bytes → refusal cmd bytes limits.now ≡ None
-        → ¬ DeviceFailed (used D.files D.now D.faults D.taken dumps.old dumps.new)
-        → ¬ SinkFailed (changed K.written K.faults out.old out.new) → ¬ SinkFailed (changed E.written E.faults err.old err.new)
+        → IsDumpOf (D.state dumps.old) (D.state dumps.new) cmd bytes → refusal cmd bytes limits.now ≡ None
+        → ¬ DeviceFailed (D.state dumps.old) (D.state dumps.new)
+        → ¬ SinkFailed (K.state out.old) (K.state out.new) → ¬ SinkFailed (E.state err.old) (E.state err.new)
         → (result ≡ report_status cmd bytes) ⊎ (result ≡ 6) }
 {
     match read_words(words) {

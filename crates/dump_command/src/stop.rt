@@ -12,7 +12,7 @@ use report_text::Refusal;
 use section_index::{BodyFault, OpenFault};
 use std::alloc::AllocError;
 
-/// Why a command ended without its whole report: the faults of all layers come to one of these.
+/// Why a command ended without its whole report; the faults of all layers are converted to this.
 #[derive(Debug, Drop)]
 pub(crate) enum Stop {
     /// The command is refused.
@@ -55,7 +55,7 @@ impl From<BodyFault> for Stop {
     }
 }
 
-/// What was loaded, or what stops the command.
+/// What was loaded, or the stop of the command.
 pub(crate) fn or_stop<T>(loaded: Result<T, BodyFault>) -> Result<T, Stop>
     ensures { result ≡ or_stop loaded }
 {

@@ -12,7 +12,7 @@ is_small_letter c = nat_le 97 c && nat_le c 122
 abbrev pub is_atom_byte : ℕ → Bool
 is_atom_byte c = is_small_letter c || (nat_le 65 c && nat_le c 90) || (nat_le 48 c && nat_le c 57) || c == 95 || c == 64
 
--- whether an atom stands as it is: it begins with a small letter, and all its bytes are such
+-- whether an atom is written as it is: it begins with a small letter, and all its bytes are atom bytes
 abbrev pub is_bare : List ℕ → Bool
 is_bare name = option_map_or is_small_letter (slice_get name 0) false && list_all is_atom_byte name
 
@@ -24,17 +24,17 @@ quote = 39
 abbrev pub backslash : ℕ
 backslash = 92
 
--- whether a byte is below 20 hex, or 7F
+-- whether a byte is below 20 hex, or is 7F
 abbrev pub is_control : ℕ → Bool
 is_control c = nat_lt c 32 || c == 127
 
--- a byte between quotes: `'` and `\` behind a `\`, a control byte as `\x` and two hex digits, each other as it is
+-- a byte of a quoted atom: `'` and `\` after a `\`, a control byte as `\x` and two hex digits, any other as it is
 abbrev pub quoted_byte : ℕ → List ℕ
 quoted_byte c =
     if c == quote || c == backslash then backslash ∷ c ∷ []
     else (if is_control c then codes "\\x" ++ hex_byte c else c ∷ [])
 
--- an atom between quotes
+-- an atom in quotes
 abbrev pub quoted_text : List ℕ → List ℕ
 quoted_text name = quote ∷ [] ++ (flat_map quoted_byte name ++ quote ∷ [])
 

@@ -1,4 +1,4 @@
--- A text with a colon has a part before its first colon and a part behind it.
+-- The parts of a text before and after its first colon.
 use Rattle.std.specs.Prelude.{◌≡◌, ℕ, ◌==◌, Bool, true, false, List, Option, None, Some}
 use Rattle.std.specs.List.{list_any, before_first, after_first}
 use denote.Ref.{Bor}
@@ -15,7 +15,7 @@ is_colon c = c == colon
 abbrev pub has_colon : List ℕ → Bool
 has_colon text = list_any is_colon text
 
--- what stands before the first colon, or the whole text where there is none
+-- what stands before the first colon, or the whole text if there is none
 abbrev pub before_colon : List ℕ → List ℕ
 before_colon text = before_first is_colon text
 
@@ -23,7 +23,7 @@ before_colon text = before_first is_colon text
 abbrev pub after_colon : List ℕ → List ℕ
 after_colon text = after_first is_colon text
 
--- the parts before and behind the first colon, or none where the text has no colon
+-- the parts before and after the first colon, or `None` if the text has no colon
 abbrev pub SplitsAtColon : List ℕ → Option (Bor (List ℕ) × Bor (List ℕ)) → Type 0
 SplitsAtColon text None = (has_colon text ≡ false) × (before_colon text ≡ text)
 SplitsAtColon text (Some parts) = (has_colon text ≡ true) × (parts.0.now ≡ before_colon text) × (parts.1.now ≡ after_colon text)

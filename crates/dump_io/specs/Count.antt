@@ -2,7 +2,7 @@
 use Rattle.std.specs.Prelude.{ℕ, ◌^◌, ◌<◌}
 use Rattle.dump_io.specs.declared.count.Count.{Count}
 
--- the number that it has come to
+-- its current number
 abbrev pub number_in : Count → ℕ
 number_in count = count.number
 

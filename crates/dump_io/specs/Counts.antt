@@ -1,7 +1,7 @@
--- Counts, which stay at 2^64 - 1 once they have reached it.
+-- Counts that stay at 2^64 - 1 once they reach it.
 use Rattle.std.specs.Prelude.{ℕ, ◌+◌, ◌-◌, ◌^◌, ◌≤◌, min}
 
--- the count is greater than before, or stands at its last value
+-- the count is greater than before, or is at its maximum
 abbrev pub Rose : ℕ → ℕ → Type 0
 Rose before now = min (before + 1) (2 ^ 64 - 1) ≤ now
 

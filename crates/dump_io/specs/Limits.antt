@@ -27,7 +27,7 @@ usual = record {
   dense = 100000000;
 }
 
--- each number is at most the usual one, and a header may have a byte
+-- each number is at most the usual one, and the limit on the length of a header is at least 1
 pub record AreAllowed (n : Numbers) : Type 0 where
   pub dump : n.dump ≤ usual.dump
   pub header : n.header ≤ usual.header

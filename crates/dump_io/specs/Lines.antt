@@ -2,7 +2,7 @@
 use Rattle.std.specs.Prelude.{◌≡◌, ◌≢◌, ℕ, ◌+◌, ◌-◌, ◌<◌, ◌==◌, Bool, List, [], ◌∷◌, length, take, map, filter, nat_eq, slice_index, All, if◌then◌else◌}
 use Rattle.std.specs.List.{concat, starts_with, ends_with}
 
--- the bytes that lines and headers are told by: LF, CR and `=`
+-- the byte LF; lines and headers are recognized by it, CR and `=`
 abbrev pub lf : ℕ
 lf = 10
 
@@ -14,7 +14,7 @@ cr = 13
 abbrev pub equals_sign : ℕ
 equals_sign = 61
 
--- LF stands in the line as its last byte alone
+-- LF stands only as the last byte of the line
 abbrev pub HasLfLast : List ℕ → Type 0
 HasLfLast line = All (λ c. c ≢ lf) (take (length line - 1) line)
 
@@ -22,20 +22,20 @@ HasLfLast line = All (λ c. c ≢ lf) (take (length line - 1) line)
 abbrev pub IsEnded : List ℕ → Type 0
 IsEnded line = slice_index line (length line - 1) ≡ lf
 
--- the rule of lines: together they are the bytes, none is empty, LF stands only at the end of a line,
--- and only the last line may lack it
+-- the rule of lines: together they are the bytes, none is empty, LF
+-- stands only at the end of a line, and only the last line may lack it
 pub record AreLines (bytes : List ℕ) (lines : List (List ℕ)) : Type 0 where
   pub together : concat lines ≡ bytes
   pub some : All (λ line. 0 < length line) lines
   pub lf_last : All HasLfLast lines
   pub ended : All IsEnded (take (length lines - 1) lines)
 
--- lines with one more byte in front of the first of them
+-- lines with one more byte at the front of the first
 abbrev pub lines_after : ℕ → List (List ℕ) → List (List ℕ)
 lines_after c [] = (c ∷ []) ∷ []
 lines_after c (line ∷ lines) = (c ∷ line) ∷ lines
 
--- the one list of raw lines by that rule: each ends behind its LF, and the last line may lack it
+-- the only list that satisfies that rule: each raw line ends after its LF, and the last may lack it
 abbrev pub raw_lines : List ℕ → List (List ℕ)
 raw_lines [] = []
 raw_lines (c ∷ bytes) = if c == lf then (c ∷ []) ∷ raw_lines bytes else lines_after c (raw_lines bytes)
@@ -51,7 +51,7 @@ pub record Line : Type 0 where
   pub at : ℕ
   pub raw : List ℕ
 
--- raw lines that begin at this offset, each with its own
+-- raw lines with their offsets, the first at this one
 abbrev pub lines_from : ℕ → List (List ℕ) → List Line
 lines_from at [] = []
 lines_from at (raw ∷ raws) = record { at = at; raw = raw } ∷ lines_from (at + length raw) raws

@@ -7,19 +7,19 @@ use Rattle.dump_io.specs.declared.file.DumpFile.{DumpFile}
 use Rattle.dump_io.specs.declared.mem_dumps.MemDumps.{MemDumps}
 use Rattle.dump_io.specs.Count.{number_in}
 use Rattle.dump_io.specs.File.{name_of, bytes_of}
-use Rattle.dump_io.specs.Dumps.{Files, Now, closed, told, size_of}
+use Rattle.dump_io.specs.Dumps.{DeviceState, Files, Now, closed, told, size_of}
 
 -- the bytes of the first file of a name
 abbrev pub find_file : List DumpFile → Files
 find_file [] name = None
 find_file (file ∷ files) name = if bytes_eq (name_of file) name then Some (bytes_of file) else find_file files name
 
--- what is open where this is the file, if any
+-- what is open if this is the file, or if there is none
 abbrev pub now_in : Option DumpFile → Now
 now_in None = closed
 now_in (Some file) = told (bytes_of file)
 
--- what is open where the file at this place is, if any
+-- what is open if the open file is at this place, or if there is none
 abbrev pub now_at : List DumpFile → Option ℕ → Now
 now_at files None = closed
 now_at files (Some i) = now_in (slice_get files i)
@@ -33,7 +33,7 @@ pub now_at-small : (files : List DumpFile) (place : Option ℕ) → size_of (now
 now_at-small files None = lit< tt
 now_at-small files (Some i) = now_in-small (slice_get files i)
 
--- what a device of this kind shows
+-- the files of the device
 abbrev pub files_of : MemDumps → Files
 files_of device = find_file device.files.items
 
@@ -41,23 +41,27 @@ files_of device = find_file device.files.items
 abbrev pub now_of : MemDumps → Now
 now_of device = now_at device.files.items device.place
 
--- how many calls were made, and how many reads that didn't fail
+-- how many calls were made
 abbrev pub calls_of : MemDumps → ℕ
 calls_of device = number_in device.calls
 
--- how many reads have gone well
+-- how many reads have succeeded
 abbrev pub reads_of : MemDumps → ℕ
 reads_of device = number_in device.reads
 
--- how often it has failed, and how many bytes it has given
+-- how often it has failed
 abbrev pub faults_of : MemDumps → ℕ
 faults_of device = number_in device.faults
 
--- how many bytes the device has given
+-- how many bytes it has given
 abbrev pub taken_of : MemDumps → ℕ
 taken_of device = number_in device.taken
 
--- the numbers of the calls that fail, and the most bytes that a read gives, in turn
+-- its state
+abbrev pub state_of : MemDumps → DeviceState
+state_of device = record { files = Some (files_of device); now = now_of device; faults = faults_of device; taken = taken_of device }
+
+-- the numbers of the calls that fail
 abbrev pub fails_of : MemDumps → List ℕ
 fails_of device = device.fails.items
 
@@ -69,17 +73,17 @@ cuts_of device = device.cuts.items
 abbrev pub is_failing : MemDumps → Bool
 is_failing device = list_any (λ number. number == calls_of device) (fails_of device)
 
--- what is open after a call that asks for this file
+-- what is open after a call that finds this file, or finds none
 abbrev pub opened : Option (List ℕ) → Now
 opened None = closed
 opened (Some bytes) = told bytes
 
--- how many bytes read number k gives, where `most` may be given
+-- how many bytes read number k gives, if it may give `most`
 abbrev pub cut_at : List ℕ → ℕ → ℕ → ℕ
 cut_at [] k most = most
 cut_at (cut ∷ cuts) k most = min most (max 1 (slice_index (cut ∷ cuts) (k % length (cut ∷ cuts))))
 
--- nothing was called yet, no file is open, and these are the cuts and the numbers of the calls that fail
+-- nothing has been called yet, no file is open, and these are the cuts and the numbers of the calls that fail
 pub record IsUnused (cuts fails : List ℕ) (device : MemDumps) : Type 0 where
   pub cut : cuts_of device ≡ cuts
   pub failing : fails_of device ≡ fails

@@ -2,7 +2,7 @@
 ghost use Rattle.std.specs.Prelude.{◌≡◌};
 ghost use Rattle.std.specs.List.{flat_map, list_all};
 ghost use Rattle.dump_io.specs.Atoms.{atom_text, is_bare, is_small_letter, is_atom_byte, quoted_byte, quoted_text};
-ghost use Rattle.dump_io.specs.Sinks.{changed, Puts};
+ghost use Rattle.dump_io.specs.Sinks.{Puts};
 
 use crate::dumps::Failed;
 use crate::hex::hex_pair;
@@ -36,9 +36,9 @@ fn is_bare(name: &[u8]) -> bool
     }
 }
 
-// Writes a byte of an atom between quotes.
+// Writes a byte of a quoted atom.
 fn put_quoted_byte<K: Sink>(sink: &mut K, c: u8) -> Result<(), Failed>
-    ensures { Puts (changed K.written K.faults sink.old sink.new) (quoted_byte c) result }
+    ensures { Puts (K.state sink.old) (K.state sink.new) (quoted_byte c) result }
 {
     match c {
         b'\'' | b'\\' => write_all(sink, &[b'\\', c]),
@@ -51,7 +51,7 @@ fn put_quoted_byte<K: Sink>(sink: &mut K, c: u8) -> Result<(), Failed>
 }
 
 fn put_quoted_bytes<K: Sink>(sink: &mut K, name: &[u8]) -> Result<(), Failed>
-    ensures { Puts (changed K.written K.faults sink.old sink.new) (flat_map quoted_byte name.now) result }
+    ensures { Puts (K.state sink.old) (K.state sink.new) (flat_map quoted_byte name.now) result }
 {
     for c in name {
         put_quoted_byte(sink, *c)?;
@@ -59,20 +59,20 @@ fn put_quoted_bytes<K: Sink>(sink: &mut K, name: &[u8]) -> Result<(), Failed>
     Ok(())
 }
 
-// Writes an atom between quotes.
+// Writes an atom in quotes.
 fn put_quoted<K: Sink>(sink: &mut K, name: &[u8]) -> Result<(), Failed>
-    ensures { Puts (changed K.written K.faults sink.old sink.new) (quoted_text name.now) result }
+    ensures { Puts (K.state sink.old) (K.state sink.new) (quoted_text name.now) result }
 {
     write_all(sink, b"'")?;
     put_quoted_bytes(sink, name)?;
     write_all(sink, b"'")
 }
 
-/// Writes an atom: its bytes as they are where the first is one of `a`-`z` and all others are of `a`-`z`,
-/// `A`-`Z`, `0`-`9`, `_` and `@`; else between two `'`, where `'` and `\` have a `\` before them, and a byte below
-/// 20 hex and 7F are `\x` and two upper-case hex digits. `Failed` comes and leaves what it does at [`write_all`].
+/// Writes an atom: its bytes as they are, if the first is one of `a`-`z` and all the others are `a`-`z`, `A`-`Z`,
+/// `0`-`9`, `_` or `@`; otherwise between two `'`, with a `\` before `'` and `\`, and a byte below 20 hex, or 7F, as
+/// `\x` and two upper-case hex digits. Returns `Failed` when [`write_all`] does, with the same effect on the sink.
 pub fn put_atom<K: Sink>(sink: &mut K, name: &[u8]) -> Result<(), Failed>
-    ensures { Puts (changed K.written K.faults sink.old sink.new) (atom_text name.now) result }
+    ensures { Puts (K.state sink.old) (K.state sink.new) (atom_text name.now) result }
 {
     if is_bare(name) {
         write_all(sink, name)

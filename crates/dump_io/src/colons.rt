@@ -1,9 +1,10 @@
-// A text is split at its first colon.
+// Splitting a text at its first colon.
 ghost use Rattle.dump_io.specs.Colons.{SplitsAtColon};
 
 use memchr::memchr;
 
-/// What stands before a text's first `:` and what follows it. `None` comes exactly where there is no `:`.
+/// Splits a text at its first `:` into what stands before it and
+/// what follows it. Returns `None` exactly when there is no `:`.
 pub fn split_at_colon(text: &[u8]) -> Option<(&[u8], &[u8])>
     ensures { SplitsAtColon text.now result }
 {

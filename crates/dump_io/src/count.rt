@@ -1,7 +1,7 @@
-// A count that stays at its last value.
+// A count that stays at its maximum.
 ghost use Rattle.std.specs.Prelude.{◌^◌, ◌<◌};
 
-/// A count, as of faults or of bytes given. It stays at 2^64 - 1 once it has reached it.
+/// A count, such as of faults or of bytes given. Once it reaches 2^64 - 1 it stays there.
 #[derive(Drop)]
 pub struct Count {
     number: u64,
@@ -20,7 +20,7 @@ impl Count {
         Count { number: 0 }
     }
 
-    /// The number that it has come to.
+    /// The current number.
     pub fn number(&self) -> u64
         ensures { result ≡ number_in self.now }
     {
@@ -34,7 +34,7 @@ impl Count {
         self.number = self.number.saturating_add(n);
     }
 
-    /// Counts one more, so that it rose.
+    /// Counts one more, so that the count rises.
     pub fn rise(&mut self)
         ensures number { number_in self.new ≡ plus_capped (number_in self.old) 1 }
         ensures later { number_in self.old ≤ number_in self.new }

@@ -1,11 +1,11 @@
 // A device that holds dumps.
-ghost use Rattle.std.specs.Prelude.{ℕ, ◌<◌, ◌^◌, length, Option, codes, Some};
-ghost use Rattle.dump_io.specs.Dumps.{Files, Now, size_of, used, Opens, ReadsSome};
+ghost use Rattle.std.specs.Prelude.{◌<◌, ◌^◌, length, codes, Some};
+ghost use Rattle.dump_io.specs.Dumps.{DeviceState, size_of, Opens, ReadsSome};
 
 use std::error::Error;
 use std::fmt;
 
-/// The fault of a device or a sink, which its count of faults tells.
+/// The fault of a device or a sink, whose count of faults shows it.
 #[derive(Clone, Copy, Debug, PartialEq, Eq)]
 pub struct Failed;
 
@@ -19,39 +19,31 @@ impl fmt::Display for Failed {
 
 impl Error for Failed {}
 
-/// A device of dumps: it has one file open at a time, and gives the file's bytes in pieces of its choice.
+/// A device of dumps: it has at most one file open at a time, and gives the file's bytes in pieces of its choice.
 pub trait Dumps {
-    /// The files by name, where the device tells them. No call changes them.
-    ghost files: { Self → Option Files };
+    /// The state of the device: the files where it tells them, which no call changes, what is open, how often it has
+    /// failed and how many bytes it has given. Both counts stay at 2^64 - 1 once they have reached it.
+    ghost state: { Self → DeviceState };
 
-    /// What is open: its size, and its bytes where the device tells them.
-    ghost now: { Self → Now };
-
-    /// How often the device has failed. This and `taken` stay at 2^64 - 1 once they have reached it.
-    ghost faults: { Self → ℕ };
-
-    /// How many bytes the device has given.
-    ghost taken: { Self → ℕ };
-
-    /// Closes what was open, opens the named file and gives its size in bytes.
+    /// Closes what was open, opens the named file and returns its size in bytes.
     ///
-    /// `Failed` comes only where `faults` rose, or where the files are told and none has that name.
+    /// `Failed` comes only where the count of faults rose, or where the files are told and none has that name.
     /// No file is open then.
     fn open_dump(&mut self, name: &str) -> Result<u64, Failed>
-        ensures { Opens (used files now faults taken self.old self.new) name.now result };
+        ensures { Opens (state self.old) (state self.new) name.now result };
 
-    /// Gives bytes of the open file from the offset `at` on, as many as it likes but at least one, and
-    /// says how many. The places of `into` behind them may hold anything.
+    /// Puts bytes of the open file, from the offset `at` on, into `into`: as many as the device
+    /// likes, but at least one. Returns how many. The bytes of `into` after them may hold anything.
     ///
-    /// `Failed` comes only where `faults` rose, and `into` may hold anything then. The file stays open.
+    /// `Failed` comes only where the count of faults rose, and `into` may hold anything then. The file stays open.
     fn read_at(&mut self, at: u64, into: &mut [u8]) -> Result<usize, Failed>
-        requires inside { at < size_of (now self.old) }
+        requires inside { at < size_of (state self.old).now }
         requires room { 0 < length into.old }
-        ensures { ReadsSome (used files now faults taken self.old self.new) at into.new result };
+        ensures { ReadsSome (state self.old) (state self.new) at into.new result };
 
     /// A size is a number of 64 bits.
-    ghost small_size: { (d : Self) → size_of (now d) < 2 ^ 64 };
+    ghost small_size: { (d : Self) → size_of (state d).now < 2 ^ 64 };
 
     /// So is the count of bytes.
-    ghost small_taken: { (d : Self) → taken d < 2 ^ 64 };
+    ghost small_taken: { (d : Self) → (state d).taken < 2 ^ 64 };
 }

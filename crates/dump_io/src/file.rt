@@ -1,7 +1,7 @@
 // A named file in memory.
 ghost use Rattle.std.specs.Prelude.{◌≡◌, ◌^◌, ◌<◌, length};
 
-/// A name and the bytes of the file of that name, for a device in memory.
+/// A name and the bytes of the file with that name, for a device in memory.
 #[derive(Drop)]
 pub struct DumpFile {
     pub(crate) name: String,

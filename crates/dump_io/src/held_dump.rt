@@ -1,15 +1,15 @@
-// A device that holds one file, which never fails.
-ghost use Rattle.std.specs.Prelude.{◌≡◌, ◌-◌, ◌<◌, length, Some, min, IfOk};
+// A device that holds one file and never fails.
+ghost use Rattle.std.specs.Prelude.{◌≡◌, ◌-◌, ◌<◌, length, min, IfOk};
 ghost use Rattle.dump_io.specs.Count.{number_in-small};
-ghost use Rattle.dump_io.specs.Dumps.{closed, size_of, used, ReadsSome};
-ghost use Rattle.dump_io.specs.HeldDump.{files_of, file_of, now_of, taken_of, now_where-small};
+ghost use Rattle.dump_io.specs.Dumps.{closed, size_of, ReadsSome};
+ghost use Rattle.dump_io.specs.HeldDump.{file_of, now_of, state_of, now_where-small};
 
 use crate::count::Count;
 use crate::dumps::{Dumps, Failed};
 use crate::file::DumpFile;
 
-/// A device that tells its one file and cuts nothing. Its count of faults is always 0, so it fails only
-/// where `open_dump` asks for another name.
+/// A device that tells its one file and never cuts a read short. Its count of
+/// faults is always 0, so it fails only when `open_dump` asks for another name.
 #[derive(Drop)]
 pub struct HeldDump {
     file: DumpFile,
@@ -18,11 +18,11 @@ pub struct HeldDump {
 }
 
 impl HeldDump {
-    /// A device of this file, which isn't open yet.
+    /// A device with this file, which isn't open yet.
     pub fn new(file: DumpFile) -> HeldDump
         ensures file { file_of result ≡ file }
         ensures now { now_of result ≡ closed }
-        ensures taken { taken_of result ≡ 0 }
+        ensures taken { (state_of result).taken ≡ 0 }
     {
         HeldDump {
             file,
@@ -33,13 +33,7 @@ impl HeldDump {
 }
 
 impl Dumps for HeldDump {
-    ghost files = { λ d. Some (files_of (file_of d)) };
-
-    ghost now = { now_of };
-
-    ghost faults = { λ _. 0 };
-
-    ghost taken = { taken_of };
+    ghost state = { state_of };
 
     ghost small_size = { λ d. now_where-small d.is_open d.file };
 
@@ -56,7 +50,7 @@ impl Dumps for HeldDump {
     fn read_at(&mut self, at: u64, into: &mut [u8]) -> Result<usize, Failed>
         requires inside { at < size_of (now_of self.old) }
         requires room { 0 < length into.old }
-        ensures reads { ReadsSome (used (λ d. Some (files_of (file_of d))) now_of (λ _. 0) taken_of self.old self.new) at into.new result }
+        ensures reads { ReadsSome (state_of self.old) (state_of self.new) at into.new result }
 
         ensures uncut { IfOk result (λ n. n ≡ min (size_of (now_of self.old) - at) (length into.old)) }
     {

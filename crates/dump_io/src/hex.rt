@@ -3,7 +3,7 @@ ghost use Rattle.std.specs.Prelude.{◌≡◌, ◌<◌, ◌≤◌, true, length,
 ghost use Rattle.std.specs.Fmt.{digit_glyph, digits};
 ghost use Rattle.std.specs.List.{flat_map};
 ghost use Rattle.dump_io.specs.Numbers.{hexadecimal, hex_byte};
-ghost use Rattle.dump_io.specs.Sinks.{changed, Puts};
+ghost use Rattle.dump_io.specs.Sinks.{Puts};
 
 use crate::dumps::Failed;
 use crate::sink::{Sink, write_all};
@@ -17,7 +17,7 @@ pub fn hex_digit(d: u8) -> u8
     if d < 10 { b'0' + d } else { b'A' - 10 + d }
 }
 
-// Puts the digits at the end of the buffer, and says where they begin.
+// Puts the digits at the end of the buffer, and returns the place where they begin.
 fn put_digits(n: u64, buffer: &mut [u8]) -> usize
     requires { length buffer.old ≡ 16 }
     ensures within { result ≤ 16 }
@@ -71,9 +71,10 @@ impl HexText {
     }
 }
 
-/// Writes a number in upper-case hex, without leading zeros. `Failed` comes and leaves what it does at [`write_all`].
+/// Writes a number in upper-case hex, without leading zeros. Returns
+/// `Failed` when [`write_all`] does, with the same effect on the sink.
 pub fn put_hex<K: Sink>(sink: &mut K, n: u64) -> Result<(), Failed>
-    ensures { Puts (changed K.written K.faults sink.old sink.new) (hexadecimal n) result }
+    ensures { Puts (K.state sink.old) (K.state sink.new) (hexadecimal n) result }
 {
     write_all(sink, HexText::new(n).bytes())
 }
@@ -85,9 +86,10 @@ pub fn hex_pair(c: u8) -> [u8; 2]
     [hex_digit(c / 16), hex_digit(c % 16)]
 }
 
-/// Writes each byte as two upper-case hex digits. `Failed` comes and leaves what it does at [`write_all`].
+/// Writes each byte as two upper-case hex digits. Returns `Failed`
+/// when [`write_all`] does, with the same effect on the sink.
 pub fn put_hex_bytes<K: Sink>(sink: &mut K, bytes: &[u8]) -> Result<(), Failed>
-    ensures { Puts (changed K.written K.faults sink.old sink.new) (flat_map hex_byte bytes.now) result }
+    ensures { Puts (K.state sink.old) (K.state sink.new) (flat_map hex_byte bytes.now) result }
 {
     for c in bytes {
         write_all(sink, &hex_pair(*c))?;

@@ -1,8 +1,8 @@
-//! Devices that hold dumps, sinks that take reports, the numbers and the limits of a dump.
+//! Devices that hold dumps, sinks that take reports, and the numbers and limits of a dump.
 //!
-//! A [`Dumps`] opens a dump by its name and gives its bytes in pieces, and a [`Sink`] takes the bytes of
-//! a report. Both are traits, whose ghost members say what a device holds and what a sink took, so that
-//! the layers above are proved once for real files and for those in memory:
+//! A [`Dumps`] opens a dump by its name and gives its bytes in pieces, and a [`Sink`] takes the
+//! bytes of a report. Both are traits whose ghost members say what a device holds and what a
+//! sink took, so that the layers above are proved once for real files and for those in memory:
 //!
 //! ```text
 //! let size = dumps.open_dump("erl_crash.dump")?;
@@ -11,8 +11,8 @@
 //! put_pieces(&mut out, &[Piece::Bytes(b"size "), Piece::Dec(size), Piece::Bytes(b"\n")])?;
 //! ```
 //!
-//! Each call that writes has the one clause `Puts (changed K.written K.faults sink.old sink.new) text result`,
-//! and each that reads from what is open `ReadsAtMost (used D.files D.now D.faults D.taken dumps.old dumps.new) n`.
+//! Each call that writes has the one clause `Puts (K.state sink.old) (K.state sink.new) text result`,
+//! and each that reads from what is open `ReadsAtMost (D.state dumps.old) (D.state dumps.new) n`.
 //! Calls in a row are joined by the lemmas of `specs/Laws/`. The definitions of lines and headers, which
 //! every layer above speaks of, stand in `specs/Lines.antt`.
 #![tactic(auto)]

@@ -16,7 +16,7 @@ const SECTION: u32 = 536_870_912;
 
 const DENSE: u32 = 100_000_000;
 
-/// Six limits, each of them at most the usual one, and that on a header's length at least 1.
+/// Six limits, each at most the usual one. The limit on the length of a header is at least 1.
 #[derive(Drop)]
 pub struct Limits {
     dump: u64,
@@ -64,7 +64,7 @@ impl Limits {
         }
     }
 
-    /// These limits, or `None` where one is above its usual value or a header may have no byte.
+    /// These limits, or `None` if one is above its usual value or the limit on the length of a header is 0.
     pub fn new(
         dump: u64,
         header: u16,

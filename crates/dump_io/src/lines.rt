@@ -1,8 +1,8 @@
-// Lines: their texts, and their law.
+// Lines: their texts and their law.
 ghost use Rattle.std.specs.Prelude.{◌≡◌, ◌<◌, ◌++◌, ◌∷◌, [], ℕ, List, length};
 ghost use Rattle.dump_io.specs.Lines.{AreLines, HasLfLast, IsEnded, raw_lines, lf, text_of};
 
-/// The text of the line that these bytes and an LF make: the bytes without one CR at their end.
+/// The text of the line that consists of these bytes and an LF: the bytes without one CR at their end.
 pub fn text_before_lf(line: &[u8]) -> &[u8]
     ensures { result.now ≡ text_of (line.now ++ lf ∷ []) }
 {
@@ -22,9 +22,10 @@ pub fn line_text(raw: &[u8]) -> &[u8]
     raw.strip_suffix(b"\n").unwrap_or(raw)
 }
 
-/// A law, and no work: the lines of any bytes are the one list by the rule of lines. Together the lines
-/// are the bytes, none is empty, LF stands only at the end of a line, and only the last line may lack it.
-/// So a line with its LF in front of any bytes is the first of their lines, and a line alone is its own.
+/// States a law and does no work: the lines of any bytes are the only list that satisfies
+/// the rule of lines. Together the lines are the bytes, none is empty, LF stands only at
+/// the end of a line, and only the last line may lack it. So a line with its LF, followed
+/// by any bytes, is the first of their lines, and a line by itself is its own only line.
 pub fn lines_are_one()
     ensures divides { (bytes : List ℕ) → AreLines bytes (raw_lines bytes) }
     ensures only { (bytes : List ℕ) (lines : List (List ℕ)) → AreLines bytes lines → lines ≡ raw_lines bytes }

@@ -3,19 +3,19 @@ ghost use Rattle.std.specs.Prelude.{◌≡◌, ℕ, ◌-◌, ◌<◌, ◌≤◌,
 ghost use Rattle.std.specs.Str.{bytes_eq};
 ghost use Rattle.dump_io.specs.Count.{number_in-small};
 ghost use Rattle.dump_io.specs.Counts.{plus_capped};
-ghost use Rattle.dump_io.specs.Dumps.{closed, told, size_of, used, Opens, ReadsSome};
-ghost use Rattle.dump_io.specs.MemDumps.{IsUnused, find_file, now_at, now_at-small, cut_at, files_of, now_of, calls_of, reads_of, faults_of, taken_of, fails_of, cuts_of, is_failing, opened};
+ghost use Rattle.dump_io.specs.Dumps.{closed, told, size_of, Opens, ReadsSome};
+ghost use Rattle.dump_io.specs.MemDumps.{IsUnused, find_file, now_at, now_at-small, cut_at, files_of, now_of, calls_of, reads_of, faults_of, taken_of, state_of, fails_of, cuts_of, is_failing, opened};
 
 use crate::count::Count;
 use crate::dumps::{Dumps, Failed};
 use crate::file::DumpFile;
 use std::alloc::{AllocError, Global};
 
-/// A device that tells its files. Of two files with one name the first counts.
+/// A device that tells its files. Of two files with the same name the first counts.
 ///
-/// The calls are numbered together from 1, and one whose number is in `fails` fails and raises the count
-/// of faults. The reads that don't fail are numbered from 0, and read number k gives as many bytes as it
-/// may, but at most `cuts[k % cuts.len()]`, where a cut of 0 counts as 1. With no cuts nothing is cut.
+/// The calls, opens and reads together, are numbered from 1; one whose number is in `fails` fails and raises
+/// the count of faults. The reads that don't fail are numbered from 0; read number k gives as many bytes as it
+/// can, but at most `cuts[k % cuts.len()]`, where a cut of 0 counts as 1. If `cuts` is empty, nothing is cut.
 #[derive(Drop)]
 pub struct MemDumps {
     files: Vec<DumpFile>,
@@ -29,7 +29,7 @@ pub struct MemDumps {
 }
 
 impl MemDumps {
-    /// A device of these files, with no open file and counts of 0.
+    /// A device with these files, no open file and counts of 0.
     pub fn new(files: Vec<DumpFile>, cuts: Vec<usize>, fails: Vec<u64>) -> MemDumps
         ensures files { (name : List ℕ) → files_of result name ≡ find_file files.items name }
         ensures unused { IsUnused cuts.items fails.items result }
@@ -46,8 +46,8 @@ impl MemDumps {
         }
     }
 
-    /// A device with copies of one file's name and bytes, and of the cuts and the failing numbers. `AllocError`
-    /// comes where memory lacks.
+    /// A device with copies of one file's name and bytes, and of
+    /// `cuts` and `fails`. Returns `AllocError` if memory is lacking.
     pub fn holding(
         alloc: Global,
         name: &str,
@@ -69,7 +69,7 @@ impl MemDumps {
         ))
     }
 
-    /// How many bytes were given.
+    /// How many bytes the device has given.
     pub fn taken(&self) -> u64
         ensures { result ≡ taken_of self.now }
     {
@@ -115,20 +115,14 @@ fn cut(cuts: &[usize], read: u64, most: usize) -> usize
 }
 
 impl Dumps for MemDumps {
-    ghost files = { λ m. Some (files_of m) };
-
-    ghost now = { now_of };
-
-    ghost faults = { faults_of };
-
-    ghost taken = { taken_of };
+    ghost state = { state_of };
 
     ghost small_size = { λ m. now_at-small m.files.items m.place };
 
     ghost small_taken = { λ m. number_in-small m.taken };
 
     fn open_dump(&mut self, name: &str) -> Result<u64, Failed>
-        ensures opens { Opens (used (λ m. Some (files_of m)) now_of faults_of taken_of self.old self.new) name.now result }
+        ensures opens { Opens (state_of self.old) (state_of self.new) name.now result }
 
         ensures number { calls_of self.new ≡ plus_capped (calls_of self.old) 1 }
         ensures reads { reads_of self.new ≡ reads_of self.old }
@@ -153,7 +147,7 @@ impl Dumps for MemDumps {
     fn read_at(&mut self, at: u64, into: &mut [u8]) -> Result<usize, Failed>
         requires inside { at < size_of (now_of self.old) }
         requires room { 0 < length into.old }
-        ensures reads_some { ReadsSome (used (λ m. Some (files_of m)) now_of faults_of taken_of self.old self.new) at into.new result }
+        ensures reads_some { ReadsSome (state_of self.old) (state_of self.new) at into.new result }
 
         ensures number { calls_of self.new ≡ plus_capped (calls_of self.old) 1 }
         ensures reads { reads_of self.new ≡ (if is_ok result then plus_capped (reads_of self.old) 1 else reads_of self.old) }

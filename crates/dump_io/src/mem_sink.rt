@@ -1,8 +1,8 @@
 // A sink in memory, which can take small steps and fail.
-ghost use Rattle.std.specs.Prelude.{◌≡◌, ◌<◌, true, [], length, Some, is_err, not, IsErr, IfOk, ◌&&◌, if◌then◌else◌};
+ghost use Rattle.std.specs.Prelude.{◌≡◌, ◌<◌, true, [], length, is_err, not, IsErr, IfOk, ◌&&◌, if◌then◌else◌};
 ghost use Rattle.dump_io.specs.Counts.{plus_capped};
-ghost use Rattle.dump_io.specs.Sinks.{changed, TakesSome};
-ghost use Rattle.dump_io.specs.MemSink.{written_of, step_of, fails_of, writes_of, lacked_of, faults_of, is_failing, taken_by};
+ghost use Rattle.dump_io.specs.Sinks.{TakesSome};
+ghost use Rattle.dump_io.specs.MemSink.{written_of, step_of, fails_of, writes_of, lacked_of, faults_of, state_of, is_failing, taken_by};
 
 use crate::count::Count;
 use crate::dumps::Failed;
@@ -11,9 +11,8 @@ use std::alloc::Global;
 
 /// A sink that tells what was written.
 ///
-/// A write takes the first `step` bytes of its piece, or the whole piece where it is shorter or `step` is
-/// 0. The writes are numbered from 1, and one whose number is in `fails` fails, as does one that finds no
-/// memory.
+/// A write takes the first `step` bytes of its piece, or the whole piece if it is shorter or `step` is 0.
+/// The writes are numbered from 1; one whose number is in `fails` fails, as does one that finds no memory.
 #[derive(Drop)]
 pub struct MemSink {
     bytes: Vec<u8>,
@@ -60,13 +59,11 @@ impl MemSink {
 }
 
 impl Sink for MemSink {
-    ghost written = { λ m. Some (written_of m) };
-
-    ghost faults = { faults_of };
+    ghost state = { state_of };
 
     fn write(&mut self, piece: &[u8]) -> Result<usize, Failed>
         requires { 0 < length piece.now }
-        ensures some { TakesSome (changed (λ m. Some (written_of m)) faults_of self.old self.new) piece.now result }
+        ensures some { TakesSome (state_of self.old) (state_of self.new) piece.now result }
 
         ensures number { writes_of self.new ≡ plus_capped (writes_of self.old) 1 }
         ensures step { step_of self.new ≡ step_of self.old }

@@ -1,15 +1,15 @@
-// The numbers that a dump's text has, and decimal numbers in a report.
+// The numbers in a dump's text, and decimal numbers in a report.
 ghost use Rattle.std.specs.Prelude.{◌≡◌, ◌+◌, ◌*◌, ◌<◌, ◌≤◌, ◌^◌, decimal};
 ghost use Rattle.std.specs.Option.{SomeIff};
 ghost use Rattle.std.specs.Char.{digit_value};
 ghost use Rattle.dump_io.specs.Numbers.{number_of, hex_number, dec_number};
-ghost use Rattle.dump_io.specs.Sinks.{changed, Puts};
+ghost use Rattle.dump_io.specs.Sinks.{Puts};
 
 use crate::dumps::Failed;
 use crate::sink::{Sink, write_all};
 use itoa::Buffer;
 
-// The number with one digit more, where that is a digit of the base and the number is below 2^64.
+// The number with one more digit, if that is a digit of the base and the number is below 2^64.
 fn with_digit(number: u64, digit: u8, base: u32) -> Option<u64>
     requires low { 2 ≤ base }
     requires high { base ≤ 36 }
@@ -37,24 +37,25 @@ fn number(text: &[u8], base: u32, most: usize) -> Option<u64>
     Some(n)
 }
 
-/// The number that a text of 1 to 20 decimal digits writes, where it is below 2^64. Leading zeros are
-/// taken, and a sign or a space is not.
+/// The number that a text of 1 to 20 decimal digits writes, if it is
+/// below 2^64. Leading zeros are accepted; a sign or a space is not.
 pub fn dec_u64(text: &[u8]) -> Option<u64>
     ensures { result ≡ dec_number text.now }
 {
     number(text, 10, 20)
 }
 
-/// The number that a text of 1 to 16 hex digits of either case writes. Leading zeros are taken.
+/// The number that a text of 1 to 16 hex digits of either case writes. Leading zeros are accepted.
 pub fn hex_u64(text: &[u8]) -> Option<u64>
     ensures { result ≡ hex_number text.now }
 {
     number(text, 16, 16)
 }
 
-/// Writes a number in decimal, without leading zeros. `Failed` comes and leaves what it does at [`write_all`].
+/// Writes a number in decimal, without leading zeros. Returns `Failed`
+/// when [`write_all`] does, with the same effect on the sink.
 pub fn put_dec<K: Sink>(sink: &mut K, n: u64) -> Result<(), Failed>
-    ensures { Puts (changed K.written K.faults sink.old sink.new) (decimal n) result }
+    ensures { Puts (K.state sink.old) (K.state sink.new) (decimal n) result }
 {
     let mut buffer = Buffer::new();
     write_all(sink, buffer.format(n).as_bytes())

@@ -1,8 +1,8 @@
-// A line is written from pieces.
+// Writing a line from pieces.
 ghost use Rattle.std.specs.Prelude.{◌≡◌, [], ◌++◌, if◌then◌else◌};
 ghost use Rattle.std.specs.Bool.{OnTrue};
 ghost use Rattle.dump_io.specs.Pieces.{piece_text, pieces_text};
-ghost use Rattle.dump_io.specs.Sinks.{changed, Puts};
+ghost use Rattle.dump_io.specs.Sinks.{Puts};
 
 use crate::dumps::Failed;
 use crate::hex::{HexText, put_hex};
@@ -23,7 +23,7 @@ pub enum Piece<'a> {
 }
 
 fn put_piece<K: Sink>(sink: &mut K, piece: &Piece<'_>) -> Result<(), Failed>
-    ensures { Puts (changed K.written K.faults sink.old sink.new) (piece_text piece.now) result }
+    ensures { Puts (K.state sink.old) (K.state sink.new) (piece_text piece.now) result }
 {
     match piece {
         Piece::Bytes(bytes) => write_all(sink, bytes),
@@ -32,9 +32,9 @@ fn put_piece<K: Sink>(sink: &mut K, piece: &Piece<'_>) -> Result<(), Failed>
     }
 }
 
-// Writes each piece by itself.
+// Writes each piece separately.
 fn put_each<K: Sink>(sink: &mut K, pieces: &[Piece<'_>]) -> Result<(), Failed>
-    ensures { Puts (changed K.written K.faults sink.old sink.new) (pieces_text pieces.now) result }
+    ensures { Puts (K.state sink.old) (K.state sink.new) (pieces_text pieces.now) result }
 {
     for piece in pieces {
         put_piece(sink, piece)?;
@@ -42,7 +42,7 @@ fn put_each<K: Sink>(sink: &mut K, pieces: &[Piece<'_>]) -> Result<(), Failed>
     Ok(())
 }
 
-// Puts a piece behind a short text, and says whether it had room.
+// Appends a piece to a short text, and returns whether there was room.
 fn push_piece(text: &mut ShortText, piece: &Piece<'_>) -> bool
     ensures { text.new ≡ (if result then text.old ++ piece_text piece.now else text.old) }
 {
@@ -53,7 +53,7 @@ fn push_piece(text: &mut ShortText, piece: &Piece<'_>) -> bool
     }
 }
 
-// Puts the pieces into a short text, and says whether they had room.
+// Appends the pieces to a short text, and returns whether there was room for all.
 fn gather(text: &mut ShortText, pieces: &[Piece<'_>]) -> bool
     requires { text.old ≡ [] }
     ensures { OnTrue result (text.new ≡ pieces_text pieces.now) }
@@ -66,10 +66,10 @@ fn gather(text: &mut ShortText, pieces: &[Piece<'_>]) -> bool
     true
 }
 
-/// Writes the pieces one after another, and a short line of them in one write. `Failed` comes and leaves what
-/// it does at [`write_all`].
+/// Writes the pieces one after another; a short line goes out in one write.
+/// Returns `Failed` when [`write_all`] does, with the same effect on the sink.
 pub fn put_pieces<K: Sink>(sink: &mut K, pieces: &[Piece<'_>]) -> Result<(), Failed>
-    ensures { Puts (changed K.written K.faults sink.old sink.new) (pieces_text pieces.now) result }
+    ensures { Puts (K.state sink.old) (K.state sink.new) (pieces_text pieces.now) result }
 {
     let mut text = ShortText::new();
     if gather(&mut text, pieces) {

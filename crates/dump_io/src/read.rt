@@ -1,20 +1,20 @@
-// Whole reads.
+// Reads that fill a buffer.
 ghost use Rattle.std.specs.Prelude.{◌≡◌, ◌+◌, ◌≤◌, length, OnOk, OnErr};
 ghost use Rattle.dump_io.specs.Counts.{plus_capped};
-ghost use Rattle.dump_io.specs.Dumps.{size_of, IsOpen, Gives, used, DeviceFailed, ReadsAtMost};
+ghost use Rattle.dump_io.specs.Dumps.{size_of, IsOpen, Gives, DeviceFailed, ReadsAtMost};
 
 use crate::dumps::{Dumps, Failed};
 
-/// Fills `into` with the open file's bytes from the offset `at` on, by as many reads as the device wants.
+/// Fills `into` with the open file's bytes from the offset `at` on, in as many reads as the device needs.
 ///
-/// `Failed` comes only where the device's count of faults rose; some bytes may have been taken then.
+/// Returns `Failed` only if the device's count of faults rose; some bytes may have been taken then.
 pub fn read_full<D: Dumps>(dumps: &mut D, at: u64, into: &mut [u8]) -> Result<(), Failed>
-    requires open { IsOpen (D.now dumps.old) }
-    requires inside { at + length into.old ≤ size_of (D.now dumps.old) }
-    ensures reads { ReadsAtMost (used D.files D.now D.faults D.taken dumps.old dumps.new) (length into.old) }
-    ensures failed { OnErr result (DeviceFailed (used D.files D.now D.faults D.taken dumps.old dumps.new)) }
-    ensures filled { OnOk result (Gives (D.now dumps.old) at into.new) }
-    ensures taken { OnOk result (D.taken dumps.new ≡ plus_capped (D.taken dumps.old) (length into.old)) }
+    requires open { IsOpen (D.state dumps.old).now }
+    requires inside { at + length into.old ≤ size_of (D.state dumps.old).now }
+    ensures reads { ReadsAtMost (D.state dumps.old) (D.state dumps.new) (length into.old) }
+    ensures failed { OnErr result (DeviceFailed (D.state dumps.old) (D.state dumps.new)) }
+    ensures filled { OnOk result (Gives (D.state dumps.old).now at into.new) }
+    ensures taken { OnOk result ((D.state dumps.new).taken ≡ plus_capped (D.state dumps.old).taken (length into.old)) }
 {
     let mut done = 0;
     while done < into.len() {

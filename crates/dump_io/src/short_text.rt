@@ -1,4 +1,4 @@
-// A short text that is put together on the stack.
+// A short text that is built on the stack.
 ghost use Rattle.std.specs.Prelude.{◌≡◌, ◌+◌, ◌≤◌, [], ◌++◌, length, take, true, if◌then◌else◌};
 ghost use Rattle.dump_io.specs.declared.short_text.TheConstants.{ROOM};
 
@@ -42,7 +42,7 @@ impl ShortText {
         &self.bytes[..self.len]
     }
 
-    // Puts more bytes behind those that stand, and says whether they had room.
+    // Appends more bytes, and returns whether there was room.
     pub fn push(&mut self, more: &[u8]) -> bool
         ensures text { self.new ≡ (if result then self.old ++ more.now else self.old) }
         ensures room { length self.old + length more.now ≤ ROOM → result ≡ true }
@@ -61,7 +61,7 @@ fn put(buffer: &mut [u8], from: usize, bytes: &[u8])
     requires { from + length bytes.now ≤ length buffer.old }
     ensures front { take (from + length bytes.now) buffer.new ≡ take from buffer.old ++ bytes.now }
 {
-    // Most pieces of a line are one byte, for which a copy costs more than the byte.
+    // Most pieces of a line are a single byte, for which a copy costs more than the byte itself.
     if let [byte] = bytes {
         buffer[from] = *byte;
         return;

@@ -3,7 +3,7 @@ ghost use Rattle.std.specs.Prelude.{◌≡◌, ℕ, List};
 
 use std::marker::Model;
 
-/// A byte text, which need not be UTF-8.
+/// Bytes of a text, which need not be UTF-8.
 #[derive(Debug, Drop)]
 pub struct Text {
     bytes: Vec<u8>,

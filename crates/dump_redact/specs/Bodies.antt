@@ -11,12 +11,12 @@ use Rattle.dump_redact.specs.Redacted.{payload_in, without}
 abbrev pub heap_line : Enc → List ℕ → List ℕ
 heap_line enc raw = without enc raw (payload_in enc Heap (text_of raw))
 
--- of a binary the first line alone changes
+-- of a binary only the first line changes
 abbrev pub binary_lines : Enc → List (List ℕ) → List (List ℕ)
 binary_lines enc [] = []
 binary_lines enc (raw ∷ raws) = without enc raw (payload_in enc Binary (text_of raw)) ∷ raws
 
--- the lines of a body by the part that its header begins
+-- the lines of a body, by the part that its header begins
 abbrev pub body_lines : Enc → Part → List (List ℕ) → List (List ℕ)
 body_lines enc Heap raws = map (heap_line enc) raws
 body_lines enc Binary raws = binary_lines enc raws

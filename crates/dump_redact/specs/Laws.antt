@@ -18,19 +18,19 @@ KeepsLength = (bytes : List ℕ) → length (redacted bytes) ≡ length bytes
 abbrev pub KeepsSections : Type 0
 KeepsSections = (bytes : List ℕ) → sections (redacted bytes) ≡ sections bytes
 
--- and is whole, or broken off, as before
+-- it is whole, or truncated, as before
 abbrev pub KeepsState : Type 0
 KeepsState = (bytes : List ℕ) → state_of (headers (redacted bytes)) ≡ state_of (headers bytes)
 
--- so that its index is the same
+-- its index is the same
 abbrev pub KeepsIndex : Type 0
 KeepsIndex = (bytes : List ℕ) → index_of (redacted bytes) ≡ index_of bytes
 
--- redacted again it stays
+-- redacting it again leaves it as it is
 abbrev pub StaysRedacted : Type 0
 StaysRedacted = (bytes : List ℕ) → redacted (redacted bytes) ≡ redacted bytes
 
--- a section of a dump in what the dump became: its header's line is the same, and its body is redacted by itself
+-- a section of a dump and what it became: its header's line is the same, and its body is redacted by itself
 pub record IsRedacted (enc : Enc) (before after : List ℕ) (section : Section) : Type 0 where
   pub line : between section.at section.body after ≡ between section.at section.body before
   pub body : between section.body section.end after ≡ redacted_body enc (part_of (tag_of section.text)) (between section.body section.end before)
@@ -43,6 +43,6 @@ RedactsSections = (bytes : List ℕ) → All (IsRedacted (enc_of (version_of byt
 abbrev pub RedactsLines : Type 0
 RedactsLines = (enc : Enc) (part : Part) (body : List ℕ) → raw_lines (redacted_body enc part body) ≡ body_lines enc part (raw_lines body)
 
--- a body in which no payload stands is the same
+-- a body in which no payload stands stays the same
 abbrev pub KeepsOthers : Type 0
 KeepsOthers = (enc : Enc) (body : List ℕ) → redacted_body enc Other body ≡ body

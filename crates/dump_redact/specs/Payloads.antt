@@ -1,4 +1,4 @@
--- A payload that is made blank is a payload of as many bytes, and its line a heap line with a binary on the heap.
+-- A payload made blank is a payload of the same number of bytes, and its line a heap line with a heap binary.
 use Rattle.std.specs.Prelude.{◌≡◌, ℕ, List, map, Some}
 use Rattle.dump_io.specs.Lines.{text_of}
 use Rattle.term_forms.specs.declared.enc.Enc.{Enc}
@@ -9,12 +9,12 @@ use Rattle.term_forms.specs.Words.{led_of}
 use Rattle.dump_redact.specs.Bodies.{heap_line}
 use Rattle.dump_redact.specs.Redacted.{blank}
 
--- what is blank writes as many bytes
+-- blank characters write as many bytes
 abbrev pub KeepsPayloads : Enc → Type 0
 KeepsPayloads enc = (chars : List ℕ) (size : ℕ) → IsPayloadOf enc chars size → IsPayloadOf enc (map (blank enc) chars) size
 
--- a heap line whose form is a binary on the heap has the same address and such a form of the same size when it is redacted,
--- with its characters made blank
+-- a heap line whose form is a heap binary has the same address when it is
+-- redacted, and such a form of the same size, with its characters made blank
 abbrev pub KeepsBinaries : Enc → Type 0
 KeepsBinaries enc = (raw : List ℕ) (address size : ℕ) (spelled chars : List ℕ)
     → led_of (text_of raw) ≡ Some (address, spelled) → form_of enc spelled ≡ Some (HeapBin size chars)

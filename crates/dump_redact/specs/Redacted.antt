@@ -1,4 +1,5 @@
--- What a dump is with its binary payloads made zero: line by line, each by the part of the dump in which it stands.
+-- What a dump is with its binary payloads made zero: line
+-- by line, each by the part of the dump in which it stands.
 use Rattle.std.specs.Prelude.{ℕ, ◌-◌, ◌==◌, Bool, ◌||◌, List, [], ◌∷◌, ◌++◌, length, take, drop, map, codes, Option, None, Some, option_and_then, option_map, unwrap_or, if◌then◌else◌}
 use Rattle.std.specs.List.{concat}
 use Rattle.std.specs.Char.{is_ascii_alphanumeric}
@@ -26,7 +27,7 @@ abbrev pub zero_of : Enc → ℕ
 zero_of Hex = 48
 zero_of Base64 = 65
 
--- such a character becomes zero, and any other stays; among those are LF, CR, `=` and `:`
+-- such a character becomes zero, and any other stays, such as LF, CR, `=` and `:`
 abbrev pub blank : Enc → ℕ → ℕ
 blank enc c = if is_digit_of enc c then zero_of enc else c
 
@@ -40,29 +41,30 @@ part_of tag =
     if bytes_eq tag (codes "proc_heap") || bytes_eq tag (codes "literals") then Heap
     else (if bytes_eq tag (codes "binary") then Binary else Other)
 
--- the part behind a line that is no header: of a binary the first line alone counts
+-- the part after a line that is no header: of a binary only the first line counts
 abbrev pub later : Part → Part
 later Heap = Heap
 later Binary = Other
 later Other = Other
 
--- the part in which the line behind this one stands
+-- the part in which the line after this one stands
 abbrev pub next_part : Part → List ℕ → Part
 next_part part raw = if is_header raw then part_of (tag_of (text_of raw)) else later part
 
--- the characters of the payload, where the form is a binary on the heap
+-- the characters of the payload, if the form is a heap binary
 abbrev pub bin_chars : Option HeapForm → Option (List ℕ)
 bin_chars (Some (HeapBin size chars)) = Some chars
 bin_chars other = None
 
--- the end of a line's text that is made blank: the payload of a heap line whose form is a binary on the heap, and what
--- follows a number and its colon behind the header of a binary, whether that is a payload or not
+-- the end of a line's text that is made blank: the payload of a heap line whose form is a heap binary;
+-- and after the header of a binary, what follows a number and its colon, whether that is a payload or not
 abbrev pub payload_in : Enc → Part → List ℕ → Option (List ℕ)
 payload_in enc Heap text = option_and_then (λ led. bin_chars (form_of enc led.1)) (led_of text)
 payload_in enc Binary text = option_map (λ led. led.1) (led_of text)
 payload_in enc Other text = None
 
--- a raw line whose text ends in a payload, with that made blank; what the text lacks of its line is CR and LF, which stay
+-- a raw line whose text ends in a payload, with that made
+-- blank; the CR and LF that the line has beyond its text stay
 abbrev pub without : Enc → List ℕ → Option (List ℕ) → List ℕ
 without enc raw None = raw
 without enc raw (Some chars) = blank_from enc (length (text_of raw) - length chars) raw
@@ -71,7 +73,7 @@ without enc raw (Some chars) = blank_from enc (length (text_of raw) - length cha
 abbrev pub redacted_line : Enc → Part → List ℕ → List ℕ
 redacted_line enc part raw = if is_header raw then raw else without enc raw (payload_in enc part (text_of raw))
 
--- raw lines, of which the first stands in this part
+-- raw lines, the first of which stands in this part
 abbrev pub redacted_lines : Enc → Part → List (List ℕ) → List (List ℕ)
 redacted_lines enc part [] = []
 redacted_lines enc part (raw ∷ raws) = redacted_line enc part raw ∷ redacted_lines enc (next_part part raw) raws

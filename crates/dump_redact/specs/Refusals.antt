@@ -1,14 +1,14 @@
 -- Why a dump isn't redacted.
 use Rattle.std.specs.Prelude.{◌≡◌, ℕ, ◌||◌, Bool, List, Option, Some, filter, find, codes, nat_lt, option_map}
-use Rattle.dump_io.specs.Dumps.{Use, DeviceFailed}
-use Rattle.dump_io.specs.Sinks.{Change, SinkFailed}
+use Rattle.dump_io.specs.Dumps.{DeviceState, DeviceFailed}
+use Rattle.dump_io.specs.Sinks.{SinkState, SinkFailed}
 use Rattle.section_index.specs.Bodies.{body_length}
 use Rattle.section_index.specs.Lookups.{has_tag}
 use Rattle.section_index.specs.Sections.{Section}
 use Rattle.dump_redact.specs.declared.faults.RedactFault.{RedactFault}
 use Rattle.dump_redact.specs.declared.faults.RedactFault.TheVariants.{SectionTooLarge, Read, Write, Memory}
 
--- whether a section is one of a heap or of literals, whose body is loaded
+-- whether a section holds a heap or literals, so that its body is loaded
 abbrev pub is_heap : Section → Bool
 is_heap section = has_tag (codes "proc_heap") section.text || has_tag (codes "literals") section.text
 
@@ -16,17 +16,18 @@ is_heap section = has_tag (codes "proc_heap") section.text || has_tag (codes "li
 abbrev pub heap_sections : List Section → List Section
 heap_sections sections = filter is_heap sections
 
--- the first section whose body is longer than the limit
+-- the first section whose body has more bytes than the limit
 abbrev pub first_large : ℕ → List Section → Option Section
 first_large limit sections = find (λ s. nat_lt limit (body_length s)) sections
 
--- the refusal of the first heap or literals whose body is longer than the limit
+-- the refusal of the first heap or literals whose body has more bytes than the limit
 abbrev pub large_fault : ℕ → List Section → Option RedactFault
 large_fault limit sections = option_map (λ s. SectionTooLarge s.at (body_length s)) (first_large limit (heap_sections sections))
 
--- why the dump isn't redacted whole: it is refused so, or the device or the sink failed; memory may lack at any time
-abbrev pub IsCauseOf : Option RedactFault → Use → Change → RedactFault → Type 0
-IsCauseOf refusal device sink (SectionTooLarge at len) = refusal ≡ Some (SectionTooLarge at len)
-IsCauseOf refusal device sink Read = DeviceFailed device
-IsCauseOf refusal device sink Write = SinkFailed sink
-IsCauseOf refusal device sink Memory = Unit {0}
+-- why the dump isn't redacted to its end: it is refused for this cause,
+-- or the device or the sink failed; memory may be lacking at any time
+abbrev pub IsCauseOf : Option RedactFault → DeviceState → DeviceState → SinkState → SinkState → RedactFault → Type 0
+IsCauseOf refusal before after sink sink' (SectionTooLarge at len) = refusal ≡ Some (SectionTooLarge at len)
+IsCauseOf refusal before after sink sink' Read = DeviceFailed before after
+IsCauseOf refusal before after sink sink' Write = SinkFailed sink sink'
+IsCauseOf refusal before after sink sink' Memory = Unit {0}

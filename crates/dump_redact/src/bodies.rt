@@ -1,8 +1,6 @@
-// The bodies with payloads are redacted and written.
+// Redacting and writing the bodies with payloads.
 ghost use Rattle.std.specs.Prelude.{◌≡◌, ℕ, ◌+◌, ◌-◌, ◌<◌, ◌≤◌, ◌++◌, ◌⊎◌, List, length, take, drop, IfSome};
 ghost use Rattle.std.specs.List.{between};
-ghost use Rattle.dump_io.specs.Dumps.{used};
-ghost use Rattle.dump_io.specs.Sinks.{changed};
 ghost use Rattle.section_index.specs.Bodies.{section_at, body_length};
 ghost use Rattle.section_index.specs.Index.{IsBuiltOver};
 ghost use Rattle.dump_redact.specs.Bodies.{redacted_body};
@@ -18,7 +16,7 @@ use section_index::{Index, read_body};
 use std::alloc::Global;
 use term_forms::{Enc, heap_line, number_is_read};
 
-// Loads the body of a heap, which is no larger than the limit, and writes it redacted.
+// Loads the body of a heap, which is within the limit, and writes it redacted.
 pub(crate) fn put_heap<D: Dumps, K: Sink>(
     alloc: Global,
     dumps: &mut D,
@@ -28,11 +26,11 @@ pub(crate) fn put_heap<D: Dumps, K: Sink>(
     enc: Enc,
     sink: &mut K,
 ) -> Result<(), RedactFault>
-    requires over { IsBuiltOver (D.now dumps.old) index.now }
+    requires over { IsBuiltOver (D.state dumps.old).now index.now }
     requires place { i < length index.now.headers }
-    requires body { HasBody (D.now dumps.old) (section_at index.now i) }
+    requires body { HasBody (D.state dumps.old).now (section_at index.now i) }
     requires small { body_length (section_at index.now i) ≤ limits.now.section }
-    ensures { Copies (used D.files D.now D.faults D.taken dumps.old dumps.new) (changed K.written K.faults sink.old sink.new) (body_length (section_at index.now i))
+    ensures { Copies (D.state dumps.old) (D.state dumps.new) (K.state sink.old) (K.state sink.new) (body_length (section_at index.now i))
         (λ dump. redacted_body enc Part.Heap (between (section_at index.now i).body (section_at index.now i).end dump)) result }
 {
     let mut body = read_body(alloc, dumps, index, i, limits)?;
@@ -40,8 +38,8 @@ pub(crate) fn put_heap<D: Dumps, K: Sink>(
     put_bytes(sink, &body)
 }
 
-// Where the payload of a binary begins, by its body's front of 17 bytes or less: behind a hex number of 1 to 16 digits
-// and its colon.
+// Where the payload of a binary begins, from the first 17 bytes of its
+// body, or fewer: after a hex number of 1 to 16 digits and its colon.
 fn lead_len(front: &[u8]) -> Option<usize>
     ensures within { IfSome result (λ place. place ≤ length front.now) }
     ensures lead { (body : List ℕ) → front.now ≡ take 17 body → IsLeadOf body result }
@@ -51,8 +49,8 @@ fn lead_len(front: &[u8]) -> Option<usize>
     Some(front.len() - chars.len())
 }
 
-// Redacts the first piece of a binary's body, and says how what follows it is copied. A piece of 17 bytes has the whole
-// number and its colon.
+// Redacts the first piece of a binary's body, and returns how to copy what
+// follows it. A piece of 17 bytes has the whole number and its colon.
 fn redact_lead(piece: &mut [u8], enc: Enc) -> Stretch
     ensures { (body : List ℕ) → piece.old ≡ take (length piece.old) body → (17 ≤ length piece.old) ⊎ (length piece.old ≡ length body)
         → piece.new ++ copied result (drop (length piece.old) body) ≡ redacted_body enc Part.Binary body }
@@ -65,7 +63,7 @@ fn redact_lead(piece: &mut [u8], enc: Enc) -> Stretch
     }
 }
 
-// Makes the payloads in a body zero, which a header of this part begins.
+// Makes the payloads zero in a body whose header begins this part.
 pub(crate) fn redact_body(body: &mut [u8], part: Part, enc: Enc)
     ensures { body.new ≡ redacted_body enc part body.old }
 {
@@ -78,8 +76,8 @@ pub(crate) fn redact_body(body: &mut [u8], part: Part, enc: Enc)
     }
 }
 
-// Copies what stands from an offset up to the body of a binary, which ends at another, and that body with its payload made
-// zero. The first piece reaches as far into the body as its number and colon may.
+// Copies what stands from an offset up to the body of a binary, which ends at another offset, and that body
+// with its payload made zero. The first piece reaches as far into the body as its number and colon may.
 pub(crate) fn put_binary<D: Dumps, K: Sink>(
     dumps: &mut D,
     from: u64,
@@ -89,11 +87,11 @@ pub(crate) fn put_binary<D: Dumps, K: Sink>(
     buffer: &mut [u8],
     sink: &mut K,
 ) -> Result<(), RedactFault>
-    requires held { HasUpto (D.now dumps.old) upto }
+    requires held { HasUpto (D.state dumps.old).now upto }
     requires ordered { from ≤ body }
     requires some { body < upto }
     requires near { body - from + 17 ≤ length buffer.old }
-    ensures { Copies (used D.files D.now D.faults D.taken dumps.old dumps.new) (changed K.written K.faults sink.old sink.new) (upto - from)
+    ensures { Copies (D.state dumps.old) (D.state dumps.new) (K.state sink.old) (K.state sink.new) (upto - from)
         (λ dump. between from body dump ++ redacted_body enc Part.Binary (between body upto dump)) result }
 {
     let count = read_piece(dumps, from, upto, buffer)?;

@@ -1,8 +1,8 @@
-// Bytes are copied from the device to the sink, piece by piece.
+// Copying bytes from the device to the sink, piece by piece.
 ghost use Rattle.std.specs.Prelude.{◌≡◌, ℕ, ◌+◌, ◌-◌, ◌<◌, ◌≤◌, List, length, take, min, IfOk, IfErr, OnOk};
 ghost use Rattle.std.specs.List.{between};
-ghost use Rattle.dump_io.specs.Dumps.{told, used, Gives, DeviceFailed, ReadsAtMost};
-ghost use Rattle.dump_io.specs.Sinks.{changed, Puts};
+ghost use Rattle.dump_io.specs.Dumps.{told, Gives, DeviceFailed, ReadsAtMost};
+ghost use Rattle.dump_io.specs.Sinks.{Puts};
 ghost use Rattle.dump_redact.specs.Inner.Copying.{copied, stretch_behind, HasUpto, Copies};
 
 use crate::faults::RedactFault;
@@ -12,7 +12,7 @@ use memchr::memchr;
 use std::alloc::{AllocError, Global};
 use term_forms::Enc;
 
-// The most bytes of a piece.
+// The most bytes in a piece.
 const PIECE: usize = 65_536;
 
 // How bytes are copied.
@@ -31,7 +31,7 @@ pub(crate) fn make_buffer(alloc: Global) -> Result<Vec<u8>, AllocError>
     vec![in alloc; 0u8; PIECE]
 }
 
-// Makes characters blank up to the first LF, and says how the bytes behind them are copied.
+// Makes characters blank up to the first LF, and returns how to copy the bytes after them.
 fn blank_line(chars: &mut [u8], enc: Enc) -> Stretch
     ensures text { chars.new ≡ copied (Stretch.Payload enc) chars.old }
     ensures behind { result ≡ stretch_behind (Stretch.Payload enc) chars.old }
@@ -48,7 +48,7 @@ fn blank_line(chars: &mut [u8], enc: Enc) -> Stretch
     }
 }
 
-// Makes of a piece what it is copied as, and says how the bytes behind it are copied.
+// Turns a piece into its copy, and returns how to copy the bytes after it.
 pub(crate) fn rewrite(piece: &mut [u8], stretch: Stretch) -> Stretch
     ensures text { piece.new ≡ copied stretch piece.old }
     ensures behind { result ≡ stretch_behind stretch piece.old }
@@ -59,19 +59,20 @@ pub(crate) fn rewrite(piece: &mut [u8], stretch: Stretch) -> Stretch
     }
 }
 
-// Reads the bytes of the open file between two offsets, or as many of them as the buffer has room for, and says how many.
+// Reads the bytes of the open file between two offsets, or as
+// many of them as fit into the buffer, and returns how many.
 pub(crate) fn read_piece<D: Dumps>(
     dumps: &mut D,
     from: u64,
     upto: u64,
     buffer: &mut [u8],
 ) -> Result<usize, RedactFault>
-    requires held { HasUpto (D.now dumps.old) upto }
+    requires held { HasUpto (D.state dumps.old).now upto }
     requires ordered { from ≤ upto }
-    ensures reads { ReadsAtMost (used D.files D.now D.faults D.taken dumps.old dumps.new) (min (length buffer.old) (upto - from)) }
+    ensures reads { ReadsAtMost (D.state dumps.old) (D.state dumps.new) (min (length buffer.old) (upto - from)) }
     ensures count { IfOk result (λ count. count ≡ min (length buffer.old) (upto - from)) }
-    ensures piece { IfOk result (λ count. Gives (D.now dumps.old) from (take count buffer.new)) }
-    ensures fault { IfErr result (λ fault. (fault ≡ RedactFault.Read) × DeviceFailed (used D.files D.now D.faults D.taken dumps.old dumps.new)) }
+    ensures piece { IfOk result (λ count. Gives (D.state dumps.old).now from (take count buffer.new)) }
+    ensures fault { IfErr result (λ fault. (fault ≡ RedactFault.Read) × DeviceFailed (D.state dumps.old) (D.state dumps.new)) }
 {
     let count = buffer.len().min((upto - from) as usize);
     if read_full(dumps, from, &mut buffer[..count]).is_err() {
@@ -82,7 +83,7 @@ pub(crate) fn read_piece<D: Dumps>(
 
 // Writes all the bytes.
 pub(crate) fn put_bytes<K: Sink>(sink: &mut K, bytes: &[u8]) -> Result<(), RedactFault>
-    ensures puts { Puts (changed K.written K.faults sink.old sink.new) bytes.now result }
+    ensures puts { Puts (K.state sink.old) (K.state sink.new) bytes.now result }
     ensures fault { IfErr result (λ fault. fault ≡ RedactFault.Write) }
 {
     if write_all(sink, bytes).is_err() {
@@ -91,7 +92,7 @@ pub(crate) fn put_bytes<K: Sink>(sink: &mut K, bytes: &[u8]) -> Result<(), Redac
     Ok(())
 }
 
-// Copies the first piece of the bytes between two offsets, and says how many bytes it has.
+// Copies the first piece of the bytes between two offsets, and returns how many bytes it has.
 fn copy_piece<D: Dumps, K: Sink>(
     dumps: &mut D,
     from: u64,
@@ -100,14 +101,14 @@ fn copy_piece<D: Dumps, K: Sink>(
     buffer: &mut [u8],
     sink: &mut K,
 ) -> Result<u64, RedactFault>
-    requires held { HasUpto (D.now dumps.old) upto }
+    requires held { HasUpto (D.state dumps.old).now upto }
     requires some { from < upto }
     requires room { 0 < length buffer.old }
     ensures copies { let count = min (length buffer.old) (upto - from) in
-        Copies (used D.files D.now D.faults D.taken dumps.old dumps.new) (changed K.written K.faults sink.old sink.new) count
+        Copies (D.state dumps.old) (D.state dumps.new) (K.state sink.old) (K.state sink.new) count
         (λ dump. copied stretch.old (between from (from + count) dump)) result }
     ensures count { IfOk result (λ count. count ≡ min (length buffer.old) (upto - from)) }
-    ensures behind { OnOk result ((dump : List ℕ) → D.now dumps.old ≡ told dump
+    ensures behind { OnOk result ((dump : List ℕ) → (D.state dumps.old).now ≡ told dump
         → stretch.new ≡ stretch_behind stretch.old (between from (from + min (length buffer.old) (upto - from)) dump)) }
 {
     let count = read_piece(dumps, from, upto, buffer)?;
@@ -127,10 +128,10 @@ pub(crate) fn copy<D: Dumps, K: Sink>(
     buffer: &mut [u8],
     sink: &mut K,
 ) -> Result<(), RedactFault>
-    requires held { HasUpto (D.now dumps.old) upto }
+    requires held { HasUpto (D.state dumps.old).now upto }
     requires ordered { from ≤ upto }
     requires room { 0 < length buffer.old }
-    ensures { Copies (used D.files D.now D.faults D.taken dumps.old dumps.new) (changed K.written K.faults sink.old sink.new) (upto - from)
+    ensures { Copies (D.state dumps.old) (D.state dumps.new) (K.state sink.old) (K.state sink.new) (upto - from)
         (λ dump. copied stretch (between from upto dump)) result }
 {
     let mut at = from;

@@ -7,8 +7,8 @@ use thiserror::Error;
 /// Why a dump isn't redacted, or not to its end.
 #[derive(Debug, Drop, Error)]
 pub enum RedactFault {
-    /// The body of a heap or of literals has more bytes than the limit on sections; `at` is the offset of its section in
-    /// the file, and `len` the number of bytes.
+    /// The body of a heap or of literals has more bytes than the limit on a section's body; `at`
+    /// is the offset of its section in the file, and `len` the number of bytes of the body.
     #[error("the section at {at} is too large: {len} bytes")]
     SectionTooLarge { at: u64, len: u64 },
     /// The device failed.

@@ -1,4 +1,4 @@
-// The body of a heap is redacted in place.
+// Redacting the body of a heap in place.
 ghost use Rattle.std.specs.Prelude.{◌≡◌, ◌<◌, ◌≤◌, ◌∷◌, ◌++◌, length, take, drop, map, IfSome};
 ghost use Rattle.dump_io.specs.Lines.{raw_lines, IsEnded};
 ghost use Rattle.dump_redact.specs.Bodies.{heap_line, redacted_body};
@@ -12,7 +12,7 @@ use term_forms::reading::form;
 use term_forms::shapes::Form;
 use term_forms::{Enc, form_is_read, heap_line as split_heap_line, number_is_read};
 
-// How many bytes the first raw line of some bytes has.
+// How many bytes the first raw line has.
 fn line_len(bytes: &[u8]) -> usize
     requires { 0 < length bytes.now }
     ensures some { 0 < result }
@@ -49,8 +49,8 @@ pub(crate) fn blank_all(chars: &mut [u8], enc: Enc)
     }
 }
 
-// Where the payload begins in the line, where it is a heap line with one. Any other form is known by its first two
-// characters, and isn't read.
+// Where the payload begins in the line, if it is a heap line with one. Any
+// other form is recognized by its first two characters, and isn't read.
 fn payload_at(raw: &[u8], enc: Enc) -> Option<usize>
     ensures place { result ≡ place_of enc raw.now }
     ensures within { IfSome result (λ at. at ≤ length raw.now) }
@@ -86,8 +86,8 @@ fn last_line_at(bytes: &[u8]) -> usize
     }
 }
 
-// How many bytes the lines have before the first one with a `Y`. No payload stands in them, since the form of a line with
-// one begins with that letter.
+// How many bytes the lines before the first one with a `Y` have. No payload
+// stands in them, since the form of a line with one begins with that letter.
 fn plain_len(bytes: &[u8], enc: Enc) -> usize
     ensures within { result ≤ length bytes.now }
     ensures plain { redacted_body enc Part.Heap bytes.now ≡ take result bytes.now ++ redacted_body enc Part.Heap (drop result bytes.now) }
@@ -100,7 +100,7 @@ fn plain_len(bytes: &[u8], enc: Enc) -> usize
     }
 }
 
-// Makes the payloads of the binaries in the body of a heap zero.
+// Makes the payloads of the heap binaries in the body of a heap zero.
 pub(crate) fn redact_heap(body: &mut [u8], enc: Enc)
     ensures { body.new ≡ redacted_body enc Part.Heap body.old }
 {

@@ -4,7 +4,7 @@ ghost use Rattle.dump_redact.specs.Laws.{KeepsLength, KeepsSections, KeepsState,
 
 use term_forms::{Enc, form_is_read, number_is_read};
 
-/// A law, and no work: a redacted dump has the same length, sections, state and index.
+/// States a law and does no work: a redacted dump has the same length, sections, state and index.
 pub fn sections_stay()
     ensures length { KeepsLength }
     ensures sections { KeepsSections }
@@ -12,7 +12,7 @@ pub fn sections_stay()
     ensures index { KeepsIndex }
 {}
 
-/// A law, and no work: a redacted dump that is redacted again stays as it is.
+/// States a law and does no work: redacting a redacted dump again leaves it as it is.
 pub fn redacted_stays()
     ensures { StaysRedacted }
 {
@@ -21,21 +21,23 @@ pub fn redacted_stays()
     form_is_read(Enc::Base64);
 }
 
-/// A law, and no work: of each section the header's line stays, and the body is redacted by itself. Its lines are then its
-/// lines, redacted: each of a heap, of a binary the first, and of any other section none.
+/// States a law and does no work: of each section the header's line stays, and the body
+/// is redacted by itself. The lines of the result are those of the body, redacted: all
+/// lines of a heap, the first line of a binary, and none of any other section.
 pub fn bodies_are_redacted()
     ensures sections { RedactsSections }
     ensures lines { RedactsLines }
     ensures others { KeepsOthers }
 {}
 
-/// A law, and no work: a payload that is made blank is a payload of as many bytes.
+/// States a law and does no work: a payload made blank is a payload of the same number of bytes.
 pub fn payloads_stay()
     ensures hex { KeepsPayloads Enc.Hex }
     ensures base64 { KeepsPayloads Enc.Base64 }
 {}
 
-/// A law, and no work: a redacted heap line has its address, and a binary on the heap of the same size.
+/// States a law and does no work: a redacted heap line with a heap
+/// binary has the same address, and a heap binary of the same size.
 pub fn binaries_stay()
     ensures hex { KeepsBinaries Enc.Hex }
     ensures base64 { KeepsBinaries Enc.Base64 }

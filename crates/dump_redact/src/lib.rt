@@ -1,17 +1,18 @@
 //! A dump with its binary payloads made zero.
 //!
-//! [`redact`] writes the dump that is open into a sink, with zeros in place of the bytes of binaries. All else stays: each
-//! offset, each section, each address and each size. So what a node held of its users' data in binaries can be left out
-//! before a dump is handed on. It isn't made anonymous: atoms, numbers, external terms and messages stay.
+//! [`redact`] writes the open dump into a sink, with zeros in place of the bytes of
+//! binaries. Everything else stays: each offset, each section, each address and each size.
+//! So whatever user data a node held in binaries can be left out before a dump is handed
+//! on. The dump isn't made anonymous: atoms, numbers, external terms and messages stay.
 //!
 //! ```text
 //! let index = build(alloc, &mut dumps, "erl_crash.dump", &limits)?;
 //! redact(alloc, &mut dumps, &index, &limits, &mut out)?;
 //! ```
 //!
-//! What a redacted dump is stands in `specs/Redacted.antt`, over the lines of a dump; the laws in `specs/Laws.antt` say what
-//! stays. As many sections are redacted at once as lie whole in a piece of 64 KiB. Of a larger section the body is loaded if
-//! it is a heap, and all else is copied in pieces.
+//! `specs/Redacted.antt` says what a redacted dump is, over the lines of a dump; the laws in `specs/Laws.antt`
+//! say what stays. As many sections are redacted at once as lie whole in a piece of 64 KiB. Of a larger
+//! section the body is loaded if it is a heap or literals, and everything else is copied in pieces.
 #![tactic(auto)]
 
 mod bodies;

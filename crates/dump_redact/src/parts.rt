@@ -1,4 +1,4 @@
-// Where in a dump payloads stand.
+// Where payloads stand in a dump.
 ghost use Rattle.std.specs.Prelude.{◌≡◌};
 ghost use Rattle.dump_redact.specs.Redacted.{part_of};
 
@@ -7,9 +7,9 @@ ghost use Rattle.dump_redact.specs.Redacted.{part_of};
 pub(crate) enum Part {
     // In the body of a heap: of a `proc_heap` or a `literals` section.
     Heap,
-    // Behind the header of a `binary` section, as its first line.
+    // After the header of a `binary` section, as its first line.
     Binary,
-    // Anywhere else: no payload stands there.
+    // Anywhere else, where no payload stands.
     Other,
 }
 

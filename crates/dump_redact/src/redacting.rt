@@ -1,7 +1,7 @@
-// A dump is written with its payloads made zero.
+// Writing a dump with its payloads made zero.
 ghost use Rattle.std.specs.Prelude.{◌≡◌, ℕ, ◌+◌, ◌-◌, ◌<◌, ◌≤◌, ◌⊎◌, List, length, true, None, Some, IfErr, IsErrOf, IsSome, OnOk};
-ghost use Rattle.dump_io.specs.Dumps.{told, used, ReadsAtMost};
-ghost use Rattle.dump_io.specs.Sinks.{changed, WritesAll};
+ghost use Rattle.dump_io.specs.Dumps.{told, ReadsAtMost};
+ghost use Rattle.dump_io.specs.Sinks.{WritesAll};
 ghost use Rattle.section_index.specs.Bodies.{section_at};
 ghost use Rattle.section_index.specs.Index.{IsBuiltOver, sections_in};
 ghost use Rattle.dump_redact.specs.Redacted.{enc_of, redacted};
@@ -19,7 +19,7 @@ use dump_io::{Dumps, Limits, Sink};
 use section_index::Index;
 use std::alloc::Global;
 
-// The refusal of the section at a place, where it is a heap or literals with more bytes than the limit.
+// The refusal of the section at a place, if it is a heap or literals with more bytes than the limit.
 fn judge(index: &Index, i: usize, limits: &Limits) -> Option<RedactFault>
     requires { i < length index.now.headers }
     ensures { result ≡ fault_at limits.now.section (section_at index.now i) }
@@ -36,7 +36,7 @@ fn judge(index: &Index, i: usize, limits: &Limits) -> Option<RedactFault>
     None
 }
 
-// The refusal of the first of them.
+// The first such refusal.
 fn large(index: &Index, limits: &Limits) -> Option<RedactFault>
     ensures refusal { result ≡ large_fault limits.now.section (sections_in index.now) }
     ensures some { 0 < index.now.size }
@@ -49,7 +49,7 @@ fn large(index: &Index, limits: &Limits) -> Option<RedactFault>
     None
 }
 
-// Copies the sections from a place up to another, which together fit into the buffer, redacted.
+// Copies the sections from one place up to another, redacted; together they fit into the buffer.
 fn put_sections<D: Dumps, K: Sink>(
     dumps: &mut D,
     index: &Index,
@@ -58,11 +58,11 @@ fn put_sections<D: Dumps, K: Sink>(
     buffer: &mut [u8],
     sink: &mut K,
 ) -> Result<(), RedactFault>
-    requires over { IsBuiltOver (D.now dumps.old) index.now }
+    requires over { IsBuiltOver (D.state dumps.old).now index.now }
     requires some { i < next }
     requires within { next ≤ length index.now.headers }
     requires room { length_between index.now i next ≤ length buffer.old }
-    ensures { Copies (used D.files D.now D.faults D.taken dumps.old dumps.new) (changed K.written K.faults sink.old sink.new) (length_between index.now i next)
+    ensures { Copies (D.state dumps.old) (D.state dumps.new) (K.state sink.old) (K.state sink.new) (length_between index.now i next)
         (λ dump. text_between index.now i next (redacted dump)) result }
 {
     let from = offset(index, i);
@@ -73,7 +73,7 @@ fn put_sections<D: Dumps, K: Sink>(
     put_bytes(sink, piece)
 }
 
-// Copies the line of the header of a heap, and writes its body redacted.
+// Copies the header's line of a heap, and writes its body redacted.
 fn put_heap_from<D: Dumps, K: Sink>(
     alloc: Global,
     dumps: &mut D,
@@ -83,14 +83,14 @@ fn put_heap_from<D: Dumps, K: Sink>(
     buffer: &mut [u8],
     sink: &mut K,
 ) -> Result<(), RedactFault>
-    requires over { IsBuiltOver (D.now dumps.old) index.now }
+    requires over { IsBuiltOver (D.state dumps.old).now index.now }
     requires place { i < length index.now.headers }
-    requires body { HasBody (D.now dumps.old) (section_at index.now i) }
+    requires body { HasBody (D.state dumps.old).now (section_at index.now i) }
     requires small { fault_at limits.now.section (section_at index.now i) ≡ None }
     requires heap { is_heap (section_at index.now i) ≡ true }
     requires room { 0 < length buffer.old }
     ensures { let section = section_at index.now i in
-        Copies (used D.files D.now D.faults D.taken dumps.old dumps.new) (changed K.written K.faults sink.old sink.new) (section.end - section.at)
+        Copies (D.state dumps.old) (D.state dumps.new) (K.state sink.old) (K.state sink.new) (section.end - section.at)
         (text_of_section (enc_of index.now.version) Part.Heap section) result }
 {
     let section = index.section(i);
@@ -113,7 +113,7 @@ fn put_heap_from<D: Dumps, K: Sink>(
     )
 }
 
-// Copies the section at a place, which doesn't fit into the buffer, redacted. So its body has a byte.
+// Copies the section at a place, redacted; it doesn't fit into the buffer, so its body isn't empty.
 fn put_large<D: Dumps, K: Sink>(
     alloc: Global,
     dumps: &mut D,
@@ -123,12 +123,12 @@ fn put_large<D: Dumps, K: Sink>(
     buffer: &mut [u8],
     sink: &mut K,
 ) -> Result<(), RedactFault>
-    requires over { IsBuiltOver (D.now dumps.old) index.now }
+    requires over { IsBuiltOver (D.state dumps.old).now index.now }
     requires place { i < length index.now.headers }
     requires small { fault_at limits.now.section (section_at index.now i) ≡ None }
     requires room { HasRoom buffer.old }
     requires large { length buffer.old < length_between index.now i (i + 1) }
-    ensures { Copies (used D.files D.now D.faults D.taken dumps.old dumps.new) (changed K.written K.faults sink.old sink.new) (length_between index.now i (i + 1))
+    ensures { Copies (D.state dumps.old) (D.state dumps.new) (K.state sink.old) (K.state sink.new) (length_between index.now i (i + 1))
         (λ dump. text_between index.now i (i + 1) (redacted dump)) result }
 {
     let section = index.section(i);
@@ -150,7 +150,8 @@ fn put_large<D: Dumps, K: Sink>(
     }
 }
 
-// Copies the sections from a place up to another, redacted: they fit into the buffer together, or there is one.
+// Copies the sections from one place up to another, redacted;
+// they fit into the buffer together, or there is only one.
 fn put_some<D: Dumps, K: Sink>(
     alloc: Global,
     dumps: &mut D,
@@ -161,13 +162,13 @@ fn put_some<D: Dumps, K: Sink>(
     buffer: &mut [u8],
     sink: &mut K,
 ) -> Result<(), RedactFault>
-    requires over { IsBuiltOver (D.now dumps.old) index.now }
+    requires over { IsBuiltOver (D.state dumps.old).now index.now }
     requires some { i < next }
     requires within { next ≤ length index.now.headers }
     requires small { fault_at limits.now.section (section_at index.now i) ≡ None }
     requires room { HasRoom buffer.old }
     requires fits { (next ≡ i + 1) ⊎ (length_between index.now i next ≤ length buffer.old) }
-    ensures { Copies (used D.files D.now D.faults D.taken dumps.old dumps.new) (changed K.written K.faults sink.old sink.new) (length_between index.now i next)
+    ensures { Copies (D.state dumps.old) (D.state dumps.new) (K.state sink.old) (K.state sink.new) (length_between index.now i next)
         (λ dump. text_between index.now i next (redacted dump)) result }
 {
     let from = offset(index, i);
@@ -179,7 +180,7 @@ fn put_some<D: Dumps, K: Sink>(
     }
 }
 
-// Writes the dump, of which no heap is too large.
+// Writes the dump, in which no heap is too large.
 fn put_dump<D: Dumps, K: Sink>(
     alloc: Global,
     dumps: &mut D,
@@ -188,10 +189,10 @@ fn put_dump<D: Dumps, K: Sink>(
     buffer: &mut [u8],
     sink: &mut K,
 ) -> Result<(), RedactFault>
-    requires over { IsBuiltOver (D.now dumps.old) index.now }
+    requires over { IsBuiltOver (D.state dumps.old).now index.now }
     requires small { large_fault limits.now.section (sections_in index.now) ≡ None }
     requires room { HasRoom buffer.old }
-    ensures { Copies (used D.files D.now D.faults D.taken dumps.old dumps.new) (changed K.written K.faults sink.old sink.new) index.now.size redacted result }
+    ensures { Copies (D.state dumps.old) (D.state dumps.new) (K.state sink.old) (K.state sink.new) index.now.size redacted result }
 {
     let mut i = 0;
     while i < index.len() {
@@ -202,21 +203,21 @@ fn put_dump<D: Dumps, K: Sink>(
     Ok(())
 }
 
-/// Writes the dump that is open with its binary payloads made zero: as many bytes, with the same sections. The index is
-/// one that was built over that file, and the file stays open.
+/// Writes the open dump with its binary payloads made zero: as many bytes, with
+/// the same sections. The index was built over the open file, which stays open.
 ///
-/// Two kinds of characters are replaced: the payload of each heap line of a `proc_heap` or a `literals` section whose form
-/// is a binary on the heap; and in each `binary` section whose body begins with a hex number of 1 to 16 digits and a `:`,
-/// what follows that `:` in the body's first line. There a hex digit becomes `0` in the versions 0.3 and 0.4, and a
-/// letter, a digit, `+` or `/` becomes `A` in 0.5; padding and each other byte stay. Atoms, numbers, external terms and
-/// messages stay as they are.
+/// Two kinds of characters are replaced: the payload of each heap line of a `proc_heap` or a `literals`
+/// section whose form is a heap binary; and, in each `binary` section whose body begins with a hex
+/// number of 1 to 16 digits and a `:`, what follows that `:` in the body's first line. There a hex
+/// digit becomes `0` in the versions 0.3 and 0.4, and a letter, a digit, `+` or `/` becomes `A` in 0.5;
+/// padding and every other byte stay. Atoms, numbers, external terms and messages stay as they are.
 ///
-/// `SectionTooLarge` comes exactly where the body of a heap or of literals has more bytes than the limit on sections; it
-/// names the first in the dump, and nothing is read or written then. `Read` comes only where the device's count of faults
-/// rose, and `Write` only where the sink's did; `Memory` may come where memory is taken for the body of a heap or of literals
-/// that is no part of a piece, or for the pieces of at most 65,536 bytes in which all other bytes are copied. A proper front of
-/// the redacted dump was written then.
-/// Whatever the answer, at most as many bytes are read as the file has.
+/// Returns `SectionTooLarge` exactly when the body of a heap or of literals has more bytes than the limit
+/// on a section's body; it names the first in the dump, and nothing is read or written then. Returns
+/// `Read` only if the device's count of faults rose, and `Write` only if the sink's did; `Memory` may
+/// come from allocating the body of a heap or of literals that doesn't fit into a piece, or the pieces of
+/// at most 65,536 bytes in which all other bytes are copied. After any of these three a proper prefix of
+/// the redacted dump was written. Whatever it returns, at most as many bytes are read as the file has.
 pub fn redact<D: Dumps, K: Sink>(
     alloc: Global,
     dumps: &mut D,
@@ -224,14 +225,14 @@ pub fn redact<D: Dumps, K: Sink>(
     limits: &Limits,
     sink: &mut K,
 ) -> Result<(), RedactFault>
-    requires { IsBuiltOver (D.now dumps.old) index.now }
-    ensures reads { ReadsAtMost (used D.files D.now D.faults D.taken dumps.old dumps.new) index.now.size }
-    ensures later { K.faults sink.old ≤ K.faults sink.new }
-    ensures writes { (bytes : List ℕ) → D.now dumps.old ≡ told bytes → WritesAll (K.written sink.old) (K.written sink.new) (redacted bytes) result }
-    ensures fault { IfErr result (IsCauseOf (large_fault limits.now.section (sections_in index.now)) (used D.files D.now D.faults D.taken dumps.old dumps.new)
-        (changed K.written K.faults sink.old sink.new)) }
+    requires { IsBuiltOver (D.state dumps.old).now index.now }
+    ensures reads { ReadsAtMost (D.state dumps.old) (D.state dumps.new) index.now.size }
+    ensures later { (K.state sink.old).faults ≤ (K.state sink.new).faults }
+    ensures writes { (bytes : List ℕ) → (D.state dumps.old).now ≡ told bytes → WritesAll (K.state sink.old).written (K.state sink.new).written (redacted bytes) result }
+    ensures fault { IfErr result (IsCauseOf (large_fault limits.now.section (sections_in index.now)) (D.state dumps.old) (D.state dumps.new)
+        (K.state sink.old) (K.state sink.new)) }
 
-    // A body that is too large is always refused as such, and neither the device nor the sink plays a part.
+    // A body that is too large is always refused as such, whatever the device and the sink do.
     ensures loaded { OnOk result (large_fault limits.now.section (sections_in index.now) ≡ None) }
     ensures too_large { (fault : RedactFault) → large_fault limits.now.section (sections_in index.now) ≡ Some fault → IsErrOf result fault }
     ensures unread { IsSome (large_fault limits.now.section (sections_in index.now)) → dumps.new ≡ dumps.old }

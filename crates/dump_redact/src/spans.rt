@@ -1,4 +1,4 @@
-// Spans of sections are redacted in place.
+// Redacting spans of sections in place.
 ghost use Rattle.std.specs.Prelude.{◌≡◌, ℕ, ◌+◌, ◌-◌, ◌<◌, ◌≤◌, ◌⊎◌, List, length};
 ghost use Rattle.section_index.specs.Bodies.{section_at};
 ghost use Rattle.section_index.specs.Index.{AreBounded, IsIndexOf};
@@ -21,7 +21,7 @@ pub(crate) fn enc_of(version: Version) -> Enc
     }
 }
 
-// The offset at which the section at a place begins, and past the last one the size of the dump.
+// The offset at which the section at a place begins; past the last one, the size of the dump.
 pub(crate) fn offset(index: &Index, i: usize) -> u64
     requires { i ≤ length index.now.headers }
     ensures value { result ≡ offset_of index.now i }
@@ -34,7 +34,7 @@ pub(crate) fn offset(index: &Index, i: usize) -> u64
     }
 }
 
-// The place behind the sections from a place on which together have at most so many bytes, and behind one at least.
+// The place after the sections from a place on that together have at most `most` bytes, and after at least one.
 pub(crate) fn next_place(index: &Index, i: usize, most: usize) -> usize
     requires { i < length index.now.headers }
     ensures some { i < result }
@@ -49,7 +49,8 @@ pub(crate) fn next_place(index: &Index, i: usize, most: usize) -> usize
     next
 }
 
-// Redacts the body of the section at a place in a piece that begins at an offset and has the section whole.
+// Redacts the body of the section at a place within a piece
+// that begins at an offset and contains the whole section.
 fn redact_section(piece: &mut [u8], index: &Index, i: usize, from: u64)
     requires place { i < length index.now.headers }
     requires begins { from ≤ (section_at index.now i).at }
@@ -67,7 +68,7 @@ fn redact_section(piece: &mut [u8], index: &Index, i: usize, from: u64)
     );
 }
 
-// Redacts the sections from a place up to another, of which the piece has all bytes and no others.
+// Redacts the sections from one place up to another; the piece has exactly their bytes.
 pub(crate) fn redact_sections(piece: &mut [u8], index: &Index, i: usize, next: usize)
     requires some { i < next }
     requires within { next ≤ length index.now.headers }

@@ -1,4 +1,4 @@
--- How many findings of an audit there are of each kind.
+-- How many findings of each kind an audit has.
 use Rattle.std.specs.Prelude.{Bool, true, false, List, count_by}
 use Rattle.dump_audit.specs.declared.finding.Finding.{Finding}
 use Rattle.dump_audit.specs.declared.finding.Finding.TheVariants.{LinkOneSided, MonitorTo, MonitorFrom, UnreadLinks, UnreadQueue}
@@ -19,7 +19,7 @@ abbrev pub is_monitor_from : Finding → Bool
 is_monitor_from (MonitorFrom p q entry at other) = true
 is_monitor_from finding = false
 
--- a link list that isn't read
+-- an unread link list
 abbrev pub is_unread_links : Finding → Bool
 is_unread_links (UnreadLinks p at other) = true
 is_unread_links finding = false
@@ -29,7 +29,7 @@ abbrev pub is_unread_queue : Finding → Bool
 is_unread_queue (UnreadQueue p at other) = true
 is_unread_queue finding = false
 
--- how many there are of each of these kinds; others aren't counted
+-- how many findings of each of these kinds there are; others aren't counted
 abbrev pub counts_of : List Finding → FindingCounts
 counts_of found = record {
   links = count_by is_link found;

@@ -1,10 +1,10 @@
--- What is largest in a list, by a number of each place and of what stands there.
+-- What is largest in a list, by a number of each place and of what is there.
 use Rattle.std.specs.Prelude.{ℕ, zero, suc, ◌<◌, List, take, All, Option, None, Some}
 use Rattle.std.specs.List.{enumerate_from, filter_map}
 use Rattle.size_order.specs.Sorting.{most_first}
 use Rattle.dump_triage.specs.declared.ranked.Ranked.{Ranked}
 
--- the row of a place, where its number is known and isn't 0
+-- the row of a place, if its number is known and isn't 0
 abbrev pub row_of : ℕ → Option ℕ → Option Ranked
 row_of place None = None
 row_of place (Some zero) = None
@@ -14,7 +14,7 @@ row_of place (Some (suc less)) = Some (record { place = place; number = suc less
 abbrev pub rows_by : {X : Type 0} → (ℕ × X → Option ℕ) → List X → List Ranked
 rows_by number items = filter_map (λ item. row_of item.0 (number item)) (enumerate_from 0 items)
 
--- the first of some rows, at most so many, where the largest number comes first, and of equal ones the first place
+-- the first of some rows, at most `most`: the largest number comes first, and of equal ones the first place
 abbrev pub first_rows : ℕ → List Ranked → List Ranked
 first_rows most rows = take most (most_first (λ row. row.number) rows)
 
@@ -22,6 +22,6 @@ first_rows most rows = take most (most_first (λ row. row.number) rows)
 abbrev pub largest : {X : Type 0} → ℕ → (ℕ × X → Option ℕ) → List X → List Ranked
 largest most number items = first_rows most (rows_by number items)
 
--- the rows are of places of a list of this length
+-- the rows name places of a list of this length
 abbrev pub AreWithin : ℕ → List Ranked → Type 0
 AreWithin count rows = All (λ row. row.place < count) rows

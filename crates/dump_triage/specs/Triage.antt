@@ -14,7 +14,7 @@ use Rattle.dump_triage.specs.declared.ranked.Ranked.{Ranked}
 
 -- ---- states
 
--- the text of a process's state, which is `-` where there is none
+-- the text of a process's state, which is `-` if there is none
 abbrev pub state_text : Process → List ℕ
 state_text process = unwrap_or (text_in process.state) (codes "-")
 
@@ -26,11 +26,11 @@ state_texts processes = map state_text processes
 abbrev pub count_of : List (List ℕ) → List ℕ → ℕ
 count_of texts text = count_by (bytes_eq text) texts
 
--- how often the text at a place stands in the list, which is told at the first of its places alone
+-- how often the text at a place occurs in the list, given only at the first of its places
 abbrev pub count_at_first : List (List ℕ) → ℕ × List ℕ → Option ℕ
 count_at_first texts (place, text) = if nat_lt 0 (count_of (take place texts) text) then None else Some (count_of texts text)
 
--- the states that most processes are in: the first process that is in it, and how many are
+-- the states that most processes are in: for each the first process in it, and how many processes are
 abbrev pub commonest_states : ℕ → List Process → List Ranked
 commonest_states most processes = largest most (count_at_first (state_texts processes)) (state_texts processes)
 
@@ -66,8 +66,8 @@ pub record Triaged : Type 0 where
   pub tables : List Ranked
   pub findings : FindingCounts
 
--- what stands out in a dump with this index, these processes and these ETS tables, with at most so many rows of each kind;
--- message queues are judged by no limit
+-- what stands out in a dump with this index, these processes and these ETS tables,
+-- with at most this many rows of each kind; message queues are judged by no limit
 abbrev pub triage_of : Contents → List Process → List Row → ℕ → Triaged
 triage_of index processes rows most = record {
   states = commonest_states most processes;
@@ -77,7 +77,7 @@ triage_of index processes rows most = record {
   findings = counts_of (findings (audit_of index processes (2 ^ 64 - 1) None));
 }
 
--- the rows are of places of these processes and of these tables
+-- the rows name places of these processes and of these tables
 pub record Fits (processes : List Process) (rows : List Row) (triage : Triaged) : Type 0 where
   pub states : AreWithin (length processes) triage.states
   pub queues : AreWithin (length processes) triage.queues

@@ -1,10 +1,10 @@
-// How many findings of an audit there are of each kind.
+// How many findings of each kind an audit has.
 ghost use Rattle.std.specs.Prelude.{◌≡◌, count_by};
 ghost use Rattle.dump_triage.specs.FindingCounts.{counts_of, is_link, is_monitor_from, is_monitor_to, is_unread_links, is_unread_queue};
 
 use dump_audit::Finding;
 
-/// How many findings there are of each kind, in an audit that isn't full.
+/// How many findings of each kind there are in an audit that isn't full.
 #[derive(Clone, Copy, Debug, PartialEq, Eq)]
 pub struct FindingCounts {
     /// Links to a process that has none back.
@@ -13,7 +13,7 @@ pub struct FindingCounts {
     pub monitors_to: u64,
     /// Monitors by a process that doesn't know of them.
     pub monitors_from: u64,
-    /// Link lists that aren't read.
+    /// Unread link lists.
     pub unread_links: u64,
     /// Lengths of message queues that are no numbers.
     pub unread_queues: u64,
@@ -64,7 +64,7 @@ fn count_unread_queues(findings: &[Finding]) -> u64
         .count() as u64
 }
 
-// How many findings there are of each kind.
+// How many findings of each kind there are.
 pub(crate) fn counts_of(findings: &[Finding]) -> FindingCounts
     ensures { result ≡ counts_of findings.now }
 {

@@ -1,5 +1,5 @@
-//! What stands out in a dump: how many processes are in which state, the processes with the longest message queues and with the
-//! most memory, the largest ETS tables, and how many findings of an audit there are of each kind.
+//! What stands out in a dump: how many processes are in which state, the processes with the longest message
+//! queues and with the most memory, the largest ETS tables, and how many findings of each kind an audit has.
 //!
 //! ```text
 //! let procs = Procs::load(alloc, &mut dumps, &index, &limits)?;

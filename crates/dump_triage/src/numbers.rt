@@ -21,7 +21,7 @@ fn number_in(cell: &Option<Kept<'_>>) -> Option<u64>
     dec_u64(kept.text)
 }
 
-// The rows of the processes by their message queues, in the order of the dump.
+// The rows of the processes by their message queues, in dump order.
 fn queue_rows(alloc: Global, procs: &Procs) -> Result<Vec<Ranked>, AllocError>
     ensures { IfOk result (λ rows. rows.items ≡ rows_by (λ item. number_in item.1.queue) procs.now.processes) }
 {
@@ -32,7 +32,7 @@ fn queue_rows(alloc: Global, procs: &Procs) -> Result<Vec<Ranked>, AllocError>
     Ok(rows)
 }
 
-// The rows of the processes by their memory, in the order of the dump.
+// The rows of the processes by their memory, in dump order.
 fn memory_rows(alloc: Global, procs: &Procs) -> Result<Vec<Ranked>, AllocError>
     ensures { IfOk result (λ rows. rows.items ≡ rows_by (λ item. number_in item.1.memory) procs.now.processes) }
 {
@@ -53,7 +53,7 @@ fn words_at(tables: &Rows, i: usize) -> Option<u64>
     dec_u64(tables.cell(i, 4)?)
 }
 
-// The rows of the ETS tables by their words, in the order of the dump.
+// The rows of the ETS tables by their words, in dump order.
 fn table_rows(alloc: Global, tables: &Rows) -> Result<Vec<Ranked>, AllocError>
     requires { tables.now.width ≡ 5 }
     ensures { IfOk result (λ rows. rows.items ≡ rows_by (λ item. words_in item.1) tables.now.rows) }
@@ -65,7 +65,7 @@ fn table_rows(alloc: Global, tables: &Rows) -> Result<Vec<Ranked>, AllocError>
     Ok(rows)
 }
 
-// The processes with the longest message queues, at most so many.
+// The processes with the longest message queues, at most `most`.
 pub(crate) fn longest_queues(
     alloc: Global,
     procs: &Procs,
@@ -76,7 +76,7 @@ pub(crate) fn longest_queues(
     first_rows(queue_rows(alloc, procs)?, most)
 }
 
-// The processes with the most memory, at most so many.
+// The processes with the most memory, at most `most`.
 pub(crate) fn largest_processes(
     alloc: Global,
     procs: &Procs,
@@ -87,7 +87,7 @@ pub(crate) fn largest_processes(
     first_rows(memory_rows(alloc, procs)?, most)
 }
 
-// The ETS tables with the most words, at most so many.
+// The ETS tables with the most words, at most `most`.
 pub(crate) fn largest_tables(
     alloc: Global,
     tables: &Rows,

@@ -1,4 +1,4 @@
-// Places by a number, the largest first.
+// Places with a number each, the largest number first.
 ghost use Rattle.std.specs.Prelude.{◌≡◌, ◌++◌, IfOk, OnOk};
 ghost use Rattle.std.specs.Option.{option_to_list};
 ghost use Rattle.dump_triage.specs.Ranking.{first_rows, row_of};
@@ -6,12 +6,12 @@ ghost use Rattle.dump_triage.specs.Ranking.{first_rows, row_of};
 use size_order::{Measured, sort_most_first};
 use std::alloc::AllocError;
 
-/// A process or a table by a number of it.
+/// A process or a table, with one of its numbers.
 #[derive(Clone, Copy, Debug, PartialEq, Eq, Drop)]
 pub struct Ranked {
     /// The place of the process in the process table, or of the table among the rows of its kind, from 0.
     pub place: usize,
-    /// The number, as of bytes or of messages, which isn't 0.
+    /// The number, such as that of bytes or of messages, which isn't 0.
     pub number: u64,
 }
 
@@ -23,7 +23,7 @@ impl Measured for Ranked {
     }
 }
 
-// Puts the row of a place behind the others, where its number is known and isn't 0.
+// Appends the row of a place, if its number is known and isn't 0.
 pub(crate) fn push_row(
     rows: &mut Vec<Ranked>,
     place: usize,
@@ -40,7 +40,7 @@ pub(crate) fn push_row(
     }
 }
 
-// The first of some rows, at most so many, the largest first.
+// The first of these rows, at most `most`, with the largest first.
 pub(crate) fn first_rows(mut rows: Vec<Ranked>, most: u64) -> Result<Vec<Ranked>, AllocError>
     ensures { IfOk result (λ first. first.items ≡ first_rows most rows.items) }
 {

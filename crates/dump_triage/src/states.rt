@@ -1,5 +1,5 @@
-// How many processes are in which state. The texts of states are sought by their order, since whoever writes a dump could give
-// all of them one hash.
+// How many processes are in which state. The texts of states are looked up by
+// their order, since whoever writes a dump could give all of them one hash.
 ghost use Rattle.std.specs.Prelude.{◌≡◌, ◌+◌, ◌<◌, ◌^◌, codes, length, take, unwrap_or, IfOk, OnOk};
 ghost use Rattle.section_rows.specs.Rows.{text_in};
 ghost use Rattle.section_rows.specs.Shown.{shown_cell};
@@ -32,14 +32,14 @@ fn state_at(procs: &Procs, p: usize) -> &[u8]
     state_text(&process.state)
 }
 
-// How often a text was counted.
+// How often a text has been counted.
 fn count_in(counts: &BTreeMap<&[u8], u64>, text: &[u8]) -> u64
     ensures { result ≡ unwrap_or (counted counts.now text.now) 0 }
 {
     counts.get(text).copied().unwrap_or(0)
 }
 
-// Counts the state of the process at a place, behind those before it.
+// Counts the state of the process at a place, after those before it.
 fn count_state<'a>(
     counts: &mut BTreeMap<&'a [u8], u64>,
     procs: &'a Procs,
@@ -67,8 +67,8 @@ fn count_states<'a>(alloc: Global, procs: &'a Procs) -> Result<BTreeMap<&'a [u8]
     Ok(counts)
 }
 
-// How many processes are in the state of the process at a place, where that is the first of them. The number is taken from the
-// tree, so that the next of them doesn't find it.
+// How many processes are in the state of the process at a place, if that is the first
+// of them. The number is taken from the tree, so that the next of them doesn't find it.
 fn take_count<'a>(counts: &mut BTreeMap<&'a [u8], u64>, procs: &'a Procs, p: usize) -> Option<u64>
     requires place { p < length procs.now.processes }
     requires left { AreLeft counts.old (state_texts procs.now.processes) p }
@@ -91,7 +91,7 @@ fn state_rows(alloc: Global, procs: &Procs) -> Result<Vec<Ranked>, AllocError>
     Ok(rows)
 }
 
-// The states that most processes are in, at most so many.
+// The states that most processes are in, at most `most`.
 pub(crate) fn commonest_states(
     alloc: Global,
     procs: &Procs,

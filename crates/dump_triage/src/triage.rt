@@ -19,7 +19,8 @@ use std::alloc::{AllocError, Global};
 use std::marker::Model;
 use table_sections::Rows;
 
-/// What stands out in a dump. Each list has the largest number first, and of equal ones the first of the dump.
+/// What stands out in a dump. Each list has the largest number
+/// first; of equal ones, the first in the dump comes first.
 #[derive(Drop)]
 pub struct Triage {
     states: Vec<Ranked>,
@@ -43,7 +44,8 @@ impl Model for Triage {
     } };
 }
 
-// How many findings there are of each kind, in an audit that isn't full, where no message queue is too long.
+// How many findings of each kind there are in an audit that
+// isn't full and in which no message queue is too long.
 fn count_findings(alloc: Global, index: &Index, procs: &Procs) -> Result<FindingCounts, AllocError>
     requires { All (IsIn index.now) procs.now.processes }
     ensures { IfOk result (λ counts. counts ≡ counts_of (findings (audit_of index.now procs.now.processes (2 ^ 64 - 1) None))) }
@@ -54,12 +56,12 @@ fn count_findings(alloc: Global, index: &Index, procs: &Procs) -> Result<Finding
 }
 
 impl Triage {
-    /// What stands out in a dump with these processes and these ETS tables, which are of its index: at most `most` states,
-    /// message queues, processes and tables, and the numbers of findings.
+    /// What stands out in a dump with these processes and these ETS tables, which are those of its
+    /// index: at most `most` states, message queues, processes and tables, and the numbers of findings.
     ///
-    /// A process without a `State` is in the state `-`. A message queue, a memory or the words of a table count where they are
-    /// numbers of decimal digits below 2^64 and not 0. Findings are those of [`audit`](dump_audit::audit) with the limit
-    /// 2^64 - 1, which no message queue passes. `AllocError` may come at any growth.
+    /// A process without a `State` is in the state `-`. A message queue, a memory or the words of a table count
+    /// if they are decimal numbers below 2^64 and not 0. Findings are those of [`audit`](dump_audit::audit)
+    /// with the limit 2^64 - 1, which no message queue exceeds. `AllocError` may come from any allocation.
     pub fn of(
         alloc: Global,
         index: &Index,
@@ -81,7 +83,8 @@ impl Triage {
         })
     }
 
-    /// The states of processes by how many are in them; a state has the place of the first process that is in it.
+    /// The states of processes, by how many processes are in them;
+    /// the place of a state is that of the first process in it.
     pub fn states(&self) -> &[Ranked]
         ensures { result.now ≡ self.now.states }
     {
@@ -109,7 +112,7 @@ impl Triage {
         self.tables.as_slice()
     }
 
-    /// How many findings there are of each kind.
+    /// How many findings of each kind there are.
     pub fn findings(&self) -> FindingCounts
         ensures { result ≡ self.now.findings }
     {

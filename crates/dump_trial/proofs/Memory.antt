@@ -3,7 +3,7 @@ use Rattle.std.proofs.Common.{◌≡◌, ℕ, ◌≤◌, List, None, refl, sym, 
 use Rattle.std.specs.Prelude.{All, Err}
 use Rattle.std.specs.Option.{option_map, option_or}
 use Rattle.std.proofs.lemmas.Option.{none-some}
-use Rattle.dump_io.specs.Dumps.{Use, DeviceFailed}
+use Rattle.dump_io.specs.Dumps.{DeviceState, DeviceFailed}
 use Rattle.dump_io.specs.Limits.{usual}
 use Rattle.section_index.specs.declared.opening.OpenFault.{OpenFault}
 use Rattle.section_index.specs.declared.opening.OpenFault.TheVariants as opening_faults
@@ -39,20 +39,20 @@ memory-opening bytes opening_faults.Read accepted answer unread = absurd (unread
 memory-opening bytes opening_faults.Memory accepted answer unread = refl
 
 -- of the sections of processes
-pub memory-records : (sections : List Section) (device : Use) (fault : BodyFault) → All IsSmall sections → (DeviceFailed device → ⊥)
-    → AreRefused (record_sections sections) usual.section device fault → fault ≡ body_faults.Memory
-memory-records sections device (body_faults.SectionTooLarge at len) all works cause =
+pub memory-records : (sections : List Section) (before after : DeviceState) (fault : BodyFault) → All IsSmall sections → (DeviceFailed before after → ⊥)
+    → AreRefused (record_sections sections) usual.section before after fault → fault ≡ body_faults.Memory
+memory-records sections before after (body_faults.SectionTooLarge at len) all works cause =
     absurd (none-some _ (sym (ap (option_map (λ (s : Section). body_faults.SectionTooLarge s.at (body_length s))) (records-small sections all)) ∙ cause))
-memory-records sections device body_faults.Read all works cause = absurd (works cause.0)
-memory-records sections device body_faults.Memory all works cause = refl
+memory-records sections before after body_faults.Read all works cause = absurd (works cause.0)
+memory-records sections before after body_faults.Memory all works cause = refl
 
 -- of one body
-pub memory-body : (index : Contents) (i : ℕ) (device : Use) (fault : BodyFault) → All IsSmall (sections_in index) → (DeviceFailed device → ⊥)
-    → IsCauseOf (section_at index i) usual.section device fault → fault ≡ body_faults.Memory
-memory-body index i device (body_faults.SectionTooLarge at len) all works cause =
+pub memory-body : (index : Contents) (i : ℕ) (before after : DeviceState) (fault : BodyFault) → All IsSmall (sections_in index) → (DeviceFailed before after → ⊥)
+    → IsCauseOf (section_at index i) usual.section before after fault → fault ≡ body_faults.Memory
+memory-body index i before after (body_faults.SectionTooLarge at len) all works cause =
     let small : body_length (section_at index i) ≤ usual.section = small-at index i all in absurd (omega (arith, small, cause.2))
-memory-body index i device body_faults.Read all works cause = absurd (works cause)
-memory-body index i device body_faults.Memory all works cause = refl
+memory-body index i before after body_faults.Read all works cause = absurd (works cause)
+memory-body index i before after body_faults.Memory all works cause = refl
 
 -- the bodies of a heap are within the limit
 no-section-fault : (index : Contents) (pid : List ℕ) → All IsSmall (sections_in index) → section_fault usual.section index pid ≡ None
@@ -60,13 +60,13 @@ no-section-fault index pid all =
     ap (λ o. option_or o (too_large usual.section (literals_section index))) (small-in index _ all) ∙ small-in index _ all
 
 -- of a heap
-pub memory-heap : (bytes : List ℕ) (index : Contents) (pid : List ℕ) (device : Use) (fault : HeapFault) → All IsSmall (sections_in index)
+pub memory-heap : (bytes : List ℕ) (index : Contents) (pid : List ℕ) (before after : DeviceState) (fault : HeapFault) → All IsSmall (sections_in index)
     → weight (enc_of index.version) (body_in bytes (heap_section index pid)) (body_in bytes (literals_section index)) ≤ usual.dense
-    → (DeviceFailed device → ⊥)
+    → (DeviceFailed before after → ⊥)
     → heaps.IsAnswerFor (enc_of index.version) (body_in bytes (heap_section index pid)) (body_in bytes (literals_section index)) usual.dense (Err fault)
-    → heaps.IsCauseOf (section_fault usual.section index pid) usual.dense device fault → fault ≡ heap_faults.Memory
-memory-heap bytes index pid device (heap_faults.SectionTooLarge at len) all few works answer cause =
+    → heaps.IsCauseOf (section_fault usual.section index pid) usual.dense before after fault → fault ≡ heap_faults.Memory
+memory-heap bytes index pid before after (heap_faults.SectionTooLarge at len) all few works answer cause =
     absurd (none-some _ (sym (no-section-fault index pid all) ∙ cause))
-memory-heap bytes index pid device (heap_faults.TooDense count) all few works answer cause = absurd (omega (arith, few, answer.0, answer.1))
-memory-heap bytes index pid device heap_faults.Read all few works answer cause = absurd (works cause)
-memory-heap bytes index pid device heap_faults.Memory all few works answer cause = refl
+memory-heap bytes index pid before after (heap_faults.TooDense count) all few works answer cause = absurd (omega (arith, few, answer.0, answer.1))
+memory-heap bytes index pid before after heap_faults.Read all few works answer cause = absurd (works cause)
+memory-heap bytes index pid before after heap_faults.Memory all few works answer cause = refl

@@ -5,8 +5,8 @@ use Rattle.std.specs.List.{between}
 use Rattle.std.proofs.lemmas.Bool.{cond-true}
 use Rattle.std.specs.Str.{bytes_eq}
 use Rattle.std.proofs.lemmas.Slice.Eq.{bytes_eq-Decides}
-use Rattle.dump_io.specs.Dumps.{Now, told, Use, used, DeviceFailed}
-use Rattle.dump_io.specs.HeldDump.{files_of, file_of, now_of, taken_of}
+use Rattle.dump_io.specs.Dumps.{Now, told, DeviceState, DeviceFailed}
+use Rattle.dump_io.specs.HeldDump.{files_of, now_of, state_of}
 use Rattle.dump_io.specs.declared.held_dump.HeldDump.{HeldDump}
 use Rattle.dump_io.specs.File.{name_of, bytes_of}
 use Rattle.dump_io.specs.declared.file.DumpFile.{DumpFile}
@@ -34,55 +34,51 @@ small-opened : (now : Now) (index : Contents) (limits : Numbers) → IsOpened no
 small-opened now index limits held of =
     subst (λ i. All IsSmall (sections_in i)) (sym (index-is (bytes_in now) index of)) held.good.bodies
 
--- what a call does to the device
-abbrev around : HeldDump → HeldDump → Use
-around old new = used (λ d. Some (files_of (file_of d))) now_of (λ _. 0) taken_of old new
-
--- its count of faults is always 0
-never-fails : (old new : HeldDump) → DeviceFailed (around old new) → ⊥
+-- the device's count of faults is always 0
+never-fails : (old new : HeldDump) → DeviceFailed (state_of old) (state_of new) → ⊥
 never-fails old new failed = omega (arith, failed)
 
 -- only memory may lack for the processes
 pub records-opened : (old new : HeldDump) (index : Contents) (limits : Numbers) (fault : BodyFault) → IsOpened (now_of old) limits
-    → IsIndexOf (bytes_in (now_of old)) index → AreRefused (record_sections (sections_in index)) limits.section (around old new) fault → fault ≡ body_faults.Memory
+    → IsIndexOf (bytes_in (now_of old)) index → AreRefused (record_sections (sections_in index)) limits.section (state_of old) (state_of new) fault → fault ≡ body_faults.Memory
 records-opened old new index limits fault held of cause =
-    memory-records (sections_in index) (around old new) fault (small-opened (now_of old) index limits held of) (never-fails old new)
-    (subst (λ (l : Numbers). AreRefused (record_sections (sections_in index)) l.section (around old new) fault) held.bounds cause)
+    memory-records (sections_in index) (state_of old) (state_of new) fault (small-opened (now_of old) index limits held of) (never-fails old new)
+    (subst (λ (l : Numbers). AreRefused (record_sections (sections_in index)) l.section (state_of old) (state_of new) fault) held.bounds cause)
 
 -- for a body
 pub body-opened : (old new : HeldDump) (index : Contents) (limits : Numbers) (i : ℕ) (fault : BodyFault) → IsOpened (now_of old) limits
-    → IsIndexOf (bytes_in (now_of old)) index → IsCauseOf (section_at index i) limits.section (around old new) fault → fault ≡ body_faults.Memory
+    → IsIndexOf (bytes_in (now_of old)) index → IsCauseOf (section_at index i) limits.section (state_of old) (state_of new) fault → fault ≡ body_faults.Memory
 body-opened old new index limits i fault held of cause =
-    memory-body index i (around old new) fault (small-opened (now_of old) index limits held of) (never-fails old new)
-    (subst (λ (l : Numbers). IsCauseOf (section_at index i) l.section (around old new) fault) held.bounds cause)
+    memory-body index i (state_of old) (state_of new) fault (small-opened (now_of old) index limits held of) (never-fails old new)
+    (subst (λ (l : Numbers). IsCauseOf (section_at index i) l.section (state_of old) (state_of new) fault) held.bounds cause)
 
 -- what a fault tells of the bodies at two places, and why it comes
 abbrev IsAnswerAt : Contents → Numbers → Option ℕ → Option ℕ → HeapFault → List ℕ → Type 0
 IsAnswerAt index limits heap literals fault dump =
     heaps.IsAnswerFor (enc_of index.version) (body_in dump (section_in index heap)) (body_in dump (section_in index literals)) limits.dense (Err fault)
 
-abbrev IsCauseAt : Contents → Numbers → Option ℕ → Option ℕ → Use → HeapFault → Type 0
-IsCauseAt index limits heap literals device fault =
-    heaps.IsCauseOf (bodies_fault limits.section (section_in index heap) (section_in index literals)) limits.dense device fault
+abbrev IsCauseAt : Contents → Numbers → Option ℕ → Option ℕ → DeviceState → DeviceState → HeapFault → Type 0
+IsCauseAt index limits heap literals before after fault =
+    heaps.IsCauseOf (bodies_fault limits.section (section_in index heap) (section_in index literals)) limits.dense before after fault
 
 -- for a heap, by the places of its sections
 pub heap-opened : (old new : HeldDump) (at index : Contents) (limits : Numbers) (pid : List ℕ) (heap literals : Option ℕ) (fault : HeapFault)
     → IsOpened (now_of old) limits → IsIndexOf (bytes_in (now_of old)) index → at ≡ index
     → section_in index heap ≡ heap_section index pid → section_in index literals ≡ literals_section index
-    → ((dump : List ℕ) → now_of old ≡ told dump → IsAnswerAt at limits heap literals fault dump) → IsCauseAt at limits heap literals (around old new) fault
+    → ((dump : List ℕ) → now_of old ≡ told dump → IsAnswerAt at limits heap literals fault dump) → IsCauseAt at limits heap literals (state_of old) (state_of new) fault
     → fault ≡ heap_faults.Memory
 heap-opened old new at index limits pid heap literals fault held of same own shared answer cause =
     let bytes = bytes_in (now_of old) in
     let told_answer : IsAnswerAt index limits heap literals fault bytes = subst (λ i. IsAnswerAt i limits heap literals fault bytes) same (answer bytes held.opened) in
-    let told_cause : IsCauseAt index limits heap literals (around old new) fault = subst (λ i. IsCauseAt i limits heap literals (around old new) fault) same cause in
-    memory-heap bytes index pid (around old new) fault (small-opened (now_of old) index limits held of) (held.good.heaps index pid) (never-fails old new)
+    let told_cause : IsCauseAt index limits heap literals (state_of old) (state_of new) fault = subst (λ i. IsCauseAt i limits heap literals (state_of old) (state_of new) fault) same cause in
+    memory-heap bytes index pid (state_of old) (state_of new) fault (small-opened (now_of old) index limits held of) (held.good.heaps index pid) (never-fails old new)
     (subst (λ (l : Numbers). heaps.IsAnswerFor (enc_of index.version) (body_in bytes (heap_section index pid)) (body_in bytes (literals_section index)) l.dense (Err fault))
     held.bounds
     (subst (λ h. heaps.IsAnswerFor (enc_of index.version) (body_in bytes h) (body_in bytes (literals_section index)) limits.dense (Err fault)) own
     (subst (λ l. heaps.IsAnswerFor (enc_of index.version) (body_in bytes (section_in index heap)) (body_in bytes l) limits.dense (Err fault)) shared told_answer)))
-    (subst (λ (l : Numbers). heaps.IsCauseOf (section_fault l.section index pid) l.dense (around old new) fault) held.bounds
-    (subst (λ h. heaps.IsCauseOf (bodies_fault limits.section h (literals_section index)) limits.dense (around old new) fault) own
-    (subst (λ l. heaps.IsCauseOf (bodies_fault limits.section (section_in index heap) l) limits.dense (around old new) fault) shared told_cause)))
+    (subst (λ (l : Numbers). heaps.IsCauseOf (section_fault l.section index pid) l.dense (state_of old) (state_of new) fault) held.bounds
+    (subst (λ h. heaps.IsCauseOf (bodies_fault limits.section h (literals_section index)) limits.dense (state_of old) (state_of new) fault) own
+    (subst (λ l. heaps.IsCauseOf (bodies_fault limits.section (section_in index heap) l) limits.dense (state_of old) (state_of new) fault) shared told_cause)))
 
 -- the body of roots, by its section
 pub root-at : (bytes : List ℕ) (index : Contents) (kind : RootKind) (pid : List ℕ) (section : Option Section) → IsIndexOf bytes index

@@ -1,4 +1,4 @@
--- How many roots are bad, and what a trial says of a dump.
+-- How many roots are bad, and what a trial reports on a dump.
 use Rattle.std.specs.Prelude.{ℕ, List, [], ◌∷◌, decimal, codes}
 use Rattle.std.specs.List.{concat, sum_by}
 use Rattle.heap_cells.specs.Cells.{Cell}
@@ -9,12 +9,12 @@ use Rattle.term_unfold.specs.Trees.{verdict}
 use Rattle.term_unfold.specs.Unfolding.{unfolding_of}
 use Rattle.dump_trial.specs.declared.summary.Summary.{Summary}
 
--- a bad verdict counts one
+-- a bad verdict counts as one
 abbrev pub one_if_bad : Verdict → ℕ
 one_if_bad Clean = 0
 one_if_bad (Bad address why) = 1
 
--- a root counts one where it is a term that has a bad address within so many nodes
+-- a root counts as one if it is a term that has a bad address within this many nodes
 abbrev pub bad_content : List Cell → ℕ → Content → ℕ
 bad_content cells budget (Term e) = one_if_bad (verdict (unfolding_of cells e) budget)
 bad_content cells budget content = 0

@@ -1,4 +1,4 @@
--- What a trial says of a made dump: how much there is in it, and what is bad or one-sided.
+-- What a trial reports on a made dump: how much there is in it, and what is bad or one-sided.
 use Rattle.std.specs.Prelude.{ℕ, ◌++◌, List, length, Option, None, Some, position}
 use Rattle.std.specs.List.{sum_by}
 use Rattle.section_index.specs.Index.{Contents, index_of, sections_in}
@@ -21,23 +21,23 @@ use Rattle.dump_trial.specs.Tallies.{bad_roots}
 abbrev pub judged_nodes : ℕ
 judged_nodes = 1000
 
--- a message queue is told where its length is above 8
+-- a message queue is reported if its length is above 8
 abbrev pub queue_limit : ℕ
 queue_limit = 8
 
 -- ---- the roots of a process
 
--- the cells of the heap of a pid, with the literals behind them
+-- the cells of the heap of a pid, followed by the literals
 abbrev pub cells_in : List ℕ → List ℕ → List Cell
 cells_in bytes pid =
     let index = index_of bytes in
     cells_of (enc_of index.version) (body_in bytes (heap_section index pid)) (body_in bytes (literals_section index))
 
--- the first section of a kind of roots whose id is this pid
+-- the first section with roots of this kind whose id is this pid
 abbrev pub root_section : Contents → RootKind → List ℕ → Option Section
 root_section index kind pid = section_in index (position (λ section. is_named (roots_tag kind) (Some pid) section.text) (sections_in index))
 
--- its body; a section that isn't there is empty
+-- its body; a missing section counts as empty
 abbrev pub root_body : List ℕ → RootKind → List ℕ → List ℕ
 root_body bytes kind pid = body_in bytes (root_section (index_of bytes) kind pid)
 
@@ -51,11 +51,11 @@ process_roots bytes pid =
 abbrev pub tally_in : List Cell → List BodyRoot → Tally
 tally_in cells roots = record { roots = length roots; bad = bad_roots cells judged_nodes roots }
 
--- the same of the roots of a pid
+-- the same for the roots of a pid
 abbrev pub process_tally : List ℕ → List ℕ → Tally
 process_tally bytes pid = tally_in (cells_in bytes pid) (process_roots bytes pid)
 
--- the sums over some processes
+-- the sums over these processes
 abbrev pub tally_of : List ℕ → List Process → Tally
 tally_of bytes processes = record {
   roots = sum_by (λ process. (process_tally bytes process.pid).roots) processes;
@@ -64,7 +64,7 @@ tally_of bytes processes = record {
 
 -- ---- the whole
 
--- what a trial says of the bytes of a dump
+-- what a trial reports on the bytes of a dump
 abbrev pub summary_of : List ℕ → Summary
 summary_of bytes =
     let processes = (process_table bytes).processes in
@@ -75,6 +75,6 @@ summary_of bytes =
       findings = length (findings (audit_of (index_of bytes) processes queue_limit None));
     }
 
--- what it says of the dump that is made of a seed and a count of processes
+-- what it reports on the dump that is made from a seed and a count of processes
 abbrev pub trial_of : ℕ → ℕ → Summary
 trial_of seed count = summary_of (made seed count)

@@ -1,4 +1,4 @@
-// The roots of processes are counted, and those that are bad.
+// Counting the roots of processes, and those that are bad.
 ghost use Rattle.std.specs.Prelude.{◌≡◌, ◌+◌, ◌<◌, ◌^◌, IfOk};
 ghost use Rattle.section_index.specs.Index.{IsIndexOf};
 ghost use Rattle.root_views.specs.Kinds.{roots_in};
@@ -13,7 +13,7 @@ use root_views::RootKind;
 use std::alloc::{AllocError, Global};
 use term_unfold::Walker;
 
-// A root is judged by so many of its nodes.
+// How many of its nodes a root is judged by.
 const JUDGED_NODES: u32 = 1_000;
 
 fn plus(a: Tally, b: Tally) -> Tally

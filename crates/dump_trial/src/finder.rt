@@ -94,7 +94,7 @@ impl<'a> Finder<'a> {
         self.literals
     }
 
-    /// The place of the roots of a kind and a pid.
+    /// The place of the section with the roots of a kind and a pid.
     pub(crate) fn roots(&self, kind: RootKind, pid: &[u8]) -> Option<usize>
         ensures section { section_in self.now result ≡ root_section self.now kind pid.now }
         ensures within { IfSome result (λ i. i < length self.now.headers) }

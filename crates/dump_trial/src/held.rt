@@ -41,7 +41,7 @@ impl Model for Held {
 }
 
 impl Held {
-    /// Holds the bytes of a good dump, opens it and gives its index.
+    /// Holds the bytes of a good dump, opens it and returns it with its index.
     pub(crate) fn open(alloc: Global, bytes: Vec<u8>) -> Result<(Held, Index), AllocError>
         requires { IsGood bytes.items }
         ensures held { IfOk result (λ opened. opened.0 ≡ bytes.items) }
@@ -69,7 +69,8 @@ impl Held {
         }
     }
 
-    /// The body of the first section that holds the roots of this kind and pid. One that isn't there is empty.
+    /// The body of the first section that holds the roots of
+    /// this kind and pid. A missing section counts as empty.
     pub(crate) fn root_body(
         &mut self,
         alloc: Global,

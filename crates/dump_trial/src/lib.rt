@@ -1,7 +1,8 @@
 //! A trial of the whole reader: a made dump is held in memory, and the reports on it are counted.
 //!
-//! [`trial`] makes a dump of a seed and a count of processes, opens it under the usual limits, reads its processes with
-//! their heaps, stacks, dictionaries and mailboxes, judges each root and audits the links and the message queues.
+//! [`trial`] makes a dump from a seed and a count of processes, opens it under
+//! the usual limits, reads its processes with their heaps, stacks, dictionaries
+//! and mailboxes, judges each root and audits the links and the message queues.
 #![tactic(auto)]
 
 mod counting;

@@ -1,4 +1,4 @@
-// Nothing but want of memory stops the reading of a good dump that is held in memory.
+// Only a lack of memory stops the reading of a good dump that is held in memory.
 ghost use Rattle.std.specs.Prelude.{◌≡◌};
 
 use binary_refs::PreviewFault;

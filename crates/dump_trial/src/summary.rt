@@ -1,11 +1,11 @@
-// What a trial says of a dump, and its text.
-ghost use Rattle.dump_io.specs.Sinks.{changed, Puts};
+// What a trial reports on a dump, and its text.
+ghost use Rattle.dump_io.specs.Sinks.{Puts};
 ghost use Rattle.dump_trial.specs.Tallies.{trial_report};
 
 use crate::tally::Tally;
 use dump_io::{Failed, Piece, Sink, put_pieces};
 
-/// What a trial says of a dump.
+/// What a trial reports on a dump.
 #[derive(Clone, Copy, Debug, PartialEq, Eq)]
 pub struct Summary {
     /// The number of sections.
@@ -20,7 +20,7 @@ pub struct Summary {
 
 /// Writes `sections N`, `processes N`, `roots N`, `bad N` and `findings N`, a line each.
 pub fn put_trial<K: Sink>(sink: &mut K, summary: &Summary) -> Result<(), Failed>
-    ensures { Puts (changed K.written K.faults sink.old sink.new) (trial_report summary.now) result }
+    ensures { Puts (K.state sink.old) (K.state sink.new) (trial_report summary.now) result }
 {
     put_pieces(
         sink,

@@ -37,7 +37,8 @@ fn bad_content(walker: &mut Walker<'_>, what: &What<'_>, budget: u32) -> u64
     }
 }
 
-/// Counts the roots of a body, and those that are bad within as many nodes as the budget says. It takes no memory.
+/// Counts the roots of a body, and those that are bad within
+/// as many nodes as the budget allows. Takes no memory.
 pub(crate) fn count_roots(
     walker: &mut Walker<'_>,
     kind: RootKind,

@@ -1,4 +1,4 @@
-// A made dump is held in memory and read.
+// Holding a made dump in memory and reading it.
 ghost use Rattle.std.specs.Prelude.{◌≡◌, ◌≤◌, length, All, None, IfOk};
 ghost use Rattle.section_index.specs.Index.{IsIndexOf};
 ghost use Rattle.process_table.specs.Processes.{IsIn};
@@ -16,7 +16,7 @@ use process_table::Procs;
 use section_index::Index;
 use std::alloc::{AllocError, Global};
 
-// A message queue is told where its length is above this one.
+// A message queue is reported if its length is above this.
 const QUEUE_LIMIT: u64 = 8;
 
 // How much an audit finds.
@@ -45,9 +45,10 @@ fn summarize(alloc: Global, held: &mut Held, index: &Index) -> Result<Summary, A
     })
 }
 
-/// Makes the dump of a seed and a count of processes, from 1 to 200,000, holds it in memory and reads it under the usual
-/// limits: how many sections, processes and roots it has, how many roots have a bad address within 1,000 nodes, and how
-/// much an audit finds that names message queues of more than 8. An error comes only where memory lacks.
+/// Makes the dump of a seed and a count of processes, from 1 to 200,000, holds it in memory
+/// and reads it under the usual limits: how many sections, processes and roots it has, how
+/// many roots have a bad address within 1,000 nodes, and how much is found by an audit that
+/// reports message queues of more than 8 messages. Returns an error only if memory is lacking.
 pub fn trial(alloc: Global, seed: u64, count: u32) -> Result<Summary, AllocError>
     requires some { 1 ≤ count }
     requires few { count ≤ 200000 }

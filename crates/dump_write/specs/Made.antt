@@ -1,5 +1,5 @@
--- The dump that is made of a seed and a count of processes, line by line. Process i has the pid `<0.i.0>`, and the
--- processes are counted from 1. Numbers are decimal, and addresses are in upper-case hex.
+-- The dump that is made from a seed and a count of processes, line by line. Process i has the pid `<0.i.0>`,
+-- and the processes are counted from 1. Numbers are decimal, and addresses are in upper-case hex.
 use Rattle.std.specs.Prelude.{ℕ, ◌+◌, ◌-◌, ◌*◌, ◌%◌, ◌==◌, List, [], ◌∷◌, ◌++◌, decimal, codes, replicate, if◌then◌else◌}
 use Rattle.std.specs.List.{concat, flat_map, range_with_len}
 use Rattle.dump_io.specs.Numbers.{hexadecimal}
@@ -9,11 +9,11 @@ use Rattle.dump_write.specs.Written.{lines_of}
 abbrev pub queue_of : ℕ → ℕ → ℕ
 queue_of seed i = (seed % 10 + 7 * i) % 10
 
--- the process behind process i, where the first is behind the last
+-- the process after process i, with the first after the last
 abbrev pub next_of : ℕ → ℕ → ℕ
 next_of count i = i % count + 1
 
--- the process before process i, where the last is before the first
+-- the process before process i, with the last before the first
 abbrev pub previous_of : ℕ → ℕ → ℕ
 previous_of count i = (i + count - 2) % count + 1
 
@@ -21,7 +21,7 @@ previous_of count i = (i + count - 2) % count + 1
 abbrev pub heap_of : ℕ → ℕ
 heap_of i = 4096 * i
 
--- a process is linked to its neighbours, and one with an empty mailbox to the next alone
+-- a process is linked to both neighbours, or to the next alone if its mailbox is empty
 abbrev pub link_list : ℕ → ℕ → ℕ → List ℕ
 link_list queue next previous =
     if queue == 0 then concat (codes "Link list: [<0." ∷ decimal next ∷ codes ".0>]" ∷ [])
@@ -38,25 +38,27 @@ proc_section i queue next previous =
     ∷ codes "Memory: 2000"
     ∷ []
 
--- the stack's root is the heap's first cell
+-- the root of the stack is the first cell of the heap
 abbrev pub stack_section : ℕ → List (List ℕ)
 stack_section i = concat (codes "=proc_stack:<0." ∷ decimal i ∷ codes ".0>" ∷ []) ∷ concat (codes "y0:H" ∷ hexadecimal (heap_of i) ∷ []) ∷ []
 
--- the dictionary's root is the heap's third cell
+-- the root of the dictionary is the third cell of the heap
 abbrev pub dictionary_section : ℕ → List (List ℕ)
 dictionary_section i = concat (codes "=proc_dictionary:<0." ∷ decimal i ∷ codes ".0>" ∷ []) ∷ concat (codes "H" ∷ hexadecimal (heap_of i + 32) ∷ []) ∷ []
 
--- each message is a one without a token
+-- each message is the integer 1, without a token
 abbrev pub messages_section : ℕ → ℕ → List (List ℕ)
 messages_section i queue = concat (codes "=proc_messages:<0." ∷ decimal i ∷ codes ".0>" ∷ []) ∷ replicate queue (codes "I1:N")
 
--- the second cell of a heap: its tail is the first cell where the mailbox has 5 messages, and else the empty list
+-- the second cell of a heap: its tail is the first cell if
+-- the mailbox has 5 messages, and otherwise the empty list
 abbrev pub second_cell : ℕ → ℕ → List ℕ
 second_cell queue heap =
     if queue == 5 then concat (hexadecimal (heap + 16) ∷ codes ":lH" ∷ hexadecimal (heap + 32) ∷ codes "|H" ∷ hexadecimal heap ∷ [])
     else concat (hexadecimal (heap + 16) ∷ codes ":lH" ∷ hexadecimal (heap + 32) ∷ codes "|N" ∷ [])
 
--- a list of two, whose second element is a tuple of a map with a key among the literals and a part of the binary
+-- a list of two, whose second element is a tuple of a map with a
+-- key among the literals and a reference to a range of the binary
 abbrev pub cells : ℕ → ℕ → ℕ → List (List ℕ)
 cells i queue heap =
     concat (hexadecimal heap ∷ codes ":lI" ∷ decimal queue ∷ codes "|H" ∷ hexadecimal (heap + 16) ∷ [])
@@ -70,7 +72,7 @@ cells i queue heap =
 abbrev pub heap_section : ℕ → ℕ → List (List ℕ)
 heap_section i queue = concat (codes "=proc_heap:<0." ∷ decimal i ∷ codes ".0>" ∷ []) ∷ cells i queue (heap_of i)
 
--- the sections of process i, whose mailbox has so many messages
+-- the sections of process i, whose mailbox has this many messages
 abbrev pub sections_with : ℕ → ℕ → ℕ → List (List ℕ)
 sections_with count i queue =
     proc_section i queue (next_of count i) (previous_of count i)
@@ -89,7 +91,7 @@ first_sections seed count =
     ∷ concat (codes "total: " ∷ decimal (1000 * count) ∷ [])
     ∷ []
 
--- what stands behind the processes: a literal, a binary and the end
+-- what stands after the processes: a literal, a binary and the end
 abbrev pub last_sections : List (List ℕ)
 last_sections =
     codes "=literals"

@@ -1,4 +1,4 @@
--- The lines that are written, and as what they are read.
+-- The lines that are written, and how they are read.
 use Rattle.std.specs.Prelude.{◌≡◌, ◌⊎◌, ℕ, ◌==◌, Bool, true, not, ◌&&◌, List, [], ◌∷◌, ◌++◌, Option, None, Some, nat_eq}
 use Rattle.std.specs.List.{list_all, ends_with, flat_map}
 use Rattle.dump_io.specs.Colons.{colon}
@@ -7,11 +7,11 @@ use Rattle.dump_io.specs.Numbers.{hexadecimal}
 use Rattle.section_index.specs.Sections.{tag_of, id_of}
 use Rattle.term_forms.specs.Forms.{HeapForm, plain_form}
 
--- whether the byte is none of the text's
+-- whether the byte doesn't occur in the text
 abbrev pub lacks : ℕ → List ℕ → Bool
 lacks c text = list_all (λ b. not (b == c)) text
 
--- whether the text can stand on a line: it has no LF, and no CR at its end, which would belong to the line's end
+-- whether the text fits on a line: it has no LF, and no CR at its end, which would belong to the line's end
 abbrev pub is_line_text : List ℕ → Bool
 is_line_text text = lacks lf text && not (ends_with nat_eq text (cr ∷ []))
 
@@ -19,11 +19,11 @@ is_line_text text = lacks lf text && not (ends_with nat_eq text (cr ∷ []))
 abbrev pub line : List ℕ → List ℕ
 line text = text ++ lf ∷ []
 
--- the lines of texts, one behind the other
+-- the lines of texts, one after another
 abbrev pub lines_of : List (List ℕ) → List ℕ
 lines_of texts = flat_map line texts
 
--- the text of a header: an equals sign, the tag, and behind a colon the id, where there is one
+-- the text of a header: an equals sign, the tag, and, if there is an id, a colon and the id
 abbrev pub header_text : List ℕ → Option (List ℕ) → List ℕ
 header_text tag None = equals_sign ∷ tag
 header_text tag (Some id) = equals_sign ∷ (tag ++ colon ∷ id)
@@ -36,7 +36,7 @@ heap_text address form = hexadecimal address ++ colon ∷ plain_form form
 abbrev pub AreWholeLines : List ℕ → Type 0
 AreWholeLines bytes = (bytes ≡ []) ⊎ IsEnded bytes
 
--- the bytes are one raw line, which reads as the text, and one line more behind whole lines
+-- the bytes are one raw line, which is read as the text, and add one line to whole lines before them
 pub record IsOneLine (text bytes : List ℕ) : Type 0 where
   pub alone : raw_lines bytes ≡ bytes ∷ []
   pub reads : text_of bytes ≡ text

@@ -1,4 +1,4 @@
-// Texts and lines are appended to a vector.
+// Appending texts and lines to a vector.
 ghost use Rattle.std.specs.Prelude.{◌≡◌, ◌++◌, Some, OnOk};
 ghost use Rattle.std.specs.List.{flat_map};
 ghost use Rattle.dump_io.specs.Pieces.{piece_text, pieces_text};
@@ -10,7 +10,7 @@ use dump_io::{HexText, Piece};
 use itoa::Buffer;
 use std::alloc::AllocError;
 
-// An empty text is appended without a call, since a call that fails has to leave some of the text out.
+// An empty text is appended without a call, since a call that fails has to leave out some of the text.
 pub(crate) fn append(into: &mut Vec<u8>, text: &[u8]) -> Result<(), AllocError>
     ensures { WritesAll (Some into.old.items) (Some into.new.items) text.now result }
 {

@@ -12,8 +12,8 @@ ghost use Rattle.dump_write.specs.Made.{made};
 
 use term_forms::{Enc, form_is_read, number_is_read};
 
-/// A law, and no work: a made dump is accepted under the usual limits, it is whole, it has five sections
-/// for each process and five more, and none of its bodies and none of its heaps passes a usual limit.
+/// States a law and does no work: a made dump is accepted under the usual limits, it is whole, it has five
+/// sections for each process and five more, and none of its bodies and none of its heaps exceeds a usual limit.
 pub fn made_dump_is_accepted(seed: u64, count: u32)
     requires some { 1 ≤ count }
     requires few { count ≤ 200000 }

@@ -1,7 +1,7 @@
 //! A writer of crash dumps, line by line, and a generator of whole dumps.
 //!
-//! [`put_header`], [`put_line`] and [`put_heap`] append a line to a vector. [`make`] makes the dump of a node
-//! with so many processes, on which a reader of dumps can be tried.
+//! [`put_header`], [`put_line`] and [`put_heap`] append a line to a vector. [`make`] makes the
+//! dump of a node with a given number of processes, with which a reader of dumps can be tried.
 #![tactic(auto)]
 
 mod appending;

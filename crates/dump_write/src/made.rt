@@ -1,5 +1,6 @@
-// The dump that is made of a seed and a count of processes. Each function appends the lines of a section, or of
-// several. Only want of memory stops one, and then the whole dump is dropped: so no clause says what stands there.
+// The dump that is made from a seed and a count of processes. Each function
+// appends the lines of one or several sections. Only a lack of memory stops one,
+// and then the whole dump is dropped, so no clause says what was appended by then.
 ghost use Rattle.std.specs.Prelude.{◌≡◌, ◌++◌, ◌∷◌, [], ◌≤◌, IfOk, OnOk};
 ghost use Rattle.std.specs.List.{flat_map, range_with_len};
 ghost use Rattle.dump_write.specs.Made.{heap_of, link_list, second_cell, proc_section, stack_section, dictionary_section, messages_section, heap_section, process_sections, first_sections, last_sections, made};
@@ -222,12 +223,13 @@ fn put_last_sections(into: &mut Vec<u8>) -> Result<(), AllocError>
     )
 }
 
-/// Makes the dump of a node with `count` processes, from 1 to 200,000, all of them waiting and linked in a ring.
+/// Makes the dump of a node with `count` processes, from 1
+/// to 200,000, all of them waiting and linked in a ring.
 ///
-/// Process `i`, counted from 1, has the pid `<0.i.0>`, a stack and a dictionary with one root each, and 0 to 9
-/// messages, by `i` and the last digit of `seed`. A process with an empty mailbox isn't linked to the one before
-/// it, and the heap of one with five messages is cyclic: an audit and a walk have something to find. An error
-/// comes only where memory lacks.
+/// Process `i`, counted from 1, has the pid `<0.i.0>`, a stack and a dictionary with one root each,
+/// and 0 to 9 messages, depending on `i` and the last digit of `seed`. A process with an empty
+/// mailbox isn't linked to the one before it, and the heap of one with five messages is cyclic, so
+/// that an audit and a walk have something to find. Returns an error only if memory is lacking.
 pub fn make(alloc: Global, seed: u64, count: u32) -> Result<Vec<u8>, AllocError>
     requires some { 1 ≤ count }
     requires few { count ≤ 200000 }

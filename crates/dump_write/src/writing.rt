@@ -28,9 +28,10 @@ fn append_header<'a>(
     }
 }
 
-/// Appends a header: `=`, the tag, and behind a `:` the id, if there is one. The tag has no colon, so that the header
-/// is read back with this tag and this id; neither has an LF, and the line doesn't end in CR, which would belong to
-/// its end. An error comes only where memory lacks, and leaves a front of the line behind what was there.
+/// Appends a header: `=`, the tag, and, if there is an id, a `:` and the id. The tag
+/// has no colon, so that the header is read back with this tag and this id; neither
+/// has an LF, and the line doesn't end in CR, which would belong to its end. Returns
+/// an error only if memory is lacking; a proper prefix of the line was appended then.
 pub fn put_header(into: &mut Vec<u8>, tag: &[u8], id: Option<&[u8]>) -> Result<(), AllocError>
     requires no_colon { IsTrue (lacks colon tag.now) }
     requires text { IsTrue (is_line_text (header_text tag.now (option_copied id))) }
@@ -41,8 +42,8 @@ pub fn put_header(into: &mut Vec<u8>, tag: &[u8], id: Option<&[u8]>) -> Result<(
     append_header(into, tag, id)
 }
 
-/// Appends a line that is no header: its text doesn't begin with `=`, has no LF, and doesn't end in CR. An error comes
-/// only where memory lacks, and leaves a front of the line behind what was there.
+/// Appends a line that is no header: its text doesn't begin with `=`, has no LF, and doesn't end in
+/// CR. Returns an error only if memory is lacking; a proper prefix of the line was appended then.
 pub fn put_line(into: &mut Vec<u8>, text: &[u8]) -> Result<(), AllocError>
     requires line { IsTrue (is_line_text text.now) }
     requires no_header { begins_with_equals text.now ≡ false }
@@ -61,9 +62,9 @@ fn append_cell(into: &mut Vec<u8>, addr: u64, f: &Form<'_>) -> Result<(), AllocE
     append(into, b"\n")
 }
 
-/// Appends the line of a heap's cell: its address in upper-case hex, `:`, and the form in its plain spelling, which has
-/// no LF and doesn't end in CR. An error comes only where memory lacks, and leaves a front of the line behind what was
-/// there.
+/// Appends the line of a heap cell: its address in upper-case hex, `:`, and the
+/// form in its plain spelling, which has no LF and doesn't end in CR. Returns an
+/// error only if memory is lacking; a proper prefix of the line was appended then.
 pub fn put_heap(into: &mut Vec<u8>, addr: u64, f: &Form<'_>) -> Result<(), AllocError>
     requires { IsTrue (is_line_text (plain_form (heap_form f.now))) }
     ensures appends { WritesAll (Some into.old.items) (Some into.new.items) (line (heap_text addr (heap_form f.now))) result }

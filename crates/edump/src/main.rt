@@ -10,7 +10,7 @@ use std::env;
 use std::io::{ErrorKind, Stderr, Stdout};
 use std::process::ExitCode;
 
-// The words behind the program's name. A word that isn't UTF-8 makes no command, as no words do.
+// The words after the program's name. A word that isn't UTF-8 makes no command, as no words do.
 fn words(rt: &HostRuntime) -> Result<Vec<String>, AllocError> {
     let mut words = Vec::new(rt.alloc());
     match env::args(rt) {

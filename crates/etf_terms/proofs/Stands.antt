@@ -1,8 +1,8 @@
 -- Each step of the writing, as one equation on what is still to come.
-use Rattle.std.proofs.Common.{◌≡◌, ℕ, suc, ◌+◌, ◌<◌, ◌≤◌, ◌==◌, ◌⊎◌, ⊎_elim, Bool, true, false, cond, max, List, [], ◌∷◌, ◌++◌, length, Option, Ok, Err, refl, sym, ap, ◌∙◌, subst, arith, append_assoc, append-nil, Bor}
+use Rattle.std.proofs.Common.{◌≡◌, ℕ, suc, ◌+◌, ◌<◌, ◌≤◌, ◌==◌, ◌⊎◌, ⊎_elim, Bool, true, false, cond, max, List, [], ◌∷◌, ◌++◌, length, Ok, Err, refl, sym, ap, ◌∙◌, subst, arith, append_assoc, append-nil, Bor}
 use Rattle.std.proofs.lemmas.Bool.Decides.{eqb_tells}
-use Rattle.dump_io.specs.Sinks.{change, grown, Puts, GainsFront}
-use Rattle.dump_io.specs.Laws.Puts.{Puts-stopped, Puts-then, grown-grown, grown-nil}
+use Rattle.dump_io.specs.Sinks.{SinkState, Puts, GainedFront}
+use Rattle.dump_io.specs.Laws.Puts.{HasPut-none, HasPut-both, HasPut-done, Puts-behind, Puts-stopped}
 use Rattle.etf_terms.specs.declared.stack.Kind.{Kind}
 use Rattle.etf_terms.specs.declared.stack.Kind.TheVariants as kinds
 use Rattle.etf_terms.specs.declared.stack.Entry.{Entry}
@@ -155,39 +155,38 @@ stands-popped room same_room entries entries_left rest {e} {to_come} top same s 
 
 -- ---- what is written
 
-pub moves-ok : {T E : Type 0} (w u : Option (List ℕ)) (f h : ℕ) (bytes whole later : List ℕ) (room : ℕ) (es : List Entry) (rest : Bor (List ℕ)) (x : T)
-    → Puts {E = E} (change w u f h) bytes (Ok x) → whole ≡ bytes ++ later → Stands room es rest.now later → Moves {E = E} (change w u f h) whole room es (Ok rest)
-moves-ok w u f h bytes whole later room es rest x puts splits stands =
-    record { later = puts.later; writes = (later, record { part = bytes; wrote = puts.writes.whole; splits = splits }, stands); failed = tt }
+pub moves-ok : {T E : Type 0} {a b : SinkState} (bytes whole later : List ℕ) (room : ℕ) (es : List Entry) (rest : Bor (List ℕ)) (x : T)
+    → Puts {E = E} a b bytes (Ok x) → whole ≡ bytes ++ later → Stands room es rest.now later → Moves {E = E} a b whole room es (Ok rest)
+moves-ok bytes whole later room es rest x puts splits stands =
+    record { later = puts.later; writes = (later, record { part = bytes; put = HasPut-done puts; splits = splits }, stands); failed = tt }
 
-pub moves-err : {T E F : Type 0} (w u : Option (List ℕ)) (f h : ℕ) (bytes whole later : List ℕ) (room : ℕ) (es : List Entry) (e : E) (d : F)
-    → Puts {T = T} (change w u f h) bytes (Err e) → whole ≡ bytes ++ later → Moves (change w u f h) whole room es (Err d)
-moves-err {T} {E} {F} w u f h bytes whole later room es e d puts splits =
-    let broken : Puts {T = T} {E = E} (change w u f h) (bytes ++ later) (Err e) = Puts-stopped later refl puts in
-    record { later = puts.later; writes = subst (GainsFront w u) (sym splits) broken.writes.front; failed = puts.failed }
+pub moves-err : {T E F : Type 0} {a b : SinkState} (bytes whole later : List ℕ) (room : ℕ) (es : List Entry) (e : E) (d : F)
+    → Puts {T = T} a b bytes (Err e) → whole ≡ bytes ++ later → Moves a b whole room es (Err d)
+moves-err {T} {E} {F} {a} {b} bytes whole later room es e d puts splits =
+    let broken : Puts {T = T} {E = E} a b (bytes ++ later) (Err e) = Puts-stopped later refl puts in
+    record { later = puts.later; writes = subst (GainedFront a b) (sym splits) broken.writes.front; failed = puts.failed }
 
 -- a part behind a part
-pub IsPart-next : (w v u : Option (List ℕ)) (whole later last : List ℕ) → IsPart w v whole later → IsPart v u later last → IsPart w u whole last
-IsPart-next w v u whole later last first second =
+pub IsPart-next : {a b c : SinkState} (whole later last : List ℕ) → IsPart a b whole later → IsPart b c later last → IsPart a c whole last
+IsPart-next whole later last first second =
     record {
       part = first.part ++ second.part;
-      wrote = second.wrote ∙ ap (λ z. grown z second.part) first.wrote ∙ grown-grown w first.part second.part;
+      put = HasPut-both first.put second.put;
       splits = first.splits ∙ ap (λ l. first.part ++ l) second.splits ∙ sym (append_assoc first.part second.part last);
     }
 
-pub IsPart-none : (w : Option (List ℕ)) (whole : List ℕ) → IsPart w w whole whole
-IsPart-none w whole = record { part = []; wrote = sym (grown-nil w); splits = refl }
+pub IsPart-none : {a : SinkState} (whole : List ℕ) → IsPart a a whole whole
+IsPart-none whole = record { part = []; put = HasPut-none; splits = refl }
 
 -- a move behind those that went well
-pub moves-on : {E : Type 0} (w v u : Option (List ℕ)) (f g h : ℕ) (whole later : List ℕ) (room : ℕ) (es : List Entry) (rest : Bor (List ℕ)) → IsPart w v whole later
-    → Moves {E = E} (change v u g h) later room es (Ok rest) → (to_come : List ℕ) × IsPart w u whole to_come × Stands room es rest.now to_come
-moves-on w v u f g h whole later room es rest part move =
-    (move.writes.0, IsPart-next w v u whole later move.writes.0 part move.writes.1, move.writes.2)
+pub moves-on : {E : Type 0} {a b c : SinkState} (whole later : List ℕ) (room : ℕ) (es : List Entry) (rest : Bor (List ℕ)) → IsPart a b whole later
+    → Moves {E = E} b c later room es (Ok rest) → (to_come : List ℕ) × IsPart a c whole to_come × Stands room es rest.now to_come
+moves-on whole later room es rest part move =
+    (move.writes.0, IsPart-next whole later move.writes.0 part move.writes.1, move.writes.2)
 
 -- one that failed
-pub moves-broken : {T E F : Type 0} (w v u : Option (List ℕ)) (f g h : ℕ) (whole later : List ℕ) (room : ℕ) (es : List Entry) (e : E) (d : F) → f ≤ g → IsPart w v whole later
-    → Moves (change v u g h) later room es (Err e) → Puts {T = T} (change w u f h) whole (Err d)
-moves-broken {T} {E} {F} w v u f g h whole later room es e d le part move =
-    let done : Puts {T = Unit {0}} {E = F} (change w v f g) part.part (Ok tt) = record { later = le; writes = record { whole = part.wrote; front = tt }; failed = tt } in
-    let broken : Puts {T = T} {E = F} (change v u g h) later (Err d) = record { later = move.later; writes = record { whole = tt; front = move.writes }; failed = move.failed } in
-    subst (λ l. Puts {T = T} {E = F} (change w u f h) l (Err d)) (sym part.splits) (Puts-then done broken)
+pub moves-broken : {T E F : Type 0} {a b c : SinkState} (whole later : List ℕ) (room : ℕ) (es : List Entry) (e : E) (d : F) → IsPart a b whole later
+    → Moves b c later room es (Err e) → Puts {T = T} a c whole (Err d)
+moves-broken {T} {E} {F} {a} {b} {c} whole later room es e d part move =
+    let broken : Puts {T = T} {E = F} b c later (Err d) = record { later = move.later; writes = record { whole = tt; front = move.writes }; failed = move.failed } in
+    subst (λ l. Puts {T = T} {E = F} a c l (Err d)) (sym part.splits) (Puts-behind part.put broken)

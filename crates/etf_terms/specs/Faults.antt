@@ -5,7 +5,7 @@ use Rattle.etf_terms.specs.declared.ext.ExtFault.TheVariants as faults
 use Rattle.etf_terms.specs.Terms.{Term, IsExternal}
 use Rattle.etf_terms.specs.Place.{IsPlace}
 
--- they aren't 131 and one term, and cease to begin one at this place; memory lacks only where they are
+-- they aren't 131 and one term, and cease to begin one at this place; memory is lacking only if they are
 abbrev pub IsFault : ExtFault → List ℕ → Type 0
 IsFault (faults.Bad at) bytes = ((term : Term) → IsExternal bytes term → ⊥) × IsPlace bytes at
 IsFault faults.Memory bytes = (term : Term) × IsExternal bytes term

@@ -6,7 +6,7 @@ use Rattle.etf_terms.specs.Terms.{Term, IsTerm, IsExternal}
 use Rattle.etf_terms.specs.Text.{text}
 use Rattle.etf_terms.specs.Walks.{bad_place}
 
--- the same bytes spell one term at most
+-- the same bytes spell at most one term
 abbrev pub IsUnique : Type 0
 IsUnique = (bytes : List ℕ) (one other : Term) → IsTerm bytes one → IsTerm bytes other → one ≡ other
 
@@ -19,10 +19,10 @@ abbrev pub IsJudged : List ℕ → Option ℕ → Type 0
 IsJudged bytes None = (term : Term) × IsExternal bytes term
 IsJudged bytes (Some at) = ((term : Term) → IsExternal bytes term → ⊥) × IsPlace bytes at
 
--- what is computed of all bytes is so
+-- what is computed for all bytes is so
 abbrev pub JudgesAll : Type 0
 JudgesAll = (bytes : List ℕ) → IsJudged bytes (bad_place bytes)
 
--- the text that is computed of an external term's bytes is the term's
+-- the text that is computed from an external term's bytes is that of the term
 abbrev pub ReadsAll : Type 0
 ReadsAll = (bytes : List ℕ) (term : Term) → IsExternal bytes term → external_text bytes ≡ text term

@@ -1,16 +1,16 @@
--- Layouts: which bytes may stand at a place, by the bytes before it.
+-- Layouts: which bytes are allowed at a place, depending on the bytes before it.
 use Rattle.std.specs.Prelude.{◌≡◌, ℕ, zero, suc, Bool, true, List, [], ◌∷◌, IsTrue}
 use Rattle.std.specs.Int.{w16, w32, w64, from_be_bytes}
 use Rattle.etf_terms.specs.Heads.{Head}
 
--- which byte may stand first, and what may follow it
+-- which byte may come first, and what may follow it
 pub data Layout : Type 0 where
   -- nothing more, and what the bytes are
   end : Head → Layout
-  -- one byte that passes a test, and then what depends on it
+  -- one byte that passes a test, followed by what depends on it
   byte : (ℕ → Bool) → (ℕ → Layout) → Layout
 
--- the bytes are laid out so, and are the head
+-- the bytes are laid out so, and are those of the head
 abbrev pub IsLaid : Layout → List ℕ → Head → Type 0
 IsLaid (end found) [] head = found ≡ head
 IsLaid (end found) (b ∷ bytes) head = ⊥
@@ -21,7 +21,7 @@ IsLaid (byte test next) (b ∷ bytes) head = IsTrue (test b) × IsLaid (next b) 
 abbrev pub any_byte : (ℕ → Layout) → Layout
 any_byte next = byte (λ b. true) next
 
--- so many bytes
+-- this many bytes
 abbrev pub run : ℕ → (List ℕ → Layout) → Layout
 run zero next = next []
 run (suc n) next = any_byte (λ b. run n (λ bytes. next (b ∷ bytes)))

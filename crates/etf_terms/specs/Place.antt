@@ -3,16 +3,16 @@ use Rattle.std.specs.Prelude.{ℕ, ◌<◌, ◌≤◌, List, ◌++◌, length, t
 use Rattle.std.specs.List.{AllByRecursion}
 use Rattle.etf_terms.specs.Terms.{Term, IsExternal}
 
--- more bytes make these an external term
+-- some bytes appended to these make an external term
 pub record Begins (bytes : List ℕ) : Type 0 where
   pub behind : List ℕ
   pub are_bytes : AllByRecursion (λ b. b < 256) behind
   pub term : Term
   pub whole : IsExternal (bytes ++ behind) term
 
--- the first so many bytes are the longest prefix that begins an external term
+-- this many of the first bytes are the longest prefix that begins an external term
 pub record IsPlace (bytes : List ℕ) (at : ℕ) : Type 0 where
   pub within : at ≤ length bytes
   pub begins : Begins (take at bytes)
-  -- whatever stands behind
+  -- whatever follows
   pub longest : (n : ℕ) (behind : List ℕ) (term : Term) → n ≤ length bytes → IsExternal (take n bytes ++ behind) term → n ≤ at

@@ -1,17 +1,17 @@
--- The table of tags. Each row is what stands behind its tag, up to the terms that follow.
+-- The table of tags. Each row is what follows its tag, up to the terms.
 use Rattle.std.specs.Prelude.{ℕ, ◌*◌, ◌==◌, ◌||◌, ◌&&◌, nat_le, Bool, List, [], ◌∷◌, Option, None, Some, is_some, unwrap_or, if◌then◌else◌}
 use Rattle.etf_terms.specs.Heads.{Head, Float, Bits, Pid, Port, Ref, Small, Int, Atom, Tuple, Nil, Chars, Linked, Bin, Big, Fun, Export, Pairs}
 use Rattle.etf_terms.specs.Layouts.{Layout, end, byte, any_byte, run, number2, number4, number8}
 
--- a count in one byte, and so many bytes
+-- a count in one byte, and that many bytes
 abbrev pub sized1 : (List ℕ → Layout) → Layout
 sized1 next = any_byte (λ n. run n next)
 
--- a count in two bytes, and so many bytes
+-- a count in two bytes, and that many bytes
 abbrev pub sized2 : (List ℕ → Layout) → Layout
 sized2 next = number2 (λ n. run n next)
 
--- a count in four bytes, and so many bytes
+-- a count in four bytes, and that many bytes
 abbrev pub sized4 : (List ℕ → Layout) → Layout
 sized4 next = number4 (λ n. run n next)
 
@@ -29,11 +29,11 @@ small next = byte (λ tag. tag == 97) (λ tag. any_byte next)
 abbrev pub integer : (List ℕ → Layout) → Layout
 integer next = byte (λ tag. tag == 97 || tag == 98) (λ tag. if tag == 97 then run 1 next else run 4 next)
 
--- what stands behind tag 88
+-- what follows tag 88
 abbrev pub pid88 : (Head → Layout) → Layout
 pid88 next = atom (λ name. number4 (λ id. number4 (λ serial. number4 (λ creation. next (Pid name id serial creation)))))
 
--- what stands behind tag 103
+-- what follows tag 103
 abbrev pub pid103 : (Head → Layout) → Layout
 pid103 next = atom (λ name. number4 (λ id. number4 (λ serial. any_byte (λ creation. next (Pid name id serial creation)))))
 
@@ -49,13 +49,13 @@ sign next = byte (λ b. nat_le b 1) next
 abbrev pub bits : (ℕ → Layout) → Layout
 bits next = byte (λ b. nat_le 1 b && nat_le b 8) next
 
--- what stands behind tag 112
+-- what follows tag 112
 abbrev pub closure : Layout
 closure =
     number4 (λ size. any_byte (λ arity. run 16 (λ unique. number4 (λ index. number4 (λ n.
     atom (λ name. integer (λ old_index. integer (λ old_unique. pid (λ owner. end (Fun name index arity n))))))))))
 
--- the tags, each with what stands behind it
+-- the tags, each with what follows it
 abbrev pub table : List (ℕ × Layout)
 table =
     (70, run 8 (λ bytes. end (Float bytes))) ∷
@@ -86,7 +86,7 @@ table =
     (120, atom (λ name. number8 (λ id. number4 (λ creation. end (Port name id creation))))) ∷
     []
 
--- what stands behind a tag by a list of rows, where it has one
+-- what follows a tag in a list of rows, if the tag is in it
 abbrev pub row_in : List (ℕ × Layout) → ℕ → Option Layout
 row_in [] tag = None
 row_in (row ∷ rows) tag = if tag == row.0 then Some row.1 else row_in rows tag
@@ -95,7 +95,7 @@ row_in (row ∷ rows) tag = if tag == row.0 then Some row.1 else row_in rows tag
 unfoldable pub is_tag : ℕ → Bool
 is_tag tag = is_some (row_in table tag)
 
--- what stands behind a tag; no byte that isn't one is asked for it
+-- what follows a tag; it isn't asked for any byte that is no tag
 unfoldable pub row : ℕ → Layout
 row tag = unwrap_or (row_in table tag) (end Nil)
 

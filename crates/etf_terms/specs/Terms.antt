@@ -18,13 +18,13 @@ count none = 0
 count (more term terms) = suc (count terms)
 
 abbrev mutual
-  -- a head, and behind it as many terms as it says
+  -- a head, followed by as many terms as it says
   pub IsTerm : List ℕ → Term → Type 0
   IsTerm bytes (node head terms) =
       (front : List ℕ) × (rest : List ℕ) × (bytes ≡ front ++ rest) × IsLaid head_layout front head
       × (count terms ≡ kids head) × AreTerms rest terms
 
-  -- one term behind the other
+  -- one term after another
   pub AreTerms : List ℕ → Terms → Type 0
   AreTerms bytes none = bytes ≡ []
   AreTerms bytes (more term terms) =

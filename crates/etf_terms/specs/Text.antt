@@ -9,7 +9,7 @@ use Rattle.etf_terms.specs.declared.stack.Kind.TheVariants as kinds
 use Rattle.etf_terms.specs.Heads.{Head, Float, Bits, Pid, Port, Ref, Small, Int, Atom, Tuple, Nil, Chars, Linked, Bin, Big, Fun, Export, Pairs, kids}
 use Rattle.etf_terms.specs.Terms.{Term, node, Terms, none, more}
 
--- how the terms behind a head are written
+-- how the terms after a head are written
 abbrev pub kind_of : Head → Kind
 kind_of (Float bytes) = kinds.Plain
 kind_of (Bits bits bytes) = kinds.Plain
@@ -83,7 +83,7 @@ chars_text (b ∷ bytes) = codes "[" ++ (decimal b ++ (flat_map comma_number byt
 abbrev pub fun_text : List ℕ → ℕ → ℕ → List ℕ
 fun_text name index arity = codes "#Fun<" ++ (atom_text name ++ (codes "/" ++ (decimal index ++ (codes "/" ++ (decimal arity ++ codes ":")))))
 
--- the digits of base 256 from the last to the first
+-- the digits in base 256 from the last to the first
 abbrev pub big_text : ℕ → List ℕ → List ℕ
 big_text sign digits =
     (if sign == 1 then codes "-" else []) ++ (codes "16#" ++ (if length digits == 0 then codes "00" else flat_map hex_byte (reverse digits)))
@@ -101,7 +101,7 @@ opening (Atom name) = atom_text name
 opening (Tuple n) = codes "{"
 opening Nil = codes "[]"
 opening (Chars bytes) = chars_text bytes
--- without elements it is the tail alone
+-- without elements it is only the tail
 opening (Linked n) = if n == 0 then [] else codes "["
 opening (Bin bytes) = bin_text bytes
 opening (Big sign digits) = big_text sign digits
@@ -110,7 +110,7 @@ opening (Export name function arity) =
     codes "fun " ++ (atom_text name ++ (codes ":" ++ (atom_text function ++ (codes "/" ++ decimal arity))))
 opening (Pairs n) = codes "#{"
 
--- what stands behind so many terms
+-- what comes after this many terms
 abbrev pub closing : Kind → ℕ → List ℕ
 closing kinds.Plain count = []
 closing kinds.Tuple count = codes "}"
@@ -118,7 +118,7 @@ closing kinds.Linked count = if count == 1 then [] else codes "]"
 closing kinds.Fun count = codes ">"
 closing kinds.Pairs count = codes "}"
 
--- what stands before the term with the number i
+-- what comes before the term with number i
 abbrev pub between : Kind → ℕ → ℕ → List ℕ
 between kinds.Plain count i = []
 between kinds.Tuple count i = if i == 0 then [] else codes ","
@@ -127,12 +127,12 @@ between kinds.Linked count i = if i == 0 then [] else (if i + 1 == count then co
 between kinds.Fun count i = if i == 0 then [] else codes ","
 between kinds.Pairs count i = if i == 0 then [] else (if i % 2 == 1 then codes "=>" else codes ",")
 
--- a tail of tag 106 behind elements isn't written
+-- a tail of tag 106 isn't written after elements
 abbrev pub is_end : Kind → ℕ → ℕ → Head → Bool
 is_end kinds.Linked count i Nil = nat_lt 0 i && i + 1 == count
 is_end kind count i head = false
 
--- what stands before the terms of the term with the number i
+-- what comes before the terms of the term with number i
 abbrev pub own_text : Kind → ℕ → ℕ → Head → List ℕ
 own_text kind count i head = if is_end kind count i head then [] else between kind count i ++ opening head
 
@@ -141,11 +141,11 @@ abbrev mutual
   pub text : Term → List ℕ
   text (node head terms) = opening head ++ inner (kind_of head) (kids head) 0 terms
 
-  -- the terms of a head from the number i on
+  -- the terms of a head from number i on
   pub inner : Kind → ℕ → ℕ → Terms → List ℕ
   inner kind count i none = closing kind count
   inner kind count i (more term terms) = placed kind count i term ++ inner kind count (i + 1) terms
 
-  -- the term with the number i, and what stands before it
+  -- the term with number i, and what comes before it
   pub placed : Kind → ℕ → ℕ → Term → List ℕ
   placed kind count i (node head terms) = own_text kind count i head ++ inner (kind_of head) (kids head) 0 terms

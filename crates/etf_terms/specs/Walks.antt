@@ -1,11 +1,11 @@
--- Where a walk over bytes ends that keeps how many terms are still to come.
+-- Where a walk over bytes ends that counts how many terms are still to come.
 use Rattle.std.specs.Prelude.{ℕ, zero, suc, ◌+◌, ◌-◌, ◌==◌, List, [], ◌∷◌, length, Option, None, Some, if◌then◌else◌}
 use Rattle.std.specs.Option.{option_map}
 use Rattle.etf_terms.specs.Heads.{kids}
 use Rattle.etf_terms.specs.Layouts.{Layout, end, byte}
 use Rattle.etf_terms.specs.Table.{is_tag, row}
 
--- what a walk comes to: the bytes behind all terms, or the bytes from the first that can't stand there
+-- what a walk results in: the bytes after all terms, or the bytes from the first that isn't allowed there
 pub data Walked : Type 0 where
   Done : List ℕ → Walked
   Lost : List ℕ → Walked
@@ -15,12 +15,12 @@ abbrev pub at_end : ℕ → Walked
 at_end zero = Done []
 at_end (suc n) = Lost []
 
--- a byte is left: it stands behind all terms, or begins the next one
+-- a byte is left: it comes after all terms, or begins the next one
 abbrev pub at_byte : ℕ → Walked → (ℕ → Walked) → Walked
 at_byte zero done next = done
 at_byte (suc n) done next = next n
 
--- the rest of a head, and so many terms behind those of the head
+-- the rest of a head, and this many terms after those of the head
 abbrev pub walk : Layout → ℕ → List ℕ → Walked
 walk (end head) n [] = at_end (kids head + n)
 walk (end head) n (b ∷ bytes) =
@@ -28,18 +28,18 @@ walk (end head) n (b ∷ bytes) =
 walk (byte test next) n [] = Lost []
 walk (byte test next) n (b ∷ bytes) = if test b then walk (next b) n bytes else Lost (b ∷ bytes)
 
--- so many terms
+-- this many terms
 abbrev pub walk_terms : ℕ → List ℕ → Walked
 walk_terms n [] = at_end n
 walk_terms n (b ∷ bytes) = at_byte n (Done (b ∷ bytes)) (λ m. if is_tag b then walk (row b) m bytes else Lost (b ∷ bytes))
 
--- how many bytes are left where a walk over one term ends, unless it is at their end
+-- how many bytes are left where a walk over one term ends, unless it ends at their end
 abbrev pub left_of : Walked → Option ℕ
 left_of (Done []) = None
 left_of (Done (b ∷ rest)) = Some (length (b ∷ rest))
 left_of (Lost rest) = Some (length rest)
 
--- the place where bytes cease to begin an external term, where they aren't one
+-- the place where bytes cease to begin an external term, if they aren't one
 abbrev pub bad_place : List ℕ → Option ℕ
 bad_place [] = Some 0
 bad_place (b ∷ bytes) = if b == 131 then option_map (λ left. suc (length bytes) - left) (left_of (walk_terms 1 bytes)) else Some 0

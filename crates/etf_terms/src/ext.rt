@@ -1,6 +1,6 @@
 // A term that was read, and how it is written.
 ghost use Rattle.std.specs.Prelude.{◌≡◌, suc, ◌≤◌, length, None, IfOk, IfErr};
-ghost use Rattle.dump_io.specs.Sinks.{changed, Puts};
+ghost use Rattle.dump_io.specs.Sinks.{Puts};
 ghost use Rattle.etf_terms.specs.Depth.{depth};
 ghost use Rattle.etf_terms.specs.Faults.{IsFault};
 ghost use Rattle.etf_terms.specs.Reading.{external_text};
@@ -19,7 +19,7 @@ use std::marker::Model;
 /// Why bytes aren't read.
 #[derive(Debug, Drop)]
 pub enum ExtFault {
-    /// They aren't 131 and one term; `at` is the length of the longest prefix that begins some 131 and term.
+    /// They aren't 131 and one term; `at` is the length of their longest prefix that begins some 131 and term.
     Bad { at: u64 },
     /// There was no memory for the stack.
     Memory,
@@ -32,7 +32,7 @@ pub struct Ext<'a> {
     stack: Stack,
 }
 
-// The bytes are a term's, and there is room for all heads that are open at once.
+// The bytes are those of a term, and there is room for all heads that are open at once.
 impl<'a> Model for Ext<'a> {
     ghost use Rattle.std.specs.Prelude.{◌∷◌};
     ghost use Rattle.etf_terms.specs.Held.{Held};
@@ -45,7 +45,7 @@ impl<'a> Model for Ext<'a> {
     ghost invariant = { λ e. Serves e.bytes.now e.stack.room };
 }
 
-// A stack for the term that these bytes are.
+// A stack for the term with these bytes.
 fn stack_for(alloc: Global, bytes: &[u8]) -> Result<Stack, AllocError>
     ensures { IfOk result (λ stack. (term : Term) → IsTerm bytes.now term → stack.room ≡ suc (depth term)) }
 {
@@ -53,10 +53,10 @@ fn stack_for(alloc: Global, bytes: &[u8]) -> Result<Stack, AllocError>
 }
 
 impl<'a> Ext<'a> {
-    /// The term that the bytes are, where [`judge`] finds that they are one.
+    /// The term with these bytes, if [`judge`] finds that they are one.
     ///
-    /// The memory that the writing needs is taken here: a stack of one entry more than the term is deep, where one without
-    /// terms behind its head is 0 deep. `AllocError` comes where there is none.
+    /// Takes the memory that writing needs: a stack with one more entry than the term is deep, where
+    /// a term with no terms after its head has depth 0. Returns `AllocError` if there is none.
     pub fn judged(alloc: Global, bytes: &'a [u8]) -> Result<Ext<'a>, AllocError>
         requires { bad_place bytes.now ≡ None }
         ensures same { IfOk result (λ ext. ext.bytes ≡ bytes.now) }
@@ -72,9 +72,9 @@ impl<'a> Ext<'a> {
         }
     }
 
-    /// The term that the bytes are, 131 before it, with the memory that [`Ext::judged`] takes.
+    /// The term with these bytes, after a 131, with the memory that [`Ext::judged`] takes.
     ///
-    /// `Bad` comes exactly where they aren't 131 and one term, and before any memory is taken.
+    /// Returns `Bad` exactly when the bytes aren't 131 and one term, before any memory is taken.
     pub fn read(alloc: Global, bytes: &'a [u8]) -> Result<Ext<'a>, ExtFault>
         ensures same { IfOk result (λ ext. ext.bytes ≡ bytes.now) }
         ensures ok { IfOk result (λ ext. (term : Term) × IsExternal bytes.now term) }
@@ -91,12 +91,12 @@ impl<'a> Ext<'a> {
         }
     }
 
-    /// Writes the term's text. It takes no memory. `Failed` comes only where the sink's count of faults rose, and a proper
-    /// front of the text was written then.
+    /// Writes the term's text. Takes no memory. Returns `Failed` only if the
+    /// sink's count of faults rose; a proper prefix of the text was written then.
     pub fn put<K: Sink>(&mut self, sink: &mut K) -> Result<(), Failed>
         ensures same { self.new ≡ self.old }
-        ensures puts { (term : Term) → IsExternal self.old.bytes term → Puts (changed K.written K.faults sink.old sink.new) (text term) result }
-        ensures writes { Puts (changed K.written K.faults sink.old sink.new) (external_text self.old.bytes) result }
+        ensures puts { (term : Term) → IsExternal self.old.bytes term → Puts (K.state sink.old) (K.state sink.new) (text term) result }
+        ensures writes { Puts (K.state sink.old) (K.state sink.new) (external_text self.old.bytes) result }
     {
         put_term(self.bytes, &mut self.stack, sink)
     }

@@ -1,9 +1,9 @@
-// Heads: what a term is, but for the terms behind it.
+// Heads: what a term is, apart from the terms after it.
 ghost use Rattle.std.specs.Prelude.{◌≡◌, ◌≤◌, ◌^◌, Ok};
 ghost use Rattle.etf_terms.specs.Heads.{Small, Int, Atom, Tuple, Chars, Linked, Bin, Pairs, kids};
 ghost use Rattle.etf_terms.specs.Inner.Parts.{Gives, head, headed, byte_of, run_of, number2_of, number4_of, number8_of, sized1_of, sized2_of, sized4_of, atom_of, small_of, integer_of, pid88_of, pid103_of, pid_of, sign_of, part_of, float_of, bits_of, port89_of, port102_of, port120_of, ref90_of, ref114_of, big110_of, big111_of, owner_of, closure_of, export_of, head_of};
 
-/// A head in the bytes that it was read from; `specs/Heads.antt` says what the fields are.
+/// A head, as a part of the bytes from which it was read; `specs/Heads.antt` says what the fields are.
 #[derive(Clone, Copy)]
 pub(crate) enum HeadRead<'a> {
     Float(&'a [u8]),
@@ -25,7 +25,8 @@ pub(crate) enum HeadRead<'a> {
     Pairs(u32),
 }
 
-// Each reader takes what it reads off the front, or says how many bytes are left from the first that can't stand there.
+// Each reader takes what it reads off the front, or returns how
+// many bytes are left from the first that isn't allowed there.
 #[tactic(auto, unfolding(crate::specs::Inner::Parts::byte_of))]
 fn byte(bytes: &[u8]) -> Result<(u8, &[u8]), usize>
     ensures { Gives (λ x. (x.0, x.1.now)) result (byte_of bytes.now) }
@@ -314,7 +315,7 @@ fn big111(bytes: &[u8]) -> Result<(HeadRead<'_>, &[u8]), usize>
     Ok((HeadRead::Big(s, digits), rest))
 }
 
-// The two integers and the pid behind a function's name.
+// The two integers and the pid after a function's name.
 #[tactic(auto, unfolding(crate::specs::Inner::Parts::owner_of))]
 fn owner(bytes: &[u8]) -> Result<(HeadRead<'_>, &[u8]), usize>
     ensures { Gives (λ x. (head x.0, x.1.now)) result (owner_of bytes.now) }
@@ -418,7 +419,7 @@ fn pairs(bytes: &[u8]) -> Result<(HeadRead<'_>, &[u8]), usize>
     Ok((HeadRead::Pairs(n), rest))
 }
 
-// The head at the front.
+// The head at the front of the bytes.
 #[inline(always)]
 #[tactic(auto, using(crate::proofs::TagRows::nil_row))]
 pub(crate) fn read_head(bytes: &[u8]) -> Result<(HeadRead<'_>, &[u8]), usize>
@@ -457,7 +458,7 @@ pub(crate) fn read_head(bytes: &[u8]) -> Result<(HeadRead<'_>, &[u8]), usize>
 }
 
 impl<'a> HeadRead<'a> {
-    /// How many terms stand behind it.
+    /// How many terms follow it.
     pub fn kids(&self) -> u64
         ensures value { result ≡ kids (head self.now) }
         ensures few { result ≤ 2 ^ 33 }

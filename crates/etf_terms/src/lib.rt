@@ -5,8 +5,8 @@
 //! ext.put(&mut out)?; // `{1,ok}`
 //! ```
 //!
-//! A term is a *head* and so many terms behind it. The table of tags stands in `specs/Table.antt`, and the text of each
-//! head in `specs/Text.antt`.
+//! A term is a *head* followed by as many terms as the head says. The table of
+//! tags is in `specs/Table.antt`, and the text of each head in `specs/Text.antt`.
 #![tactic(auto)]
 
 mod ext;

@@ -1,4 +1,4 @@
-// How deep a term nests.
+// How deeply a term nests.
 ghost use Rattle.std.specs.Prelude.{◌≡◌, ℕ, suc, ◌+◌, ◌*◌, ◌<◌, max, [], ◌∷◌, length, IfOk, OnOk, MatchOption};
 ghost use Rattle.etf_terms.specs.Depth.{depth};
 ghost use Rattle.etf_terms.specs.Terms.{Term, IsTerm};
@@ -8,7 +8,7 @@ use crate::heads::read_head;
 use std::alloc::{AllocError, Global};
 use std::marker::Model;
 
-// How many terms each open head still wants, from the innermost out.
+// How many terms each open head still needs, from the innermost outwards.
 #[derive(Drop)]
 struct Wanted {
     counts: Vec<u64>,
@@ -40,7 +40,7 @@ impl Wanted {
         }
     }
 
-    // Opens a head with so many terms, if it has any.
+    // Opens a head with `count` terms, if it has any.
     fn enter(&mut self, count: u64) -> Result<(), AllocError>
         ensures { OnOk result (self.new ≡ opened count self.old) }
     {
@@ -63,7 +63,7 @@ impl Wanted {
     }
 }
 
-// Goes on with a head that was taken off and still wants so many terms.
+// Goes on with a head that was taken off and still needs `count` terms.
 fn step<'a>(rest: &'a [u8], wanted: &mut Wanted, count: u64) -> Result<&'a [u8], AllocError>
     ensures falls { IfOk result (λ behind. 2 * length behind.now + length wanted.new < 2 * length rest.now + length wanted.old + 1) }
     ensures goes { (most : ℕ) → Awaits (count ∷ wanted.old) rest.now most
@@ -78,7 +78,7 @@ fn step<'a>(rest: &'a [u8], wanted: &mut Wanted, count: u64) -> Result<&'a [u8],
             wanted.enter(head.kids())?;
             Ok(behind)
         }
-        // What the open heads want is a term's.
+        // What the open heads need are the terms of a term.
         Err(_) => Ok(rest),
     }
 }
@@ -89,8 +89,8 @@ fn larger(a: usize, b: usize) -> usize
     if a < b { b } else { a }
 }
 
-/// How many heads are open at once while the term is written that these bytes are, and the whole around it. It takes as
-/// much memory as the term is deep.
+/// How many heads are open at once while the term with these bytes is written,
+/// including the one around the whole. Takes as much memory as the term is deep.
 pub(crate) fn height(alloc: Global, bytes: &[u8]) -> Result<usize, AllocError>
     ensures { IfOk result (λ most. (term : Term) → IsTerm bytes.now term → most ≡ suc (depth term)) }
 {

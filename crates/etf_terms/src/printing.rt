@@ -1,7 +1,7 @@
 // Writing a term.
 ghost use Rattle.std.specs.Prelude.{◌≡◌, ℕ, ◌+◌, ◌≤◌, ◌<◌, List, [], ◌∷◌, ◌++◌, length, take, reverse, codes, decimal, if◌then◌else◌, nat_lt, ◌==◌};
 ghost use Rattle.std.specs.List.{flat_map};
-ghost use Rattle.dump_io.specs.Sinks.{changed, Puts};
+ghost use Rattle.dump_io.specs.Sinks.{Puts};
 ghost use Rattle.dump_io.specs.Atoms.{atom_text};
 ghost use Rattle.dump_io.specs.Numbers.{hex_byte};
 ghost use Rattle.etf_terms.specs.Heads.{kids};
@@ -56,7 +56,7 @@ fn between_text(kind: Kind, kids: u64, i: u64) -> &'static [u8]
     }
 }
 
-// Whether it is the end of a list.
+// Whether the term is the end of a list.
 fn ends(kind: Kind, kids: u64, i: u64, found: &HeadRead<'_>) -> bool
     requires { i < kids }
     ensures { result ≡ is_end kind kids i (head found.now) }
@@ -95,9 +95,9 @@ fn first_bytes(bytes: &[u8]) -> &[u8]
     }
 }
 
-// The first bytes of a binary, and its end.
+// The first bytes of a binary, and what closes it.
 fn put_preview<K: Sink>(sink: &mut K, bytes: &[u8]) -> Result<(), Failed>
-    ensures { Puts (changed K.written K.faults sink.old sink.new) (preview_text bytes.now) result }
+    ensures { Puts (K.state sink.old) (K.state sink.new) (preview_text bytes.now) result }
 {
     put_hex_bytes(sink, first_bytes(bytes))?;
     write_all(sink, dots(bytes.len()))?;
@@ -105,7 +105,7 @@ fn put_preview<K: Sink>(sink: &mut K, bytes: &[u8]) -> Result<(), Failed>
 }
 
 fn put_bin<K: Sink>(sink: &mut K, bytes: &[u8]) -> Result<(), Failed>
-    ensures { Puts (changed K.written K.faults sink.old sink.new) (bin_text bytes.now) result }
+    ensures { Puts (K.state sink.old) (K.state sink.new) (bin_text bytes.now) result }
 {
     write_all(sink, b"#Bin<")?;
     put_dec(sink, bytes.len() as u64)?;
@@ -115,7 +115,7 @@ fn put_bin<K: Sink>(sink: &mut K, bytes: &[u8]) -> Result<(), Failed>
 
 // The digits from the last to the first.
 fn put_digits<K: Sink>(sink: &mut K, digits: &[u8]) -> Result<(), Failed>
-    ensures { Puts (changed K.written K.faults sink.old sink.new) (flat_map hex_byte (reverse digits.now)) result }
+    ensures { Puts (K.state sink.old) (K.state sink.new) (flat_map hex_byte (reverse digits.now)) result }
 {
     let mut left = digits.len();
     while left > 0 {
@@ -132,7 +132,7 @@ fn minus(sign: u8) -> &'static [u8]
 }
 
 fn put_number<K: Sink>(sink: &mut K, digits: &[u8]) -> Result<(), Failed>
-    ensures { Puts (changed K.written K.faults sink.old sink.new) (if length digits.now == 0 then codes "00" else flat_map hex_byte (reverse digits.now)) result }
+    ensures { Puts (K.state sink.old) (K.state sink.new) (if length digits.now == 0 then codes "00" else flat_map hex_byte (reverse digits.now)) result }
 {
     if digits.len() == 0 {
         write_all(sink, b"00")
@@ -142,7 +142,7 @@ fn put_number<K: Sink>(sink: &mut K, digits: &[u8]) -> Result<(), Failed>
 }
 
 fn put_big<K: Sink>(sink: &mut K, sign: u8, digits: &[u8]) -> Result<(), Failed>
-    ensures { Puts (changed K.written K.faults sink.old sink.new) (big_text sign digits.now) result }
+    ensures { Puts (K.state sink.old) (K.state sink.new) (big_text sign digits.now) result }
 {
     write_all(sink, minus(sign))?;
     write_all(sink, b"16#")?;
@@ -150,7 +150,7 @@ fn put_big<K: Sink>(sink: &mut K, sign: u8, digits: &[u8]) -> Result<(), Failed>
 }
 
 fn put_export<K: Sink>(sink: &mut K, name: &[u8], function: &[u8], arity: u8) -> Result<(), Failed>
-    ensures { Puts (changed K.written K.faults sink.old sink.new)
+    ensures { Puts (K.state sink.old) (K.state sink.new)
         (codes "fun " ++ (atom_text name.now ++ (codes ":" ++ (atom_text function.now ++ (codes "/" ++ decimal arity))))) result }
 {
     write_all(sink, b"fun ")?;
@@ -162,14 +162,14 @@ fn put_export<K: Sink>(sink: &mut K, name: &[u8], function: &[u8], arity: u8) ->
 }
 
 fn put_dotted<K: Sink>(sink: &mut K, n: u64) -> Result<(), Failed>
-    ensures { Puts (changed K.written K.faults sink.old sink.new) (dotted n) result }
+    ensures { Puts (K.state sink.old) (K.state sink.new) (dotted n) result }
 {
     write_all(sink, b".")?;
     put_dec(sink, n)
 }
 
 fn put_float<K: Sink>(sink: &mut K, bytes: &[u8]) -> Result<(), Failed>
-    ensures { Puts (changed K.written K.faults sink.old sink.new) (float_text bytes.now) result }
+    ensures { Puts (K.state sink.old) (K.state sink.new) (float_text bytes.now) result }
 {
     write_all(sink, b"#Float<")?;
     put_hex_bytes(sink, bytes)?;
@@ -177,7 +177,7 @@ fn put_float<K: Sink>(sink: &mut K, bytes: &[u8]) -> Result<(), Failed>
 }
 
 fn put_bits<K: Sink>(sink: &mut K, bits: u8, bytes: &[u8]) -> Result<(), Failed>
-    ensures { Puts (changed K.written K.faults sink.old sink.new) (bits_text bits bytes.now) result }
+    ensures { Puts (K.state sink.old) (K.state sink.new) (bits_text bits bytes.now) result }
 {
     write_all(sink, b"#Bits<")?;
     put_dec(sink, bytes.len() as u64)?;
@@ -194,7 +194,7 @@ fn put_pid<K: Sink>(
     serial: u32,
     creation: u32,
 ) -> Result<(), Failed>
-    ensures { Puts (changed K.written K.faults sink.old sink.new) (pid_text name.now id serial creation) result }
+    ensures { Puts (K.state sink.old) (K.state sink.new) (pid_text name.now id serial creation) result }
 {
     write_all(sink, b"#Pid<")?;
     put_atom(sink, name)?;
@@ -205,7 +205,7 @@ fn put_pid<K: Sink>(
 }
 
 fn put_port<K: Sink>(sink: &mut K, name: &[u8], id: u64, creation: u32) -> Result<(), Failed>
-    ensures { Puts (changed K.written K.faults sink.old sink.new) (port_text name.now id creation) result }
+    ensures { Puts (K.state sink.old) (K.state sink.new) (port_text name.now id creation) result }
 {
     write_all(sink, b"#Port<")?;
     put_atom(sink, name)?;
@@ -216,7 +216,7 @@ fn put_port<K: Sink>(sink: &mut K, name: &[u8], id: u64, creation: u32) -> Resul
 
 // Each word of four bytes.
 fn put_words<K: Sink>(sink: &mut K, words: &[u8]) -> Result<(), Failed>
-    ensures { Puts (changed K.written K.faults sink.old sink.new) (words_text words.now) result }
+    ensures { Puts (K.state sink.old) (K.state sink.new) (words_text words.now) result }
 {
     let mut rest = words;
     while let Ok((word, behind)) = number4(rest) {
@@ -227,7 +227,7 @@ fn put_words<K: Sink>(sink: &mut K, words: &[u8]) -> Result<(), Failed>
 }
 
 fn put_ref<K: Sink>(sink: &mut K, name: &[u8], creation: u32, words: &[u8]) -> Result<(), Failed>
-    ensures { Puts (changed K.written K.faults sink.old sink.new) (ref_text name.now creation words.now) result }
+    ensures { Puts (K.state sink.old) (K.state sink.new) (ref_text name.now creation words.now) result }
 {
     write_all(sink, b"#Ref<")?;
     put_atom(sink, name)?;
@@ -237,14 +237,14 @@ fn put_ref<K: Sink>(sink: &mut K, name: &[u8], creation: u32, words: &[u8]) -> R
 }
 
 fn put_negative<K: Sink>(sink: &mut K, n: u64) -> Result<(), Failed>
-    ensures { Puts (changed K.written K.faults sink.old sink.new) (codes "-" ++ decimal n) result }
+    ensures { Puts (K.state sink.old) (K.state sink.new) (codes "-" ++ decimal n) result }
 {
     write_all(sink, b"-")?;
     put_dec(sink, n)
 }
 
 fn put_int<K: Sink>(sink: &mut K, n: u32) -> Result<(), Failed>
-    ensures { Puts (changed K.written K.faults sink.old sink.new) (int_text n) result }
+    ensures { Puts (K.state sink.old) (K.state sink.new) (int_text n) result }
 {
     if n < 2147483648 {
         put_dec(sink, n as u64)
@@ -254,14 +254,14 @@ fn put_int<K: Sink>(sink: &mut K, n: u32) -> Result<(), Failed>
 }
 
 fn put_comma_number<K: Sink>(sink: &mut K, n: u8) -> Result<(), Failed>
-    ensures { Puts (changed K.written K.faults sink.old sink.new) (comma_number n) result }
+    ensures { Puts (K.state sink.old) (K.state sink.new) (comma_number n) result }
 {
     write_all(sink, b",")?;
     put_dec(sink, n as u64)
 }
 
 fn put_numbers<K: Sink>(sink: &mut K, bytes: &[u8]) -> Result<(), Failed>
-    ensures { Puts (changed K.written K.faults sink.old sink.new) (flat_map comma_number bytes.now) result }
+    ensures { Puts (K.state sink.old) (K.state sink.new) (flat_map comma_number bytes.now) result }
 {
     for c in bytes {
         put_comma_number(sink, *c)?;
@@ -270,7 +270,7 @@ fn put_numbers<K: Sink>(sink: &mut K, bytes: &[u8]) -> Result<(), Failed>
 }
 
 fn put_some<K: Sink>(sink: &mut K, first: u8, others: &[u8]) -> Result<(), Failed>
-    ensures { Puts (changed K.written K.faults sink.old sink.new) (codes "[" ++ (decimal first ++ (flat_map comma_number others.now ++ codes "]"))) result }
+    ensures { Puts (K.state sink.old) (K.state sink.new) (codes "[" ++ (decimal first ++ (flat_map comma_number others.now ++ codes "]"))) result }
 {
     write_all(sink, b"[")?;
     put_dec(sink, first as u64)?;
@@ -279,7 +279,7 @@ fn put_some<K: Sink>(sink: &mut K, first: u8, others: &[u8]) -> Result<(), Faile
 }
 
 fn put_chars<K: Sink>(sink: &mut K, bytes: &[u8]) -> Result<(), Failed>
-    ensures { Puts (changed K.written K.faults sink.old sink.new) (chars_text bytes.now) result }
+    ensures { Puts (K.state sink.old) (K.state sink.new) (chars_text bytes.now) result }
 {
     match bytes.split_first() {
         None => write_all(sink, b"[]"),
@@ -288,7 +288,7 @@ fn put_chars<K: Sink>(sink: &mut K, bytes: &[u8]) -> Result<(), Failed>
 }
 
 fn put_fun<K: Sink>(sink: &mut K, name: &[u8], index: u32, arity: u8) -> Result<(), Failed>
-    ensures { Puts (changed K.written K.faults sink.old sink.new) (fun_text name.now index arity) result }
+    ensures { Puts (K.state sink.old) (K.state sink.new) (fun_text name.now index arity) result }
 {
     write_all(sink, b"#Fun<")?;
     put_atom(sink, name)?;
@@ -306,7 +306,7 @@ fn bracket(n: u32) -> &'static [u8]
 }
 
 fn put_opening<K: Sink>(sink: &mut K, found: &HeadRead<'_>) -> Result<(), Failed>
-    ensures { Puts (changed K.written K.faults sink.old sink.new) (opening (head found.now)) result }
+    ensures { Puts (K.state sink.old) (K.state sink.new) (opening (head found.now)) result }
 {
     match *found {
         HeadRead::Float(bytes) => put_float(sink, bytes),
@@ -330,16 +330,16 @@ fn put_opening<K: Sink>(sink: &mut K, found: &HeadRead<'_>) -> Result<(), Failed
 }
 
 fn put_placed<K: Sink>(sink: &mut K, front: &[u8], found: &HeadRead<'_>) -> Result<(), Failed>
-    ensures { Puts (changed K.written K.faults sink.old sink.new) (front.now ++ opening (head found.now)) result }
+    ensures { Puts (K.state sink.old) (K.state sink.new) (front.now ++ opening (head found.now)) result }
 {
     write_all(sink, front)?;
     put_opening(sink, found)
 }
 
-// A head as the next of a term's.
+// A head, as that of the next term of another.
 fn put_own<K: Sink>(sink: &mut K, entry: Entry, found: &HeadRead<'_>) -> Result<(), Failed>
     requires { entry.next < entry.kids }
-    ensures { Puts (changed K.written K.faults sink.old sink.new) (own_text entry.kind entry.kids entry.next (head found.now)) result }
+    ensures { Puts (K.state sink.old) (K.state sink.new) (own_text entry.kind entry.kids entry.next (head found.now)) result }
 {
     if ends(entry.kind, entry.kids, entry.next, found) {
         return write_all(sink, b"");
@@ -351,7 +351,7 @@ fn put_own<K: Sink>(sink: &mut K, entry: Entry, found: &HeadRead<'_>) -> Result<
     )
 }
 
-// What ends a head that has no terms.
+// What closes a head that has no terms.
 fn end_text(found: &HeadRead<'_>) -> &'static [u8]
     ensures { result.now ≡ ended (head found.now) }
 {
@@ -363,10 +363,10 @@ fn end_text(found: &HeadRead<'_>) -> &'static [u8]
     }
 }
 
-// A head as the next of a term's, and its end if it has no terms.
+// A head, as that of the next term of another, and what closes it if it has no terms.
 fn put_begun<K: Sink>(sink: &mut K, entry: Entry, found: &HeadRead<'_>) -> Result<(), Failed>
     requires { entry.next < entry.kids }
-    ensures { Puts (changed K.written K.faults sink.old sink.new)
+    ensures { Puts (K.state sink.old) (K.state sink.new)
         (own_text entry.kind entry.kids entry.next (head found.now) ++ ended (head found.now)) result }
 {
     put_own(sink, entry, found)?;
@@ -398,9 +398,9 @@ fn visit<'a, K: Sink>(
     requires stands { (to_come : List ℕ) × Stands stack.old.room (entry ∷ stack.old.entries) rest.now to_come }
     ensures room { stack.new.room ≡ stack.old.room }
     ensures falls { Falls rest.now stack.old stack.new result }
-    ensures later { K.faults sink.old ≤ K.faults sink.new }
+    ensures later { (K.state sink.old).faults ≤ (K.state sink.new).faults }
     ensures moves { (to_come : List ℕ) → Stands stack.old.room (entry ∷ stack.old.entries) rest.now to_come
-        → Moves (changed K.written K.faults sink.old sink.new) to_come stack.new.room stack.new.entries result }
+        → Moves (K.state sink.old) (K.state sink.new) to_come stack.new.room stack.new.entries result }
 {
     if entry.next >= entry.kids {
         return match write_all(sink, closing_text(entry.kind, entry.kids)) {
@@ -410,7 +410,7 @@ fn visit<'a, K: Sink>(
     }
     let (found, behind) = match read_head(rest) {
         Ok(found) => found,
-        // What stands on the stack is a term's.
+        // What is on the stack are the terms of a term.
         Err(_) => return Ok(rest),
     };
     stack.push(Entry {
@@ -425,11 +425,11 @@ fn visit<'a, K: Sink>(
     }
 }
 
-// Writes the term whose bytes these are.
+// Writes the term with these bytes.
 pub(crate) fn put_term<K: Sink>(bytes: &[u8], stack: &mut Stack, sink: &mut K) -> Result<(), Failed>
     requires { Serves bytes.now stack.old.room }
     ensures room { stack.new.room ≡ stack.old.room }
-    ensures puts { (term : Term) → IsTerm bytes.now term → Puts (changed K.written K.faults sink.old sink.new) (text term) result }
+    ensures puts { (term : Term) → IsTerm bytes.now term → Puts (K.state sink.old) (K.state sink.new) (text term) result }
 {
     stack.clear();
     stack.push(Entry {

@@ -1,11 +1,12 @@
-// Which bytes are a term, and how far others begin one.
+// Which bytes are a term, and how far other bytes begin one.
 ghost use Rattle.std.specs.Prelude.{◌≡◌, ◌≤◌, length, None, Some, IfErr, MatchResult};
 ghost use Rattle.etf_terms.specs.Walks.{bad_place, left_of, walk_terms};
 ghost use Rattle.etf_terms.specs.Inner.Walks.{Stopped};
 
 use crate::heads::read_head;
 
-// Goes over one term. What stands behind it, or how many bytes are left from the first that can't stand there.
+// Passes over one term. Returns what follows it, or how many
+// bytes are left from the first that isn't allowed there.
 fn over_term(bytes: &[u8]) -> Result<&[u8], usize>
     ensures { Stopped result (walk_terms 1 bytes.now) }
 {
@@ -22,7 +23,8 @@ fn over_term(bytes: &[u8]) -> Result<&[u8], usize>
     Ok(rest)
 }
 
-// Whether the bytes are one term. The error is how many of them are left from the first that can't stand there.
+// Whether the bytes are one term. The error is how many of
+// them are left from the first that isn't allowed there.
 fn one_term(bytes: &[u8]) -> Result<(), usize>
     ensures left { MatchResult result (λ _. left_of (walk_terms 1 bytes.now) ≡ None) (λ left. left_of (walk_terms 1 bytes.now) ≡ Some left) }
     ensures within { IfErr result (λ left. left ≤ length bytes.now) }
@@ -38,8 +40,8 @@ fn one_term(bytes: &[u8]) -> Result<(), usize>
     }
 }
 
-/// Whether the bytes are 131 and one term. The error is the length of the longest prefix that begins some 131 and term, by
-/// the law [`bad_place_is_longest`](crate::bad_place_is_longest). It takes no memory.
+/// Whether the bytes are 131 and one term. The error is the length of their longest prefix that begins
+/// some 131 and term, by the law [`bad_place_is_longest`](crate::bad_place_is_longest). Takes no memory.
 pub fn judge(bytes: &[u8]) -> Result<(), u64>
     ensures { MatchResult result (λ _. bad_place bytes.now ≡ None) (λ at. bad_place bytes.now ≡ Some at) }
 {

@@ -1,14 +1,14 @@
-// The terms that are being written: a stack that takes no memory.
+// The terms that are being written: a stack that takes no memory once it is made.
 ghost use Rattle.std.specs.Prelude.{◌≡◌, ◌<◌, [], ◌∷◌, length, IfOk, MatchOption};
 ghost use Rattle.etf_terms.specs.Inner.Open.{Open};
 
 use std::alloc::{AllocError, Global};
 use std::marker::Model;
 
-/// How the terms behind a head are written.
+/// How the terms after a head are written.
 #[derive(Clone, Copy)]
 pub(crate) enum Kind {
-    /// One after another: a leaf has none, and the whole is one.
+    /// One after another: a leaf has none, and the whole has one.
     Plain,
     Tuple,
     Linked,
@@ -16,7 +16,7 @@ pub(crate) enum Kind {
     Pairs,
 }
 
-/// A head whose terms are being written: of how many, and the number of the next.
+/// A head whose terms are being written: how many there are, and the number of the next one.
 #[derive(Clone, Copy)]
 pub(crate) struct Entry {
     pub kind: Kind,
@@ -40,7 +40,7 @@ impl Model for Stack {
 }
 
 impl Stack {
-    /// Room for exactly so many.
+    /// Room for exactly `room` entries.
     pub fn new(alloc: Global, room: usize) -> Result<Stack, AllocError>
         ensures room { IfOk result (λ stack. stack.room ≡ room) }
         ensures empty { IfOk result (λ stack. stack.entries ≡ []) }
@@ -58,7 +58,7 @@ impl Stack {
         self.entries.push_reserved(entry);
     }
 
-    /// Leaves the innermost.
+    /// Leaves the innermost head.
     pub fn pop(&mut self) -> Option<Entry>
         ensures top { MatchOption result (self.old.entries ≡ []) (λ e. self.old.entries ≡ e ∷ self.new.entries) }
         ensures room { self.new.room ≡ self.old.room }
@@ -66,7 +66,7 @@ impl Stack {
         self.entries.pop()
     }
 
-    /// Leaves all.
+    /// Leaves all heads.
     pub fn clear(&mut self)
         ensures { self.new ≡ record self.old { entries = [] } }
     {

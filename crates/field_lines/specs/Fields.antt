@@ -9,12 +9,12 @@ use Rattle.field_lines.specs.Lines.{TextLine, text_lines}
 abbrev pub space : ℕ
 space = 32
 
--- bytes without one space at their beginning
+-- bytes without one leading space
 abbrev pub without_space : List ℕ → List ℕ
 without_space [] = []
 without_space (c ∷ bytes) = if c == space then bytes else c ∷ bytes
 
--- a key is what stands before the first colon, and a value what follows it, less one space directly after it
+-- a field's key stands before the first colon of its line
 abbrev pub key_of : List ℕ → List ℕ
 key_of text = before_colon text
 
@@ -27,7 +27,7 @@ pub record Field : Type 0 where
   pub key : List ℕ
   pub value : List ℕ
 
--- the field of a text, where the text has a colon
+-- the field of a text, if the text has a colon
 abbrev pub field_of : List ℕ → Option Field
 field_of text = if has_colon text then Some (record { key = key_of text; value = value_of text }) else None
 
@@ -39,7 +39,7 @@ has_key key line = has_colon line.text && bytes_eq (key_of line.text) key
 abbrev pub find_line : List ℕ → List ℕ → Option TextLine
 find_line body key = find (has_key key) (text_lines body)
 
--- where the line begins, and from where to where its value stands: the value ends with the line's text
+-- where the line begins, and where its value begins and ends: the value ends with the line's text
 abbrev pub place_of : TextLine → FieldAt
 place_of line = let upto = line.at + length line.text in record { at = line.at; from = upto - length (value_of line.text); upto = upto }
 

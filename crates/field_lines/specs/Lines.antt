@@ -11,7 +11,7 @@ pub record TextLine : Type 0 where
 abbrev pub text_line : Line → TextLine
 text_line line = record { at = line.at; text = text_of line.raw }
 
--- the lines of bytes that stand at this offset
+-- the lines of bytes, the first of which is at this offset
 abbrev pub text_lines_from : ℕ → List ℕ → List TextLine
 text_lines_from at bytes = map text_line (lines_from at (raw_lines bytes))
 
@@ -19,7 +19,7 @@ text_lines_from at bytes = map text_line (lines_from at (raw_lines bytes))
 abbrev pub text_lines : List ℕ → List TextLine
 text_lines body = text_lines_from 0 body
 
--- the line's text stands in the body behind the bytes that are before the line
+-- the line's text stands in the body after as many bytes as are before the line
 pub record IsPart (body : List ℕ) (line : TextLine) : Type 0 where
   pub within : line.at + length line.text ≤ length body
   pub stands : slice_range body line.at (line.at + length line.text) ≡ line.text

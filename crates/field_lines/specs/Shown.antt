@@ -1,4 +1,4 @@
--- What the answers show.
+-- What a caller sees of the answers.
 use Rattle.std.specs.Prelude.{ℕ, List, Option, None, Some}
 use Rattle.field_lines.specs.declared.shapes.Line.{Line}
 use Rattle.field_lines.specs.Lines.{TextLine}

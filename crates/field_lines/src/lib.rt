@@ -1,7 +1,7 @@
-//! The lines and the fields of a body, which is the bytes between a header and the next one.
+//! The lines and the fields of a body, which is the bytes between a header's line and the next header.
 //!
-//! [`reading::lines`] gives the lines, [`field`] splits a line's text at its first colon, and [`find`]
-//! looks for the first field with a key. All calls are pure and take no memory.
+//! [`reading::lines`] gives the lines, [`field`] splits a line's text at its first colon,
+//! and [`find`] looks for the first field with a key. All calls are pure and take no memory.
 //!
 //! ```text
 //! for line in reading::lines(body) {

@@ -7,7 +7,7 @@ ghost use Rattle.field_lines.specs.Shown.{shown_field, shown_line};
 use crate::shapes::{FieldAt, Line, Lines};
 use dump_io::split_at_colon;
 
-/// The lines of a body, in order. Each ends behind its LF, and a last line without LF is one too.
+/// The lines of a body, in order. Each ends after its LF; a last line without LF counts too.
 pub fn lines(body: &[u8]) -> Lines<'_>
     ensures value { result ≡ text_lines body.now }
     ensures count { length result ≤ length body.now }
@@ -16,7 +16,7 @@ pub fn lines(body: &[u8]) -> Lines<'_>
     Lines::new(body)
 }
 
-// The bytes without one space at their beginning.
+// The bytes without one leading space.
 fn value(bytes: &[u8]) -> &[u8]
     ensures { result.now ≡ without_space bytes.now }
 {
@@ -26,8 +26,8 @@ fn value(bytes: &[u8]) -> &[u8]
     }
 }
 
-/// The key and the value of a line's text: what stands before its first `:`, and what follows that, less
-/// one space directly after it. `None` comes exactly where there is no `:`.
+/// The key and the value of a line's text: what stands before its first `:`, and what follows
+/// it, less one space directly after it. Returns `None` exactly when there is no `:`.
 pub fn field(text: &[u8]) -> Option<(&[u8], &[u8])>
     ensures { shown_field result ≡ field_of text.now }
 {
@@ -35,7 +35,7 @@ pub fn field(text: &[u8]) -> Option<(&[u8], &[u8])>
     Some((key, value(rest)))
 }
 
-// The place of the line's field, where it has this key.
+// Where the line's field stands, if it has this key.
 fn place(line: &Line<'_>, key: &[u8]) -> Option<FieldAt>
     requires { line.now.at + length line.now.text.now < 2 ^ 64 }
     ensures { result ≡ (if has_key key.now (shown_line line.now) then Some (place_of (shown_line line.now)) else None) }
@@ -52,7 +52,7 @@ fn place(line: &Line<'_>, key: &[u8]) -> Option<FieldAt>
     })
 }
 
-/// The place of the first field of a body that has this key. `None` comes exactly where there is none.
+/// The place of the first field of a body with this key. Returns `None` exactly when there is none.
 pub fn find(body: &[u8], key: &[u8]) -> Option<FieldAt>
     ensures place { result ≡ find_field body.now key.now }
     ensures within { IfSome result (λ field. (field.at ≤ field.from) × (field.from ≤ field.upto) × (field.upto ≤ length body.now)) }

@@ -55,7 +55,7 @@ impl<'a> Lines<'a> {
     }
 }
 
-// How many bytes the first raw line of some bytes has.
+// How many bytes the first raw line has.
 fn line_len(bytes: &[u8]) -> usize
     requires { 0 < length bytes.now }
     ensures some { 0 < result }

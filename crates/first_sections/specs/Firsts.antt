@@ -2,7 +2,7 @@
 use Rattle.std.specs.Prelude.{ℕ, List}
 use Rattle.section_index.specs.Index.{Contents}
 
--- the tag whose sections are looked up by their ids, and the index of which they are
+-- the tag whose sections are looked up by their ids, and the index that has them
 pub record Firsts : Type 0 where
   pub tag : List ℕ
   pub index : Contents

@@ -1,4 +1,4 @@
-// Of the sections with a tag the first of each id.
+// The first section with a tag and each id.
 ghost use Rattle.std.specs.Prelude.{◌≡◌, ◌+◌, ◌<◌, length, position, take, slice_get, Some, IfOk, IfSome, OnOk};
 ghost use Rattle.std.specs.Option.{option_copied};
 ghost use Rattle.section_index.specs.Bodies.{section_at};
@@ -11,7 +11,7 @@ use std::alloc::{AllocError, Global};
 use std::collections::BTreeMap;
 use std::marker::Model;
 
-// The id of the section at a place, where it has the tag.
+// The id of the section at a place, if it has the tag.
 fn id_at<'a>(index: &'a Index, tag: &[u8], i: usize) -> Option<&'a [u8]>
     requires { i < length index.now.headers }
     ensures id { option_copied result ≡ id_with tag.now (section_at index.now i) }
@@ -21,7 +21,7 @@ fn id_at<'a>(index: &'a Index, tag: &[u8], i: usize) -> Option<&'a [u8]>
     if section.tag == tag { section.id } else { None }
 }
 
-// Takes the section at a place, behind those before it.
+// Takes the section at a place, after those before it.
 fn take_at<'a>(
     places: &mut BTreeMap<&'a [u8], usize>,
     index: &'a Index,
@@ -57,7 +57,7 @@ fn find_places<'a>(
     Ok(places)
 }
 
-/// Of the sections of an index that have a tag, the first of each id. Contracts see the tag and the index.
+/// The first section of an index with a tag and each id. Contracts see the tag and the index.
 #[derive(Drop)]
 pub struct FirstSections<'a> {
     tag: &'static [u8],
@@ -77,7 +77,7 @@ impl<'a> Model for FirstSections<'a> {
 }
 
 impl<'a> FirstSections<'a> {
-    /// Goes through the sections of an index once. An error comes only where memory lacks.
+    /// Goes through the sections of an index once. Returns an error only if memory is lacking.
     pub fn find(
         alloc: Global,
         index: &'a Index,
@@ -90,7 +90,7 @@ impl<'a> FirstSections<'a> {
         Ok(FirstSections { tag, index, places })
     }
 
-    /// The place of the first section with the tag and this id, byte for byte, as [`Index::first`] gives it.
+    /// The place of the first section with the tag and this id, byte for byte, as [`Index::first`] returns it.
     pub fn get(&self, id: &[u8]) -> Option<usize>
         ensures place { result ≡ position (λ section. is_named self.now.tag (Some id.now) section.text) (sections_in self.now.index) }
         ensures within { IfSome result (λ i. i < length self.now.index.headers) }

@@ -1,7 +1,7 @@
-//! Sections by their ids, for whoever asks for many of one tag.
+//! Sections by their ids, for a caller that asks for many with the same tag.
 //!
-//! [`Index::first`](section_index::Index::first) goes through all headers. [`FirstSections`] goes through them once, and then
-//! tells of each id the first section of a tag that has it.
+//! [`Index::first`](section_index::Index::first) goes through all headers. [`FirstSections`]
+//! goes through them once, and then finds, for any id, the first section of a tag that has it.
 //!
 //! ```
 //! let mailboxes = FirstSections::find(alloc, &index, b"proc_messages")?;

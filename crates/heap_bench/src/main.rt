@@ -1,11 +1,11 @@
 //! `heap_bench WHAT FILE [PID ADDR]`: what the benchmark times of a heap and of an external term.
 //!
-//! - `lines`: reads each line of the file as a heap line, and says how many lines are one. What it takes is the time of
-//!   `heap_line` and `form`, beside that of reading the file.
-//! - `external`: reads the file as one external term, 131 before it, and writes its text into nothing. What it takes is the
-//!   time of that and of reading the file.
+//! - `lines`: reads each line of the file as a heap line, and says how many lines
+//!   are one. Its time is that of `heap_line` and `form`, and of reading the file.
+//! - `external`: reads the file as one external term, after a 131, and writes
+//!   its text into nothing. Its time is that of this and of reading the file.
 //! - `load`: loads the heap of a process, and says how many cells it has.
-//! - `previews`: loads the previews of its references to binaries too.
+//! - `previews`: also loads the previews of its references to binaries.
 //! - `walk`: judges and prints the term at an address into nothing, and says whether it is clean.
 #![tactic(auto)]
 
@@ -27,7 +27,7 @@ use term_forms::shapes::Elem;
 use term_forms::{Enc, heap_line};
 use term_unfold::{Verdict, Walker};
 
-// Whether a line is an address and a form behind it.
+// Whether a line is an address followed by a form.
 fn is_heap_line(text: &[u8]) -> bool {
     heap_line(text).is_some_and(|(_, spelled)| form(spelled, Enc::Base64).is_some())
 }
@@ -68,7 +68,7 @@ fn walk(rt: &HostRuntime, heap: &Heap, previews: &Previews, addr: u64) -> bool
     }
 }
 
-// What was done with the heap of a process; none where something wasn't loaded.
+// What was done with the heap of a process; `None` if something wasn't loaded.
 fn on_heap(rt: &HostRuntime, what: &str, file: &str, pid: &str, addr: u64) -> Option<u64> {
     let alloc = rt.alloc();
     let limits = Limits::usual();

@@ -7,9 +7,7 @@ use dump_io::{Failed, Sink};
 pub struct Nowhere;
 
 impl Sink for Nowhere {
-    ghost written = { λ _. None };
-
-    ghost faults = { λ _. 0 };
+    ghost state = { λ _. record { written = None; faults = 0 } };
 
     fn write(&mut self, piece: &[u8]) -> Result<usize, Failed> {
         Ok(piece.len())

@@ -1,4 +1,4 @@
--- The cells of a heap: of all heap lines with one address the first counts.
+-- The cells of a heap: of all heap lines with the same address the first counts.
 use Rattle.std.specs.Prelude.{ℕ, ◌+◌, ◌==◌, ◌++◌, List, [], ◌∷◌, length, map, Option, None, Some, if◌then◌else◌}
 use Rattle.std.specs.Option.{option_map}
 use Rattle.std.specs.List.{filter_map, list_any, sum_by}
@@ -12,24 +12,24 @@ use Rattle.term_forms.specs.ReadingForms.{form_of}
 use Rattle.heap_cells.specs.declared.cells.Kind.{Kind}
 use Rattle.heap_cells.specs.declared.cells.Kind.TheVariants as kind
 
--- an address, and the form of its text; none where the text is no form, so that the cell is malformed
+-- an address, and the form of its text; `None` if the text spells no form, so that the cell is malformed
 pub record Cell : Type 0 where
   pub address : ℕ
   pub form : Option HeapForm
 
--- the cell of an address and the text behind it: malformed where that spells no form
+-- the cell of an address and the text after it, which is malformed if the text spells no form
 abbrev pub spelled_cell : Enc → ℕ × List ℕ → Cell
 spelled_cell enc led = record { address = led.0; form = form_of enc led.1 }
 
--- the cell of a line, where the line is a heap line: its address in hex, a `:`, and the text of the form
+-- the cell of a line, if the line is a heap line: its address in hex, a `:`, and the text of the form
 abbrev pub cell_of : Enc → TextLine → Option Cell
 cell_of enc line = option_map (spelled_cell enc) (led_of line.text)
 
--- the cells of all heap lines of a body, repeated addresses too
+-- the cells of all heap lines of a body, including repeated addresses
 abbrev pub line_cells : Enc → List ℕ → List Cell
 line_cells enc body = filter_map (cell_of enc) (text_lines body)
 
--- the cells whose address is not one of those seen, nor that of a cell before them
+-- the cells whose address is none of those seen, and isn't that of a cell before them
 abbrev pub first_cells : List ℕ → List Cell → List Cell
 first_cells seen [] = []
 first_cells seen (cell ∷ cells) =
@@ -65,7 +65,7 @@ kind_of (Flat keys values) = kind.Flat
 kind_of (Hash size children) = kind.Hash
 kind_of (Node children) = kind.Node
 
--- a cell, and the elements of its form
+-- the weight of a cell: 1 for itself, and 1 for each element of its form
 abbrev pub cell_weight : Cell → ℕ
 cell_weight cell = 1 + length (elements_in cell.form)
 
@@ -73,7 +73,8 @@ cell_weight cell = 1 + length (elements_in cell.form)
 abbrev pub weight_of : List Cell → ℕ
 weight_of cells = sum_by cell_weight cells
 
--- what a heap is too dense by: all heap lines of both bodies, and the elements of their forms, repeated addresses too
+-- what makes a heap too dense: all heap lines of both bodies,
+-- and the elements of their forms, including repeated addresses
 abbrev pub weight : Enc → List ℕ → List ℕ → ℕ
 weight enc heap literals = weight_of (line_cells enc heap ++ line_cells enc literals)
 

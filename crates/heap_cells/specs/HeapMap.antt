@@ -7,8 +7,8 @@ use Rattle.term_forms.specs.Elements.{Element}
 use Rattle.term_forms.specs.Forms.{HeapForm, IsForm}
 use Rattle.heap_cells.specs.Cells.{Cell, elements_in, addresses, weight_of}
 
--- the cells, numbered from 0; how many of them come from the heap's own body; how payloads are written; and how
--- many bytes each of the two bodies has
+-- the cells, numbered from 0; how many of them come from the heap's own body;
+-- how payloads are written; and how many bytes each of the two bodies has
 pub record HeapMap : Type 0 where
   pub cells : List Cell
   pub own : ℕ
@@ -16,7 +16,7 @@ pub record HeapMap : Type 0 where
   pub heap_size : ℕ
   pub literals_size : ℕ
 
--- each address stands once; there are at most 100,000,000 cells and elements; each body has at most 512 MiB
+-- no address occurs twice; there are at most 100,000,000 cells and elements; each body has at most 512 MiB
 pub record IsBounded (heap : HeapMap) : Type 0 where
   pub distinct : IsDistinct nat_eq (addresses heap.cells)
   pub weight : weight_of heap.cells ≤ 100000000
@@ -32,7 +32,7 @@ number_at cells address = position (λ cell. cell.address == address) cells
 abbrev pub address_at : List Cell → ℕ → Option ℕ
 address_at cells number = option_map (λ cell. cell.address) (slice_get cells number)
 
--- the form of the cell with a number; none where that cell is malformed
+-- the form of the cell with a number; `None` if that cell is malformed
 abbrev pub form_at : List Cell → ℕ → Option HeapForm
 form_at cells number = option_and_then (λ cell. cell.form) (slice_get cells number)
 

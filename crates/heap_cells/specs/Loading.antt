@@ -1,8 +1,8 @@
--- What is said of the loading of a heap.
+-- What loading a heap promises.
 use Rattle.std.specs.Prelude.{◌≡◌, ℕ, ◌<◌, ◌≤◌, List, [], Option, None, Some, Result, Ok, Err, codes, position, nat_lt, if◌then◌else◌}
 use Rattle.std.specs.Option.{option_or}
 use Rattle.std.specs.List.{between}
-use Rattle.dump_io.specs.Dumps.{Now, closed, told, sized, Use, DeviceFailed}
+use Rattle.dump_io.specs.Dumps.{Now, closed, told, sized, DeviceState, DeviceFailed}
 use Rattle.section_index.specs.declared.bodies.BodyFault.{BodyFault}
 use Rattle.section_index.specs.declared.bodies.BodyFault.TheVariants as body
 use Rattle.section_index.specs.Bodies.{body_length, section_at}
@@ -37,7 +37,7 @@ heap_section index pid = section_in index (position (λ section. is_named (codes
 abbrev pub literals_section : Contents → Option Section
 literals_section index = section_in index (position (λ section. has_tag (codes "literals") section.text) (sections_in index))
 
--- how many bytes the body has; a section that isn't there is empty
+-- how many bytes the body has; a missing section counts as empty
 abbrev pub body_size : Option Section → ℕ
 body_size None = 0
 body_size (Some section) = body_length section
@@ -47,13 +47,13 @@ abbrev pub body_in : List ℕ → Option Section → List ℕ
 body_in dump None = []
 body_in dump (Some section) = between section.body section.end dump
 
--- these are the bytes of the body, where the bytes of what is open are told
+-- these are the bytes of the body, if the device tells the bytes of what is open
 abbrev pub IsBodyIn : Now → Option Section → List ℕ → Type 0
 IsBodyIn closed section bytes = ⊥
 IsBodyIn (told dump) section bytes = bytes ≡ body_in dump section
 IsBodyIn (sized size) section bytes = Unit {0}
 
--- the fault of a body as one of the heap
+-- the fault of a body, as a fault of the heap
 abbrev pub heap_fault_of : BodyFault → HeapFault
 heap_fault_of (body.SectionTooLarge at len) = SectionTooLarge at len
 heap_fault_of body.Read = Read
@@ -65,11 +65,11 @@ too_large limit None = None
 too_large limit (Some section) =
     if nat_lt limit (body_length section) then Some (SectionTooLarge section.at (body_length section)) else None
 
--- that of the heap stands before that of the literals
+-- the refusal of the heap comes before that of the literals
 abbrev pub bodies_fault : ℕ → Option Section → Option Section → Option HeapFault
 bodies_fault limit heap literals = option_or (too_large limit heap) (too_large limit literals)
 
--- the same by the pid of the heap
+-- the same from the pid of the heap
 abbrev pub section_fault : ℕ → Contents → List ℕ → Option HeapFault
 section_fault limit index pid = bodies_fault limit (heap_section index pid) (literals_section index)
 
@@ -78,7 +78,7 @@ pub record IsMapOf (enc : Enc) (heap literals : List ℕ) (found : HeapMap) : Ty
   pub cells : found.cells ≡ cells_of enc heap literals
   pub own : found.own ≡ own_count enc heap
 
--- what an answer tells of these bodies: their map, or that they have more lines and elements than the limit
+-- what an answer says of these bodies: their map, or that they have more lines and elements than the limit
 abbrev pub IsAnswerFor : Enc → List ℕ → List ℕ → ℕ → Result HeapMap HeapFault → Type 0
 IsAnswerFor enc heap literals dense (Ok found) = IsMapOf enc heap literals found × (weight enc heap literals ≤ dense)
 IsAnswerFor enc heap literals dense (Err (TooDense count)) = (count ≡ weight enc heap literals) × (dense < count)
@@ -86,26 +86,27 @@ IsAnswerFor enc heap literals dense (Err (SectionTooLarge at len)) = Unit {0}
 IsAnswerFor enc heap literals dense (Err Read) = Unit {0}
 IsAnswerFor enc heap literals dense (Err Memory) = Unit {0}
 
--- why a heap isn't loaded: a body is too large, the heap is too dense, or the device failed; memory may lack at any time
-abbrev pub IsCauseOf : Option HeapFault → ℕ → Use → HeapFault → Type 0
-IsCauseOf refused dense device (SectionTooLarge at len) = refused ≡ Some (SectionTooLarge at len)
-IsCauseOf refused dense device (TooDense count) = dense < count
-IsCauseOf refused dense device Read = DeviceFailed device
-IsCauseOf refused dense device Memory = Unit {0}
+-- why a heap isn't loaded: a body is too large, the heap is too
+-- dense, or the device failed; memory may be lacking at any time
+abbrev pub IsCauseOf : Option HeapFault → ℕ → DeviceState → DeviceState → HeapFault → Type 0
+IsCauseOf refused dense before after (SectionTooLarge at len) = refused ≡ Some (SectionTooLarge at len)
+IsCauseOf refused dense before after (TooDense count) = dense < count
+IsCauseOf refused dense before after Read = DeviceFailed before after
+IsCauseOf refused dense before after Memory = Unit {0}
 
--- too many lines and elements, or no memory
+-- too many lines and elements, or a lack of memory
 abbrev pub IsOfTheTexts : HeapFault → Type 0
 IsOfTheTexts (SectionTooLarge at len) = ⊥
 IsOfTheTexts (TooDense count) = Unit {0}
 IsOfTheTexts Read = ⊥
 IsOfTheTexts Memory = Unit {0}
 
--- the device failed, or there is no memory
-abbrev pub IsReadFault : Use → HeapFault → Type 0
-IsReadFault device (SectionTooLarge at len) = ⊥
-IsReadFault device (TooDense count) = ⊥
-IsReadFault device Read = DeviceFailed device
-IsReadFault device Memory = Unit {0}
+-- the device failed, or memory was lacking
+abbrev pub IsReadFault : DeviceState → DeviceState → HeapFault → Type 0
+IsReadFault before after (SectionTooLarge at len) = ⊥
+IsReadFault before after (TooDense count) = ⊥
+IsReadFault before after Read = DeviceFailed before after
+IsReadFault before after Memory = Unit {0}
 
 -- a refusal as an answer
 abbrev pub refused : Option HeapFault → Result (Unit {0}) HeapFault

@@ -16,18 +16,19 @@ use Rattle.heap_cells.specs.HeapMap.{number_at, form_at}
 abbrev pub number : CellIx → ℕ
 number ix = ix.0
 
--- what an element leads to: nothing, since it is no reference; the cell with a number; or an address that no cell has
+-- what an element leads to: nothing, since it is no reference;
+-- the cell with a number; or an address that no cell has
 pub data Target : Type 0 where
   Plain : Target
   At : ℕ → Target
   Missing : ℕ → Target
 
--- where a reference to an address leads, by the number of the cell that the map has there
+-- where a reference to an address leads, from the number of the cell with that address, if the map has one
 abbrev pub target_at : ℕ → Option ℕ → Target
 target_at address None = Missing address
 target_at address (Some number) = At number
 
--- where an element leads: a reference to a cell or to a missing address, any other nowhere
+-- where an element leads: a reference to a cell or to a missing address, any other element nowhere
 abbrev pub target : List Cell → Element → Target
 target cells Nil = Plain
 target cells (Small integer) = Plain
@@ -36,7 +37,7 @@ target cells (Pid pid) = Plain
 target cells (Port port) = Plain
 target cells (Ref address) = target_at address (number_at cells address)
 
--- what a slot says; the place in an `Imm` is left aside
+-- where a slot leads; the place in an `Imm` plays no part
 abbrev pub slot_target : Slot → Target
 slot_target (slot.Imm place) = Plain
 slot_target (slot.Cell ix) = At (number ix)
@@ -48,7 +49,7 @@ kid_target (kid.Imm e) = Plain
 kid_target (kid.Cell ix) = At (number ix)
 kid_target (kid.Gone address) = Missing address
 
--- an element that is no reference is kept as it is
+-- an immediate is kept as it is
 abbrev pub KeepsElement : Kid → Element → Type 0
 KeepsElement (kid.Imm found) e = element found ≡ e
 KeepsElement (kid.Cell ix) e = Unit {0}
@@ -60,13 +61,13 @@ IsSeatOf cells address seat.Missing = number_at cells address ≡ None
 IsSeatOf cells address (seat.Malformed ix) = (number_at cells address ≡ Some (number ix)) × (form_at cells (number ix) ≡ None)
 IsSeatOf cells address (seat.Cell ix) = (number_at cells address ≡ Some (number ix)) × IsSome (form_at cells (number ix))
 
--- a cell that is named is one of so many
+-- if a cell is named, its number is below this bound
 abbrev pub IsSeatWithin : ℕ → Seat → Type 0
 IsSeatWithin count seat.Missing = Unit {0}
 IsSeatWithin count (seat.Malformed ix) = number ix < count
 IsSeatWithin count (seat.Cell ix) = number ix < count
 
--- the cell to which an element leads is one of so many
+-- if the element leads to a cell, its number is below this bound
 abbrev pub IsWithin : ℕ → Target → Type 0
 IsWithin count Plain = Unit {0}
 IsWithin count (At number) = number < count

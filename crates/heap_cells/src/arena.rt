@@ -12,7 +12,8 @@ use std::alloc::Global;
 use term_forms::reading::elem;
 use term_forms::shapes::Elem;
 
-// The records of cells, and the slots of their elements. The slots of a record begin where those of the one before it end.
+// The records of cells, and the slots of their elements. The
+// slots of each record begin where those of the one before end.
 #[derive(Drop)]
 pub(crate) struct Arena {
     pub cells: Vec<CellRecord>,
@@ -61,7 +62,7 @@ pub(crate) fn slots_of(arena: &Arena, i: usize) -> &[Slot]
     between(&arena.slots, from, upto)
 }
 
-// The element that a part of the text begins with.
+// The element with which a part of the text begins.
 fn first_elem(texts: &Texts, from: usize, upto: usize) -> Elem<'_>
     requires part { IsPart (seam_of texts.now) (length (text_of texts.now)) from upto }
     requires some { IsSome (element_at (text_of texts.now) from upto) }
@@ -73,7 +74,7 @@ fn first_elem(texts: &Texts, from: usize, upto: usize) -> Elem<'_>
     found
 }
 
-// What a slot stands for, where the text of its form ends at a place.
+// What a slot stands for, given the place where the text of its form ends.
 pub(crate) fn kid_of(texts: &Texts, slot: Slot, upto: usize) -> Kid<'_>
     requires { IsReadable (text_of texts.now) (seam_of texts.now) upto slot }
     ensures target { kid_target result ≡ slot_target slot }

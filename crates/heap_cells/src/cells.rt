@@ -23,14 +23,14 @@ impl CellIx {
     }
 }
 
-/// Why a reference has no term.
+/// Why a reference leads to no term.
 #[derive(Clone, Copy, Debug, PartialEq, Eq)]
 pub enum Why {
     /// No cell has the address.
     Missing,
-    /// The text of the cell is no form, or no form that may stand there.
+    /// The text of the cell spells no form, or none that is allowed there.
     Malformed,
-    /// The cell is one of those that lead to the reference.
+    /// The cell is one of those through which the reference was reached.
     OnPath,
 }
 
@@ -39,9 +39,9 @@ pub enum Why {
 pub enum Seat {
     /// No cell has the address.
     Missing,
-    /// The cell that has the address, whose text is no form.
+    /// The cell that has the address; its text spells no form.
     Malformed(CellIx),
-    /// The cell that has the address.
+    /// The cell that has the address; its text spells a form.
     Cell(CellIx),
 }
 
@@ -66,7 +66,7 @@ pub enum Kind {
 /// An element of a cell's form, with its reference resolved.
 #[derive(Clone, Copy, Debug, PartialEq, Eq)]
 pub enum Kid<'a> {
-    /// The element, which is no reference.
+    /// An immediate: the element itself, which is no reference.
     Imm(Elem<'a>),
     /// The element refers to this cell, which may be malformed.
     Cell(CellIx),
@@ -74,10 +74,10 @@ pub enum Kid<'a> {
     Gone(u64),
 }
 
-/// An element of a cell's form as it is kept, with its reference resolved.
+/// An element of a cell's form as it is stored, with its reference resolved.
 #[derive(Clone, Copy, Debug, PartialEq, Eq)]
 pub enum Slot {
-    /// The element is no reference. The number is the place of its spelling, and no clause speaks of it.
+    /// An immediate, which is no reference. The number is the place of its spelling; no clause speaks of it.
     Imm(u32),
     /// The element refers to this cell, which may be malformed.
     Cell(CellIx),
@@ -85,8 +85,8 @@ pub enum Slot {
     Gone(u64),
 }
 
-// A cell: its address, where the text of its form stands, and the number of its first slot. Its slots end where those of
-// the next cell begin. Where the text is no form there is no kind.
+// A cell: its address, where the text of its form stands, and the number of its first slot. Its
+// slots end where those of the next cell begin. If the text spells no form, there is no kind.
 #[derive(Clone, Copy, Debug)]
 pub(crate) struct CellRecord {
     pub address: u64,

@@ -8,8 +8,8 @@ use thiserror::Error;
 /// Why a heap isn't loaded.
 #[derive(Debug, Drop, Error)]
 pub enum HeapFault {
-    /// A body has more bytes than the limit on sections; `at` is the offset of its section in the file, and `len` the
-    /// number of bytes.
+    /// A body has more bytes than the limit on a section's body; `at` is the offset
+    /// of its section in the file, and `len` the number of bytes of the body.
     #[error("the section at {at} is too large: {len} bytes")]
     SectionTooLarge { at: u64, len: u64 },
     /// The heap has more lines and elements than the limit; `count` is their number.

@@ -15,7 +15,7 @@ use term_forms::reading::{elem, form};
 use term_forms::shapes::{Elem, Form};
 use term_forms::{Enc, PlacedElem, PlacedElems, front_is_longest, front_of_element, placed_form};
 
-// No form, a list with its head and its tail, or another form with its elements and their places.
+// No form, a cons cell with its head and its tail, or another form with its elements and their places.
 #[derive(Drop)]
 pub(crate) enum Found<'a> {
     Malformed,
@@ -32,7 +32,7 @@ fn read_other(text: &[u8], enc: Enc) -> Found<'_>
     }
 }
 
-// A head and a tail are read once, and their places are mostly told without reading them again.
+// A head and a tail are read once, and their places are mostly known without reading them again.
 fn read_list(text: &[u8], enc: Enc) -> Found<'_>
     ensures { IsReadOf enc text.now (read_in text.now result) }
 {
@@ -90,7 +90,7 @@ fn element_count(form: &Form<'_>) -> u64
     }
 }
 
-// A cell and its elements.
+// The weight of a cell: 1 for itself, and 1 for each of its elements.
 pub(crate) fn found_weight(text: &[u8], found: &Found<'_>) -> u64
     ensures { result ≡ 1 + length (elements_in (form_found (read_in text.now found.now))) }
 {
@@ -111,7 +111,7 @@ fn slot_for(found: &PlacedElem<'_>, from: usize) -> Slot
     }
 }
 
-// The slots of the elements of a form, whose text begins at a place.
+// The slots of the elements of a form whose text begins at a place.
 fn push_slots(
     slots: &mut Vec<Slot>,
     elements: PlacedElems<'_>,
@@ -132,7 +132,7 @@ fn behind_tag(text: &[u8]) -> &[u8]
     if text.is_empty() { text } else { &text[1..] }
 }
 
-// The place of a list's tail in its text.
+// The place of a cons cell's tail in its text.
 fn tail_at(text: &[u8]) -> usize
     ensures { result ≡ tail_at text.now }
 {
@@ -142,7 +142,7 @@ fn tail_at(text: &[u8]) -> usize
     }
 }
 
-// The slot of a list's tail. That of a reference has no place.
+// The slot of a cons cell's tail. If the tail is a reference, the slot has no place.
 fn tail_slot(text: &[u8], tail: &Elem<'_>, from: usize) -> Slot
     requires { from + tail_at text.now < 4294967296 }
     ensures { result ≡ slot_with (from + tail_at text.now) (element tail.now) }
@@ -155,7 +155,7 @@ fn tail_slot(text: &[u8], tail: &Elem<'_>, from: usize) -> Slot
     }
 }
 
-// The slots of a list's head and tail.
+// The slots of a cons cell's head and tail.
 fn push_list(
     slots: &mut Vec<Slot>,
     text: &[u8],

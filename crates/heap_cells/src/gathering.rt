@@ -1,4 +1,4 @@
-// The heap lines of the bodies are gathered one by one.
+// Gathering the heap lines of the bodies one by one.
 ghost use Rattle.std.specs.Prelude.{◌≡◌, ◌+◌, ◌^◌, ◌<◌, ◌≤◌, ◌-◌, ◌∷◌, ◌++◌, [], List, length, slice_range, OnOk, IfOk};
 ghost use Rattle.std.specs.List.{filter_map};
 ghost use Rattle.field_lines.specs.Lines.{TextLine};
@@ -18,8 +18,8 @@ use field_lines::reading::lines;
 use std::alloc::{AllocError, Global};
 use term_forms::heap_line;
 
-// The cells of the lines so far, with references not resolved, and how many lines and elements there are so far. Where
-// these are more than the limit, no more cells are kept.
+// The cells of the lines so far, with unresolved references, and how many lines and
+// elements there are so far. Once these are more than the limit, no more cells are kept.
 #[derive(Drop)]
 pub(crate) struct Gathering {
     pub arena: Arena,
@@ -27,7 +27,7 @@ pub(crate) struct Gathering {
     pub dense: u32,
 }
 
-// One more cell, the text of whose form stands from a place up to another one.
+// Appends a cell, given where the text of its form begins and ends.
 fn push_cell(
     arena: &mut Arena,
     address: u64,
@@ -56,7 +56,7 @@ fn push_cell(
     Ok(())
 }
 
-// The cell of a heap line, the text of whose form stands from a place up to another one.
+// Gathers the cell of a heap line, given where the text of its form begins and ends.
 fn gather_cell(
     texts: &Texts,
     address: u64,
@@ -85,7 +85,7 @@ fn gather_cell(
     push_cell(&mut g.arena, address, from, upto, text, found)
 }
 
-// The cell of a line, where the line is a heap line.
+// Gathers the cell of a line, if the line is a heap line.
 fn gather_line(
     texts: &Texts,
     base: usize,
@@ -111,7 +111,7 @@ fn gather_line(
     gather_cell(texts, address, upto - spelled.len(), upto, g)
 }
 
-// The cells of all lines of a body that stands at a place of the text.
+// Gathers the cells of all lines of a body that stands at a place of the text.
 pub(crate) fn gather_lines(
     texts: &Texts,
     base: usize,
@@ -137,7 +137,7 @@ pub(crate) fn gather_lines(
     Ok(())
 }
 
-// The heap lines of both bodies, and how many cells are those of the process's own heap.
+// Gathers the heap lines of both bodies, and how many of the cells are those of the process's own heap.
 pub(crate) fn gather_all(
     alloc: Global,
     texts: &Texts,

@@ -1,10 +1,10 @@
-// The heap of a process by address.
+// The heap of a process, by address.
 ghost use Rattle.std.specs.Prelude.{◌≡◌, ◌+◌, ◌<◌, ◌≤◌, ℕ, List, map, length, slice_get, None, Some, IfSome, IsSome, IfOk, OnOk, IfErr, IsErrOf, All};
 ghost use Rattle.std.specs.Option.{option_map};
 ghost use Rattle.term_forms.specs.SeenForms.{heap_form};
 ghost use Rattle.heap_cells.specs.Cells.{kind_of};
 ghost use Rattle.heap_cells.specs.HeapMap.{IsBounded, address_at, form_at, elements_at, IsSpelled};
-ghost use Rattle.dump_io.specs.Dumps.{ReadsAtMost, used, told};
+ghost use Rattle.dump_io.specs.Dumps.{ReadsAtMost, told};
 ghost use Rattle.section_index.specs.Index.{IsBuiltOver};
 ghost use Rattle.heap_cells.specs.declared.faults.HeapFault.{HeapFault};
 ghost use Rattle.heap_cells.specs.Loading.{enc_of, heap_section, literals_section, section_in, body_size, body_in, bodies_fault, section_fault, IsAnswerFor, IsCauseOf, IsOfTheTexts};
@@ -26,7 +26,8 @@ use std::marker::Model;
 use term_forms::shapes::Form;
 use term_forms::{Enc, spelled_form};
 
-/// The cells of a process's heap, and those of the literals behind them. Contracts see the list of the cells by number.
+/// The cells of a process's heap, followed by those of the
+/// literals. Contracts see the list of the cells by number.
 #[derive(Drop)]
 pub struct Heap {
     texts: Texts,
@@ -55,19 +56,21 @@ impl Model for Heap {
 }
 
 impl Heap {
-    /// Reads the heap of a process and the literals: the first `proc_heap` section with the pid as its id, and the first
-    /// `literals` section. A section that isn't there is empty. The index is one that was built over the file that is
-    /// open, and the file stays open.
+    /// Reads the heap of a process and the literals: the first `proc_heap` section
+    /// with the pid as its id, and the first `literals` section. A missing section
+    /// counts as empty. The index was built over the open file, which stays open.
     ///
-    /// A heap line is a line with a `:` and a hex number of 1 to 16 digits before the first one: the address of a cell,
-    /// whose form is spelled by what follows the `:`. A cell is malformed where that spells no form. Other lines are passed
-    /// over, and so are heap lines whose address an earlier one has; the lines of the heap stand before the literals.
+    /// A heap line is a line with a `:` and a hex number of 1 to 16 digits before the first one.
+    /// That number is the address of a cell, and what follows the `:` spells its form; if it
+    /// spells none, the cell is malformed. Other lines are passed over, and so are heap lines with
+    /// the address of an earlier one; the lines of the heap come before those of the literals.
     ///
-    /// The refusals come in this order: `SectionTooLarge` exactly where a body has more bytes than the limit on sections,
-    /// the heap's before that of the literals, and nothing is read then; `Read`, only where the device's count of faults
-    /// rose; and `TooDense` exactly where all heap lines and the elements of their forms, those passed over included, are
-    /// more than the limit. `Memory` may come at any growth. Whatever the answer, at most as many bytes are read as the two
-    /// bodies have.
+    /// The refusals are judged in this order: `SectionTooLarge` exactly when a body has more bytes than the
+    /// limit on a section's body, the heap's before that of the literals, and nothing is read then; `Read` only
+    /// if the device's count of faults rose; and `TooDense` exactly when all heap lines and the elements of
+    /// their forms, including those passed over, are more than the limit, unless `Read` or `Memory` is
+    /// returned. `Memory` may come from any allocation. Whatever it returns, at most as many bytes are read as
+    /// the two bodies have.
     pub fn load<D: Dumps>(
         alloc: Global,
         dumps: &mut D,
@@ -75,17 +78,17 @@ impl Heap {
         pid: &[u8],
         limits: &Limits,
     ) -> Result<Heap, HeapFault>
-        requires over { IsBuiltOver (D.now dumps.old) index.now }
-        ensures reads { ReadsAtMost (used D.files D.now D.faults D.taken dumps.old dumps.new)
+        requires over { IsBuiltOver (D.state dumps.old).now index.now }
+        ensures reads { ReadsAtMost (D.state dumps.old) (D.state dumps.new)
             (body_size (heap_section index.now pid.now) + body_size (literals_section index.now)) }
 
-        // Where the bytes are told, the heap is that of the two bodies, or they are too dense.
-        ensures answer { (dump : List ℕ) → D.now dumps.old ≡ told dump
+        // If the device tells the bytes, the heap is that of the two bodies, or they are too dense.
+        ensures answer { (dump : List ℕ) → (D.state dumps.old).now ≡ told dump
             → IsAnswerFor (enc_of index.now.version) (body_in dump (heap_section index.now pid.now)) (body_in dump (literals_section index.now)) limits.now.dense result }
         ensures enc { IfOk result (λ heap. heap.enc ≡ enc_of index.now.version) }
-        ensures fault { IfErr result (IsCauseOf (section_fault limits.now.section index.now pid.now) limits.now.dense (used D.files D.now D.faults D.taken dumps.old dumps.new)) }
+        ensures fault { IfErr result (IsCauseOf (section_fault limits.now.section index.now pid.now) limits.now.dense (D.state dumps.old) (D.state dumps.new)) }
 
-        // A body that is too large is always refused as such, and the device plays no part.
+        // A body that is too large is always refused as such, whatever the device does.
         ensures loaded { OnOk result (section_fault limits.now.section index.now pid.now ≡ None) }
         ensures too_large { (fault : HeapFault) → section_fault limits.now.section index.now pid.now ≡ Some fault → IsErrOf result fault }
         ensures unread { IsSome (section_fault limits.now.section index.now pid.now) → dumps.new ≡ dumps.old }
@@ -95,8 +98,8 @@ impl Heap {
         Heap::load_at(alloc, dumps, index, heap, literals, limits)
     }
 
-    /// The same of two sections whose places among those of the index are known, for whoever loads many heaps. A section that
-    /// isn't there is empty.
+    /// The same for two sections whose places in the index are known, for
+    /// a caller that loads many heaps. A missing section counts as empty.
     pub fn load_at<D: Dumps>(
         alloc: Global,
         dumps: &mut D,
@@ -105,16 +108,16 @@ impl Heap {
         literals: Option<usize>,
         limits: &Limits,
     ) -> Result<Heap, HeapFault>
-        requires over { IsBuiltOver (D.now dumps.old) index.now }
+        requires over { IsBuiltOver (D.state dumps.old).now index.now }
         requires heap { IfSome heap (λ i. i < length index.now.headers) }
         requires literals { IfSome literals (λ i. i < length index.now.headers) }
-        ensures reads { ReadsAtMost (used D.files D.now D.faults D.taken dumps.old dumps.new)
+        ensures reads { ReadsAtMost (D.state dumps.old) (D.state dumps.new)
             (body_size (section_in index.now heap) + body_size (section_in index.now literals)) }
-        ensures answer { (dump : List ℕ) → D.now dumps.old ≡ told dump
+        ensures answer { (dump : List ℕ) → (D.state dumps.old).now ≡ told dump
             → IsAnswerFor (enc_of index.now.version) (body_in dump (section_in index.now heap)) (body_in dump (section_in index.now literals)) limits.now.dense result }
         ensures enc { IfOk result (λ heap. heap.enc ≡ enc_of index.now.version) }
         ensures fault { IfErr result (IsCauseOf (bodies_fault limits.now.section (section_in index.now heap) (section_in index.now literals)) limits.now.dense
-            (used D.files D.now D.faults D.taken dumps.old dumps.new)) }
+            (D.state dumps.old) (D.state dumps.new)) }
         ensures loaded { OnOk result (bodies_fault limits.now.section (section_in index.now heap) (section_in index.now literals) ≡ None) }
         ensures too_large { (fault : HeapFault) → bodies_fault limits.now.section (section_in index.now heap) (section_in index.now literals) ≡ Some fault
             → IsErrOf result fault }
@@ -164,7 +167,7 @@ impl Heap {
         self.arena.cells.len() as u32
     }
 
-    /// How many of the cells come from the process's own heap. They are the first ones.
+    /// How many of the cells come from the process's own heap. They come first.
     pub fn own(&self) -> u32
         ensures value { result ≡ self.now.own }
         ensures within { result ≤ length self.now.cells }
@@ -195,7 +198,7 @@ impl Heap {
         self.arena.cells[ix.number() as usize].address
     }
 
-    /// The kind of a cell's form. `None` comes exactly where the cell is malformed.
+    /// The kind of a cell's form. Returns `None` exactly when the cell is malformed.
     pub fn kind(&self, ix: CellIx) -> Option<Kind>
         requires { number ix < length self.now.cells }
         ensures { result ≡ option_map kind_of (form_at self.now.cells (number ix)) }
@@ -203,8 +206,8 @@ impl Heap {
         self.arena.cells[ix.number() as usize].kind
     }
 
-    /// The number of the elements of a cell's form; a malformed cell has none. The keys element of a flat map is its
-    /// element 0, and the values follow.
+    /// The number of elements of a cell's form; a malformed cell has none. The
+    /// keys element of a flat map is its element 0, and the values follow.
     pub fn kids(&self, ix: CellIx) -> u32
         requires { number ix < length self.now.cells }
         ensures { result ≡ length (elements_at self.now.cells (number ix)) }
@@ -226,8 +229,8 @@ impl Heap {
         kid_of(&self.texts, slot, (cell.at + cell.len) as usize)
     }
 
-    /// The form of a cell, whose text is only split: that it spells a form was judged when the heap was loaded. `None`
-    /// comes exactly where the cell is malformed.
+    /// The form of a cell, whose text is only split: that it spells a form was checked
+    /// when the heap was loaded. Returns `None` exactly when the cell is malformed.
     pub fn form(&self, ix: CellIx) -> Option<Form<'_>>
         requires { number ix < length self.now.cells }
         ensures form { option_map heap_form result ≡ form_at self.now.cells (number ix) }
@@ -243,7 +246,7 @@ impl Heap {
         }
     }
 
-    /// The elements of a cell's form as they are kept, as many as `kids` says and numbered as in `kid`.
+    /// The elements of a cell's form as they are stored, as many as `kids` says and numbered as in `kid`.
     pub fn slots(&self, ix: CellIx) -> &[Slot]
         requires { number ix < length self.now.cells }
         ensures targets { map slot_target result.now ≡ map (target self.now.cells) (elements_at self.now.cells (number ix)) }

@@ -1,4 +1,4 @@
-// Of the cells with one address the first is kept.
+// Keeping the first of the cells with each address.
 ghost use Rattle.std.specs.Prelude.{◌≡◌, ◌+◌, ◌<◌, ◌≤◌, ◌++◌, [], ℕ, List, length, take, OnOk, IfOk};
 ghost use Rattle.term_forms.specs.declared.enc.Enc.{Enc};
 ghost use Rattle.heap_cells.specs.Cells.{first_cells};
@@ -12,7 +12,8 @@ use crate::order::{firsts_of, ranks_of};
 use crate::ranks::{Ranks, are_apart};
 use std::alloc::{AllocError, Global};
 
-// Cells with their addresses and numbers by address, and how many of them come from the process's own heap.
+// Cells with their addresses, and their numbers by address,
+// and how many of them come from the process's own heap.
 #[derive(Drop)]
 pub(crate) struct Indexed {
     pub arena: Arena,
@@ -20,7 +21,7 @@ pub(crate) struct Indexed {
     pub own: u32,
 }
 
-// Which of the cells stand in front of all others with their address.
+// Which of the cells come before all others with their address.
 fn mark_firsts(alloc: Global, ranks: Ranks, cells: &[CellRecord]) -> Result<Vec<bool>, AllocError>
     requires few { length cells.now ≤ 100000000 }
     requires ranked { AreRanked cells.now ranks }
@@ -30,7 +31,7 @@ fn mark_firsts(alloc: Global, ranks: Ranks, cells: &[CellRecord]) -> Result<Vec<
     firsts_of(alloc, &order, cells)
 }
 
-// One more cell, which is the one with this number in another arena.
+// Keeps one more cell, which has number `i` in another arena.
 fn keep_cell(all: &Arena, i: usize, kept: &mut Arena) -> Result<(), AllocError>
     requires place { i < length all.now.cells.items }
     requires ordered { start_at all.now.cells.items i (length all.now.slots.items) ≤ start_at all.now.cells.items (i + 1) (length all.now.slots.items) }
@@ -46,7 +47,7 @@ fn keep_cell(all: &Arena, i: usize, kept: &mut Arena) -> Result<(), AllocError>
     Ok(())
 }
 
-// The cells from a number on and before another one that are the first with their address.
+// Keeps those of the cells in a range of numbers that are the first with their address.
 fn keep_part(
     all: &Arena,
     firsts: &[bool],
@@ -74,7 +75,8 @@ fn keep_part(
     Ok(())
 }
 
-// The cells that are the first with their address, and how many of them are among the first `own`.
+// Keeps the cells that are the first with their address,
+// and returns how many of them are among the first `own`.
 fn keep_firsts(
     alloc: Global,
     all: Arena,
@@ -97,8 +99,8 @@ fn keep_firsts(
     Ok((kept, kept_own))
 }
 
-// The cells that are the first with their address, in the order of their addresses too. The first `own` of all cells are
-// those of the process's own heap.
+// The cells that are the first with their address, with their order by
+// address. The first `own` of all cells are those of the process's own heap.
 pub(crate) fn index_cells(alloc: Global, all: Arena, own: usize) -> Result<Indexed, AllocError>
     requires own { own ≤ length all.cells.items }
     requires cells { length all.cells.items ≤ 100000000 }

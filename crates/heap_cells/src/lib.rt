@@ -1,8 +1,9 @@
 //! One process's heap by address.
 //!
-//! [`Heap::load`] reads the first `proc_heap` section of a pid and the first `literals` section. Each line of the two
-//! bodies that has a hex address, a `:` and the text of a form is a cell; of all lines with one address the first counts.
-//! The cells are numbered in the order of their lines, and a reference to another cell is kept as that cell's number.
+//! [`Heap::load`] reads the first `proc_heap` section of a pid and the first `literals`
+//! section. Each line of the two bodies that consists of a hex address, a `:` and the text of a
+//! form is a cell; of all lines with the same address the first counts. The cells are numbered
+//! in the order of their lines, and a reference to another cell is kept as that cell's number.
 #![tactic(auto)]
 
 mod arena;

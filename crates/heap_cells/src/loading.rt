@@ -1,6 +1,6 @@
-// The bodies of a heap are judged and read.
+// Judging and reading the bodies of a heap.
 ghost use Rattle.std.specs.Prelude.{◌≡◌, ◌+◌, ◌<◌, ◌≤◌, length, IfOk, IfErr, IfSome};
-ghost use Rattle.dump_io.specs.Dumps.{ReadsAtMost, used};
+ghost use Rattle.dump_io.specs.Dumps.{ReadsAtMost};
 ghost use Rattle.section_index.specs.Index.{IsBuiltOver};
 ghost use Rattle.heap_cells.specs.Loading.{enc_of, section_in, body_size, too_large, refused, IsBodyIn, IsReadFault};
 
@@ -21,7 +21,7 @@ fn enc_of(version: Version) -> Enc
     }
 }
 
-// Refuses a section whose body has more bytes than the limit. One that isn't there is empty.
+// Refuses a section whose body has more bytes than the limit. A missing section counts as empty.
 pub(crate) fn judge_size(
     index: &Index,
     place: Option<usize>,
@@ -44,7 +44,7 @@ pub(crate) fn judge_size(
     Ok(())
 }
 
-// The body of a section, which is no larger than the limit. One that isn't there is empty.
+// The body of a section, which is within the limit. A missing section counts as empty.
 fn read_or_empty<D: Dumps>(
     alloc: Global,
     dumps: &mut D,
@@ -52,13 +52,13 @@ fn read_or_empty<D: Dumps>(
     place: Option<usize>,
     limits: &Limits,
 ) -> Result<Vec<u8>, HeapFault>
-    requires over { IsBuiltOver (D.now dumps.old) index.now }
+    requires over { IsBuiltOver (D.state dumps.old).now index.now }
     requires place { IfSome place (λ i. i < length index.now.headers) }
     requires small { body_size (section_in index.now place) ≤ limits.now.section }
-    ensures reads { ReadsAtMost (used D.files D.now D.faults D.taken dumps.old dumps.new) (body_size (section_in index.now place)) }
-    ensures body { IfOk result (λ body. IsBodyIn (D.now dumps.old) (section_in index.now place) body.items) }
+    ensures reads { ReadsAtMost (D.state dumps.old) (D.state dumps.new) (body_size (section_in index.now place)) }
+    ensures body { IfOk result (λ body. IsBodyIn (D.state dumps.old).now (section_in index.now place) body.items) }
     ensures size { IfOk result (λ body. length body.items ≡ body_size (section_in index.now place)) }
-    ensures fault { IfErr result (IsReadFault (used D.files D.now D.faults D.taken dumps.old dumps.new)) }
+    ensures fault { IfErr result (IsReadFault (D.state dumps.old) (D.state dumps.new)) }
 {
     let Some(i) = place else {
         return Ok(Vec::new(alloc));
@@ -67,7 +67,7 @@ fn read_or_empty<D: Dumps>(
     Ok(body)
 }
 
-// The bodies of two sections, which are no larger than the limit.
+// The bodies of two sections, which are within the limit.
 pub(crate) fn read_texts<D: Dumps>(
     alloc: Global,
     dumps: &mut D,
@@ -76,19 +76,19 @@ pub(crate) fn read_texts<D: Dumps>(
     literals: Option<usize>,
     limits: &Limits,
 ) -> Result<Texts, HeapFault>
-    requires over { IsBuiltOver (D.now dumps.old) index.now }
+    requires over { IsBuiltOver (D.state dumps.old).now index.now }
     requires heap { IfSome heap (λ i. i < length index.now.headers) }
     requires literals { IfSome literals (λ i. i < length index.now.headers) }
     requires small_heap { body_size (section_in index.now heap) ≤ limits.now.section }
     requires small_literals { body_size (section_in index.now literals) ≤ limits.now.section }
-    ensures reads { ReadsAtMost (used D.files D.now D.faults D.taken dumps.old dumps.new)
+    ensures reads { ReadsAtMost (D.state dumps.old) (D.state dumps.new)
         (body_size (section_in index.now heap) + body_size (section_in index.now literals)) }
-    ensures heap { IfOk result (λ texts. IsBodyIn (D.now dumps.old) (section_in index.now heap) texts.heap.items) }
-    ensures literals { IfOk result (λ texts. IsBodyIn (D.now dumps.old) (section_in index.now literals) texts.literals.items) }
+    ensures heap { IfOk result (λ texts. IsBodyIn (D.state dumps.old).now (section_in index.now heap) texts.heap.items) }
+    ensures literals { IfOk result (λ texts. IsBodyIn (D.state dumps.old).now (section_in index.now literals) texts.literals.items) }
     ensures heap_size { IfOk result (λ texts. length texts.heap.items ≡ body_size (section_in index.now heap)) }
     ensures literals_size { IfOk result (λ texts. length texts.literals.items ≡ body_size (section_in index.now literals)) }
     ensures enc { IfOk result (λ texts. texts.enc ≡ enc_of index.now.version) }
-    ensures fault { IfErr result (IsReadFault (used D.files D.now D.faults D.taken dumps.old dumps.new)) }
+    ensures fault { IfErr result (IsReadFault (D.state dumps.old) (D.state dumps.new)) }
 {
     let heap = read_or_empty(alloc, dumps, index, heap, limits)?;
     let literals = read_or_empty(alloc, dumps, index, literals, limits)?;

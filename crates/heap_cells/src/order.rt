@@ -16,7 +16,7 @@ fn address_of(cells: &[CellRecord], n: u32) -> u64
     }
 }
 
-// How many of the numbers belong to cells with a lesser address: these come first.
+// How many of the numbers belong to cells with a lower address: these come first.
 fn count_below(order: &[u32], cells: &[CellRecord], address: u64) -> usize
     requires { IsNonDecreasingBy (address_in cells.now) order.now }
     ensures within { result ≤ length order.now }
@@ -53,7 +53,7 @@ fn pairs_of(alloc: Global, cells: &[CellRecord]) -> Result<Ranks, AllocError>
     Ok(pairs)
 }
 
-// The same by address, and those of cells with one address by number.
+// The same in the order of the addresses; cells with the same address are ordered by number.
 pub(crate) fn ranks_of(alloc: Global, cells: &[CellRecord]) -> Result<Ranks, AllocError>
     requires { length cells.now ≤ 100000000 }
     ensures { IfOk result (AreRanked cells.now) }
@@ -63,7 +63,7 @@ pub(crate) fn ranks_of(alloc: Global, cells: &[CellRecord]) -> Result<Ranks, All
     Ok(ranks)
 }
 
-// Whether no number in front of a place belongs to a cell with the same address as the number there.
+// Whether no number before a place belongs to a cell with the same address as the number there.
 fn begins_address(order: &[u32], cells: &[CellRecord], place: usize) -> bool
     requires { place < length order.now }
     ensures { result ≡ (place == 0) || not (address_in cells.now (slice_index_or order.now (place - 1) 0) == address_in cells.now (slice_index_or order.now place 0)) }
@@ -71,7 +71,7 @@ fn begins_address(order: &[u32], cells: &[CellRecord], place: usize) -> bool
     place == 0 || address_of(cells, order[place - 1]) != address_of(cells, order[place])
 }
 
-// Which of the cells stand in front of all others with their address.
+// Which of the cells come before all others with their address.
 pub(crate) fn firsts_of(
     alloc: Global,
     order: &[u32],

@@ -7,21 +7,21 @@ ghost use Rattle.heap_cells.specs.Inner.Ranks.{pair_at, AreApart};
 use std::alloc::{AllocError, Global};
 use std::marker::Model;
 
-// A number is less than this: a heap has at most 100,000,000 cells and elements.
+// Every number is less than this: a heap has at most 100,000,000 cells and elements.
 const NUMBERS: u64 = 134217728;
 
-// How far above the base an address is at most that fits into 64 bits with its number.
+// How far above the base an address may be at most to fit into 64 bits together with its number.
 const REACH: u64 = 137438953472;
 
-// In 64 bits each, as long as all addresses lie in reach of a base, and else as they are.
+// In 64 bits each, as long as all addresses are in reach of a base; otherwise as they are.
 #[derive(Drop)]
 enum Kept {
     Narrow(Vec<u64>),
     Wide(Vec<(u64, u32)>),
 }
 
-// Pairs of an address and a number. Those of one heap mostly lie close together, and are kept and sorted in half of the
-// memory then. Contracts see the list of the pairs.
+// Pairs of an address and a number. Those of one heap mostly lie close together, and
+// are then stored and sorted in half the memory. Contracts see the list of the pairs.
 #[derive(Drop)]
 pub(crate) struct Ranks {
     base: u64,
@@ -46,7 +46,7 @@ fn pair_at(base: u64, rank: u64) -> (u64, u32)
     (base + rank / NUMBERS, (rank % NUMBERS) as u32)
 }
 
-// The pair as one number, where its address lies in reach of the base.
+// The pair as one number, if its address is in reach of the base.
 fn rank_of(base: u64, address: u64, number: u32) -> Option<u64>
     requires { number < 134217728 }
     ensures { IfSome result (λ rank. pair_at base rank ≡ (address, number)) }
@@ -71,7 +71,7 @@ fn pairs_at(alloc: Global, base: u64, ranks: &[u64]) -> Result<Vec<(u64, u32)>, 
 }
 
 impl Ranks {
-    // No pairs, and room for so many whose addresses lie around this one.
+    // No pairs, and room for `count` of them whose addresses lie around this one.
     pub fn around(alloc: Global, address: u64, count: usize) -> Result<Ranks, AllocError>
         ensures { IfOk result (λ ranks. ranks ≡ []) }
     {
@@ -102,7 +102,7 @@ impl Ranks {
         }
     }
 
-    // One more pair. Where its address is out of reach, all are kept as they are from then on.
+    // Appends a pair. If its address is out of reach, all are stored as they are from then on.
     pub fn push(&mut self, alloc: Global, address: u64, number: u32) -> Result<(), AllocError>
         requires { number < 134217728 }
         ensures { OnOk result (self.new ≡ self.old ++ (address, number) ∷ []) }
@@ -127,7 +127,7 @@ impl Ranks {
         }
     }
 
-    // The same pairs by address, and those with one address by number.
+    // Sorts the pairs by address, and those with the same address by number.
     pub fn sort(&mut self)
         ensures permutation { IsPermutation self.old self.new }
         ensures sorted { IsNonDecreasingBy (λ pair. rank pair.0 pair.1) self.new }
@@ -150,7 +150,7 @@ impl Ranks {
     }
 }
 
-// Whether no two pairs that stand beside one another have one address.
+// Whether no two adjacent pairs have the same address.
 pub(crate) fn are_apart(ranks: &Ranks) -> bool
     ensures apart { result ≡ true → AreApart ranks.now }
     ensures beside { result ≡ false → AreApart ranks.now → ⊥ }

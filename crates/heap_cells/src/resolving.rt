@@ -1,4 +1,4 @@
-// References become the cells that they lead to.
+// Resolving references to the cells that they lead to.
 ghost use Rattle.std.specs.Prelude.{◌≡◌, ℕ, ◌<◌, ◌≤◌, ◌++◌, List, length, map, slice_index_or, IfOk, OnOk};
 ghost use Rattle.std.specs.List.Sorted.{IsNonDecreasingBy};
 ghost use Rattle.heap_cells.specs.declared.cells.CellRecord.{CellRecord};
@@ -31,7 +31,7 @@ fn first_address(ranks: &Ranks) -> u64
     if ranks.len() == 0 { 0 } else { ranks.get(0).0 }
 }
 
-// The address of each slot that is a reference, with the slot's place.
+// The address of each slot that is a reference, with the place of the slot.
 fn references_of(alloc: Global, slots: &[Slot], ranks: &Ranks) -> Result<Ranks, AllocError>
     requires { length slots.now ≤ 100000000 }
     ensures { IfOk result (AreReferences slots.now) }
@@ -43,7 +43,7 @@ fn references_of(alloc: Global, slots: &[Slot], ranks: &Ranks) -> Result<Ranks, 
     Ok(references)
 }
 
-// The place of the first pair whose address isn't lesser, which no pair in front of the place `from` is.
+// The place of the first pair whose address isn't lower; no pair before the place `from` is one.
 fn first_from(ranks: &Ranks, from: usize, address: u64) -> usize
     requires within { from ≤ length ranks.now }
     requires front { (i : ℕ) → i < from → (slice_index_or ranks.now i (0, 0)).0 < address }
@@ -56,7 +56,7 @@ fn first_from(ranks: &Ranks, from: usize, address: u64) -> usize
     at
 }
 
-// The number of the first cell with the address, whose pair would stand at the place.
+// The number of the first cell with the address, whose pair would be at the place.
 fn number_there(ranks: &Ranks, at: usize, address: u64) -> Option<u32>
     requires { IsFirstFrom ranks.now address at }
     ensures { (cells : List CellRecord) → length cells ≤ 100000000 → AreRanked cells ranks.now → result ≡ record_with cells address }
@@ -77,7 +77,7 @@ fn put_cell(slots: &mut [Slot], place: usize, number: Option<u32>)
     }
 }
 
-// Both lists ascend, so that one pass over the two finds each reference's cell.
+// Both lists are sorted, so that one pass over them finds the cell of each reference.
 fn resolve_each(slots: &mut [Slot], references: &Ranks, ranks: &Ranks)
     requires references { AreReferences slots.old references.now }
     requires ascend { IsNonDecreasingBy (λ pair. pair.0) references.now }
@@ -103,7 +103,7 @@ fn resolve_part(alloc: Global, slots: &mut [Slot], ranks: &Ranks) -> Result<(), 
     Ok(())
 }
 
-// The same in parts, halved so many times: only the references of one part at a time take memory.
+// The same in parts, by repeated halving: only the references of one part at a time take memory.
 fn resolve_parts(
     alloc: Global,
     slots: &mut [Slot],

@@ -5,8 +5,8 @@ ghost use Rattle.heap_cells.specs.Inner.Texts.{text_of, seam_of};
 
 use term_forms::Enc;
 
-// The body of the process's own heap and that of the literals, as they were read, and how their payloads are written. A
-// place in them is counted through both bodies: that of a byte of the literals is behind all of the heap's.
+// The body of the process's own heap and that of the literals, as they were read, and how their payloads
+// are written. Places count through both bodies: a byte of the literals comes after all of the heap's.
 #[derive(Drop)]
 pub(crate) struct Texts {
     pub heap: Vec<u8>,
@@ -22,7 +22,7 @@ fn slice(bytes: &[u8], from: usize, upto: usize) -> &[u8]
     &bytes[from..upto]
 }
 
-// The bytes from a place up to another one, both in one of the bodies.
+// The bytes from one place up to another, both in the same body.
 pub(crate) fn part(texts: &Texts, from: usize, upto: usize) -> &[u8]
     requires { IsPart (seam_of texts.now) (length (text_of texts.now)) from upto }
     ensures { result.now ≡ slice_range (text_of texts.now) from upto }

@@ -1,5 +1,5 @@
--- The cells that roots reach: the least set that holds the roots and, with each of its cells, those to which that leads.
--- Cells are told by their numbers.
+-- The cells that roots reach: the least set that contains the roots and, for each of
+-- its cells, those to which that cell leads. Cells are identified by their numbers.
 use Rattle.std.specs.Prelude.{◌≡◌, ℕ, Bool, true, false, ◌⊎◌, List, map, slice_get, slice_index_or, Some}
 use Rattle.std.specs.Option.{option_map}
 use Rattle.term_forms.specs.Elements.{Element}
@@ -9,7 +9,7 @@ use Rattle.heap_cells.specs.Cells.{Cell, kind_of}
 use Rattle.heap_cells.specs.HeapMap.{HeapMap, elements_at, form_at, number_at}
 use Rattle.heap_cells.specs.Targets.{Target, At, target}
 
--- where the elements of a cell's form lead, the keys element of a flat map among them; a malformed cell has none
+-- where the elements of a cell's form lead, including the keys element of a flat map; a malformed cell has none
 abbrev pub targets_at : List Cell → ℕ → List Target
 targets_at cells number = map (target cells) (elements_at cells number)
 
@@ -17,12 +17,12 @@ targets_at cells number = map (target cells) (elements_at cells number)
 abbrev pub IsAmong : List Target → ℕ → Type 0
 IsAmong targets n = (k : ℕ) × (slice_get targets k ≡ Some (At n))
 
--- at the address stands the cell, and it is a binary
+-- the cell is at the address, and is a heap binary
 pub record IsBinAt (cells : List Cell) (address n : ℕ) : Type 0 where
   pub seat : number_at cells address ≡ Some n
   pub bin : option_map kind_of (form_at cells n) ≡ Some HeapBin
 
--- the cell is a part of a binary, and at the binary's address the heap has the other, a binary
+-- the cell is a sub binary, and at its address the heap has the other, a heap binary
 pub record IsPartOf (cells : List Cell) (m n : ℕ) : Type 0 where
   pub address : ℕ
   pub offset : ℕ
@@ -30,20 +30,20 @@ pub record IsPartOf (cells : List Cell) (m n : ℕ) : Type 0 where
   pub form : form_at cells m ≡ Some (SubBin address offset size)
   pub bin : IsBinAt cells address n
 
--- an element of the cell's form refers to the other, or the cell is a part of the other
+-- an element of the cell's form refers to the other, or the cell is a sub binary of the other
 abbrev pub Leads : List Cell → ℕ → ℕ → Type 0
 Leads cells m n = IsAmong (targets_at cells m) n ⊎ IsPartOf cells m n
 
--- what roots reach: the roots themselves, and each cell to which one leads that is reached
+-- what roots reach: the roots themselves, and each cell to which a reached one leads
 pub data Reached (cells : List Cell) (Root : ℕ → Type 0) : ℕ → Type 0 where
   root : (n : ℕ) → Root n → Reached cells Root n
   step : (m n : ℕ) → Reached cells Root m → Leads cells m n → Reached cells Root n
 
--- a set of cells, by one mark for each: whether a cell is in it
+-- whether a cell is in a set, which is one mark for each cell
 abbrev pub is_in : List Bool → ℕ → Bool
 is_in marks n = slice_index_or marks n false
 
--- it is in the set
+-- the cell is in the set
 abbrev pub IsIn : List Bool → ℕ → Type 0
 IsIn marks n = is_in marks n ≡ true
 
@@ -51,11 +51,11 @@ IsIn marks n = is_in marks n ≡ true
 abbrev pub Begun : List Cell → List Bool → Element → ℕ → Type 0
 Begun cells marks e n = IsIn marks n ⊎ (target cells e ≡ At n)
 
--- a set that has, with a cell, each to which that leads
+-- a set that has, for each of its cells, those to which that cell leads
 abbrev pub IsClosed : List Cell → List Bool → Type 0
 IsClosed cells marks = (m n : ℕ) → IsIn marks m → Leads cells m n → IsIn marks n
 
--- a heap, which of its cells are reached, and for how many cells still to be looked at memory is taken
+-- a heap, which of its cells are reached, and for how many cells still to be visited memory has been taken
 pub record Reaching : Type 0 where
   pub heap : HeapMap
   pub marks : List Bool

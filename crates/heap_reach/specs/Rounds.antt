@@ -1,4 +1,5 @@
--- The reached cells as a value: a set of cells is a test of their numbers, and what elements reach is found in rounds.
+-- The reached cells as a value: a set of cells is a test of
+-- their numbers, and what elements reach is found in rounds.
 use Rattle.std.specs.Prelude.{◌≡◌, ℕ, zero, suc, ◌==◌, Bool, true, false, ◌&&◌, ◌||◌, List, length}
 use Rattle.std.specs.List.{list_any}
 use Rattle.std.specs.Option.{option_map_or}
@@ -15,16 +16,16 @@ is_at n Plain = false
 is_at n (At m) = m == n
 is_at n (Missing address) = false
 
--- whether the form is that of a binary
+-- whether the form is that of a heap binary
 abbrev pub is_bin : HeapForm → Bool
 is_bin (HeapBin size chars) = true
 is_bin form = false
 
--- whether at the address stands the cell, and it is a binary
+-- whether the cell is at the address, and is a heap binary
 abbrev pub is_bin_at : List Cell → ℕ → ℕ → Bool
 is_bin_at cells address n = option_map_or (λ m. m == n) (number_at cells address) false && option_map_or is_bin (form_at cells n) false
 
--- whether the form is that of a part of a binary, which is the cell
+-- whether the form is that of a sub binary of the cell
 abbrev pub is_part_of : List Cell → ℕ → HeapForm → Bool
 is_part_of cells n (SubBin address offset size) = is_bin_at cells address n
 is_part_of cells n form = false
@@ -33,12 +34,12 @@ is_part_of cells n form = false
 abbrev pub leads_to : List Cell → ℕ → ℕ → Bool
 leads_to cells m n = list_any (is_at n) (targets_at cells m) || option_map_or (is_part_of cells n) (form_at cells m) false
 
--- whether one of the first so many cells is in the set and leads to the cell
+-- whether one of the first n cells is in the set and leads to the cell
 abbrev pub is_led : List Cell → (ℕ → Bool) → ℕ → ℕ → Bool
 is_led cells set zero n = false
 is_led cells set (suc m) n = is_led cells set m n || (set m && leads_to cells m n)
 
--- the set after so many rounds, of which each adds the cells to which one of the set leads
+-- the set after n rounds, each of which adds the cells to which a cell of the set leads
 abbrev pub after_rounds : ℕ → List Cell → (ℕ → Bool) → ℕ → Bool
 after_rounds zero cells begun n = begun n
 after_rounds (suc rounds) cells begun n = after_rounds rounds cells begun n || is_led cells (after_rounds rounds cells begun) (length cells) n

@@ -1,4 +1,5 @@
--- The addresses of the cells that aren't in a set, and how many are. A set of cells is a test of their numbers.
+-- The addresses of the cells that aren't in a set, and how
+-- many are in one. A set of cells is a test of their numbers.
 use Rattle.std.specs.Prelude.{◌≡◌, ℕ, zero, suc, ◌+◌, ◌<◌, ◌==◌, nat_lt, Bool, true, false, if◌then◌else◌, List, [], ◌∷◌, ◌++◌, Option, None, Some}
 use Rattle.heap_cells.specs.Cells.{Cell}
 use Rattle.heap_cells.specs.HeapMap.{HeapMap, address_at}
@@ -9,19 +10,19 @@ missed true address = []
 missed false None = []
 missed false (Some address) = address ∷ []
 
--- the addresses of the first so many cells that aren't in the set, in the order of the cells
+-- the addresses of those of the first n cells that aren't in the set, in the order of the cells
 abbrev pub missed_below : List Cell → (ℕ → Bool) → ℕ → List ℕ
 missed_below cells set zero = []
 missed_below cells set (suc n) = missed_below cells set n ++ missed (set n) (address_at cells n)
 
--- the address is that of one of the first so many cells that isn't in the set
+-- the address is that of one of the first n cells, which isn't in the set
 pub record IsMissed (cells : List Cell) (set : ℕ → Bool) (count address : ℕ) : Type 0 where
   pub number : ℕ
   pub own : number < count
   pub off : set number ≡ false
   pub here : address_at cells number ≡ Some address
 
--- a number among numbers that rise
+-- a number inserted among numbers that rise
 abbrev pub placed : ℕ → List ℕ → List ℕ
 placed x [] = x ∷ []
 placed x (y ∷ ys) = if x == y then y ∷ ys else (if nat_lt x y then x ∷ y ∷ ys else y ∷ placed x ys)
@@ -35,12 +36,12 @@ ascending (x ∷ xs) = placed x (ascending xs)
 abbrev pub unreached_of : HeapMap → (ℕ → Bool) → List ℕ
 unreached_of heap set = ascending (missed_below heap.cells set heap.own)
 
--- 1 where it is so
+-- 1 if this is so, and otherwise 0
 abbrev pub one_if : Bool → ℕ
 one_if true = 1
 one_if false = 0
 
--- how many of the first so many cells are in the set
+-- how many of the first n cells are in the set
 abbrev pub count_below : (ℕ → Bool) → ℕ → ℕ
 count_below set zero = 0
 count_below set (suc n) = count_below set n + one_if (set n)

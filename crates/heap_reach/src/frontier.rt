@@ -1,4 +1,4 @@
-// The marked cells of a heap, and those of them that wait to be looked at.
+// The marked cells of a heap, and those of them that wait to be visited.
 ghost use Rattle.std.specs.Prelude.{◌≡◌, ℕ, ◌<◌, ◌^◌, [], ◌∷◌, length, IfOk, IfSome, MatchOption, slice_index_or, false};
 ghost use Rattle.heap_reach.specs.Reached.{IsIn};
 ghost use Rattle.heap_reach.specs.Inner.Frontiers.{Adds};
@@ -6,7 +6,7 @@ ghost use Rattle.heap_reach.specs.Inner.Frontiers.{Adds};
 use std::alloc::{AllocError, Global};
 use std::marker::Model;
 
-// A cell is marked when it comes to wait, so the list never has more entries than there are cells.
+// A cell is marked when it starts to wait, so the list never has more entries than there are cells.
 #[derive(Drop)]
 pub(crate) struct Marked {
     marks: Vec<bool>,
@@ -26,7 +26,7 @@ impl Model for Marked {
 }
 
 impl Marked {
-    /// A mark for each of so many cells, of which none is set, and room for as many entries.
+    /// A mark for each of `cells` cells, none of which is set, and room for as many entries.
     pub fn new(alloc: Global, cells: usize) -> Result<Marked, AllocError>
         requires { cells < 2 ^ 32 }
         ensures size { IfOk result (λ marked. length marked.marks ≡ cells) }
@@ -57,7 +57,7 @@ impl Marked {
         self.waiting.push_reserved(cell);
     }
 
-    /// Marks a cell. One that wasn't marked comes to wait.
+    /// Marks a cell. If it wasn't marked, it starts to wait.
     pub fn add(&mut self, cell: u32)
         requires { cell < length self.old.marks }
         ensures { Adds self.old self.new (λ n. n ≡ cell) }
@@ -67,7 +67,7 @@ impl Marked {
         }
     }
 
-    /// The cell that came to wait last, which waits no more.
+    /// The cell that started to wait last, which stops waiting.
     pub fn pop(&mut self) -> Option<u32>
         ensures marks { self.new.marks ≡ self.old.marks }
         ensures reserved { self.new.reserved ≡ self.old.reserved }

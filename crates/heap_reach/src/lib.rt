@@ -1,10 +1,10 @@
 //! Which cells of a heap its roots reach.
 //!
-//! A root reaches the cell to which it refers, and a cell that is reached reaches those to which the elements of its form
-//! refer, the keys element of a flat map among them, and the binary of the heap of which it is a part. A malformed cell can
-//! be reached, and leads nowhere. Which cells these are for some roots is a least set (`specs/Reached.antt`), and
-//! [`Reach::root`] adds to it what one more root reaches: a mark for each cell, and a list of those still to be looked at,
-//! whose memory [`Reach::new`] takes.
+//! A root reaches the cell to which it refers, and a reached cell reaches those to which the elements of
+//! its form refer, including the keys element of a flat map; a sub binary reaches the heap binary of which
+//! it is a part. A malformed cell can be reached, and leads nowhere. The cells that some roots reach are a
+//! least set (`specs/Reached.antt`). [`Reach::root`] adds to it what one more root reaches: it keeps a
+//! mark for each cell, and a list of those still to be visited, for which [`Reach::new`] takes the memory.
 //!
 //! ```
 //! let mut reach = Reach::new(alloc, &heap)?;

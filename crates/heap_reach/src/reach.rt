@@ -16,7 +16,7 @@ use std::alloc::{AllocError, Global};
 use std::marker::Model;
 use term_forms::shapes::{Elem, Form};
 
-// The cell to which an element refers.
+// Adds the cell to which an element refers.
 fn add_slot(marked: &mut Marked, slot: Slot)
     requires { IsWithin (length marked.old.marks) (slot_target slot) }
     ensures { Adds marked.old marked.new (λ n. slot_target slot ≡ At n) }
@@ -35,7 +35,7 @@ fn add_slots(marked: &mut Marked, slots: &[Slot])
     }
 }
 
-// The binary of the heap at an address.
+// Adds the heap binary at an address.
 fn add_bin(heap: &Heap, marked: &mut Marked, addr: u64)
     requires { length marked.old.marks ≡ length heap.now.cells }
     ensures { Adds marked.old marked.new (IsBinAt heap.now.cells addr) }
@@ -47,7 +47,8 @@ fn add_bin(heap: &Heap, marked: &mut Marked, addr: u64)
     }
 }
 
-// The binary of which a cell is a part. To ask for the kind first spares all other cells that their text is split.
+// Adds the heap binary of which a cell is a part. Checking
+// the kind first means that no other cell's text is split.
 fn add_whole(heap: &Heap, marked: &mut Marked, ix: CellIx)
     requires cells { length marked.old.marks ≡ length heap.now.cells }
     requires cell { number ix < length heap.now.cells }
@@ -61,7 +62,7 @@ fn add_whole(heap: &Heap, marked: &mut Marked, ix: CellIx)
     }
 }
 
-// The cells to which a cell leads.
+// Adds the cells to which a cell leads.
 fn look_at(heap: &Heap, marked: &mut Marked, ix: CellIx)
     requires cells { length marked.old.marks ≡ length heap.now.cells }
     requires cell { number ix < length heap.now.cells }
@@ -71,7 +72,7 @@ fn look_at(heap: &Heap, marked: &mut Marked, ix: CellIx)
     add_whole(heap, marked, ix);
 }
 
-// Looks at each cell that waits, and at those that come to wait.
+// Visits each cell that waits, including those that start to wait meanwhile.
 fn spread(heap: &Heap, marked: &mut Marked)
     requires cells { length marked.old.marks ≡ length heap.now.cells }
     requires room { marked.old.reserved ≡ length heap.now.cells }
@@ -85,7 +86,7 @@ fn spread(heap: &Heap, marked: &mut Marked)
     }
 }
 
-// The cell to which a root refers.
+// Adds the cell to which a root refers.
 fn add_root(heap: &Heap, marked: &mut Marked, root: &Elem<'_>)
     requires { length marked.old.marks ≡ length heap.now.cells }
     ensures { Adds marked.old marked.new (λ n. target heap.now.cells (element root.now) ≡ At n) }
@@ -121,16 +122,16 @@ fn missed_cells(alloc: Global, heap: &Heap, marked: &Marked) -> Result<Vec<u64>,
     Ok(found)
 }
 
-/// The cells of a heap that some roots reach. Contracts see the heap, the mark of each cell, and for how many cells still
-/// to be looked at memory is taken.
+/// The cells of a heap that some roots reach. Contracts see the heap, the mark of
+/// each cell, and for how many cells still to be visited memory has been taken.
 #[derive(Drop)]
 pub struct Reach<'h> {
     heap: &'h Heap,
     marked: Marked,
 }
 
-// Between two calls no cell waits, and there is room for exactly as many entries as the heap has cells. A cell waits once
-// at most, so there are never more.
+// Between two calls no cell waits, and there is room for exactly as many entries
+// as the heap has cells. A cell waits at most once, so there are never more.
 impl<'h> Model for Reach<'h> {
     ghost use Rattle.heap_cells.specs.HeapMap.{IsBounded};
     ghost use Rattle.heap_reach.specs.Reached.{Reaching};
@@ -144,8 +145,8 @@ impl<'h> Model for Reach<'h> {
 }
 
 impl<'h> Reach<'h> {
-    /// No cell is reached. It takes all the memory that the calls of `root` need: a mark for each cell, and room for exactly
-    /// as many entries of the list of cells that are still to be looked at.
+    /// A heap of which no cell is reached yet. Takes all the memory that calls of `root` need: a mark for
+    /// each cell, and room for exactly as many entries in the list of cells that are still to be visited.
     pub fn new(alloc: Global, heap: &'h Heap) -> Result<Reach<'h>, AllocError>
         ensures heap { IfOk result (λ reach. reach.heap ≡ heap.now) }
         ensures none { IfOk result (λ reach. (n : ℕ) → is_in reach.marks n ≡ false) }
@@ -156,9 +157,9 @@ impl<'h> Reach<'h> {
         Ok(Reach { heap, marked })
     }
 
-    /// Afterwards the reached cells are the least closed set that holds those reached before and, where the root refers to
-    /// an address of the heap, the cell there; where those reached before are what some roots reach, they are what these
-    /// and this one reach. It takes no memory.
+    /// Adds what a root reaches: afterwards the reached cells are the least closed set that contains those
+    /// reached before and, if the root refers to an address of the heap, the cell there. If those reached
+    /// before are what some roots reach, they are now what these and this one reach. Takes no memory.
     pub fn root(&mut self, root: Elem<'_>)
         ensures heap { self.new.heap ≡ self.old.heap }
         ensures reserved { self.new.reserved ≡ self.old.reserved }

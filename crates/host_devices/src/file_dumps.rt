@@ -1,9 +1,9 @@
 // The files of the machine.
-ghost use Rattle.std.specs.Prelude.{◌≡◌, ◌<◌, length, None, is_err, if◌then◌else◌};
+ghost use Rattle.std.specs.Prelude.{◌≡◌, ◌<◌, length, is_err, if◌then◌else◌};
 ghost use Rattle.dump_io.specs.Count.{number_in-small};
 ghost use Rattle.dump_io.specs.Counts.{plus_capped};
-ghost use Rattle.dump_io.specs.Dumps.{closed, size_of, used, Opens, ReadsSome};
-ghost use Rattle.host_devices.specs.Devices.{faults_of, taken_of, now_of, now_in-small};
+ghost use Rattle.dump_io.specs.Dumps.{closed, size_of, Opens, ReadsSome};
+ghost use Rattle.host_devices.specs.Devices.{faults_of, now_of, state_of, now_in-small};
 
 use dump_io::{Count, Dumps, Failed};
 use std::fs::{self, File, OpenFile};
@@ -15,9 +15,9 @@ struct OpenDump {
     size: u64,
 }
 
-/// The files of the machine. It tells neither its files nor their bytes, and counts each error of the
-/// machine as a fault: a name that can't be opened, a read that fails, and a file that ends before the
-/// size that it had when it was opened.
+/// The files of the machine. The device tells neither its files nor their bytes, and
+/// counts each error of the machine as a fault: a name that can't be opened, a read
+/// that fails, and a file that ends before the size that it had when it was opened.
 #[derive(Drop)]
 pub struct FileDumps<'a> {
     rt: &'a HostRuntime,
@@ -31,7 +31,7 @@ impl<'a> FileDumps<'a> {
     pub fn new(rt: &'a HostRuntime) -> FileDumps<'a>
         ensures now { now_of result ≡ closed }
         ensures faults { faults_of result ≡ 0 }
-        ensures taken { taken_of result ≡ 0 }
+        ensures taken { (state_of result).taken ≡ 0 }
     {
         FileDumps {
             rt,
@@ -49,20 +49,14 @@ impl<'a> FileDumps<'a> {
 }
 
 impl<'a> Dumps for FileDumps<'a> {
-    ghost files = { λ _. None };
-
-    ghost now = { now_of };
-
-    ghost faults = { faults_of };
-
-    ghost taken = { taken_of };
+    ghost state = { state_of };
 
     ghost small_size = { λ d. now_in-small d.«open» };
 
     ghost small_taken = { λ d. number_in-small d.taken };
 
     fn open_dump(&mut self, name: &str) -> Result<u64, Failed>
-        ensures opens { Opens (used (λ _. None) now_of faults_of taken_of self.old self.new) name.now result }
+        ensures opens { Opens (state_of self.old) (state_of self.new) name.now result }
 
         ensures count { faults_of self.new ≡ (if is_err result then plus_capped (faults_of self.old) 1 else faults_of self.old) }
     {
@@ -83,7 +77,7 @@ impl<'a> Dumps for FileDumps<'a> {
     fn read_at(&mut self, at: u64, into: &mut [u8]) -> Result<usize, Failed>
         requires inside { at < size_of (now_of self.old) }
         requires room { 0 < length into.old }
-        ensures reads { ReadsSome (used (λ _. None) now_of faults_of taken_of self.old self.new) at into.new result }
+        ensures reads { ReadsSome (state_of self.old) (state_of self.new) at into.new result }
 
         ensures count { faults_of self.new ≡ (if is_err result then plus_capped (faults_of self.old) 1 else faults_of self.old) }
     {

@@ -7,8 +7,8 @@
 //! out.flush()?;
 //! ```
 //!
-//! What a file or a stream of the machine holds no contract can say: a [`FileDumps`] tells no bytes, and a
-//! [`StdSink`] tells none of its own. Their counts are exact.
+//! No contract can say what a file or a stream of the machine holds: a [`FileDumps`]
+//! tells no bytes, and a [`StdSink`] tells none of its own. Their counts are exact.
 #![tactic(auto)]
 
 mod file_dumps;

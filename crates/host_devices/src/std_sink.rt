@@ -1,20 +1,20 @@
 // The streams of the machine.
-ghost use Rattle.std.specs.Prelude.{◌≡◌, ◌≤◌, ◌<◌, true, false, length, take, None, is_err, vec_len, vec_capacity, IsErr, IfOk, OnErr, OnOk, [], if◌then◌else◌};
+ghost use Rattle.std.specs.Prelude.{◌≡◌, ◌≤◌, ◌<◌, true, false, length, take, is_err, vec_len, vec_capacity, IsErr, IfOk, OnErr, OnOk, [], if◌then◌else◌};
 ghost use Rattle.std.specs.Io.KnownBytes.{Appends, Keeps};
 ghost use Rattle.dump_io.specs.Counts.{Rose, plus_capped};
-ghost use Rattle.dump_io.specs.Sinks.{changed, TakesSome};
+ghost use Rattle.dump_io.specs.Sinks.{TakesSome};
 
 use dump_io::{Count, Failed, Sink};
 use std::alloc::{AllocError, Global};
 use std::io::Write;
 
-// How many bytes a stream gathers.
+// How many bytes a stream's buffer holds.
 const GATHERED: usize = 65_536;
 
-/// A stream of the machine. It gathers what is written and hands it on when 64 KiB have come together
-/// and at `flush`. It doesn't tell what was written, and counts each error as a fault, a write that takes
-/// nothing among them. After a fault it hands on nothing more, and each later call fails. Until then what the
-/// stream got and what is gathered are all that was taken, in order.
+/// A stream of the machine. The sink buffers what is written and passes it on once 64 KiB have
+/// accumulated, and on `flush`. It doesn't tell what was written, and counts each error as a fault,
+/// including a write that takes nothing. After a fault it passes on nothing more, and each later call
+/// fails. Until then, what the stream got and what is buffered are all that was taken, in order.
 #[derive(Drop)]
 pub struct StdSink<W: Write + Drop> {
     stream: W,
@@ -43,8 +43,8 @@ impl<W: Write + Drop> StdSink<W> {
         })
     }
 
-    /// Hands on what is gathered. `Failed` comes where the stream fails now or did before, and the count of
-    /// faults rises then and only then.
+    /// Passes on what is buffered. Returns `Failed` if the stream fails
+    /// now or failed before; the count of faults rises exactly then.
     pub fn flush(&mut self) -> Result<(), Failed>
         ensures later { count_of self.old ≤ count_of self.new }
         ensures failed { OnErr result (Rose (count_of self.old) (count_of self.new)) }
@@ -54,7 +54,7 @@ impl<W: Write + Drop> StdSink<W> {
         ensures silent { is_broken_in self.old ≡ true → stream_of self.new ≡ stream_of self.old }
         ensures empty { OnOk result (self.new.gathered.items ≡ []) }
 
-        // The stream then holds what was gathered, where it tells its bytes.
+        // The stream then holds what was buffered, if it tells its bytes.
         ensures held { OnOk result (Keeps (held_by self.old) (held_by self.new)) }
     {
         if !self.is_broken && self.hand_on() {
@@ -77,22 +77,20 @@ impl<W: Write + Drop> StdSink<W> {
 }
 
 impl<W: Write + Drop> Sink for StdSink<W> {
-    ghost use Rattle.host_devices.specs.Devices.{count_of, held_by, is_broken_in, stream_of};
+    ghost use Rattle.host_devices.specs.Devices.{count_of, held_by, is_broken_in, sink_state_of, stream_of};
 
-    ghost written = { λ _. None };
-
-    ghost faults = { count_of };
+    ghost state = { sink_state_of };
 
     fn write(&mut self, piece: &[u8]) -> Result<usize, Failed>
         requires { 0 < length piece.now }
-        ensures takes { TakesSome (changed (λ _. None) count_of self.old self.new) piece.now result }
+        ensures takes { TakesSome (sink_state_of self.old) (sink_state_of self.new) piece.now result }
 
         ensures count { count_of self.new ≡ (if is_err result then plus_capped (count_of self.old) 1 else count_of self.old) }
         ensures broken { is_broken_in self.new ≡ is_err result }
         ensures failing { is_broken_in self.old ≡ true → IsErr result }
         ensures silent { is_broken_in self.old ≡ true → stream_of self.new ≡ stream_of self.old }
 
-        // What it takes stands behind all that it took before, where the stream tells its bytes.
+        // What it takes comes after all that it took before, if the stream tells its bytes.
         ensures held { IfOk result (λ n. Appends (held_by self.old) (held_by self.new) (take n piece.now)) }
     {
         if self.is_broken || self.gathered.len() == GATHERED {

@@ -12,7 +12,7 @@ use Rattle.dump_audit.specs.declared.finding.Finding.{Finding}
 use Rattle.dump_audit.specs.declared.finding.Finding.TheVariants.{LinkOneSided, MonitorTo, MonitorFrom, Mailbox, UnreadLinks, UnreadQueue, LinkGone, ToGone, FromGone, QueueCount}
 use Rattle.json_report.specs.Trees.{audit_tree}
 
--- the numbers that a finding tells have 64 bits, as those of each finding in the program do
+-- the numbers of a finding fit into 64 bits, as those of each finding in the program do
 abbrev pub Has64Bits : Finding → Type 0
 Has64Bits (LinkOneSided p q entry at other) = (at < 2 ^ 64) × (other < 2 ^ 64)
 Has64Bits (MonitorTo p q entry at other) = (at < 2 ^ 64) × (other < 2 ^ 64)
@@ -25,12 +25,12 @@ Has64Bits (ToGone p entry at other) = (at < 2 ^ 64) × (other < 2 ^ 64)
 Has64Bits (FromGone p entry at other) = (at < 2 ^ 64) × (other < 2 ^ 64)
 Has64Bits (QueueCount p stated found at other) = (at < 2 ^ 64) × (other < 2 ^ 64) × (stated < 2 ^ 64) × (found < 2 ^ 64)
 
--- the bytes of a dump in a file: they begin as a dump does, and are fewer than 2^64
+-- the bytes of a dump in a file: they begin as a dump does, and there are fewer than 2^64
 pub record AreOfFile (bytes : List ℕ) : Type 0 where
   pub begins : starts_with nat_eq bytes signature ≡ true
   pub size : length bytes < 2 ^ 64
 
--- numbers of messages have 64 bits
+-- numbers of messages fit into 64 bits
 abbrev pub AreCounts : Option (List (Option ℕ)) → Type 0
 AreCounts mails = IfSome mails (λ counts. All (λ count. IfSome count (λ n. n < 2 ^ 64)) counts)
 
@@ -38,7 +38,7 @@ AreCounts mails = IfSome mails (λ counts. All (λ count. IfSome count (λ n. n 
 abbrev pub IsReadBack : Data → Type 0
 IsReadBack tree = read (compact_text tree) ≡ Some tree
 
--- so is that of each audit of a dump in a file
+-- so is the text of each audit of a dump in a file
 abbrev pub ReadsBack : Type 0
 ReadsBack = (bytes : List ℕ) (limit : ℕ) (mails : Option (List (Option ℕ))) → AreOfFile bytes → AreCounts mails
     → IsReadBack (audit_tree (audit_of (index_of bytes) (process_table bytes).processes limit mails))

@@ -1,4 +1,5 @@
--- The findings of an audit as one JSON value. The keys of each object stand in the order of their bytes. Offsets are of the file.
+-- The findings of an audit as one JSON value. The keys of each
+-- object are in the order of their bytes. Offsets are of the file.
 use Rattle.std.specs.Prelude.{ℕ, List, [], ◌∷◌, ◌++◌, length, map, slice_get, decimal, codes, encode_utf8_all, Option, None, Some, unwrap_or}
 use Rattle.serde_json.specs.Data.{Data, number, unsigned, string, array, object, Items, Members, no_members, member}
 use Rattle.serde_json.specs.View.{items_of}
@@ -42,7 +43,7 @@ reference_in kind = []
 
 -- ---- values
 
--- the UTF-8 of a text of the dump, of which each byte is the character of that number
+-- the UTF-8 of a text of the dump, each byte of which is the character with that number
 abbrev pub characters : List ℕ → List ℕ
 characters bytes = encode_utf8_all bytes
 
@@ -61,7 +62,7 @@ members ((key, value) ∷ rest) = member key value (members rest)
 
 -- ---- the object of a finding
 
--- one that names its process alone
+-- one that names only its process
 abbrev pub process_object : List ℕ → List ℕ → ℕ → ℕ → Data
 process_object kind p at other = object (members (
     (codes "at", num at) ∷ (codes "kind", string kind) ∷ (codes "other", num other) ∷ (codes "p", text p) ∷ []))
@@ -83,13 +84,13 @@ mailbox_object p count at other = object (members (
     (codes "at", num at) ∷ (codes "count", num count) ∷ (codes "kind", string (codes "mailbox")) ∷ (codes "other", num other)
     ∷ (codes "p", text p) ∷ []))
 
--- one on a message queue with another number of messages than is stated
+-- one on a message queue whose number of messages isn't the stated one
 abbrev pub count_object : List ℕ → ℕ → ℕ → ℕ → ℕ → Data
 count_object p stated found at other = object (members (
     (codes "at", num at) ∷ (codes "found", num found) ∷ (codes "kind", string (codes "queue-count")) ∷ (codes "other", num other)
     ∷ (codes "p", text p) ∷ (codes "stated", num stated) ∷ []))
 
--- the object of a monitor of a process that isn't in the dump: the entry tells both its pid and its reference
+-- the object for a monitor of a process that isn't in the dump: the entry has both its pid and its reference
 abbrev pub gone_object : List ℕ → List ℕ → Kind → ℕ → ℕ → Data
 gone_object word p kind at other = monitor_object word p (partner_in kind) (reference_in kind) at other
 
@@ -110,18 +111,19 @@ finding_object ps (QueueCount p stated found at other) = count_object (pid_at ps
 
 -- ---- the tree
 
--- what is said of a dump: that it is whole, or at which offset the section begins in which it breaks off, and its header's text
+-- the text on a dump's state: that it is whole, or the offset
+-- and the header's text of the section in which it is truncated
 abbrev pub state_text : Contents → State → List ℕ
 state_text index Whole = codes "whole"
 state_text index (TruncatedIn last) =
     codes "truncated " ++ (decimal (section_at index last).at ++ (codes " " ++ characters (section_at index last).text))
 
--- an object with the number of the findings, their objects and the state
+-- an object with the number of findings, their objects and the state
 abbrev pub tree_object : ℕ → Items → List ℕ → Data
 tree_object count objects state = object (members (
     (codes "count", num count) ∷ (codes "findings", array objects) ∷ (codes "state", string state) ∷ []))
 
--- the tree of some findings, in their order, on a dump with these sections and processes
+-- the tree of these findings, in their order, on a dump with these sections and processes
 abbrev pub finding_tree : Contents → List Process → List Finding → Data
 finding_tree index processes found =
     tree_object (length found) (items_of (map (finding_object processes) found)) (state_text index (state_of index.headers))
@@ -130,6 +132,6 @@ finding_tree index processes found =
 abbrev pub audit_tree : Audit → Data
 audit_tree a = finding_tree a.index a.processes (findings a)
 
--- the text of a tree and LF
+-- the text of a tree and an LF
 abbrev pub json_text : Data → List ℕ
 json_text tree = compact_text tree ++ codes "\n"

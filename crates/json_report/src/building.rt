@@ -19,7 +19,7 @@ use section_index::{Index, State};
 use serde_json::{Value, to_vec};
 use std::alloc::{AllocError, Global};
 
-// What is said of the state of the dump.
+// The text on the state of the dump.
 fn state_text(alloc: Global, index: &Index) -> Result<String, AllocError>
     ensures { IfOk result (λ s. string_bytes s ≡ state_text index.now (state_of index.now.headers)) }
 {
@@ -69,7 +69,7 @@ pub(crate) fn tree_text(
     written(alloc, &found)
 }
 
-// The value of a text, which is one of a tree, so that want of memory alone is why there is none.
+// The value of a text, which is that of a tree, so that it is missing only for a lack of memory.
 fn read_back(alloc: Global, text: &[u8]) -> Result<Value, AllocError>
     ensures { IfOk result (λ value. read text.now ≡ Some (view value)) }
 {
@@ -79,10 +79,11 @@ fn read_back(alloc: Global, text: &[u8]) -> Result<Value, AllocError>
     }
 }
 
-/// The tree of the findings of an audit: an object with their number, an object for each of them in their order, and the
-/// state of the dump. Each has its kind, which is the first word of its line in the report, the pid of its process, its two
-/// offsets in the file, and what else its kind tells. The graph is that of the processes, and the findings fit them, as those
-/// of [`audit`](dump_audit::audit) do.
+/// The tree of the findings of an audit: an object with their number, an object for each of
+/// them in their order, and the state of the dump. The object of a finding has its kind,
+/// which is the first word of its line in the report, the pid of its process, its two
+/// offsets in the file, and whatever else its kind of finding has. The graph is that of the
+/// processes, and the findings fit them, as those of [`audit`](dump_audit::audit) do.
 pub fn tree(
     alloc: Global,
     index: &Index,

@@ -1,11 +1,11 @@
-// What an audit found, of which serde_json writes the text.
+// What an audit found, whose text serde_json writes.
 use dump_audit::Finding;
 use link_graph::Graph;
 use process_table::Procs;
 use std::alloc::Global;
 use std::marker::Model;
 
-// Findings that fit some processes, with the graph of these, and what is said of the state of the dump.
+// Findings that fit the processes, with the graph of these, and the text on the state of the dump.
 #[derive(Drop)]
 pub(crate) struct Found<'a> {
     pub(crate) alloc: Global,

@@ -3,8 +3,8 @@ ghost use Rattle.json_report.specs.Laws.{ReadsBack};
 
 use section_index::sections_tile_a_dump;
 
-/// A law, and no work: the compact text of the tree of an audit is read back as that tree, for each dump in a file and
-/// numbers of messages of 64 bits.
+/// States a law and does no work: the compact text of the tree of an audit is read
+/// back as that tree, for every dump in a file and 64-bit numbers of messages.
 pub fn text_reads_back()
     ensures { ReadsBack }
 {

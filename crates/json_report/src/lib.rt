@@ -5,9 +5,9 @@
 //! put_findings(alloc, &mut out, &index, &procs, &graph, &found)?; // `{"count":0,"findings":[],"state":"whole"}`
 //! ```
 //!
-//! The tree is an object with the number of the findings, an object for each of them, and the state of the dump, as
-//! `specs/Trees.antt` says. A text of the dump need not be UTF-8: in a string each of its bytes is the character of that
-//! number.
+//! The tree is an object with the number of findings, an object for each finding,
+//! and the state of the dump, as `specs/Trees.antt` says. A text of the dump need
+//! not be UTF-8: in a string each of its bytes is the character with that number.
 #![tactic(auto)]
 
 mod building;

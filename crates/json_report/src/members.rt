@@ -1,4 +1,4 @@
-// The members of an object, and how they are sent to a writer.
+// The members of an object, and how they are sent to a serializer.
 ghost use Rattle.std.specs.Prelude.{◌≡◌, string_bytes, IfOk, IfSome, OnOk};
 ghost use Rattle.serde.specs.Event.{Logs, text};
 ghost use Rattle.serde_json.specs.Events.{SendsValue};
@@ -8,26 +8,26 @@ ghost use Rattle.json_report.specs.Trees.{characters};
 use serde::Serializer;
 use std::alloc::{AllocError, Global};
 
-// What a member tells.
+// The value of a member.
 #[derive(Clone, Copy)]
 pub(crate) enum Told<'a> {
     Number(u64),
     Word(&'a str),
-    // A text of the dump, of which each byte is one character.
+    // A text of the dump, each byte of which is one character.
     Text(&'a [u8]),
 }
 
-// A key and what stands there.
+// A key and its value.
 pub(crate) type Member<'a> = (&'a str, Told<'a>);
 
-// A text of the dump, of which each byte is one character.
+// A text of the dump, each byte of which is one character.
 pub(crate) fn characters(alloc: Global, bytes: &[u8]) -> Result<String, AllocError>
     ensures { IfOk result (λ s. string_bytes s ≡ characters bytes.now) }
 {
     bytes.iter().map(|byte| char::from(*byte)).collect(alloc)
 }
 
-// A text of ASCII alone, as nearly all are, has its own bytes as UTF-8.
+// A text of ASCII only, as nearly all are, is its own UTF-8.
 fn ascii(bytes: &[u8]) -> Option<&str>
     ensures { IfSome result (λ s. s.now ≡ characters bytes.now) }
 {
@@ -40,7 +40,7 @@ fn ascii(bytes: &[u8]) -> Option<&str>
     }
 }
 
-// Sends a text of the dump, which needs memory only where it isn't of ASCII.
+// Sends a text of the dump, which needs memory only if it isn't ASCII.
 fn send_text<S: Serializer>(out: &mut S, alloc: Global, bytes: &[u8]) -> Result<(), S::Error>
     ensures { OnOk result (Logs (S.written out.old) (S.written out.new) (text (characters bytes.now))) }
 {

@@ -127,7 +127,7 @@ fn pid(procs: &Procs, p: u32) -> &[u8]
     procs.pid(p as usize)
 }
 
-// What the entry with a number says, of the process at a place.
+// What the entry with a number says, for the process at a place.
 fn kind<'a>(procs: &Procs, graph: &'a Graph<'a>, p: u32, entry: u32) -> EntryKind<'a>
     requires graph { graph.now ≡ graph_of procs.now.processes }
     requires process { p < length graph.now }
@@ -158,7 +158,7 @@ fn reference<'a>(kind: EntryKind<'a>) -> &'a [u8]
     }
 }
 
-// On a monitor of a process that isn't in the dump.
+// For a monitor of a process that isn't in the dump.
 fn send_gone<'x, S: Serializer>(
     out: &mut S,
     alloc: Global,

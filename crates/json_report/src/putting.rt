@@ -1,6 +1,6 @@
 // Writing a tree.
 ghost use Rattle.std.specs.Prelude.{◌≡◌, ◌≤◌, ◌++◌, false, codes, All, IfOk, IfErr, OnOk};
-ghost use Rattle.dump_io.specs.Sinks.{changed, Gained};
+ghost use Rattle.dump_io.specs.Sinks.{Gained};
 ghost use Rattle.serde_json.specs.View.{view};
 ghost use Rattle.serde_json.specs.Written.{has_float};
 ghost use Rattle.link_graph.specs.Graph.{graph_of};
@@ -20,7 +20,8 @@ use std::alloc::{AllocError, Global};
 /// Why a JSON text isn't written.
 #[derive(Clone, Copy, Debug, PartialEq, Eq)]
 pub enum JsonFault {
-    /// A write failed. It comes only where the sink's count of faults rose, and a proper front of the text was written.
+    /// A write failed. Returned only if the sink's count of
+    /// faults rose; a proper prefix of the text was written.
     Write,
     /// There was no memory for the text. Nothing was written.
     Memory,
@@ -46,7 +47,7 @@ impl From<Failed> for JsonFault {
     }
 }
 
-// The text and LF.
+// The text and an LF.
 fn ended(text: Vec<u8>) -> Result<Vec<u8>, AllocError>
     ensures { IfOk result (λ line. line.items ≡ text.items ++ codes "\n") }
 {
@@ -55,7 +56,7 @@ fn ended(text: Vec<u8>) -> Result<Vec<u8>, AllocError>
     Ok(line)
 }
 
-// The text of a tree and LF.
+// The text of a tree and an LF.
 fn tree_line(alloc: Global, tree: &Value) -> Result<Vec<u8>, AllocError>
     requires { has_float (view tree.now) ≡ false }
     ensures { IfOk result (λ line. line.items ≡ json_text (view tree.now)) }
@@ -63,7 +64,7 @@ fn tree_line(alloc: Global, tree: &Value) -> Result<Vec<u8>, AllocError>
     ended(tree.to_vec(alloc)?)
 }
 
-// The text of the tree of some findings and LF.
+// The text of the tree of some findings and an LF.
 fn findings_line(
     alloc: Global,
     index: &Index,
@@ -78,20 +79,20 @@ fn findings_line(
     ended(tree_text(alloc, index, procs, graph, findings)?)
 }
 
-/// Writes the compact text of a tree, in which the keys of an object stand in the order of their bytes, and LF. The tree
-/// has no float.
+/// Writes the compact text of a tree, in which the keys of an object
+/// are in the order of their bytes, and an LF. The tree has no float.
 pub fn put_json<K: Sink>(alloc: Global, sink: &mut K, tree: &Value) -> Result<(), JsonFault>
     requires { has_float (view tree.now) ≡ false }
-    ensures later { K.faults sink.old ≤ K.faults sink.new }
-    ensures puts { OnOk result (Gained (changed K.written K.faults sink.old sink.new) (json_text (view tree.now))) }
-    ensures fault { IfErr result (IsFaultOf (changed K.written K.faults sink.old sink.new) (json_text (view tree.now))) }
+    ensures later { (K.state sink.old).faults ≤ (K.state sink.new).faults }
+    ensures puts { OnOk result (Gained (K.state sink.old) (K.state sink.new) (json_text (view tree.now))) }
+    ensures fault { IfErr result (IsFaultOf (K.state sink.old) (K.state sink.new) (json_text (view tree.now))) }
 {
     let line = tree_line(alloc, tree)?;
     Ok(write_all(sink, &line)?)
 }
 
-/// Writes what [`put_json`] writes of the [`tree`](crate::tree()) of these findings, and makes no tree of them. The graph is
-/// that of the processes, and the findings fit them, as those of [`audit`](dump_audit::audit) do.
+/// Writes what [`put_json`] writes for the [`tree`](crate::tree()) of these findings, without building a tree.
+/// The graph is that of the processes, and the findings fit them, as those of [`audit`](dump_audit::audit) do.
 pub fn put_findings<K: Sink>(
     alloc: Global,
     sink: &mut K,
@@ -102,9 +103,9 @@ pub fn put_findings<K: Sink>(
 ) -> Result<(), JsonFault>
     requires graph { graph.now ≡ graph_of procs.now.processes }
     requires fits { All (Fits procs.now.processes) findings.now }
-    ensures later { K.faults sink.old ≤ K.faults sink.new }
-    ensures puts { OnOk result (Gained (changed K.written K.faults sink.old sink.new) (json_text (finding_tree index.now procs.now.processes findings.now))) }
-    ensures fault { IfErr result (IsFaultOf (changed K.written K.faults sink.old sink.new) (json_text (finding_tree index.now procs.now.processes findings.now))) }
+    ensures later { (K.state sink.old).faults ≤ (K.state sink.new).faults }
+    ensures puts { OnOk result (Gained (K.state sink.old) (K.state sink.new) (json_text (finding_tree index.now procs.now.processes findings.now))) }
+    ensures fault { IfErr result (IsFaultOf (K.state sink.old) (K.state sink.new) (json_text (finding_tree index.now procs.now.processes findings.now))) }
 {
     let line = findings_line(alloc, index, procs, graph, findings)?;
     Ok(write_all(sink, &line)?)

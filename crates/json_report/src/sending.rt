@@ -1,4 +1,4 @@
-// How what an audit found is sent to a writer.
+// Sending what an audit found to a serializer.
 ghost use Rattle.std.specs.Prelude.{◌≡◌, All, OnOk};
 ghost use Rattle.serde_json.specs.Events.{SendsValue};
 ghost use Rattle.link_graph.specs.Graph.{graph_of};

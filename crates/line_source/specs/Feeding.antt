@@ -11,18 +11,18 @@ use Rattle.line_source.specs.Streams.{too_long}
 abbrev pub first_too_long : ℕ → List ℕ → Option ℕ
 first_too_long limit bytes = slice_get (too_long limit bytes) 0
 
--- what a result hands on of the receiver's refusal
+-- the receiver's refusal that a result passes on
 abbrev pub stop_of : {T : Type 0} → Result T ScanFault → Option HeaderStop
 stop_of (Ok done) = None
 stop_of (Err (HeaderTooLong at)) = None
 stop_of (Err (Stop value)) = Some value
 
--- the receiver's refusal, and not that a line is too long
+-- the result is the receiver's refusal, not a line that is too long
 abbrev pub IsStop : ScanFault → Type 0
 IsStop (HeaderTooLong at) = ⊥
 IsStop (Stop value) = Unit {0}
 
--- the headers up to the refused one were heard, and it is the next
+-- the headers up to the refused one were heard, and that is the next
 pub record StopsAmong (before after : List Header) (refused : RefusedHeader) (hs : List Header) : Type 0 where
   pub heard : List Header
   pub next : Header

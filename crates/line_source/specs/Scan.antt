@@ -2,13 +2,13 @@
 use Rattle.std.specs.Prelude.{◌≡◌, ℕ, Bool, List, [], length}
 use Rattle.line_source.specs.Streams.{LastLine, last_line, too_long}
 
--- the most bytes of a line that begins with an equals sign that a scan keeps
+-- the most bytes that a scan keeps of a line that begins with an equals sign
 abbrev pub most_kept : ℕ
 most_kept = 4096
 
 -- a scan of a stream
 pub record Scan : Type 0 where
-  -- the most bytes of a line that begins with an equals sign, before its LF
+  -- the most bytes that a line that begins with an equals sign may have before its LF
   pub limit : ℕ
   -- how many bytes have come
   pub offset : ℕ

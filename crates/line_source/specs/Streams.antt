@@ -11,7 +11,7 @@ has_lf raw = ends_with nat_eq raw (lf ∷ [])
 abbrev pub begins_with_equals : List ℕ → Bool
 begins_with_equals raw = starts_with nat_eq raw (equals_sign ∷ [])
 
--- how many bytes of a raw line stand before its LF, or before the end where it has none
+-- how many bytes of a raw line stand before its LF, or before its end if it has none
 abbrev pub length_before_lf : List ℕ → ℕ
 length_before_lf raw = if has_lf raw then length raw - 1 else length raw
 
@@ -27,11 +27,11 @@ too_long limit bytes = map (λ line. line.at) (filter (λ line. is_too_long limi
 abbrev pub ended_headers : List ℕ → List Header
 ended_headers bytes = map header_of (filter (λ line. is_header line.raw && has_lf line.raw) (lines bytes))
 
--- the headers whose lines lack their LF: the last line, if it is such a one
+-- the headers whose lines lack their LF: the last line, if it is one
 abbrev pub open_headers : List ℕ → List Header
 open_headers bytes = map header_of (filter (λ line. is_header line.raw && not (has_lf line.raw)) (lines bytes))
 
--- the headers whose LF stands in the piece that follows the stream, with their places in both together
+-- the headers whose LF is in the piece that follows the stream, with their offsets in both together
 abbrev pub new_headers : List ℕ → List ℕ → List Header
 new_headers stream piece = filter (λ header. nat_lt (length stream) header.body) (ended_headers (stream ++ piece))
 
@@ -39,8 +39,8 @@ new_headers stream piece = filter (λ header. nat_lt (length stream) header.body
 abbrev pub headers_before : ℕ → List Header → List Header
 headers_before at hs = filter (λ header. nat_lt header.at at) hs
 
--- the last raw line: it has its LF, or there is none; or it lacks it and begins with another byte than
--- an equals sign; or it lacks it and begins with one, and has these bytes
+-- the last raw line: it has its LF, or there is no line; or it lacks its LF and begins with a byte
+-- other than an equals sign; or it lacks its LF and begins with an equals sign, and these are its bytes
 pub data LastLine : Type 0 where
   ended : LastLine
   plain : LastLine

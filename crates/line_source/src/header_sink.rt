@@ -9,9 +9,9 @@ ghost use Rattle.line_source.specs.Receiver.{Hears};
 pub enum HeaderStop {
     /// There would be more headers than are allowed.
     TooMany { at: u64 },
-    /// The texts of the headers would be longer together than is allowed.
+    /// The texts of the headers together would be longer than is allowed.
     PoolFull { at: u64 },
-    /// No memory was found for the header.
+    /// There was no memory for the header.
     Memory,
 }
 
@@ -26,7 +26,7 @@ pub struct RefusedHeader {
     pub size: usize,
 }
 
-/// What hears headers, one after another, until it refuses one.
+/// Hears headers, one after another, until it refuses one.
 pub trait HeaderSink {
     /// The headers that were heard, in order.
     ghost heard: { Self → List Header };
@@ -34,10 +34,12 @@ pub trait HeaderSink {
     /// The header that was refused, once there is one.
     ghost stop: { Self → Option RefusedHeader };
 
-    /// Hears a header: the offset at which its line begins, the offset at which that line ends, behind its
-    /// LF if it has one, and its text, without the LF and one CR before it. Offsets count bytes from 0.
+    /// Hears a header: `at` is the offset at which its line begins, `body` the offset
+    /// at which that line ends, after its LF if it has one, and `text` its text,
+    /// without the LF and one CR directly before it. Offsets count bytes from 0.
     ///
-    /// A refusal leaves what was heard, and is kept with the offset and the length of the header refused.
+    /// A refusal leaves what was heard as it is, and is kept
+    /// with the offset and the length of the refused header.
     fn header(&mut self, at: u64, body: u64, text: &[u8]) -> Result<(), HeaderStop>
         requires { stop self.old ≡ None }
         ensures { Hears (heard self.old) (heard self.new) (stop self.new) (record {

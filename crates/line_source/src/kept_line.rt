@@ -4,10 +4,10 @@ ghost use Rattle.line_source.specs.Scan.{most_kept};
 
 use std::marker::Model;
 
-// As many as the definition says, which the invariant holds it to.
+// As many as the definition says; the invariant ensures that.
 const MOST: usize = 4_096;
 
-/// The bytes of a header's line that have come, at most 4,096.
+/// The bytes that have come of a header's line, at most 4,096.
 #[derive(Drop)]
 pub struct KeptLine {
     bytes: [u8; MOST],
@@ -59,7 +59,7 @@ impl KeptLine {
         self.len = 1;
     }
 
-    /// Puts more bytes behind those that have come.
+    /// Appends more bytes to those that have come.
     pub fn extend(&mut self, more: &[u8])
         requires { length self.old + length more.now ≤ most_kept }
         ensures { self.new ≡ self.old ++ more.now }

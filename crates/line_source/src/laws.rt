@@ -5,12 +5,12 @@ ghost use Rattle.line_source.specs.Streams.{ended_headers, open_headers, new_hea
 ghost use Rattle.line_source.specs.Feeding.{first_too_long};
 ghost use Rattle.line_source.specs.Growth.{TooLongGrows};
 
-/// A law, and no work: what a stream has of headers and of lines that are too long, it has with more bytes
-/// behind it too, in front of what those bring.
+/// States a law and does no work: what a stream has of headers and of lines that are
+/// too long, it still has when more bytes follow it, before those that these bring.
 ///
-/// All headers are those whose lines have their LF, followed by the one that lacks it. The headers that more
-/// bytes bring begin behind the first line that is too long, and the lines that they make too long begin
-/// behind each header that has its LF.
+/// All headers are those whose lines have their LF, followed by the one that lacks
+/// it. The headers that more bytes bring begin after the first line that is too long,
+/// and the lines that they make too long begin after each header that has its LF.
 pub fn streams_grow()
     ensures headers { (stream : List ℕ) → headers stream ≡ ended_headers stream ++ open_headers stream }
     ensures ended { (stream more : List ℕ) → ended_headers (stream ++ more) ≡ ended_headers stream ++ new_headers stream more }

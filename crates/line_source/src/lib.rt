@@ -1,9 +1,9 @@
 //! The headers of a stream that comes in pieces.
 //!
-//! A header is a line whose text begins with `=`. A [`LineScan`] is fed the stream, cut anywhere, piece by
-//! piece, and a [`HeaderSink`] hears each header once its LF has come. At the end `finish` lets it hear a
-//! last header whose line has none. What was heard then is the list `headers` of the whole stream, whatever
-//! the pieces were.
+//! A header is a line whose text begins with `=`. A [`LineScan`] is fed the stream
+//! piece by piece, cut anywhere, and a [`HeaderSink`] hears each header once its LF has
+//! come. At the end `finish` lets it hear a last header whose line has no LF. By then
+//! it has heard the list `headers` of the whole stream, however the stream was cut.
 //!
 //! ```text
 //! let mut scan = LineScan::new(4_096);
@@ -12,9 +12,9 @@
 //! scan.finish(&mut receiver)?; // hears `=end`
 //! ```
 //!
-//! The scan ends early where a line that begins with `=` is longer than its limit, and where the receiver
-//! refuses a header. It looks for `=` and tests the byte before, so that the lines between the headers
-//! cost no more than reading them. Nothing here takes memory.
+//! The scan ends early if a line that begins with `=` is longer than its limit, or if the
+//! receiver refuses a header. It looks for `=` and tests the byte before it, so that the
+//! lines between the headers cost no more than reading them. Nothing here takes memory.
 #![tactic(auto)]
 
 mod header_sink;

@@ -23,7 +23,7 @@ use std::marker::Model;
 enum LineState {
     // It has its LF, or nothing has come.
     Ended,
-    // It lacks its LF and begins with another byte than `=`.
+    // It lacks its LF and begins with a byte other than `=`.
     Plain,
     // It lacks its LF and begins with `=`, and its bytes are kept.
     Header,
@@ -31,10 +31,10 @@ enum LineState {
 
 /// Finds the headers of a stream that comes in pieces, and lets a receiver hear them.
 ///
-/// It keeps no more of the stream than the bytes of a header's line that has no LF yet, at most 4,096. In
-/// its contracts it is a `Scan`: the limit, how many bytes have come, what is known of the last line, and
-/// whether the stream is over. `StandsFor scan stream` says that this stream may have come; each clause on
-/// a stream holds of every such one.
+/// It keeps no more of the stream than the bytes of a header's line that has no LF yet,
+/// at most 4,096. Contracts see it as a `Scan`: the limit, how many bytes have come, what
+/// is known of the last line, and whether the stream is over. `StandsFor scan stream`
+/// says that this stream may have come; each clause on a stream holds for every such one.
 #[derive(Drop)]
 pub struct LineScan {
     limit: u16,
@@ -67,8 +67,8 @@ impl Model for LineScan {
 }
 
 impl LineScan {
-    /// A scan to which nothing has come. A line that begins with `=` may have at most `limit` bytes before
-    /// its LF. It takes no memory.
+    /// A scan of a stream of which nothing has come yet. A line that begins
+    /// with `=` may have at most `limit` bytes before its LF. Takes no memory.
     pub fn new(limit: u16) -> LineScan
         requires some { 1 ≤ limit }
         requires most { limit ≤ most_kept }
@@ -85,20 +85,20 @@ impl LineScan {
         }
     }
 
-    /// Whether the stream is over: after `finish`, and after a refusal.
+    /// Whether the stream is over: after `finish`, and after any error.
     pub fn spent(&self) -> bool
         ensures { result ≡ self.now.spent }
     {
         self.spent
     }
 
-    /// Takes the next piece of the stream, and lets the receiver hear each header whose LF stands in it.
+    /// Takes the next piece of the stream, and lets the receiver hear each header whose LF is in the piece.
     ///
-    /// The stream so far is that which came before, followed by the piece. Its new headers are those whose
-    /// LF stands in the piece. `HeaderTooLong` comes exactly where the receiver refused nothing and some
-    /// line of the stream so far begins with `=` and has more bytes than the limit without an LF; it names
-    /// the first such line, and the new headers before it were heard. `Stop` comes exactly where the
-    /// receiver refused a header; the new headers before that one were heard. The scan is spent after both.
+    /// The stream so far is what came before, followed by the piece. Its new headers are those whose LF is in
+    /// the piece. Returns `HeaderTooLong` exactly when the receiver refused nothing and some line of the
+    /// stream so far begins with `=` and has more bytes than the limit before its LF, or without one; it
+    /// names the first such line, and the new headers before it were heard. Returns `Stop` exactly when the
+    /// receiver refused a header; the new headers before that one were heard. The scan is spent after either.
     pub fn feed<H: HeaderSink>(&mut self, piece: &[u8], into: &mut H) -> Result<(), ScanFault>
         requires fresh { self.old.spent ≡ false }
         requires fits { self.old.offset + length piece.now < 2 ^ 64 }
@@ -131,9 +131,9 @@ impl LineScan {
         result
     }
 
-    /// Ends the stream, and lets the receiver hear the last header where its line lacks its LF.
+    /// Ends the stream, and lets the receiver hear the last header if its line lacks its LF.
     ///
-    /// Only `Stop` can come, exactly where the receiver refused that header. The scan is spent afterwards.
+    /// Returns only `Stop`, exactly when the receiver refused that header. The scan is spent afterwards.
     pub fn finish<H: HeaderSink>(&mut self, into: &mut H) -> Result<(), ScanFault>
         requires fresh { self.old.spent ≡ false }
         requires open { H.stop into.old ≡ None }
@@ -152,7 +152,7 @@ impl LineScan {
         result
     }
 
-    // Lets the receiver hear the last header where its line lacks its LF.
+    // Lets the receiver hear the last header if its line lacks its LF.
     fn hear_last<H: HeaderSink>(&self, into: &mut H) -> Result<(), ScanFault>
         requires open { H.stop into.old ≡ None }
         ensures stop { stop_value (H.stop into.new) ≡ stop_of result }
@@ -184,7 +184,7 @@ impl LineScan {
         into.header(at, self.offset, self.kept.bytes())
     }
 
-    // Passes over bytes up to the `=` of the next header and with it, or over all where there is none.
+    // Passes over bytes up to and including the `=` of the next header, or over all of them if there is none.
     fn pass(&mut self, rest: &[u8]) -> usize
         requires other { is_header_line self.old.last ≡ false }
         requires some { 0 < length rest.now }
@@ -211,7 +211,7 @@ impl LineScan {
         }
     }
 
-    // Whether the last line lacks its LF and begins with another byte than `=`.
+    // Whether the last line lacks its LF and begins with a byte other than `=`.
     fn has_begun(&self) -> bool
         requires { is_header_line self.now.last ≡ false }
         ensures { self.now.last ≡ (if result then plain else ended) }
@@ -219,7 +219,7 @@ impl LineScan {
         matches!(self.line, LineState::Plain)
     }
 
-    // Passes over bytes up to the `=` of a header, and keeps that.
+    // Passes over bytes up to the `=` of a header, and keeps that byte.
     fn begin_header(&mut self, passed: u64)
         requires { self.old.offset + passed + 1 < 2 ^ 64 }
         ensures header { self.new ≡ record self.old {
@@ -301,7 +301,7 @@ impl LineScan {
         Ok(())
     }
 
-    // Takes a header's line up to its LF and with it, or all the bytes where none is an LF.
+    // Takes a header's line up to and including its LF, or all the bytes if none is an LF.
     fn take_header<H: HeaderSink>(&mut self, rest: &[u8], into: &mut H) -> Result<usize, ScanFault>
         requires header { is_header_line self.old.last ≡ true }
         requires some { 0 < length rest.now }
@@ -332,14 +332,14 @@ impl LineScan {
         }
     }
 
-    // Whether the last line is a header's that lacks its LF.
+    // Whether the last line is a header's and lacks its LF.
     fn in_header(&self) -> bool
         ensures { result ≡ is_header_line self.now.last }
     {
         matches!(self.line, LineState::Header)
     }
 
-    // Takes the first bytes of what is left of a piece, at least one, and says how many.
+    // Takes the first bytes of what is left of a piece, at least one, and returns how many.
     fn take_some<H: HeaderSink>(&mut self, rest: &[u8], into: &mut H) -> Result<usize, ScanFault>
         requires some { 0 < length rest.now }
         requires fits { self.old.offset + length rest.now < 2 ^ 64 }

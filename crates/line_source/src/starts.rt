@@ -5,7 +5,7 @@ ghost use Rattle.line_source.specs.Inner.Starts.{begins_line, BeginsHeader};
 
 use memchr::memchr;
 
-// Whether a line begins at this place of the bytes. `begun` says whether their first line began before them.
+// Whether a line begins at this place in the bytes. `begun` says whether their first line began before them.
 fn begins_line(bytes: &[u8], at: usize, begun: bool) -> bool
     requires { at < length bytes.now }
     ensures { result ≡ begins_line begun bytes.now at }
@@ -17,7 +17,7 @@ fn begins_line(bytes: &[u8], at: usize, begun: bool) -> bool
     }
 }
 
-// The first place at which a header begins. It looks for `=`, which is rarer in a dump than LF.
+// The first place at which a header begins. Looks for `=`, which is rarer in a dump than LF.
 pub fn header_start(bytes: &[u8], begun: bool) -> Option<usize>
     ensures { IsFirst (BeginsHeader begun bytes.now) 0 (length bytes.now) result }
 {

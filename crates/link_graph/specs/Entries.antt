@@ -13,18 +13,18 @@ gap = codes ", "
 abbrev pub is_gap : ℕ → ℕ → Bool
 is_gap c d = c == 44 && d == 32
 
--- parts with one more byte in front of the first of them
+-- parts with one more byte at the front of the first
 abbrev pub led_by : ℕ → List (List ℕ) → List (List ℕ)
 led_by c [] = (c ∷ []) ∷ []
 led_by c (part ∷ parts) = (c ∷ part) ∷ parts
 
--- the parts of a text that is cut at each comma with a space behind it, from the left
+-- the parts of a text that is cut at each comma followed by a space, from the left
 unfoldable pub cut : List ℕ → List (List ℕ)
 cut [] = [] ∷ []
 cut (c ∷ []) = (c ∷ []) ∷ []
 cut (c ∷ d ∷ text) = if is_gap c d then [] ∷ cut text else led_by c (cut (d ∷ text))
 
--- the parts of a rest, where there is one
+-- the parts of a rest, if there is one
 abbrev pub cut_rest : Option (List ℕ) → List (List ℕ)
 cut_rest None = []
 cut_rest (Some rest) = cut rest
@@ -34,7 +34,7 @@ pub record Part : Type 0 where
   pub at : ℕ
   pub text : List ℕ
 
--- the parts from an offset on, with a gap between each two
+-- parts with their offsets, the first at this one, with a gap between each two
 abbrev pub parts_from : ℕ → List (List ℕ) → List Part
 parts_from at [] = []
 parts_from at (text ∷ texts) = record { at = at; text = text } ∷ parts_from (at + length text + 2) texts
@@ -44,12 +44,12 @@ abbrev pub parts_left : ℕ → Option (List ℕ) → List Part
 parts_left end None = []
 parts_left end (Some rest) = parts_from (end - length rest) (cut rest)
 
--- a rest has no more bytes than stand before the offset
+-- a rest has at most as many bytes as stand before the offset
 abbrev pub EndsBy : ℕ → Option (List ℕ) → Type 0
 EndsBy end None = Unit {0}
 EndsBy end (Some rest) = length rest ≤ end
 
--- the parts of what stands in the brackets; where nothing stands there, there is none
+-- the parts of what stands between the brackets; if nothing stands there, there are none
 abbrev pub parts_of : ℕ → List ℕ → List Part
 parts_of at [] = []
 parts_of at (c ∷ inner) = parts_from at (cut (c ∷ inner))
@@ -68,11 +68,11 @@ pub record LinkEntry : Type 0 where
 abbrev pub entry_of : Part → LinkEntry
 entry_of part = record { at = part.at; text = part.text; kind = kind_of part.text }
 
--- the entries of a list that begins at the offset, or none where the text isn't a list
+-- the entries of a list that begins at the offset, or `None` if the text isn't a list
 abbrev pub entries_at : ℕ → List ℕ → Option (List LinkEntry)
 entries_at at text = option_map (map entry_of) (list_parts at text)
 
--- the same, with offsets counted in the text
+-- the same, with offsets within the text
 abbrev pub entries_of : List ℕ → Option (List LinkEntry)
 entries_of text = entries_at 0 text
 
@@ -80,7 +80,7 @@ entries_of text = entries_at 0 text
 abbrev pub IsList : List ℕ → Type 0
 IsList text = (inner : List ℕ) × (text ≡ codes "[" ++ (inner ++ codes "]"))
 
--- the text holds no comma with a space behind it
+-- the text has no comma followed by a space
 abbrev pub HasNoGap : List ℕ → Type 0
 HasNoGap text = (front rest : List ℕ) → text ≢ front ++ (gap ++ rest)
 
@@ -90,7 +90,7 @@ joined [] = []
 joined (part ∷ []) = part
 joined (part ∷ next ∷ parts) = part ++ (gap ++ joined (next ∷ parts))
 
--- the rule of cutting: with a gap between each two the parts are the text, and none holds a gap
+-- the rule of cutting: with a gap between each two, the parts make up the text, and none contains a gap
 pub record AreCut (text : List ℕ) (parts : List (List ℕ)) : Type 0 where
   pub some : 0 < length parts
   pub together : joined parts ≡ text

@@ -6,30 +6,30 @@ use Rattle.process_table.specs.Processes.{Process}
 use Rattle.link_graph.specs.Kinds.{Kind, is_same_kind}
 use Rattle.link_graph.specs.Entries.{LinkEntry, entries_at}
 
--- the entries of a process, and whether its link list is there and isn't a list
+-- the entries of a process, and whether it has a link list that isn't a list
 pub record Links : Type 0 where
   pub unread : Bool
   pub entries : List LinkEntry
 
--- of a process that has no link list
+-- the links of a process without a link list
 abbrev pub no_links : Links
 no_links = record { unread = false; entries = [] }
 
--- what the entries of a text are
+-- the links of a process whose link list has this text
 abbrev pub links_in : Option (List LinkEntry) → Links
 links_in None = record { unread = true; entries = [] }
 links_in (Some entries) = record { unread = false; entries = entries }
 
--- of a process with this link list, where it has one
+-- the links of a process with this link list, or without one
 abbrev pub links_of : Option Kept → Links
 links_of None = no_links
 links_of (Some list) = links_in (entries_at list.value_at list.text)
 
--- a graph holds what each process of the table has, in the table's order
+-- a graph holds the links of each process of the table, in the table's order
 abbrev pub graph_of : List Process → List Links
 graph_of processes = map (λ process. links_of process.links) processes
 
--- what a graph holds at a place, and past the last one nothing
+-- the links at a place; past the last one, those of a process without a link list
 abbrev pub links_at : List Links → ℕ → Links
 links_at graph p = unwrap_or (slice_get graph p) no_links
 

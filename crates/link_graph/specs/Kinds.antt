@@ -3,7 +3,7 @@ use Rattle.std.specs.Str.{bytes_eq}
 use Rattle.std.specs.Prelude.{◌≡◌, ℕ, true, false, ◌&&◌, Bool, List, ◌++◌, codes}
 use Rattle.link_graph.specs.Texts.{is_pid, is_port, is_reference, is_braced}
 
--- the kind of an entry, without where its texts lie in memory
+-- the kind of an entry, regardless of where its texts lie in memory
 pub data Kind : Type 0 where
   Link : List ℕ → Kind
   LinkPort : Kind
@@ -14,7 +14,7 @@ pub data Kind : Type 0 where
   FromPort : Kind
   Other : Kind
 
--- how a monitor that the process holds begins
+-- how a monitor by the process begins
 abbrev pub to_opening : List ℕ
 to_opening = codes "{to,"
 
@@ -36,17 +36,17 @@ Spells text (Link pid) = (text ≡ pid) × (is_pid pid ≡ true)
 Spells text LinkPort = is_port text ≡ true
 -- `{to,`, a pid, `,`, a reference, `}`
 Spells text (To pid reference) = IsMonitor to_opening is_pid text pid reference
--- the same of a port
+-- the same with a port
 Spells text ToPort = (port : List ℕ) × (reference : List ℕ) × IsMonitor to_opening is_port text port reference
--- the same of any bytes in braces, which are a name and its node
+-- the same with any bytes in braces, which are a name and its node
 Spells text (ToName reference) = (name : List ℕ) × IsMonitor to_opening is_braced text name reference
 -- `{from,`, a pid, `,`, a reference, `}`
 Spells text (From pid reference) = IsMonitor from_opening is_pid text pid reference
--- the same of a port
+-- the same with a port
 Spells text FromPort = (port : List ℕ) × (reference : List ℕ) × IsMonitor from_opening is_port text port reference
 Spells text Other = ⊥
 
--- which kind a text is of: anything that no other kind spells is `Other`
+-- which kind a text is of: a text that spells no other kind is `Other`
 abbrev pub IsKind : List ℕ → Kind → Type 0
 IsKind text Other = (kind : Kind) → ¬ Spells text kind
 IsKind text kind = Spells text kind

@@ -9,33 +9,34 @@ use Rattle.link_graph.specs.Kinds.{Kind, Link, LinkPort, To, ToPort, ToName, Fro
 abbrev pub is_comma : ℕ → Bool
 is_comma c = c == 44
 
--- what stands before and behind the last comma, where there is one
+-- what stands before and after the last comma, if there is one
 unfoldable pub at_last_comma : List ℕ → Option (List ℕ × List ℕ)
 at_last_comma [] = None
 at_last_comma (c ∷ text) =
     option_or (option_map (λ found. (c ∷ found.0, found.1)) (at_last_comma text)) (if is_comma c then Some ([], text) else None)
 
--- the partner and the reference of a monitor, from what stands between its opening and its `}`: no reference has a comma
+-- the partner and the reference of a monitor, from what stands
+-- between its opening and its `}`: no reference has a comma
 unfoldable pub parties : List ℕ → Option (List ℕ × List ℕ)
 parties text = at_last_comma text >>= λ found. if is_reference found.1 then Some found else None
 
--- the kind of a monitor that the process holds, by its partner
+-- the kind of a monitor by the process, from its partner
 unfoldable pub to_kind : List ℕ × List ℕ → Kind
 to_kind found =
     if is_pid found.0 then To found.0 found.1
     else (if is_port found.0 then ToPort else (if is_braced found.0 then ToName found.1 else Other))
 
--- the kind of a monitor of the process, by its partner
+-- the kind of a monitor of the process, from its partner
 unfoldable pub from_kind : List ℕ × List ℕ → Kind
 from_kind found = if is_pid found.0 then From found.0 found.1 else (if is_port found.0 then FromPort else Other)
 
--- the kind of a text, by the monitor that it opens as
+-- the kind of a text, by the opening of a monitor that it begins with
 unfoldable pub monitor_kind : Option (List ℕ) → Option (List ℕ) → Kind
 monitor_kind (Some to) from = option_map_or to_kind (parties to) Other
 monitor_kind None (Some from) = option_map_or from_kind (parties from) Other
 monitor_kind None None = Other
 
--- the kind of a text: a pid, a port or a monitor, and else `Other`
+-- the kind of a text: a link, a link to a port or a monitor, and otherwise `Other`
 unfoldable pub kind_of : List ℕ → Kind
 kind_of text =
     if is_pid text then Link text

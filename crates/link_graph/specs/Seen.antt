@@ -1,4 +1,4 @@
--- What contracts see of entries: their values, without where they lie in memory.
+-- What contracts see of entries: their values, regardless of where they lie in memory.
 use Rattle.std.specs.Prelude.{ℕ, List}
 use Rattle.std.specs.Borrow.{Bor}
 use Rattle.link_graph.specs.Kinds.{Kind, Link, LinkPort, To, ToPort, ToName, From, FromPort, Other}

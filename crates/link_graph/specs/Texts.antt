@@ -5,21 +5,21 @@ use Rattle.std.specs.Option.{is_some, option_and_then, option_map_or}
 use Rattle.std.specs.Char.{is_ascii_digit}
 
 infixl 10 ◌>>=◌
--- a value, and what is read of it
+-- a value, if there is one, passed on to a function that may give none
 abbrev pub ◌>>=◌ : {A B : Type 0} → Option A → (A → Option B) → Option B
 o >>= f = option_and_then f o
 
--- what stands behind a front, where the text begins with it
+-- what stands after a front, if the text begins with it
 unfoldable pub behind : List ℕ → List ℕ → Option (List ℕ)
 behind [] text = Some text
 behind (c ∷ front) [] = None
 behind (c ∷ front) (d ∷ text) = if d == c then behind front text else None
 
--- what stands before a back, where the text ends with it
+-- what stands before a back, if the text ends with it
 unfoldable pub before : List ℕ → List ℕ → Option (List ℕ)
 before back text = if ends_with nat_eq text back then Some (take (length text - length back) text) else None
 
--- what stands between an opening and a closing, where the text begins and ends so
+-- what stands between an opening and a closing, if the text begins and ends with them
 unfoldable pub inside : List ℕ → List ℕ → List ℕ → Option (List ℕ)
 inside front back text = behind front text >>= before back
 
@@ -35,7 +35,7 @@ is_digits text = nat_lt 0 (length text) && list_all is_ascii_digit text
 abbrev pub is_dotted : List ℕ → Bool
 is_dotted text = nat_lt 0 (length text) && list_all (λ c. is_ascii_digit c || is_dot c) text
 
--- what stands before and behind the first dot, where there is one
+-- what stands before and after the first dot, if there is one
 unfoldable pub at_first_dot : List ℕ → Option (List ℕ × List ℕ)
 at_first_dot text = position is_dot text >>= λ at. Some (take at text, drop (at + 1) text)
 
@@ -51,7 +51,7 @@ is_triple text = option_map_or (λ found. is_digits found.0 && is_pair found.1) 
 unfoldable pub is_pid : List ℕ → Bool
 is_pid text = option_map_or is_triple (inside (codes "<") (codes ">") text) false
 
--- a pid is local where the first digits are exactly `0`
+-- whether a pid is local: its first digits are exactly `0`
 unfoldable pub is_local : List ℕ → Bool
 is_local text = is_pid text && is_some (behind (codes "<0.") text)
 
@@ -63,6 +63,6 @@ is_port text = option_map_or is_dotted (inside (codes "#Port<") (codes ">") text
 unfoldable pub is_reference : List ℕ → Bool
 is_reference text = option_map_or is_dotted (inside (codes "#Ref<") (codes ">") text) false
 
--- a registered name, and the node that it is of, in braces: any bytes
+-- a registered name and its node, in braces: any bytes
 unfoldable pub is_braced : List ℕ → Bool
 is_braced text = is_some (inside (codes "{") (codes "}") text)

@@ -1,4 +1,4 @@
-// The parts of a list's text.
+// Cutting a list's text into its parts.
 ghost use Rattle.std.specs.Prelude.{◌≡◌, ◌+◌, ◌^◌, ◌<◌, ◌≤◌, [], ◌∷◌, length, take, drop, MatchOption, IfSome};
 ghost use Rattle.std.specs.Option.{option_copied};
 ghost use Rattle.std.specs.Iterator.{YieldsFirstBy, item_count};
@@ -17,7 +17,8 @@ pub(crate) struct Piece<'a> {
     pub text: &'a [u8],
 }
 
-// Where the first space stands. A part is short, and a search byte by byte finds its end before one by vectors has begun.
+// Where the first space stands. A part is short, and a bytewise
+// search finds its end before a vectorized one would get started.
 fn first_space(text: &[u8]) -> Option<usize>
     ensures { IsFirst 32 text.now result }
 {
@@ -29,7 +30,8 @@ fn first_space(text: &[u8]) -> Option<usize>
     None
 }
 
-// Where the first comma stands that has a space behind it. A list has fewer spaces than commas, so they are looked for.
+// Where the first comma stands that is followed by a space. A
+// list has fewer spaces than commas, so those are searched for.
 fn first_gap(text: &[u8]) -> Option<usize>
     ensures { MatchOption result (cut text.now ≡ text.now ∷ [])
         (λ gap. (gap + 2 ≤ length text.now) × (cut text.now ≡ take gap text.now ∷ cut (drop (gap + 2) text.now))) }
@@ -45,7 +47,7 @@ fn first_gap(text: &[u8]) -> Option<usize>
     None
 }
 
-// The part that begins a text, and what stands behind the gap that ends it.
+// The part that begins a text, and what stands after the gap that ends it.
 fn split_part(text: &[u8]) -> (&[u8], Option<&[u8]>)
     ensures parts { cut text.now ≡ result.0.now ∷ cut_rest (option_copied result.1) }
     ensures behind { IfSome result.1 (λ rest. length result.0.now + 2 + length rest.now ≡ length text.now) }

@@ -10,8 +10,8 @@ use process_table::Procs;
 use std::alloc::{AllocError, Global};
 use std::marker::Model;
 
-/// The links and monitors of the processes of a dump, as their link lists state them. A process is named by its
-/// place in the process table, from 0.
+/// The links and monitors of the processes of a dump, as their link lists state
+/// them. A process is identified by its place in the process table, from 0.
 #[derive(Drop)]
 pub struct Graph<'a> {
     lists: Lists<'a>,
@@ -30,7 +30,7 @@ impl<'a> Model for Graph<'a> {
 }
 
 impl<'a> Graph<'a> {
-    /// The links and monitors of the processes of a table. The offsets of the entries are those in the file.
+    /// The links and monitors of the processes of a table. The offsets of the entries are offsets in the file.
     pub fn build(alloc: Global, procs: &'a Procs) -> Result<Graph<'a>, AllocError>
         ensures { IfOk result (λ graph. graph ≡ graph_of procs.now.processes) }
     {
@@ -43,7 +43,7 @@ impl<'a> Graph<'a> {
 }
 
 impl<'a> Graph<'a> {
-    /// How many entries a process has. A process without a link list, or with one that isn't read, has none.
+    /// How many entries a process has. A process without a link list, or with an unread one, has none.
     pub fn count(&self, p: usize) -> u32
         requires { p < length self.now }
         ensures { result ≡ length (links_at self.now p).entries }
@@ -60,7 +60,8 @@ impl<'a> Graph<'a> {
         self.lists.entry(p, n)
     }
 
-    /// Whether a process has a link list that [`entries`](crate::reading::entries) doesn't read.
+    /// Whether a process has a link list that is unread: one of
+    /// which [`entries`](crate::reading::entries) returns `None`.
     pub fn unread(&self, p: usize) -> bool
         requires { p < length self.now }
         ensures { result ≡ (links_at self.now p).unread }
@@ -75,7 +76,8 @@ impl<'a> Graph<'a> {
         self.lists.has(p, kind)
     }
 
-    /// Whether a process has a link to this pid. Pids and references are compared byte for byte, here and below.
+    /// Whether a process has a link to this pid. Pids and
+    /// references are compared byte for byte, here and below.
     pub fn has_link(&self, p: usize, pid: &[u8]) -> bool
         requires { p < length self.now }
         ensures { result ≡ has_kind (Link pid.now) (links_at self.now p).entries }

@@ -1,5 +1,5 @@
-// The kinds of a long list, by which its entries are looked up. They stand in their order, and one is found by a binary
-// search: whoever writes a dump could give all kinds one hash.
+// The kinds of a long list, by which its entries are looked up. They are sorted, and a
+// kind is found by binary search: whoever writes a dump could give all kinds one hash.
 ghost use Rattle.std.specs.Prelude.{◌≡◌, map};
 ghost use Rattle.std.specs.List.{list_any};
 ghost use Rattle.link_graph.specs.Kinds.{is_same_kind};

@@ -11,7 +11,7 @@ ghost use Rattle.link_graph.specs.Inner.Searching.{IsLast};
 use crate::shapes::EntryKind;
 use crate::texts::{inside, is_braced, is_pid, is_port, is_reference};
 
-// Where the last comma stands. The reference behind it is short.
+// Where the last comma stands. It is searched for from the end, since the reference after it is short.
 fn last_comma(text: &[u8]) -> Option<usize>
     ensures { IsLast 44 text.now result }
 {
@@ -73,7 +73,7 @@ fn from_kind<'a>(partner: &'a [u8], reference: &'a [u8]) -> EntryKind<'a>
     }
 }
 
-// The kind of a text, by the monitor that it opens as.
+// The kind of a text, by the opening of a monitor that it begins with.
 #[tactic(auto, unfolding(crate::specs::Reading::monitor_kind))]
 fn monitor_kind(text: &[u8]) -> EntryKind<'_>
     ensures { shown_kind result ≡ monitor_kind (inside to_opening (codes "}") text.now) (inside from_opening (codes "}") text.now) }
@@ -100,7 +100,7 @@ fn is_opened(text: &[u8]) -> bool
     !text.is_empty() && text[0] == b'{'
 }
 
-// What a text says as an entry. Its first byte tells a monitor from all others.
+// What a text says as an entry. Its first byte tells a monitor from everything else.
 pub(crate) fn kind(text: &[u8]) -> EntryKind<'_>
     ensures { shown_kind result ≡ kind_of text.now }
 {

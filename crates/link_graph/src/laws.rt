@@ -4,12 +4,13 @@ ghost use Rattle.link_graph.specs.Kinds.{Kind, IsKind};
 ghost use Rattle.link_graph.specs.Reading.{kind_of};
 ghost use Rattle.link_graph.specs.Entries.{cut, AreCut};
 
-/// Each text is of one kind, which is the one that `kind_of` computes.
+/// Each text is of exactly one kind, which `kind_of` computes.
 pub fn an_entry_has_one_kind()
     ensures { (text : List ℕ) (kind : Kind) → (kind_of text ≡ kind) ↔ IsKind text kind }
 {}
 
-/// The parts that `cut` computes are the one list whose members have a gap between each two, and none in them.
+/// The parts that `cut` computes are the only list that has
+/// a gap between each two members and none within them.
 pub fn a_list_is_cut_at_gaps()
     ensures divides { (text : List ℕ) → AreCut text (cut text) }
     ensures only { (text : List ℕ) (parts : List (List ℕ)) → AreCut text parts → parts ≡ cut text }

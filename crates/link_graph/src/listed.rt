@@ -1,4 +1,5 @@
-// An entry as it is kept among those of all lists: its text, and where in it lies what it says, so that it is read once.
+// An entry as it is stored among those of all lists: its text,
+// and the layout of what it says, so that it is read once.
 ghost use Rattle.std.specs.Prelude.{◌≡◌, ◌+◌, ◌≤◌, length};
 ghost use Rattle.link_graph.specs.Kinds.{is_same_kind};
 ghost use Rattle.link_graph.specs.Entries.{entry_of};
@@ -10,7 +11,8 @@ use crate::kinds::kind;
 use crate::shapes::{Entry, EntryKind};
 use std::marker::Model;
 
-// What an entry says, without its texts, which lie in the entry's own. A number is the length of the reference.
+// What an entry says, without its texts, which are parts of the
+// entry's own text. A number is the length of the reference.
 #[derive(Clone, Copy)]
 enum Layout {
     Link,
@@ -47,7 +49,7 @@ fn reference(text: &[u8], size: usize) -> &[u8]
     &text[end - size..end]
 }
 
-// The partner, behind an opening of this length and before the comma of a reference of that length.
+// The partner, which stands after an opening of this length and before the comma of a reference of that length.
 fn partner(text: &[u8], opening: usize, size: usize) -> &[u8]
     requires { opening + size + 2 ≤ length text.now }
     ensures { result.now ≡ partner_in opening size text.now }

@@ -15,10 +15,11 @@ use crate::shapes::{Entry, EntryKind};
 use process_table::Kept;
 use std::alloc::{AllocError, Global};
 
-// A list of no more entries is looked through; the kinds of a longer one are kept in a set.
+// A list of at most this many entries is searched one by one; the kinds of a longer one are kept in a set.
 const SHORT: usize = 16;
 
-// Where the entries of a process stand among those of all, and the place of their kinds, where they are many.
+// Where the entries of a process stand among those of all,
+// and the place of the set of their kinds, if they are many.
 #[derive(Clone, Copy)]
 pub(crate) struct Span {
     from: usize,
@@ -27,7 +28,7 @@ pub(crate) struct Span {
     unread: bool,
 }
 
-// The link lists of processes. Most lists are short, so that a vector for each would cost more than what it holds.
+// The link lists of processes. Most lists are short, so a vector for each would cost more than what it holds.
 #[derive(Drop)]
 pub(crate) struct Lists<'a> {
     entries: Vec<Listed<'a>>,
@@ -36,7 +37,7 @@ pub(crate) struct Lists<'a> {
     sets: Vec<KindSet<'a>>,
 }
 
-// Puts the parts of a list behind the entries.
+// Appends the parts of a list to the entries.
 fn push_parts<'a>(entries: &mut Vec<Listed<'a>>, parts: Parts<'a>) -> Result<(), AllocError>
     ensures { OnOk result (entries.new.items ≡ entries.old.items ++ map entry_of parts.entry) }
 {
@@ -56,7 +57,7 @@ fn all_kinds<'a>(alloc: Global, entries: &[Listed<'a>]) -> Result<KindSet<'a>, A
     Ok(KindSet::of(kinds))
 }
 
-// Puts the kinds of the entries of a long list behind the sets, and of a short one nothing.
+// Appends the kinds of the entries of a long list to the sets, and nothing for a short one.
 fn push_kinds<'a>(
     alloc: Global,
     sets: &mut Vec<KindSet<'a>>,
@@ -70,7 +71,7 @@ fn push_kinds<'a>(
     Ok(())
 }
 
-// The same of the entries that stand behind a place.
+// The same for the entries that stand from a place on.
 fn push_kinds_from<'a>(
     alloc: Global,
     sets: &mut Vec<KindSet<'a>>,
@@ -90,7 +91,7 @@ fn is_among(entries: &[Listed<'_>], wanted: &EntryKind<'_>) -> bool
 }
 
 impl<'a> Lists<'a> {
-    // No lists, with room for those of so many processes.
+    // No lists, with room for those of `processes` processes.
     pub fn new(alloc: Global, processes: usize) -> Result<Lists<'a>, AllocError>
         ensures lists { IfOk result (λ lists. lists_in lists ≡ []) }
         ensures within { IfOk result AreSpans }
@@ -102,7 +103,7 @@ impl<'a> Lists<'a> {
         })
     }
 
-    // Puts a list without entries behind the lists.
+    // Appends a list without entries.
     fn push_none(&mut self, unread: bool) -> Result<(), AllocError>
         requires { AreSpans self.old }
         ensures { OnOk result (HasGained self.old self.new (record { unread = unread; entries = [] })) }
@@ -116,7 +117,7 @@ impl<'a> Lists<'a> {
         Ok(())
     }
 
-    // Puts the list of this text behind the lists. The text stands at the offset in the file.
+    // Appends the list of this text, which stands at the offset in the file.
     fn push_text(&mut self, alloc: Global, at: u64, text: &'a [u8]) -> Result<(), AllocError>
         requires within { AreSpans self.old }
         requires place { at + length text.now < 2 ^ 64 }
@@ -139,7 +140,7 @@ impl<'a> Lists<'a> {
         Ok(())
     }
 
-    // Puts what a process with this link list holds behind the lists.
+    // Appends the list of a process that has this link list, or none.
     pub fn push(&mut self, alloc: Global, list: Option<Kept<'a>>) -> Result<(), AllocError>
         requires within { AreSpans self.old }
         requires bounded { IsBoundedCell (shown_cell list) }

@@ -4,9 +4,9 @@ ghost use Rattle.link_graph.specs.Entries.{entries_of, IsList};
 
 use crate::shapes::Entries;
 
-/// The entries of the text of a link list, in order. The list is `[`, any bytes and `]`. What stands in the
-/// brackets is cut at each comma that has a space behind it, from the left; where nothing stands there, there is no
-/// entry. `at` is counted in bytes of the text. `None` comes exactly where the text isn't a list.
+/// The entries of the text of a link list, in order. The list is `[`, any bytes and `]`. What stands
+/// between the brackets is cut at each comma followed by a space, from the left; if nothing stands there,
+/// there are no entries. `at` counts bytes of the text. Returns `None` exactly when the text isn't a list.
 pub fn entries(text: &[u8]) -> Option<Entries<'_>>
     ensures value { result ≡ entries_of text.now }
     ensures list { IsSome result ↔ IsList text.now }

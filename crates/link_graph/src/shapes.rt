@@ -1,4 +1,5 @@
-//! The entries of a link list, and the iterator that has the name of the function of [`reading`](crate::reading).
+//! The entries of a link list, and the iterator that shares
+//! its name with the function of [`reading`](crate::reading).
 ghost use Rattle.std.specs.Prelude.{◌≡◌, ◌+◌, ◌<◌, ◌^◌, ◌≤◌, length, IfSome};
 ghost use Rattle.std.specs.Iterator.{YieldsFirstBy, item_count};
 ghost use Rattle.link_graph.specs.Entries.{entries_at};
@@ -15,7 +16,7 @@ pub enum EntryKind<'a> {
     Link(&'a [u8]),
     /// A link to a port.
     LinkPort,
-    /// The process monitors the one with this pid, under this reference.
+    /// The process monitors the process with this pid, under this reference.
     To(&'a [u8], &'a [u8]),
     /// The process monitors a port.
     ToPort,
@@ -34,13 +35,13 @@ pub enum EntryKind<'a> {
 pub struct Entry<'a> {
     /// The offset of the entry's first byte.
     pub at: u64,
-    /// The entry as it stands in the list.
+    /// The entry's text, as it stands in the list.
     pub text: &'a [u8],
     /// What it says.
     pub kind: EntryKind<'a>,
 }
 
-/// The entries of a link list that are still to come, in order. Contracts see it as their list.
+/// The entries of a link list that are still to come, in order. Contracts see them as a list.
 #[derive(Drop)]
 pub struct Entries<'a> {
     parts: Parts<'a>,

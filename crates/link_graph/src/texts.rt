@@ -6,7 +6,7 @@ ghost use Rattle.std.specs.Char.{is_ascii_digit};
 ghost use Rattle.link_graph.specs.Texts.{behind, before, inside, is_dot, is_digits, is_dotted, is_pair, is_triple, is_pid, is_local, is_port, is_reference, is_braced};
 ghost use Rattle.link_graph.specs.Inner.Numbers.{behind_number};
 
-// What stands behind a front, where the text begins with it.
+// What stands after `front`, if the text begins with it.
 pub(crate) fn behind<'a>(text: &'a [u8], front: &[u8]) -> Option<&'a [u8]>
     ensures value { option_copied result ≡ behind front.now text.now }
     ensures lengths { IfSome result (λ rest. length front.now + length rest.now ≡ length text.now) }
@@ -21,7 +21,7 @@ fn before<'a>(text: &'a [u8], back: &[u8]) -> Option<&'a [u8]>
     text.strip_suffix(back)
 }
 
-// What stands between an opening and a closing, where the text begins and ends so.
+// What stands between an opening and a closing, if the text begins and ends with them.
 #[tactic(auto, unfolding(crate::specs::Texts::inside))]
 pub(crate) fn inside<'a>(text: &'a [u8], front: &[u8], back: &[u8]) -> Option<&'a [u8]>
     ensures value { option_copied result ≡ inside front.now back.now text.now }
@@ -54,14 +54,14 @@ fn is_dotted(text: &[u8]) -> bool
     !text.is_empty() && all_dotted(text)
 }
 
-// Where the first byte stands that is no digit.
+// Where the first byte stands that isn't a digit.
 fn first_other(text: &[u8]) -> Option<usize>
     ensures { result ≡ position (λ c. not (is_ascii_digit c)) text.now }
 {
     text.iter().position(|c| !c.is_ascii_digit())
 }
 
-// What stands behind a number and its dot, where the text begins with them.
+// What stands after a number and its dot, if the text begins with them.
 fn behind_number(text: &[u8]) -> Option<&[u8]>
     ensures { option_copied result ≡ behind_number text.now }
 {
@@ -132,7 +132,7 @@ pub(crate) fn is_reference(text: &[u8]) -> bool
     }
 }
 
-// Whether the text stands in braces, as a name with its node does.
+// Whether the text is in braces, as a name with its node is.
 #[tactic(auto, unfolding(crate::specs::Texts::is_braced))]
 pub(crate) fn is_braced(text: &[u8]) -> bool
     ensures { result ≡ is_braced text.now }

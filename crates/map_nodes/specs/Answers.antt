@@ -1,4 +1,4 @@
--- What the answers say.
+-- What the answers mean.
 use Rattle.std.specs.Prelude.{◌≡◌, ℕ, ◌<◌, List, length, Some}
 use Rattle.term_forms.specs.Elements.{Element}
 use Rattle.term_forms.specs.Forms.{Cons}
@@ -16,13 +16,13 @@ pub record AreKeysOf (heap : List Cell) (n : ℕ) (keys : Keys) : Type 0 where
   pub within : n < length heap
   pub are : keys ≡ keys_at (address_of heap n) (elements_at heap n)
 
--- an answer tells these keys of a flat map
+-- an answer gives these keys of a flat map
 abbrev pub IsKeysAt : List Cell → Keys → KeysAt → Type 0
 IsKeysAt heap found keys.None = found ≡ no_keys
 IsKeysAt heap found (keys.Keys ix) = AreKeysOf heap (number ix) found
 IsKeysAt heap found (keys.Bad address why) = found ≡ bad_keys address why
 
--- the list cell that holds a key and a value
+-- the cons cell that holds a key and a value
 pub record IsPairOf (heap : List Cell) (n : ℕ) (member : Member) : Type 0 where
   pub within : n < length heap
   pub key : Element
@@ -35,7 +35,7 @@ pub record IsInnerOf (heap : List Cell) (n : ℕ) (member : Member) : Type 0 whe
   pub within : n < length heap
   pub is : member ≡ inner_at (address_of heap n) (elements_at heap n)
 
--- an answer tells this child of a hash map
+-- an answer gives this child of a hash map
 abbrev pub IsMemberAt : List Cell → Member → MapChild → Type 0
 IsMemberAt heap member (child.Pair ix) = IsPairOf heap (number ix) member
 IsMemberAt heap member (child.Inner ix) = IsInnerOf heap (number ix) member

@@ -1,4 +1,5 @@
--- The maps of a heap: what the keys of a flat map are, and what the children of a hash map are. The ancestors play no part here.
+-- The maps of a heap: what the keys of a flat map are, and what the children
+-- of a hash map are. The cells that lead to a map play no part here.
 use Rattle.std.specs.Prelude.{ℕ, ◌==◌, List, [], ◌∷◌, length, Option, None, Some, slice_index_or, if◌then◌else◌}
 use Rattle.term_forms.specs.Elements.{Element, Nil, Ref}
 use Rattle.term_forms.specs.Forms.{HeapForm, Cons, Tuple, Flat, Node}
@@ -12,11 +13,11 @@ use Rattle.heap_cells.specs.declared.cells.Why.TheVariants.{Missing, Malformed}
 abbrev pub address_of : List Cell → ℕ → ℕ
 address_of heap n = unwrap_or (address_at heap n) 0
 
--- the element at a place from 0 of the form of the cell with a number
+-- the element at a place, from 0, of the form of the cell with a number
 abbrev pub element_at : List Cell → ℕ → ℕ → Element
 element_at heap n place = slice_index_or (elements_at heap n) place Nil
 
--- the form of the cell that has the address; that cell's form is none where it is malformed
+-- the form of the cell with the address, if there is one; a malformed cell's form is `None`
 abbrev pub form_with : List Cell → ℕ → Option (Option HeapForm)
 form_with heap address = option_map (form_at heap) (number_at heap address)
 
@@ -29,7 +30,7 @@ pub data Keys : Type 0 where
   -- the address is bad, and stands in the map's place
   bad_keys : ℕ → Why → Keys
 
--- a cell that should be a tuple of so many keys
+-- a cell that should be a tuple of this many keys
 abbrev pub tuple_keys : ℕ → ℕ → Option HeapForm → Keys
 tuple_keys k size (Some (Tuple elements)) = if length elements == size then keys_at k elements else bad_keys k Malformed
 tuple_keys k size form = bad_keys k Malformed
@@ -39,17 +40,18 @@ abbrev pub cell_keys : ℕ → ℕ → Option (Option HeapForm) → Keys
 cell_keys k size None = bad_keys k Missing
 cell_keys k size (Some form) = tuple_keys k size form
 
--- the keys of so many values, by the keys element; one that is no reference is bad at the map's own address
+-- the keys of this many values, from the keys element; if
+-- that is no reference, it is bad at the map's own address
 abbrev pub element_keys : List Cell → ℕ → ℕ → Element → Keys
 element_keys heap map size (Ref k) = cell_keys k size (form_with heap k)
 element_keys heap map size element = bad_keys map Malformed
 
--- the keys of the flat map at an address, by its keys element and its values
+-- the keys of the flat map at an address, from its keys element and its values
 abbrev pub keys_of_map : List Cell → ℕ → Element → List Element → Keys
 keys_of_map heap map keys [] = no_keys
 keys_of_map heap map keys (value ∷ values) = element_keys heap map (length (value ∷ values)) keys
 
--- the keys of the cell with a number, where it is a flat map
+-- the keys of the cell with a number, if it is a flat map
 abbrev pub form_keys : List Cell → ℕ → Option HeapForm → Keys
 form_keys heap map (Some (Flat keys values)) = keys_of_map heap map keys values
 form_keys heap map form = no_keys
@@ -60,26 +62,27 @@ keys_of_cell heap n = form_keys heap (address_of heap n) (form_at heap n)
 
 -- A child of a hash map or of one of its inner nodes.
 pub data Member : Type 0 where
-  -- a list cell is a pair: its head is the key, and its tail the value
+  -- a cons cell is a pair: its head is the key, and its tail the value
   pair_at : ℕ → Element → Element → Member
   -- a node or a tuple is an inner node: its elements are children
   inner_at : ℕ → List Element → Member
   -- the address is bad, and stands in the child's place
   bad_member : ℕ → Why → Member
 
--- the child that a cell is, by its form: a list is a pair, a tuple or a node an inner node, any other is malformed
+-- the child that a cell is, by its form: a cons cell is a pair,
+-- a tuple or a node an inner node, and any other is malformed
 abbrev pub form_member : ℕ → Option HeapForm → Member
 form_member a (Some (Cons head tail)) = pair_at a head tail
 form_member a (Some (Tuple elements)) = inner_at a elements
 form_member a (Some (Node children)) = inner_at a children
 form_member a form = bad_member a Malformed
 
--- the child at an address: missing where the map hasn't it
+-- the child at an address: missing if no cell has the address
 abbrev pub cell_member : ℕ → Option (Option HeapForm) → Member
 cell_member a None = bad_member a Missing
 cell_member a (Some form) = form_member a form
 
--- the child that an element stands for; one that is no reference is bad at the address of its parent
+-- the child that an element stands for; an immediate is bad at the address of its parent
 abbrev pub member_of : List Cell → ℕ → Element → Member
 member_of heap parent (Ref a) = cell_member a (form_with heap a)
 member_of heap parent element = bad_member parent Malformed

@@ -12,9 +12,9 @@ use heap_cells::{CellIx, Heap, Kind, Slot, Why};
 /// What a child of a hash map or of one of its inner nodes is.
 #[derive(Clone, Copy, Debug, PartialEq, Eq)]
 pub enum MapChild {
-    /// The head of this list cell is a key, and its tail the value.
+    /// The head of this cons cell is a key, and its tail the value.
     Pair(CellIx),
-    /// The elements of this cell, a node or a tuple, are children in their turn.
+    /// The elements of this cell, a node or a tuple, are children in turn.
     Inner(CellIx),
     /// There is no child: the address that is bad, and why.
     Bad(u64, Why),
@@ -33,10 +33,10 @@ fn member(heap: &Heap, ix: CellIx) -> MapChild
     }
 }
 
-/// The child at a place from 0 of a hash map, or of an inner node, which is a node or a tuple.
+/// The child at place `n`, from 0, of a hash map, or of an inner node, which is a node or a tuple.
 ///
-/// `Bad` comes exactly where the element is no reference, which is bad at the address of `ix`, or refers to an address
-/// that no cell has, or to a cell that is no list cell, node or tuple.
+/// Returns `Bad` exactly when the element is an immediate, which is bad at the address of `ix`,
+/// or refers to an address that no cell has, or to a cell that is no cons cell, node or tuple.
 pub fn child_of(heap: &Heap, ix: CellIx, n: u32) -> MapChild
     requires cell { number ix < length heap.now.cells }
     requires kind { (option_map kind_of (form_at heap.now.cells (number ix)) ≡ Some Kind.Hash)

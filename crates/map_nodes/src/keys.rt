@@ -9,18 +9,18 @@ ghost use Rattle.map_nodes.specs.Rules.{address_of, tuple_keys, keys_of_cell};
 
 use heap_cells::{CellIx, Heap, Kind, Slot, Why};
 
-/// Where the keys of a flat map stand.
+/// Where the keys of a flat map are.
 #[derive(Clone, Copy, Debug, PartialEq, Eq)]
 pub enum KeysAt {
     /// The map has no values, and its keys element isn't looked at.
     None,
     /// The elements of this cell, a tuple, are the keys, as many as the map has values.
     Keys(CellIx),
-    /// The keys can't be had: the address that is bad, and why.
+    /// The keys aren't available: the address that is bad, and why.
     Bad(u64, Why),
 }
 
-// A cell as the tuple of so many keys.
+// A cell as the tuple of `size` keys.
 fn tuple_of(heap: &Heap, ix: CellIx, size: u32) -> KeysAt
     requires { number ix < length heap.now.cells }
     ensures { IsKeysAt heap.now.cells (tuple_keys (address_of heap.now.cells (number ix)) size (form_at heap.now.cells (number ix))) result }
@@ -35,9 +35,9 @@ fn tuple_of(heap: &Heap, ix: CellIx, size: u32) -> KeysAt
 
 /// The keys of a flat map.
 ///
-/// `None` comes exactly where the map has no values. `Bad` comes exactly where the keys element is no reference, which is
-/// bad at the map's own address, or refers to an address that no cell has, or to a cell that isn't a tuple of as many
-/// elements as the map has values.
+/// Returns `None` exactly when the map has no values. Returns `Bad` exactly when it has some and
+/// the keys element is an immediate, which is bad at the map's own address, or refers to an address
+/// that no cell has, or to a cell that isn't a tuple of as many elements as the map has values.
 pub fn keys_of(heap: &Heap, ix: CellIx) -> KeysAt
     requires cell { number ix < length heap.now.cells }
     requires flat { option_map kind_of (form_at heap.now.cells (number ix)) ≡ Some Kind.Flat }

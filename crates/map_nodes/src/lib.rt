@@ -1,8 +1,8 @@
 //! The maps of a heap: the keys of a flat map, and the children of a hash map.
 //!
-//! A flat map has its values beside a reference to the tuple of its keys, which several maps may share. A hash map has
-//! children: a list cell is a pair of a key and a value, and a node or a tuple is an inner node with children of its own.
-//! Which cells lead to a map plays no part here, so neither call answers `Why::OnPath`.
+//! A flat map has its values, and a reference to the tuple of its keys, which several maps may share. A hash
+//! map has children: a cons cell is a pair of a key and a value, and a node or a tuple is an inner node with
+//! children of its own. Which cells lead to a map plays no part here, so neither call returns `Why::OnPath`.
 #![tactic(auto)]
 
 mod children;

@@ -8,8 +8,8 @@ use Rattle.section_index.specs.Sections.{sections}
 use Rattle.section_rows.specs.Rows.{Kept, IsBoundedCell, body_of, field_kept}
 use Rattle.process_table.specs.Records.{Placed, records, repeated, pid_of}
 
--- a process: the place of its section among those of the dump, from 0, its pid, and the first of each of these
--- fields of the section's body, with offsets in the file
+-- a process: the place of its section among those of the dump, from 0, its pid, and, of the
+-- body of its section, the first field with each of these keys, with offsets in the file
 pub record Process : Type 0 where
   pub section : ℕ
   pub pid : List ℕ
@@ -33,7 +33,8 @@ process_in (place, s) body =
       links = field (codes "Link list");
     }
 
--- the processes, and how many sections of processes were passed over because the pid stood before
+-- the processes, and how many sections of processes were
+-- passed over because an earlier section has the same pid
 pub record ProcessTable : Type 0 where
   pub processes : List Process
   pub repeated : ℕ
@@ -45,15 +46,15 @@ process_table bytes = record {
   repeated = repeated (sections bytes);
 }
 
--- a process without anything
+-- a process without a pid and fields
 abbrev pub nobody : Process
 nobody = record { section = 0; pid = []; state = None; name = None; queue = None; memory = None; links = None }
 
--- the process at a place, and past the last one nobody
+-- the process at a place; past the last one, nobody
 abbrev pub process_at : List Process → ℕ → Process
 process_at processes p = unwrap_or (slice_get processes p) nobody
 
--- the processes are those of the index, whatever their fields
+-- the processes are those of the index, whatever their fields are
 pub record IsOver (index : Contents) (table : ProcessTable) : Type 0 where
   pub sections : map (λ p. p.section) table.processes ≡ map (λ r. r.0) (records (sections_in index))
   pub pids : map (λ p. p.pid) table.processes ≡ map (λ r. pid_of r.1) (records (sections_in index))

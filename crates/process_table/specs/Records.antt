@@ -25,11 +25,11 @@ pid_of s = unwrap_or (id_of s.text) []
 abbrev pub process_sections : List Placed → List Placed
 process_sections sections = filter (λ p. is_process p.1) sections
 
--- pids are the same byte for byte
+-- pids are the same if they are so byte for byte
 abbrev pub has_same_pid : Placed → Placed → Bool
 has_same_pid p other = bytes_eq (pid_of p.1) (pid_of other.1)
 
--- of the sections with one pid the first
+-- the first of the sections with each pid
 abbrev pub first_of_each : List Placed → List Placed
 first_of_each [] = []
 first_of_each (p ∷ rest) = p ∷ filter (λ other. not (has_same_pid p other)) (first_of_each rest)
@@ -50,11 +50,11 @@ repeated sections = length (process_sections (placed sections)) - length (record
 abbrev pub named_place : Placed → List ℕ × ℕ
 named_place r = (pid_of r.1, r.0)
 
--- where the processes are: the pid and the place of each, and how many sections were passed over
+-- where the processes are: the pid and the section's place of each, and how many sections were passed over
 pub record ProcPlaces : Type 0 where
   pub places : List (List ℕ × ℕ)
   pub repeated : ℕ
 
--- the processes of some sections, whatever their bodies hold
+-- the processes of these sections, whatever their bodies hold
 abbrev pub proc_places : List Section → ProcPlaces
 proc_places sections = record { places = map named_place (records sections); repeated = repeated sections }

@@ -3,7 +3,7 @@ use Rattle.section_rows.specs.Shown.{shown_cell}
 use Rattle.process_table.specs.declared.procs.Proc.{Proc}
 use Rattle.process_table.specs.Processes.{Process}
 
--- what a record tells, where its texts are lent
+-- the value of a record whose texts are borrowed
 abbrev pub shown_process : Proc → Process
 shown_process p = record {
   section = p.section;

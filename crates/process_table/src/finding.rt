@@ -1,4 +1,4 @@
-// The first section of each process is found.
+// Finding the first section of each process.
 ghost use Rattle.std.specs.Prelude.{◌≡◌, ◌+◌, ◌<◌, ◌≤◌, ◌^◌, true, length, take, slice_get, Some, OnOk, IfOk, IfSome};
 ghost use Rattle.std.specs.Option.{option_copied};
 ghost use Rattle.dump_io.specs.Limits.{usual};
@@ -12,14 +12,14 @@ use section_index::Index;
 use std::alloc::{AllocError, Global};
 use std::collections::BTreeMap;
 
-// The first sections of processes, in the order of the dump, and how many more sections of processes there are.
+// The first sections of processes, in dump order, and how many further sections of processes there are.
 #[derive(Drop)]
 pub(crate) struct Found {
     pub places: Vec<PidPlace>,
     pub repeated: u64,
 }
 
-// The pid, where the section at a place is that of a process.
+// The pid, if the section at a place is that of a process.
 fn pid_of(index: &Index, i: usize) -> Option<&[u8]>
     requires { i < length index.now.headers }
     ensures pid { option_copied result ≡ pid_in (section_at index.now i) }
@@ -33,7 +33,7 @@ fn pid_of(index: &Index, i: usize) -> Option<&[u8]>
     }
 }
 
-// Takes the section at a place, behind those before it, where the tree has the numbers of their pids.
+// Takes the section at a place, after those before it, whose pids the tree maps to their numbers.
 fn find_at<'a>(
     alloc: Global,
     found: &mut Found,
@@ -60,7 +60,7 @@ fn find_at<'a>(
     Ok(())
 }
 
-// Finds the first section of each process, and the order of their pids, whatever order they come in.
+// Finds the first section of each process, and the order of their pids, in whatever order they come.
 fn find_ranked(alloc: Global, index: &Index) -> Result<(Found, Vec<u32>), AllocError>
     ensures found { IfOk result (λ found. AreFound found.0 (placed (sections_in index.now))) }
     ensures own { IfOk result (λ found. AreOwn found.0.places.items) }
@@ -79,8 +79,8 @@ fn find_ranked(alloc: Global, index: &Index) -> Result<(Found, Vec<u32>), AllocE
     Ok((found, order))
 }
 
-// Takes the section at a place, behind those before it, whose pids rise. Tells whether they still do; where they don't,
-// nothing is taken.
+// Takes the section at a place, after those before it, whose pids rise.
+// Returns whether they still do; if they don't, nothing is taken.
 fn find_rising_at(
     alloc: Global,
     places: &mut Vec<PidPlace>,
@@ -101,8 +101,8 @@ fn find_rising_at(
     Ok(true)
 }
 
-// Finds the first section of each process, where each pid comes behind those before it: none is repeated, and nothing else
-// is asked to tell that it is new. `None` comes where some pid doesn't.
+// Finds the first section of each process, if each pid is greater than those before it: then none
+// is repeated, and no further check is needed that it is new. Returns `None` if some pid isn't.
 fn find_rising(alloc: Global, index: &Index) -> Result<Option<Vec<PidPlace>>, AllocError>
     ensures found { IfOk result (λ found. IfSome found (λ places. AreFoundRising places (placed (sections_in index.now)))) }
     ensures count { IfOk result (λ found. IfSome found (λ places. length places.items ≤ usual.sections)) }

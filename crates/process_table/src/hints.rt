@@ -1,5 +1,5 @@
-// A table of hints that stands before the search by the order of pids: pids that are looked up one after another are mostly
-// near to each other, and so are their slots.
+// A table of hints that is asked before the search by the order of pids: pids that are
+// looked up one after another are mostly close to each other, and so are their slots.
 ghost use Rattle.std.specs.Prelude.{◌≡◌, ◌<◌, ◌≤◌, length, position, Some, IfSome};
 ghost use Rattle.dump_io.specs.Limits.{usual};
 ghost use Rattle.process_table.specs.Inner.Finding.{AreOwn, has_pid};
@@ -7,13 +7,13 @@ ghost use Rattle.process_table.specs.Inner.Finding.{AreOwn, has_pid};
 use crate::pids::PidPlace;
 use std::alloc::{AllocError, Global};
 
-// For each slot the number of a pid. Nothing is promised of it, since it is compared where it is used.
+// The number of a pid for each slot. Nothing is promised of a hint, since it is compared where it is used.
 #[derive(Drop)]
 pub(crate) struct Hints {
     slots: Vec<u32>,
 }
 
-// The second number of a pid, as 123 of `<0.123.0>`. Another text has some number too.
+// The second number of a pid, such as 123 of `<0.123.0>`. Any other text gives some number too.
 fn number_in(pid: &[u8]) -> usize {
     let mut number = 0usize;
     for i in 3..pid.len() {
@@ -26,13 +26,14 @@ fn number_in(pid: &[u8]) -> usize {
     number
 }
 
-// The slot of a pid in a table of so many slots, which are a power of two.
+// The slot of a pid in a table of `slots` slots, whose number is a power of two.
 fn slot_of(pid: &[u8], slots: usize) -> usize {
     number_in(pid) & slots.wrapping_sub(1)
 }
 
 impl Hints {
-    // The hints for these pids, in at least twice as many slots. Of the pids with one slot the last has it.
+    // The hints for these pids, in at least twice as many
+    // slots. Of the pids with the same slot, the last has it.
     pub(crate) fn of(alloc: Global, places: &[PidPlace]) -> Result<Hints, AllocError>
         requires { length places.now ≤ usual.sections }
     {
@@ -46,7 +47,7 @@ impl Hints {
         Ok(Hints { slots })
     }
 
-    // The number of a pid, where the hint in its slot is right.
+    // The number of a pid, if the hint in its slot is right.
     pub(crate) fn find(&self, places: &[PidPlace], pid: &[u8]) -> Option<usize>
         requires { AreOwn places.now }
         ensures number { IfSome result (λ i. position (has_pid pid.now) places.now ≡ Some i) }

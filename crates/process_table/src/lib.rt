@@ -1,8 +1,9 @@
-//! The process table of a dump: a record for each process, with its pid, the place of its section and the
-//! fields that reports and audits ask for.
+//! The process table of a dump: a record for each process, with its pid,
+//! the place of its section and the fields that reports and audits ask for.
 //!
-//! [`Procs::load`] finds the first section of each process and reads their bodies one after another. It does so in two
-//! steps, which a caller may take itself: [`ProcSections::find`] needs the index alone, and [`Procs::read`] reads.
+//! [`Procs::load`] finds the first section of each process and reads the bodies of
+//! these sections one after another. A caller may take the two steps itself:
+//! [`ProcSections::find`] needs only the index, and [`Procs::read`] reads the bodies.
 #![tactic(auto)]
 
 mod finding;

@@ -1,5 +1,5 @@
-// Pids with the places of their sections, in the order of the dump, and how a pid is found among them: by their order,
-// since whoever writes a dump could give all pids one hash.
+// Pids with the places of their sections, in dump order, and how a pid is found among
+// them: by their order, since whoever writes a dump could give all pids one hash.
 ghost use Rattle.std.specs.Prelude.{◌≡◌, ◌<◌, List, length, position, OnOk, IfOk, IfSome};
 ghost use Rattle.std.specs.BTreeMap.{IsOrdered, values};
 ghost use Rattle.std.specs.Cmp.Lexicographic.{slice_cmp};
@@ -18,24 +18,25 @@ pub(crate) struct PidPlace {
     pub section: usize,
 }
 
-// The order by which pids are sought.
+// The order by which pids are looked up.
 #[derive(Drop)]
 pub(crate) enum PidOrder {
-    // Each pid comes behind those before it, as in the dumps of nodes that were looked at: the places themselves are searched.
+    // Each pid is greater than those before it, as in the dumps of real
+    // nodes that were examined: the places themselves are searched.
     Rising,
-    // Some pid doesn't. These are the numbers of all pids, in the order of their bytes.
+    // Some pid isn't. These are the numbers of all pids, in the order of their bytes.
     Ranked(Vec<u32>),
 }
 
-// How pids compare where they rise: a shorter one comes first, so that `<0.9.0>` stands before `<0.10.0>`, and of two of
-// one length the one whose bytes are less.
+// How pids compare where they rise: a shorter one is less, so that `<0.9.0>` comes
+// before `<0.10.0>`, and of two with the same length the one whose bytes are less.
 fn compare_rising(pid: &[u8], other: &[u8]) -> Ordering
     ensures { result ≡ rising_cmp pid.now other.now }
 {
     (pid.len(), pid).cmp(&(other.len(), other))
 }
 
-// Whether a pid comes behind the last one, if there is one.
+// Whether a pid is greater than the last one, if there is one.
 pub(crate) fn comes_behind(places: &[PidPlace], pid: &[u8]) -> bool
     ensures { result ≡ is_behind places.now pid.now }
 {
@@ -45,7 +46,7 @@ pub(crate) fn comes_behind(places: &[PidPlace], pid: &[u8]) -> bool
     }
 }
 
-// Puts a pid and the place of its section behind the others.
+// Appends a pid and the place of its section.
 pub(crate) fn push_place(
     alloc: Global,
     places: &mut Vec<PidPlace>,
@@ -59,7 +60,7 @@ pub(crate) fn push_place(
     Ok(())
 }
 
-// The pid with a number, and past the last one an empty text.
+// The pid with a number; past the last one, an empty text.
 fn pid_at(places: &[PidPlace], number: u32) -> &[u8]
     ensures { result.now ≡ pid_at places.now number }
 {
@@ -76,7 +77,7 @@ fn compare(places: &[PidPlace], number: u32, pid: &[u8]) -> Ordering
     pid_at(places, number).cmp(pid)
 }
 
-// The numbers that a tree has, in the order of its keys.
+// The numbers in a tree, in the order of its keys.
 fn values_of(alloc: Global, numbers: &BTreeMap<&[u8], u32>) -> Result<Vec<u32>, AllocError>
     ensures values { IfOk result (λ order. order.items ≡ values numbers.now) }
     ensures ordered { IsOrdered (λ x y. slice_cmp nat_cmp x.now y.now) numbers.now }
@@ -107,7 +108,7 @@ fn rising_number(places: &[PidPlace], pid: &[u8]) -> Option<usize>
     }
 }
 
-// The number of a pid, by the order of all pids.
+// The number of a pid, found by the order of all pids.
 fn ranked_number(places: &[PidPlace], order: &[u32], pid: &[u8]) -> Option<usize>
     requires { AreRanked places.now order.now }
     ensures number { result ≡ position (has_pid pid.now) places.now }

@@ -1,4 +1,4 @@
-// The sections of processes, as an index tells them.
+// The sections of processes, from an index.
 ghost use Rattle.std.specs.Prelude.{◌≡◌, ◌<◌, ◌≤◌, length, slice_get, Some, IfOk};
 ghost use Rattle.dump_io.specs.Limits.{usual};
 ghost use Rattle.section_index.specs.Index.{sections_in};
@@ -14,8 +14,8 @@ use section_rows::large;
 use std::alloc::{AllocError, Global};
 use std::marker::Model;
 
-/// The processes of a dump, in dump order, as its index tells them: no body is read for it. Of the sections with one
-/// pid the first counts.
+/// The processes of a dump, in dump order, as its index shows them: no body
+/// is read for this. Of the sections with the same pid the first counts.
 #[derive(Drop)]
 pub struct ProcSections {
     places: Vec<PidPlace>,
@@ -44,7 +44,7 @@ pub(crate) fn place_at(places: &[PidPlace], i: usize) -> (&[u8], usize)
     (place.pid.as_slice(), place.section)
 }
 
-// The places of the sections, in the order of the dump.
+// The places of the sections, in dump order.
 fn sections_of(alloc: Global, places: &[PidPlace]) -> Result<Vec<usize>, AllocError>
     ensures { IfOk result (λ sections. sections.items ≡ sections_of places.now) }
 {
@@ -73,7 +73,8 @@ impl ProcSections {
         self.sections.len()
     }
 
-    /// The pid of the process at a place, from 0, and the place of its section among those of the index.
+    /// The pid of the process at place `i`, from 0, and the
+    /// place of its section among the sections of the index.
     pub fn at(&self, i: usize) -> (&[u8], usize)
         requires { i < length self.now.places }
         ensures { slice_get self.now.places i ≡ Some (result.0.now, result.1) }
@@ -81,8 +82,8 @@ impl ProcSections {
         place_at(&self.places, i)
     }
 
-    /// The refusal of the first of these sections of the index whose body has more bytes than the limit on sections.
-    /// `None` comes exactly where each keeps to it. Nothing is read.
+    /// The refusal of the first of these sections of the index whose body has more bytes than the limit
+    /// on a section's body. Returns `None` exactly when each body is within the limit. Nothing is read.
     pub fn large(&self, index: &Index, limits: &Limits) -> Option<BodyFault>
         requires { self.now ≡ proc_places (sections_in index.now) }
         ensures { result ≡ large_fault limits.now.section (record_sections (sections_in index.now)) }
@@ -90,8 +91,8 @@ impl ProcSections {
         large(index, self.sections.as_slice(), limits)
     }
 
-    // The pids with the places of their sections, their order, these places alone, and the number of the sections that
-    // were passed over.
+    // The pids with the places of their sections, their order, these
+    // places alone, and the number of sections that were passed over.
     pub(crate) fn into_parts(self) -> (Vec<PidPlace>, PidOrder, Vec<usize>, u64)
         ensures places { named_places result.0.items ≡ self.places }
         ensures ordered { AreOrdered result.0.items result.1 }

@@ -1,7 +1,7 @@
 // The process table.
 ghost use Rattle.std.specs.Prelude.{◌≡◌, ℕ, List, ◌<◌, length, map, slice_get, None, Some, IfSome, IsSome, IfOk, OnOk, IfErr, All, position};
 ghost use Rattle.std.specs.Str.{bytes_eq};
-ghost use Rattle.dump_io.specs.Dumps.{told, used, ReadsAtMost};
+ghost use Rattle.dump_io.specs.Dumps.{told, ReadsAtMost};
 ghost use Rattle.section_index.specs.Index.{IsBuiltOver, sections_in};
 ghost use Rattle.section_rows.specs.Loading.{bodies_length, first_large, AreRefused};
 ghost use Rattle.section_rows.specs.Rows.{rows_of};
@@ -21,7 +21,7 @@ use section_rows::{Column, Kept, SectionRows};
 use std::alloc::Global;
 use std::marker::Model;
 
-/// A process of a dump. A field is `None` exactly where the section's body has no such line.
+/// A process of a dump. A field is `None` exactly when the section's body has no such line.
 #[derive(Clone, Copy, Debug)]
 pub struct Proc<'a> {
     /// The place of the section among the sections of the index, from 0.
@@ -40,7 +40,7 @@ pub struct Proc<'a> {
     pub links: Option<Kept<'a>>,
 }
 
-/// The processes of a dump, in dump order. Of the sections with one pid the first counts.
+/// The processes of a dump, in dump order. Of the sections with the same pid the first counts.
 #[derive(Drop)]
 pub struct Procs {
     places: Vec<PidPlace>,
@@ -62,7 +62,7 @@ impl Model for Procs {
     ghost invariant = { λ t. AreJoined t.places.items t.order t.fields };
 }
 
-// The process of the entry and the row at a place.
+// The process from the entry and the row at a place.
 fn joined_at<'a>(places: &'a [PidPlace], fields: &'a SectionRows, i: usize) -> Proc<'a>
     requires rows { length fields.now.rows ≡ length places.now }
     requires width { fields.now.width ≡ 5 }
@@ -98,42 +98,42 @@ fn load_fields<D: Dumps>(
     sections: &[usize],
     limits: &Limits,
 ) -> Result<SectionRows, BodyFault>
-    requires over { IsBuiltOver (D.now dumps.old) index.now }
+    requires over { IsBuiltOver (D.state dumps.old).now index.now }
     requires found { sections.now ≡ map (λ r. r.0) (records (sections_in index.now)) }
     requires records { All (IsRecordOf index.now) (records (sections_in index.now)) }
-    ensures reads { ReadsAtMost (used D.files D.now D.faults D.taken dumps.old dumps.new) (bodies_length (record_sections (sections_in index.now))) }
-    ensures rows { IfOk result (λ table. (bytes : List ℕ) → D.now dumps.old ≡ told bytes
+    ensures reads { ReadsAtMost (D.state dumps.old) (D.state dumps.new) (bodies_length (record_sections (sections_in index.now))) }
+    ensures rows { IfOk result (λ table. (bytes : List ℕ) → (D.state dumps.old).now ≡ told bytes
         → table.rows ≡ rows_of bytes field_columns (record_sections (sections_in index.now))) }
     ensures width { IfOk result (λ table. table.width ≡ 5) }
     ensures places { IfOk result (λ table. map (λ row. row.at) table.rows ≡ map (λ s. s.at) (record_sections (sections_in index.now))) }
     ensures loaded { OnOk result (first_large limits.now.section (record_sections (sections_in index.now)) ≡ None) }
-    ensures fault { IfErr result (AreRefused (record_sections (sections_in index.now)) limits.now.section (used D.files D.now D.faults D.taken dumps.old dumps.new)) }
+    ensures fault { IfErr result (AreRefused (record_sections (sections_in index.now)) limits.now.section (D.state dumps.old) (D.state dumps.new)) }
     ensures unread { IsSome (first_large limits.now.section (record_sections (sections_in index.now))) → dumps.new ≡ dumps.old }
 {
     SectionRows::load(alloc, dumps, index, sections, &FIELDS, limits)
 }
 
 impl Procs {
-    /// Finds the processes of an index, and reads the bodies of their sections one after another. The index is
-    /// one that was built over the file that is open, and the file stays open.
+    /// Finds the processes of an index, and reads the bodies of their sections one
+    /// after another. The index was built over the open file, which stays open.
     ///
-    /// `SectionTooLarge` comes exactly where one of these bodies has more bytes than the limit on sections,
-    /// unless `Memory` comes; it names the first such section of the dump, and nothing is read then. `Read`
-    /// comes only where the device's count of faults rose; `Memory` may come wherever memory is taken. At most
-    /// as many bytes are read as the bodies have together, also where they aren't loaded.
+    /// Returns `SectionTooLarge` exactly when one of these bodies has more bytes than the limit on a
+    /// section's body, unless it returns `Memory`; it names the first such section of the dump, and nothing
+    /// is read then. Returns `Read` only if the device's count of faults rose; `Memory` may come from any
+    /// allocation. At most as many bytes are read as the bodies have together, even if they aren't loaded.
     pub fn load<D: Dumps>(
         alloc: Global,
         dumps: &mut D,
         index: &Index,
         limits: &Limits,
     ) -> Result<Procs, BodyFault>
-        requires { IsBuiltOver (D.now dumps.old) index.now }
-        ensures reads { ReadsAtMost (used D.files D.now D.faults D.taken dumps.old dumps.new) (bodies_length (record_sections (sections_in index.now))) }
-        ensures table { IfOk result (λ procs. (bytes : List ℕ) → D.now dumps.old ≡ told bytes → procs ≡ process_table bytes) }
+        requires { IsBuiltOver (D.state dumps.old).now index.now }
+        ensures reads { ReadsAtMost (D.state dumps.old) (D.state dumps.new) (bodies_length (record_sections (sections_in index.now))) }
+        ensures table { IfOk result (λ procs. (bytes : List ℕ) → (D.state dumps.old).now ≡ told bytes → procs ≡ process_table bytes) }
         ensures over { IfOk result (IsOver index.now) }
         ensures named { IfOk result (λ procs. All (IsIn index.now) procs.processes) }
         ensures loaded { OnOk result (first_large limits.now.section (record_sections (sections_in index.now)) ≡ None) }
-        ensures fault { IfErr result (AreRefused (record_sections (sections_in index.now)) limits.now.section (used D.files D.now D.faults D.taken dumps.old dumps.new)) }
+        ensures fault { IfErr result (AreRefused (record_sections (sections_in index.now)) limits.now.section (D.state dumps.old) (D.state dumps.new)) }
         ensures unread { IsSome (first_large limits.now.section (record_sections (sections_in index.now))) → dumps.new ≡ dumps.old }
     {
         let Ok(found) = ProcSections::find(alloc, index) else {
@@ -142,11 +142,11 @@ impl Procs {
         Procs::read(alloc, dumps, index, found, limits)
     }
 
-    /// Reads the bodies of the sections of processes that were found in an index, one after another. The index is one
-    /// that was built over the file that is open, and the file stays open.
+    /// Reads the bodies of the sections of processes that were found in an index,
+    /// one after another. The index was built over the open file, which stays open.
     ///
-    /// It gives what [`Procs::load`] does, which finds the processes first. A caller that has more to judge on the
-    /// index finds them by [`ProcSections::find`], and reads once it has judged.
+    /// Returns what [`Procs::load`] does, which finds the processes first. A caller that has more
+    /// to judge on the index finds them by [`ProcSections::find`], and reads once it has judged.
     pub fn read<D: Dumps>(
         alloc: Global,
         dumps: &mut D,
@@ -154,14 +154,14 @@ impl Procs {
         found: ProcSections,
         limits: &Limits,
     ) -> Result<Procs, BodyFault>
-        requires over { IsBuiltOver (D.now dumps.old) index.now }
+        requires over { IsBuiltOver (D.state dumps.old).now index.now }
         requires found { found ≡ proc_places (sections_in index.now) }
-        ensures reads { ReadsAtMost (used D.files D.now D.faults D.taken dumps.old dumps.new) (bodies_length (record_sections (sections_in index.now))) }
-        ensures table { IfOk result (λ procs. (bytes : List ℕ) → D.now dumps.old ≡ told bytes → procs ≡ process_table bytes) }
+        ensures reads { ReadsAtMost (D.state dumps.old) (D.state dumps.new) (bodies_length (record_sections (sections_in index.now))) }
+        ensures table { IfOk result (λ procs. (bytes : List ℕ) → (D.state dumps.old).now ≡ told bytes → procs ≡ process_table bytes) }
         ensures over { IfOk result (IsOver index.now) }
         ensures named { IfOk result (λ procs. All (IsIn index.now) procs.processes) }
         ensures loaded { OnOk result (first_large limits.now.section (record_sections (sections_in index.now)) ≡ None) }
-        ensures fault { IfErr result (AreRefused (record_sections (sections_in index.now)) limits.now.section (used D.files D.now D.faults D.taken dumps.old dumps.new)) }
+        ensures fault { IfErr result (AreRefused (record_sections (sections_in index.now)) limits.now.section (D.state dumps.old) (D.state dumps.new)) }
         ensures unread { IsSome (first_large limits.now.section (record_sections (sections_in index.now))) → dumps.new ≡ dumps.old }
     {
         let (places, order, sections, repeated) = found.into_parts();
@@ -194,8 +194,8 @@ impl Procs {
         joined_at(&self.places, &self.fields, i)
     }
 
-    /// The place of the section of the process at a place, among the sections of the index. This and the three below give
-    /// one value of [`Procs::at`] each, and read no other.
+    /// The place of the section of the process at a place, among the sections of the index. This
+    /// and the three methods below return one value of [`Procs::at`] each, and read no other.
     pub fn section(&self, i: usize) -> usize
         requires { i < length self.now.processes }
         ensures { result ≡ (process_at self.now.processes i).section }
@@ -227,7 +227,7 @@ impl Procs {
         self.fields.cell(i, 4)
     }
 
-    /// The place of the process with this pid. `None` comes exactly where there is none.
+    /// The place of the process with this pid. Returns `None` exactly when there is none.
     pub fn get(&self, pid: &[u8]) -> Option<usize>
         ensures place { result ≡ position (λ process. bytes_eq pid.now process.pid) self.now.processes }
         ensures within { IfSome result (λ i. i < length self.now.processes) }
@@ -239,7 +239,7 @@ impl Procs {
         }
     }
 
-    /// How many sections of processes were passed over because their pid stood before.
+    /// How many sections of processes were passed over because an earlier section has the same pid.
     pub fn repeated(&self) -> u64
         ensures { result ≡ self.now.repeated }
     {

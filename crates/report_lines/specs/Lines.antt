@@ -14,7 +14,7 @@ tab = codes "\t"
 abbrev pub newline : List ℕ
 newline = codes "\n"
 
--- the line of something that is counted: behind a word the number and what it is; what doesn't occur has none
+-- the line of something that is counted: a word, the number and what it is; what doesn't occur has none
 abbrev pub count_line : List ℕ → List ℕ → ℕ → List ℕ
 count_line word counted zero = []
 count_line word counted (suc more) = concat (word ∷ decimal (suc more) ∷ tab ∷ counted ∷ newline ∷ [])

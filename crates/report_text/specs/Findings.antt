@@ -70,7 +70,7 @@ finding_line ps (ToGone p entry at other) = three_line (codes "to-gone") (pid_at
 finding_line ps (FromGone p entry at other) = three_line (codes "from-gone") (pid_at ps p) (partner_at ps p entry) (reference_at ps p entry) at other
 finding_line ps (QueueCount p stated found at other) = three_line (codes "queue-count") (pid_at ps p) (decimal stated) (decimal found) at other
 
--- the line behind them: how many there are
+-- the line after them: how many there are
 abbrev pub findings_line : ℕ → List ℕ
 findings_line count = concat (codes "findings " ∷ decimal count ∷ newline ∷ [])
 

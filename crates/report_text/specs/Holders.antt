@@ -1,4 +1,4 @@
--- The texts of the reports on the binaries outside the heaps and on who holds one of them. Offsets are of the file.
+-- The texts of the reports on the stored binaries and on the holders of one of them. Offsets are of the file.
 use Rattle.std.specs.Prelude.{ℕ, List, [], ◌∷◌, ◌++◌, length, decimal, codes}
 use Rattle.std.specs.List.{concat, flat_map}
 use Rattle.dump_io.specs.Numbers.{hexadecimal}
@@ -10,19 +10,22 @@ use Rattle.binary_holders.specs.Usage.{Usage}
 use Rattle.report_lines.specs.Lines.{newline, tab}
 use Rattle.report_text.specs.Tables.{process_end}
 
--- the line of a process that holds binaries: how many bytes they have together, how many they are, and which process it is
+-- the line of a process that holds binaries: how many bytes they
+-- have together, how many there are, and which process it is
 abbrev pub held_line : Contents → List Process → Holding → List ℕ
 held_line index processes held =
     concat (codes "held\t" ∷ decimal held.bytes ∷ tab ∷ decimal held.count ∷ tab ∷ [])
     ++ process_end index (process_at processes held.process)
 
--- the line of a binary: its size, how many processes hold it, its number, and where the header of its section begins
+-- the line of a stored binary: its size, how many processes hold
+-- it, its address, and where the header of its section begins
 abbrev pub stored_line : BinaryRow → List ℕ
 stored_line row =
     concat (codes "binary\t" ∷ decimal row.size ∷ tab ∷ decimal row.holders ∷ tab ∷ hexadecimal row.number ∷ tab
     ∷ decimal row.at ∷ newline ∷ [])
 
--- the last line: how many binaries there are, how many bytes they have together, and how many of them somebody holds
+-- the last line: how many stored binaries there are, how many
+-- bytes they have together, and how many of them a process holds
 abbrev pub binaries_line : ℕ → ℕ → ℕ → List ℕ
 binaries_line count bytes held =
     concat (codes "binaries " ∷ decimal count ∷ codes " bytes " ∷ decimal bytes ∷ codes " held " ∷ decimal held ∷ newline ∷ [])

@@ -1,4 +1,4 @@
--- The text of the report over links and monitors. Offsets are of the file.
+-- The text of the report on links and monitors. Offsets are of the file.
 use Rattle.std.specs.Prelude.{ℕ, List, [], ◌∷◌, ◌++◌, length, decimal, codes, Option, None, Some, if◌then◌else◌}
 use Rattle.std.specs.List.{concat, flat_map, sum_by}
 use Rattle.section_rows.specs.Rows.{Kept}
@@ -8,7 +8,7 @@ use Rattle.link_graph.specs.Entries.{LinkEntry}
 use Rattle.link_graph.specs.Graph.{links_of}
 use Rattle.report_lines.specs.Lines.{newline, space}
 
--- the word of a kind of entries
+-- the word for a kind of entry
 abbrev pub kind_word : Kind → List ℕ
 kind_word (Link pid) = codes "link"
 kind_word LinkPort = codes "link-port"
@@ -24,7 +24,7 @@ abbrev pub entry_line : List ℕ → LinkEntry → List ℕ
 entry_line pid entry =
     concat (decimal entry.at ∷ space ∷ pid ∷ space ∷ kind_word entry.kind ∷ space ∷ entry.text ∷ newline ∷ [])
 
--- the line of a link list that isn't a list: where its field's line begins
+-- the line of an unread link list: where its field's line begins
 abbrev pub unread_line : List ℕ → Option Kept → List ℕ
 unread_line pid None = []
 unread_line pid (Some list) = concat (decimal list.at ∷ space ∷ pid ∷ codes " unread\n" ∷ [])

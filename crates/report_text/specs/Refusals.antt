@@ -1,4 +1,4 @@
--- The lines that say why a dump is refused.
+-- The lines that say why a command is refused.
 use Rattle.std.specs.Prelude.{ℕ, List, [], ◌∷◌, ◌++◌, decimal, codes}
 use Rattle.std.specs.List.{concat}
 use Rattle.dump_io.specs.Numbers.{hexadecimal}
@@ -8,7 +8,7 @@ use Rattle.report_lines.specs.Lines.{newline}
 use Rattle.report_text.specs.declared.refusals.Refusal.{Refusal}
 use Rattle.report_text.specs.declared.refusals.Refusal.TheVariants.{Open, NoProcess, SectionTooLarge, TooDense, NoAddress, NotExt, BadExt, NoBinary, BadBinary}
 
--- what a dump that isn't opened is refused for, part by part
+-- why a dump isn't opened, part by part
 abbrev pub open_cause : OpenFault → List (List ℕ)
 open_cause Compressed = codes "compressed" ∷ []
 open_cause NotADump = codes "not a dump" ∷ []
@@ -20,7 +20,7 @@ open_cause (HeadersTooLarge at) = codes "headers too large at " ∷ decimal at �
 open_cause Read = []
 open_cause Memory = []
 
--- what stands behind `refused: `: the cause, and the place, the size or the text that it speaks of
+-- what follows `refused: `: the cause, and the offset, the size or the text that it names
 abbrev pub cause_of : Refusal → List (List ℕ)
 cause_of (Open fault) = open_cause fault
 cause_of (NoProcess pid) = codes "no process " ∷ pid ∷ []
@@ -36,7 +36,7 @@ cause_of (BadBinary at) = codes "bad binary at " ∷ decimal at ∷ []
 abbrev pub refusal_line : Refusal → List ℕ
 refusal_line refusal = concat ((codes "refused: " ∷ cause_of refusal) ++ newline ∷ [])
 
--- a fault that refuses a dump, and is none of the device or of memory
+-- a fault that refuses a dump, and not one of the device or of memory
 abbrev pub IsRefusing : OpenFault → Type 0
 IsRefusing Read = ⊥
 IsRefusing Memory = ⊥

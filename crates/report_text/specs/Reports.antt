@@ -15,7 +15,7 @@ use Rattle.report_lines.specs.Lines.{newline, space}
 abbrev pub section_line : Section → List ℕ
 section_line s = concat (decimal s.at ∷ space ∷ decimal s.body ∷ space ∷ decimal s.end ∷ space ∷ s.text ∷ newline ∷ [])
 
--- the line of a section in which the dump breaks off
+-- the line of a section in which the dump is truncated
 abbrev pub truncated_line : Option Section → List ℕ
 truncated_line None = []
 truncated_line (Some s) = concat (codes "truncated " ∷ decimal s.at ∷ space ∷ s.text ∷ newline ∷ [])
@@ -25,7 +25,8 @@ abbrev pub state_line : List Section → State → List ℕ
 state_line sections Whole = codes "whole\n"
 state_line sections (TruncatedIn i) = truncated_line (slice_get sections i)
 
--- the report of `index` on a dump of these headers and this size: a line for each section, and then the state
+-- the report of `index` on a dump with these headers and
+-- this size: a line for each section, then the state line
 abbrev pub index_report : List Header → ℕ → List ℕ
 index_report headers size =
     flat_map section_line (sections_of headers size) ++ state_line (sections_of headers size) (state_of headers)
@@ -40,7 +41,7 @@ version_text V05 = codes "0.5"
 abbrev pub tag_line : List ℕ × ℕ → List ℕ
 tag_line (tag, count) = concat (codes "tag " ∷ decimal count ∷ space ∷ tag ∷ newline ∷ [])
 
--- a text, or `-` where there is none
+-- a text, or `-` if there is none
 abbrev pub text_or_dash : Option (List ℕ) → List ℕ
 text_or_dash text = unwrap_or text (codes "-")
 
@@ -50,8 +51,8 @@ info_heading version size sections slogan =
     concat (codes "version " ∷ version ∷ newline ∷ codes "size " ∷ decimal size ∷ newline
     ∷ codes "sections " ∷ decimal sections ∷ newline ∷ codes "slogan " ∷ text_or_dash slogan ∷ newline ∷ [])
 
--- the report of `info` on a dump of this version, these headers and this size, with these counts of tags and
--- this body of the first section
+-- the report of `info` on a dump of this version, with these headers and
+-- this size, these counts of tags and this body of the first section
 abbrev pub info_report : List ℕ → List Header → ℕ → List (List ℕ × ℕ) → List ℕ → List ℕ
 info_report version headers size tags first_body =
     info_heading version size (length headers) (find_value first_body (codes "Slogan"))

@@ -1,5 +1,5 @@
--- The texts of the reports over the process table, the fields of a section, and the other tables. Offsets are of
--- the file.
+-- The texts of the reports on the process table, the fields of
+-- a section, and the other tables. Offsets are of the file.
 use Rattle.std.specs.Prelude.{ℕ, ◌+◌, Bool, List, [], ◌∷◌, ◌++◌, length, filter, decimal, codes, Option, nat_lt, if◌then◌else◌}
 use Rattle.std.specs.List.{concat, flat_map}
 use Rattle.dump_io.specs.Colons.{has_colon}
@@ -12,7 +12,7 @@ use Rattle.section_rows.specs.Rows.{Kept, Row, Table, text_in}
 use Rattle.report_lines.specs.Lines.{newline, tab}
 use Rattle.report_text.specs.Reports.{text_or_dash}
 
--- the text of a cell, or `-` where there is none
+-- the text of a cell, or `-` if there is none
 abbrev pub cell_text : Option Kept → List ℕ
 cell_text cell = text_or_dash (text_in cell)
 
@@ -21,7 +21,7 @@ abbrev pub process_line : Process → List ℕ
 process_line p =
     concat (p.pid ∷ tab ∷ cell_text p.state ∷ tab ∷ cell_text p.name ∷ tab ∷ cell_text p.queue ∷ tab ∷ cell_text p.memory ∷ newline ∷ [])
 
--- the end of a line that speaks of a process: its pid, its name, and where the header of its section begins
+-- the end of a line on a process: its pid, its name, and where the header of its section begins
 abbrev pub process_end : Contents → Process → List ℕ
 process_end index p = concat (p.pid ∷ tab ∷ cell_text p.name ∷ tab ∷ decimal (section_at index p.section).at ∷ newline ∷ [])
 
@@ -49,11 +49,11 @@ value_text text = if has_colon text then value_of text else text
 abbrev pub field_line : ℕ → TextLine → List ℕ
 field_line base line = concat (decimal (base + line.at) ∷ tab ∷ key_text line.text ∷ tab ∷ value_text line.text ∷ newline ∷ [])
 
--- a line has a row where its text isn't empty
+-- a line has a row if its text isn't empty
 abbrev pub has_row : TextLine → Bool
 has_row line = nat_lt 0 (length line.text)
 
--- what is written of a line
+-- what is written for a line
 abbrev pub line_row : ℕ → TextLine → List ℕ
 line_row base line = if has_row line then field_line base line else []
 
@@ -61,7 +61,7 @@ line_row base line = if has_row line then field_line base line else []
 abbrev pub fields_report : ℕ → List ℕ → List ℕ
 fields_report base body = flat_map (line_row base) (text_lines body) ++ rows_line (length (filter has_row (text_lines body)))
 
--- a cell behind the one before it
+-- a cell, after the one before it
 abbrev pub next_cell : Option Kept → List ℕ
 next_cell cell = concat (tab ∷ cell_text cell ∷ [])
 

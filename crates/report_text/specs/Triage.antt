@@ -29,13 +29,13 @@ triage_heading index first_body memory_body table =
 abbrev pub state_count_line : List Process → Ranked → List ℕ
 state_count_line processes row = count_line (codes "state\t") (cell_text (process_at processes row.place).state) row.number
 
--- the line of a process by a number of it: behind a word the number, and which process it is
+-- the line of a process with one of its numbers: a word, the number, and which process it is
 abbrev pub process_number_line : List ℕ → Contents → List Process → Ranked → List ℕ
 process_number_line word index processes row =
     concat (word ∷ decimal row.number ∷ tab ∷ []) ++ process_end index (process_at processes row.place)
 
--- the line of an ETS table by its words, with its id and its name, which are the first and the third of its columns, and the
--- offset of its section
+-- the line of an ETS table with its number of words: also its id and its name,
+-- which are the first and the third of its columns, and the offset of its section
 abbrev pub table_words_line : List Row → Ranked → List ℕ
 table_words_line rows row =
     let table = row_at rows row.place in
@@ -50,7 +50,7 @@ triage_rows index processes tables triage =
     ++ (flat_map (process_number_line (codes "process\t") index processes) triage.memory
     ++ flat_map (table_words_line tables) triage.tables))
 
--- the lines of the kinds of findings that occur, with the number of those of each
+-- the lines of the kinds of findings that occur, with the number of findings of each
 abbrev pub finding_counts : FindingCounts → List ℕ
 finding_counts counts =
     let line : List ℕ → ℕ → List ℕ = count_line (codes "finding\t") in
@@ -60,8 +60,8 @@ finding_counts counts =
     ++ (line (codes "unread-links") counts.unread_links
     ++ line (codes "unread-queue") counts.unread_queues)))
 
--- the report of `triage` on a dump with this index, this body of the first section and this of the first `memory` section, which
--- is empty where there is none, these processes and these ETS tables
+-- the report of `triage` on a dump with this index, these bodies of the first section and of the
+-- first `memory` section, which is empty if there is none, these processes and these ETS tables
 abbrev pub triage_report : Contents → List ℕ → List ℕ → ProcessTable → List Row → Triaged → List ℕ
 triage_report index first_body memory_body table tables triage =
     triage_heading index first_body memory_body table

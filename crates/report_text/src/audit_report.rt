@@ -2,7 +2,7 @@
 ghost use Rattle.std.specs.Prelude.{◌≡◌, ◌<◌, length, slice_get, All};
 ghost use Rattle.std.specs.List.{flat_map};
 ghost use Rattle.dump_io.specs.Pieces.{piece_text};
-ghost use Rattle.dump_io.specs.Sinks.{changed, Puts};
+ghost use Rattle.dump_io.specs.Sinks.{Puts};
 ghost use Rattle.link_graph.specs.Graph.{graph_of, links_at};
 ghost use Rattle.link_graph.specs.Seen.{shown_kind};
 ghost use Rattle.dump_audit.specs.Fitting.{Fits};
@@ -23,7 +23,7 @@ fn put_one<'x, K: Sink>(
     at: u64,
     other: u64,
 ) -> Result<(), Failed>
-    ensures { Puts (changed K.written K.faults sink.old sink.new) (one_line word.now (piece_text first.entry) at other) result }
+    ensures { Puts (K.state sink.old) (K.state sink.new) (one_line word.now (piece_text first.entry) at other) result }
 {
     let space = Piece::Bytes(b" ");
     put_pieces(
@@ -50,7 +50,7 @@ fn put_two<'x, K: Sink>(
     at: u64,
     other: u64,
 ) -> Result<(), Failed>
-    ensures { Puts (changed K.written K.faults sink.old sink.new) (two_line word.now (piece_text first.entry) (piece_text second.entry) at other) result }
+    ensures { Puts (K.state sink.old) (K.state sink.new) (two_line word.now (piece_text first.entry) (piece_text second.entry) at other) result }
 {
     let space = Piece::Bytes(b" ");
     put_pieces(
@@ -80,7 +80,7 @@ fn put_three<'x, K: Sink>(
     at: u64,
     other: u64,
 ) -> Result<(), Failed>
-    ensures { Puts (changed K.written K.faults sink.old sink.new) (three_line word.now (piece_text first.entry) (piece_text second.entry) (piece_text third.entry) at other) result }
+    ensures { Puts (K.state sink.old) (K.state sink.new) (three_line word.now (piece_text first.entry) (piece_text second.entry) (piece_text third.entry) at other) result }
 {
     let space = Piece::Bytes(b" ");
     put_pieces(
@@ -110,7 +110,7 @@ fn pid(procs: &Procs, p: u32) -> Piece<'_>
     Piece::Bytes(procs.pid(p as usize))
 }
 
-// What the entry with a number says, of the process at a place.
+// What the entry with a number says, for the process at a place.
 fn kind<'a>(graph: &'a Graph<'a>, p: u32, entry: u32) -> EntryKind<'a>
     requires process { p < length graph.now }
     requires entry { entry < length (links_at graph.now p).entries }
@@ -149,7 +149,7 @@ fn put_finding<K: Sink>(
 ) -> Result<(), Failed>
     requires graph { graph.now ≡ graph_of procs.now.processes }
     requires fits { Fits procs.now.processes finding }
-    ensures { Puts (changed K.written K.faults sink.old sink.new) (finding_line procs.now.processes finding) result }
+    ensures { Puts (K.state sink.old) (K.state sink.new) (finding_line procs.now.processes finding) result }
 {
     match finding {
         Finding::LinkOneSided {
@@ -291,7 +291,7 @@ fn put_all<K: Sink>(
 ) -> Result<(), Failed>
     requires graph { graph.now ≡ graph_of procs.now.processes }
     requires fits { All (Fits procs.now.processes) findings.now }
-    ensures { Puts (changed K.written K.faults sink.old sink.new) (flat_map (finding_line procs.now.processes) findings.now) result }
+    ensures { Puts (K.state sink.old) (K.state sink.new) (flat_map (finding_line procs.now.processes) findings.now) result }
 {
     for finding in findings {
         put_finding(sink, procs, graph, *finding)?;
@@ -300,7 +300,7 @@ fn put_all<K: Sink>(
 }
 
 fn put_count<K: Sink>(sink: &mut K, count: usize) -> Result<(), Failed>
-    ensures { Puts (changed K.written K.faults sink.old sink.new) (findings_line count) result }
+    ensures { Puts (K.state sink.old) (K.state sink.new) (findings_line count) result }
 {
     put_pieces(
         sink,
@@ -312,9 +312,9 @@ fn put_count<K: Sink>(sink: &mut K, count: usize) -> Result<(), Failed>
     )
 }
 
-/// Writes a line for each finding: its word, the pid of the process, what else it names, and its two offsets. Then come
-/// `findings N` and the line of the state, as in [`put_index`](crate::put_index). The graph is that of the processes, and the
-/// findings fit them, as those of [`audit`](dump_audit::audit) do.
+/// Writes a line for each finding: its word, the pid of the process, what else it names, and its two
+/// offsets. Then come `findings N` and the state line, as in [`put_index`](crate::put_index). The graph
+/// is that of the processes, and the findings fit them, as those of [`audit`](dump_audit::audit) do.
 pub fn put_findings<K: Sink>(
     sink: &mut K,
     index: &Index,
@@ -324,7 +324,7 @@ pub fn put_findings<K: Sink>(
 ) -> Result<(), Failed>
     requires graph { graph.now ≡ graph_of procs.now.processes }
     requires fits { All (Fits procs.now.processes) findings.now }
-    ensures { Puts (changed K.written K.faults sink.old sink.new) (findings_report index.now procs.now.processes findings.now) result }
+    ensures { Puts (K.state sink.old) (K.state sink.new) (findings_report index.now procs.now.processes findings.now) result }
 {
     put_all(sink, procs, graph, findings)?;
     put_count(sink, findings.len())?;

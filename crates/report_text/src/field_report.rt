@@ -1,7 +1,7 @@
 // The report of the fields of a section.
 ghost use Rattle.std.specs.Prelude.{◌≡◌, ◌+◌, ◌<◌, ◌^◌, filter, length};
 ghost use Rattle.std.specs.List.{flat_map};
-ghost use Rattle.dump_io.specs.Sinks.{changed, Puts};
+ghost use Rattle.dump_io.specs.Sinks.{Puts};
 ghost use Rattle.field_lines.specs.Lines.{text_lines};
 ghost use Rattle.field_lines.specs.Shown.{shown_line};
 ghost use Rattle.report_text.specs.Tables.{field_line, fields_report, has_row, key_text, line_row, rows_line, value_text};
@@ -23,7 +23,7 @@ fn columns(text: &[u8]) -> (&[u8], &[u8])
 
 fn put_line<K: Sink>(sink: &mut K, base: u64, line: &Line<'_>) -> Result<(), Failed>
     requires { base + line.now.at < 2 ^ 64 }
-    ensures { Puts (changed K.written K.faults sink.old sink.new) (field_line base (shown_line line.now)) result }
+    ensures { Puts (K.state sink.old) (K.state sink.new) (field_line base (shown_line line.now)) result }
 {
     let tab = Piece::Bytes(b"\t");
     let (key, value) = columns(line.text);
@@ -40,10 +40,10 @@ fn put_line<K: Sink>(sink: &mut K, base: u64, line: &Line<'_>) -> Result<(), Fai
     )
 }
 
-// Writes the row of a line, where its text isn't empty.
+// Writes the row of a line, if its text isn't empty.
 fn put_row<K: Sink>(sink: &mut K, base: u64, line: &Line<'_>) -> Result<(), Failed>
     requires { base + line.now.at < 2 ^ 64 }
-    ensures { Puts (changed K.written K.faults sink.old sink.new) (line_row base (shown_line line.now)) result }
+    ensures { Puts (K.state sink.old) (K.state sink.new) (line_row base (shown_line line.now)) result }
 {
     if line.text.is_empty() {
         return Ok(());
@@ -53,7 +53,7 @@ fn put_row<K: Sink>(sink: &mut K, base: u64, line: &Line<'_>) -> Result<(), Fail
 
 fn put_lines<K: Sink>(sink: &mut K, body: &[u8], base: u64) -> Result<(), Failed>
     requires { base + length body.now < 2 ^ 64 }
-    ensures { Puts (changed K.written K.faults sink.old sink.new) (flat_map (line_row base) (text_lines body.now)) result }
+    ensures { Puts (K.state sink.old) (K.state sink.new) (flat_map (line_row base) (text_lines body.now)) result }
 {
     for line in lines(body) {
         put_row(sink, base, &line)?;
@@ -76,7 +76,7 @@ fn rows(body: &[u8]) -> u64
 
 // Writes the last line of a table.
 pub(crate) fn put_rows_line<K: Sink>(sink: &mut K, rows: u64) -> Result<(), Failed>
-    ensures { Puts (changed K.written K.faults sink.old sink.new) (rows_line rows) result }
+    ensures { Puts (K.state sink.old) (K.state sink.new) (rows_line rows) result }
 {
     put_pieces(
         sink,
@@ -88,11 +88,12 @@ pub(crate) fn put_rows_line<K: Sink>(sink: &mut K, rows: u64) -> Result<(), Fail
     )
 }
 
-/// Writes a row for each line of a body with a text, `OFFSET KEY VALUE` with a tab between them, or `OFFSET - TEXT` for a
-/// line without a colon, and then `rows N`. `base` is the offset of the body in the file, and offsets are of the file.
+/// Writes a row for each line of a body with a text, `OFFSET KEY VALUE` with tabs
+/// between them, or `OFFSET - TEXT` for a line without a colon, and then `rows N`.
+/// `base` is the offset of the body in the file, and the offsets are of the file.
 pub fn put_fields<K: Sink>(sink: &mut K, body: &[u8], base: u64) -> Result<(), Failed>
     requires { base + length body.now < 2 ^ 64 }
-    ensures { Puts (changed K.written K.faults sink.old sink.new) (fields_report base body.now) result }
+    ensures { Puts (K.state sink.old) (K.state sink.new) (fields_report base body.now) result }
 {
     put_lines(sink, body, base)?;
     put_rows_line(sink, rows(body))

@@ -1,7 +1,7 @@
 // The reports of `binaries` and of `holders`.
-ghost use Rattle.std.specs.Prelude.{◌≡◌, All, length};
+ghost use Rattle.std.specs.Prelude.{All, length};
 ghost use Rattle.std.specs.List.{flat_map};
-ghost use Rattle.dump_io.specs.Sinks.{changed, Puts};
+ghost use Rattle.dump_io.specs.Sinks.{Puts};
 ghost use Rattle.process_table.specs.Processes.{IsIn};
 ghost use Rattle.binary_holders.specs.Usage.{NamesProcess, shown_use};
 ghost use Rattle.report_text.specs.Holders.{binaries_line, binaries_report, held_line, holder_line, holders_line, holders_report, stored_line};
@@ -21,7 +21,7 @@ fn put_held<K: Sink>(
 ) -> Result<(), Failed>
     requires named { NamesProcess (length procs.now.processes) held.now }
     requires processes { All (IsIn index.now) procs.now.processes }
-    ensures { Puts (changed K.written K.faults sink.old sink.new) (held_line index.now procs.now.processes held.now) result }
+    ensures { Puts (K.state sink.old) (K.state sink.new) (held_line index.now procs.now.processes held.now) result }
 {
     let tab = Piece::Bytes(b"\t");
     put_pieces(
@@ -45,7 +45,7 @@ fn put_all_held<K: Sink>(
 ) -> Result<(), Failed>
     requires named { All (NamesProcess (length procs.now.processes)) rows.now }
     requires processes { All (IsIn index.now) procs.now.processes }
-    ensures { Puts (changed K.written K.faults sink.old sink.new) (flat_map (held_line index.now procs.now.processes) rows.now) result }
+    ensures { Puts (K.state sink.old) (K.state sink.new) (flat_map (held_line index.now procs.now.processes) rows.now) result }
 {
     for held in rows {
         put_held(sink, index, procs, held)?;
@@ -53,9 +53,9 @@ fn put_all_held<K: Sink>(
     Ok(())
 }
 
-// Writes the line of a binary.
+// Writes the line of a stored binary.
 fn put_stored<K: Sink>(sink: &mut K, row: &BinaryRow) -> Result<(), Failed>
-    ensures { Puts (changed K.written K.faults sink.old sink.new) (stored_line row.now) result }
+    ensures { Puts (K.state sink.old) (K.state sink.new) (stored_line row.now) result }
 {
     let tab = Piece::Bytes(b"\t");
     put_pieces(
@@ -75,7 +75,7 @@ fn put_stored<K: Sink>(sink: &mut K, row: &BinaryRow) -> Result<(), Failed>
 }
 
 fn put_all_stored<K: Sink>(sink: &mut K, rows: &[BinaryRow]) -> Result<(), Failed>
-    ensures { Puts (changed K.written K.faults sink.old sink.new) (flat_map stored_line rows.now) result }
+    ensures { Puts (K.state sink.old) (K.state sink.new) (flat_map stored_line rows.now) result }
 {
     for row in rows {
         put_stored(sink, row)?;
@@ -84,7 +84,7 @@ fn put_all_stored<K: Sink>(sink: &mut K, rows: &[BinaryRow]) -> Result<(), Faile
 }
 
 fn put_total<K: Sink>(sink: &mut K, found: &BinaryUse) -> Result<(), Failed>
-    ensures { Puts (changed K.written K.faults sink.old sink.new) (binaries_line (length found.now.binaries.items) found.now.bytes found.now.with_holders) result }
+    ensures { Puts (K.state sink.old) (K.state sink.new) (binaries_line (length found.now.binaries.items) found.now.bytes found.now.with_holders) result }
 {
     put_pieces(
         sink,
@@ -100,14 +100,14 @@ fn put_total<K: Sink>(sink: &mut K, found: &BinaryUse) -> Result<(), Failed>
     )
 }
 
-/// Writes a line for each process that holds binaries, `held BYTES COUNT PID NAME AT`, a line for each binary, `binary SIZE
-/// HOLDERS ADDR AT`, both with a tab between their parts and in the order in which they are given, and then
-/// `binaries N bytes B held H`: how many binaries there are, the sum of their sizes, and how many of them a process holds. The
-/// number of a binary is written in upper-case hex, `-` stands for a name that isn't there, and the last part of a line is the
-/// offset of the header of the process's or of the binary's section.
+/// Writes a line for each process that holds binaries, `held BYTES COUNT PID NAME AT`, and a line for each
+/// stored binary, `binary SIZE HOLDERS ADDR AT`, both with tabs between their parts and in the order given.
+/// Then comes `binaries N bytes B held H`: how many binaries there are, the sum of their sizes, and how many
+/// of them a process holds. The address of a binary is written in upper-case hex, `-` stands for a missing
+/// name, and the last part of a line is the offset of the header of the section of the process or binary.
 ///
-/// The processes are those of the index, and what was found is of these processes, as [`binary_use`](binary_holders::binary_use)
-/// gives it.
+/// The processes are those of the index, and what was found is on these
+/// processes, as from [`binary_use`](binary_holders::binary_use).
 pub fn put_binaries<K: Sink>(
     sink: &mut K,
     index: &Index,
@@ -116,7 +116,7 @@ pub fn put_binaries<K: Sink>(
 ) -> Result<(), Failed>
     requires named { All (NamesProcess (length procs.now.processes)) found.now.held.items }
     requires processes { All (IsIn index.now) procs.now.processes }
-    ensures { Puts (changed K.written K.faults sink.old sink.new) (binaries_report index.now procs.now.processes (shown_use found.now)) result }
+    ensures { Puts (K.state sink.old) (K.state sink.new) (binaries_report index.now procs.now.processes (shown_use found.now)) result }
 {
     put_all_held(sink, index, procs, &found.held)?;
     put_all_stored(sink, &found.binaries)?;
@@ -132,7 +132,7 @@ fn put_holder<K: Sink>(
 ) -> Result<(), Failed>
     requires named { NamesProcess (length procs.now.processes) held.now }
     requires processes { All (IsIn index.now) procs.now.processes }
-    ensures { Puts (changed K.written K.faults sink.old sink.new) (holder_line index.now procs.now.processes held.now) result }
+    ensures { Puts (K.state sink.old) (K.state sink.new) (holder_line index.now procs.now.processes held.now) result }
 {
     put_pieces(sink, &[Piece::Dec(held.cells), Piece::Bytes(b"\t")])?;
     put_process_end(sink, index, procs, held.process)
@@ -146,7 +146,7 @@ fn put_each<K: Sink>(
 ) -> Result<(), Failed>
     requires named { All (NamesProcess (length procs.now.processes)) rows.now }
     requires processes { All (IsIn index.now) procs.now.processes }
-    ensures { Puts (changed K.written K.faults sink.old sink.new) (flat_map (holder_line index.now procs.now.processes) rows.now) result }
+    ensures { Puts (K.state sink.old) (K.state sink.new) (flat_map (holder_line index.now procs.now.processes) rows.now) result }
 {
     for held in rows {
         put_holder(sink, index, procs, held)?;
@@ -155,7 +155,7 @@ fn put_each<K: Sink>(
 }
 
 fn put_count<K: Sink>(sink: &mut K, count: usize) -> Result<(), Failed>
-    ensures { Puts (changed K.written K.faults sink.old sink.new) (holders_line count) result }
+    ensures { Puts (K.state sink.old) (K.state sink.new) (holders_line count) result }
 {
     put_pieces(
         sink,
@@ -167,11 +167,12 @@ fn put_count<K: Sink>(sink: &mut K, count: usize) -> Result<(), Failed>
     )
 }
 
-/// Writes a line for each process that holds a binary, `CELLS PID NAME AT` with a tab between them, in the order in which they
-/// are given, and then `holders N`: how many lines of its heap refer to the binary, the pid, the name or `-`, and the offset of
-/// the header of the process's section.
+/// Writes a line for each process that holds a binary, `CELLS PID NAME AT` with tabs between
+/// them, in the order given: how many lines of its heap refer to the binary, the pid, the name
+/// or `-`, and the offset of the header of the process's section. Then comes `holders N`.
 ///
-/// The processes are those of the index, and each holding is of one of them, as [`holders`](binary_holders::holders) gives them.
+/// The processes are those of the index, and each holding is of
+/// one of them, as from [`holders`](binary_holders::holders).
 pub fn put_holders<K: Sink>(
     sink: &mut K,
     index: &Index,
@@ -180,7 +181,7 @@ pub fn put_holders<K: Sink>(
 ) -> Result<(), Failed>
     requires named { All (NamesProcess (length procs.now.processes)) held.now }
     requires processes { All (IsIn index.now) procs.now.processes }
-    ensures { Puts (changed K.written K.faults sink.old sink.new) (holders_report index.now procs.now.processes held.now) result }
+    ensures { Puts (K.state sink.old) (K.state sink.new) (holders_report index.now procs.now.processes held.now) result }
 {
     put_each(sink, index, procs, held)?;
     put_count(sink, held.len())

@@ -1,7 +1,7 @@
 // The report of `index`.
 ghost use Rattle.std.specs.Prelude.{◌<◌};
 ghost use Rattle.std.specs.List.{flat_map};
-ghost use Rattle.dump_io.specs.Sinks.{changed, Puts};
+ghost use Rattle.dump_io.specs.Sinks.{Puts};
 ghost use Rattle.section_index.specs.Index.{sections_in, state_of};
 ghost use Rattle.section_index.specs.Sections.{section};
 ghost use Rattle.report_text.specs.Reports.{section_line, state_line, index_report};
@@ -10,7 +10,7 @@ use dump_io::{Failed, Piece, Sink, put_pieces, write_all};
 use section_index::{Index, Section, State};
 
 fn put_section<K: Sink>(sink: &mut K, s: &Section<'_>) -> Result<(), Failed>
-    ensures { Puts (changed K.written K.faults sink.old sink.new) (section_line (section s.now.at s.now.body s.now.end s.now.text.now)) result }
+    ensures { Puts (K.state sink.old) (K.state sink.new) (section_line (section s.now.at s.now.body s.now.end s.now.text.now)) result }
 {
     let space = Piece::Bytes(b" ");
     put_pieces(
@@ -28,9 +28,9 @@ fn put_section<K: Sink>(sink: &mut K, s: &Section<'_>) -> Result<(), Failed>
     )
 }
 
-// Writes whether the dump is whole, or in which section it breaks off.
+// Writes the state line: that the dump is whole, or in which section it is truncated.
 pub(crate) fn put_state<K: Sink>(sink: &mut K, index: &Index) -> Result<(), Failed>
-    ensures { Puts (changed K.written K.faults sink.old sink.new) (state_line (sections_in index.now) (state_of index.now.headers)) result }
+    ensures { Puts (K.state sink.old) (K.state sink.new) (state_line (sections_in index.now) (state_of index.now.headers)) result }
 {
     match index.state() {
         State::Whole => write_all(sink, b"whole\n"),
@@ -51,7 +51,7 @@ pub(crate) fn put_state<K: Sink>(sink: &mut K, index: &Index) -> Result<(), Fail
 }
 
 fn put_sections<K: Sink>(sink: &mut K, index: &Index) -> Result<(), Failed>
-    ensures { Puts (changed K.written K.faults sink.old sink.new) (flat_map section_line (sections_in index.now)) result }
+    ensures { Puts (K.state sink.old) (K.state sink.new) (flat_map section_line (sections_in index.now)) result }
 {
     for i in 0..index.len() {
         put_section(sink, &index.section(i))?;
@@ -59,11 +59,11 @@ fn put_sections<K: Sink>(sink: &mut K, index: &Index) -> Result<(), Failed>
     Ok(())
 }
 
-/// Writes a line for each section, `AT BODY END TEXT`: the offsets at which its header and its body begin
-/// and at which it ends, and its header's text. Then comes the line of the state: `whole`, or `truncated`
-/// with the offset and the text of the section in which the dump breaks off.
+/// Writes a line for each section, `AT BODY END TEXT`: the offsets at which its header and its body
+/// begin and at which it ends, and its header's text. Then comes the state line: `whole`, or
+/// `truncated` with the offset and the header's text of the section in which the dump is truncated.
 pub fn put_index<K: Sink>(sink: &mut K, index: &Index) -> Result<(), Failed>
-    ensures { Puts (changed K.written K.faults sink.old sink.new) (index_report index.now.headers index.now.size) result }
+    ensures { Puts (K.state sink.old) (K.state sink.new) (index_report index.now.headers index.now.size) result }
 {
     put_sections(sink, index)?;
     put_state(sink, index)

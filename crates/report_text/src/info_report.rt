@@ -1,7 +1,7 @@
 // The report of `info`.
 ghost use Rattle.std.specs.Prelude.{◌≡◌, length, codes};
 ghost use Rattle.std.specs.List.{flat_map};
-ghost use Rattle.dump_io.specs.Sinks.{changed, Puts};
+ghost use Rattle.dump_io.specs.Sinks.{Puts};
 ghost use Rattle.field_lines.specs.Fields.{find_value};
 ghost use Rattle.report_text.specs.Reports.{version_text, text_or_dash, tag_line, info_heading, info_report};
 
@@ -36,7 +36,7 @@ pub(crate) fn put_heading<K: Sink>(
     index: &Index,
     first_body: &[u8],
 ) -> Result<(), Failed>
-    ensures { Puts (changed K.written K.faults sink.old sink.new)
+    ensures { Puts (K.state sink.old) (K.state sink.new)
         (info_heading (version_text index.now.version) index.now.size (length index.now.headers) (find_value first_body.now (codes "Slogan"))) result }
 {
     let newline = Piece::Bytes(b"\n");
@@ -60,7 +60,7 @@ pub(crate) fn put_heading<K: Sink>(
 }
 
 fn put_tag<K: Sink>(sink: &mut K, tag: &[u8], count: u64) -> Result<(), Failed>
-    ensures { Puts (changed K.written K.faults sink.old sink.new) (tag_line (tag.now, count)) result }
+    ensures { Puts (K.state sink.old) (K.state sink.new) (tag_line (tag.now, count)) result }
 {
     put_pieces(
         sink,
@@ -75,7 +75,7 @@ fn put_tag<K: Sink>(sink: &mut K, tag: &[u8], count: u64) -> Result<(), Failed>
 }
 
 fn put_tags<K: Sink>(sink: &mut K, tags: &Tags) -> Result<(), Failed>
-    ensures { Puts (changed K.written K.faults sink.old sink.new) (flat_map tag_line tags.now) result }
+    ensures { Puts (K.state sink.old) (K.state sink.new) (flat_map tag_line tags.now) result }
 {
     for i in 0..tags.len() {
         let (tag, count) = tags.at(i);
@@ -84,17 +84,17 @@ fn put_tags<K: Sink>(sink: &mut K, tags: &Tags) -> Result<(), Failed>
     Ok(())
 }
 
-/// Writes the version, the size in bytes, the number of sections and the slogan, which is the first `Slogan`
-/// field of the first section's body, or `-`. A line for each tag follows, with the number of sections that
-/// have it, in the order in which the tags first appear, and then the line of the state, as in
-/// [`put_index`](crate::put_index).
+/// Writes the version, the size in bytes, the number of sections and the slogan,
+/// which is the first `Slogan` field of the first section's body, or `-`. Then come a
+/// line for each tag, with the number of sections that have it, in the order in which
+/// the tags first appear, and the state line, as in [`put_index`](crate::put_index).
 pub fn put_info<K: Sink>(
     sink: &mut K,
     index: &Index,
     tags: &Tags,
     first_body: &[u8],
 ) -> Result<(), Failed>
-    ensures { Puts (changed K.written K.faults sink.old sink.new)
+    ensures { Puts (K.state sink.old) (K.state sink.new)
         (info_report (version_text index.now.version) index.now.headers index.now.size tags.now first_body.now) result }
 {
     put_heading(sink, index, first_body)?;

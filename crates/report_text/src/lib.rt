@@ -5,8 +5,8 @@
 //! put_index(&mut out, &index)?;
 //! ```
 //!
-//! Each call writes one report, or one line on a refusal, to a sink. It takes no memory. `Failed` comes
-//! only where the sink's count of faults rose, and a proper front of the text was written then.
+//! Each call writes one report, or one line on a refusal, to a sink, and takes no memory. It returns
+//! `Failed` only if the sink's count of faults rose; a proper prefix of the text was written then.
 #![tactic(auto)]
 
 mod audit_report;

@@ -1,7 +1,7 @@
 // The report of `links`.
 ghost use Rattle.std.specs.Prelude.{◌≡◌, ◌<◌, length};
 ghost use Rattle.std.specs.List.{flat_map, sum_by};
-ghost use Rattle.dump_io.specs.Sinks.{changed, Puts};
+ghost use Rattle.dump_io.specs.Sinks.{Puts};
 ghost use Rattle.process_table.specs.Shown.{shown_process};
 ghost use Rattle.link_graph.specs.Graph.{graph_of, links_at, links_of};
 ghost use Rattle.link_graph.specs.Seen.{shown_entry, shown_kind};
@@ -28,7 +28,7 @@ fn kind_word(kind: &EntryKind<'_>) -> &'static [u8]
 
 // Writes the line of an entry of the process with this pid.
 fn put_entry<'x, K: Sink>(sink: &mut K, pid: &'x [u8], entry: &Entry<'x>) -> Result<(), Failed>
-    ensures { Puts (changed K.written K.faults sink.old sink.new) (entry_line pid.now (shown_entry entry.now)) result }
+    ensures { Puts (K.state sink.old) (K.state sink.new) (entry_line pid.now (shown_entry entry.now)) result }
 {
     let space = Piece::Bytes(b" ");
     put_pieces(
@@ -49,7 +49,7 @@ fn put_entry<'x, K: Sink>(sink: &mut K, pid: &'x [u8], entry: &Entry<'x>) -> Res
 // Writes the lines of the entries of the process at a place.
 fn put_entries<K: Sink>(sink: &mut K, pid: &[u8], graph: &Graph<'_>, p: usize) -> Result<(), Failed>
     requires { p < length graph.now }
-    ensures { Puts (changed K.written K.faults sink.old sink.new) (flat_map (entry_line pid.now) (links_at graph.now p).entries) result }
+    ensures { Puts (K.state sink.old) (K.state sink.new) (flat_map (entry_line pid.now) (links_at graph.now p).entries) result }
 {
     for n in 0..graph.count(p) {
         put_entry(sink, pid, &graph.entry(p, n))?;
@@ -57,9 +57,9 @@ fn put_entries<K: Sink>(sink: &mut K, pid: &[u8], graph: &Graph<'_>, p: usize) -
     Ok(())
 }
 
-// Writes the line of a link list that isn't read.
+// Writes the line of an unread link list.
 fn put_unread<K: Sink>(sink: &mut K, process: &Proc<'_>) -> Result<(), Failed>
-    ensures { Puts (changed K.written K.faults sink.old sink.new) (unread_line process.now.pid.now (shown_process process.now).links) result }
+    ensures { Puts (K.state sink.old) (K.state sink.new) (unread_line process.now.pid.now (shown_process process.now).links) result }
 {
     let Some(list) = process.links else {
         return Ok(());
@@ -75,7 +75,7 @@ fn put_unread<K: Sink>(sink: &mut K, process: &Proc<'_>) -> Result<(), Failed>
     )
 }
 
-// Writes the lines of a process, which stands at this place.
+// Writes the lines of the process at a place.
 fn put_process<K: Sink>(
     sink: &mut K,
     process: &Proc<'_>,
@@ -84,7 +84,7 @@ fn put_process<K: Sink>(
 ) -> Result<(), Failed>
     requires place { p < length graph.now }
     requires links { links_at graph.now p ≡ links_of (shown_process process.now).links }
-    ensures { Puts (changed K.written K.faults sink.old sink.new) (process_links (shown_process process.now)) result }
+    ensures { Puts (K.state sink.old) (K.state sink.new) (process_links (shown_process process.now)) result }
 {
     if graph.unread(p) {
         put_unread(sink, process)
@@ -95,7 +95,7 @@ fn put_process<K: Sink>(
 
 fn put_processes<K: Sink>(sink: &mut K, procs: &Procs, graph: &Graph<'_>) -> Result<(), Failed>
     requires { graph.now ≡ graph_of procs.now.processes }
-    ensures { Puts (changed K.written K.faults sink.old sink.new) (flat_map process_links procs.now.processes) result }
+    ensures { Puts (K.state sink.old) (K.state sink.new) (flat_map process_links procs.now.processes) result }
 {
     for p in 0..procs.len() {
         put_process(sink, &procs.at(p), graph, p)?;
@@ -103,7 +103,7 @@ fn put_processes<K: Sink>(sink: &mut K, procs: &Procs, graph: &Graph<'_>) -> Res
     Ok(())
 }
 
-// How many entries all processes have.
+// How many entries the processes have together.
 fn entry_total(procs: &Procs, graph: &Graph<'_>) -> u64
     requires { graph.now ≡ graph_of procs.now.processes }
     ensures { result ≡ sum_by entry_count procs.now.processes }
@@ -116,7 +116,7 @@ fn entry_total(procs: &Procs, graph: &Graph<'_>) -> u64
 }
 
 fn put_total<K: Sink>(sink: &mut K, total: u64) -> Result<(), Failed>
-    ensures { Puts (changed K.written K.faults sink.old sink.new) (entries_line total) result }
+    ensures { Puts (K.state sink.old) (K.state sink.new) (entries_line total) result }
 {
     put_pieces(
         sink,
@@ -128,12 +128,12 @@ fn put_total<K: Sink>(sink: &mut K, total: u64) -> Result<(), Failed>
     )
 }
 
-/// Writes a line for each entry of the link lists, `AT PID WORD ENTRY`: its offset, the pid of the process, the word
-/// of its kind and its text. A link list that isn't read has the line `AT PID unread`, with the offset of its field.
-/// Then comes `entries N`. The graph is that of the processes.
+/// Writes a line for each entry of the link lists, `AT PID WORD ENTRY`: its offset, the pid of the
+/// process, the word of its kind and its text. An unread link list has the line `AT PID unread`,
+/// with the offset of its field. Then comes `entries N`. The graph is that of the processes.
 pub fn put_links<K: Sink>(sink: &mut K, procs: &Procs, graph: &Graph<'_>) -> Result<(), Failed>
     requires { graph.now ≡ graph_of procs.now.processes }
-    ensures { Puts (changed K.written K.faults sink.old sink.new) (links_report procs.now.processes) result }
+    ensures { Puts (K.state sink.old) (K.state sink.new) (links_report procs.now.processes) result }
 {
     put_processes(sink, procs, graph)?;
     put_total(sink, entry_total(procs, graph))

@@ -1,7 +1,7 @@
 // The report of `procs`, and what other reports say of a process.
 ghost use Rattle.std.specs.Prelude.{◌≡◌, ◌<◌, All, length};
 ghost use Rattle.std.specs.List.{flat_map};
-ghost use Rattle.dump_io.specs.Sinks.{changed, Puts};
+ghost use Rattle.dump_io.specs.Sinks.{Puts};
 ghost use Rattle.process_table.specs.Processes.{IsIn, process_at};
 ghost use Rattle.process_table.specs.Shown.{shown_process};
 ghost use Rattle.section_rows.specs.Shown.{shown_cell};
@@ -22,7 +22,7 @@ pub(crate) fn text_of<'a>(cell: &Option<Kept<'a>>) -> &'a [u8]
 }
 
 fn put_process<K: Sink>(sink: &mut K, process: &Proc<'_>) -> Result<(), Failed>
-    ensures { Puts (changed K.written K.faults sink.old sink.new) (process_line (shown_process process.now)) result }
+    ensures { Puts (K.state sink.old) (K.state sink.new) (process_line (shown_process process.now)) result }
 {
     let tab = Piece::Bytes(b"\t");
     put_pieces(
@@ -42,7 +42,7 @@ fn put_process<K: Sink>(sink: &mut K, process: &Proc<'_>) -> Result<(), Failed>
     )
 }
 
-// Writes the end of a line that speaks of the process at a place.
+// Writes the end of a line on the process at a place.
 pub(crate) fn put_process_end<K: Sink>(
     sink: &mut K,
     index: &Index,
@@ -51,7 +51,7 @@ pub(crate) fn put_process_end<K: Sink>(
 ) -> Result<(), Failed>
     requires place { place < length procs.now.processes }
     requires processes { All (IsIn index.now) procs.now.processes }
-    ensures { Puts (changed K.written K.faults sink.old sink.new) (process_end index.now (process_at procs.now.processes place)) result }
+    ensures { Puts (K.state sink.old) (K.state sink.new) (process_end index.now (process_at procs.now.processes place)) result }
 {
     let process = procs.at(place);
     let name = text_of(&process.name);
@@ -70,7 +70,7 @@ pub(crate) fn put_process_end<K: Sink>(
 }
 
 fn put_processes<K: Sink>(sink: &mut K, procs: &Procs) -> Result<(), Failed>
-    ensures { Puts (changed K.written K.faults sink.old sink.new) (flat_map process_line procs.now.processes) result }
+    ensures { Puts (K.state sink.old) (K.state sink.new) (flat_map process_line procs.now.processes) result }
 {
     for i in 0..procs.len() {
         put_process(sink, &procs.at(i))?;
@@ -80,7 +80,7 @@ fn put_processes<K: Sink>(sink: &mut K, procs: &Procs) -> Result<(), Failed>
 
 // Writes how many processes there are, and how many sections of processes were passed over.
 pub(crate) fn put_processes_line<K: Sink>(sink: &mut K, procs: &Procs) -> Result<(), Failed>
-    ensures { Puts (changed K.written K.faults sink.old sink.new) (processes_line (length procs.now.processes) procs.now.repeated) result }
+    ensures { Puts (K.state sink.old) (K.state sink.new) (processes_line (length procs.now.processes) procs.now.repeated) result }
 {
     put_pieces(
         sink,
@@ -94,11 +94,11 @@ pub(crate) fn put_processes_line<K: Sink>(sink: &mut K, procs: &Procs) -> Result
     )
 }
 
-/// Writes a line for each process, `PID STATE NAME QUEUE MEMORY` with a tab between them, where `-` stands for a
-/// field that isn't there, and then `processes N repeated R`: how many there are, and how many sections of processes were
-/// passed over because their pid stood before.
+/// Writes a line for each process, `PID STATE NAME QUEUE MEMORY` with tabs between them, where `-`
+/// stands for a missing field. Then comes `processes N repeated R`: how many processes there are,
+/// and how many sections of processes were passed over because an earlier section has the same pid.
 pub fn put_procs<K: Sink>(sink: &mut K, procs: &Procs) -> Result<(), Failed>
-    ensures { Puts (changed K.written K.faults sink.old sink.new) (procs_report procs.now) result }
+    ensures { Puts (K.state sink.old) (K.state sink.new) (procs_report procs.now) result }
 {
     put_processes(sink, procs)?;
     put_processes_line(sink, procs)

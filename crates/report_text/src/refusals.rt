@@ -1,8 +1,8 @@
-// The lines that say why a dump is refused.
+// The lines that say why a command is refused.
 ghost use Rattle.std.specs.Prelude.{[], ◌∷◌, codes, decimal};
 ghost use Rattle.std.specs.List.{concat};
 ghost use Rattle.dump_io.specs.Pieces.{piece_text};
-ghost use Rattle.dump_io.specs.Sinks.{changed, Puts};
+ghost use Rattle.dump_io.specs.Sinks.{Puts};
 ghost use Rattle.report_lines.specs.Lines.{newline};
 ghost use Rattle.report_text.specs.Refusals.{IsRefusal, IsRefusing, refusal_line};
 
@@ -12,31 +12,31 @@ use section_index::OpenFault;
 /// Why a command is refused.
 #[derive(Debug, Drop)]
 pub enum Refusal {
-    /// The dump isn't opened.
+    /// The dump wasn't opened.
     Open(OpenFault),
     /// No section of a process has this id.
     NoProcess(Text),
-    /// A body that the command loads has more bytes than the limit on sections; `at` is the offset of its
-    /// section in the file, and `len` the number of bytes.
+    /// A body that the command loads has more bytes than the limit on a section's body; `at`
+    /// is the offset of its section in the file, and `len` the number of bytes of the body.
     SectionTooLarge { at: u64, len: u64 },
-    /// The heap has more lines and elements than the limit; `count` is how many.
+    /// The heap has more lines and elements than the limit; `count` is their number.
     TooDense { count: u64 },
     /// The heap has no cell at this address.
     NoAddress { addr: u64 },
-    /// The heap's cell at this address isn't in the External Term Format.
+    /// The heap's cell at this address isn't an external term.
     NotExt { addr: u64 },
-    /// The bytes of the heap's cell at this address aren't one external term; `at` is the length of the longest prefix
-    /// that begins one.
+    /// The bytes of the external term at this address aren't 131 and one
+    /// term; `at` is the length of their longest prefix that begins one.
     BadExt { addr: u64, at: u64 },
-    /// No section of a binary has this address.
+    /// No section is that of the binary with this address.
     NoBinary { addr: u64 },
     /// The first line of the body isn't that of a binary; `at` is the offset of its section in the file.
     BadBinary { at: u64 },
 }
 
-// Writes a line whose cause is a text and a piece behind it.
+// Writes a line whose cause is a text followed by a piece.
 fn put_cause<'x, K: Sink>(sink: &mut K, cause: &'x [u8], what: Piece<'x>) -> Result<(), Failed>
-    ensures { Puts (changed K.written K.faults sink.old sink.new) (concat (codes "refused: " ∷ cause.now ∷ piece_text what.entry ∷ newline ∷ [])) result }
+    ensures { Puts (K.state sink.old) (K.state sink.new) (concat (codes "refused: " ∷ cause.now ∷ piece_text what.entry ∷ newline ∷ [])) result }
 {
     put_pieces(
         sink,
@@ -49,7 +49,7 @@ fn put_cause<'x, K: Sink>(sink: &mut K, cause: &'x [u8], what: Piece<'x>) -> Res
     )
 }
 
-// Writes a line whose cause is a text and a piece, and then another text and a number.
+// Writes a line whose cause is a text and a piece, followed by another text and a number.
 fn put_long_cause<'x, K: Sink>(
     sink: &mut K,
     cause: &'x [u8],
@@ -57,7 +57,7 @@ fn put_long_cause<'x, K: Sink>(
     link: &'x [u8],
     number: u64,
 ) -> Result<(), Failed>
-    ensures { Puts (changed K.written K.faults sink.old sink.new) (concat (codes "refused: " ∷ cause.now ∷ piece_text what.entry ∷ link.now ∷ decimal number ∷ newline ∷ [])) result }
+    ensures { Puts (K.state sink.old) (K.state sink.new) (concat (codes "refused: " ∷ cause.now ∷ piece_text what.entry ∷ link.now ∷ decimal number ∷ newline ∷ [])) result }
 {
     put_pieces(
         sink,
@@ -74,7 +74,7 @@ fn put_long_cause<'x, K: Sink>(
 
 fn put_open_fault<K: Sink>(sink: &mut K, fault: &OpenFault) -> Result<(), Failed>
     requires { IsRefusing fault.now }
-    ensures { Puts (changed K.written K.faults sink.old sink.new) (refusal_line (Refusal.Open fault.now)) result }
+    ensures { Puts (K.state sink.old) (K.state sink.new) (refusal_line (Refusal.Open fault.now)) result }
 {
     match fault {
         OpenFault::Compressed => write_all(sink, b"refused: compressed\n"),
@@ -96,10 +96,10 @@ fn put_open_fault<K: Sink>(sink: &mut K, fault: &OpenFault) -> Result<(), Failed
     }
 }
 
-/// Writes the line `refused: ` with the cause. An `Open` fault is none of `Read` and `Memory`.
+/// Writes `refused: ` and the cause, as a line. An `Open` fault is neither `Read` nor `Memory`.
 pub fn put_refusal<K: Sink>(sink: &mut K, refusal: &Refusal) -> Result<(), Failed>
     requires { IsRefusal refusal.now }
-    ensures { Puts (changed K.written K.faults sink.old sink.new) (refusal_line refusal.now) result }
+    ensures { Puts (K.state sink.old) (K.state sink.new) (refusal_line refusal.now) result }
 {
     match refusal {
         Refusal::Open(fault) => put_open_fault(sink, fault),

@@ -1,7 +1,7 @@
 // The report of a table.
 ghost use Rattle.std.specs.Prelude.{◌≡◌, ◌<◌, length};
 ghost use Rattle.std.specs.List.{flat_map};
-ghost use Rattle.dump_io.specs.Sinks.{changed, Puts};
+ghost use Rattle.dump_io.specs.Sinks.{Puts};
 ghost use Rattle.section_rows.specs.Rows.{row_at, cell_at, text_in, AreEven};
 ghost use Rattle.report_text.specs.Reports.{text_or_dash};
 ghost use Rattle.report_text.specs.Tables.{next_cell, row_line, rows_report};
@@ -25,7 +25,7 @@ pub(crate) fn text_at(rows: &Rows, i: usize, c: usize) -> &[u8]
 fn put_cells<K: Sink>(sink: &mut K, rows: &Rows, i: usize) -> Result<(), Failed>
     requires even { AreEven rows.now }
     requires place { i < length rows.now.rows }
-    ensures { Puts (changed K.written K.faults sink.old sink.new) (flat_map next_cell (row_at rows.now.rows i).cells) result }
+    ensures { Puts (K.state sink.old) (K.state sink.new) (flat_map next_cell (row_at rows.now.rows i).cells) result }
 {
     for c in 0..rows.columns() {
         put_pieces(
@@ -39,7 +39,7 @@ fn put_cells<K: Sink>(sink: &mut K, rows: &Rows, i: usize) -> Result<(), Failed>
 fn put_row<K: Sink>(sink: &mut K, rows: &Rows, i: usize) -> Result<(), Failed>
     requires even { AreEven rows.now }
     requires place { i < length rows.now.rows }
-    ensures { Puts (changed K.written K.faults sink.old sink.new) (row_line (row_at rows.now.rows i)) result }
+    ensures { Puts (K.state sink.old) (K.state sink.new) (row_line (row_at rows.now.rows i)) result }
 {
     put_dec(sink, rows.at(i))?;
     put_cells(sink, rows, i)?;
@@ -47,7 +47,7 @@ fn put_row<K: Sink>(sink: &mut K, rows: &Rows, i: usize) -> Result<(), Failed>
 }
 
 fn put_all<K: Sink>(sink: &mut K, rows: &Rows) -> Result<(), Failed>
-    ensures { Puts (changed K.written K.faults sink.old sink.new) (flat_map row_line rows.now.rows) result }
+    ensures { Puts (K.state sink.old) (K.state sink.new) (flat_map row_line rows.now.rows) result }
 {
     for i in 0..rows.len() {
         put_row(sink, rows, i)?;
@@ -55,10 +55,10 @@ fn put_all<K: Sink>(sink: &mut K, rows: &Rows) -> Result<(), Failed>
     Ok(())
 }
 
-/// Writes a line for each row: the offset of its section, and its cells, with a tab before each, where `-` stands for a
-/// cell that isn't there. Then comes `rows N`.
+/// Writes a line for each row: the offset of its section, and its cells, with a
+/// tab before each, where `-` stands for a missing cell. Then comes `rows N`.
 pub fn put_rows<K: Sink>(sink: &mut K, rows: &Rows) -> Result<(), Failed>
-    ensures { Puts (changed K.written K.faults sink.old sink.new) (rows_report rows.now) result }
+    ensures { Puts (K.state sink.old) (K.state sink.new) (rows_report rows.now) result }
 {
     put_all(sink, rows)?;
     put_rows_line(sink, rows.len() as u64)

@@ -9,7 +9,8 @@ use Rattle.field_lines.specs.Lines.{TextLine, text_lines}
 use Rattle.term_forms.specs.Elements.{Element}
 use Rattle.term_forms.specs.Reading.{front, whole_of}
 
--- what a root is: an element, a word of the stack that is none, a message in the external format, or what isn't read
+-- what a root is: an element, a word of the stack that is
+-- none, a message in the external format, or what isn't read
 pub data Content : Type 0 where
   Term : Element → Content
   Info : List ℕ → Content
@@ -32,7 +33,7 @@ root_lines body = filter has_text (text_lines body)
 
 -- ---- the stack
 
--- behind the label: an info is what follows an `S`, and a term a text that is wholly an element
+-- after the label: an info is what follows an `S`, and a term is a text that is wholly an element
 abbrev pub stack_content : List ℕ → Option Content
 stack_content text =
     if starts_with nat_eq text (codes "S") then Some (Info (drop 1 text)) else option_map Term (whole_of text)
@@ -42,7 +43,7 @@ abbrev pub labelled : ℕ → List ℕ → Option Content → BodyRoot
 labelled at label None = record { at = at; label = []; content = Unread }
 labelled at label (Some content) = record { at = at; label = label; content = content }
 
--- a line of the stack: the label stands before the first colon, and the content behind it
+-- a line of the stack: the label stands before the first colon, and the content after it
 abbrev pub stack_root : TextLine → BodyRoot
 stack_root line =
     labelled line.at (before_colon line.text) (if has_colon line.text then stack_content (after_colon line.text) else None)
@@ -63,15 +64,16 @@ dict_roots body = map dict_root (root_lines body)
 
 -- ---- the mailbox
 
--- a message stands at its line's beginning, and its token where the token's text does
+-- a message is placed where its line begins, and its token where the token's text begins
 abbrev pub message : ℕ → Content → BodyRoot
 message at content = record { at = at; label = codes "m"; content = content }
 
--- the token of a message, at the place of its text
+-- the token of a message, placed where its text begins
 abbrev pub token : ℕ → Element → BodyRoot
 token at e = record { at = at; label = codes "t"; content = Term e }
 
--- a message in the external format begins with `D`, which is kept, and its token is the whole element behind the last colon
+-- a message in the external format begins with `D`, which is
+-- kept, and its token is the whole element after the last colon
 abbrev pub dist_roots : TextLine → Option (List BodyRoot)
 dist_roots line =
     let dist = before_last is_colon line.text in
@@ -83,7 +85,8 @@ dist_roots line =
 abbrev pub behind_colon : List ℕ → Option (List ℕ)
 behind_colon text = if starts_with nat_eq text (codes ":") then Some (drop 1 text) else None
 
--- another message is the element at the text's front; behind it stands a colon, and its token is the whole element behind that
+-- any other message is the element at the beginning of the text; a
+-- colon follows it, and its token is the whole element after that
 abbrev pub pair_roots : TextLine → Option (List BodyRoot)
 pair_roots line =
     option_and_then (λ found. option_map (λ e. message line.at (Term found.0) ∷ token (line.at + found.1 + 1) e ∷ [])

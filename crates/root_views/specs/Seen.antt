@@ -1,4 +1,4 @@
--- What contracts see of a root: its value, without where it lies in memory.
+-- What contracts see of a root: its value, regardless of where it lies in memory.
 use Rattle.term_forms.specs.Seen.{element}
 use Rattle.root_views.specs.Roots.{Content, Term, Info, Dist, Unread, BodyRoot}
 use Rattle.root_views.specs.declared.roots.Root.{Root}

@@ -5,8 +5,8 @@ ghost use Rattle.root_views.specs.Roots.{message_count};
 use crate::texts::next_text;
 use field_lines::reading::lines;
 
-/// How many messages the body of a `proc_messages` section has: the roots of [`mail`](crate::mail) with the label `m`.
-/// Each line that has a text is one, whatever it is read as.
+/// How many messages the body of a `proc_messages` section has: the roots of [`mail`](crate::mail)
+/// with the label `m`. Each line that has a text is one, however it is read.
 pub fn messages(body: &[u8]) -> u64
     ensures { result ≡ message_count body.now }
 {

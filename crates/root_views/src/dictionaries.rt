@@ -27,7 +27,7 @@ fn dict_root<'a>(line: &Line<'a>) -> Root<'a>
     }
 }
 
-/// The roots of a dictionary that are still to come. Contracts see it as the list of these roots.
+/// The roots of a dictionary that are still to come. Contracts see the list of these roots.
 #[derive(Drop)]
 pub struct DictRoots<'a> {
     lines: Lines<'a>,
@@ -52,8 +52,8 @@ impl<'a> Iterator for DictRoots<'a> {
     }
 }
 
-/// The roots of the body of a `proc_dictionary` section, one for each line that has a text, with the label `e`: a term
-/// where the text is wholly an element, and else unread.
+/// The roots of the body of a `proc_dictionary` section, one for each line that has a text,
+/// with the label `e`: a term if the text is wholly an element, and otherwise unread.
 pub fn dict(body: &[u8]) -> DictRoots<'_>
     ensures value { result ≡ dict_roots body.now }
     ensures inside { All (IsInside body.now) result }

@@ -24,7 +24,7 @@ pub enum RootKind {
     Mail,
 }
 
-// A body has at most one line a byte, and a line has at most two roots.
+// A body has at most one line for each byte, and a line has at most two roots.
 fn few_roots(kind: RootKind, body: &[u8])
     ensures { length (roots_in kind body.now) ≤ 2 * length body.now }
 {
@@ -43,7 +43,7 @@ impl RootKind {
         }
     }
 
-    /// The roots of a body of this kind: at most two a byte.
+    /// The roots of a body of this kind: at most two for each byte.
     pub fn roots(self, body: &[u8]) -> Roots<'_>
         ensures value { result ≡ roots_in self body.now }
         ensures inside { All (IsInside body.now) result }
@@ -67,7 +67,7 @@ enum Coming<'a> {
     Mail(MailRoots<'a>),
 }
 
-/// The roots of a body that are still to come. Contracts see it as the list of these roots.
+/// The roots of a body that are still to come. Contracts see the list of these roots.
 #[derive(Drop)]
 pub struct Roots<'a> {
     coming: Coming<'a>,

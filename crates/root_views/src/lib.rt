@@ -7,9 +7,9 @@
 //! }
 //! ```
 //!
-//! [`stack`], [`dict`] and [`mail`] are given the body of a `proc_stack`, a `proc_dictionary` or a `proc_messages`
-//! section, [`RootKind::roots`] that of any of the three, and [`messages`] counts the messages of a mailbox. All calls are
-//! pure and take no memory. What is a root stands in `specs/Roots.antt`.
+//! [`stack`], [`dict`] and [`mail`] take the body of a `proc_stack`, a `proc_dictionary` or a
+//! `proc_messages` section, [`RootKind::roots`] that of any of the three, and [`messages`] counts the
+//! messages of a mailbox. All calls are pure and take no memory. `specs/Roots.antt` says what is a root.
 #![tactic(auto)]
 
 mod counting;

@@ -13,10 +13,10 @@ use field_lines::reading::lines;
 use field_lines::shapes::Lines;
 use std::marker::Model;
 
-/// The roots of a mailbox that are still to come. Contracts see it as the list of these roots.
+/// The roots of a mailbox that are still to come. Contracts see the list of these roots.
 #[derive(Drop)]
 pub struct MailRoots<'a> {
-    // The token of the last message, where it is still to come.
+    // The token of the last message, if it is still to come.
     token: Option<Root<'a>>,
     lines: Lines<'a>,
 }
@@ -47,10 +47,11 @@ impl<'a> Iterator for MailRoots<'a> {
     }
 }
 
-/// The roots of the body of a `proc_messages` section: for each line that has a text a message, with the label `m`, and
-/// behind it its token, with the label `t`. The token is wholly an element. It stands behind the last `:` of a text that
-/// begins with `D`, which is a message in the external format, and in any other text behind an element, which is the
-/// message, and a `:`. A line of another form is an unread message without a token.
+/// The roots of the body of a `proc_messages` section: for each line that has a text a
+/// message, with the label `m`, followed by its token, with the label `t`. The token is wholly
+/// an element. A text that begins with `D` is a message in the external format up to its last
+/// `:`, and the token follows that. Any other text is an element, which is the message, then a
+/// `:` and the token. A line of any other form is an unread message without a token.
 pub fn mail(body: &[u8]) -> MailRoots<'_>
     ensures value { result ≡ mail_roots body.now }
     ensures inside { All (IsInside body.now) result }

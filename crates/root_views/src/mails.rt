@@ -1,4 +1,4 @@
-// The message of a mailbox's line, and its token.
+// The message of a mailbox line, and its token.
 ghost use Rattle.std.specs.Prelude.{◌≡◌};
 ghost use Rattle.std.specs.Option.{option_map, option_copied};
 ghost use Rattle.field_lines.specs.Shown.{shown_line};
@@ -42,7 +42,7 @@ fn token_root(at: usize, e: Elem<'_>) -> Root<'_>
     }
 }
 
-// A message in the external format, which begins with `D`. Its token stands behind the last colon.
+// A message in the external format, which begins with `D`. Its token stands after the last colon.
 fn dist_mail<'a>(line: &Line<'a>) -> Option<Mail<'a>>
     requires { IsSmall (shown_line line.now) }
     ensures { option_map mail_list result ≡ dist_roots (shown_line line.now) }
@@ -67,7 +67,7 @@ fn behind_colon(text: &[u8]) -> Option<&[u8]>
     }
 }
 
-// A message that is the element at the text's front. Its token stands behind a colon.
+// A message that is the element at the beginning of the text. Its token stands after the colon that follows it.
 fn pair_mail<'a>(line: &Line<'a>) -> Option<Mail<'a>>
     requires { IsSmall (shown_line line.now) }
     ensures { option_map mail_list result ≡ pair_roots (shown_line line.now) }

@@ -18,10 +18,11 @@ pub enum What<'a> {
 /// A root of a process.
 #[derive(Clone, Copy, Debug, PartialEq, Eq)]
 pub struct Root<'a> {
-    /// The number of bytes of the body before the root: where its line begins, or for a token where the token does.
+    /// The number of bytes of the body before the root: where
+    /// its line begins, or, for a token, where the token does.
     pub at: usize,
-    /// On the stack what stands before the first `:` of the line, and nothing where the root isn't read; `e` in the
-    /// dictionary; in the mailbox `m` for a message, and `t` for a token.
+    /// On the stack, what stands before the first `:` of the line, and nothing if the root isn't
+    /// read; `e` in the dictionary; in the mailbox `m` for a message, and `t` for a token.
     pub label: &'a [u8],
     /// What the root is.
     pub what: What<'a>,

@@ -15,7 +15,7 @@ use field_lines::shapes::Lines;
 use std::marker::Model;
 use term_forms::whole_elem;
 
-// What stands behind a label.
+// What stands after a label.
 fn stack_content(text: &[u8]) -> Option<What<'_>>
     ensures { option_map content result ≡ stack_content text.now }
 {
@@ -44,7 +44,7 @@ fn stack_root<'a>(line: &Line<'a>) -> Root<'a>
     }
 }
 
-/// The roots of a stack that are still to come. Contracts see it as the list of these roots.
+/// The roots of a stack that are still to come. Contracts see the list of these roots.
 #[derive(Drop)]
 pub struct StackRoots<'a> {
     lines: Lines<'a>,
@@ -69,9 +69,9 @@ impl<'a> Iterator for StackRoots<'a> {
     }
 }
 
-/// The roots of the body of a `proc_stack` section, one for each line that has a text. What stands before the first `:`
-/// of a line is its label. Behind it an `S` begins an info, and a text that is wholly an element is a term; all else, and
-/// a line without a `:`, is unread.
+/// The roots of the body of a `proc_stack` section, one for each line that has a text. What
+/// stands before the first `:` of a line is its label. After it an `S` begins an info, and a
+/// text that is wholly an element is a term; anything else, and a line without a `:`, is unread.
 pub fn stack(body: &[u8]) -> StackRoots<'_>
     ensures value { result ≡ stack_roots body.now }
     ensures inside { All (IsInside body.now) result }

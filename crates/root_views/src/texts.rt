@@ -24,7 +24,7 @@ pub(crate) fn next_text<'a>(lines: &mut Lines<'a>) -> Option<Line<'a>>
     None
 }
 
-// What stands before a text's last `:` and what follows it.
+// Splits a text at its last `:` into what stands before it and what follows it.
 pub(crate) fn split_at_last_colon(text: &[u8]) -> Option<(&[u8], &[u8])>
     ensures parts { SplitsAtLast text.now result }
     ensures shorter { IfSome result (λ parts. length parts.0.now < length text.now) }

@@ -2,8 +2,8 @@
 use Rattle.std.specs.Prelude.{◌≡◌, ℕ, ◌-◌, List, length, take, map, count_by, nat_lt}
 use Rattle.section_index.specs.Sections.{Section}
 
--- the sections of a front of so many bytes, beside those of the whole: as many as begin within the front; all
--- but the last are those of the whole, and the last begins where it does in the whole
+-- the sections of a prefix of this many bytes, beside those of the whole dump: as many as begin within
+-- the prefix; all but the last are those of the whole, and the last begins where it does in the whole
 pub record AreCut (front whole : List Section) (size : ℕ) : Type 0 where
   pub count : length front ≡ count_by (λ section. nat_lt section.at size) whole
   pub all_but_last : take (length front - 1) front ≡ take (length front - 1) whole

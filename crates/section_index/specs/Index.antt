@@ -2,7 +2,7 @@
 use Rattle.std.specs.Prelude.{◌≡◌, ◌⊎◌, ℕ, ◌+◌, ◌-◌, ◌<◌, ◌≤◌, List, [], ◌∷◌, length, None, Some, Result, Ok, Err, All, codes, unwrap_or, if◌then◌else◌, Option}
 use Rattle.std.specs.Str.{bytes_eq}
 use Rattle.dump_io.specs.Counts.{plus_capped}
-use Rattle.dump_io.specs.Dumps.{IsNamed, Files, Now, closed, told, sized, size_of, Use}
+use Rattle.dump_io.specs.Dumps.{IsNamed, Files, Now, closed, told, sized, size_of, DeviceState}
 use Rattle.dump_io.specs.Limits.{Numbers, usual}
 use Rattle.dump_io.specs.Lines.{Header, headers}
 use Rattle.section_index.specs.declared.index.State.{State}
@@ -25,13 +25,14 @@ pub record Contents : Type 0 where
 abbrev pub sections_in : Contents → List Section
 sections_in index = sections_of index.headers index.size
 
--- the line of a header has its text, and is no longer than the usual limit on headers and its LF
+-- a header's line holds its text, and has at most as many
+-- bytes as the usual limit on headers, and one for its LF
 pub record HasShortLine (header : Header) : Type 0 where
   pub text : header.at + length header.text ≤ header.body
   pub short : header.body ≤ header.at + usual.header + 1
 
--- there is a section, there are no more sections and bytes than the usual limits allow, no header's line is too
--- long, and the sections tile the whole dump
+-- there is a section, there are no more sections and bytes than the usual limits
+-- allow, no header's line is too long, and the sections tile the whole dump
 pub record AreBounded (index : Contents) : Type 0 where
   pub some : 1 ≤ length index.headers
   pub sections : length index.headers ≤ usual.sections
@@ -45,11 +46,11 @@ last_text [] = []
 last_text (header ∷ []) = header.text
 last_text (header ∷ next ∷ rest) = last_text (next ∷ rest)
 
--- a dump is whole where the tag of its last section is `end`, and else truncated in that section
+-- a dump is whole if the tag of its last section is `end`, and otherwise truncated in that section
 abbrev pub state_of : List Header → State
 state_of headers = if bytes_eq (tag_of (last_text headers)) (codes "end") then Whole else TruncatedIn (length headers - 1)
 
--- a dump that breaks off does so in its last section
+-- a truncated dump is truncated in its last section
 abbrev pub IsLastPlace : State → ℕ → Type 0
 IsLastPlace Whole count = Unit {0}
 IsLastPlace (TruncatedIn i) count = i + 1 ≡ count
@@ -64,44 +65,44 @@ pub record IsIndexOf (bytes : List ℕ) (index : Contents) : Type 0 where
   pub size : index.size ≡ length bytes
   pub version : version_named (first_id bytes) ≡ Some index.version
 
--- what an answer about these bytes tells: the index of an accepted dump, or why it is refused
+-- what an answer about these bytes says: the index of an accepted dump, or why it is refused
 abbrev pub IsAnswerFor : List ℕ → Numbers → Result Contents OpenFault → Type 0
 IsAnswerFor bytes limits (Ok index) = IsAccepted bytes limits × IsIndexOf bytes index
 IsAnswerFor bytes limits (Err Read) = Unit {0}
 IsAnswerFor bytes limits (Err Memory) = Unit {0}
 IsAnswerFor bytes limits (Err fault) = IsRefusedFor bytes limits fault
 
--- the index is that of what is open; where its bytes aren't told the sizes are equal
+-- the index is that of what is open; if the device doesn't tell the bytes, the sizes are equal
 abbrev pub IsBuiltOver : Now → Contents → Type 0
 IsBuiltOver closed index = ⊥
 IsBuiltOver (told bytes) index = IsIndexOf bytes index
 IsBuiltOver (sized size) index = index.size ≡ size
 
--- where the fault is that the dump is too large, its size is that of what is open and above the limit
+-- if the fault is that the dump is too large, its size is that of what is open, and above the limit
 abbrev pub IsTooLargeFor : Now → Numbers → OpenFault → Type 0
 IsTooLargeFor now limits (TooLarge size) = (size ≡ size_of now) × (limits.dump < size)
 IsTooLargeFor now limits fault = Unit {0}
 
--- what is open is nothing, or the file of this name where files are told
+-- nothing is open, or what is open is the file with this name, if the device tells its files
 abbrev pub IsClosedOrNamed : Option Files → List ℕ → Now → Type 0
 IsClosedOrNamed files name closed = Unit {0}
 IsClosedOrNamed files name now = IsNamed files name now
 
--- what a call does that opens the file of a name and reads it once: the files stay, nothing is open or that file
--- is, the count of faults doesn't fall, and at most as many bytes are taken as the file has
-pub record ReadsFile (device : Use) (name : List ℕ) : Type 0 where
-  pub same_files : device.files_after ≡ device.files_before
-  pub now : IsClosedOrNamed device.files_before name device.now_after
-  pub later : device.faults_before ≤ device.faults_after
-  pub taken_least : device.taken_before ≤ device.taken_after
-  pub taken_most : device.taken_after ≤ plus_capped device.taken_before (size_of device.now_after)
+-- what a call that opens a file by its name and reads it once does: the files stay the same, nothing or
+-- that file is open, the count of faults doesn't fall, and at most as many bytes are taken as the file has
+pub record ReadsFile (before after : DeviceState) (name : List ℕ) : Type 0 where
+  pub same_files : after.files ≡ before.files
+  pub now : IsClosedOrNamed before.files name after.now
+  pub later : before.faults ≤ after.faults
+  pub taken_least : before.taken ≤ after.taken
+  pub taken_most : after.taken ≤ plus_capped before.taken (size_of after.now)
 
--- the files are told, and these are the bytes of the one of this name
+-- the device tells its files, and these are the bytes of the one with this name
 abbrev pub IsHeld : Option Files → List ℕ → List ℕ → Type 0
 IsHeld None name bytes = ⊥
 IsHeld (Some files) name bytes = files name ≡ Some bytes
 
--- these are the bytes of the file that was opened by its name: the device tells them by the name, or as what is
--- open after the call
-abbrev pub IsFileOf : Use → List ℕ → List ℕ → Type 0
-IsFileOf device name bytes = IsHeld device.files_before name bytes ⊎ (device.now_after ≡ told bytes)
+-- these are the bytes of the file that was opened by its name: the
+-- device tells them under that name, or as what is open after the call
+abbrev pub IsFileOf : DeviceState → DeviceState → List ℕ → List ℕ → Type 0
+IsFileOf before after name bytes = IsHeld before.files name bytes ⊎ (after.now ≡ told bytes)

@@ -1,4 +1,4 @@
--- Which dumps are accepted, and what is told of those that aren't.
+-- Which dumps are accepted, and why the others are refused.
 use Rattle.std.specs.Prelude.{◌≡◌, ℕ, List, [], ◌∷◌, length, filter, slice_get, Option, None, Some, unwrap_or, codes, nat_lt, nat_le, nat_eq, if◌then◌else◌}
 use Rattle.std.specs.List.{starts_with, sum_by}
 use Rattle.std.specs.Option.{option_map, option_or}
@@ -13,21 +13,21 @@ use Rattle.section_index.specs.declared.opening.Version.{Version}
 use Rattle.section_index.specs.declared.opening.Version.TheVariants.{V03, V04, V05}
 use Rattle.section_index.specs.Sections.{id_of}
 
--- a dump begins so
+-- the bytes with which a dump begins
 abbrev pub signature : List ℕ
 signature = codes "=erl_crash_dump:"
 
--- and what gzip wrote begins so
+-- the bytes with which a file that gzip wrote begins
 abbrev pub gzip_mark : List ℕ
 gzip_mark = 0x1F ∷ 0x8B ∷ []
 
--- the version of this name
+-- the version with this name
 abbrev pub version_named : List ℕ → Option Version
 version_named id =
     if bytes_eq id (codes "0.3") then Some V03
     else (if bytes_eq id (codes "0.4") then Some V04 else (if bytes_eq id (codes "0.5") then Some V05 else None))
 
--- the first of some lines
+-- the first of a list of lines
 abbrev pub first_in : List (List ℕ) → List ℕ
 first_in [] = []
 first_in (raw ∷ raws) = raw
@@ -45,29 +45,30 @@ abbrev pub version_fault : List ℕ → Option Version → Option OpenFault
 version_fault id None = Some (UnknownVersion id)
 version_fault id (Some version) = None
 
--- there are more bytes than the limit
+-- the refusal of more bytes than the limit
 abbrev pub too_large : List ℕ → Numbers → Option OpenFault
 too_large bytes limits = if nat_lt limits.dump (length bytes) then Some (TooLarge (length bytes)) else None
 
--- the bytes begin as gzip writes
+-- the refusal of bytes that begin as gzip writes
 abbrev pub compressed : List ℕ → Option OpenFault
 compressed bytes = if starts_with nat_eq bytes gzip_mark then Some Compressed else None
 
--- the bytes don't begin as a dump
+-- the refusal of bytes that don't begin as a dump
 abbrev pub unsigned : List ℕ → Option OpenFault
 unsigned bytes = if starts_with nat_eq bytes signature then None else Some NotADump
 
--- the first line has no more bytes than a header may have, and its id names no version
+-- the refusal of an id that names no version, in a first line that has no more bytes than a header may have
 abbrev pub other_version : List ℕ → Numbers → Option OpenFault
 other_version bytes limits =
     if nat_lt limits.header (length_before_lf (first_line bytes)) then None
     else version_fault (first_id bytes) (version_named (first_id bytes))
 
--- a line that begins with an equals sign has more bytes before its LF or the end than a header may have
+-- the refusal of the first line that begins with an equals sign and
+-- has more bytes before its LF or the end than a header may have
 abbrev pub long_header : List ℕ → Numbers → Option OpenFault
 long_header bytes limits = option_map (λ at. HeaderTooLong at) (first_too_long limits.header bytes)
 
--- as many headers as are allowed stand before this one
+-- the refusal of the first header before which as many headers stand as are allowed
 abbrev pub surplus_header : List Header → Numbers → Option OpenFault
 surplus_header headers limits = option_map (λ header. TooManySections header.at) (slice_get headers limits.sections)
 
@@ -75,15 +76,15 @@ surplus_header headers limits = option_map (λ header. TooManySections header.at
 abbrev pub text_bytes : List Header → ℕ
 text_bytes headers = sum_by (λ header. length header.text) headers
 
--- the headers that begin at this offset or before it
+-- the headers that begin at or before this offset
 abbrev pub headers_upto : ℕ → List Header → List Header
 headers_upto at headers = filter (λ header. nat_le header.at at) headers
 
--- the headers up to which the texts have more bytes together than the limit
+-- the headers with which the texts have more bytes together than the limit
 abbrev pub headers_over : ℕ → List Header → List Header
 headers_over pool headers = filter (λ header. nat_lt pool (text_bytes (headers_upto header.at headers))) headers
 
--- the first of those
+-- the refusal of the first of those
 abbrev pub large_headers : List Header → Numbers → Option OpenFault
 large_headers headers limits = option_map (λ header. HeadersTooLarge header.at) (slice_get (headers_over limits.pool headers) 0)
 
@@ -94,18 +95,19 @@ place_of (TooManySections at) = at
 place_of (HeadersTooLarge at) = at
 place_of fault = 0
 
--- of two refusals the one whose header begins before the other's, and at one header the first
+-- of two refusals, the one whose header begins first; for the same header, the first of the two
 abbrev pub earlier : Option OpenFault → Option OpenFault → Option OpenFault
 earlier None second = second
 earlier (Some first) None = Some first
 earlier (Some first) (Some second) = if nat_lt (place_of second) (place_of first) then Some second else Some first
 
--- the refusal of a header: the first in the dump, and at one header the first of these three
+-- the refusal of a header: that of the first refused header
+-- in the dump, and of its refusals the first of these three
 abbrev pub header_fault : List ℕ → Numbers → Option OpenFault
 header_fault bytes limits =
     earlier (long_header bytes limits) (earlier (surplus_header (headers bytes) limits) (large_headers (headers bytes) limits))
 
--- why bytes that aren't too many are refused: for their beginning, or else for a header
+-- why bytes that aren't too many are refused: for their beginning, or otherwise for a header
 abbrev pub fault_of : List ℕ → Numbers → Option OpenFault
 fault_of bytes limits =
     option_or (compressed bytes) (option_or (unsigned bytes) (option_or (other_version bytes limits) (header_fault bytes limits)))
@@ -114,10 +116,10 @@ fault_of bytes limits =
 abbrev pub opening : List ℕ → Numbers → Option OpenFault
 opening bytes limits = option_or (too_large bytes limits) (fault_of bytes limits)
 
--- the bytes are accepted, or refused for this cause
+-- the bytes are accepted
 abbrev pub IsAccepted : List ℕ → Numbers → Type 0
 IsAccepted bytes limits = opening bytes limits ≡ None
 
--- bytes are refused for the first cause that holds
+-- the bytes are refused for this cause, the first that holds
 abbrev pub IsRefusedFor : List ℕ → Numbers → OpenFault → Type 0
 IsRefusedFor bytes limits fault = opening bytes limits ≡ Some fault

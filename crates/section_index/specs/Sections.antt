@@ -3,7 +3,7 @@ use Rattle.std.specs.Prelude.{ℕ, ◌+◌, List, [], ◌∷◌, length, drop, s
 use Rattle.dump_io.specs.Colons.{has_colon, before_colon, after_colon}
 use Rattle.dump_io.specs.Lines.{Header, headers}
 
--- a header's text behind its equals sign
+-- a header's text after its equals sign
 abbrev pub name_of : List ℕ → List ℕ
 name_of text = drop 1 text
 
@@ -11,7 +11,7 @@ name_of text = drop 1 text
 abbrev pub tag_of : List ℕ → List ℕ
 tag_of text = before_colon (name_of text)
 
--- the id follows that colon, and without one there is no id
+-- the id follows that colon; without a colon there is no id
 abbrev pub id_of : List ℕ → Option (List ℕ)
 id_of text = if has_colon (name_of text) then Some (after_colon (name_of text)) else None
 

@@ -1,4 +1,4 @@
--- How many sections have each tag.
+-- How many sections each tag has.
 use Rattle.std.specs.Prelude.{ℕ, List, [], ◌∷◌, map, filter, count_by, not}
 use Rattle.std.specs.Str.{bytes_eq}
 use Rattle.section_index.specs.Index.{Contents, sections_in}

@@ -23,7 +23,7 @@ fn first_lf(bytes: &[u8]) -> Option<usize>
     bytes.iter().position(|c| *c == b'\n')
 }
 
-// The text of the first line, where that has at most `limit` bytes before its LF or the end.
+// The text of the first line, if that has at most `limit` bytes before its LF or the end.
 fn first_text(first: &[u8], limit: usize) -> Option<&[u8]>
     requires { limit ≤ usual.header }
     ensures { (more : List ℕ) → IsAllOrLong first.now more → let line = first_line (first.now ++ more) in
@@ -36,7 +36,7 @@ fn first_text(first: &[u8], limit: usize) -> Option<&[u8]>
     }
 }
 
-// The version that a header's id names, or the fault that it names none.
+// The version that a header's id names, or the fault that the id names none.
 fn version_in(alloc: Global, text: &[u8]) -> Result<Version, OpenFault>
     ensures { IsVersionOf text.now result }
 {
@@ -53,7 +53,7 @@ fn version_in(alloc: Global, text: &[u8]) -> Result<Version, OpenFault>
     }
 }
 
-// The version of a dump by its first bytes: all of them, or more than a header may have.
+// The version of a dump from its first bytes, which are all of them, or more than a header may have.
 pub(crate) fn judge_beginning(
     alloc: Global,
     first: &[u8],

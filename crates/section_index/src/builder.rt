@@ -1,7 +1,7 @@
-// The index of a dump is built in one pass over its bytes.
+// Building the index of a dump in one pass over its bytes.
 ghost use Rattle.std.specs.Prelude.{◌≡◌, ◌⊎◌, ◌-◌, ◌<◌, ◌≤◌, ℕ, List, length, take, min, false, None, OnOk, OnErr, IfOk, IfErr, IsErrOf};
 ghost use Rattle.dump_io.specs.Counts.{plus_capped};
-ghost use Rattle.dump_io.specs.Dumps.{told, IsOpen, size_of, IsAbsent, Gives, used, DeviceFailed, ReadsAtMost};
+ghost use Rattle.dump_io.specs.Dumps.{told, IsOpen, size_of, IsAbsent, Gives, DeviceFailed, ReadsAtMost};
 ghost use Rattle.section_index.specs.Index.{IsAnswerFor, IsBuiltOver, IsFileOf, IsTooLargeFor, ReadsFile};
 ghost use Rattle.section_index.specs.Inner.Reading.{IsNotTooLarge};
 ghost use Rattle.section_index.specs.Inner.Reading.{HasBegun, IsHeaderRefusal};
@@ -16,7 +16,7 @@ use line_source::LineScan;
 use std::alloc::{AllocError, Global};
 use std::marker::Brand;
 
-// The most bytes of a piece.
+// The most bytes in a piece.
 const PIECE: usize = 65_536;
 
 // A buffer for a piece.
@@ -26,21 +26,21 @@ fn make_buffer(alloc: Global) -> Result<Vec<u8>, AllocError>
     vec![in alloc; 0u8; PIECE]
 }
 
-// Reads the bytes of the open file from an offset on into a buffer, up to the file's end, and says how many.
+// Reads the bytes of the open file from an offset on into a buffer, up to the file's end, and returns how many.
 fn read_piece<D: Dumps>(
     dumps: &mut D,
     at: u64,
     size: u64,
     buffer: &mut [u8],
 ) -> Result<usize, Failed>
-    requires open { IsOpen (D.now dumps.old) }
-    requires size { size_of (D.now dumps.old) ≡ size }
+    requires open { IsOpen (D.state dumps.old).now }
+    requires size { size_of (D.state dumps.old).now ≡ size }
     requires inside { at ≤ size }
-    ensures reads { ReadsAtMost (used D.files D.now D.faults D.taken dumps.old dumps.new) (min (length buffer.old) (size - at)) }
-    ensures failed { OnErr result (DeviceFailed (used D.files D.now D.faults D.taken dumps.old dumps.new)) }
+    ensures reads { ReadsAtMost (D.state dumps.old) (D.state dumps.new) (min (length buffer.old) (size - at)) }
+    ensures failed { OnErr result (DeviceFailed (D.state dumps.old) (D.state dumps.new)) }
     ensures count { IfOk result (λ count. count ≡ min (length buffer.old) (size - at)) }
-    ensures piece { IfOk result (λ count. Gives (D.now dumps.old) at (take count buffer.new)) }
-    ensures taken { IfOk result (λ count. D.taken dumps.new ≡ plus_capped (D.taken dumps.old) count) }
+    ensures piece { IfOk result (λ count. Gives (D.state dumps.old).now at (take count buffer.new)) }
+    ensures taken { IfOk result (λ count. (D.state dumps.new).taken ≡ plus_capped (D.state dumps.old).taken count) }
 {
     let count = buffer.len().min((size - at) as usize);
     read_full(dumps, at, &mut buffer[..count])?;
@@ -56,23 +56,23 @@ fn feed_rest<B: Bounds, D: Dumps>(
     scan: &mut LineScan,
     receiver: &mut Receiver<B>,
 ) -> Result<(), OpenFault>
-    requires open { IsOpen (D.now dumps.old) }
-    requires size { size_of (D.now dumps.old) ≡ size }
+    requires open { IsOpen (D.state dumps.old).now }
+    requires size { size_of (D.state dumps.old).now ≡ size }
     requires inside { from ≤ size }
     requires room { 0 < length buffer.old }
     requires fresh { scan.old.spent ≡ false }
     requires limit { scan.old.limit ≡ B.limits.header }
     requires offset { scan.old.offset ≡ from }
     requires silent { receiver.old.stop ≡ None }
-    requires begun { HasBegun (D.now dumps.old) scan.old receiver.old }
-    ensures reads { ReadsAtMost (used D.files D.now D.faults D.taken dumps.old dumps.new) (size - from) }
+    requires begun { HasBegun (D.state dumps.old).now scan.old receiver.old }
+    ensures reads { ReadsAtMost (D.state dumps.old) (D.state dumps.new) (size - from) }
     ensures fresh { OnOk result (scan.new.spent ≡ false) }
     ensures limit { scan.new.limit ≡ scan.old.limit }
     ensures offset { OnOk result (scan.new.offset ≡ size) }
     ensures silent { OnOk result (receiver.new.stop ≡ None) }
-    ensures begun { OnOk result (HasBegun (D.now dumps.old) scan.new receiver.new) }
-    ensures fault { IfErr result (λ fault. (fault ≡ OpenFault.Read) ⊎ IsHeaderRefusal B.limits (D.now dumps.old) fault) }
-    ensures read { IsErrOf result OpenFault.Read → DeviceFailed (used D.files D.now D.faults D.taken dumps.old dumps.new) }
+    ensures begun { OnOk result (HasBegun (D.state dumps.old).now scan.new receiver.new) }
+    ensures fault { IfErr result (λ fault. (fault ≡ OpenFault.Read) ⊎ IsHeaderRefusal B.limits (D.state dumps.old).now fault) }
+    ensures read { IsErrOf result OpenFault.Read → DeviceFailed (D.state dumps.old) (D.state dumps.new) }
 {
     let mut at = from;
     while at < size {
@@ -93,18 +93,18 @@ fn index_of<B: Bounds, D: Dumps>(
     limits: &Limits,
     buffer: &mut [u8],
 ) -> Result<Index, OpenFault>
-    requires open { IsOpen (D.now dumps.old) }
-    requires size { size_of (D.now dumps.old) ≡ size }
+    requires open { IsOpen (D.state dumps.old).now }
+    requires size { size_of (D.state dumps.old).now ≡ size }
     requires small { size ≤ limits.now.dump }
     requires limits { limits.now ≡ B.limits }
     requires room { length buffer.old ≡ PIECE }
-    ensures reads { ReadsAtMost (used D.files D.now D.faults D.taken dumps.old dumps.new) size }
-    ensures answer { (bytes : List ℕ) → D.now dumps.old ≡ told bytes → IsAnswerFor bytes limits.now result }
-    ensures over { IfOk result (IsBuiltOver (D.now dumps.old)) }
+    ensures reads { ReadsAtMost (D.state dumps.old) (D.state dumps.new) size }
+    ensures answer { (bytes : List ℕ) → (D.state dumps.old).now ≡ told bytes → IsAnswerFor bytes limits.now result }
+    ensures over { IfOk result (IsBuiltOver (D.state dumps.old).now) }
     ensures sized { IfOk result (λ index. index.size ≤ limits.now.dump) }
     ensures sections { IfOk result (λ index. length index.headers ≤ limits.now.sections) }
     ensures fault { IfErr result IsNotTooLarge }
-    ensures read { IsErrOf result OpenFault.Read → DeviceFailed (used D.files D.now D.faults D.taken dumps.old dumps.new) }
+    ensures read { IsErrOf result OpenFault.Read → DeviceFailed (D.state dumps.old) (D.state dumps.new) }
 {
     let Ok(count) = read_piece(dumps, 0, size, buffer) else {
         return Err(OpenFault::Read);
@@ -118,30 +118,31 @@ fn index_of<B: Bounds, D: Dumps>(
     Ok(Index::new(headers, size, version))
 }
 
-/// Opens a dump by its name and finds its sections, reading it once, in pieces of at most 65,536 bytes. The
-/// file stays open at `Ok`, and the index has at most as many sections as `limits` allows.
+/// Opens a dump by its name and finds its sections, reading it once, in pieces of at most 65,536
+/// bytes. On `Ok` the file stays open, and the index has at most as many sections as `limits` allows.
 ///
-/// The refusals come in this order, each exactly where it is stated: `TooLarge` where the file has more
-/// bytes than the limit; `Compressed` where it begins with `1F 8B`; `NotADump` where it doesn't begin with
-/// `=erl_crash_dump:`; `Version` where the first line isn't too long for a header, and its id is none of
-/// `0.3`, `0.4` and `0.5`; and then the refusal of the first header that is too long, is one too many, or with
-/// whose text the texts are too large together. `Read` comes only where the device's count of faults rose, or
-/// where its files are told and none has that name; `Memory` may come at any growth. Whatever the answer, the
-/// device gave at most as many bytes as the file has.
+/// The refusals are judged in this order, and each is returned exactly when its condition holds and none before
+/// it does, unless `Read` or `Memory` is: `TooLarge` if the file has more bytes than the limit; `Compressed` if
+/// it begins with `1F 8B`; `NotADump` if it doesn't begin with `=erl_crash_dump:`; `Version` if the first line
+/// isn't too long for a header and its id is none of `0.3`, `0.4` and `0.5`; then the refusal of the first
+/// header that is too long, that is one too many, or with whose text the header texts together are too large.
+/// Returns `Read` only if the device's count of faults rose, or if the device tells its files and none has that
+/// name; `Memory` may come from any allocation. Whatever it returns, the device gave at most as many bytes as
+/// the file has.
 pub fn build<D: Dumps>(
     alloc: Global,
     dumps: &mut D,
     name: &str,
     limits: &Limits,
 ) -> Result<Index, OpenFault>
-    ensures device { ReadsFile (used D.files D.now D.faults D.taken dumps.old dumps.new) name.now }
-    ensures answer { (bytes : List ℕ) → IsFileOf (used D.files D.now D.faults D.taken dumps.old dumps.new) name.now bytes → IsAnswerFor bytes limits.now result }
-    ensures absent { IsAbsent (D.files dumps.old) name.now → IsErrOf result OpenFault.Read }
-    ensures over { IfOk result (IsBuiltOver (D.now dumps.new)) }
+    ensures device { ReadsFile (D.state dumps.old) (D.state dumps.new) name.now }
+    ensures answer { (bytes : List ℕ) → IsFileOf (D.state dumps.old) (D.state dumps.new) name.now bytes → IsAnswerFor bytes limits.now result }
+    ensures absent { IsAbsent (D.state dumps.old).files name.now → IsErrOf result OpenFault.Read }
+    ensures over { IfOk result (IsBuiltOver (D.state dumps.new).now) }
     ensures sized { IfOk result (λ index. index.size ≤ limits.now.dump) }
     ensures sections { IfOk result (λ index. length index.headers ≤ limits.now.sections) }
-    ensures too_large { IfErr result (IsTooLargeFor (D.now dumps.new) limits.now) }
-    ensures read { IsErrOf result OpenFault.Read → DeviceFailed (used D.files D.now D.faults D.taken dumps.old dumps.new) ⊎ IsAbsent (D.files dumps.old) name.now }
+    ensures too_large { IfErr result (IsTooLargeFor (D.state dumps.new).now limits.now) }
+    ensures read { IsErrOf result OpenFault.Read → DeviceFailed (D.state dumps.old) (D.state dumps.new) ⊎ IsAbsent (D.state dumps.old).files name.now }
 {
     let Ok(size) = dumps.open_dump(name) else {
         return Err(OpenFault::Read);

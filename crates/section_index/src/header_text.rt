@@ -5,7 +5,7 @@ ghost use Rattle.section_index.specs.Sections.{name_of, tag_of, id_of};
 
 use dump_io::split_at_colon;
 
-// A header's text behind its equals sign.
+// A header's text after its equals sign.
 fn name_of(text: &[u8]) -> &[u8]
     ensures { result.now ≡ name_of text.now }
 {
@@ -15,8 +15,8 @@ fn name_of(text: &[u8]) -> &[u8]
     }
 }
 
-// The tag and the id of a header's text: what stands behind its first byte and in front of the first
-// colon, and what follows that colon.
+// The tag and the id of a header's text: what stands between its
+// first byte and the first colon, and what follows that colon.
 pub(crate) fn tag_and_id(text: &[u8]) -> (&[u8], Option<&[u8]>)
     ensures tag { result.0.now ≡ tag_of text.now }
     ensures id { option_copied result.1 ≡ id_of text.now }

@@ -15,7 +15,7 @@ pub(crate) struct Head {
     upto: usize,
 }
 
-// Where the text has no room the headers are as before, with a longer pool.
+// If there is no room for the text, the headers are as before, with a longer pool.
 fn push_header(
     heads: &mut Vec<Head>,
     pool: &mut Vec<u8>,
@@ -67,7 +67,7 @@ impl Model for Headers {
     ghost invariant = { λ h. AreWithin (length h.pool.items) h.heads.items };
 }
 
-// A header as it is kept.
+// A header as it is stored.
 #[derive(Clone, Copy)]
 pub(crate) struct KeptHeader<'a> {
     pub at: u64,
@@ -91,7 +91,7 @@ impl Headers {
         self.heads.len()
     }
 
-    // Where the text has no room the headers are as before.
+    // If there is no room for the text, the headers are as before.
     pub fn push(&mut self, at: u64, body: u64, text: &[u8]) -> Result<(), AllocError>
         ensures pushed { OnOk result (let header : Header = record { at = at; body = body; text = text.now } in self.new ≡ self.old ++ header ∷ []) }
         ensures kept { OnErr result (self.new ≡ self.old) }

@@ -17,15 +17,15 @@ use std::marker::Model;
 pub struct Section<'a> {
     /// The offset in the file at which the header's line begins.
     pub at: u64,
-    /// The offset in the file at which the body begins, behind the header's line.
+    /// The offset in the file at which the body begins, after the header's line.
     pub body: u64,
     /// The offset in the file at which the body ends.
     pub end: u64,
-    /// The header's line without its LF, and without a CR in front of that.
+    /// The header's line without its LF, and without a CR directly before that.
     pub text: &'a [u8],
     /// What stands between the equals sign and the first colon, or the end of the text.
     pub tag: &'a [u8],
-    /// What follows that colon; without a colon there is no id.
+    /// What follows that colon; if there is no colon, there is no id.
     pub id: Option<&'a [u8]>,
 }
 
@@ -34,7 +34,7 @@ pub struct Section<'a> {
 pub enum State {
     /// The last section's tag is `end`.
     Whole,
-    /// The dump breaks off in its last section, whose place this is, from 0.
+    /// The dump is truncated in its last section, which is at this place, from 0.
     TruncatedIn(usize),
 }
 
@@ -108,7 +108,7 @@ impl Index {
         self.version
     }
 
-    /// Whether the dump is whole, or the place of the section in which it breaks off.
+    /// Whether the dump is whole, or the place of the section in which it is truncated.
     pub fn state(&self) -> State
         ensures value { result ≡ state_of self.now.headers }
         ensures last { IsLastPlace result (length self.now.headers) }
@@ -123,7 +123,7 @@ impl Index {
         }
     }
 
-    // The text of the header at a place, in which nothing is sought.
+    // The text of the header at a place, without looking for its tag or id.
     pub(crate) fn text(&self, i: usize) -> &[u8]
         requires { i < length self.now.headers }
         ensures place { slice_get (sections_in self.now) i ≡ Some (section_at self.now i) }

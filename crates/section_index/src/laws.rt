@@ -6,13 +6,14 @@ ghost use Rattle.section_index.specs.Opening.{signature};
 ghost use Rattle.section_index.specs.Sections.{sections};
 ghost use Rattle.section_index.specs.Tiling.{Tile};
 
-/// A law, and no work: a dump that breaks off has the sections of the whole dump that begin within what is
-/// left. All but the last are as in the whole dump, and the last begins at the same offset.
+/// States a law and does no work: a dump that is cut off has those sections of the whole dump that begin
+/// within what is left. All but the last are as in the whole dump, and the last begins at the same offset.
 pub fn a_cut_keeps_sections()
     ensures { (bytes : List ℕ) (n : ℕ) → let front = take n bytes in AreCut (sections front) (sections bytes) (length front) }
 {}
 
-/// A law, and no work: the sections of what begins as a dump tile it, from its first byte to its last.
+/// States a law and does no work: the sections of bytes that
+/// begin as a dump tile them, from the first byte to the last.
 pub fn sections_tile_a_dump()
     ensures { (bytes : List ℕ) → starts_with nat_eq bytes signature ≡ true → Tile 0 (length bytes) (sections bytes) }
 {}

@@ -1,9 +1,9 @@
-//! The index of a dump: its sections in order, each with the place of its header and of its body.
+//! The index of a dump: its sections in order, with the offsets of each one's header and body.
 //!
-//! [`build`] opens a dump by its name, reads it once in pieces and finds its sections, or says why the dump
-//! is refused. An [`Index`] has no part of a body; it keeps the offsets, and the texts of the headers in one
-//! pool. Its sections are found by their tag and id, [`read_body`] reads the body of one, and [`Tags`] counts
-//! them.
+//! [`build`] opens a dump by its name, reads it once in pieces and finds its sections, or
+//! says why the dump is refused. An [`Index`] holds no part of a body; it keeps the
+//! offsets, and the texts of the headers in one pool. It finds a section by its tag and id;
+//! [`read_body`] reads the body of one, and [`Tags`] counts the sections by their tags.
 //!
 //! ```text
 //! let index = build(alloc, &mut dumps, "erl_crash.dump", &limits)?;

@@ -1,4 +1,4 @@
-// Sections are found by their tag and id.
+// Finding sections by their tag and id.
 ghost use Rattle.std.specs.Prelude.{◌≡◌, ◌<◌, length, IfSome, position};
 ghost use Rattle.std.specs.Option.{option_copied, option_and_then};
 ghost use Rattle.section_index.specs.Index.{sections_in};
@@ -17,11 +17,11 @@ enum Wanted<'a> {
     Named(&'a [u8], Option<&'a [u8]>),
     // This tag, with or without an id.
     Tagged(&'a [u8]),
-    // This tag, and an id that writes this number in hex.
+    // This tag, and an id that is this number in hex.
     Hex(&'a [u8], u64),
 }
 
-// The number that an id writes in hex.
+// The number that an id is in hex.
 fn hex_id(id: Option<&[u8]>) -> Option<u64>
     ensures { result ≡ option_and_then hex_number (option_copied id.entry) }
 {
@@ -73,8 +73,8 @@ fn position(index: &Index, wanted: &Wanted<'_>) -> Option<usize>
 }
 
 impl Index {
-    /// The place of the first section that has exactly this tag and id, both byte for byte. An `id` of
-    /// `None` asks for a header without a colon. `None` comes exactly where there is no such section.
+    /// The place of the first section with exactly this tag and id, compared byte for byte. An `id` of
+    /// `None` asks for a header without a colon. Returns `None` exactly when there is no such section.
     pub fn first(&self, tag: &[u8], id: Option<&[u8]>) -> Option<usize>
         ensures place { result ≡ position (λ section. is_named tag.now (option_copied id.entry) section.text) (sections_in self.now) }
         ensures within { IfSome result (λ i. i < length self.now.headers) }
@@ -82,8 +82,8 @@ impl Index {
         position(self, &Wanted::Named(tag, id))
     }
 
-    /// The place of the first section that has this tag, with or without an id. `None` comes exactly where
-    /// there is no such section.
+    /// The place of the first section with this tag, with or without
+    /// an id. Returns `None` exactly when there is no such section.
     pub fn first_tag(&self, tag: &[u8]) -> Option<usize>
         ensures place { result ≡ position (λ section. has_tag tag.now section.text) (sections_in self.now) }
         ensures within { IfSome result (λ i. i < length self.now.headers) }
@@ -91,8 +91,8 @@ impl Index {
         position(self, &Wanted::Tagged(tag))
     }
 
-    /// The place of the first section that has this tag and an id that writes `n` in hex, as [`hex_u64`]
-    /// reads it. `None` comes exactly where there is no such section.
+    /// The place of the first section with this tag and an id that is `n` in hex, as
+    /// [`hex_u64`] reads it. Returns `None` exactly when there is no such section.
     pub fn first_hex(&self, tag: &[u8], n: u64) -> Option<usize>
         ensures place { result ≡ position (λ section. has_hex tag.now n section.text) (sections_in self.now) }
         ensures within { IfSome result (λ i. i < length self.now.headers) }

@@ -1,8 +1,9 @@
-// Numbers by which tags are told apart without a look at them.
+// Numbers that tell tags apart without reading them.
 ghost use Rattle.std.specs.Prelude.{◌≡◌};
 ghost use Rattle.section_index.specs.Inner.Marks.{mark_of};
 
-// A number made of all bytes of a tag. Most tags differ in it; whoever writes a dump can make tags that don't.
+// A number computed from all bytes of a tag. Most tags have different
+// ones, but whoever writes a dump can make tags that share one.
 #[tactic(auto, unfolding(crate::specs::Inner::Marks::mark_of))]
 pub(crate) fn mark_of(tag: &[u8]) -> u64
     ensures { result ≡ mark_of tag.now }

@@ -17,10 +17,10 @@ pub enum Version {
     V05,
 }
 
-/// Why a dump wasn't opened. Offsets are counted in bytes from the file's beginning.
+/// Why a dump wasn't opened. Offsets count bytes from the beginning of the file.
 ///
-/// A header is a line that begins with `=`. Of the three refusals of a header that of the first header in
-/// the dump comes, and at one header the one that is named first here.
+/// A header is a line that begins with `=`. Of the three refusals of a header, that of the first
+/// such header in the dump is returned; if several hold for that header, the one listed first here.
 #[derive(Debug, Drop, Error)]
 pub enum OpenFault {
     /// The file begins with `1F 8B`, as gzip writes.
@@ -35,13 +35,15 @@ pub enum OpenFault {
     /// The file has more bytes than the limit on dumps; `size` is their number.
     #[error("a dump of {size} bytes is too large")]
     TooLarge { size: u64 },
-    /// The header at this offset has more bytes before its LF or the end than the limit; a CR counts.
+    /// The header at this offset has more bytes before its LF
+    /// or the end of the file than the limit; a CR counts.
     #[error("the header at {at} is too long")]
     HeaderTooLong { at: u64 },
-    /// Before the header at this offset there are as many headers as the limit allows.
+    /// As many headers as the limit allows stand before the header at this offset.
     #[error("the section at {at} is one too many")]
     TooManySections { at: u64 },
-    /// The texts of the headers up to the one at this offset have more bytes together than the limit.
+    /// The texts of the headers up to and including the one at
+    /// this offset have more bytes together than the limit.
     #[error("the headers up to {at} are too large together")]
     HeadersTooLarge { at: u64 },
     /// The device failed, or has no file of that name.

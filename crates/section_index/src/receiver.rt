@@ -1,4 +1,4 @@
-// What keeps the headers of a dump, within the limits.
+// The receiver that keeps the headers of a dump, within the limits.
 ghost use Rattle.std.specs.Prelude.{◌≡◌, [], None};
 ghost use Rattle.section_index.specs.Inner.Receiver.{IsStopCause, KeepsTo};
 
@@ -8,8 +8,8 @@ use line_source::{HeaderSink, HeaderStop, RefusedHeader};
 use std::alloc::Global;
 use std::marker::{Brand, Model, PhantomData};
 
-// Names the limits that a receiver keeps to. They stand in the receiver's type, so that they are known to be
-// the same after a call that was handed the receiver.
+// Names the limits that a receiver keeps to. They are part of the receiver's type, so
+// that they are known to be the same after a call to which the receiver was passed.
 pub(crate) trait Bounds {
     ghost use Rattle.dump_io.specs.Limits.{Numbers};
 
@@ -22,7 +22,7 @@ impl Bounds for Brand {
     ghost limits = { usual };
 }
 
-// Keeps the headers that it hears, and the first that it refuses.
+// Keeps the headers that it hears, and the first one that it refuses.
 #[derive(Drop)]
 pub(crate) struct Receiver<B: Bounds> {
     headers: Headers,
@@ -83,7 +83,7 @@ impl<B: Bounds> Receiver<B> {
         }
     }
 
-    // Refuses a header for this cause, which the caller has seen.
+    // Refuses a header for this cause, which the caller has found to hold.
     fn refuse(&mut self, value: HeaderStop, at: u64, size: usize) -> Result<(), HeaderStop>
         requires { IsStopCause B.limits self.old.heard value at size }
         ensures heard { self.new.heard ≡ self.old.heard }
@@ -93,7 +93,7 @@ impl<B: Bounds> Receiver<B> {
         Err(value)
     }
 
-    // A law, and no work: what was heard keeps to the limits, and a refusal has its cause.
+    // States a law and does no work: what was heard keeps to the limits, and a refusal has its cause.
     pub fn keeps_to_its_limits(&self)
         ensures { KeepsTo B.limits self.now }
     {

@@ -1,4 +1,4 @@
-// The headers of a dump that comes in pieces, and the refusals of headers.
+// The headers of a dump that comes in pieces, and their refusals.
 ghost use Rattle.std.specs.Prelude.{◌≡◌, ◌+◌, ◌<◌, ◌≤◌, ◌^◌, ◌++◌, ℕ, List, false, None, length, OnOk, IfOk, IfErr};
 ghost use Rattle.dump_io.specs.Lines.{headers};
 ghost use Rattle.section_index.specs.Opening.{header_fault};
@@ -35,7 +35,7 @@ pub(crate) fn feed_piece<B: Bounds>(
     Ok(())
 }
 
-// The headers of a dump that has come to its end.
+// The headers of a dump that has ended.
 pub(crate) fn finish_scan<B: Bounds>(
     scan: &mut LineScan,
     mut receiver: Receiver<B>,

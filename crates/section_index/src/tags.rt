@@ -1,4 +1,4 @@
-// How many sections have each tag.
+// How many sections each tag has.
 ghost use Rattle.std.specs.Prelude.{◌≡◌, ◌+◌, ◌^◌, ◌<◌, true, None, Some, All, length, take, slice_get, IfOk, OnOk};
 ghost use Rattle.section_index.specs.Tags.{tag_counts, tags_in};
 ghost use Rattle.section_index.specs.Inner.Counting.{counts_of, one_more, place_in, AreNumbered, AreApart, IsCounted};
@@ -16,7 +16,7 @@ pub(crate) struct TagCount {
     count: u64,
 }
 
-/// How many sections have each tag, in the order in which the tags first appear.
+/// How many sections each tag has, in the order in which the tags first appear.
 #[derive(Drop)]
 pub struct Tags {
     counts: Vec<TagCount>,
@@ -31,8 +31,8 @@ impl Model for Tags {
     ghost view = { λ tags. counts_of tags.counts.items };
 }
 
-// Which tag may come next: the one that last came behind the same tag. Nothing is promised of it, since it is compared
-// where it is used.
+// Guesses the next tag: the one that last followed the same tag. Nothing
+// is promised of a guess, since it is compared where it is used.
 #[derive(Drop)]
 struct Guesses {
     next: Vec<usize>,
@@ -54,7 +54,7 @@ impl Guesses {
         }
     }
 
-    // Takes the number of the tag that came.
+    // Notes the number of the tag that came.
     fn note(&mut self, number: usize) -> Result<(), AllocError> {
         if number >= self.next.len() {
             self.next.push(0)?;
@@ -67,7 +67,7 @@ impl Guesses {
     }
 }
 
-// Whether the tag with a number is this one.
+// Whether the tag with this number is the given one.
 fn is_tag(counts: &[TagCount], number: usize, tag: &[u8]) -> bool
     requires { AreApart (counts_of counts.now) }
     ensures { result ≡ true → place_in tag.now (counts_of counts.now) ≡ Some number }
@@ -78,7 +78,7 @@ fn is_tag(counts: &[TagCount], number: usize, tag: &[u8]) -> bool
     }
 }
 
-// The number of a tag among those that came, where one of them is likely.
+// The number of a tag, if it has come before. The likely number is tried first.
 fn number_of<'a>(
     counts: &[TagCount],
     numbers: &BTreeMap<(u64, &'a [u8]), usize>,
@@ -96,7 +96,7 @@ fn number_of<'a>(
     numbers.get(&key).copied()
 }
 
-// Counts one section more of the tag with a number.
+// Counts one more section of the tag with this number.
 fn add_one(counts: &mut Vec<TagCount>, number: usize, tag: &[u8])
     requires place { place_in tag.now (counts_of counts.old.items) ≡ Some number }
     requires few { All (λ count. count.1 + 1 < 2 ^ 64) (counts_of counts.old.items) }
@@ -126,9 +126,9 @@ fn add_tag<'a>(
     Ok(())
 }
 
-// Counts the section at a place, behind those before it, where its tag has a likely number, and answers the number that
-// it has. A tag is sought in a tree, by its mark first, so that few of the comparisons read tags. Whoever writes a dump could
-// give all tags one mark, as one hash; a tree is fast on those too.
+// Counts the section at a place, after those before it, and returns the number of its tag. The likely number is
+// tried first. Otherwise the tag is looked up in a tree, by its mark first, so that few of the comparisons read
+// tags. Whoever writes a dump could give all tags one mark, as they could one hash; a tree is fast even then.
 fn count_section<'a>(
     alloc: Global,
     counts: &mut Vec<TagCount>,

@@ -1,14 +1,14 @@
--- The bodies of several sections are loaded, and why they aren't.
+-- Loading the bodies of several sections, and why they aren't loaded.
 use Rattle.std.specs.Prelude.{◌≡◌, ℕ, List, map, find, Option, Some, None, nat_lt, option_map}
 use Rattle.std.specs.List.{sum_by}
-use Rattle.dump_io.specs.Dumps.{Use, DeviceFailed}
+use Rattle.dump_io.specs.Dumps.{DeviceState, DeviceFailed}
 use Rattle.section_index.specs.declared.bodies.BodyFault.{BodyFault}
 use Rattle.section_index.specs.declared.bodies.BodyFault.TheVariants.{SectionTooLarge, Read, Memory}
 use Rattle.section_index.specs.Bodies.{section_at, body_length}
 use Rattle.section_index.specs.Index.{Contents}
 use Rattle.section_index.specs.Sections.{Section}
 
--- the sections at some places
+-- the sections at these places
 abbrev pub sections_at : Contents → List ℕ → List Section
 sections_at index places = map (section_at index) places
 
@@ -16,7 +16,7 @@ sections_at index places = map (section_at index) places
 abbrev pub bodies_length : List Section → ℕ
 bodies_length sections = sum_by body_length sections
 
--- the first section whose body is longer than the limit
+-- the first section whose body has more bytes than the limit
 abbrev pub first_large : ℕ → List Section → Option Section
 first_large limit sections = find (λ s. nat_lt limit (body_length s)) sections
 
@@ -24,9 +24,9 @@ first_large limit sections = find (λ s. nat_lt limit (body_length s)) sections
 abbrev pub large_fault : ℕ → List Section → Option BodyFault
 large_fault limit sections = option_map (λ s. SectionTooLarge s.at (body_length s)) (first_large limit sections)
 
--- why the bodies of sections aren't loaded: one of them is too large, and this is the first; or none is, and the
--- device failed; memory may lack at any time
-abbrev pub AreRefused : List Section → ℕ → Use → BodyFault → Type 0
-AreRefused sections limit device (SectionTooLarge at len) = large_fault limit sections ≡ Some (SectionTooLarge at len)
-AreRefused sections limit device Read = DeviceFailed device × (first_large limit sections ≡ None)
-AreRefused sections limit device Memory = Unit {0}
+-- why the bodies of sections aren't loaded: one of them is too large, and this is
+-- the first; or none is, and the device failed; memory may be lacking at any time
+abbrev pub AreRefused : List Section → ℕ → DeviceState → DeviceState → BodyFault → Type 0
+AreRefused sections limit before after (SectionTooLarge at len) = large_fault limit sections ≡ Some (SectionTooLarge at len)
+AreRefused sections limit before after Read = DeviceFailed before after × (first_large limit sections ≡ None)
+AreRefused sections limit before after Memory = Unit {0}

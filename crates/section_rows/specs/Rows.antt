@@ -21,11 +21,11 @@ pub data Column : Type 0 where
   id : Column
   field : List ℕ → Column
 
--- the tag stands behind the equals sign
+-- the tag stands after the equals sign
 abbrev pub tag_kept : Section → Kept
 tag_kept s = kept s.at (s.at + 1) (tag_of s.text)
 
--- the id stands behind the colon that follows the tag
+-- the id stands after the colon that follows the tag
 abbrev pub id_kept : Section → Option Kept
 id_kept s = option_map (kept s.at (s.at + length (tag_of s.text) + 2)) (id_of s.text)
 
@@ -56,16 +56,16 @@ body_of bytes s = between s.body s.end bytes
 abbrev pub rows_of : List ℕ → List Column → List Section → List Row
 rows_of bytes columns sections = map (λ s. row_of columns s (body_of bytes s)) sections
 
--- rows, in a table of so many columns
+-- rows, and the number of columns of their table
 pub record Table : Type 0 where
   pub width : ℕ
   pub rows : List Row
 
--- the row at a place, and past the last one an empty row
+-- the row at a place; past the last one, an empty row
 abbrev pub row_at : List Row → ℕ → Row
 row_at rows i = unwrap_or (slice_get rows i) (record { at = 0; cells = [] })
 
--- the cell of a row in the column at a place, and none past the last one
+-- the cell of a row in the column at a place; none past the last one
 abbrev pub cell_at : Row → ℕ → Option Kept
 cell_at row c = unwrap_or (slice_get row.cells c) None
 
@@ -83,7 +83,7 @@ pub record IsBounded (k : Kept) : Type 0 where
   pub value_at : k.value_at ≤ usual.dump
   pub text : length k.text ≤ usual.section
 
--- a cell that is there is within the bounds
+-- if there is a cell, it is within the bounds
 abbrev pub IsBoundedCell : Option Kept → Type 0
 IsBoundedCell cell = IfSome cell IsBounded
 

@@ -25,9 +25,9 @@ pub struct Kept<'a> {
 pub enum Column<'a> {
     /// The tag.
     Tag,
-    /// The id, where there is one.
+    /// The id, if there is one.
     Id,
-    /// The value of the first field with this key in the body, where there is one.
+    /// The value of the first field with this key in the body, if there is one.
     Field(&'a [u8]),
 }
 

@@ -1,8 +1,8 @@
-//! What is kept of sections of a dump: for each its offset, and a cell for each column that is asked for,
-//! which is its tag, its id, or the value of the first field with a key in its body.
+//! What is kept of sections of a dump: for each its offset, and a cell for each requested column.
+//! A column shows the tag, the id, or the value of the first field with a key in the body.
 //!
-//! [`SectionRows::load`] reads the bodies of the sections one after another, takes from each what the columns
-//! ask for, and lets it go.
+//! [`SectionRows::load`] reads the bodies of the sections one after
+//! another, takes from each what the columns ask for, and frees it.
 #![tactic(auto)]
 
 mod columns;

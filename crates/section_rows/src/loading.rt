@@ -1,6 +1,6 @@
-// The bodies of sections are loaded one after another, and what the columns ask for is kept.
+// Loading the bodies of sections one after another, and keeping what the columns ask for.
 ghost use Rattle.std.specs.Prelude.{◌≡◌, ◌<◌, ◌≤◌, length, map, All, IfOk, OnOk, IfErr, None};
-ghost use Rattle.dump_io.specs.Dumps.{used, ReadsAtMost};
+ghost use Rattle.dump_io.specs.Dumps.{ReadsAtMost};
 ghost use Rattle.section_index.specs.Bodies.{section_at, body_length};
 ghost use Rattle.section_index.specs.Index.{IsBuiltOver};
 ghost use Rattle.section_rows.specs.Loading.{sections_at, bodies_length, large_fault};
@@ -15,8 +15,8 @@ use dump_io::{Dumps, Limits};
 use section_index::{BodyFault, Index, Section, read_body};
 use std::alloc::Global;
 
-/// The refusal of the first of the sections at some places whose body has more bytes than the limit on sections.
-/// `None` comes exactly where each keeps to it. Nothing is read.
+/// The refusal of the first of the sections at these places whose body has more bytes than the limit
+/// on a section's body. Returns `None` exactly when each body is within the limit. Nothing is read.
 pub fn large(index: &Index, sections: &[usize], limits: &Limits) -> Option<BodyFault>
     requires { All (λ i. i < length index.now.headers) sections.now }
     ensures { result ≡ large_fault limits.now.section (sections_at index.now sections.now) }
@@ -34,7 +34,7 @@ pub fn large(index: &Index, sections: &[usize], limits: &Limits) -> Option<BodyF
     None
 }
 
-// The section at a place, which ends within the largest dump as the file does.
+// The section at a place, which ends within the largest dump, as the file does.
 fn lent(index: &Index, i: usize) -> Section<'_>
     requires { i < length index.now.headers }
     ensures section { shown_section result ≡ section_at index.now i }
@@ -44,7 +44,7 @@ fn lent(index: &Index, i: usize) -> Section<'_>
     index.section(i)
 }
 
-// Loads the body of a section, puts its row behind the rows, and lets it go.
+// Loads the body of a section, appends its row to the rows, and frees it.
 fn load_row<D: Dumps>(
     alloc: Global,
     dumps: &mut D,
@@ -54,14 +54,14 @@ fn load_row<D: Dumps>(
     limits: &Limits,
     store: &mut Store,
 ) -> Result<(), BodyFault>
-    requires over { IsBuiltOver (D.now dumps.old) index.now }
+    requires over { IsBuiltOver (D.state dumps.old).now index.now }
     requires place { i < length index.now.headers }
     requires small { body_length (section_at index.now i) ≤ limits.now.section }
     requires width { store.old.width ≡ length columns.now }
     requires within { AreWithin store.old }
-    ensures reads { ReadsAtMost (used D.files D.now D.faults D.taken dumps.old dumps.new) (body_length (section_at index.now i)) }
-    ensures row { OnOk result (GainsRow (D.now dumps.old) (map shown_column columns.now) (section_at index.now i) store.old store.new) }
-    ensures fault { IfErr result (IsUnread (used D.files D.now D.faults D.taken dumps.old dumps.new)) }
+    ensures reads { ReadsAtMost (D.state dumps.old) (D.state dumps.new) (body_length (section_at index.now i)) }
+    ensures row { OnOk result (GainsRow (D.state dumps.old).now (map shown_column columns.now) (section_at index.now i) store.old store.new) }
+    ensures fault { IfErr result (IsUnread (D.state dumps.old) (D.state dumps.new)) }
 {
     // For what `section` ensures: no limit is above the usual one.
     let _most = limits.section();
@@ -72,7 +72,7 @@ fn load_row<D: Dumps>(
         .map_err(|_| BodyFault::Memory)
 }
 
-// Loads the bodies of sections that are none of them too large, one after another.
+// Loads the bodies of sections, none of which is too large, one after another.
 pub(crate) fn load_rows<D: Dumps>(
     alloc: Global,
     dumps: &mut D,
@@ -81,12 +81,12 @@ pub(crate) fn load_rows<D: Dumps>(
     columns: &[Column<'_>],
     limits: &Limits,
 ) -> Result<Store, BodyFault>
-    requires over { IsBuiltOver (D.now dumps.old) index.now }
+    requires over { IsBuiltOver (D.state dumps.old).now index.now }
     requires places { All (λ i. i < length index.now.headers) sections.now }
     requires small { All (λ i. body_length (section_at index.now i) ≤ limits.now.section) sections.now }
-    ensures reads { ReadsAtMost (used D.files D.now D.faults D.taken dumps.old dumps.new) (bodies_length (sections_at index.now sections.now)) }
-    ensures rows { IfOk result (HoldsRows (D.now dumps.old) (map shown_column columns.now) (sections_at index.now sections.now)) }
-    ensures fault { IfErr result (IsUnread (used D.files D.now D.faults D.taken dumps.old dumps.new)) }
+    ensures reads { ReadsAtMost (D.state dumps.old) (D.state dumps.new) (bodies_length (sections_at index.now sections.now)) }
+    ensures rows { IfOk result (HoldsRows (D.state dumps.old).now (map shown_column columns.now) (sections_at index.now sections.now)) }
+    ensures fault { IfErr result (IsUnread (D.state dumps.old) (D.state dumps.new)) }
 {
     let mut store = Store::new(alloc, columns.len());
     for i in sections {

@@ -1,6 +1,6 @@
 // What is kept of sections: a row for each.
 ghost use Rattle.std.specs.Prelude.{◌≡◌, ℕ, List, ◌<◌, length, map, slice_get, Some, None, All, IfOk, OnOk, IfErr, IsErrOf, IfSome, IsSome};
-ghost use Rattle.dump_io.specs.Dumps.{told, used, ReadsAtMost};
+ghost use Rattle.dump_io.specs.Dumps.{told, ReadsAtMost};
 ghost use Rattle.section_index.specs.Index.{IsBuiltOver};
 ghost use Rattle.section_rows.specs.Loading.{sections_at, bodies_length, first_large, large_fault, AreRefused};
 ghost use Rattle.section_rows.specs.Rows.{row_at, rows_of, AreEven, AreBounded};
@@ -32,13 +32,13 @@ impl Model for SectionRows {
 }
 
 impl SectionRows {
-    /// Loads the bodies of the sections at some places, from 0, one after another, and keeps of each what the
-    /// columns ask for. The index is one that was built over the file that is open, and the file stays open.
+    /// Loads the bodies of the sections at these places, from 0, one after another, and keeps of
+    /// each what the columns ask for. The index was built over the open file, which stays open.
     ///
-    /// `SectionTooLarge` comes exactly where a body has more bytes than the limit on sections; it names the
-    /// first such section of those at the places, and nothing is read then. `Read` comes only where the
-    /// device's count of faults rose; `Memory` may come wherever memory is taken. At most as many bytes are
-    /// read as the bodies have together, also where they aren't loaded.
+    /// Returns `SectionTooLarge` exactly when a body has more bytes than the limit on a section's body;
+    /// it names the first such section, in the order of the places, and nothing is read then. Returns
+    /// `Read` only if the device's count of faults rose; `Memory` may come from any allocation. At most
+    /// as many bytes are read as the bodies have together, even if they aren't loaded.
     pub fn load<D: Dumps>(
         alloc: Global,
         dumps: &mut D,
@@ -47,17 +47,17 @@ impl SectionRows {
         columns: &[Column<'_>],
         limits: &Limits,
     ) -> Result<SectionRows, BodyFault>
-        requires over { IsBuiltOver (D.now dumps.old) index.now }
+        requires over { IsBuiltOver (D.state dumps.old).now index.now }
         requires places { All (λ i. i < length index.now.headers) sections.now }
-        ensures reads { ReadsAtMost (used D.files D.now D.faults D.taken dumps.old dumps.new) (bodies_length (sections_at index.now sections.now)) }
-        ensures rows { IfOk result (λ table. (bytes : List ℕ) → D.now dumps.old ≡ told bytes
+        ensures reads { ReadsAtMost (D.state dumps.old) (D.state dumps.new) (bodies_length (sections_at index.now sections.now)) }
+        ensures rows { IfOk result (λ table. (bytes : List ℕ) → (D.state dumps.old).now ≡ told bytes
             → table.rows ≡ rows_of bytes (map shown_column columns.now) (sections_at index.now sections.now)) }
         ensures width { IfOk result (λ table. table.width ≡ length columns.now) }
         ensures places { IfOk result (λ table. map (λ row. row.at) table.rows ≡ map (λ s. s.at) (sections_at index.now sections.now)) }
         ensures loaded { OnOk result (first_large limits.now.section (sections_at index.now sections.now) ≡ None) }
-        ensures fault { IfErr result (AreRefused (sections_at index.now sections.now) limits.now.section (used D.files D.now D.faults D.taken dumps.old dumps.new)) }
+        ensures fault { IfErr result (AreRefused (sections_at index.now sections.now) limits.now.section (D.state dumps.old) (D.state dumps.new)) }
 
-        // A body that is too large is always refused as such, and the device plays no part.
+        // A body that is too large is always refused as such, whatever the device does.
         ensures too_large { IfSome (large_fault limits.now.section (sections_at index.now sections.now)) (IsErrOf result) }
         ensures unread { IsSome (first_large limits.now.section (sections_at index.now sections.now)) → dumps.new ≡ dumps.old }
     {
@@ -92,8 +92,8 @@ impl SectionRows {
         self.store.at(i)
     }
 
-    /// The cell of the row at a place in the column at a place, both from 0. `None` comes exactly where the
-    /// section has no such text.
+    /// The cell in row `i` and column `c`, both from 0. Returns
+    /// `None` exactly when the section has no such text.
     pub fn cell(&self, i: usize, c: usize) -> Option<Kept<'_>>
         requires row { i < length self.now.rows }
         requires column { c < self.now.width }

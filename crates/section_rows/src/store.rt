@@ -1,4 +1,4 @@
-// Rows of cells, kept with their texts in one pool.
+// Rows of cells, stored with their texts in one pool.
 ghost use Rattle.std.specs.Prelude.{◌≡◌, ◌+◌, ◌<◌, ◌≤◌, [], ◌∷◌, ◌^◌, length, map, All, Some, OnOk, slice_get};
 ghost use Rattle.dump_io.specs.Limits.{usual};
 ghost use Rattle.section_rows.specs.Shown.{shown_kept, shown_cell, shown_column};
@@ -10,8 +10,8 @@ use crate::columns::{Column, Kept, cell};
 use section_index::Section;
 use std::alloc::{AllocError, Global};
 
-// Where the text of a cell stands: the offsets of its line and of the text itself, counted from its section,
-// and the number of its bytes. A table has many cells, so that each has few bytes.
+// Where the text of a cell stands: the offsets of its line and of the text itself, relative
+// to its section, and the number of its bytes. A table has many cells, so each is kept small.
 #[derive(Clone, Copy)]
 pub(crate) struct Place {
     at: u32,
@@ -19,8 +19,8 @@ pub(crate) struct Place {
     len: u32,
 }
 
-// The offset of a row's section in the file, where the texts of its cells begin in the pool, and where the
-// places of its cells begin.
+// The offset of a row's section in the file, the place in the pool where
+// the texts of its cells begin, and where the places of its cells begin.
 #[derive(Clone, Copy)]
 pub(crate) struct Head {
     at: u64,
@@ -28,7 +28,7 @@ pub(crate) struct Head {
     places: usize,
 }
 
-// Rows, each with a cell for each of so many columns.
+// Rows, each with a cell for each of the columns, whose number is fixed.
 #[derive(Drop)]
 pub(crate) struct Store {
     width: usize,
@@ -37,7 +37,7 @@ pub(crate) struct Store {
     pool: Vec<u8>,
 }
 
-// How far an offset lies behind another one.
+// How far an offset lies after another.
 fn distance(from: u64, at: u64) -> u32
     requires behind { from ≤ at }
     requires near { at < from + 2 ^ 32 }
@@ -46,7 +46,7 @@ fn distance(from: u64, at: u64) -> u32
     (at - from) as u32
 }
 
-// The place of a text behind its section.
+// The place of a text, relative to its section.
 fn place_of(base: u64, found: &Kept<'_>) -> Place
     requires { HasRoom base (Some (shown_kept found.now)) }
     ensures shown { kept_text (base + result.at) (base + result.value) found.now.text.now ≡ shown_kept found.now }
@@ -59,7 +59,7 @@ fn place_of(base: u64, found: &Kept<'_>) -> Place
     }
 }
 
-// Puts a cell behind the places, and its text behind the pool.
+// Appends the place of a cell to the places, and its text to the pool.
 fn push_cell(
     places: &mut Vec<Option<Place>>,
     pool: &mut Vec<u8>,
@@ -79,7 +79,7 @@ fn push_cell(
     Ok(())
 }
 
-// Puts the cells of a section behind the places, one for each column.
+// Appends the cells of a section to the places, one for each column.
 fn push_cells<'a>(
     places: &mut Vec<Option<Place>>,
     pool: &mut Vec<u8>,
@@ -113,7 +113,7 @@ fn text_len(places: &[Option<Place>]) -> usize
     places.iter().map(|place| place_len(place)).sum()
 }
 
-// The cell whose text stands at the front of these bytes.
+// The cell whose text these bytes begin with.
 fn kept<'a>(base: u64, place: Place, texts: &'a [u8]) -> Kept<'a>
     requires within { place.len ≤ length texts.now }
     requires bounded { IsBoundedCell (cell_in base texts.now (Some place)) }
@@ -126,7 +126,7 @@ fn kept<'a>(base: u64, place: Place, texts: &'a [u8]) -> Kept<'a>
     }
 }
 
-// The cell at a place among those whose texts stand at the front of these bytes.
+// The cell at a place among those whose texts these bytes begin with.
 fn kept_at<'a>(base: u64, places: &[Option<Place>], texts: &'a [u8], c: usize) -> Option<Kept<'a>>
     requires place { c < length places.now }
     requires texts { text_len places.now ≤ length texts.now }
@@ -152,7 +152,7 @@ impl Store {
         }
     }
 
-    // Puts the row of a section behind the rows.
+    // Appends the row of a section to the rows.
     pub fn push(
         &mut self,
         section: &Section<'_>,
@@ -196,7 +196,7 @@ impl Store {
         self.heads[i].at
     }
 
-    // The cell of the row at a place in the column at a place.
+    // The cell in row `i` and column `c`.
     pub fn cell(&self, i: usize, c: usize) -> Option<Kept<'_>>
         requires within { AreWithin self.now }
         requires row { i < length (rows_in self.now) }

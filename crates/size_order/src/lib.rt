@@ -1,8 +1,8 @@
 //! Rows in the order of their sizes, the largest first.
 //!
-//! Several reports list what is largest: processes by the bytes that they hold, binaries by their sizes. A row says by
-//! [`Measured`] what its size is, and [`sort_most_first`] puts rows in that order; of rows with one size the first stays the
-//! first.
+//! Several reports list what is largest: processes by the bytes that they hold,
+//! binaries by their sizes. A row states its size by [`Measured`], and
+//! [`sort_most_first`] sorts rows by it; rows of the same size stay in their order.
 //!
 //! ```text
 //! impl Measured for Holding {

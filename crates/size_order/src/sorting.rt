@@ -10,15 +10,15 @@ pub trait Measured {
     /// The size as a number.
     ghost size: { Self → ℕ };
 
-    /// The size, in the unit of the rows, as bytes or words.
+    /// The size, in the unit of the rows, such as bytes or words.
     fn size(&self) -> u64
         ensures { result ≡ size self.now };
 }
 
-/// Puts rows in order by their size, the largest first. Rows with one size stay in their order.
+/// Sorts rows by their size, the largest first. Rows of the same size stay in their order.
 ///
-/// `AllocError` may come, since the sort takes memory for rows; they stay as they were then. The time is that of a stable sort,
-/// whatever the sizes are.
+/// `AllocError` may come, since the sort takes memory for rows; they stay as
+/// they were then. The time is that of a stable sort, whatever the sizes are.
 pub fn sort_most_first<T: Measured>(rows: &mut Vec<T>) -> Result<(), AllocError>
     ensures sorted { OnOk result (rows.new.items ≡ most_first T.size rows.old.items) }
     ensures permutation { IsPermutation rows.old.items rows.new.items }

@@ -14,13 +14,13 @@ tags_of Ports = codes "port" ∷ []
 tags_of Nodes = codes "visible_node" ∷ codes "hidden_node" ∷ codes "not_connected" ∷ []
 tags_of Mods = codes "mod" ∷ []
 
--- the columns of a table, behind the offset of the section
+-- the columns of a table, after the offset of the section
 abbrev pub columns_of : TableKind → List Column
 columns_of Ets = id ∷ field (codes "Table") ∷ field (codes "Name") ∷ field (codes "Objects") ∷ field (codes "Words") ∷ []
 columns_of Ports = id ∷ field (codes "Connected") ∷ field (codes "Links") ∷ field (codes "Registered as") ∷ []
 columns_of Nodes = tag ∷ id ∷ field (codes "Name") ∷ field (codes "Controller") ∷ field (codes "Creation") ∷ []
 columns_of Mods = id ∷ field (codes "Current size") ∷ field (codes "Old size") ∷ []
 
--- whether a table of the kind lists the section
+-- whether a table of this kind lists the section
 abbrev pub lists : TableKind → Section → Bool
 lists kind s = list_any (λ t. has_tag t s.text) (tags_of kind)

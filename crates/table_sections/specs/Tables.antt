@@ -18,17 +18,17 @@ table_of kind bytes = record {
   rows = rows_of bytes (columns_of kind) (listed kind (sections bytes));
 }
 
--- the places among the sections of a dump, from 0, of those that a table lists
+-- the places, from 0, of the sections of a dump that a table lists
 pub record TablePlaces : Type 0 where
   pub kind : TableKind
   pub places : List ℕ
 
--- they are those that the table lists of the index's sections
+-- they are those of the index's sections that the table lists
 pub record AreListed (index : Contents) (found : TablePlaces) : Type 0 where
   pub listed : sections_at index found.places ≡ listed found.kind (sections_in index)
   pub within : All (λ i. i < length index.headers) found.places
 
--- the rows are those of the index's sections, whatever their cells
+-- the rows are those of the index's sections, whatever their cells are
 pub record IsOver (kind : TableKind) (index : Contents) (table : Table) : Type 0 where
   pub width : table.width ≡ length (columns_of kind)
   pub places : map (λ row. row.at) table.rows ≡ map (λ s. s.at) (listed kind (sections_in index))

@@ -1,4 +1,4 @@
-// The sections that a table lists, as an index tells them.
+// The sections that a table lists, from an index.
 ghost use Rattle.std.specs.Prelude.{◌≡◌, ◌<◌, length, map, IfOk, All};
 ghost use Rattle.section_index.specs.Bodies.{section_at};
 ghost use Rattle.section_index.specs.Index.{sections_in};
@@ -12,7 +12,7 @@ use section_rows::large;
 use std::alloc::{AllocError, Global};
 use std::marker::Model;
 
-/// The sections of a table, in dump order, as its index tells them: no body is read for it.
+/// The sections of a table, in dump order, as its index shows them: no body is read for this.
 #[derive(Drop)]
 pub struct TableSections {
     kind: TableKind,
@@ -51,8 +51,8 @@ impl TableSections {
         Ok(TableSections { kind, places })
     }
 
-    /// The refusal of the first of these sections of the index whose body has more bytes than the limit on sections.
-    /// `None` comes exactly where each keeps to it. Nothing is read.
+    /// The refusal of the first of these sections of the index whose body has more bytes than the limit
+    /// on a section's body. Returns `None` exactly when each body is within the limit. Nothing is read.
     pub fn large(&self, index: &Index, limits: &Limits) -> Option<BodyFault>
         requires { AreListed index.now self.now }
         ensures { result ≡ large_fault limits.now.section (listed self.now.kind (sections_in index.now)) }

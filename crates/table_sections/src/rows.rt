@@ -1,7 +1,7 @@
 // The rows of a table.
 ghost use Rattle.std.specs.Prelude.{◌≡◌, ℕ, List, ◌<◌, length, None, IfOk, OnOk, IfErr, IsSome};
 ghost use Rattle.std.specs.Option.{option_copied};
-ghost use Rattle.dump_io.specs.Dumps.{told, used, ReadsAtMost};
+ghost use Rattle.dump_io.specs.Dumps.{told, ReadsAtMost};
 ghost use Rattle.section_index.specs.Index.{IsBuiltOver, sections_in};
 ghost use Rattle.section_rows.specs.Loading.{bodies_length, first_large, AreRefused};
 ghost use Rattle.section_rows.specs.Rows.{row_at, cell_at, text_in, AreEven};
@@ -30,13 +30,13 @@ impl Model for Rows {
 }
 
 impl Rows {
-    /// Finds the sections of a table, and reads their bodies one after another. The index is one that was built
-    /// over the file that is open, and the file stays open.
+    /// Finds the sections of a table, and reads their bodies one after
+    /// another. The index was built over the open file, which stays open.
     ///
-    /// `SectionTooLarge` comes exactly where one of these bodies has more bytes than the limit on sections,
-    /// unless `Memory` comes; it names the first such section of the dump, and nothing is read then. `Read`
-    /// comes only where the device's count of faults rose; `Memory` may come wherever memory is taken. At most
-    /// as many bytes are read as the bodies have together, also where they aren't loaded.
+    /// Returns `SectionTooLarge` exactly when one of these bodies has more bytes than the limit on a
+    /// section's body, unless it returns `Memory`; it names the first such section of the dump, and nothing
+    /// is read then. Returns `Read` only if the device's count of faults rose; `Memory` may come from any
+    /// allocation. At most as many bytes are read as the bodies have together, even if they aren't loaded.
     pub fn load<D: Dumps>(
         alloc: Global,
         dumps: &mut D,
@@ -44,12 +44,12 @@ impl Rows {
         kind: TableKind,
         limits: &Limits,
     ) -> Result<Rows, BodyFault>
-        requires { IsBuiltOver (D.now dumps.old) index.now }
-        ensures reads { ReadsAtMost (used D.files D.now D.faults D.taken dumps.old dumps.new) (bodies_length (listed kind (sections_in index.now))) }
-        ensures table { IfOk result (λ rows. (bytes : List ℕ) → D.now dumps.old ≡ told bytes → rows ≡ table_of kind bytes) }
+        requires { IsBuiltOver (D.state dumps.old).now index.now }
+        ensures reads { ReadsAtMost (D.state dumps.old) (D.state dumps.new) (bodies_length (listed kind (sections_in index.now))) }
+        ensures table { IfOk result (λ rows. (bytes : List ℕ) → (D.state dumps.old).now ≡ told bytes → rows ≡ table_of kind bytes) }
         ensures over { IfOk result (IsOver kind index.now) }
         ensures loaded { OnOk result (first_large limits.now.section (listed kind (sections_in index.now)) ≡ None) }
-        ensures fault { IfErr result (AreRefused (listed kind (sections_in index.now)) limits.now.section (used D.files D.now D.faults D.taken dumps.old dumps.new)) }
+        ensures fault { IfErr result (AreRefused (listed kind (sections_in index.now)) limits.now.section (D.state dumps.old) (D.state dumps.new)) }
         ensures unread { IsSome (first_large limits.now.section (listed kind (sections_in index.now))) → dumps.new ≡ dumps.old }
     {
         let Ok(found) = TableSections::find(alloc, index, kind) else {
@@ -58,11 +58,11 @@ impl Rows {
         Rows::read(alloc, dumps, index, found, limits)
     }
 
-    /// Reads the bodies of the sections of a table that were found in an index, one after another. The index is one that
-    /// was built over the file that is open, and the file stays open.
+    /// Reads the bodies of the sections of a table that were found in an index, one
+    /// after another. The index was built over the open file, which stays open.
     ///
-    /// It gives what [`Rows::load`] does, which finds the sections first. A caller that has more to judge on the index
-    /// finds them by [`TableSections::find`], and reads once it has judged.
+    /// Returns what [`Rows::load`] does, which finds the sections first. A caller that has more
+    /// to judge on the index finds them by [`TableSections::find`], and reads once it has judged.
     pub fn read<D: Dumps>(
         alloc: Global,
         dumps: &mut D,
@@ -70,13 +70,13 @@ impl Rows {
         found: TableSections,
         limits: &Limits,
     ) -> Result<Rows, BodyFault>
-        requires over { IsBuiltOver (D.now dumps.old) index.now }
+        requires over { IsBuiltOver (D.state dumps.old).now index.now }
         requires found { AreListed index.now found }
-        ensures reads { ReadsAtMost (used D.files D.now D.faults D.taken dumps.old dumps.new) (bodies_length (listed found.kind (sections_in index.now))) }
-        ensures table { IfOk result (λ rows. (bytes : List ℕ) → D.now dumps.old ≡ told bytes → rows ≡ table_of found.kind bytes) }
+        ensures reads { ReadsAtMost (D.state dumps.old) (D.state dumps.new) (bodies_length (listed found.kind (sections_in index.now))) }
+        ensures table { IfOk result (λ rows. (bytes : List ℕ) → (D.state dumps.old).now ≡ told bytes → rows ≡ table_of found.kind bytes) }
         ensures over { IfOk result (IsOver found.kind index.now) }
         ensures loaded { OnOk result (first_large limits.now.section (listed found.kind (sections_in index.now)) ≡ None) }
-        ensures fault { IfErr result (AreRefused (listed found.kind (sections_in index.now)) limits.now.section (used D.files D.now D.faults D.taken dumps.old dumps.new)) }
+        ensures fault { IfErr result (AreRefused (listed found.kind (sections_in index.now)) limits.now.section (D.state dumps.old) (D.state dumps.new)) }
         ensures unread { IsSome (first_large limits.now.section (listed found.kind (sections_in index.now))) → dumps.new ≡ dumps.old }
     {
         let (kind, places) = found.into_parts();
@@ -107,8 +107,8 @@ impl Rows {
         self.rows.at(i)
     }
 
-    /// The text of the row at a place in the column at a place, both from 0. `None` comes exactly where the
-    /// section has no such id or field.
+    /// The text in row `i` and column `c`, both from 0. Returns
+    /// `None` exactly when the section has no such id or field.
     pub fn cell(&self, i: usize, c: usize) -> Option<&[u8]>
         requires row { i < length self.now.rows }
         requires column { c < self.now.width }

@@ -10,7 +10,8 @@ use Rattle.term_forms.specs.Payload.{IsPayload}
 abbrev pub hex_cover : ℕ → ℕ → Cover
 hex_cover from count = record { first = 2 * from; chars = 2 * count; skip = 0; bytes = count }
 
--- base64: the groups of three bytes that hold the range, each by four characters; the payload's last group may lack bytes
+-- base64: the groups of three bytes that contain the range, four
+-- characters for each; the payload's last group may be short
 abbrev pub base64_cover : ℕ → ℕ → ℕ → Cover
 base64_cover size from count =
     let start = from / 3 in
@@ -22,12 +23,13 @@ abbrev pub range_cover : Enc → ℕ → ℕ → ℕ → Cover
 range_cover Hex size from count = hex_cover from count
 range_cover Base64 size from count = base64_cover size from count
 
--- the characters that write `count` bytes from the place `from` on, of a payload of `size` bytes; none where `count` is 0
+-- the characters that write `count` bytes from place `from`
+-- on, of a payload of `size` bytes; none if `count` is 0
 abbrev pub cover_of : Enc → ℕ → ℕ → ℕ → Cover
 cover_of enc size from count =
     if count == 0 then record { first = 0; chars = 0; skip = 0; bytes = 0 } else range_cover enc size from count
 
--- the characters of a cover are the payload of its bytes, in which the range stands behind those that are skipped
+-- the characters of a cover are the payload of its bytes, which are those that are skipped, then the range
 pub record IsCovered (enc : Enc) (cover : Cover) (chars bytes : List ℕ) (from count : ℕ) : Type 0 where
   pub within : cover.first + cover.chars ≤ length chars
   pub covered : List ℕ

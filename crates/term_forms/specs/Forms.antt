@@ -1,4 +1,4 @@
--- The forms of a heap's cells.
+-- The forms of heap cells.
 use Rattle.std.specs.Prelude.{◌≡◌, ◌⊎◌, ℕ, List, ◌∷◌, ◌++◌, length, Some, IsTrue, codes}
 use Rattle.dump_io.specs.Numbers.{hex_number, hexadecimal}
 use Rattle.term_forms.specs.declared.enc.Enc.{Enc}
@@ -7,7 +7,7 @@ use Rattle.term_forms.specs.Elements.{Element, IsElem, plain_elem}
 use Rattle.term_forms.specs.Joined.{IsJoined, plain_joined}
 use Rattle.term_forms.specs.Payload.{IsPayloadOf}
 
--- a form without where it lies in memory
+-- a form, regardless of where it lies in memory
 pub data HeapForm : Type 0 where
   Cons : Element → Element → HeapForm
   Tuple : List Element → HeapForm
@@ -33,39 +33,39 @@ abbrev pub IsForm : Enc → List ℕ → HeapForm → Type 0
 -- `l`, an element, `|`, an element
 IsForm enc text (Cons head tail) =
     (first : List ℕ) × (rest : List ℕ) × (text ≡ codes "l" ++ (first ++ bar ∷ rest)) × IsElem first head × IsElem rest tail
--- `t`, a hex arity, `:`, so many elements joined by `,`
+-- `t`, a hex arity, `:`, that many elements joined by `,`
 IsForm enc text (Tuple elements) =
     (led : List ℕ) × (rest : List ℕ) × (text ≡ codes "t" ++ led) × IsLed led (length elements) rest × IsJoined rest elements
--- `F`, a hex length, `:`, exactly so many bytes
+-- `F`, a hex length, `:`, exactly that many bytes
 IsForm enc text (Float bytes) = (led : List ℕ) × (text ≡ codes "F" ++ led) × IsLed led (length bytes) bytes
--- `B`, an optional minus, and digits or `16#` and hex digits
+-- `B`, an optional minus, and either digits, or `16#` and hex digits
 IsForm enc text (Long number) = (text ≡ codes "B" ++ number) × IsTrue (is_long number)
 -- `P<`, one or more of `0` to `9` and `.`, `>`
 IsForm enc text (Pid pid) = (text ≡ codes "P" ++ pid) × IsBracketed pid
--- the same behind `p` or `p#Port`
+-- the same after `p` or `p#Port`
 IsForm enc text (Port port) = ((text ≡ codes "p" ++ port) ⊎ (text ≡ codes "p#Port" ++ port)) × IsBracketed port
--- `E`, a hex length, `:`, the payload of so many bytes
+-- `E`, a hex length, `:`, the payload of that many bytes
 IsForm enc text (Ext size chars) = (led : List ℕ) × (text ≡ codes "E" ++ led) × IsLed led size chars × IsPayloadOf enc chars size
--- `Yh`, a hex length, `:`, the payload of so many bytes
+-- `Yh`, a hex length, `:`, the payload of that many bytes
 IsForm enc text (HeapBin size chars) =
     (led : List ℕ) × (text ≡ codes "Yh" ++ led) × IsLed led size chars × IsPayloadOf enc chars size
 -- `Yc`, a hex address, `:`, a hex offset, `:`, a hex size
 IsForm enc text (RefBin address offset size) = (range : List ℕ) × (text ≡ codes "Yc" ++ range) × IsRange range address offset size
--- the same behind `Ys`
+-- the same after `Ys`
 IsForm enc text (SubBin address offset size) = (range : List ℕ) × (text ≡ codes "Ys" ++ range) × IsRange range address offset size
--- `Mf`, a hex size, `:`, the keys element, `:`, so many values joined by `,`
+-- `Mf`, a hex size, `:`, the keys element, `:`, that many values joined by `,`
 IsForm enc text (Flat keys values) =
     (led : List ℕ) × (first : List ℕ) × (rest : List ℕ) × (text ≡ codes "Mf" ++ led)
     × IsLed led (length values) (first ++ colon ∷ rest) × IsElem first keys × IsJoined rest values
--- `Mh`, a hex size, `:`, a hex count, `:`, so many children joined by `,`
+-- `Mh`, a hex size, `:`, a hex count, `:`, as many children as the count says, joined by `,`
 IsForm enc text (Hash size children) =
     (led : List ℕ) × (counted : List ℕ) × (rest : List ℕ) × (text ≡ codes "Mh" ++ led)
     × IsLed led size counted × IsLed counted (length children) rest × IsJoined rest children
--- `Mn`, a hex count, `:`, so many children joined by `,`
+-- `Mn`, a hex count, `:`, that many children joined by `,`
 IsForm enc text (Node children) =
     (led : List ℕ) × (rest : List ℕ) × (text ≡ codes "Mn" ++ led) × IsLed led (length children) rest × IsJoined rest children
 
--- the plain spelling: numbers without leading zeros, ports as `p<..>`, and all that is kept as it is
+-- the plain spelling: numbers without leading zeros, ports as `p<..>`, and everything that is kept as it is
 abbrev pub plain_form : HeapForm → List ℕ
 plain_form (Cons head tail) = codes "l" ++ (plain_elem head ++ bar ∷ plain_elem tail)
 plain_form (Tuple elements) = codes "t" ++ (hexadecimal (length elements) ++ colon ∷ plain_joined elements)

@@ -1,4 +1,4 @@
--- What only private functions and proofs cite. It says how the readers go, and nobody has to believe it.
+-- What only private functions and proofs cite: how the readers proceed. Nobody has to believe it.
 pub mod Chain
 pub mod Decoding
 pub mod FormParts

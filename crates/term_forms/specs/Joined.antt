@@ -3,7 +3,7 @@ use Rattle.std.specs.Prelude.{◌≡◌, ℕ, List, [], ◌∷◌, ◌++◌}
 use Rattle.term_forms.specs.Words.{comma}
 use Rattle.term_forms.specs.Elements.{Element, IsElem, plain_elem}
 
--- the text is the spellings of the elements, joined by commas; where there are none it is empty
+-- the text is the spellings of the elements, joined by commas; if there are none, it is empty
 abbrev pub IsJoined : List ℕ → List Element → Type 0
 IsJoined text [] = text ≡ []
 IsJoined text (e ∷ []) = IsElem text e

@@ -26,7 +26,7 @@ pub record Placed : Type 0 where
   pub at : ℕ
   pub element : Element
 
--- what is read of the text from that place on begins with this element
+-- the text from that place on begins with this element when it is read
 pub record StandsAt (text : List ℕ) (placed : Placed) : Type 0 where
   pub within : placed.at < length text
   pub len : ℕ

@@ -1,5 +1,6 @@
--- The element that a text gives, as functions with which the definitions of the crates above compute. They say no more
--- than `Elements` does: the laws `front_is_longest` and `whole_is_read` join the two. `led_of` stands in `Words`.
+-- The element that a text spells, as functions with which the definitions of the
+-- crates above compute. They say no more than `Elements` does: the laws
+-- `front_is_longest` and `whole_is_read` connect the two. `led_of` is in `Words`.
 use Rattle.std.specs.Prelude.{ℕ, ◌==◌, List, [], ◌∷◌, length, codes, Option, None, Some, option_and_then, if◌then◌else◌}
 pub use Rattle.term_forms.specs.Words.{led_of}
 use Rattle.term_forms.specs.Words.{letter}

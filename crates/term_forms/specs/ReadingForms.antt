@@ -1,5 +1,5 @@
--- The form that a text gives, as a function with which the definitions of the crates above compute. It says no more than
--- `Forms` does: the law `form_is_read` joins the two.
+-- The form that a text spells, as a function with which the definitions of the crates above
+-- compute. It says no more than `Forms` does: the law `form_is_read` connects the two.
 use Rattle.std.specs.Prelude.{ℕ, ◌==◌, List, [], ◌∷◌, codes, Option, None, Some, if◌then◌else◌}
 use Rattle.term_forms.specs.declared.enc.Enc.{Enc}
 use Rattle.term_forms.specs.Words.{is_long, letter}

@@ -1,4 +1,4 @@
--- What contracts see of elements and forms: their values, without where they lie in memory.
+-- What contracts see of elements and forms: their values, regardless of where they lie in memory.
 use Rattle.std.specs.Prelude.{ℕ, List}
 use Rattle.std.specs.Borrow.{Bor}
 use Rattle.term_forms.specs.Elements.{Element, Nil, Small, Atom, Pid, Port, Ref}
@@ -14,14 +14,14 @@ element (elem.Pid pid) = Pid pid.now
 element (elem.Port port) = Port port.now
 element (elem.Ref address) = Ref address
 
--- the value of an element beside a length
+-- the value of an element, with a length
 abbrev pub element_len : Elem × ℕ → Element × ℕ
 element_len found = (element found.0, found.1)
 
--- the value of an element beside a text
+-- the value of an element, with a text
 abbrev pub element_rest : Elem × Bor (List ℕ) → Element × List ℕ
 element_rest found = (element found.0, found.1.now)
 
--- a number beside a text
+-- a number, with a text
 abbrev pub number_rest : ℕ × Bor (List ℕ) → ℕ × List ℕ
 number_rest found = (found.0, found.1.now)

@@ -1,4 +1,4 @@
--- What contracts see of a form: its value, without where it lies in memory.
+-- What contracts see of a form: its value, regardless of where it lies in memory.
 use Rattle.term_forms.specs.Forms.{HeapForm, Cons, Tuple, Float, Long, Pid, Port, Ext, HeapBin, RefBin, SubBin, Flat, Hash, Node}
 use Rattle.term_forms.specs.Seen.{element}
 use Rattle.term_forms.specs.declared.shapes.Form.{Form}

@@ -1,4 +1,4 @@
--- The words that elements and forms are made of.
+-- The words of which elements and forms are made.
 use Rattle.std.specs.Prelude.{◌≡◌, ℕ, ◌<◌, ◌==◌, Bool, false, ◌&&◌, ◌||◌, List, [], ◌∷◌, ◌++◌, length, drop, Option, None, Some, option_and_then, nat_eq, nat_lt, IsTrue, if◌then◌else◌}
 use Rattle.std.specs.List.{list_all, starts_with}
 use Rattle.std.specs.Char.{digit_value, is_ascii_digit}
@@ -6,7 +6,7 @@ use Rattle.dump_io.specs.Colons.{has_colon, before_colon, after_colon}
 use Rattle.dump_io.specs.Numbers.{hex_number}
 pub use Rattle.dump_io.specs.Colons.{colon}
 
--- the byte that a text of one letter has
+-- the byte of a text of one letter
 abbrev pub letter : List ℕ → ℕ
 letter [] = 0
 letter (c ∷ text) = c
@@ -48,7 +48,7 @@ abbrev pub is_integer : List ℕ → Bool
 is_integer [] = false
 is_integer (c ∷ text) = if c == minus then is_digits text else is_digits (c ∷ text)
 
--- a byte of a pid's or a port's number
+-- a byte of the number of a pid or a port
 abbrev pub is_dotted : ℕ → Bool
 is_dotted c = is_ascii_digit c || c == dot
 
@@ -61,8 +61,8 @@ IsBracketed text =
 abbrev pub IsLed : List ℕ → ℕ → List ℕ → Type 0
 IsLed text n rest = (hex : List ℕ) × (hex_number hex ≡ Some n) × (text ≡ hex ++ colon ∷ rest)
 
--- the same as a function: the number before the first colon and what follows that colon, where the text has a colon and
--- such a number stands before it; the law `number_is_read` joins the two
+-- the same as a function: the number before the first colon and what follows that colon, if the
+-- text has a colon and such a number stands before it; the law `number_is_read` connects the two
 unfoldable pub led_of : List ℕ → Option (ℕ × List ℕ)
 led_of text = if has_colon text then option_and_then (λ n. Some (n, after_colon text)) (hex_number (before_colon text)) else None
 

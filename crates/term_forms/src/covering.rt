@@ -37,7 +37,7 @@ fn base64_cover(size: u64, from: u64, count: u32) -> Cover
     }
 }
 
-// What `cover` gives, at each place that a payload in memory can have.
+// What `cover` returns, for each place that a payload in memory can have.
 fn range_cover(enc: Enc, size: u64, from: u64, count: u32) -> Cover
     requires few { count ≤ 32 }
     requires within { from + count ≤ size }
@@ -61,13 +61,14 @@ fn range_cover(enc: Enc, size: u64, from: u64, count: u32) -> Cover
     }
 }
 
-/// The characters that write the `count` bytes from the place `from` on, of a payload of `size` bytes. They are whole
-/// groups, so some of the bytes that they write may come before the range or after it. All four numbers are 0 where
-/// `count` is 0.
+/// The characters that write the `count` bytes from place `from` on of a payload
+/// of `size` bytes. They are whole groups, so some of the bytes that they write
+/// may come before the range or after it. If `count` is 0, all four numbers are 0.
 ///
-/// A preview shows 32 bytes at most, so `count` is at most 32: then the characters are at most 64, and the bytes that
-/// they write at most 36, so that a buffer of fixed size takes them. `from` is at most 2^60, far behind the end of the
-/// largest dump, so that no place of a character overflows: there are two of them for a byte.
+/// A preview shows at most 32 bytes, so `count` is at most 32: then there are at most
+/// 64 characters, which write at most 36 bytes, so that a buffer of fixed size holds
+/// them. `from` is at most 2^60, far beyond the end of the largest dump, so that no
+/// place of a character overflows: there are at most two characters for each byte.
 pub fn cover(enc: Enc, size: u64, from: u64, count: u32) -> Cover
     requires few { count ≤ 32 }
     requires within { from + count ≤ size }
@@ -80,8 +81,8 @@ pub fn cover(enc: Enc, size: u64, from: u64, count: u32) -> Cover
     range_cover(enc, size, from, count)
 }
 
-/// The law of what a cover is for: of a payload, its characters alone are the payload of some bytes, and these hold the
-/// bytes of the range.
+/// The law that says what a cover is for: in any payload, the characters of the cover
+/// are themselves the payload of some bytes, and these contain the bytes of the range.
 pub fn cover_holds_range(enc: Enc)
     ensures { (chars bytes : List ℕ) (from count : ℕ)
         → IsPayload enc chars bytes → from + count ≤ length bytes
@@ -95,7 +96,7 @@ fn part(text: &[u8], from: usize, count: usize) -> &[u8]
     &text[from..][..count]
 }
 
-// No slice of bytes has 2^63 of them.
+// No slice has 2^63 bytes.
 fn byte_count(text: &[u8]) -> usize
     ensures count { result ≡ length text.now }
     ensures few { result < 2 ^ 63 }
@@ -103,7 +104,7 @@ fn byte_count(text: &[u8]) -> usize
     text.len()
 }
 
-// Whether the characters of the cover are read, which then stand for the bytes of the cover.
+// Whether the characters of the cover can be decoded; if so, `into` holds the bytes of the cover.
 fn read_cover(chars: &[u8], enc: Enc, cover: &Cover, into: &mut [u8]) -> bool
     requires within { cover.now.first + cover.now.chars ≤ length chars.now }
     ensures found { IsTrue result ↔ IsPayloadOf enc (take cover.now.chars (drop cover.now.first chars.now)) (length into.old) }
@@ -116,15 +117,16 @@ fn read_cover(chars: &[u8], enc: Enc, cover: &Cover, into: &mut [u8]) -> bool
     )
 }
 
-/// Reads the bytes of a payload from the place `from` on, as many as `into` has, from the characters that cover them
-/// alone. The characters are the whole payload of `size` bytes, as those of a heap's binary or external term are.
+/// Reads the bytes of a payload from place `from` on, as many as `into` holds,
+/// from only the characters that cover them. The characters are the whole
+/// payload of `size` bytes, as those of a heap binary or an external term are.
 pub fn payload_part(chars: &[u8], enc: Enc, size: u64, from: u64, into: &mut [u8])
     requires whole { IsPayloadOf enc chars.now size }
     requires few { length into.old ≤ 32 }
     requires within { from + length into.old ≤ size }
-    // Whatever bytes the characters are the payload of, these are those of the range.
+    // Whatever bytes the characters are the payload of, the bytes read are those of the range.
     ensures part { (bytes : List ℕ) → IsPayload enc chars.now bytes → into.new ≡ take (length into.old) (drop from bytes) }
-    // The same, as the function with which definitions compute.
+    // The same, by the function with which definitions compute.
     ensures exact { option_map (λ bytes. take (length into.old) (drop from bytes)) (payload_bytes enc chars.now) ≡ Some into.new }
 {
     let _few = byte_count(chars);

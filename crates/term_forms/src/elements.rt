@@ -61,7 +61,7 @@ fn reference(text: &[u8]) -> Option<(Elem<'_>, usize)>
     Some((Elem::Ref(hex_u64(&text[..n])?), n + 1))
 }
 
-// The element whose first byte is the tag, and its length with the tag.
+// The element whose first byte is the tag, and its length including the tag.
 #[tactic(auto, unfolding(crate::specs::Reading::front))]
 fn tagged(tag: u8, text: &[u8]) -> Option<(Elem<'_>, usize)>
     ensures exact { option_map element_len result ≡ front (tag ∷ text.now) }
@@ -87,14 +87,14 @@ fn front_elem(text: &[u8]) -> Option<(Elem<'_>, usize)>
     tagged(*tag, rest)
 }
 
-/// The longest prefix of the text that spells an element, as that element and the prefix's length in
-/// bytes. None where no prefix spells one.
+/// The longest prefix of the text that spells an element: that element, and
+/// the prefix's length in bytes. Returns `None` if no prefix spells one.
 pub fn elem(text: &[u8]) -> Option<(Elem<'_>, usize)>
     // What is found is the longest prefix that spells an element.
     ensures found { IfSome result (λ found. IsFront text.now (element found.0) found.1) }
-    // Nothing is found only where no prefix spells one.
+    // Nothing is found only if no prefix spells an element.
     ensures none { IfNone result ((n : ℕ) (e : Element) → IsElem (take n text.now) e → ⊥) }
-    // The same, as the function with which definitions compute.
+    // The same, by the function with which definitions compute.
     ensures exact { option_map element_len result ≡ front text.now }
     ensures within { IfSome result (λ found. found.1 ≤ length text.now) }
 {

@@ -19,13 +19,13 @@ pub(crate) fn read_whole(text: &[u8]) -> Option<Elem<'_>>
     if len == text.len() { Some(e) } else { None }
 }
 
-/// The element that the whole text spells. None where it spells none.
+/// The element that the whole text spells. Returns `None` if it spells none.
 pub fn whole_elem(text: &[u8]) -> Option<Elem<'_>>
     // What is found is an element that the text spells.
     ensures found { IfSome result (λ e. IsElem text.now (element e)) }
-    // Nothing is found only where the text spells no element.
+    // Nothing is found only if the text spells no element.
     ensures none { IfNone result ((e : Element) → IsElem text.now e → ⊥) }
-    // The same, as the function with which definitions compute.
+    // The same, by the function with which definitions compute.
     ensures exact { option_map element result ≡ whole_of text.now }
 {
     read_whole(text)
@@ -39,7 +39,7 @@ fn behind(stop: u8, text: &[u8]) -> Option<&[u8]>
     if *first == stop { Some(rest) } else { None }
 }
 
-// The element that begins the text, and what stands behind the byte that follows it.
+// The element that begins the text, and what stands after the stop byte, which follows it.
 #[tactic(auto, unfolding(crate::specs::Inner::Joins::until_of))]
 pub(crate) fn elem_until(text: &[u8], stop: u8) -> Option<(Elem<'_>, &[u8])>
     ensures { option_map element_rest result ≡ until_of stop text.now }
@@ -55,7 +55,7 @@ fn end_of(text: &[u8]) -> &[u8]
     &text[text.len()..]
 }
 
-// The first of so many elements, and the text of the others.
+// The first of `count` elements, and the text of the others.
 fn split_elem(count: u64, text: &[u8]) -> Option<(Elem<'_>, &[u8])>
     requires { 0 < count }
     ensures { joined_of count text.now ≡ with_first (count - 1) (option_map element_rest result) }
@@ -68,7 +68,7 @@ fn split_elem(count: u64, text: &[u8]) -> Option<(Elem<'_>, &[u8])>
     }
 }
 
-// Whether the text spells so many elements, which isn't judged where that is known.
+// Whether the text spells `count` elements, which isn't checked if `spelled` says that it is known.
 fn are_joined(count: u64, text: &[u8], spelled: bool) -> bool
     requires { spelled ≡ true → IsSome (joined_of count text.now) }
     ensures { result ≡ is_some (joined_of count text.now) }
@@ -88,8 +88,8 @@ fn are_joined(count: u64, text: &[u8], spelled: bool) -> bool
     rest.is_empty()
 }
 
-/// An iterator over the elements that a text spells, joined by commas. Contracts see it as the list of the
-/// elements that are left.
+/// An iterator over the elements that a text spells, joined by commas.
+/// Contracts see it as the list of the elements that are left.
 #[derive(Debug, Drop)]
 pub struct Elems<'a> {
     text: &'a [u8],
@@ -105,7 +105,7 @@ impl<'a> Model for Elems<'a> {
 }
 
 impl<'a> Elems<'a> {
-    // So many elements, where the whole text spells them.
+    // The `count` elements, if the whole text spells them.
     pub(crate) fn new(count: u64, text: &'a [u8], spelled: bool) -> Option<Elems<'a>>
         requires { spelled ≡ true → IsSome (joined_of count text.now) }
         ensures { result ≡ joined_of count text.now }
@@ -117,7 +117,7 @@ impl<'a> Elems<'a> {
         }
     }
 
-    /// How many elements are left. They are fewer than the bytes that a text can have.
+    /// How many elements are left: fewer than the most bytes that a text can have.
     pub fn left(&self) -> u64
         ensures count { result ≡ length self.now }
         ensures few { result < 2 ^ 63 }

@@ -24,7 +24,7 @@ fn list(text: &[u8]) -> Option<Form<'_>>
     Some(Form::List(head, tail))
 }
 
-// A number, and so many elements.
+// A number, and that many elements.
 #[tactic(auto, unfolding(crate::specs::Inner::FormParts::counted_of))]
 fn counted(text: &[u8], spelled: bool) -> Option<Elems<'_>>
     requires { spelled ≡ true → IsSome (counted_of text.now) }
@@ -46,7 +46,7 @@ fn float(text: &[u8]) -> Option<Form<'_>>
     }
 }
 
-// The whole text, where it is a bracketed number.
+// The whole text, if it is a bracketed number.
 #[tactic(auto, unfolding(crate::specs::Inner::FormParts::bracketed_of))]
 fn bracketed(text: &[u8]) -> Option<&[u8]>
     ensures { option_copied result ≡ bracketed_of text.now }
@@ -64,7 +64,8 @@ fn port(text: &[u8]) -> Option<Form<'_>>
     Some(Form::Port(number))
 }
 
-// Whether the characters are the payload of so many bytes, which isn't judged where that is known.
+// Whether the characters are the payload of `size` bytes,
+// which isn't checked if `spelled` says that it is known.
 fn has_payload(chars: &[u8], enc: Enc, size: u64, spelled: bool) -> bool
     requires { spelled ≡ true → payload_test enc size chars.now ≡ true }
     ensures { result ≡ payload_test enc size chars.now }
@@ -72,7 +73,7 @@ fn has_payload(chars: &[u8], enc: Enc, size: u64, spelled: bool) -> bool
     spelled || judge_payload(chars, enc, size)
 }
 
-// A length, and the characters of so many bytes.
+// A length, and the characters of that many bytes.
 #[tactic(auto, unfolding(crate::specs::Inner::FormParts::payload_of))]
 fn sized(text: &[u8], enc: Enc, spelled: bool) -> Option<(u64, &[u8])>
     requires { spelled ≡ true → IsSome (payload_of enc text.now) }
@@ -158,7 +159,7 @@ fn map(text: &[u8], spelled: bool) -> Option<Form<'_>>
     }
 }
 
-// The form of a text, whose elements and payload aren't judged where it is known to spell one.
+// The form of a text. If the text is known to spell one, its elements and payload aren't checked.
 #[tactic(auto, unfolding(crate::specs::ReadingForms::form_of))]
 fn read_form(text: &[u8], enc: Enc, spelled: bool) -> Option<Form<'_>>
     requires { spelled ≡ true → IsSome (form_of enc text.now) }
@@ -188,20 +189,20 @@ fn read_form(text: &[u8], enc: Enc, spelled: bool) -> Option<Form<'_>>
     }
 }
 
-/// The form that the whole text spells, with payloads in the encoding. None where it spells no form.
+/// The form that the whole text spells, with payloads in the encoding. Returns `None` if it spells no form.
 pub fn form(text: &[u8], enc: Enc) -> Option<Form<'_>>
     // What is found is a form that the text spells.
     ensures found { IfSome result (λ f. IsForm enc text.now (heap_form f)) }
-    // Nothing is found only where the text spells no form.
+    // Nothing is found only if the text spells no form.
     ensures none { IfNone result ((f : HeapForm) → IsForm enc text.now f → ⊥) }
-    // The same, as the function with which definitions compute.
+    // The same, by the function with which definitions compute.
     ensures exact { option_map heap_form result ≡ form_of enc text.now }
 {
     read_form(text, enc, false)
 }
 
-/// The form of a text that is known to spell one, with payloads in the encoding. The text is only split: its elements
-/// and the characters of its payload were judged when that became known, and aren't judged again.
+/// The form of a text that is known to spell one, with payloads in the encoding. The text is only split: its
+/// elements and the characters of its payload were checked when that became known, and aren't checked again.
 pub fn spelled_form(text: &[u8], enc: Enc) -> Form<'_>
     requires { IsSome (form_of enc text.now) }
     ensures form { Some (heap_form result) ≡ form_of enc text.now }

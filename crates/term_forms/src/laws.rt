@@ -8,19 +8,20 @@ ghost use Rattle.term_forms.specs.ReadingForms.{form_of};
 
 use crate::enc::Enc;
 
-/// A text spells one element at most.
+/// A text spells at most one element.
 pub fn unique_reading_of_elements()
     ensures { (text : List ℕ) (one other : Element) → IsElem text one → IsElem text other → one ≡ other }
 {}
 
-/// An element that a text spells is also spelled by its plain spelling, as which it is read again.
+/// If a text spells an element, the plain spelling of that
+/// element spells it too, and is read as that element again.
 pub fn plain_spelling_of_elements()
     ensures spells { (text : List ℕ) (e : Element) → IsElem text e → IsElem (plain_elem e) e }
     ensures again { (text : List ℕ) (e : Element) → IsElem text e → front (plain_elem e) ≡ Some (e, length (plain_elem e)) }
 {}
 
-/// Where an element's spelling is followed by `|`, `,` or `:`, or by nothing, it is the longest prefix
-/// that spells an element.
+/// If an element's spelling is followed by `|`, `,` or `:`, or
+/// by nothing, it is the longest prefix that spells an element.
 pub fn front_of_element()
     ensures { (text rest : List ℕ) (e : Element) → IsElem text e → EndsElement rest → IsFront (text ++ rest) e (length text) }
 {}
@@ -37,13 +38,13 @@ pub fn whole_is_read()
     ensures none { (text : List ℕ) → (whole_of text ≡ None) ↔ ((e : Element) → IsElem text e → ⊥) }
 {}
 
-/// Under one encoding a text spells one form at most.
+/// Under one encoding a text spells at most one form.
 pub fn unique_reading_of_forms(enc: Enc)
     ensures { (text : List ℕ) (one other : HeapForm) → IsForm enc text one → IsForm enc text other → one ≡ other }
 {}
 
-/// A form that a text spells under an encoding is spelled under it by its plain spelling too, as which it is
-/// read again.
+/// If a text spells a form under an encoding, the plain spelling of that
+/// form spells it too under that encoding, and is read as that form again.
 pub fn plain_spelling_of_forms(enc: Enc)
     ensures spells { (text : List ℕ) (f : HeapForm) → IsForm enc text f → IsForm enc (plain_form f) f }
     ensures again { (text : List ℕ) (f : HeapForm) → IsForm enc text f → form_of enc (plain_form f) ≡ Some f }
@@ -55,7 +56,7 @@ pub fn form_is_read(enc: Enc)
     ensures none { (text : List ℕ) → (form_of enc text ≡ None) ↔ ((f : HeapForm) → IsForm enc text f → ⊥) }
 {}
 
-/// What `led_of` computes is the number that leads the text and what stands behind its colon.
+/// What `led_of` computes is the number that leads the text and what stands after its colon.
 pub fn number_is_read()
     ensures { (text : List ℕ) (n : ℕ) (rest : List ℕ) → (led_of text ≡ Some (n, rest)) ↔ IsLed text n rest }
 {}

@@ -1,5 +1,5 @@
-//! The elements and the heap forms of a crash dump's text, read and written, and the payloads of binaries, in both
-//! encodings.
+//! The elements and heap forms of a crash dump's text, read and
+//! written, and the payloads of binaries, in both encodings.
 //!
 //! ```
 //! let (address, text) = heap_line(b"7F10:t2:A2:ok,H20")?; // 0x7F10, and the text of a form
@@ -13,8 +13,8 @@
 //! }
 //! ```
 //!
-//! The types `Elem`, `Form` and `Cover` stand in [`shapes`], and the functions `elem`, `form` and `cover`, which have
-//! their names, in [`reading`]. What the grammar is stands in `specs/Elements.antt` and `specs/Forms.antt`.
+//! The types `Elem`, `Form` and `Cover` are in [`shapes`], and the functions `elem`, `form` and `cover`,
+//! which share their names, in [`reading`]. The grammar is in `specs/Elements.antt` and `specs/Forms.antt`.
 #![tactic(auto)]
 
 mod covering;

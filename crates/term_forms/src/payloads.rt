@@ -7,7 +7,7 @@ ghost use Rattle.term_forms.specs.Inner.PayloadTest.{payload_test};
 use crate::enc::Enc;
 use base64::engine::general_purpose::STANDARD;
 
-// How many bytes are read at once: a whole number of groups, and few enough to be kept on the stack.
+// How many bytes are decoded at once: a whole number of groups, and few enough to be kept on the stack.
 const PIECE: usize = 768;
 
 fn hex_payload(chars: &[u8], into: &mut [u8]) -> bool
@@ -27,8 +27,8 @@ fn base64_payload(chars: &[u8], into: &mut [u8]) -> bool
     }
 }
 
-/// Whether the characters are the payload of exactly `into.len()` bytes, which `into` then holds. At `false` it may
-/// hold anything.
+/// Decodes `chars` into `into`, if they are the payload of exactly `into.len()`
+/// bytes. Returns `false` if they aren't; `into` may hold anything then.
 pub fn payload(chars: &[u8], enc: Enc, into: &mut [u8]) -> bool
     ensures found { IsTrue result ↔ IsPayloadOf enc chars.now (length into.old) }
     ensures bytes { IsTrue result → IsPayload enc chars.now into.new }
@@ -77,15 +77,16 @@ pub fn is_payload(chars: &[u8], enc: Enc, size: u64) -> bool
     judge_payload(chars, enc, size)
 }
 
-/// The law by which a payload is read in pieces: the encoding of bytes is the encoding of a front of whole groups,
-/// followed by the encoding of the rest. In hex a group is one byte, and in base64 three.
+/// The law by which a payload is read in pieces: the encoding of bytes is the encoding of a prefix of
+/// whole groups, followed by the encoding of the rest. A group is one byte in hex, and three in base64.
 pub fn encoding_in_pieces(enc: Enc)
     ensures pieces { (front rest : List ℕ) → length front % group_of enc ≡ 0
         → encoding enc (front ++ rest) ≡ encoding enc front ++ encoding enc rest }
     ensures length { (bytes : List ℕ) → length (encoding enc bytes) ≡ chars_of enc (length bytes) }
 {}
 
-/// The law that characters are the payload of one list of bytes at most, whose number gives theirs.
+/// The law that characters are the payload of at most one list of
+/// bytes, whose length determines how many characters there are.
 pub fn payload_is_of_one(enc: Enc)
     ensures bytes { (chars one other : List ℕ)
         → IsPayload enc chars one → IsPayload enc chars other → one ≡ other }
@@ -93,7 +94,7 @@ pub fn payload_is_of_one(enc: Enc)
         → IsPayload enc chars bytes → length chars ≡ chars_of enc (length bytes) }
 {}
 
-/// What `payload_bytes` computes is the bytes of a payload, and nothing where the characters are none.
+/// What `payload_bytes` computes is the bytes of a payload, and nothing if the characters are none.
 pub fn payload_bytes_are_read(enc: Enc)
     ensures { (chars bytes : List ℕ) → (payload_bytes enc chars ≡ Some bytes) ↔ IsPayload enc chars bytes }
 {}

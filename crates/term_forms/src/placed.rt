@@ -16,7 +16,8 @@ use crate::shapes::{Form, PlacedElem};
 use crate::words::split_number;
 use std::marker::Model;
 
-/// An iterator over the elements of a form, each with its place. Contracts see it as the list of those that are left.
+/// An iterator over the elements of a form, each with its
+/// place. Contracts see it as the list of those that are left.
 #[derive(Debug, Drop)]
 pub struct PlacedElems<'a> {
     size: usize,
@@ -39,7 +40,7 @@ fn text_from(text: &[u8], from: usize) -> &[u8]
     &text[from..]
 }
 
-// What stands behind so many bytes and one more.
+// What stands after `len` bytes and one more.
 fn behind_byte(text: &[u8], len: usize) -> &[u8]
     requires { len ≤ length text.now }
     ensures { result.now ≡ drop (len + 1) text.now }
@@ -70,7 +71,7 @@ impl<'a> Iterator for PlacedElems<'a> {
     }
 }
 
-// So many elements from a place on.
+// The `left` elements from a place on.
 fn placed_from(text: &[u8], from: usize, left: u64) -> PlacedElems<'_>
     requires { from ≤ length text.now }
     ensures list { result ≡ placed_list (length text.now) left (drop from text.now) }
@@ -83,7 +84,7 @@ fn placed_from(text: &[u8], from: usize, left: u64) -> PlacedElems<'_>
     }
 }
 
-// The place behind the number that stands at a place, and behind its colon.
+// The place after the number that stands at a place and after its colon.
 fn past_number(text: &[u8], from: usize) -> usize
     requires { from ≤ length text.now }
     ensures place { result ≡ past_number text.now from }
@@ -114,9 +115,10 @@ fn placed_elements<'a>(text: &'a [u8], enc: Enc, form: &Form<'a>) -> PlacedElems
     }
 }
 
-/// The form that the whole text spells, as [`form`](crate::reading::form) gives it, and its elements in order, each
-/// with the place of its spelling in the text: what [`elem`](crate::reading::elem) reads of the text from there on is
-/// that element. The keys element of a flat map comes before its values. None where the text spells no form.
+/// The form that the whole text spells, as [`form`](crate::reading::form) returns it,
+/// and its elements in order, each with the place of its spelling in the text: from
+/// there on, [`elem`](crate::reading::elem) reads that element. The keys element of a
+/// flat map comes before its values. Returns `None` if the text spells no form.
 pub fn placed_form(text: &[u8], enc: Enc) -> Option<(Form<'_>, PlacedElems<'_>)>
     // What is found is a form that the text spells.
     ensures found { IfSome result (λ found. IsForm enc text.now (heap_form found.0)) }

@@ -1,4 +1,4 @@
-//! The functions that have the names of the types of [`shapes`](crate::shapes).
+//! The functions that share their names with the types of [`shapes`](crate::shapes).
 
 pub use crate::covering::cover;
 pub use crate::elements::elem;

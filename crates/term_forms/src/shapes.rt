@@ -1,9 +1,9 @@
-//! The types that have the names of the functions of [`reading`](crate::reading).
+//! The types that share their names with the functions of [`reading`](crate::reading).
 
 pub use crate::covers::Cover;
 use crate::elems::Elems;
 
-/// An element of a dump's text. The slices are parts of the text read.
+/// An element of a dump's text. The slices are parts of the text that was read.
 #[derive(Clone, Copy, Debug, PartialEq, Eq)]
 pub enum Elem<'a> {
     /// The empty list.
@@ -20,16 +20,16 @@ pub enum Elem<'a> {
     Ref(u64),
 }
 
-/// The form of a heap's cell. The slices are parts of the text read, and lengths are in bytes.
+/// The form of a heap cell. The slices are parts of the text that was read, and lengths are in bytes.
 #[derive(Debug, Drop)]
 pub enum Form<'a> {
-    /// A list cell: its head and its tail.
+    /// A cons cell: its head and its tail.
     List(Elem<'a>, Elem<'a>),
     /// A tuple: its elements.
     Tuple(Elems<'a>),
     /// A float: its text.
     Float(&'a [u8]),
-    /// A big integer: its text, in decimal or behind `16#` in hex.
+    /// A big integer: its text, in decimal, or in hex after `16#`.
     Long(&'a [u8]),
     /// A pid of another node, from `<` to `>`.
     Pid(&'a [u8]),
@@ -37,13 +37,13 @@ pub enum Form<'a> {
     Port(&'a [u8]),
     /// An external term: its length, and the characters that write its bytes.
     Ext(u64, &'a [u8]),
-    /// A binary on the heap: its length, and the characters that write its bytes.
+    /// A heap binary: its length, and the characters that write its bytes.
     HeapBin(u64, &'a [u8]),
-    /// A reference to a binary: the binary's address, the offset in it and the size.
+    /// A reference to a reference-counted binary: the binary's address, the offset in it and the size.
     RefBin(u64, u64, u64),
-    /// A part of a binary: the binary's address, the offset in it and the size.
+    /// A sub binary: the address of the binary that it is a part of, the offset in it and the size.
     SubBin(u64, u64, u64),
-    /// A flat map: the element of the keys' tuple, and the values.
+    /// A flat map: the element that leads to the tuple of its keys, and the values.
     Flat(Elem<'a>, Elems<'a>),
     /// The root of a hash map: its stated size, and its children.
     Hash(u64, Elems<'a>),
@@ -54,7 +54,7 @@ pub enum Form<'a> {
 /// An element of a form, and where its spelling begins.
 #[derive(Clone, Copy, Debug, PartialEq, Eq)]
 pub struct PlacedElem<'a> {
-    /// The number of bytes before the spelling in the form's text.
+    /// The number of bytes in the form's text before the spelling.
     pub at: usize,
     /// The element.
     pub elem: Elem<'a>,

@@ -1,4 +1,4 @@
-// The words that elements and forms are made of.
+// The words of which elements and forms are made.
 ghost use Rattle.std.specs.Prelude.{◌≡◌, ℕ, ◌==◌, ◌<◌, ◌≤◌, List, length, take, IfSome, IfNone};
 ghost use Rattle.std.specs.List.{prefix_len, list_all};
 ghost use Rattle.std.specs.Option.{option_map};
@@ -9,8 +9,8 @@ ghost use Rattle.term_forms.specs.Seen.{number_rest};
 
 use dump_io::{hex_u64, split_at_colon};
 
-// A hex number of 1 to 16 digits before the first colon, as an arity, a length or an address, and what stands behind
-// that colon.
+// A hex number of 1 to 16 digits before the first colon, such as an
+// arity, a length or an address, and what stands after that colon.
 #[tactic(auto, unfolding(crate::specs::Words::led_of))]
 pub(crate) fn split_number(text: &[u8]) -> Option<(u64, &[u8])>
     ensures exact { option_map number_rest result ≡ led_of text.now }
@@ -21,14 +21,15 @@ pub(crate) fn split_number(text: &[u8]) -> Option<(u64, &[u8])>
     Some((number, rest))
 }
 
-/// The address of a heap line and its form's text: a hex number of 1 to 16 digits, and what stands behind
-/// the first `:`. None where the text has no `:`, or something else than such a number before the first.
+/// The address of a heap line and the text of its form: a hex number of 1 to 16
+/// digits before the first `:`, and what stands after that. Returns `None` if the
+/// text has no `:`, or if anything but such a number stands before the first.
 pub fn heap_line(text: &[u8]) -> Option<(u64, &[u8])>
     // What is found is a number, a colon and the rest.
     ensures found { IfSome result (λ found. IsLed text.now found.0 found.1.now) }
-    // Nothing is found only where the text isn't one.
+    // Nothing is found only if the text isn't that.
     ensures none { IfNone result ((address : ℕ) (rest : List ℕ) → IsLed text.now address rest → ⊥) }
-    // The same, as the function with which definitions compute.
+    // The same, by the function with which definitions compute.
     ensures exact { option_map number_rest result ≡ led_of text.now }
     ensures shorter { IfSome result (λ found. length found.1.now < length text.now) }
 {
@@ -71,7 +72,7 @@ fn digits_prefix(text: &[u8]) -> Option<usize>
     if n == 0 { None } else { Some(n) }
 }
 
-// How many bytes of the text's front are an integer.
+// How many bytes the integer has that begins the text.
 #[tactic(auto, unfolding(crate::specs::Inner::Fronts::integer_len))]
 pub(crate) fn integer_prefix(text: &[u8]) -> Option<usize>
     ensures exact { result ≡ integer_len text.now }
@@ -85,7 +86,7 @@ pub(crate) fn integer_prefix(text: &[u8]) -> Option<usize>
     }
 }
 
-// How many bytes of the text's front are a number in angle brackets.
+// How many bytes the bracketed number has that begins the text.
 #[tactic(auto, unfolding(crate::specs::Inner::Fronts::bracketed_len))]
 pub(crate) fn bracketed_prefix(text: &[u8]) -> Option<usize>
     ensures exact { result ≡ bracketed_len text.now }
@@ -130,7 +131,7 @@ fn is_based(text: &[u8]) -> bool
     text.starts_with(b"16#") && is_hex_digits(&text[3..])
 }
 
-// Whether the text is a big integer, in decimal or behind `16#` in hex.
+// Whether the text is a big integer, in decimal, or in hex after `16#`.
 pub(crate) fn is_long(text: &[u8]) -> bool
     ensures { result ≡ is_long text.now }
 {

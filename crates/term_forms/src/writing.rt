@@ -43,7 +43,7 @@ fn put_address(into: &mut Vec<u8>, address: u64) -> Result<(), AllocError>
     put_hex(into, address)
 }
 
-// A tag, a length, and so many bytes, or the characters of so many.
+// A tag, a length, and that many bytes, or the characters that write that many.
 fn put_sized(into: &mut Vec<u8>, tag: &[u8], size: u64, text: &[u8]) -> Result<(), AllocError>
     ensures { WritesAll (Some into.old.items) (Some into.new.items)
         (tag.now ++ (hexadecimal size ++ colon ∷ text.now)) result }
@@ -53,8 +53,8 @@ fn put_sized(into: &mut Vec<u8>, tag: &[u8], size: u64, text: &[u8]) -> Result<(
     put_tagged(into, b":", text)
 }
 
-/// Appends the plain spelling of an element: numbers in upper-case hex without leading zeros, a port as
-/// `p<..>`. An error leaves a part of the spelling behind what was there.
+/// Appends the plain spelling of an element: numbers in upper-case hex without
+/// leading zeros, a port as `p<..>`. An error leaves a part of the spelling appended.
 pub fn put_elem(into: &mut Vec<u8>, e: &Elem<'_>) -> Result<(), AllocError>
     ensures { WritesAll (Some into.old.items) (Some into.new.items) (plain_elem (element e.now)) result }
 {
@@ -68,7 +68,7 @@ pub fn put_elem(into: &mut Vec<u8>, e: &Elem<'_>) -> Result<(), AllocError>
     }
 }
 
-// An element behind a comma.
+// An element after a comma.
 fn put_next(into: &mut Vec<u8>, e: &Elem<'_>) -> Result<(), AllocError>
     ensures { WritesAll (Some into.old.items) (Some into.new.items) (comma ∷ plain_elem (element e.now)) result }
 {
@@ -96,7 +96,7 @@ fn put_count(into: &mut Vec<u8>, elements: &Elems<'_>) -> Result<(), AllocError>
     put_hex(into, elements.left())
 }
 
-// A tag, the number of the elements, and the elements.
+// A tag, the number of elements, and the elements.
 fn put_counted(into: &mut Vec<u8>, tag: &[u8], elements: &Elems<'_>) -> Result<(), AllocError>
     ensures { WritesAll (Some into.old.items) (Some into.new.items)
         (tag.now ++ (hexadecimal (length elements.now) ++ colon ∷ plain_joined elements.now)) result }
@@ -144,7 +144,7 @@ fn put_list(into: &mut Vec<u8>, head: &Elem<'_>, tail: &Elem<'_>) -> Result<(), 
     put_elem(into, tail)
 }
 
-// The keys element and the values, each behind a colon.
+// The keys element and the values, each after a colon.
 fn put_keyed(into: &mut Vec<u8>, keys: &Elem<'_>, values: &Elems<'_>) -> Result<(), AllocError>
     ensures { WritesAll (Some into.old.items) (Some into.new.items)
         (colon ∷ (plain_elem (element keys.now) ++ colon ∷ plain_joined values.now)) result }
@@ -173,8 +173,8 @@ fn put_hash(into: &mut Vec<u8>, size: u64, children: &Elems<'_>) -> Result<(), A
     put_counted(into, b":", children)
 }
 
-/// Appends the plain spelling of a form: numbers in upper-case hex without leading zeros, a port as `p<..>`,
-/// and all that was kept of the text as it was. An error leaves a part of the spelling behind what was there.
+/// Appends the plain spelling of a form: numbers in upper-case hex without leading zeros, a port as
+/// `p<..>`, and all that was kept of the text as it was. An error leaves a part of the spelling appended.
 pub fn put_form(into: &mut Vec<u8>, f: &Form<'_>) -> Result<(), AllocError>
     ensures { WritesAll (Some into.old.items) (Some into.new.items) (plain_form (heap_form f.now)) result }
 {

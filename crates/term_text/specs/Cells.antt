@@ -11,7 +11,7 @@ use Rattle.heap_cells.specs.declared.cells.Kind.{Kind}
 use Rattle.heap_cells.specs.declared.cells.Kind.TheVariants as kind
 use Rattle.report_lines.specs.Lines.{count_line, newline, tab}
 
--- the word for a kind of cells; one without a kind is malformed
+-- the word for a kind of cells; a cell without a kind is malformed
 abbrev pub kind_word : Option Kind → List ℕ
 kind_word None = codes "malformed"
 kind_word (Some kind.List) = codes "list"
@@ -34,7 +34,8 @@ all_kinds =
     Some kind.List ∷ Some kind.Tuple ∷ Some kind.Float ∷ Some kind.Long ∷ Some kind.Pid ∷ Some kind.Port ∷ Some kind.Ext
     ∷ Some kind.HeapBin ∷ Some kind.RefBin ∷ Some kind.SubBin ∷ Some kind.Flat ∷ Some kind.Hash ∷ Some kind.Node ∷ None ∷ []
 
--- how large a form is: the number of its elements, of its bytes, or what a hash map states; of numbers, pids and ports none is told
+-- how large a form is: the number of its elements or its bytes,
+-- or what a hash map states; numbers, pids and ports have no size
 abbrev pub size_in : HeapForm → Option ℕ
 size_in (Cons head tail) = Some 2
 size_in (Tuple elements) = Some (length elements)
@@ -50,7 +51,7 @@ size_in (Flat keys values) = Some (length values)
 size_in (Hash size children) = Some size
 size_in (Node children) = Some (length children)
 
--- a size, or `-` where none is told
+-- a size, or `-` if there is none
 abbrev pub size_text : Option ℕ → List ℕ
 size_text None = codes "-"
 size_text (Some size) = decimal size
@@ -80,6 +81,6 @@ cells_line count = concat (codes "cells " ∷ decimal count ∷ newline ∷ [])
 abbrev pub cells_text : List Cell → List ℕ
 cells_text cells = flat_map cell_line cells ++ (flat_map (kind_line cells) all_kinds ++ cells_line (length cells))
 
--- the report of the heap's own cells, which stand before the literals
+-- the report of the heap's own cells, which come before the literals
 abbrev pub cells_report : HeapMap → List ℕ
 cells_report heap = cells_text (take heap.own heap.cells)

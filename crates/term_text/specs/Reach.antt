@@ -23,12 +23,12 @@ terms_of roots = flat_map (λ root. term_in root.content) roots
 abbrev pub unreached_line : ℕ → List ℕ
 unreached_line address = concat (codes "unreached " ∷ hexadecimal address ∷ newline ∷ [])
 
--- the last line: how many cells a heap has of its own, how many of them are reached, and how many literals are
+-- the last line: how many cells a heap has of its own, how many of them are reached, and how many literals are reached
 abbrev pub totals_line : ℕ → ℕ → ℕ → List ℕ
 totals_line own reached literals =
     concat (codes "own " ∷ decimal own ∷ codes " reached " ∷ decimal reached ∷ codes " literals " ∷ decimal literals ∷ newline ∷ [])
 
--- the report on a heap of which this set of cells is reached: the literals stand behind its own cells
+-- the report on a heap of which this set of cells is reached: the literals come after its own cells
 abbrev pub reach_report : HeapMap → (ℕ → Bool) → List ℕ
 reach_report heap set =
     flat_map unreached_line (unreached_of heap set)

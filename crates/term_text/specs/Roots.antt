@@ -12,14 +12,14 @@ use Rattle.report_lines.specs.Lines.{newline, space}
 abbrev pub answer_over : Walk → ℕ → Bool → Element → List ℕ
 answer_over walk budget marked e = answer walk.heap.enc walk.previews walk.heap.cells e budget marked
 
--- what a root is, where `say` answers to an element
+-- what a root is, where `say` gives the answer to an element
 abbrev pub content_text : (Element → List ℕ) → Content → List ℕ
 content_text say (Term e) = say e
 content_text say (Info text) = codes "# " ++ text
 content_text say (Dist text) = codes "D " ++ decimal (length text)
 content_text say Unread = codes "?"
 
--- a root's line begins with its offset, where the body begins at this one, and its label
+-- the beginning of a root's line: its offset, given where the body begins, and its label
 abbrev pub root_heading : ℕ → BodyRoot → List ℕ
 root_heading base root = concat (decimal (base + root.at) ∷ space ∷ root.label ∷ space ∷ [])
 
@@ -39,7 +39,7 @@ roots_report say base roots = flat_map (root_line say base) roots ++ roots_line 
 abbrev pub term_report : (Element → List ℕ) → ℕ → List ℕ
 term_report say address = say (Ref address) ++ newline
 
--- the report of an external term that these bytes are
+-- the report of the external term with these bytes
 abbrev pub ext_report : List ℕ → List ℕ
 ext_report bytes = external_text bytes ++ newline
 
@@ -47,12 +47,12 @@ ext_report bytes = external_text bytes ++ newline
 abbrev pub hex_line : List ℕ → List ℕ
 hex_line bytes = flat_map hex_byte bytes ++ newline
 
--- so many lines of 32 bytes, or of as many as are left
+-- this many lines of 32 bytes, the last of as many as are left
 abbrev pub hex_lines : ℕ → List ℕ → List ℕ
 hex_lines zero bytes = []
 hex_lines (suc lines) bytes = hex_line (take 32 bytes) ++ hex_lines lines (drop 32 bytes)
 
--- as many lines as hold all bytes
+-- how many lines hold all bytes
 abbrev pub line_count : List ℕ → ℕ
 line_count bytes = (length bytes + 31) / 32
 

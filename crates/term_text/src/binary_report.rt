@@ -1,12 +1,12 @@
 // The report of a whole binary.
 ghost use Rattle.std.specs.Prelude.{◌≡◌, take, drop};
-ghost use Rattle.dump_io.specs.Sinks.{changed, Puts};
+ghost use Rattle.dump_io.specs.Sinks.{Puts};
 ghost use Rattle.term_text.specs.Roots.{binary_heading, binary_report, hex_line, hex_lines, line_count};
 
 use dump_io::{Failed, Piece, Sink, put_hex_bytes, put_pieces, write_all};
 
 fn put_heading<K: Sink>(sink: &mut K, addr: u64, size: u64) -> Result<(), Failed>
-    ensures { Puts (changed K.written K.faults sink.old sink.new) (binary_heading addr size) result }
+    ensures { Puts (K.state sink.old) (K.state sink.new) (binary_heading addr size) result }
 {
     put_pieces(
         sink,
@@ -21,13 +21,13 @@ fn put_heading<K: Sink>(sink: &mut K, addr: u64, size: u64) -> Result<(), Failed
 }
 
 fn put_hex_line<K: Sink>(sink: &mut K, bytes: &[u8]) -> Result<(), Failed>
-    ensures { Puts (changed K.written K.faults sink.old sink.new) (hex_line bytes.now) result }
+    ensures { Puts (K.state sink.old) (K.state sink.new) (hex_line bytes.now) result }
 {
     put_hex_bytes(sink, bytes)?;
     write_all(sink, b"\n")
 }
 
-// The bytes of a line, 32 or as many as are left, and those behind them.
+// The bytes of a line, 32 or as many as are left, and those after them.
 fn split_line(bytes: &[u8]) -> (&[u8], &[u8])
     ensures line { result.0.now ≡ take 32 bytes.now }
     ensures behind { result.1.now ≡ drop 32 bytes.now }
@@ -40,7 +40,7 @@ fn split_line(bytes: &[u8]) -> (&[u8], &[u8])
 }
 
 fn put_hex_lines<K: Sink>(sink: &mut K, bytes: &[u8]) -> Result<(), Failed>
-    ensures { Puts (changed K.written K.faults sink.old sink.new) (hex_lines (line_count bytes.now) bytes.now) result }
+    ensures { Puts (K.state sink.old) (K.state sink.new) (hex_lines (line_count bytes.now) bytes.now) result }
 {
     let mut rest = bytes;
     while !rest.is_empty() {
@@ -51,10 +51,10 @@ fn put_hex_lines<K: Sink>(sink: &mut K, bytes: &[u8]) -> Result<(), Failed>
     Ok(())
 }
 
-/// Writes `binary ADDR size N`, the address in hex, and then the bytes in upper-case hex, 32 a line. The last line has
-/// the 1 to 32 bytes that are left; where there are no bytes there is no such line.
+/// Writes `binary ADDR size N`, with the address in hex, and then the bytes in upper-case hex, 32 a line.
+/// The last line has the 1 to 32 bytes that are left; if there are no bytes, there is no such line.
 pub fn put_binary<K: Sink>(sink: &mut K, addr: u64, bytes: &[u8]) -> Result<(), Failed>
-    ensures { Puts (changed K.written K.faults sink.old sink.new) (binary_report addr bytes.now) result }
+    ensures { Puts (K.state sink.old) (K.state sink.new) (binary_report addr bytes.now) result }
 {
     put_heading(sink, addr, bytes.len() as u64)?;
     put_hex_lines(sink, bytes)

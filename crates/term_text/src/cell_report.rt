@@ -4,7 +4,7 @@ ghost use Rattle.std.specs.List.{flat_map};
 ghost use Rattle.std.specs.Option.{option_and_then, option_map};
 ghost use Rattle.std.specs.Str.{bytes_eq};
 ghost use Rattle.dump_io.specs.Pieces.{piece_text};
-ghost use Rattle.dump_io.specs.Sinks.{changed, Puts};
+ghost use Rattle.dump_io.specs.Sinks.{Puts};
 ghost use Rattle.term_forms.specs.SeenForms.{heap_form};
 ghost use Rattle.heap_cells.specs.Targets.{number};
 ghost use Rattle.term_text.specs.Cells.{all_kinds, cell_line, cells_line, cells_report, count_of, kind_line, kind_word, size_in, size_text, word_of};
@@ -36,7 +36,7 @@ fn kind_word(kind: Option<Kind>) -> &'static [u8]
     }
 }
 
-// How large a form is, where that is told.
+// The size of a form, if it has one.
 fn size_in(form: &Form<'_>) -> Option<u64>
     ensures { result ≡ size_in (heap_form form.now) }
 {
@@ -74,7 +74,7 @@ fn size_piece<'a>(size: Option<u64>) -> Piece<'a>
 
 fn put_cell<K: Sink>(sink: &mut K, heap: &Heap, ix: CellIx) -> Result<(), Failed>
     requires { number ix < length heap.now.cells }
-    ensures { Puts (changed K.written K.faults sink.old sink.new) (cell_line (cell_at heap.now.cells (number ix))) result }
+    ensures { Puts (K.state sink.old) (K.state sink.new) (cell_line (cell_at heap.now.cells (number ix))) result }
 {
     let tab = Piece::Bytes(b"\t");
     put_pieces(
@@ -91,7 +91,7 @@ fn put_cell<K: Sink>(sink: &mut K, heap: &Heap, ix: CellIx) -> Result<(), Failed
 }
 
 fn put_own<K: Sink>(sink: &mut K, heap: &Heap) -> Result<(), Failed>
-    ensures { Puts (changed K.written K.faults sink.old sink.new) (flat_map cell_line (take heap.now.own heap.now.cells)) result }
+    ensures { Puts (K.state sink.old) (K.state sink.new) (flat_map cell_line (take heap.now.own heap.now.cells)) result }
 {
     for n in 0..heap.own() {
         put_cell(sink, heap, heap.cell(n))?;
@@ -120,9 +120,9 @@ fn count_of(heap: &Heap, word: &[u8]) -> u32
     count
 }
 
-// Writes a line for a kind of which the heap has cells of its own.
+// Writes a line for a kind, if the heap has cells of that kind of its own.
 fn put_kind<K: Sink>(sink: &mut K, heap: &Heap, kind: Option<Kind>) -> Result<(), Failed>
-    ensures { Puts (changed K.written K.faults sink.old sink.new) (kind_line (take heap.now.own heap.now.cells) kind) result }
+    ensures { Puts (K.state sink.old) (K.state sink.new) (kind_line (take heap.now.own heap.now.cells) kind) result }
 {
     let word = kind_word(kind);
     put_count_line(sink, b"kind\t", word, u64::from(count_of(heap, word)))
@@ -147,7 +147,7 @@ const KINDS: [Option<Kind>; 14] = [
 ];
 
 fn put_kinds<K: Sink>(sink: &mut K, heap: &Heap) -> Result<(), Failed>
-    ensures { Puts (changed K.written K.faults sink.old sink.new) (flat_map (kind_line (take heap.now.own heap.now.cells)) all_kinds) result }
+    ensures { Puts (K.state sink.old) (K.state sink.new) (flat_map (kind_line (take heap.now.own heap.now.cells)) all_kinds) result }
 {
     for kind in KINDS {
         put_kind(sink, heap, kind)?;
@@ -156,7 +156,7 @@ fn put_kinds<K: Sink>(sink: &mut K, heap: &Heap) -> Result<(), Failed>
 }
 
 fn put_total<K: Sink>(sink: &mut K, heap: &Heap) -> Result<(), Failed>
-    ensures { Puts (changed K.written K.faults sink.old sink.new) (cells_line (length (take heap.now.own heap.now.cells))) result }
+    ensures { Puts (K.state sink.old) (K.state sink.new) (cells_line (length (take heap.now.own heap.now.cells))) result }
 {
     put_pieces(
         sink,
@@ -168,12 +168,13 @@ fn put_total<K: Sink>(sink: &mut K, heap: &Heap) -> Result<(), Failed>
     )
 }
 
-/// Writes a line for each of the heap's own cells, in the order of the dump, `ADDR KIND SIZE` with a tab between them; then
-/// `kind COUNT KIND` for each kind that occurs, with tabs; and then `cells N`. The size of a list cell is 2, that of a tuple,
-/// a flat map or an inner node of a hash map the number of its elements, values or children, that of a binary or an external
-/// term its length in bytes, and that of a hash map what it states; other cells have `-`.
+/// Writes a line for each of the heap's own cells, in the order of the dump, `ADDR KIND SIZE`
+/// with tabs between them; then `kind COUNT KIND`, with tabs, for each kind that occurs; and
+/// then `cells N`. The size of a cons cell is 2; that of a tuple, a flat map or an inner node of
+/// a hash map is the number of its elements, values or children; that of a binary or an external
+/// term its length in bytes; and that of a hash map what it states. Other cells have `-`.
 pub fn put_cells<K: Sink>(sink: &mut K, heap: &Heap) -> Result<(), Failed>
-    ensures { Puts (changed K.written K.faults sink.old sink.new) (cells_report heap.now) result }
+    ensures { Puts (K.state sink.old) (K.state sink.new) (cells_report heap.now) result }
 {
     put_own(sink, heap)?;
     put_kinds(sink, heap)?;

@@ -5,8 +5,8 @@
 //! put_cells(&mut out, &heap)?;
 //! ```
 //!
-//! Each call writes one report to a sink. It takes no memory. `Failed` comes only where the sink's count of faults rose, and a
-//! proper front of the text was written then.
+//! Each call writes one report to a sink, and takes no memory. It returns `Failed` only
+//! if the sink's count of faults rose; a proper prefix of the text was written then.
 #![tactic(auto)]
 
 mod binary_report;

@@ -1,7 +1,7 @@
 // The report of what the roots of a process reach.
 ghost use Rattle.std.specs.Prelude.{◌≡◌, ◌+◌, ◌≤◌, List, ◌++◌, length};
 ghost use Rattle.std.specs.List.{flat_map};
-ghost use Rattle.dump_io.specs.Sinks.{changed, Puts};
+ghost use Rattle.dump_io.specs.Sinks.{Puts};
 ghost use Rattle.root_views.specs.Kinds.{roots_in};
 ghost use Rattle.root_views.specs.Seen.{content};
 ghost use Rattle.term_forms.specs.Elements.{Element};
@@ -15,7 +15,7 @@ use heap_cells::Heap;
 use heap_reach::Reach;
 use root_views::{RootKind, What};
 
-// Adds what a root reaches, where it is a term.
+// Adds what a root reaches, if it is a term.
 fn add_content(reach: &mut Reach<'_>, what: &What<'_>)
     ensures heap { reach.new.heap ≡ reach.old.heap }
     ensures roots { (roots : List Element) → IsReachOf reach.old roots → IsReachOf reach.new (roots ++ term_in (content what.now)) }
@@ -25,7 +25,7 @@ fn add_content(reach: &mut Reach<'_>, what: &What<'_>)
     }
 }
 
-/// Adds what the roots of a body reach: those of them that are terms. It takes no memory.
+/// Adds what those roots of a body reach that are terms. Takes no memory.
 pub fn add_roots(reach: &mut Reach<'_>, kind: RootKind, body: &[u8])
     ensures heap { reach.new.heap ≡ reach.old.heap }
     ensures roots { (roots : List Element) → IsReachOf reach.old roots → IsReachOf reach.new (roots ++ terms_of (roots_in kind body.now)) }
@@ -42,7 +42,7 @@ fn one_if(b: bool) -> u32
     if b { 1 } else { 0 }
 }
 
-// How many of the cells from a number up to another are reached.
+// How many of the cells from one number up to another are reached.
 fn count_reached(heap: &Heap, reach: &Reach<'_>, first: u32, end: u32) -> u32
     requires heap { reach.now.heap ≡ heap.now }
     requires order { first ≤ end }
@@ -57,7 +57,7 @@ fn count_reached(heap: &Heap, reach: &Reach<'_>, first: u32, end: u32) -> u32
 }
 
 fn put_unreached<K: Sink>(sink: &mut K, addr: u64) -> Result<(), Failed>
-    ensures { Puts (changed K.written K.faults sink.old sink.new) (unreached_line addr) result }
+    ensures { Puts (K.state sink.old) (K.state sink.new) (unreached_line addr) result }
 {
     put_pieces(
         sink,
@@ -70,7 +70,7 @@ fn put_unreached<K: Sink>(sink: &mut K, addr: u64) -> Result<(), Failed>
 }
 
 fn put_each<K: Sink>(sink: &mut K, unreached: &[u64]) -> Result<(), Failed>
-    ensures { Puts (changed K.written K.faults sink.old sink.new) (flat_map unreached_line unreached.now) result }
+    ensures { Puts (K.state sink.old) (K.state sink.new) (flat_map unreached_line unreached.now) result }
 {
     for addr in unreached {
         put_unreached(sink, *addr)?;
@@ -79,7 +79,7 @@ fn put_each<K: Sink>(sink: &mut K, unreached: &[u64]) -> Result<(), Failed>
 }
 
 fn put_totals<K: Sink>(sink: &mut K, own: u32, reached: u32, literals: u32) -> Result<(), Failed>
-    ensures { Puts (changed K.written K.faults sink.old sink.new) (totals_line own reached literals) result }
+    ensures { Puts (K.state sink.old) (K.state sink.new) (totals_line own reached literals) result }
 {
     put_pieces(
         sink,
@@ -95,9 +95,9 @@ fn put_totals<K: Sink>(sink: &mut K, own: u32, reached: u32, literals: u32) -> R
     )
 }
 
-/// Writes `unreached ADDR` for each of the heap's own cells that isn't reached, ascending, and then `own N reached R
-/// literals L`: how many own cells there are, how many of them are reached, and how many of the literals are. The heap is
-/// that of `reach`, and `unreached` what it gives.
+/// Writes `unreached ADDR` for each of the heap's own cells that isn't reached, in ascending order,
+/// and then `own N reached R literals L`: how many own cells there are, how many of them are reached,
+/// and how many literals are reached. The heap is that of `reach`, and `unreached` is what `reach` returns.
 pub fn put_reach<K: Sink>(
     sink: &mut K,
     heap: &Heap,
@@ -107,7 +107,7 @@ pub fn put_reach<K: Sink>(
     requires heap { reach.now.heap ≡ heap.now }
     requires unreached { unreached.now ≡ unreached_of heap.now (is_in reach.now.marks) }
     ensures { (roots : List Element) → IsReachOf reach.now roots
-        → Puts (changed K.written K.faults sink.old sink.new) (reach_report heap.now (reached_by heap.now.cells roots)) result }
+        → Puts (K.state sink.old) (K.state sink.new) (reach_report heap.now (reached_by heap.now.cells roots)) result }
 {
     let own = heap.own();
     let reached = count_reached(heap, reach, 0, own);

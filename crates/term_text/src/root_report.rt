@@ -1,7 +1,7 @@
 // The reports of the roots of a process, and of one term.
 ghost use Rattle.std.specs.Prelude.{◌≡◌, ◌+◌, ◌<◌, ◌^◌, [], length, IfOk};
 ghost use Rattle.std.specs.List.{flat_map};
-ghost use Rattle.dump_io.specs.Sinks.{changed, Puts};
+ghost use Rattle.dump_io.specs.Sinks.{Puts};
 ghost use Rattle.root_views.specs.Kinds.{roots_in};
 ghost use Rattle.root_views.specs.Seen.{content, root};
 ghost use Rattle.term_forms.specs.Seen.{element};
@@ -26,7 +26,7 @@ fn why_text(why: Why) -> &'static [u8]
 }
 
 fn put_bad<K: Sink>(sink: &mut K, addr: u64, why: Why) -> Result<(), Failed>
-    ensures { Puts (changed K.written K.faults sink.old sink.new) (judged_text (Verdict.Bad addr why) []) result }
+    ensures { Puts (K.state sink.old) (K.state sink.new) (judged_text (Verdict.Bad addr why) []) result }
 {
     put_pieces(
         sink,
@@ -48,7 +48,7 @@ fn put_answer<K: Sink>(
     marked: bool,
 ) -> Result<(), Failed>
     requires budget { 0 < budget }
-    ensures puts { Puts (changed K.written K.faults sink.old sink.new) (answer_over walker.old budget marked (element e.entry)) result }
+    ensures puts { Puts (K.state sink.old) (K.state sink.new) (answer_over walker.old budget marked (element e.entry)) result }
     ensures same { walker.new ≡ walker.old }
 {
     if marked {
@@ -69,7 +69,7 @@ fn put_content<K: Sink>(
     marked: bool,
 ) -> Result<(), Failed>
     requires budget { 0 < budget }
-    ensures puts { Puts (changed K.written K.faults sink.old sink.new) (content_text (answer_over walker.old budget marked) (content what.now)) result }
+    ensures puts { Puts (K.state sink.old) (K.state sink.new) (content_text (answer_over walker.old budget marked) (content what.now)) result }
     ensures same { walker.new ≡ walker.old }
 {
     match what {
@@ -82,7 +82,7 @@ fn put_content<K: Sink>(
 
 fn put_heading<K: Sink>(sink: &mut K, base: u64, found: &Root<'_>) -> Result<(), Failed>
     requires { base + found.now.at < 2 ^ 64 }
-    ensures { Puts (changed K.written K.faults sink.old sink.new) (root_heading base (root found.now)) result }
+    ensures { Puts (K.state sink.old) (K.state sink.new) (root_heading base (root found.now)) result }
 {
     put_pieces(
         sink,
@@ -105,7 +105,7 @@ fn put_root<K: Sink>(
 ) -> Result<(), Failed>
     requires place { base + found.now.at < 2 ^ 64 }
     requires budget { 0 < budget }
-    ensures puts { Puts (changed K.written K.faults sink.old sink.new) (root_line (answer_over walker.old budget marked) base (root found.now)) result }
+    ensures puts { Puts (K.state sink.old) (K.state sink.new) (root_line (answer_over walker.old budget marked) base (root found.now)) result }
     ensures same { walker.new ≡ walker.old }
 {
     put_heading(sink, base, found)?;
@@ -113,7 +113,7 @@ fn put_root<K: Sink>(
     write_all(sink, b"\n")
 }
 
-// Writes a line for each root, and tells how many there are.
+// Writes a line for each root, and returns how many there are.
 fn put_each<K: Sink>(
     sink: &mut K,
     walker: &mut Walker<'_>,
@@ -125,7 +125,7 @@ fn put_each<K: Sink>(
 ) -> Result<u64, Failed>
     requires places { base + length body.now < 2 ^ 64 }
     requires budget { 0 < budget }
-    ensures puts { Puts (changed K.written K.faults sink.old sink.new) (flat_map (root_line (answer_over walker.old budget marked) base) (roots_in kind body.now)) result }
+    ensures puts { Puts (K.state sink.old) (K.state sink.new) (flat_map (root_line (answer_over walker.old budget marked) base) (roots_in kind body.now)) result }
     ensures count { IfOk result (λ count. count ≡ length (roots_in kind body.now)) }
     ensures same { walker.new ≡ walker.old }
 {
@@ -138,7 +138,7 @@ fn put_each<K: Sink>(
 }
 
 fn put_count<K: Sink>(sink: &mut K, count: u64) -> Result<(), Failed>
-    ensures { Puts (changed K.written K.faults sink.old sink.new) (roots_line count) result }
+    ensures { Puts (K.state sink.old) (K.state sink.new) (roots_line count) result }
 {
     put_pieces(
         sink,
@@ -152,10 +152,11 @@ fn put_count<K: Sink>(sink: &mut K, count: u64) -> Result<(), Failed>
 
 /// Writes a line for each root of a body, `OFFSET LABEL REST`, and then `roots N`.
 ///
-/// The rest is the answer to a term: its text, within as many nodes as the budget says, or `! ` with the first bad
-/// address among them, where bad addresses aren't marked in the text. It is `# TEXT` for an info, `D LENGTH` for a
-/// message in the external format, and `?` for what isn't read. Each root has the whole budget, and one that is bad
-/// doesn't hinder those after it. `base` is the offset of the body in the file, and offsets are of the file.
+/// For a term, REST is its answer: its text, within as many nodes as the budget allows, or, if
+/// bad addresses aren't marked in the text, `! ` with the first bad address among those nodes, if
+/// there is one. It is `# TEXT` for an info, `D LENGTH` for a message in the external format, and
+/// `?` for what isn't read. Each root has the whole budget, and a bad one doesn't affect those
+/// after it. `base` is the offset of the body in the file, and the offsets are of the file.
 pub fn put_roots<K: Sink>(
     sink: &mut K,
     walker: &mut Walker<'_>,
@@ -167,7 +168,7 @@ pub fn put_roots<K: Sink>(
 ) -> Result<(), Failed>
     requires places { base + length body.now < 2 ^ 64 }
     requires budget { 0 < budget }
-    ensures puts { Puts (changed K.written K.faults sink.old sink.new) (roots_report (answer_over walker.old budget marked) base (roots_in kind body.now)) result }
+    ensures puts { Puts (K.state sink.old) (K.state sink.new) (roots_report (answer_over walker.old budget marked) base (roots_in kind body.now)) result }
     ensures same { walker.new ≡ walker.old }
 {
     let count = put_each(sink, walker, kind, body, base, budget, marked)?;
@@ -183,7 +184,7 @@ pub fn put_term<K: Sink>(
     marked: bool,
 ) -> Result<(), Failed>
     requires budget { 0 < budget }
-    ensures puts { Puts (changed K.written K.faults sink.old sink.new) (term_report (answer_over walker.old budget marked) addr) result }
+    ensures puts { Puts (K.state sink.old) (K.state sink.new) (term_report (answer_over walker.old budget marked) addr) result }
     ensures same { walker.new ≡ walker.old }
 {
     put_answer(sink, walker, Elem::Ref(addr), budget, marked)?;

@@ -1,4 +1,4 @@
--- What the laws of the unfolding speak of.
+-- What the laws of the unfolding say.
 use Rattle.std.specs.Prelude.{◌≡◌, ℕ, ◌+◌, ◌<◌, false, List, [], ◌∷◌, length, IsSome}
 use Rattle.heap_cells.specs.Cells.{Cell}
 use Rattle.heap_cells.specs.HeapMap.{number_at}
@@ -7,17 +7,17 @@ use Rattle.term_unfold.specs.Terms.{IsTerm, IsItem}
 use Rattle.term_unfold.specs.Trees.{Tree, Trees, none, more}
 use Rattle.term_unfold.specs.Unfolding.{grown, unfold_by, unfolded}
 
--- different addresses of the heap
+-- distinct addresses of the heap
 abbrev pub IsPath : List Cell → List ℕ → Type 0
 IsPath heap [] = Unit {0}
 IsPath heap (a ∷ path) = IsSome (number_at heap a) × (is_on a path ≡ false) × IsPath heap path
 
--- the tree of what a child opens, with no number of levels
+-- the tree of what a child opens, without a bound on levels
 abbrev pub FollowsRules : (List Cell → List ℕ → Child → Tree) → Type 0
 FollowsRules tree = (heap : List Cell) (path : List ℕ) (child : Child) → IsPath heap path
     → tree heap path child ≡ grown (λ a. tree heap (a ∷ path)) (opening heap path child)
 
--- more levels than cells that are no ancestors give the same tree
+-- any number of levels above that of the cells that are no ancestors gives the same tree
 abbrev pub IsEnough : Type 0
 IsEnough = (levels : ℕ) (heap : List Cell) (path : List ℕ) (child : Child) → IsPath heap path → length heap < levels + length path
     → unfold_by levels heap path child ≡ unfolded heap path child
@@ -27,7 +27,7 @@ abbrev pub Suits : Child → Tree → Type 0
 Suits (Term element) tree = IsTerm tree
 Suits (Item parent element) tree = IsItem tree
 
--- trees, and others behind them
+-- trees, and others after them
 abbrev pub joined : Trees → Trees → Trees
 joined none others = others
 joined (more tree trees) others = more tree (joined trees others)

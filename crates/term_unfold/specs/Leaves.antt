@@ -14,11 +14,11 @@ use Rattle.binary_refs.specs.declared.entries.Entry.{Entry}
 use Rattle.binary_refs.specs.Previews.{entry_at}
 use Rattle.term_unfold.specs.Trees.{Value, Immediate, OfCell}
 
--- the first bytes of what the cell with a number refers to, 32 at most, where they are known
+-- the first bytes of what the cell with a number refers to, at most 32, if they are known
 abbrev pub preview_of : List Entry → ℕ → Option (List ℕ)
 preview_of entries n = option_and_then (λ e. e.bytes) (entry_at entries n)
 
--- the same by the cell's address
+-- the same from the cell's address
 abbrev pub preview_at : List Cell → List Entry → ℕ → Option (List ℕ)
 preview_at cells entries a = option_and_then (preview_of entries) (number_at cells a)
 
@@ -36,11 +36,11 @@ element_text (Port port) = port_text port
 -- a reference is no leaf
 element_text (Ref address) = []
 
--- `..` stands for the bytes behind the first 32
+-- `..` stands for the bytes after the first 32
 abbrev pub dots : ℕ → List ℕ
 dots size = if nat_lt 32 size then codes ".." else []
 
--- the first bytes of so many, in upper-case hex, or `?` where they are unknown
+-- the first of this many bytes, in upper-case hex, or `?` if they are unknown
 abbrev pub preview_text : ℕ → Option (List ℕ) → List ℕ
 preview_text size None = codes "?"
 preview_text size (Some bytes) = flat_map hex_byte bytes ++ dots size
@@ -53,7 +53,7 @@ sized_text word size preview = word ++ (decimal size ++ (codes ":" ++ (preview_t
 abbrev pub own_preview : Enc → ℕ → List ℕ → Option (List ℕ)
 own_preview enc size chars = option_map (λ bytes. take (min size 32) bytes) (payload_bytes enc chars)
 
--- a cell that has no children, by the preview of what it refers to
+-- a cell that has no children, with the preview of what it refers to
 abbrev pub form_text : Enc → Option (List ℕ) → HeapForm → List ℕ
 form_text enc preview (Float bytes) = bytes
 form_text enc preview (Long number) = number
@@ -70,7 +70,7 @@ form_text enc preview (Flat keys values) = []
 form_text enc preview (Hash size children) = []
 form_text enc preview (Node children) = []
 
--- the text of a leaf of a heap with these cells, by the encoding of payloads and by the previews
+-- the text of a leaf of a heap with these cells, from the encoding of payloads and the previews
 abbrev pub leaf_text : Enc → List Cell → List Entry → Value → List ℕ
 leaf_text enc cells previews (Immediate element) = element_text element
 leaf_text enc cells previews (OfCell a form) = form_text enc (preview_at cells previews a) form

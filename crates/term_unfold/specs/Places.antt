@@ -12,10 +12,10 @@ pub data Face : Type 0 where
   LeafFace : Bool → List ℕ → Face
   -- a bad address
   BadFace : ℕ → Why → Face
-  -- a node with so many children
+  -- a node with this many children
   BranchFace : NodeKind → ℕ → Face
 
--- a node's place is the numbers of the children that lead to it from the root
+-- a node with its place: the numbers of the children that lead to it from the root
 pub record Placed : Type 0 where
   pub place : List ℕ
   pub face : Face
@@ -25,13 +25,13 @@ abbrev pub at_place : List ℕ → Face → Placed
 at_place place face = record { place = place; face = face }
 
 abbrev mutual
-  -- the nodes in preorder, where the tree stands at a place
+  -- the nodes in preorder, of a tree at a place
   pub placed : (Value → List ℕ) → List ℕ → Tree → List Placed
   placed leaf place (Leaf value) = at_place place (LeafFace (is_nil value) (leaf value)) ∷ []
   placed leaf place (Bad address why) = at_place place (BadFace address why) ∷ []
   placed leaf place (Branch kind children) = at_place place (BranchFace kind (count children)) ∷ placed_all leaf place 0 children
 
-  -- the same of the children of a place, from the one with the number n on
+  -- the same for the children of a place, from the one with number n on
   pub placed_all : (Value → List ℕ) → List ℕ → ℕ → Trees → List Placed
   placed_all leaf place n none = []
   placed_all leaf place n (more tree trees) = placed leaf (place ++ n ∷ []) tree ++ placed_all leaf place (suc n) trees

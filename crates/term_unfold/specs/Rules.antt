@@ -22,11 +22,11 @@ pub data Opening : Type 0 where
   bad : ℕ → Why → Opening
   node : ℕ → NodeKind → List Child → Opening
 
--- whether an address is one of those of the ancestors
+-- whether an address is that of an ancestor
 abbrev pub is_on : ℕ → List ℕ → Bool
 is_on a path = list_any (eqb a) path
 
--- a reference to an ancestor is bad, whatever the cell is
+-- a reference to an ancestor is bad, whatever its cell is
 abbrev pub unless_on : List ℕ → Element → Opening → Opening
 unless_on path (Ref a) off = if is_on a path then bad a OnPath else off
 unless_on path element off = off
@@ -35,7 +35,7 @@ unless_on path element off = off
 abbrev pub terms : List Element → List Child
 terms elements = map Term elements
 
--- children of a map's node, which know their parent's address
+-- children of a map's node, which know the address of their parent
 abbrev pub items : ℕ → List Element → List Child
 items parent elements = map (Item parent) elements
 
@@ -45,13 +45,14 @@ pairs [] values = []
 pairs (key ∷ keys) [] = []
 pairs (key ∷ keys) (value ∷ values) = Term key ∷ Term value ∷ pairs keys values
 
--- a flat map by its keys
+-- a flat map, from its keys
 abbrev pub keyed : ℕ → List Element → Keys → Opening
 keyed a values no_keys = node a kinds.Flat []
 keyed a values (keys_at k keys) = node a kinds.Flat (pairs keys values)
 keyed a values (bad_keys k why) = bad k why
 
--- a flat map. The map itself is among the ancestors of its keys' tuple, which is no ancestor of the keys
+-- a flat map; it is itself among the ancestors of the tuple
+-- of its keys, but that tuple is no ancestor of the keys
 abbrev pub flat_opening : List Cell → List ℕ → ℕ → Element → List Element → Opening
 flat_opening heap path a keys [] = keyed a [] no_keys
 flat_opening heap path a keys (value ∷ values) =
@@ -67,12 +68,12 @@ form_opening heap path a (Some (Hash size children)) = node a kinds.Hash (items 
 form_opening heap path a (Some (Node children)) = bad a Malformed
 form_opening heap path a (Some form) = leaf (OfCell a form)
 
--- what the cell at an address opens; a cell that the map hasn't is missing
+-- what the cell at an address opens; if no cell has the address, it is missing
 abbrev pub cell_opening : List Cell → List ℕ → ℕ → Option (Option HeapForm) → Opening
 cell_opening heap path a None = bad a Missing
 cell_opening heap path a (Some form) = form_opening heap path a form
 
--- what an element opens: a reference its cell, any other is a leaf
+-- what an element opens: a reference opens its cell, and any other element is a leaf
 abbrev pub term_opening : List Cell → List ℕ → Element → Opening
 term_opening heap path (Ref a) = cell_opening heap path a (form_with heap a)
 term_opening heap path element = leaf (Immediate element)

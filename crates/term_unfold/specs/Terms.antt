@@ -3,7 +3,7 @@ use Rattle.std.specs.Prelude.{◌≡◌, ℕ, suc}
 use Rattle.term_unfold.specs.declared.node.NodeKind.TheVariants as kinds
 use Rattle.term_unfold.specs.Trees.{Tree, Leaf, Bad, Branch, Trees, none, more}
 
--- how many trees they are
+-- how many trees there are
 abbrev pub count : Trees → ℕ
 count none = 0
 count (more tree trees) = suc (count trees)
@@ -21,7 +21,7 @@ abbrev mutual
   IsTerm (Branch kinds.Inner children) = ⊥
   IsTerm (Branch kinds.Pair children) = ⊥
 
-  -- what may stand in a hash map
+  -- what may occur in a hash map
   pub IsItem : Tree → Type 0
   IsItem (Leaf value) = ⊥
   IsItem (Bad address why) = Unit {0}

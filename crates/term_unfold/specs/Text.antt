@@ -7,7 +7,7 @@ use Rattle.heap_cells.specs.declared.cells.Why.TheVariants.{Missing, Malformed, 
 use Rattle.term_unfold.specs.declared.node.NodeKind.TheVariants as kinds
 use Rattle.term_unfold.specs.Trees.{Value, Immediate, Tree, Leaf, Bad, Branch, Trees, none, more}
 
--- a text, and the count of nodes that remains behind it
+-- a text, and the count of nodes that remains after it
 pub record Shown : Type 0 where
   pub text : List ℕ
   pub left : ℕ
@@ -16,22 +16,22 @@ pub record Shown : Type 0 where
 abbrev pub shown : List ℕ → ℕ → Shown
 shown text m = record { text = text; left = m }
 
--- a text in front of another
+-- a text before another
 abbrev pub led : List ℕ → Shown → Shown
 led front last = record { text = front ++ last.text; left = last.left }
 
 infixl 10 ◌then◌
--- a text, and one that begins with the count that the first leaves
+-- a text, followed by one that begins with the count that the first leaves
 abbrev pub ◌then◌ : Shown → (ℕ → Shown) → Shown
 first then second = record { text = first.text ++ (second first.left).text; left = (second first.left).left }
 
--- Where the items of a hash map stand behind a text: `...` stands for all that is left of the map, or it goes on with the count that remains, and
--- an item's text came before or none.
+-- Where the text of a hash map's items stands: either `...` stood for all that is left of
+-- the map, or the text goes on with the count that remains, after an item's text or none.
 pub data Stand : Type 0 where
   Cut : Stand
   At : Bool → ℕ → Stand
 
--- the text of some items of a hash map, and where the text stands behind them
+-- the text of some items of a hash map, and where it stands after them
 pub record Listed : Type 0 where
   pub text : List ℕ
   pub stand : Stand
@@ -40,13 +40,13 @@ pub record Listed : Type 0 where
 abbrev pub listed : List ℕ → Stand → Listed
 listed text stand = record { text = text; stand = stand }
 
--- nothing is written behind a cut
+-- nothing is written after a cut
 abbrev pub go_on : (Bool → ℕ → Listed) → Stand → Listed
 go_on second Cut = listed [] Cut
 go_on second (At came m) = second came m
 
 infixl 10 ◌followed◌
--- some items, and those that come behind them
+-- some items, and those that come after them
 abbrev pub ◌followed◌ : Listed → (Bool → ℕ → Listed) → Listed
 first followed second = listed (first.text ++ (go_on second first.stand).text) (go_on second first.stand).stand
 
@@ -59,7 +59,7 @@ left_at (At came m) = m
 abbrev pub closed : Listed → Shown
 closed inside = shown (inside.text ++ codes "}") (left_at inside.stand)
 
--- the comma behind a text
+-- the comma after a text
 abbrev pub comma : Bool → List ℕ
 comma true = codes ","
 comma false = []
@@ -68,11 +68,11 @@ comma false = []
 abbrev pub cut : Bool → Listed
 cut came = listed (comma came ++ codes "...") Cut
 
--- a value behind its key, in a hash map
+-- a value after its key, in a hash map
 abbrev pub valued : Shown → Listed
 valued value = listed (codes "=>" ++ value.text) (At true value.left)
 
--- a key, and what follows, in a hash map
+-- a key and what follows it, in a hash map
 abbrev pub key_then : Bool → Shown → (ℕ → Listed) → Listed
 key_then came key second = listed (comma came ++ (key.text ++ (second key.left).text)) (second key.left).stand
 
@@ -100,9 +100,10 @@ leaf_tail false text m = shown (codes "|" ++ (text ++ codes "]")) m
 abbrev pub barred : Shown → Shown
 barred tail = shown (codes "|" ++ (tail.text ++ codes "]")) tail.left
 
--- `leaf` gives the texts of leaves. Each function takes the count that remains, and a node is visited, which takes one, only where one remains.
+-- `leaf` gives the texts of leaves. Each function takes the count that
+-- remains; visiting a node takes one, and happens only if one remains.
 abbrev mutual
-  -- a node that is visited, by the count that remains behind the visit
+  -- a node that is visited, with the count that remains after the visit
   pub node_text : (Value → List ℕ) → Tree → ℕ → Shown
   node_text leaf (Leaf value) m = shown (leaf value) m
   node_text leaf (Bad address why) m = shown (bad_text address why) m
@@ -110,11 +111,11 @@ abbrev mutual
   node_text leaf (Branch kinds.Tuple children) m = led (codes "{") (elements_text leaf false children m)
   node_text leaf (Branch kinds.Flat children) m = led (codes "#{") (keys_text leaf false children m)
   node_text leaf (Branch kinds.Hash children) m = led (codes "#{") (closed (items_text leaf false children m))
-  -- these two are no terms: they stand in a hash map alone
+  -- these two are no terms: they occur only in a hash map
   node_text leaf (Branch kinds.Inner children) m = shown [] m
   node_text leaf (Branch kinds.Pair children) m = shown [] m
 
-  -- a list from its head on; each list cell has a head and a tail
+  -- a list from its head on; each cons cell has a head and a tail
   pub head_text : (Value → List ℕ) → Trees → ℕ → Shown
   head_text leaf none m = shown [] m
   head_text leaf (more head rest) zero = shown (codes "...]") 0
@@ -128,13 +129,13 @@ abbrev mutual
   tail_text leaf (more (Branch kinds.Cons children) rest) (suc m) = led (codes ",") (head_text leaf children m)
   tail_text leaf (more tail rest) (suc m) = barred (node_text leaf tail m)
 
-  -- the elements of a tuple from one of them on, behind some or none
+  -- the elements of a tuple from one of them on, after some or none
   pub elements_text : (Value → List ℕ) → Bool → Trees → ℕ → Shown
   elements_text leaf came none m = shown (codes "}") m
   elements_text leaf came (more element rest) zero = shown (comma came ++ codes "...}") 0
   elements_text leaf came (more element rest) (suc m) = led (comma came) (node_text leaf element m then elements_text leaf true rest)
 
-  -- the pairs of a flat map from a key on, behind some or none
+  -- the pairs of a flat map from a key on, after some or none
   pub keys_text : (Value → List ℕ) → Bool → Trees → ℕ → Shown
   keys_text leaf came none m = shown (codes "}") m
   keys_text leaf came (more key rest) zero = shown (comma came ++ codes "...}") 0
@@ -146,13 +147,13 @@ abbrev mutual
   values_text leaf (more value rest) zero = shown (codes "=>...}") 0
   values_text leaf (more value rest) (suc m) = led (codes "=>") (node_text leaf value m then keys_text leaf true rest)
 
-  -- the items of a hash map from one of them on, behind an item's text or none
+  -- the items of a hash map from one of them on, after an item's text or none
   pub items_text : (Value → List ℕ) → Bool → Trees → ℕ → Listed
   items_text leaf came none m = listed [] (At came m)
   items_text leaf came (more item rest) zero = cut came
   items_text leaf came (more item rest) (suc m) = item_text leaf came item m followed (λ c. items_text leaf c rest)
 
-  -- an item that is visited. The children of an inner node stand in its place
+  -- an item that is visited; the children of an inner node take its place
   pub item_text : (Value → List ℕ) → Bool → Tree → ℕ → Listed
   item_text leaf came (Branch kinds.Pair children) m = pair_text leaf came children m
   item_text leaf came (Branch kinds.Inner children) m = items_text leaf came children m

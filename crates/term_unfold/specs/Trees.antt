@@ -7,7 +7,7 @@ use Rattle.term_unfold.specs.declared.node.NodeKind.{NodeKind}
 use Rattle.term_unfold.specs.declared.verdict.Verdict.{Verdict}
 use Rattle.term_unfold.specs.declared.verdict.Verdict.TheVariants as verdicts
 
--- what a leaf holds: an element that is no reference, or a cell with its address
+-- what a leaf holds: an immediate, or a cell with its address
 pub data Value : Type 0 where
   Immediate : Element → Value
   OfCell : ℕ → HeapForm → Value
@@ -33,13 +33,13 @@ abbrev mutual
   pre_all none = []
   pre_all (more tree trees) = pre tree ++ pre_all trees
 
--- what a node says by itself
+-- the verdict on a node by itself
 abbrev pub seen : Tree → Verdict
 seen (Leaf value) = verdicts.Clean
 seen (Bad address why) = verdicts.Bad address why
 seen (Branch kind children) = verdicts.Clean
 
--- the first that is bad of an earlier and a later verdict
+-- of an earlier and a later verdict, the first that is bad
 abbrev pub or_else : Verdict → Verdict → Verdict
 or_else verdicts.Clean later = later
 or_else (verdicts.Bad address why) later = verdicts.Bad address why

@@ -13,22 +13,24 @@ use Rattle.term_unfold.specs.Text.{reason, show}
 use Rattle.term_unfold.specs.Trees.{verdict}
 use Rattle.term_unfold.specs.Unfolding.{unfolding_of}
 
--- a heap, the previews of its references to binaries, and for how many entries of the walks' stack memory is taken
+-- a heap, the previews of its references to binaries, and for
+-- how many entries of the walks' stack memory has been taken
 pub record Walk : Type 0 where
   pub heap : HeapMap
   pub previews : List Entry
   pub reserved : ℕ
 
--- a walker over the two, with room for exactly one entry more than there are cells
+-- a walker over these two, with room for exactly one more entry than there are cells
 abbrev pub walk : HeapMap → List Entry → Walk
 walk heap previews = record { heap = heap; previews = previews; reserved = length heap.cells + 1 }
 
--- the first bad address, or the text where none is bad
+-- the first bad address, or the text if none is bad
 abbrev pub judged_text : Verdict → List ℕ → List ℕ
 judged_text Clean text = text
 judged_text (Bad address why) text = codes "! " ++ (reason why ++ (codes " " ++ hexadecimal address))
 
--- the answer to a root: its text with bad addresses in their places, or, where they aren't marked, the first of them in place of the text
+-- the answer to a root: its text with bad addresses in their places,
+-- or, if they aren't marked, the first of them instead of the text
 abbrev pub answer : Enc → List Entry → List Cell → Element → ℕ → Bool → List ℕ
 answer enc previews heap root n true = show (leaf_text enc heap previews) (unfolding_of heap root) n
 answer enc previews heap root n false = judged_text (verdict (unfolding_of heap root) n) (show (leaf_text enc heap previews) (unfolding_of heap root) n)

@@ -9,7 +9,7 @@ ghost use Rattle.term_unfold.specs.Rules.{terms, items, pairs};
 use crate::node::NodeKind;
 use heap_cells::{CellIx, Heap, Kind, Slot};
 
-/// A child of an open cell, by the place from 0 at which its element stands in a cell.
+/// A child of an open cell, given by the place, from 0, at which its element stands in a cell.
 #[derive(Clone, Copy)]
 pub(crate) enum Child {
     /// A term, with its slot.
@@ -18,7 +18,7 @@ pub(crate) enum Child {
     Item(CellIx, u32),
 }
 
-// The element of a cell at a place, as a term.
+// The element at a place of a cell, as a term.
 #[inline(always)]
 fn term_at(heap: &Heap, ix: CellIx, place: u32) -> Option<Child>
     requires cell { number ix < length heap.now.cells }
@@ -29,7 +29,7 @@ fn term_at(heap: &Heap, ix: CellIx, place: u32) -> Option<Child>
     Some(Child::Term(slot, ix, place))
 }
 
-// The head or the tail of a list cell, as a term.
+// The head or the tail of a cons cell, as a term.
 #[inline(always)]
 fn head_or_tail(heap: &Heap, ix: CellIx, place: u32) -> Option<Child>
     requires cell { number ix < length heap.now.cells }
@@ -43,7 +43,8 @@ fn head_or_tail(heap: &Heap, ix: CellIx, place: u32) -> Option<Child>
     }
 }
 
-// A key or the value behind it, where the keys stand in one cell, and the values behind the first element of another.
+// A key or the value after it, when the keys are in one cell,
+// and the values are in another, after its first element.
 fn key_or_value(heap: &Heap, ix: CellIx, keys: CellIx, place: u32) -> Option<Child>
     requires map { number ix < length heap.now.cells }
     requires keys { number keys < length heap.now.cells }
@@ -104,7 +105,7 @@ fn member_at(heap: &Heap, ix: CellIx, place: u32) -> Option<Child>
     }
 }
 
-/// The child at a place from 0 of a cell, by what the cell is in the walk.
+/// The child at a place, from 0, of a cell, by what the cell is in the walk.
 #[inline(always)]
 pub(crate) fn child_at(heap: &Heap, ix: CellIx, kind: NodeKind, place: u32) -> Option<Child>
     requires cell { number ix < length heap.now.cells }

@@ -16,7 +16,7 @@ use crate::verdict::Verdict;
 use heap_cells::Heap;
 use term_forms::shapes::Elem;
 
-// The child that comes next, below the cells that the walk is in then.
+// The child that comes next. Leaves the innermost cells that have none left.
 fn next_child(heap: &Heap, path: &mut Path) -> Option<Child>
     requires serves { Serves heap.now path.old.cells }
     ensures cells { path.new.cells ≡ path.old.cells }
@@ -37,7 +37,7 @@ fn next_child(heap: &Heap, path: &mut Path) -> Option<Child>
     None
 }
 
-/// Enters what was found of a child, if it is a node.
+/// Enters what was found for a child, if it is a node.
 pub(crate) fn enter(path: &mut Path, opened: Opened, came: bool)
     requires { MayEnter path.old opened }
     ensures { path.new ≡ record path.old { entries = entered_by opened came path.old.entries } }
@@ -47,7 +47,7 @@ pub(crate) fn enter(path: &mut Path, opened: Opened, came: bool)
     }
 }
 
-// What is said of a child by itself.
+// The verdict on a child by itself.
 fn judge_opened(opened: Opened) -> Verdict
     ensures { result ≡ verdict_on opened }
 {
@@ -59,7 +59,7 @@ fn judge_opened(opened: Opened) -> Verdict
     }
 }
 
-// Visits a child of the innermost cell.
+// Visits a child of the innermost cell, and returns the verdict on it.
 fn visit(heap: &Heap, path: &mut Path, child: Child) -> Verdict
     requires serves { Serves heap.now path.old.cells }
     requires few { length path.old.entries ≤ length heap.now.cells }
@@ -72,7 +72,7 @@ fn visit(heap: &Heap, path: &mut Path, child: Child) -> Verdict
     judge_opened(opened)
 }
 
-// Visits a root.
+// Visits a root, and returns the verdict on it.
 fn visit_root(heap: &Heap, path: &mut Path, root: &Elem<'_>) -> Verdict
     requires serves { Serves heap.now path.old.cells }
     requires few { length path.old.entries ≤ length heap.now.cells }
@@ -84,7 +84,7 @@ fn visit_root(heap: &Heap, path: &mut Path, root: &Elem<'_>) -> Verdict
     judge_opened(opened)
 }
 
-/// The first bad node among the first `budget` nodes of the root, with the walk left where it stops.
+/// The first bad node among the first `budget` nodes of the root. The walk is left where it stops.
 pub(crate) fn first_bad(heap: &Heap, path: &mut Path, root: &Elem<'_>, budget: u32) -> Verdict
     requires serves { Serves heap.now path.old.cells }
     requires empty { path.old.entries ≡ [] }

@@ -11,22 +11,22 @@ ghost use Rattle.term_unfold.specs.Unfolding.{unfolded};
 
 use crate::node::NodeKind;
 
-/// The unfolding follows the rules with no number of levels; more levels than there are cells change nothing; a term
-/// unfolds to a term, and a child of a hash map to an item.
+/// The unfolding follows the rules without a bound on levels; more levels than there are
+/// cells change nothing; a term unfolds to a term, and a child of a hash map to an item.
 pub fn unfolding_is_finite()
     ensures rules { FollowsRules unfolded }
     ensures enough { IsEnough }
     ensures suits { (heap : List Cell) (path : List ℕ) (child : Child) → Suits child (unfolded heap path child) }
 {}
 
-/// The text over n nodes depends on the first n nodes alone: two terms whose first n nodes look alike and stand at the
-/// same places have the same text, whatever the texts of leaves are.
+/// The text over n nodes depends on the first n nodes alone: two terms whose first n nodes look
+/// alike and stand at the same places have the same text, whatever the texts of leaves are.
 pub fn text_is_of_first_nodes()
     ensures { (leaf : Value → List ℕ) (t u : Tree) (n : ℕ) → IsTerm t → IsTerm u → take n (nodes_of leaf t) ≡ take n (nodes_of leaf u) → show leaf t n ≡ show leaf u n }
 {}
 
-/// A hash map with an inner node in front has the text of the map with that node's children in front, where one node more
-/// is visited: the inner node itself.
+/// A hash map that begins with an inner node has the text of the map that begins with
+/// that node's children instead, when one more node is visited: the inner node itself.
 pub fn inner_node_is_its_children()
     ensures { (leaf : Value → List ℕ) (children rest : Trees) (n : ℕ)
         → show leaf (Branch NodeKind.Hash (more (Branch NodeKind.Inner children) rest)) (n + 2) ≡ show leaf (Branch NodeKind.Hash (joined children rest)) (n + 1) }

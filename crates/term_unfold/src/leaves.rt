@@ -2,7 +2,7 @@
 ghost use Rattle.std.specs.Prelude.{◌≡◌, ◌<◌, ◌≤◌, ◌*◌, ◌++◌, length, codes, is_some, IsSome, IfSome};
 ghost use Rattle.std.specs.List.{flat_map};
 ghost use Rattle.std.specs.Option.{option_map};
-ghost use Rattle.dump_io.specs.Sinks.{changed, Puts};
+ghost use Rattle.dump_io.specs.Sinks.{Puts};
 ghost use Rattle.dump_io.specs.Numbers.{hex_byte};
 ghost use Rattle.heap_cells.specs.HeapMap.{IsSpelled, form_at};
 ghost use Rattle.heap_cells.specs.Targets.{number};
@@ -34,7 +34,7 @@ fn why_text(why: Why) -> &'static [u8]
 
 /// Writes a bad address in its place.
 pub(crate) fn put_bad<K: Sink>(sink: &mut K, addr: u64, why: Why) -> Result<(), Failed>
-    ensures { Puts (changed K.written K.faults sink.old sink.new) (bad_text addr why) result }
+    ensures { Puts (K.state sink.old) (K.state sink.new) (bad_text addr why) result }
 {
     put_pieces(
         sink,
@@ -48,14 +48,14 @@ pub(crate) fn put_bad<K: Sink>(sink: &mut K, addr: u64, why: Why) -> Result<(), 
 }
 
 fn put_port<K: Sink>(sink: &mut K, port: &[u8]) -> Result<(), Failed>
-    ensures { Puts (changed K.written K.faults sink.old sink.new) (port_text port.now) result }
+    ensures { Puts (K.state sink.old) (K.state sink.new) (port_text port.now) result }
 {
     put_pieces(sink, &[Piece::Bytes(b"#Port"), Piece::Bytes(port)])
 }
 
-/// Writes an element that is no reference.
+/// Writes an immediate: an element that is no reference.
 pub(crate) fn put_element<K: Sink>(sink: &mut K, e: &Elem<'_>) -> Result<(), Failed>
-    ensures { Puts (changed K.written K.faults sink.old sink.new) (element_text (element e.now)) result }
+    ensures { Puts (K.state sink.old) (K.state sink.new) (element_text (element e.now)) result }
 {
     match e {
         Elem::Nil => write_all(sink, b"[]"),
@@ -73,7 +73,7 @@ fn dots_text(size: u64) -> &'static [u8]
     if size > 32 { b".." } else { b"" }
 }
 
-// The digits of bytes in upper-case hex.
+// Writes the digits of bytes in upper-case hex into a buffer.
 fn write_digits(bytes: &[u8], into: &mut [u8])
     requires { length into.old ≡ 2 * length bytes.now }
     ensures { into.new ≡ flat_map hex_byte bytes.now }
@@ -82,10 +82,10 @@ fn write_digits(bytes: &[u8], into: &mut [u8])
     into.make_ascii_uppercase();
 }
 
-// Writes 32 bytes or less in upper-case hex.
+// Writes at most 32 bytes in upper-case hex.
 fn put_digits<K: Sink>(sink: &mut K, bytes: &[u8]) -> Result<(), Failed>
     requires { length bytes.now ≤ 32 }
-    ensures { Puts (changed K.written K.faults sink.old sink.new) (flat_map hex_byte bytes.now) result }
+    ensures { Puts (K.state sink.old) (K.state sink.new) (flat_map hex_byte bytes.now) result }
 {
     let mut buffer = [0; 64];
     let digits = &mut buffer[..2 * bytes.len()];
@@ -95,7 +95,7 @@ fn put_digits<K: Sink>(sink: &mut K, bytes: &[u8]) -> Result<(), Failed>
 
 fn put_known<K: Sink>(sink: &mut K, size: u64, bytes: &[u8]) -> Result<(), Failed>
     requires { length bytes.now ≤ 32 }
-    ensures { Puts (changed K.written K.faults sink.old sink.new) (flat_map hex_byte bytes.now ++ dots size) result }
+    ensures { Puts (K.state sink.old) (K.state sink.new) (flat_map hex_byte bytes.now ++ dots size) result }
 {
     put_digits(sink, bytes)?;
     write_all(sink, dots_text(size))
@@ -103,7 +103,7 @@ fn put_known<K: Sink>(sink: &mut K, size: u64, bytes: &[u8]) -> Result<(), Faile
 
 fn put_preview<K: Sink>(sink: &mut K, size: u64, preview: Option<&[u8]>) -> Result<(), Failed>
     requires { IfSome preview (λ bytes. length bytes.now ≤ 32) }
-    ensures { Puts (changed K.written K.faults sink.old sink.new) (preview_text size (option_map (λ bytes. bytes.now) preview.entry)) result }
+    ensures { Puts (K.state sink.old) (K.state sink.new) (preview_text size (option_map (λ bytes. bytes.now) preview.entry)) result }
 {
     match preview {
         None => write_all(sink, b"?"),
@@ -119,7 +119,7 @@ fn put_sized<K: Sink>(
     preview: Option<&[u8]>,
 ) -> Result<(), Failed>
     requires { IfSome preview (λ bytes. length bytes.now ≤ 32) }
-    ensures { Puts (changed K.written K.faults sink.old sink.new) (sized_text word.now size (option_map (λ bytes. bytes.now) preview.entry)) result }
+    ensures { Puts (K.state sink.old) (K.state sink.new) (sized_text word.now size (option_map (λ bytes. bytes.now) preview.entry)) result }
 {
     put_pieces(
         sink,
@@ -129,7 +129,7 @@ fn put_sized<K: Sink>(
     write_all(sink, b">")
 }
 
-// Writes a cell that has its own payload.
+// Writes a cell that holds its own payload.
 fn put_payload<K: Sink>(
     sink: &mut K,
     word: &[u8],
@@ -138,7 +138,7 @@ fn put_payload<K: Sink>(
     chars: &[u8],
 ) -> Result<(), Failed>
     requires { IsPayloadOf enc chars.now size }
-    ensures { Puts (changed K.written K.faults sink.old sink.new) (sized_text word.now size (own_preview enc size chars.now)) result }
+    ensures { Puts (K.state sink.old) (K.state sink.new) (sized_text word.now size (own_preview enc size chars.now)) result }
 {
     let mut buffer = [0; 32];
     let first = &mut buffer[..size.min(32) as usize];
@@ -146,7 +146,7 @@ fn put_payload<K: Sink>(
     put_sized(sink, word, size, Some(first))
 }
 
-// The first bytes of what a cell refers to, where they are known.
+// The first bytes of what a cell refers to, if they are known.
 fn preview_of<'a>(previews: &'a Previews, ix: CellIx) -> Option<&'a [u8]>
     requires { IsSome (entry_at previews.now (number ix)) }
     ensures bytes { option_map (λ bytes. bytes.now) result ≡ preview_of previews.now (number ix) }
@@ -166,12 +166,12 @@ fn put_reference<K: Sink>(
     size: u64,
 ) -> Result<(), Failed>
     requires { IsSome (entry_at previews.now (number ix)) }
-    ensures { Puts (changed K.written K.faults sink.old sink.new) (sized_text (codes "#Bin<") size (preview_of previews.now (number ix))) result }
+    ensures { Puts (K.state sink.old) (K.state sink.new) (sized_text (codes "#Bin<") size (preview_of previews.now (number ix))) result }
 {
     put_sized(sink, b"#Bin<", size, preview_of(previews, ix))
 }
 
-// Writes a cell that has no children; a cell that refers to a binary has a preview.
+// Writes a cell that has no children. If it refers to a binary, it has a preview.
 fn put_form<K: Sink>(
     sink: &mut K,
     enc: Enc,
@@ -181,7 +181,7 @@ fn put_form<K: Sink>(
 ) -> Result<(), Failed>
     requires spelled { IsSpelled enc (heap_form form.now) }
     requires entry { is_some (entry_at previews.now (number ix)) ≡ is_some (stated (number ix) (heap_form form.now)) }
-    ensures { Puts (changed K.written K.faults sink.old sink.new) (form_text enc (preview_of previews.now (number ix)) (heap_form form.now)) result }
+    ensures { Puts (K.state sink.old) (K.state sink.new) (form_text enc (preview_of previews.now (number ix)) (heap_form form.now)) result }
 {
     match form {
         Form::Float(bytes) => write_all(sink, bytes),
@@ -209,7 +209,7 @@ pub(crate) fn put_cell<K: Sink>(
 ) -> Result<(), Failed>
     requires cell { number ix < length heap.now.cells }
     requires previews { AreFor heap.now.cells previews.now }
-    ensures { Puts (changed K.written K.faults sink.old sink.new)
+    ensures { Puts (K.state sink.old) (K.state sink.new)
         (cell_text (leaf_text heap.now.enc heap.now.cells previews.now) (address_of heap.now.cells (number ix)) (form_at heap.now.cells (number ix))) result }
 {
     let _count = heap.cells();

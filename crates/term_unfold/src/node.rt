@@ -3,7 +3,7 @@
 /// The kind of a node that has children.
 #[derive(Clone, Copy, Debug, PartialEq, Eq)]
 pub enum NodeKind {
-    /// A list cell: its head and its tail.
+    /// A cons cell: its head and its tail.
     Cons,
     /// A tuple: its elements.
     Tuple,

@@ -1,4 +1,4 @@
-// What the walk finds where it comes to a child.
+// What the walk finds when it comes to a child.
 ghost use Rattle.std.specs.Prelude.{◌≡◌, ◌<◌, ◌≤◌, false, ◌∷◌, length, Some, IsFalse};
 ghost use Rattle.std.specs.Option.{option_map};
 ghost use Rattle.heap_cells.specs.Cells.{kind_of};
@@ -19,10 +19,10 @@ use heap_cells::{CellIx, Heap, Kind, Seat, Slot, Why};
 use map_nodes::{KeysAt, MapChild, child_of, keys_of};
 use term_forms::shapes::Elem;
 
-/// What a child is below the cells that the walk is in.
+/// What a child is, below the cells that the walk is in.
 #[derive(Clone, Copy)]
 pub(crate) enum Opened {
-    /// A leaf: an element that is no reference.
+    /// A leaf: an immediate.
     Immediate,
     /// A leaf: a cell that has no children.
     Leaf(CellIx),
@@ -43,7 +43,8 @@ fn is_open(heap: &Heap, path: &Path, ix: CellIx) -> bool
     path.contains(ix)
 }
 
-// What is found at an address that no cell has. The walk is in cells alone, so it isn't in one with that address.
+// What is found at an address that no cell has. The walk
+// is only in cells, so it isn't in one with that address.
 fn missing(path: &Path, addr: u64) -> Opened
     ensures found { result ≡ Opened.Bad addr Why.Missing }
     ensures line { IsLine path.now.cells (numbers_of path.now.entries) }
@@ -52,7 +53,7 @@ fn missing(path: &Path, addr: u64) -> Opened
     Opened::Bad(addr, Why::Missing)
 }
 
-// A flat map that the walk isn't in, whose keys element refers to a cell.
+// A flat map that the walk isn't in and whose keys element refers to a cell.
 fn open_keyed(heap: &Heap, path: &Path, ix: CellIx, keys: CellIx) -> Opened
     requires cell { number ix < length heap.now.cells }
     requires keys { number keys < length heap.now.cells }
@@ -134,7 +135,7 @@ fn open_slot(heap: &Heap, path: &Path, slot: Slot) -> Opened
     }
 }
 
-// An item of the hash map or the inner node `parent` that refers to a cell.
+// An item of the hash map or the inner node `parent`, which refers to a cell.
 fn open_member(heap: &Heap, path: &Path, parent: CellIx, place: u32, ix: CellIx) -> Opened
     requires item { IsItemAt heap.now.cells (number parent) place }
     requires cell { number ix < length heap.now.cells }

@@ -1,4 +1,4 @@
-// The cells that a walk is in: a stack with one mark for each cell.
+// The cells that a walk is in: a stack, and a mark for each cell.
 ghost use Rattle.std.specs.Prelude.{◌≡◌, ◌<◌, ◌≤◌, ◌+◌, ◌^◌, [], ◌∷◌, length, slice_get, drop, IfOk, IfSome, MatchOption};
 ghost use Rattle.heap_cells.specs.Targets.{number};
 ghost use Rattle.term_unfold.specs.Inner.Entries.{Entered, numbers_of, stepped, told, IsLine};
@@ -9,8 +9,8 @@ use heap_cells::CellIx;
 use std::alloc::{AllocError, Global};
 use std::marker::Model;
 
-/// A cell that the walk is in: what it is there, the place of its next child, and whether something came before: in a
-/// list a tail that a `]` has to follow, in a tuple or a map a text that a comma has to follow.
+/// A cell that the walk is in: what it is there, the place of its next child, and whether something came
+/// before: in a list, a tail that a `]` has to follow; in a tuple or a map, a text that a comma has to follow.
 #[derive(Clone, Copy)]
 pub(crate) struct Entry {
     pub cell: CellIx,
@@ -39,7 +39,7 @@ impl Model for Path {
 }
 
 impl Path {
-    /// Room for a walk over so many cells: a mark for each, and one entry more than there are cells.
+    /// Room for a walk over `cells` cells: a mark for each, and one more entry than there are cells.
     pub fn new(alloc: Global, cells: usize) -> Result<Path, AllocError>
         requires { cells < 2 ^ 32 }
         ensures { IfOk result (λ path. path ≡ record { cells = cells; reserved = cells + 1; entries = [] }) }
@@ -58,7 +58,7 @@ impl Path {
         self.marks[cell.number() as usize]
     }
 
-    /// The cells that the walk is in are different cells of the heap.
+    /// The cells that the walk is in are distinct cells of the heap.
     pub fn line(&self)
         ensures { IsLine self.now.cells (numbers_of self.now.entries) }
     {
@@ -90,7 +90,7 @@ impl Path {
         self.marks[cell.number() as usize] = true;
     }
 
-    /// Goes on to the next child of the innermost cell, behind a text or behind none.
+    /// Goes on to the next child of the innermost cell, after a text or after none.
     pub fn step(&mut self, came: bool)
         requires entry { 0 < length self.old.entries }
         requires few { IfSome (slice_get self.old.entries 0) (λ e. e.next + 1 < 2 ^ 32) }
@@ -106,7 +106,7 @@ impl Path {
         };
     }
 
-    /// Notes of the innermost cell whether something came before its next child.
+    /// Records for the innermost cell whether something came before its next child.
     pub fn tell(&mut self, came: bool)
         ensures { self.new ≡ record self.old { entries = told came self.old.entries } }
     {
@@ -133,7 +133,7 @@ impl Path {
         }
     }
 
-    /// Leaves each cell. The room stays what it was made with.
+    /// Leaves all cells. The room stays as it was when it was made.
     pub fn clear(&mut self)
         ensures left { self.new ≡ record self.old { entries = [] } }
         ensures reserved { self.new.reserved ≡ self.new.cells + 1 }

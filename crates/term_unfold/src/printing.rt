@@ -1,6 +1,6 @@
 // The walk that prints.
 ghost use Rattle.std.specs.Prelude.{◌≡◌, ◌<◌, ◌≤◌, ◌-◌, [], ◌∷◌, length, drop, if◌then◌else◌};
-ghost use Rattle.dump_io.specs.Sinks.{changed, Puts};
+ghost use Rattle.dump_io.specs.Sinks.{Puts};
 ghost use Rattle.term_forms.specs.Seen.{element};
 ghost use Rattle.binary_refs.specs.Previews.{AreFor};
 ghost use Rattle.term_unfold.specs.Inner.Entries.{Serves};
@@ -40,10 +40,10 @@ fn bracket_text(kind: NodeKind) -> &'static [u8]
     }
 }
 
-// Writes the element at a place of a cell; a reference is no text.
+// Writes the element at a place of a cell; for a reference, nothing.
 fn put_place<K: Sink>(sink: &mut K, heap: &Heap, ix: CellIx, place: u32) -> Result<(), Failed>
     requires { IsPlace heap.now.cells (number ix) place }
-    ensures { Puts (changed K.written K.faults sink.old sink.new) (element_text (element_at heap.now.cells (number ix) place)) result }
+    ensures { Puts (K.state sink.old) (K.state sink.new) (element_text (element_at heap.now.cells (number ix) place)) result }
 {
     match heap.kid(ix, place) {
         Kid::Imm(e) => put_element(sink, &e),
@@ -52,10 +52,10 @@ fn put_place<K: Sink>(sink: &mut K, heap: &Heap, ix: CellIx, place: u32) -> Resu
     }
 }
 
-// Writes a child that is an element and no reference.
+// Writes a child that is an immediate.
 fn put_immediate<K: Sink>(sink: &mut K, heap: &Heap, child: Child) -> Result<(), Failed>
     requires { IsKid heap.now.cells child }
-    ensures { Puts (changed K.written K.faults sink.old sink.new) (element_text (element_of (child_shown heap.now.cells child))) result }
+    ensures { Puts (K.state sink.old) (K.state sink.new) (element_text (element_of (child_shown heap.now.cells child))) result }
 {
     match child {
         Child::Term(_, ix, place) => put_place(sink, heap, ix, place),
@@ -74,7 +74,7 @@ fn put_own<K: Sink>(
     requires previews { AreFor heap.now.cells previews.now }
     requires kid { IsKid heap.now.cells child }
     requires cell { LeafWithin heap.now.cells opened }
-    ensures { Puts (changed K.written K.faults sink.old sink.new)
+    ensures { Puts (K.state sink.old) (K.state sink.new)
         (own_text (leaf_text heap.now.enc heap.now.cells previews.now) heap.now.cells (child_shown heap.now.cells child) opened) result }
 {
     match opened {
@@ -95,7 +95,7 @@ fn put_own_if<K: Sink>(
     requires previews { AreFor heap.now.cells previews.now }
     requires kid { IsKid heap.now.cells child }
     requires cell { LeafWithin heap.now.cells turn.now.opened }
-    ensures { Puts (changed K.written K.faults sink.old sink.new)
+    ensures { Puts (K.state sink.old) (K.state sink.new)
         (if turn.now.own then own_text (leaf_text heap.now.enc heap.now.cells previews.now) heap.now.cells (child_shown heap.now.cells child) turn.now.opened else []) result }
 {
     if turn.own {
@@ -105,7 +105,7 @@ fn put_own_if<K: Sink>(
     }
 }
 
-// Writes what the walk says where it comes to a child.
+// Writes what the walk puts out when it comes to a child.
 fn put_turn<K: Sink>(
     sink: &mut K,
     heap: &Heap,
@@ -116,14 +116,14 @@ fn put_turn<K: Sink>(
     requires previews { AreFor heap.now.cells previews.now }
     requires kid { IsKid heap.now.cells child }
     requires cell { LeafWithin heap.now.cells turn.now.opened }
-    ensures { Puts (changed K.written K.faults sink.old sink.new)
+    ensures { Puts (K.state sink.old) (K.state sink.new)
         (turn_text (leaf_text heap.now.enc heap.now.cells previews.now) heap.now.cells (child_shown heap.now.cells child) turn.now) result }
 {
     write_all(sink, turn.front)?;
     put_own_if(sink, heap, previews, child, turn)
 }
 
-// The count that remains, where a text was written.
+// The remaining count, if a text was written.
 fn counted(written: Result<(), Failed>, left: u32) -> Result<u32, Failed>
     ensures { result ≡ counted_of written left }
 {
@@ -133,7 +133,7 @@ fn counted(written: Result<(), Failed>, left: u32) -> Result<u32, Failed>
     }
 }
 
-// Goes on with the innermost cell, where so many nodes remain.
+// Goes on with the innermost cell, when `left` nodes remain.
 fn step<K: Sink>(
     heap: &Heap,
     previews: &Previews,
@@ -149,7 +149,7 @@ fn step<K: Sink>(
     requires few { length path.old.entries ≤ length heap.now.cells }
     ensures cells { path.new.cells ≡ path.old.cells }
     ensures falls { Falls path.old.entries path.new.entries left result }
-    ensures step { Steps (changed K.written K.faults sink.old sink.new)
+    ensures step { Steps (K.state sink.old) (K.state sink.new)
         (rest (leaf_text heap.now.enc heap.now.cells previews.now) heap.now.cells path.old.entries left)
         (rest (leaf_text heap.now.enc heap.now.cells previews.now) heap.now.cells path.new.entries) result }
 {
@@ -175,7 +175,7 @@ fn put_root<K: Sink>(
 ) -> Result<(), Failed>
     requires previews { AreFor heap.now.cells previews.now }
     requires cell { LeafWithin heap.now.cells opened }
-    ensures { Puts (changed K.written K.faults sink.old sink.new)
+    ensures { Puts (K.state sink.old) (K.state sink.new)
         (own_text (leaf_text heap.now.enc heap.now.cells previews.now) heap.now.cells (Term (element root.now)) opened) result }
 {
     match opened {
@@ -200,7 +200,7 @@ fn print_root<K: Sink>(
     requires empty { path.old.entries ≡ [] }
     requires budget { 0 < budget }
     ensures cells { path.new.cells ≡ path.old.cells }
-    ensures step { Steps (changed K.written K.faults sink.old sink.new)
+    ensures step { Steps (K.state sink.old) (K.state sink.new)
         (show (leaf_text heap.now.enc heap.now.cells previews.now) (unfolding_of heap.now.cells (element root.now)) budget)
         (rest (leaf_text heap.now.enc heap.now.cells previews.now) heap.now.cells path.new.entries) result }
 {
@@ -209,7 +209,7 @@ fn print_root<K: Sink>(
     counted(put_root(sink, heap, previews, root, opened), budget - 1)
 }
 
-/// Writes the whole text of a root, over as many nodes as the budget says.
+/// Writes the whole text of a root, over as many nodes as the budget allows.
 pub(crate) fn print_all<K: Sink>(
     heap: &Heap,
     previews: &Previews,
@@ -223,7 +223,7 @@ pub(crate) fn print_all<K: Sink>(
     requires empty { path.old.entries ≡ [] }
     requires budget { 0 < budget }
     ensures cells { path.new.cells ≡ path.old.cells }
-    ensures puts { Puts (changed K.written K.faults sink.old sink.new)
+    ensures puts { Puts (K.state sink.old) (K.state sink.new)
         (show (leaf_text heap.now.enc heap.now.cells previews.now) (unfolding_of heap.now.cells (element root.now)) budget) result }
 {
     let mut left = print_root(heap, previews, path, root, budget, sink)?;

@@ -1,4 +1,4 @@
-// The steps of the walk that prints: what each writes, and where the walk stands then.
+// The steps of the walk that prints: what each writes, and where the walk is afterwards.
 ghost use Rattle.std.specs.Prelude.{◌≡◌, ℕ, ◌+◌, ◌<◌, ◌≤◌, ◌++◌, List, ◌∷◌, length, drop, slice_get, codes, ◌^◌, Some, IfSome};
 ghost use Rattle.heap_cells.specs.Cells.{Cell};
 ghost use Rattle.heap_cells.specs.Targets.{number};
@@ -19,7 +19,7 @@ use crate::path::{Entry, Path};
 use heap_cells::{Heap, Kid, Slot};
 use term_forms::shapes::Elem;
 
-/// What the walk writes where it comes to a child: a text in front, and the child's own text or not.
+/// What the walk writes when it comes to a child: a text before it, and the child's own text or not.
 #[derive(Clone, Copy)]
 pub(crate) struct Turn {
     pub front: &'static [u8],
@@ -33,7 +33,7 @@ fn comma_text(came: bool) -> &'static [u8]
     if came { b"," } else { b"" }
 }
 
-// What stands for all that is left of a node behind some text or none, and closes it.
+// What stands for all that is left of a node, after some text or none, and closes the node.
 fn cut_text(came: bool) -> &'static [u8]
     ensures { result.now ≡ comma came ++ codes "...}" }
 {
@@ -53,7 +53,7 @@ fn is_item_kind(kind: NodeKind) -> bool
     }
 }
 
-// Leaves the innermost node; where that is an item of a hash map, the whole map.
+// Leaves the innermost node; if that is an item of a hash map, leaves the whole map.
 fn leave_node(path: &mut Path)
     ensures { path.new ≡ record path.old { entries = outside path.old.entries } }
 {
@@ -65,7 +65,7 @@ fn leave_node(path: &mut Path)
     }
 }
 
-/// Leaves the innermost cell, which has no child left, and gives the text that closes it.
+/// Leaves the innermost cell, which has no child left, and returns the text that closes it.
 pub(crate) fn close(path: &mut Path, entry: Entry) -> &'static [u8]
     requires top { path.old.entries ≡ entry ∷ drop 1 path.old.entries }
     ensures cells { path.new.cells ≡ path.old.cells }
@@ -90,8 +90,8 @@ pub(crate) fn close(path: &mut Path, entry: Entry) -> &'static [u8]
     }
 }
 
-/// Leaves the innermost node, which has a child left that isn't visited any more, and gives the text that stands for all
-/// that is left there. Of a hash map all is left, wherever the walk is in it.
+/// Leaves the innermost node, which still has a child that won't be visited, and returns the text that
+/// stands for all that is left of it. Of a hash map everything is left out, wherever in it the walk is.
 pub(crate) fn cut(path: &mut Path, entry: Entry) -> &'static [u8]
     requires top { path.old.entries ≡ entry ∷ drop 1 path.old.entries }
     ensures cells { path.new.cells ≡ path.old.cells }
@@ -122,7 +122,7 @@ pub(crate) fn cut(path: &mut Path, entry: Entry) -> &'static [u8]
     }
 }
 
-// Goes on behind a child of the innermost cell, and enters the child if it is a node.
+// Goes on after a child of the innermost cell, and enters the child if it is a node.
 fn advance(path: &mut Path, opened: Opened, came: bool, inside: bool)
     requires some { 0 < length path.old.entries }
     requires few { IfSome (slice_get path.old.entries 0) (λ e. e.next + 1 < 2 ^ 32) }
@@ -160,7 +160,7 @@ fn is_list_kind(kind: NodeKind) -> bool
     }
 }
 
-// Whether a list goes on with what was found.
+// Whether a list continues with what was found.
 fn is_list(opened: Opened) -> bool
     ensures { result ≡ is_list opened }
 {
@@ -172,7 +172,7 @@ fn is_list(opened: Opened) -> bool
     }
 }
 
-// Goes on with a list behind its head.
+// Goes on with a list after its head.
 fn turn_tail(heap: &Heap, path: &mut Path, entry: Entry, child: Child, opened: Opened) -> Turn
     requires at { AtChild heap.now path.old entry child opened }
     requires kind { entry.kind ≡ NodeKind.Cons }
@@ -304,7 +304,7 @@ fn turn_item(heap: &Heap, path: &mut Path, entry: Entry, child: Child, opened: O
     }
 }
 
-// Goes on with the innermost cell, where so much was found of its next child.
+// Goes on with the innermost cell, given what was found for its next child.
 fn turn_by(heap: &Heap, path: &mut Path, entry: Entry, child: Child, opened: Opened) -> Turn
     requires at { AtChild heap.now path.old entry child opened }
     ensures cells { path.new.cells ≡ path.old.cells }

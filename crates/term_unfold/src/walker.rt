@@ -1,6 +1,6 @@
 // Judging and printing, any number of times, in memory that is taken once.
 ghost use Rattle.std.specs.Prelude.{◌≡◌, ◌<◌, false, IfOk};
-ghost use Rattle.dump_io.specs.Sinks.{changed, Puts};
+ghost use Rattle.dump_io.specs.Sinks.{Puts};
 ghost use Rattle.term_forms.specs.Seen.{element};
 ghost use Rattle.binary_refs.specs.Previews.{AreFor};
 ghost use Rattle.term_unfold.specs.Leaves.{leaf_text};
@@ -28,8 +28,8 @@ pub struct Walker<'h> {
     path: Path,
 }
 
-// Between two calls the walk is in no cell, and there is room for one entry more than the heap has cells. The previews have
-// an entry for exactly the cells that refer to a binary.
+// Between two calls the walk is in no cell, and there is room for one more entry than the
+// heap has cells. The previews have an entry for exactly those cells that refer to a binary.
 impl<'h> Model for Walker<'h> {
     ghost use Rattle.std.specs.Prelude.{◌≡◌, ◌+◌, []};
     ghost use Rattle.binary_refs.specs.Previews.{AreFor};
@@ -44,9 +44,9 @@ impl<'h> Model for Walker<'h> {
 }
 
 impl<'h> Walker<'h> {
-    /// A walker over a heap and its previews, which have an entry for exactly the cells that refer to a binary; the sizes
-    /// that they state play no part. It takes all the memory that the walks need: room for exactly one entry more than
-    /// there are cells, and one mark a cell.
+    /// A walker over a heap and its previews, which have an entry for exactly those cells that refer
+    /// to a binary; the sizes that they state play no part. Takes all the memory that the walks
+    /// need: room for exactly one more entry than there are cells, and one mark for each cell.
     pub fn new(
         alloc: Global,
         heap: &'h Heap,
@@ -63,7 +63,7 @@ impl<'h> Walker<'h> {
         })
     }
 
-    /// The first bad node among the first `budget` nodes of what the root unfolds to. It takes no memory.
+    /// The first bad node among the first `budget` nodes of what the root unfolds to. Takes no memory.
     pub fn judge(&mut self, root: Elem<'_>, budget: u32) -> Verdict
         requires { 0 < budget }
         ensures verdict { result ≡ verdict (unfolding_of self.old.heap.cells (element root.entry)) budget }
@@ -74,11 +74,11 @@ impl<'h> Walker<'h> {
         verdict
     }
 
-    /// Writes the text of what the root unfolds to, over as many nodes as the budget says.
+    /// Writes the text of what the root unfolds to, over as many nodes as the budget allows.
     ///
-    /// Where `marked` is false none of these nodes may be bad; else a bad one is shown in its place. It takes no memory.
-    /// `Failed` comes only where the sink's count of faults rose; a proper front of the text was written then, and the
-    /// walker can be used again.
+    /// If `marked` is false, none of these nodes may be bad; otherwise a bad one is shown in
+    /// its place. Takes no memory. Returns `Failed` only if the sink's count of faults rose;
+    /// a proper prefix of the text was written then, and the walker can be used again.
     pub fn print<K: Sink>(
         &mut self,
         root: Elem<'_>,
@@ -88,7 +88,7 @@ impl<'h> Walker<'h> {
     ) -> Result<(), Failed>
         requires budget { 0 < budget }
         requires clean { marked ≡ false → verdict (unfolding_of self.old.heap.cells (element root)) budget ≡ Verdict.Clean }
-        ensures puts { Puts (changed K.written K.faults sink.old sink.new)
+        ensures puts { Puts (K.state sink.old) (K.state sink.new)
             (show (leaf_text self.old.heap.enc self.old.heap.cells self.old.previews) (unfolding_of self.old.heap.cells (element root.entry)) budget) result }
         ensures same { self.new ≡ self.old }
     {

@@ -7,7 +7,8 @@ use Rattle.audit_bodies.specs.Mailboxes.{mailbox_places, mailboxes_at}
 use Rattle.audit_bodies.specs.Inner.Mailboxes.{IsWithin}
 use Rattle.audit_bodies.specs.declared.loading.BodyPlaces.{BodyPlaces}
 
--- the bodies of an audit, as the index tells them: the processes, in a full audit their mailboxes, and those that are there
+-- the bodies of an audit, from the index: the processes, in a
+-- full audit their mailboxes, and those mailboxes that are there
 pub record AreBodyPlaces (full : Bool) (index : Contents) (places : BodyPlaces) : Type 0 where
   pub found : places.found ≡ proc_places (sections_in index)
   pub mailboxes : places.mailboxes.items ≡ (if full then mailbox_places (sections_in index) else [])

@@ -1,4 +1,4 @@
--- How the stored binaries are found, one section after another.
+-- Finding the stored binaries, one section after another.
 use Rattle.std.specs.Prelude.{◌≡◌, ℕ, ◌<◌, List, length, map, All}
 use Rattle.section_index.specs.Bodies.{section_at}
 use Rattle.section_index.specs.Index.{Contents}
@@ -8,7 +8,7 @@ use Rattle.binary_holders.specs.declared.stored.Found.{Found}
 use Rattle.binary_holders.specs.Inner.Places.{ArePlaces}
 use Rattle.binary_holders.specs.StoredBinaries.{Stored, stored, stored_at}
 
--- a stored binary, whose section is that at its place
+-- a stored binary, whose section is the one at its place
 abbrev pub stored_of : Contents → StoredAt → Stored
 stored_of index binary = stored_at (section_at index binary.section) binary.number
 
@@ -16,7 +16,7 @@ stored_of index binary = stored_at (section_at index binary.section) binary.numb
 abbrev pub numbers_of : List StoredAt → List ℕ
 numbers_of binaries = map (λ binary. binary.number) binaries
 
--- the stored binaries among some sections were found, and their places by their numbers
+-- the stored binaries among these sections were found, and their places by their numbers
 pub record AreFound (index : Contents) (sections : List Section) (found : Found) : Type 0 where
   pub are : map (stored_of index) found.binaries.items ≡ stored sections
   pub within : All (λ binary. binary.section < length index.headers) found.binaries.items

@@ -8,11 +8,11 @@ use Rattle.term_forms.specs.ReadingForms.{form_of}
 use Rattle.term_forms.specs.Words.{led_of}
 use Rattle.binary_holders.specs.HeapReferences.{referred}
 
--- the number to which a text refers, where it is a heap line whose form is a reference to a binary
+-- the number to which a text refers, if it is a heap line whose form is a reference to a binary
 abbrev pub text_reference : Enc → List ℕ → Option ℕ
 text_reference enc text = option_and_then (λ led. referred (form_of enc led.1)) (led_of text)
 
--- the same of a raw line
+-- the same for a raw line
 abbrev pub line_reference : Enc → List ℕ → Option ℕ
 line_reference enc raw = text_reference enc (text_of raw)
 

@@ -9,7 +9,7 @@ use Rattle.heap_cells.specs.Loading.{enc_of, section_in, body_in, body_size}
 use Rattle.binary_holders.specs.declared.sought.Binary.{Binary}
 use Rattle.binary_holders.specs.HeapReferences.{references}
 
--- the place of a number among others where no other place has it, or none where none has it
+-- the place of a number among others, if no other place has it; `None` if it isn't among them
 abbrev pub IsOnlyPlace : List ℕ → ℕ → Option ℕ → Type 0
 IsOnlyPlace numbers number None = (k : ℕ) → k < length numbers → slice_index numbers k ≢ number
 IsOnlyPlace numbers number (Some p) =
@@ -19,11 +19,11 @@ IsOnlyPlace numbers number (Some p) =
 abbrev pub numbers_in : List Binary → List ℕ
 numbers_in binaries = map (λ binary. binary.number) binaries
 
--- a tree has the place of each number, and no number is there twice
+-- a tree has the place of each number, and no number occurs twice
 pub record ArePlaces (places : BTreeMap ℕ ℕ) (numbers : List ℕ) : Type 0 where
   pub only : (number : ℕ) → IsOnlyPlace numbers number (get nat_cmp places number)
 
--- the place of the heap of a pid: of the sections with heaps the first that has the pid
+-- the place of the heap of a pid: the first of the sections with heaps that has the pid
 abbrev pub heap_place : List Section → List ℕ → Option ℕ
 heap_place sections pid = position (λ section. is_named (codes "proc_heap") (Some pid) section.text) sections
 
@@ -31,7 +31,7 @@ heap_place sections pid = position (λ section. is_named (codes "proc_heap") (So
 abbrev pub IsWithin : Contents → Option ℕ → Type 0
 IsWithin index place = IfSome place (λ i. i < length index.headers)
 
--- what the heap at a place refers to, in the bytes of a dump; a process without a heap refers to nothing
+-- what the heap at a place refers to, from the bytes of a dump; a process without a heap refers to nothing
 abbrev pub references_at : List ℕ → Contents → Option ℕ → List ℕ
 references_at dump index place = references (enc_of index.version) (body_in dump (section_in index place))
 

@@ -6,11 +6,11 @@ use Rattle.binary_holders.specs.declared.rows.BinaryRow.{BinaryRow}
 use Rattle.binary_holders.specs.declared.sought.Binary.{Binary}
 use Rattle.binary_holders.specs.declared.stored.StoredAt.{StoredAt}
 
--- the row of a binary with so many holders
+-- the row of a binary with this many holders
 abbrev pub row_at : Contents → StoredAt → Binary → ℕ → BinaryRow
 row_at index stored binary holders = record { size = binary.size; holders = holders; number = stored.number; at = (section_at index stored.section).at }
 
--- the rows of the first so many binaries
+-- the rows of the first n binaries
 pub record AreRows (index : Contents) (stored : List StoredAt) (binaries : List Binary) (holders : List ℕ) (n : ℕ) (rows : List BinaryRow) : Type 0 where
   pub count : length rows ≡ n
   pub each : (k : ℕ) (d : BinaryRow) (s : StoredAt) (b : Binary) → k < n

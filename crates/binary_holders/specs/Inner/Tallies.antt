@@ -1,4 +1,4 @@
--- How what a heap refers to is counted.
+-- Counting what a heap refers to.
 use Rattle.std.specs.Prelude.{◌≡◌, ℕ, ◌+◌, ◌^◌, ◌<◌, ◌≤◌, ◌==◌, List, [], ◌∷◌, ◌++◌, length, slice_index}
 use Rattle.std.specs.List.{count_by}
 use Rattle.binary_holders.specs.declared.tally.Tally.{Tally}
@@ -8,12 +8,13 @@ use Rattle.binary_holders.specs.Held.{bytes_held, capped, cells_holding, holds, 
 use Rattle.binary_holders.specs.Inner.Places.{numbers_in}
 use Rattle.binary_holders.specs.StoredBinaries.{is_among}
 
--- the number of the binary at a place, and 0 past the last one
+-- the number of the binary at a place; past the last one, 0
 abbrev pub number_at : List Binary → ℕ → ℕ
 number_at binaries k = slice_index (numbers_in binaries) k
 
--- what is known once the heaps of some processes were heard, and of the next one some references: its turn; which binaries
--- it holds so far; how many heaps hold each; how many it holds, of how many bytes, and by how many references
+-- what is known once the heaps of some processes were heard, and some references
+-- of the next one: its turn; which binaries it holds so far; how many heaps hold
+-- each; how many it holds, of how many bytes, and by how many references
 pub record HasHeard (binaries : List Binary) (heaps : List (List ℕ)) (references : List ℕ) (tally : Tally) : Type 0 where
   pub turn : tally.turn ≡ length heaps + 1
   pub seen_size : length tally.seen.items ≡ length binaries
@@ -29,17 +30,17 @@ pub record HasHeard (binaries : List Binary) (heaps : List (List ℕ)) (referenc
 abbrev pub counted : ℕ → Tally → Holding
 counted process tally = record { process = process; bytes = tally.bytes; count = tally.count; cells = tally.cells }
 
--- between the two these references were heard
+-- between these two, these references were heard
 pub record Hears (binaries : List Binary) (old new : Tally) (more : List ℕ) : Type 0 where
   pub heard : (heaps : List (List ℕ)) (references : List ℕ) → HasHeard binaries heaps references old → HasHeard binaries heaps (references ++ more) new
 
--- the turn stays, and the room for the binaries
+-- the turn and the room for the binaries stay
 pub record KeepsRoom (old new : Tally) : Type 0 where
   pub turn : new.turn ≡ old.turn
   pub seen : length new.seen.items ≡ length old.seen.items
   pub holders : length new.holders.items ≡ length old.holders.items
 
--- there is room for so many binaries, and the turn is a number of 32 bits
+-- there is room for this many binaries, and the turn fits into 32 bits
 pub record HasRoom (count : ℕ) (tally : Tally) : Type 0 where
   pub turn : tally.turn < 2 ^ 32
   pub seen : length tally.seen.items ≡ count

@@ -1,4 +1,4 @@
--- The kinds of cells that are a binary or refer to one.
+-- The kinds of cells that are binaries or refer to one.
 use Rattle.std.specs.Prelude.{Bool, true, false, Option, Some}
 use Rattle.heap_cells.specs.declared.cells.Kind.{Kind}
 use Rattle.heap_cells.specs.declared.cells.Kind.TheVariants.{HeapBin, RefBin, SubBin}
@@ -9,7 +9,7 @@ refers (Some RefBin) = true
 refers (Some SubBin) = true
 refers kind = false
 
--- a cell of this kind is a binary on the heap
+-- a cell of this kind is a heap binary
 abbrev pub is_own : Option Kind → Bool
 is_own (Some HeapBin) = true
 is_own kind = false

@@ -15,15 +15,15 @@ use Rattle.binary_refs.specs.declared.stored.Lead.{Lead}
 abbrev pub body_at : List ℕ → Contents → ℕ → List ℕ
 body_at dump index place = between (section_at index place).body (section_at index place).end dump
 
--- the length that a body begins with, and the characters behind it
+-- the length with which a body begins, and the characters after it
 abbrev pub led_by : List ℕ → Lead → ℕ × List ℕ
 led_by body lead = (lead.length, drop lead.chars body)
 
--- this is the beginning of the body, if it has one
+-- this is the beginning of the body, if it has such a one
 abbrev pub IsLeadOf : List ℕ → Option Lead → Type 0
 IsLeadOf body lead = option_map (led_by body) lead ≡ led_of body
 
--- why a body isn't loaded, as why its binary isn't given
+-- the fault of a body that isn't loaded, as the fault of its binary
 abbrev pub bin_fault : BodyFault → BinFault
 bin_fault (load.SectionTooLarge at len) = give.SectionTooLarge at len
 bin_fault load.Read = give.Read

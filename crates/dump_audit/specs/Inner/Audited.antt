@@ -1,4 +1,4 @@
--- What the code keeps of an audit.
+-- What the code keeps for an audit.
 use Rattle.std.specs.Prelude.{◌≡◌, ℕ, ◌<◌, ◌^◌, Bool, true, false, ◌&&◌, ◌⊎◌, List, length, map, None, Some, All}
 use Rattle.section_index.specs.Index.{state_of}
 use Rattle.section_index.specs.declared.index.State.{State}
@@ -11,7 +11,8 @@ use Rattle.dump_audit.specs.declared.audited.Holder.{Holder}
 use Rattle.dump_audit.specs.declared.audited.Partner.{Partner}
 use Rattle.dump_audit.specs.declared.audited.Partner.TheVariants.{At, Gone, Passed}
 
--- the graph is that of the processes, and it is kept which of them are judged and whether those that are gone are named
+-- the graph is that of the processes; which of them are judged is
+-- kept, and whether those that aren't in the dump are reported
 pub record IsKept (a : Audit) (links : List Links) (seen : State) (tests : List Bool) (named : Bool) : Type 0 where
   pub graph : links ≡ graph_of a.processes
   pub state : seen ≡ state_of a.index.headers
@@ -20,17 +21,18 @@ pub record IsKept (a : Audit) (links : List Links) (seen : State) (tests : List 
   pub few : length a.processes < 2 ^ 32
   pub sections : All (IsIn a.index) a.processes
 
--- the process that is held
+-- the process of a holder
 abbrev pub held : Audit → Holder → Process
 held a holder = process_at a.processes holder.p
 
--- there is a process at this place, and the pid is its
+-- there is a process at this place, and the pid is its own
 pub record IsHolder (a : Audit) (holder : Holder) : Type 0 where
   pub place : holder.p < length a.processes
   pub pid : holder.pid.now ≡ (held a holder).pid
   pub few : holder.p < 2 ^ 32
 
--- the process with this pid is judged and stands there; there is none, and that is named; or nothing is said of it
+-- the process with this pid is at that place and judged; or
+-- there is none, and that is reported; or nothing is reported
 abbrev pub IsPartner : Audit → List ℕ → Partner → Type 0
 IsPartner a pid (At q) = (place_of a.processes pid ≡ Some q) × (is_judged a.index (process_at a.processes q) ≡ true)
 IsPartner a pid Gone = (place_of a.processes pid ≡ None) × ((names_gone a && is_local pid) ≡ true)

@@ -1,4 +1,4 @@
--- What the reports of links and of an audit are written of.
+-- From what the reports of links and of an audit are written.
 use Rattle.std.specs.Prelude.{ℕ, List}
 use Rattle.std.specs.Option.{option_map}
 use Rattle.section_index.specs.Index.{Contents}
@@ -10,7 +10,7 @@ use Rattle.json_report.specs.Trees.{audit_tree, json_text}
 use Rattle.dump_command.specs.Audits.{status_of}
 use Rattle.audit_bodies.specs.declared.loading.AuditBodies.{AuditBodies}
 
--- the text of the links of some processes
+-- the text on the links of these processes
 abbrev pub links_text : ProcessTable → List ℕ
 links_text table = links_report table.processes
 

@@ -1,4 +1,4 @@
--- What the report of the fields of a section is written of.
+-- From what the report on the fields of a section is written.
 use Rattle.std.specs.Prelude.{ℕ, ◌+◌, ◌^◌, ◌<◌, List, length}
 use Rattle.report_text.specs.Tables.{fields_report}
 use Rattle.dump_command.specs.declared.commands.subjects.Body.{Body}
@@ -7,6 +7,6 @@ use Rattle.dump_command.specs.declared.commands.subjects.Body.{Body}
 abbrev pub fields_text : Body → List ℕ
 fields_text body = fields_report body.base body.bytes.items
 
--- each place of the body is one of a file of at most 2^64 - 1 bytes
+-- each place in the body is one in a file of at most 2^64 - 1 bytes
 abbrev pub HasPlaces : Body → Type 0
 HasPlaces body = body.base + length body.bytes.items < 2 ^ 64

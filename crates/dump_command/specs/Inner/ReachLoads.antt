@@ -1,6 +1,6 @@
--- What the report of what roots reach is written of.
+-- From what the report on what roots reach is written.
 use Rattle.std.specs.Prelude.{◌≡◌, ℕ, ◌<◌, List, ◌++◌, length, Option, IfSome, IsSome}
-use Rattle.dump_io.specs.Dumps.{Now, Use, DeviceFailed}
+use Rattle.dump_io.specs.Dumps.{Now, DeviceState, DeviceFailed}
 use Rattle.section_index.specs.Index.{Contents, sections_in}
 use Rattle.section_index.specs.Sections.{Section}
 use Rattle.section_index.specs.declared.bodies.BodyFault.{BodyFault}
@@ -27,7 +27,7 @@ pub record ArePlaces (pid : List ℕ) (index : Contents) (places : RootPlaces) :
   pub dict : section_in index places.dict ≡ roots_section Dict pid (sections_in index)
   pub mail : section_in index places.mail ≡ roots_section Mail pid (sections_in index)
 
--- the place of a section, where it is one
+-- the place of a section of the index, if there is one
 abbrev pub IsPlace : Contents → Option ℕ → Type 0
 IsPlace index place = IfSome place (λ i. i < length index.headers)
 
@@ -43,17 +43,17 @@ pub record HoldsRoots (index : Contents) (now : Now) (places : RootPlaces) (root
   pub dict : IsBodyIn now (section_in index places.dict) roots.dict.bytes.items
   pub mail : IsBodyIn now (section_in index places.mail) roots.mail.bytes.items
 
--- why they weren't read: one is too large, or the device failed; memory may lack at any time
-abbrev pub IsUnread : Option Section → Use → BodyFault → Type 0
-IsUnread large device (SectionTooLarge at len) = IsSome large
-IsUnread large device Read = DeviceFailed device
-IsUnread large device Memory = Unit {0}
+-- why they weren't read: one is too large, or the device failed; memory may be lacking at any time
+abbrev pub IsUnread : Option Section → DeviceState → DeviceState → BodyFault → Type 0
+IsUnread large before after (SectionTooLarge at len) = IsSome large
+IsUnread large before after Read = DeviceFailed before after
+IsUnread large before after Memory = Unit {0}
 
 -- the terms among the roots
 abbrev pub terms_loaded : RootBodies → List Element
 terms_loaded roots =
     (terms_of (roots_in Stack roots.stack.bytes.items) ++ terms_of (roots_in Dict roots.dict.bytes.items)) ++ terms_of (roots_in Mail roots.mail.bytes.items)
 
--- the text of what they reach
+-- the text on what they reach
 abbrev pub reach_text : Loaded → List ℕ
 reach_text loaded = reach_report loaded.heap (reached_by loaded.heap.cells (terms_loaded loaded.roots))

@@ -1,4 +1,4 @@
--- What the reports of terms are written of.
+-- From what the reports on terms are written.
 use Rattle.std.specs.Prelude.{ℕ, Bool, List}
 use Rattle.std.specs.Global.{Vec}
 use Rattle.term_unfold.specs.Walks.{walk}

@@ -12,19 +12,19 @@ use Rattle.report_text.specs.Refusals.{IsRefusal}
 use Rattle.dump_command.specs.declared.stop.Stop.{Stop}
 use Rattle.dump_command.specs.declared.stop.Stop.TheVariants.{Refused, NotRead, NotWritten, NoMemory}
 
--- what stops a command of which the heap isn't loaded
+-- the stop of a command whose heap isn't loaded
 abbrev pub stop_of_heap : HeapFault → Stop
 stop_of_heap heap_faults.Read = NotRead
 stop_of_heap heap_faults.Memory = NoMemory
 stop_of_heap (heap_faults.SectionTooLarge at len) = Refused (SectionTooLarge at len)
 stop_of_heap (heap_faults.TooDense count) = Refused (TooDense count)
 
--- and of which the previews aren't
+-- the stop of a command whose previews aren't loaded
 abbrev pub stop_of_previews : PreviewFault → Stop
 stop_of_previews preview_faults.Read = NotRead
 stop_of_previews preview_faults.Memory = NoMemory
 
--- and of which the binary at this address isn't given
+-- the stop of a command for which the binary at this address isn't available
 abbrev pub stop_of_binary : ℕ → BinFault → Stop
 stop_of_binary addr bin_faults.NoBinary = Refused (NoBinary addr)
 stop_of_binary addr (bin_faults.SectionTooLarge at len) = Refused (SectionTooLarge at len)
@@ -32,7 +32,8 @@ stop_of_binary addr (bin_faults.BadBinary at) = Refused (BadBinary at)
 stop_of_binary addr bin_faults.Read = NotRead
 stop_of_binary addr bin_faults.Memory = NoMemory
 
--- where there is no cause of a refusal the command goes on, and else it is refused for it; memory may lack at any time
+-- if there is no cause of a refusal, the command goes on, and otherwise
+-- it is refused for that cause; memory may be lacking at any time
 abbrev pub Judges : {T : Type 0} → Option Refusal → Result T Stop → Type 0
 Judges cause (Ok value) = cause ≡ None
 Judges cause (Err (Refused why)) = IsRefusal why × (cause ≡ Some why)

@@ -1,6 +1,6 @@
--- What the report of `triage` is written of.
+-- From what the report of `triage` is written.
 use Rattle.std.specs.Prelude.{◌≡◌, ◌⊎◌, ℕ, ◌<◌, List, length, All, Some, IfSome}
-use Rattle.dump_io.specs.Dumps.{Now, Use, told, DeviceFailed}
+use Rattle.dump_io.specs.Dumps.{Now, DeviceState, told, DeviceFailed}
 use Rattle.section_index.specs.Index.{Contents, sections_in}
 use Rattle.section_index.specs.declared.bodies.BodyFault.{BodyFault}
 use Rattle.section_index.specs.declared.bodies.BodyFault.TheVariants.{Read, Memory}
@@ -14,15 +14,15 @@ use Rattle.dump_command.specs.Triage.{Told, triage_over}
 use Rattle.dump_command.specs.declared.commands.triage.Places.{Places}
 use Rattle.dump_command.specs.declared.commands.triage.Loaded.{Loaded}
 
--- what was loaded, wherever it lies
+-- what was loaded, regardless of where it lies in memory
 abbrev pub shown_bodies : Loaded → Told
 shown_bodies loaded = record { first = loaded.first.bytes.items; memory = loaded.memory.bytes.items; procs = loaded.procs; tables = loaded.tables }
 
--- the text of what stands out in it, with at most so many rows by each measure
+-- the text on what stands out in it, with at most this many rows by each measure
 abbrev pub triage_text : ℕ → Contents → Loaded → List ℕ
 triage_text most index loaded = triage_over most index (shown_bodies loaded)
 
--- the sections behind the first one are those of the index
+-- the sections after the first one are those of the index
 pub record AreFound (index : Contents) (places : Places) : Type 0 where
   pub memory : section_in index places.memory ≡ memory_section (sections_in index)
   pub within : IfSome places.memory (λ i. i < length index.headers)
@@ -42,6 +42,6 @@ pub record Fits (index : Contents) (loaded : Loaded) : Type 0 where
   pub sections : All (IsIn index) loaded.procs.processes
   pub tables : IsOver Ets index loaded.tables
 
--- bodies of which none is too large aren't read where the device fails or memory lacks
-abbrev pub IsUnread : Use → BodyFault → Type 0
-IsUnread device fault = ((fault ≡ Read) × DeviceFailed device) ⊎ (fault ≡ Memory)
+-- bodies none of which is too large aren't read if the device fails or memory is lacking
+abbrev pub IsUnread : DeviceState → DeviceState → BodyFault → Type 0
+IsUnread before after fault = ((fault ≡ Read) × DeviceFailed before after) ⊎ (fault ≡ Memory)

@@ -19,7 +19,7 @@ pub(crate) struct Binary<'a> {
     pub(crate) addr: u64,
 }
 
-// What stops a command that asks for the binary at an address.
+// The stop of a command that asks for the binary at an address.
 fn stop_of(fault: BinFault, addr: u64) -> Stop
     ensures { result ≡ stop_of_binary addr fault }
 {

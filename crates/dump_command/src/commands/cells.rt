@@ -1,4 +1,4 @@
-// `cells`: what lies on the heap of a process.
+// `cells`: what is on the heap of a process.
 ghost use Rattle.command_words.specs.Command.{cells};
 ghost use Rattle.term_text.specs.Cells.{cells_report};
 

@@ -1,4 +1,4 @@
-// `ext`: a term of a process that stands in the External Term Format.
+// `ext`: an external term of a process.
 ghost use Rattle.std.specs.Prelude.{◌≡◌, None, Some, IfOk};
 ghost use Rattle.binary_refs.specs.Wholes.{bytes_in};
 ghost use Rattle.etf_terms.specs.Walks.{bad_place};
@@ -28,7 +28,7 @@ pub(crate) struct Ext<'a> {
     pub(crate) addr: u64,
 }
 
-// The bytes of the heap's cell at an address, where it is in the External Term Format.
+// The bytes of the heap's cell at an address, if it is an external term.
 fn external_at(alloc: Global, heap: &Heap, addr: u64) -> Result<Option<Vec<u8>>, AllocError>
     ensures { IfOk result (λ bytes. bytes_in bytes ≡ external_at addr heap.now) }
 {
@@ -40,13 +40,13 @@ fn external_at(alloc: Global, heap: &Heap, addr: u64) -> Result<Option<Vec<u8>>,
     };
     match decode_payload(alloc, heap.enc(), size, chars)? {
         Some(bytes) => Ok(Some(bytes)),
-        // There is no such cell, since a form is read only where its characters are a payload.
+        // There is no such cell, since a form is read only if its characters are a payload.
         None => Ok(Some(Vec::new(alloc))),
     }
 }
 
-// The bytes of the external term at an address. They are refused where the heap has no cell there, where that isn't in the
-// External Term Format, and where they aren't one term.
+// The bytes of the external term at an address. They are refused if the heap has no
+// cell there, if that isn't an external term, or if they aren't 131 and one term.
 fn read_external(alloc: Global, heap: &Heap, addr: u64) -> Result<Vec<u8>, Stop>
     ensures judges { Judges (no_external addr heap.now) result }
     ensures bytes { IfOk result (λ bytes. external_at addr heap.now ≡ Some bytes.items) }

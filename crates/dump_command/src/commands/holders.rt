@@ -1,4 +1,4 @@
-// `holders`: who holds a binary.
+// `holders`: which processes hold a binary.
 ghost use Rattle.command_words.specs.Command.{holders};
 ghost use Rattle.dump_command.specs.Inner.Holders.{holders_text, AreNamed};
 

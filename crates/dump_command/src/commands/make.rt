@@ -1,6 +1,5 @@
-// `make`: a dump that is made. No file is opened.
+// `make`: a made dump. No file is opened.
 ghost use Rattle.std.specs.Prelude.{◌≤◌};
-ghost use Rattle.dump_io.specs.Sinks.{changed};
 ghost use Rattle.command_words.specs.Command.{make};
 ghost use Rattle.dump_command.specs.Inner.Alone.{RunsAlone};
 
@@ -18,7 +17,7 @@ pub(crate) fn run_make<K: Sink>(
 ) -> Result<u8, Stop>
     requires some { 1 ≤ count }
     requires few { count ≤ 200000 }
-    ensures { RunsAlone (make seed count) (changed K.written K.faults out.old out.new) result }
+    ensures { RunsAlone (make seed count) (K.state out.old) (K.state out.new) result }
 {
     let dump = make(alloc, seed, count)?;
     write_all(out, dump.as_slice())?;

@@ -1,6 +1,6 @@
 // `reach`: which cells of a process's heap its roots reach.
 ghost use Rattle.std.specs.Prelude.{◌≡◌, ◌<◌, [], length, IfOk, IfErr, IfSome};
-ghost use Rattle.dump_io.specs.Dumps.{used, ReadsAtMost};
+ghost use Rattle.dump_io.specs.Dumps.{ReadsAtMost};
 ghost use Rattle.section_index.specs.Index.{sections_in, IsBuiltOver};
 ghost use Rattle.section_rows.specs.Loading.{bodies_length, first_large, large_fault};
 ghost use Rattle.heap_cells.specs.Loading.{section_in};
@@ -26,7 +26,7 @@ pub(crate) struct Reach<'a> {
     pub(crate) pid: &'a [u8],
 }
 
-/// The places of the sections with the roots of a process, where they are there.
+/// The places of the sections with the roots of a process, as far as there are such sections.
 #[derive(Clone, Copy)]
 pub(crate) struct RootPlaces {
     stack: Option<usize>,
@@ -78,17 +78,17 @@ fn large_roots(at: &Opened<'_>, places: RootPlaces) -> Option<BodyFault>
     first.or(second).or(third)
 }
 
-// Reads the bodies. A section that isn't there is empty.
+// Reads the bodies. A missing section counts as empty.
 fn read_roots<D: Dumps>(
     at: &Opened<'_>,
     dumps: &mut D,
     places: RootPlaces,
 ) -> Result<RootBodies, BodyFault>
-    requires over { IsBuiltOver (D.now dumps.old) at.now.index.now }
+    requires over { IsBuiltOver (D.state dumps.old).now at.now.index.now }
     requires within { AreWithin at.now.index.now places }
-    ensures reads { ReadsAtMost (used D.files D.now D.faults D.taken dumps.old dumps.new) (bodies_length (roots_at at.now.index.now places)) }
-    ensures bodies { IfOk result (HoldsRoots at.now.index.now (D.now dumps.old) places) }
-    ensures fault { IfErr result (IsUnread (first_large at.now.limits.now.section (roots_at at.now.index.now places)) (used D.files D.now D.faults D.taken dumps.old dumps.new)) }
+    ensures reads { ReadsAtMost (D.state dumps.old) (D.state dumps.new) (bodies_length (roots_at at.now.index.now places)) }
+    ensures bodies { IfOk result (HoldsRoots at.now.index.now (D.state dumps.old).now places) }
+    ensures fault { IfErr result (IsUnread (first_large at.now.limits.now.section (roots_at at.now.index.now places)) (D.state dumps.old) (D.state dumps.new)) }
 {
     let stack = read_found(at, dumps, places.stack)?;
     let dict = read_found(at, dumps, places.dict)?;

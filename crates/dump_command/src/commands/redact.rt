@@ -1,7 +1,5 @@
 // `redact`: the dump with its binary payloads made zero. It is written while the dump is read.
 ghost use Rattle.std.specs.Prelude.{◌≡◌};
-ghost use Rattle.dump_io.specs.Dumps.{used};
-ghost use Rattle.dump_io.specs.Sinks.{changed};
 ghost use Rattle.command_words.specs.Command.{redact};
 ghost use Rattle.dump_command.specs.Inner.Runs.{Runs};
 ghost use Rattle.dump_command.specs.Inner.Stops.{redact_end};
@@ -21,7 +19,7 @@ fn ended(written: Result<(), RedactFault>) -> Result<u8, Stop>
     Ok(DONE)
 }
 
-/// Runs the command, and answers its status.
+/// Runs the command, and returns its status.
 pub(crate) fn run_redact<D: Dumps, K: Sink>(
     alloc: Global,
     file: &str,
@@ -29,7 +27,7 @@ pub(crate) fn run_redact<D: Dumps, K: Sink>(
     dumps: &mut D,
     out: &mut K,
 ) -> Result<u8, Stop>
-    ensures { Runs (redact file.now) limits.now (used D.files D.now D.faults D.taken dumps.old dumps.new) (changed K.written K.faults out.old out.new) result }
+    ensures { Runs (redact file.now) limits.now (D.state dumps.old) (D.state dumps.new) (K.state out.old) (K.state out.new) result }
 {
     let index = open(alloc, file, limits, dumps)?;
     ended(redact(alloc, dumps, &index, limits, out))

@@ -1,6 +1,7 @@
-// What commands find on the index of a dump and read of it: a process, the body of a section, the heap of a process.
+// What commands find on the index of a dump and read from it:
+// a process, the body of a section, the heap of a process.
 ghost use Rattle.std.specs.Prelude.{◌≡◌, ◌+◌, ◌<◌, List, length, None, Some, IfOk, IfErr, IfSome, IsSome, OnOk, MatchResult};
-ghost use Rattle.dump_io.specs.Dumps.{ReadsAtMost, used};
+ghost use Rattle.dump_io.specs.Dumps.{ReadsAtMost};
 ghost use Rattle.heap_cells.specs.HeapMap.{number_at};
 ghost use Rattle.heap_cells.specs.Loading.{body_size, heap_section, literals_section, section_in, IsBodyIn};
 ghost use Rattle.section_index.specs.Bodies.{section_at};
@@ -21,7 +22,7 @@ use report_text::Refusal;
 use section_index::{BodyFault, read_body};
 use section_rows::large;
 
-/// The place of the section of a process. A pid that no such section has is refused.
+/// The place of the section of a process. A pid without such a section is refused.
 pub(crate) fn find_process(at: &Opened<'_>, pid: &[u8]) -> Result<usize, Stop>
     ensures judges { Judges (no_process pid.now (sections_in at.now.index.now)) result }
     ensures within { IfOk result (λ i. i < length at.now.index.now.headers) }
@@ -34,7 +35,7 @@ pub(crate) fn find_process(at: &Opened<'_>, pid: &[u8]) -> Result<usize, Stop>
     Ok(place)
 }
 
-/// Refuses an address that no section of a binary has for its id.
+/// Refuses an address for which there is no section of a binary.
 pub(crate) fn find_binary(at: &Opened<'_>, addr: u64) -> Result<(), Stop>
     ensures { Judges (binary_cause addr (binary_at addr (sections_in at.now.index.now))) result }
 {
@@ -44,7 +45,7 @@ pub(crate) fn find_binary(at: &Opened<'_>, addr: u64) -> Result<(), Stop>
     }
 }
 
-/// The refusal of a section whose body has more bytes than the limit. One that isn't there is empty.
+/// The refusal of a section whose body has more bytes than the limit. A missing section counts as empty.
 pub(crate) fn large_body(at: &Opened<'_>, place: Option<usize>) -> Option<BodyFault>
     requires { IfSome place (λ i. i < length at.now.index.now.headers) }
     ensures { result ≡ large_fault at.now.limits.now.section (one_of (section_in at.now.index.now place)) }
@@ -59,21 +60,21 @@ pub(crate) struct Body {
     pub(crate) base: u64,
 }
 
-/// Reads the body of a section. One that isn't there is empty.
+/// Reads the body of a section. A missing section counts as empty.
 pub(crate) fn read_found<D: Dumps>(
     at: &Opened<'_>,
     dumps: &mut D,
     place: Option<usize>,
 ) -> Result<Body, BodyFault>
-    requires over { IsBuiltOver (D.now dumps.old) at.now.index.now }
+    requires over { IsBuiltOver (D.state dumps.old).now at.now.index.now }
     requires place { IfSome place (λ i. i < length at.now.index.now.headers) }
-    ensures reads { ReadsAtMost (used D.files D.now D.faults D.taken dumps.old dumps.new) (body_size (section_in at.now.index.now place)) }
+    ensures reads { ReadsAtMost (D.state dumps.old) (D.state dumps.new) (body_size (section_in at.now.index.now place)) }
     ensures unread { IsSome (first_large at.now.limits.now.section (one_of (section_in at.now.index.now place))) → dumps.new ≡ dumps.old }
-    ensures body { IfOk result (λ body. IsBodyIn (D.now dumps.old) (section_in at.now.index.now place) body.bytes.items) }
+    ensures body { IfOk result (λ body. IsBodyIn (D.state dumps.old).now (section_in at.now.index.now place) body.bytes.items) }
     ensures base { IfOk result (λ body. body.base ≡ base_of (section_in at.now.index.now place)) }
     ensures places { IfOk result HasPlaces }
     ensures loaded { OnOk result (first_large at.now.limits.now.section (one_of (section_in at.now.index.now place)) ≡ None) }
-    ensures fault { IfErr result (AreRefused (one_of (section_in at.now.index.now place)) at.now.limits.now.section (used D.files D.now D.faults D.taken dumps.old dumps.new)) }
+    ensures fault { IfErr result (AreRefused (one_of (section_in at.now.index.now place)) at.now.limits.now.section (D.state dumps.old) (D.state dumps.new)) }
 {
     let Some(i) = place else {
         return Ok(Body {
@@ -86,41 +87,41 @@ pub(crate) fn read_found<D: Dumps>(
     Ok(Body { bytes, base })
 }
 
-/// Reads the heap of a process for a command that loads the body of the section at `place` before it, where there is
-/// one: the process is found and all bodies are judged before one is read.
+/// Reads the heap of a process for a command that loads the body of the section at `place` before
+/// it, if there is one: the process is found, and all bodies are judged before one is read.
 pub(crate) fn load_heap<D: Dumps>(
     at: &Opened<'_>,
     dumps: &mut D,
     pid: &[u8],
     place: Option<usize>,
 ) -> Result<Heap, Stop>
-    requires over { IsBuiltOver (D.now dumps.old) at.now.index.now }
+    requires over { IsBuiltOver (D.state dumps.old).now at.now.index.now }
     requires place { IfSome place (λ i. i < length at.now.index.now.headers) }
-    ensures reads { ReadsAtMost (used D.files D.now D.faults D.taken dumps.old dumps.new)
+    ensures reads { ReadsAtMost (D.state dumps.old) (D.state dumps.new)
         (body_size (heap_section at.now.index.now pid.now) + body_size (literals_section at.now.index.now)) }
     ensures unread { IsSome (heap_listed pid.now (one_of (section_in at.now.index.now place)) at.now.limits.now (sections_in at.now.index.now)) → dumps.new ≡ dumps.old }
-    ensures heap { MatchResult result (HoldsHeap pid.now (one_of (section_in at.now.index.now place)) at.now.limits.now at.now.index.now (D.now dumps.old))
-        (IsHeapless pid.now (one_of (section_in at.now.index.now place)) at.now.limits.now at.now.index.now (used D.files D.now D.faults D.taken dumps.old dumps.new)) }
+    ensures heap { MatchResult result (HoldsHeap pid.now (one_of (section_in at.now.index.now place)) at.now.limits.now at.now.index.now (D.state dumps.old).now)
+        (IsHeapless pid.now (one_of (section_in at.now.index.now place)) at.now.limits.now at.now.index.now (D.state dumps.old) (D.state dumps.new)) }
 {
     load_behind(at, dumps, pid, large_body(at, place))
 }
 
-/// The same for a command that loads several bodies before the heap, by the refusal of the first of them that is too
-/// large.
+/// The same for a command that loads several bodies before the
+/// heap, given the refusal of the first of them that is too large.
 pub(crate) fn load_behind<D: Dumps>(
     at: &Opened<'_>,
     dumps: &mut D,
     pid: &[u8],
     large: Option<BodyFault>,
 ) -> Result<Heap, Stop>
-    requires { IsBuiltOver (D.now dumps.old) at.now.index.now }
-    ensures reads { ReadsAtMost (used D.files D.now D.faults D.taken dumps.old dumps.new)
+    requires { IsBuiltOver (D.state dumps.old).now at.now.index.now }
+    ensures reads { ReadsAtMost (D.state dumps.old) (D.state dumps.new)
         (body_size (heap_section at.now.index.now pid.now) + body_size (literals_section at.now.index.now)) }
     ensures unread { (before : List Section) → large ≡ large_fault at.now.limits.now.section before
         → IsSome (heap_listed pid.now before at.now.limits.now (sections_in at.now.index.now)) → dumps.new ≡ dumps.old }
     ensures heap { (before : List Section) → large ≡ large_fault at.now.limits.now.section before
-        → MatchResult result (HoldsHeap pid.now before at.now.limits.now at.now.index.now (D.now dumps.old))
-        (IsHeapless pid.now before at.now.limits.now at.now.index.now (used D.files D.now D.faults D.taken dumps.old dumps.new)) }
+        → MatchResult result (HoldsHeap pid.now before at.now.limits.now at.now.index.now (D.state dumps.old).now)
+        (IsHeapless pid.now before at.now.limits.now at.now.index.now (D.state dumps.old) (D.state dumps.new)) }
 {
     find_process(at, pid)?;
     if let Some(fault) = large {

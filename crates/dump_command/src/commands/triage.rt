@@ -1,6 +1,6 @@
 // `triage`: what to read first of a dump.
 ghost use Rattle.std.specs.Prelude.{◌≡◌, ◌≤◌, length, None, IfOk, IfErr};
-ghost use Rattle.dump_io.specs.Dumps.{used, ReadsAtMost};
+ghost use Rattle.dump_io.specs.Dumps.{ReadsAtMost};
 ghost use Rattle.section_index.specs.Index.{sections_in, IsBuiltOver};
 ghost use Rattle.section_rows.specs.Loading.{bodies_length, large_fault};
 ghost use Rattle.command_words.specs.Command.{triage};
@@ -26,7 +26,7 @@ pub(crate) struct Triage<'a> {
     pub(crate) count: u32,
 }
 
-/// The sections whose bodies are loaded behind the first one.
+/// The sections whose bodies are loaded after the first one.
 #[derive(Drop)]
 pub(crate) struct Places {
     memory: Option<usize>,
@@ -69,20 +69,20 @@ fn large_section(at: &Opened<'_>, places: &Places) -> Option<BodyFault>
     first.or(memory).or(procs).or(tables)
 }
 
-// Reads the bodies, of which none is too large, one after another.
+// Reads the bodies, none of which is too large, one after another.
 fn read_bodies<D: Dumps>(
     at: &Opened<'_>,
     dumps: &mut D,
     places: Places,
 ) -> Result<Loaded, BodyFault>
-    requires over { IsBuiltOver (D.now dumps.old) at.now.index.now }
+    requires over { IsBuiltOver (D.state dumps.old).now at.now.index.now }
     requires some { 1 ≤ length at.now.index.now.headers }
     requires places { AreFound at.now.index.now places }
     requires small { large_fault at.now.limits.now.section (triage_sections (sections_in at.now.index.now)) ≡ None }
-    ensures reads { ReadsAtMost (used D.files D.now D.faults D.taken dumps.old dumps.new) (bodies_length (triage_sections (sections_in at.now.index.now))) }
-    ensures bodies { IfOk result (HoldsBodies at.now.index.now (D.now dumps.old)) }
+    ensures reads { ReadsAtMost (D.state dumps.old) (D.state dumps.new) (bodies_length (triage_sections (sections_in at.now.index.now))) }
+    ensures bodies { IfOk result (HoldsBodies at.now.index.now (D.state dumps.old).now) }
     ensures fits { IfOk result (Fits at.now.index.now) }
-    ensures fault { IfErr result (IsUnread (used D.files D.now D.faults D.taken dumps.old dumps.new)) }
+    ensures fault { IfErr result (IsUnread (D.state dumps.old) (D.state dumps.new)) }
 {
     let first = read_found(at, dumps, Some(0))?;
     let memory = read_found(at, dumps, places.memory)?;

@@ -1,6 +1,5 @@
-// `trial`: how much there is in a made dump, and what is bad or one-sided. No file is opened.
+// `trial`: how much there is in a made dump, and what is bad or one-sided in it. No file is opened.
 ghost use Rattle.std.specs.Prelude.{◌≤◌};
-ghost use Rattle.dump_io.specs.Sinks.{changed};
 ghost use Rattle.command_words.specs.Command.{trial};
 ghost use Rattle.dump_command.specs.Inner.Alone.{RunsAlone};
 
@@ -18,7 +17,7 @@ pub(crate) fn run_trial<K: Sink>(
 ) -> Result<u8, Stop>
     requires some { 1 ≤ count }
     requires few { count ≤ 200000 }
-    ensures { RunsAlone (trial seed count) (changed K.written K.faults out.old out.new) result }
+    ensures { RunsAlone (trial seed count) (K.state out.old) (K.state out.new) result }
 {
     let summary = trial(alloc, seed, count)?;
     put_trial(out, &summary)?;

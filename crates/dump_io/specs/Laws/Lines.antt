@@ -1,4 +1,4 @@
--- The raw lines are the one list by the rule of lines.
+-- The raw lines are the only list that satisfies the rule of lines.
 use Rattle.std.proofs.Common.{◌≡◌, ℕ, suc, ◌-◌, ◌<◌, ◌==◌, true, false, List, [], ◌∷◌, ◌++◌, length, take, if◌then◌else◌, refl, sym, ◌∙◌, ap, subst, append-nil, arith, ⊎_elim}
 use Rattle.std.specs.Prelude.{◌≢◌, slice_index, All}
 use Rattle.std.specs.List.{concat}
@@ -7,19 +7,19 @@ use Rattle.std.proofs.lemmas.Bool.Decides.{eqb_tells}
 use Rattle.std.proofs.lemmas.List.Elements.{All-nil, All-cons, All-head, All-tail}
 use Rattle.dump_io.specs.Lines.{lf, lines_after, raw_lines, HasLfLast, IsEnded, AreLines}
 
--- all but the last of a list with two elements or more
+-- all but the last of a list with at least two elements
 pub front-cons : {X : Type 0} (x y : X) (xs : List X) → take (length (x ∷ y ∷ xs) - 1) (x ∷ y ∷ xs) ≡ x ∷ take (length (y ∷ xs) - 1) (y ∷ xs)
 front-cons x y xs =
     let e : length (x ∷ y ∷ xs) - 1 ≡ suc (length (y ∷ xs) - 1) = omega arith in
     ap (λ n. take n (x ∷ y ∷ xs)) e
 
--- the last of a list with two elements or more
+-- the last of a list with at least two elements
 last-cons : (c d : ℕ) (line : List ℕ) → slice_index (c ∷ d ∷ line) (length (c ∷ d ∷ line) - 1) ≡ slice_index (d ∷ line) (length (d ∷ line) - 1)
 last-cons c d line =
     let e : length (c ∷ d ∷ line) - 1 ≡ suc (length (d ∷ line) - 1) = omega arith in
     ap (λ n. slice_index (c ∷ d ∷ line) n) e
 
--- LF stands last in a longer line where it stands last in the shorter one
+-- LF stands only last in a longer line exactly when its first byte isn't LF and LF stands only last in the rest
 HasLfLast-head : (c d : ℕ) (line : List ℕ) → HasLfLast (c ∷ d ∷ line) → c ≢ lf
 HasLfLast-head c d line h = All-head (λ b. b ≢ lf) c _ (subst (λ l. All (λ b. b ≢ lf) l) (front-cons c d line) h)
 
@@ -29,7 +29,7 @@ HasLfLast-tail c d line h = All-tail (λ b. b ≢ lf) c _ (subst (λ l. All (λ 
 HasLfLast-cons : (c d : ℕ) (line : List ℕ) → c ≢ lf → HasLfLast (d ∷ line) → HasLfLast (c ∷ d ∷ line)
 HasLfLast-cons c d line n h = subst (λ l. All (λ b. b ≢ lf) l) (sym (front-cons c d line)) (All-cons (λ b. b ≢ lf) c _ n h)
 
--- a byte that is no LF goes to the front of the first line
+-- a byte other than LF goes to the front of the first line
 raw_lines-inner : (c : ℕ) (bytes : List ℕ) → c ≢ lf → raw_lines (c ∷ bytes) ≡ lines_after c (raw_lines bytes)
 raw_lines-inner c bytes n = ap (λ b. if b then (c ∷ []) ∷ raw_lines bytes else lines_after c (raw_lines bytes)) (ne_eqb c lf n)
 
@@ -52,7 +52,7 @@ raw_lines-one (c ∷ d ∷ line) some inner =
     raw_lines-inner c (d ∷ line) (HasLfLast-head c d line inner)
     ∙ ap (lines_after c) (raw_lines-one (d ∷ line) (omega arith) (HasLfLast-tail c d line inner))
 
--- lines by the rule are the raw lines
+-- lines that satisfy the rule are the raw lines
 only : (lines : List (List ℕ)) → All (λ line. 0 < length line) lines → All HasLfLast lines → All IsEnded (take (length lines - 1) lines)
     → lines ≡ raw_lines (concat lines)
 only [] some inner ended = refl
@@ -66,11 +66,11 @@ only (line ∷ next ∷ lines) some inner ended =
     ap (λ l. line ∷ l) (only (next ∷ lines) (All-tail (λ l. 0 < length l) line rest some) (All-tail HasLfLast line rest inner) (All-tail IsEnded line fronts front))
     ∙ sym (raw_lines-ended line (concat rest) (All-head (λ l. 0 < length l) line rest some) (All-head HasLfLast line rest inner) (All-head IsEnded line fronts front))
 
--- lines by the rule are the raw lines of what they are together
+-- lines that satisfy the rule are the raw lines of the bytes that they are together
 pub AreLines-only : (bytes : List ℕ) (lines : List (List ℕ)) → AreLines bytes lines → lines ≡ raw_lines bytes
 AreLines-only bytes lines are = only lines are.some are.lf_last are.ended ∙ ap raw_lines are.together
 
--- the rule holds with one more line in front, and with one more byte in front of the first line
+-- the rule holds with one more line in front, and with one more byte at the front of the first line
 AreLines-line : (bytes : List ℕ) (lines : List (List ℕ)) → AreLines bytes lines → AreLines (lf ∷ bytes) ((lf ∷ []) ∷ lines)
 AreLines-line bytes [] are = record {
   together = ap (λ l. lf ∷ l) are.together;
@@ -111,7 +111,7 @@ AreLines-byte c bytes ((d ∷ line) ∷ next ∷ lines) n are =
           (All-cons IsEnded (c ∷ d ∷ line) _ (last-cons c d line ∙ All-head IsEnded (d ∷ line) _ front) (All-tail IsEnded (d ∷ line) _ front));
     }
 
--- the raw lines are lines by the rule
+-- the raw lines satisfy the rule
 pub AreLines-raw : (bytes : List ℕ) → AreLines bytes (raw_lines bytes)
 AreLines-raw [] = record { together = refl; some = All-nil (λ l. 0 < length l); lf_last = All-nil HasLfLast; ended = All-nil IsEnded }
 AreLines-raw (c ∷ bytes) =

@@ -21,12 +21,12 @@ use Rattle.dump_redact.specs.Refusals.{is_heap}
 abbrev pub place_of : Enc → List ℕ → Option ℕ
 place_of enc raw = option_map (λ chars. length (text_of raw) - length chars) (payload_in enc Heap (text_of raw))
 
--- where the payload of a binary begins in the body: behind a number and its colon
+-- where the payload of a binary begins in the body: after a number and its colon
 abbrev pub IsLeadOf : List ℕ → Option ℕ → Type 0
 IsLeadOf body None = led_of body ≡ None
 IsLeadOf body (Some place) = (n : ℕ) × IsLed body n (drop place body)
 
--- the offset at which the section at a place begins, and past the last one the size of the dump
+-- the offset at which the section at a place begins; past the last one, the size of the dump
 abbrev pub offset_of : Contents → ℕ → ℕ
 offset_of index i = next_at (slice_get index.headers i) index.size
 
@@ -34,7 +34,7 @@ offset_of index i = next_at (slice_get index.headers i) index.size
 abbrev pub length_between : Contents → ℕ → ℕ → ℕ
 length_between index i next = offset_of index next - offset_of index i
 
--- and those bytes of a dump
+-- those bytes of a dump
 abbrev pub text_between : Contents → ℕ → ℕ → List ℕ → List ℕ
 text_between index i next dump = between (offset_of index i) (offset_of index next) dump
 
@@ -42,15 +42,15 @@ text_between index i next dump = between (offset_of index i) (offset_of index ne
 abbrev pub text_of_section : Enc → Part → Section → List ℕ → List ℕ
 text_of_section enc part section dump = between section.at section.body dump ++ redacted_body enc part (between section.body section.end dump)
 
--- bytes of which those between two places are redacted as a body
+-- bytes, with those between two places redacted as a body
 abbrev pub redacted_between : Enc → Part → ℕ → ℕ → List ℕ → List ℕ
 redacted_between enc part low high bytes = take low bytes ++ (redacted_body enc part (between low high bytes) ++ drop high bytes)
 
--- a piece has room for the line of a header, and for a number of 16 digits and its colon behind it
+-- a piece has room for the line of a header, followed by a number of 16 digits and its colon
 abbrev pub HasRoom : List ℕ → Type 0
 HasRoom piece = usual.header + 18 ≤ length piece
 
--- the body has a byte, and lies in what is open
+-- the body isn't empty, and lies in what is open
 pub record HasBody (now : Now) (section : Section) : Type 0 where
   pub some : section.body < section.end
   pub is_open : IsOpen now

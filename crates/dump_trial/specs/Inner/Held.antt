@@ -8,13 +8,13 @@ use Rattle.section_index.specs.Opening.{IsAccepted}
 use Rattle.section_index.specs.Sections.{sections}
 use Rattle.dump_write.specs.Heaps.{heap_weight}
 
--- the bytes of a dump are accepted under the usual limits, and no body and no heap of it passes one
+-- the bytes of a dump are accepted under the usual limits, and no body and no heap of it exceeds one
 pub record IsGood (bytes : List ℕ) : Type 0 where
   pub accepted : IsAccepted bytes usual
   pub bodies : All (λ section. body_length section ≤ usual.section) (sections bytes)
   pub heaps : (index : Contents) (pid : List ℕ) → heap_weight bytes index pid ≤ usual.dense
 
--- the bytes of what is open, where they are told
+-- the bytes of what is open, if the device tells them
 abbrev pub bytes_in : Now → List ℕ
 bytes_in closed = []
 bytes_in (told bytes) = bytes

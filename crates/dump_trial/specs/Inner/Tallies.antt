@@ -6,7 +6,7 @@ use Rattle.dump_trial.specs.declared.tally.Tally.{Tally}
 abbrev pub plus : Tally → Tally → Tally
 plus a b = record { roots = a.roots + b.roots; bad = a.bad + b.bad }
 
--- there are at most so many roots
+-- there are at most this many roots
 pub record AreAtMost (most : ℕ) (tally : Tally) : Type 0 where
   pub roots : tally.roots ≤ most
   pub bad : tally.bad ≤ most

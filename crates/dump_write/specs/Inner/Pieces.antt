@@ -1,4 +1,4 @@
--- The lines that are put together from pieces.
+-- Lines that are written from pieces.
 use Rattle.std.specs.Prelude.{ℕ, List}
 use Rattle.std.specs.Borrow.{Bor}
 use Rattle.dump_io.specs.Pieces.{pieces_text}

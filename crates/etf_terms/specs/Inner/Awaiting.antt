@@ -7,14 +7,15 @@ use Rattle.etf_terms.specs.Depth.{deepest}
 abbrev pub opened : ℕ → List ℕ → List ℕ
 opened count counts = if count == 0 then counts else count ∷ counts
 
--- the bytes are the terms that the open heads still want, from the innermost out, and from now on at most so many are open
+-- the bytes are the terms that the open heads still need, from
+-- the innermost outwards, and from now on at most `most` are open
 abbrev pub Awaits : List ℕ → List ℕ → ℕ → Type 0
 Awaits [] rest most = (rest ≡ []) × (most ≡ 0)
 Awaits (n ∷ ns) rest most =
     (terms : Terms) × (front : List ℕ) × (behind : List ℕ) × (below : ℕ) × (rest ≡ front ++ behind) × AreTerms front terms
     × (count terms ≡ n) × (most ≡ max (suc (length ns) + deepest terms) below) × Awaits ns behind below
 
--- a step leaves these counts and bytes, and the most that are open are those now or later
+-- a step leaves these counts and bytes, and the most that are open at once are so now or later
 pub record Goes (wide most : ℕ) (counts rest : List ℕ) : Type 0 where
   pub later : ℕ
   pub awaits : Awaits counts rest later

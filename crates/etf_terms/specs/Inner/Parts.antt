@@ -1,5 +1,5 @@
--- How the readers go: each takes what it reads off the front, or says how many bytes are left from the first that can't
--- stand there.
+-- How the readers proceed: each takes what it reads off the front, or
+-- returns how many bytes are left from the first that isn't allowed there.
 use Rattle.std.specs.Prelude.{◌≡◌, ℕ, suc, ◌*◌, ◌==◌, ◌&&◌, nat_le, List, [], ◌∷◌, length, take, drop, Result, Ok, Err, if◌then◌else◌}
 use Rattle.std.specs.Int.{w16, w32, w64, from_be_bytes}
 use Rattle.etf_terms.specs.Heads.{Head, Float, Bits, Pid, Port, Ref, Small, Int, Atom, Tuple, Nil, Chars, Linked, Bin, Big, Fun, Export, Pairs}
@@ -8,7 +8,7 @@ use Rattle.etf_terms.specs.Inner.Walks.{Reading, Got, Off, reading}
 use Rattle.etf_terms.specs.declared.heads.HeadRead.{HeadRead}
 use Rattle.etf_terms.specs.declared.heads.HeadRead.TheVariants as heads
 
--- a value and the bytes behind it
+-- a value and the bytes after it
 abbrev pub Parsed : Type 0 → Type 0
 Parsed A = Result (A × List ℕ) ℕ
 
@@ -17,12 +17,12 @@ abbrev pub ◌>>=◌ : {A B : Type 0} → Parsed A → (A × List ℕ → Parsed
 (Ok x) >>= f = f x
 (Err left) >>= f = Err left
 
--- what a function returned, seen by view, is what was read
+-- what a function returned, as contracts see it, is what was read
 abbrev pub Gives : {X Y : Type 0} → (X → Y) → Result X ℕ → Result Y ℕ → Type 0
 Gives view (Ok x) read = read ≡ Ok (view x)
 Gives view (Err left) read = read ≡ Err left
 
--- a head without where it lies in memory
+-- a head, regardless of where it lies in memory
 abbrev pub head : HeadRead → Head
 head (heads.Float bytes) = Float bytes.now
 head (heads.Bits bits bytes) = Bits bits bytes.now
@@ -59,7 +59,7 @@ number2_of bytes = run_of 2 bytes >>= λ two. Ok (from_be_bytes w16 two.0, two.1
 unfoldable pub number4_of : List ℕ → Parsed ℕ
 number4_of bytes = run_of 4 bytes >>= λ four. Ok (from_be_bytes w32 four.0, four.1)
 
--- a count in one, two or four bytes, and so many bytes
+-- a count in one, two or four bytes, and that many bytes
 unfoldable pub sized1_of : List ℕ → Parsed (List ℕ)
 sized1_of bytes = byte_of bytes >>= λ n. run_of n.0 n.1
 
@@ -141,7 +141,7 @@ big110_of bytes = byte_of bytes >>= λ n. sign_of n.1 >>= λ s. run_of n.0 s.1 >
 unfoldable pub big111_of : List ℕ → Parsed Head
 big111_of bytes = number4_of bytes >>= λ n. sign_of n.1 >>= λ s. run_of n.0 s.1 >>= λ digits. Ok (Big s.0 digits.0, digits.1)
 
--- the two integers and the pid behind a function's name
+-- the two integers and the pid after a function's name
 unfoldable pub owner_of : List ℕ → Parsed Head
 owner_of bytes = integer_of bytes >>= λ old_index. integer_of old_index.1 >>= λ old_unique. pid_of old_unique.1
 
@@ -153,7 +153,7 @@ closure_of bytes =
 unfoldable pub export_of : List ℕ → Parsed Head
 export_of bytes = atom_of bytes >>= λ name. atom_of name.1 >>= λ function. small_of function.1 >>= λ arity. Ok (Export name.0 function.0 arity.0, arity.1)
 
--- a reading as the readers have it
+-- a reading in the form that the readers return
 abbrev pub parsed : Reading → Parsed Head
 parsed (Got head rest) = Ok (head, rest)
 parsed (Off rest) = Err (length rest)

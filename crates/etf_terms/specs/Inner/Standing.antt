@@ -1,7 +1,7 @@
 -- What is still to be written.
-use Rattle.std.specs.Prelude.{◌≡◌, ℕ, suc, ◌+◌, ◌*◌, ◌<◌, ◌≤◌, List, [], ◌∷◌, ◌++◌, ◌==◌, length, Option, Result, MatchResult, IfOk, OnErr, if◌then◌else◌}
+use Rattle.std.specs.Prelude.{◌≡◌, ℕ, suc, ◌+◌, ◌*◌, ◌<◌, ◌≤◌, List, [], ◌∷◌, ◌++◌, ◌==◌, length, Result, MatchResult, IfOk, OnErr, if◌then◌else◌}
 use Rattle.std.specs.Borrow.{Bor}
-use Rattle.dump_io.specs.Sinks.{grown, Change, GainsFront, SinkFailed}
+use Rattle.dump_io.specs.Sinks.{SinkState, SinkFailed, GainedFront, HasPut}
 use Rattle.etf_terms.specs.declared.stack.Entry.{Entry}
 use Rattle.etf_terms.specs.Depth.{deepest}
 use Rattle.etf_terms.specs.Heads.{Head, kids}
@@ -13,20 +13,20 @@ use Rattle.etf_terms.specs.Inner.Open.{Open}
 abbrev pub entry_of : Head → Entry
 entry_of head = record { kind = kind_of head; kids = kids head; next = 0 }
 
--- it stands in front of the entries if it has terms
+-- the entries, with it in front if it has terms
 abbrev pub entered : Head → List Entry → List Entry
 entered head entries = if kids head == 0 then entries else entry_of head ∷ entries
 
--- and it ends where it begins if it has none
+-- what closes it at once, if it has none
 abbrev pub ended : Head → List ℕ
 ended head = if kids head == 0 then closing (kind_of head) (kids head) else []
 
--- one of its terms further
+-- the same head, one term further
 abbrev pub next_of : Entry → Entry
 next_of e = record { kind = e.kind; kids = e.kids; next = e.next + 1 }
 
--- the bytes are the terms that the entries still want, from the innermost out, this is what has to be written, and the stack
--- has room for it
+-- the bytes are the terms that the entries still need, from the innermost
+-- outwards, this is what has to be written, and the stack has room for it
 abbrev pub Stands : ℕ → List Entry → List ℕ → List ℕ → Type 0
 Stands room [] rest to_come = (rest ≡ []) × (to_come ≡ [])
 Stands room (e ∷ es) rest to_come =
@@ -34,21 +34,21 @@ Stands room (e ∷ es) rest to_come =
     × (count terms + e.next ≡ e.kids) × (to_come ≡ inner e.kind e.kids e.next terms ++ below)
     × (suc (length es) + deepest terms ≤ room) × Stands room es behind below
 
--- a part of a whole text was written, and the rest is still to come
-pub record IsPart (before after : Option (List ℕ)) (whole to_come : List ℕ) : Type 0 where
+-- a part of the whole text was written, and the rest is still to come
+pub record IsPart (before after : SinkState) (whole to_come : List ℕ) : Type 0 where
   pub part : List ℕ
-  pub wrote : after ≡ grown before part
+  pub put : HasPut before after part
   pub splits : whole ≡ part ++ to_come
 
--- a part was written and the rest stands behind it, or it failed in the midst of the whole
-pub record Moves {E : Type 0} (sink : Change) (whole : List ℕ) (room : ℕ) (entries : List Entry) (result : Result (Bor (List ℕ)) E) : Type 0 where
-  pub later : sink.faults_before ≤ sink.faults_after
+-- a part was written and the rest comes after it, or it failed somewhere in the whole
+pub record Moves {E : Type 0} (before after : SinkState) (whole : List ℕ) (room : ℕ) (entries : List Entry) (result : Result (Bor (List ℕ)) E) : Type 0 where
+  pub later : before.faults ≤ after.faults
   pub writes : MatchResult result
-      (λ rest. (to_come : List ℕ) × IsPart sink.before sink.after whole to_come × Stands room entries rest.now to_come)
-      (λ _. GainsFront sink.before sink.after whole)
-  pub failed : OnErr result (SinkFailed sink)
+      (λ rest. (to_come : List ℕ) × IsPart before after whole to_come × Stands room entries rest.now to_come)
+      (λ _. GainedFront before after whole)
+  pub failed : OnErr result (SinkFailed before after)
 
--- the bytes and the entries that are left come nearer to the end
+-- the remaining bytes and entries come closer to the end
 abbrev pub Falls : {E : Type 0} → List ℕ → Open → Open → Result (Bor (List ℕ)) E → Type 0
 Falls rest before after result =
     IfOk result (λ behind. 2 * length behind.now + length after.entries < 2 * length rest + length before.entries + 1)

@@ -8,7 +8,7 @@ use Rattle.section_index.specs.Index.{Contents, sections_in}
 use Rattle.section_index.specs.Lookups.{has_tag, is_named}
 use Rattle.section_index.specs.Sections.{Section, id_of}
 
--- the id, where the section has the tag
+-- the id, if the section has the tag
 abbrev pub id_with : List ℕ → Section → Option (List ℕ)
 id_with tag section = if has_tag tag section.text then id_of section.text else None
 
@@ -19,11 +19,11 @@ first_place tag sections id = position (λ section. is_named tag (Some id) secti
 abbrev pub Places : Type 0
 Places = BTreeMap (Bor (List ℕ)) ℕ
 
--- the place that the tree has of an id
+-- the place that the tree has for an id
 abbrev pub place_at : Places → List ℕ → Option ℕ
 place_at places id = get_by (λ key. slice_cmp nat_cmp id key.now) places
 
--- of each id the tree has the place of the first of these sections with it
+-- the tree has for each id the place of the first of these sections with it
 abbrev pub AreFirsts : List ℕ → List Section → Places → Type 0
 AreFirsts tag sections places = (id : List ℕ) → place_at places id ≡ first_place tag sections id
 

@@ -19,11 +19,11 @@ abbrev pub behind_bar : Option (Element × ℕ) → ℕ
 behind_bar None = 0
 behind_bar (Some head) = head.1 + 2
 
--- the place of a list's tail in its text: behind the tag, the head and the bar
+-- the place of a cons cell's tail in its text: after the tag, the head and the bar
 abbrev pub tail_at : List ℕ → ℕ
 tail_at text = behind_bar (front (drop 1 text))
 
--- the head and the tail of a list, with their places
+-- the head and the tail of a cons cell, with their places
 abbrev pub list_placed : List ℕ → Elem → Elem → List Placed
 list_placed text head tail = record { at = 1; element = element head } ∷ record { at = tail_at text; element = element tail } ∷ []
 
@@ -33,7 +33,7 @@ read_in text Malformed = None
 read_in text (Pair head tail) = Some (form.List head tail, list_placed text head tail)
 read_in text (Other f elements) = Some (f, elements)
 
--- what a text spells was found: its form, and the elements of the form, each at its place
+-- what was found is what a text spells: its form, and the elements of the form, each at its place
 pub record IsReadOf (enc : Enc) (text : List ℕ) (found : Option (Form × List Placed)) : Type 0 where
   pub spelled : IfSome found (λ f. IsForm enc text (heap_form f.0))
   pub form_is : form_found found ≡ form_of enc text

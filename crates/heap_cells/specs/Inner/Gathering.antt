@@ -1,4 +1,4 @@
--- The heap lines of the bodies are gathered one by one.
+-- Gathering the heap lines of the bodies one by one.
 use Rattle.std.specs.Prelude.{◌≡◌, ℕ, ◌+◌, ◌-◌, ◌<◌, ◌≤◌, List, [], ◌++◌, map, length, slice_range, Option, None, Some, All}
 use Rattle.std.specs.Option.{option_map}
 use Rattle.field_lines.specs.Lines.{TextLine}
@@ -18,7 +18,7 @@ use Rattle.heap_cells.specs.declared.texts.Texts.{Texts}
 use Rattle.heap_cells.specs.Inner.Texts.{text_of, seam_of}
 use Rattle.heap_cells.specs.Inner.Records.{cells_in, AreSlots}
 
--- the slot of an element before references are resolved, where the text of its form begins at a place
+-- the slot of an element before references are resolved, given the place where the text of its form begins
 abbrev pub slot_with : ℕ → Element → Slot
 slot_with place Nil = slot.Imm place
 slot_with place (Small integer) = slot.Imm place
@@ -38,17 +38,17 @@ abbrev pub slots_found : ℕ → Option (Form × List Placed) → List Slot
 slots_found from None = []
 slots_found from (Some found) = map (slot_for from) found.1
 
--- each place is one of 32 bits
+-- each place fits into 32 bits
 abbrev pub AreSmall : ℕ → Option (Form × List Placed) → Type 0
 AreSmall from None = Unit {0}
 AreSmall from (Some found) = All (λ p. from + p.at < 4294967296) found.1
 
--- a record of these parts, whose first slot stands behind so many
+-- a record of these parts, whose first slot comes after this many
 abbrev pub new_record : ℕ → ℕ → ℕ → ℕ → Option HeapForm → CellRecord
 new_record address from upto first form =
     record { address = address; at = from; len = upto - from; first = first; kind = option_map kind_of form }
 
--- the text of a line stands so many bytes behind this place
+-- the text of a line begins this many bytes after this place
 pub record IsLineAt (text : List ℕ) (seam base : ℕ) (line : TextLine) : Type 0 where
   pub part : IsPart seam (length text) (base + line.at) (base + line.at + length line.text)
   pub stands : slice_range text (base + line.at) (base + line.at + length line.text) ≡ line.text
@@ -63,17 +63,17 @@ pub record IsGathered (text : List ℕ) (seam : ℕ) (enc : Enc) (g : Gathering)
   pub slots_are : AreSlots text seam enc [] g.arena.cells.items g.arena.slots.items
   pub few : length g.arena.cells.items + length g.arena.slots.items ≤ g.weight
 
--- the lines that were gathered, and these cells of the lines that are left, are all cells
+-- the lines that were gathered, followed by these cells of the remaining lines, are all cells
 pub record Leads (text : List ℕ) (enc : Enc) (g : Gathering) (rest all : List Cell) : Type 0 where
   pub weight : g.weight + weight_of rest ≡ weight_of all
-  -- where there are no more lines and elements than the limit, the records of all are kept
+  -- if there are no more lines and elements than the limit, the records of all are kept
   pub kept : g.weight ≤ g.dense → cells_in text enc g.arena.cells.items ++ rest ≡ all
 
--- what is gathered of both bodies, and how many of the cells are those of the first
+-- what was gathered from both bodies, and how many of the cells come from the first
 pub record AreAll (texts : Texts) (g : Gathering) (own : ℕ) : Type 0 where
   pub gathered : IsGathered (text_of texts) (seam_of texts) texts.enc g
   pub weight_is : g.weight ≡ weight texts.enc texts.heap.items texts.literals.items
-  -- where there are no more lines and elements than the limit, all are kept
+  -- if there are no more lines and elements than the limit, all are kept
   pub cells_are : g.weight ≤ g.dense
       → cells_in (text_of texts) texts.enc g.arena.cells.items ≡ line_cells texts.enc texts.heap.items ++ line_cells texts.enc texts.literals.items
   pub own_is : g.weight ≤ g.dense → own ≡ length (line_cells texts.enc texts.heap.items)

@@ -1,4 +1,4 @@
--- Of the cells with one address the first is kept.
+-- Keeping the first of the cells with each address.
 use Rattle.std.specs.Prelude.{◌≡◌, ℕ, ◌+◌, ◌<◌, ◌≤◌, List, [], ◌∷◌, length, take, slice_get, Option, None, Some}
 use Rattle.term_forms.specs.declared.enc.Enc.{Enc}
 use Rattle.heap_cells.specs.declared.arena.Arena.{Arena}
@@ -8,7 +8,7 @@ use Rattle.heap_cells.specs.Cells.{Cell, first_cells}
 use Rattle.heap_cells.specs.Inner.Order.{AreRanked}
 use Rattle.heap_cells.specs.Inner.Records.{cells_in, AreSlots, start_at}
 
--- the slots of each record lie behind those of the one before it, and within so many
+-- the slots of each record come after those of the one before it, and within this many
 pub record AreOrdered (records : List CellRecord) (total : ℕ) : Type 0 where
   pub ordered : (i : ℕ) → i < length records → start_at records i total ≤ start_at records (i + 1) total
   pub within : (i : ℕ) → i < length records → start_at records (i + 1) total ≤ total
@@ -26,7 +26,7 @@ pub record IsKept (text : List ℕ) (seam : ℕ) (enc : Enc) (cells : List Cell)
   pub slots_are : AreSlots text seam enc [] kept.cells.items kept.slots.items
   pub cells_are : cells_in text enc kept.cells.items ≡ cells
 
--- the first of these cells with each address, where so many are the process's own
+-- the first of these cells with each address, of which this many are the process's own
 pub record IsIndexed (text : List ℕ) (seam : ℕ) (enc : Enc) (cells : List Cell) (own : ℕ) (found : Indexed) : Type 0 where
   pub kept : IsKept text seam enc (first_cells [] cells) found.arena
   pub ranks_are : AreRanked found.arena.cells.items found.ranks

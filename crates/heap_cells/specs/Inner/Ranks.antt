@@ -3,7 +3,7 @@ use Rattle.std.specs.Prelude.{◌≡◌, ℕ, ◌+◌, ◌/◌, ◌%◌, ◌<◌
 use Rattle.heap_cells.specs.declared.ranks.Kept.{Kept}
 use Rattle.heap_cells.specs.declared.ranks.Kept.TheVariants.{Narrow, Wide}
 
--- the pair that a number of 64 bits stands for, whose address is counted from a base
+-- the pair that a 64-bit number stands for, whose address is relative to a base
 abbrev pub pair_at : ℕ → ℕ → ℕ × ℕ
 pair_at base rank = (base + rank / 134217728, rank % 134217728)
 
@@ -11,11 +11,11 @@ abbrev pub pairs_in : ℕ → Kept → List (ℕ × ℕ)
 pairs_in base (Narrow ranks) = map (pair_at base) ranks.items
 pairs_in base (Wide pairs) = pairs.items
 
--- each number is one of 27 bits
+-- each number fits into 27 bits
 abbrev pub AreNumbered : Kept → Type 0
 AreNumbered (Narrow ranks) = Unit {0}
 AreNumbered (Wide pairs) = All (λ (pair : ℕ × ℕ). pair.1 < 134217728) pairs.items
 
--- no two that stand beside one another have one address
+-- no two adjacent pairs have the same address
 abbrev pub AreApart : List (ℕ × ℕ) → Type 0
 AreApart pairs = (i : ℕ) → i + 1 < length pairs → (slice_index_or pairs i (0, 0)).0 ≡ (slice_index_or pairs (i + 1) (0, 0)).0 → ⊥

@@ -1,4 +1,4 @@
--- What the records and the slots of a heap stand for. The text is that of both bodies, one behind the other.
+-- What the records and the slots of a heap stand for. The text is that of both bodies, one after the other.
 use Rattle.std.specs.Prelude.{◌≡◌, ℕ, ◌+◌, ◌≤◌, List, [], ◌∷◌, map, length, slice_get, slice_range, Option, None, Some, IsSome, nat_eq}
 use Rattle.std.specs.Option.{option_map}
 use Rattle.std.specs.List.{flat_map, IsDistinct}
@@ -35,7 +35,7 @@ AreLaid text seam enc begin [] upto = begin ≡ upto
 AreLaid text seam enc begin (r ∷ rs) upto =
     IsRecord text seam enc begin r × AreLaid text seam enc (begin + length (elements_by text enc r)) rs upto
 
--- where the slots of a record begin, or where all end
+-- where the slots of a record begin, or, past the last record, where all slots end
 abbrev pub first_or : ℕ → Option CellRecord → ℕ
 first_or total None = total
 first_or total (Some r) = r.first
@@ -47,23 +47,23 @@ start_at records i total = first_or total (slice_get records i)
 abbrev pub slots_at : List CellRecord → List Slot → ℕ → List Slot
 slots_at records slots i = slice_range slots (start_at records i (length slots)) (start_at records (i + 1) (length slots))
 
--- the element that begins a part of the text
+-- the element with which a part of the text begins
 abbrev pub element_at : List ℕ → ℕ → ℕ → Option Element
 element_at text from upto = option_map (λ found. found.0) (front (slice_range text from upto))
 
--- the element that a slot spells, where the text of its form ends at this place
+-- the element that a slot spells, given the place where the text of its form ends
 abbrev pub spelled_by : List ℕ → ℕ → Slot → Option Element
 spelled_by text upto (slot.Imm place) = element_at text place upto
 spelled_by text upto (slot.Cell ix) = None
 spelled_by text upto (slot.Gone address) = None
 
--- where a slot spells an element, that can be read
+-- if a slot spells an element, it can be read
 abbrev pub IsReadable : List ℕ → ℕ → ℕ → Slot → Type 0
 IsReadable text seam upto (slot.Imm place) = IsPart seam (length text) place upto × IsSome (element_at text place upto)
 IsReadable text seam upto (slot.Cell ix) = Unit {0}
 IsReadable text seam upto (slot.Gone address) = Unit {0}
 
--- where a slot spells an element, that is this one
+-- if a slot spells an element, it is this one
 abbrev pub Spells : List ℕ → ℕ → ℕ → Slot → Element → Type 0
 Spells text seam upto (slot.Imm place) e = IsPart seam (length text) place upto × (element_at text place upto ≡ Some e)
 Spells text seam upto (slot.Cell ix) e = Unit {0}
@@ -74,7 +74,7 @@ abbrev pub AllSpell : List ℕ → ℕ → ℕ → List Slot → List Element �
 AllSpell text seam upto slots es =
     (k : ℕ) (s : Slot) (e : Element) → slice_get slots k ≡ Some s → slice_get es k ≡ Some e → Spells text seam upto s e
 
--- the slots are those of the elements, where references lead to these cells
+-- the slots are those of the elements, with references leading to these cells
 pub record AreSlots (text : List ℕ) (seam : ℕ) (enc : Enc) (known : List Cell) (records : List CellRecord) (slots : List Slot) : Type 0 where
   pub laid : AreLaid text seam enc 0 records (length slots)
   pub targets : map slot_target slots ≡ map (target known) (flat_map (elements_by text enc) records)

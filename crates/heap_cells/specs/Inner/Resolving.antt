@@ -1,4 +1,4 @@
--- References that become the cells they lead to.
+-- Resolving references to the cells that they lead to.
 use Rattle.std.specs.Prelude.{◌≡◌, ℕ, ◌<◌, ◌≤◌, List, [], ◌∷◌, length, slice_get, slice_set, slice_index_or, Option, None, Some, All, Contains}
 use Rattle.heap_cells.specs.declared.cells.CellRecord.{CellRecord}
 use Rattle.heap_cells.specs.declared.cells.Slot.{Slot}
@@ -9,13 +9,13 @@ abbrev pub cell_or_gone : ℕ → Option ℕ → Slot
 cell_or_gone address None = slot.Gone address
 cell_or_gone address (Some number) = slot.Cell (record { 0 = number })
 
--- a slot whose reference leads to the first record with its address, where one has it
+-- a slot whose reference leads to the first record with its address, if there is one
 abbrev pub settled : List CellRecord → Slot → Slot
 settled records (slot.Imm place) = slot.Imm place
 settled records (slot.Cell ix) = slot.Cell ix
 settled records (slot.Gone address) = cell_or_gone address (record_with records address)
 
--- the address of a slot that is a reference, with the slot's place
+-- the address of a slot that is a reference, with the place of the slot
 abbrev pub reference_of : Slot → ℕ → List (ℕ × ℕ)
 reference_of (slot.Imm at) place = []
 reference_of (slot.Cell ix) place = []
@@ -26,13 +26,13 @@ pub record AreReferences (slots : List Slot) (references : List (ℕ × ℕ)) : 
   pub sound : All (λ (r : ℕ × ℕ). slice_get slots r.1 ≡ Some (slot.Gone r.0)) references
   pub complete : (i address : ℕ) → slice_get slots i ≡ Some (slot.Gone address) → Contains references (address, i)
 
--- how many of the pairs have a lesser address than this one: these come first
+-- how many of the pairs have an address lower than this one: these come first
 pub record IsFirstFrom (pairs : List (ℕ × ℕ)) (address at : ℕ) : Type 0 where
   pub within : at ≤ length pairs
   pub front : (i : ℕ) → i < at → (slice_index_or pairs i (0, 0)).0 < address
   pub behind : at < length pairs → address ≤ (slice_index_or pairs at (0, 0)).0
 
--- a slot becomes the cell with the number that was found
+-- a slot becomes the cell with the number that was found, if one was
 abbrev pub found_at : List Slot → ℕ → Option ℕ → List Slot
 found_at slots place None = slots
 found_at slots place (Some number) = slice_set slots place (slot.Cell (record { 0 = number }))

@@ -2,7 +2,7 @@
 use Rattle.std.specs.Prelude.{ℕ, List, ◌++◌, length}
 use Rattle.heap_cells.specs.declared.texts.Texts.{Texts}
 
--- the heap's own body, and that of the literals behind it
+-- the heap's own body, followed by that of the literals
 abbrev pub text_of : Texts → List ℕ
 text_of texts = texts.heap.items ++ texts.literals.items
 

@@ -1,4 +1,4 @@
--- Marked cells, and those of them that wait to be looked at.
+-- Marked cells, and those of them that wait to be visited.
 use Rattle.std.specs.Prelude.{◌≡◌, ℕ, ◌+◌, ◌≤◌, ◌⊎◌, Bool, true, false, nat_eq, List, [], length}
 use Rattle.std.specs.List.{list_any, sum_by, IsDistinct}
 use Rattle.heap_cells.specs.Cells.{Cell}
@@ -7,9 +7,9 @@ use Rattle.heap_reach.specs.Reached.{IsIn, Leads, IsClosed}
 -- the marks of a heap's cells, and the numbers of those that wait
 pub record Frontier : Type 0 where
   pub marks : List Bool
-  -- for how many entries memory is taken
+  -- for how many entries memory has been taken
   pub reserved : ℕ
-  -- the cell that came last is the first one
+  -- the cells that wait, the one that came last first
   pub waiting : List ℕ
 
 -- whether a cell is one of them
@@ -36,7 +36,7 @@ unmarked false = 1
 abbrev pub work : Frontier → ℕ
 work f = sum_by unmarked f.marks + length f.waiting
 
--- the cells of a set are marked, and those that weren't before have come to wait
+-- the cells of a set are marked, and those that weren't before now wait
 pub record Adds (old new : Frontier) (P : ℕ → Type 0) : Type 0 where
   pub cells : length new.marks ≡ length old.marks
   pub room : new.reserved ≡ old.reserved
@@ -47,7 +47,7 @@ pub record Adds (old new : Frontier) (P : ℕ → Type 0) : Type 0 where
   pub waits : (n : ℕ) → IsIn new.marks n → IsIn old.marks n ⊎ Waits new n
   pub work : work new ≡ work old
 
--- all that was looked at leads to marked cells alone
+-- all that was visited leads only to marked cells
 abbrev pub IsLooked : List Cell → Frontier → Type 0
 IsLooked cells f = (m n : ℕ) → IsIn f.marks m → Leads cells m n → Waits f m ⊎ IsIn f.marks n
 

@@ -1,4 +1,4 @@
--- What is sent to a writer, as data.
+-- What is sent to a serializer, as data.
 use Rattle.std.specs.Prelude.{ℕ, List, map}
 use Rattle.std.specs.Borrow.{Bor}
 use Rattle.serde_json.specs.Data.{Data, string, array, object}
@@ -9,13 +9,13 @@ use Rattle.json_report.specs.declared.members.Told.{Told}
 use Rattle.json_report.specs.declared.members.Told.TheVariants.{Number, Word, Text}
 use Rattle.json_report.specs.Trees.{finding_object, members, num, text}
 
--- what a member tells
+-- the value of a member
 abbrev pub shown_told : Told → Data
 shown_told (Number n) = num n
 shown_told (Word word) = string word.now
 shown_told (Text bytes) = text bytes.now
 
--- a key and what stands there
+-- a key and its value
 abbrev pub shown_member : Bor (List ℕ) × Told → List ℕ × Data
 shown_member (key, told) = (key.now, shown_told told)
 

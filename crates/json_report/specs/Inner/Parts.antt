@@ -6,7 +6,7 @@ use Rattle.process_table.specs.Processes.{Process}
 use Rattle.dump_audit.specs.declared.finding.Finding.{Finding}
 use Rattle.json_report.specs.Trees.{finding_object, tree_object}
 
--- the processes, what was found of them, and what is said of the state of the dump
+-- the processes, what was found of them, and the text on the state of the dump
 pub record Parts : Type 0 where
   pub processes : List Process
   pub found : List Finding

@@ -12,14 +12,15 @@ pub record EndsTooLong (limit : ℕ) (stream piece : List ℕ) (before after : L
   pub first : first_too_long limit (stream ++ piece) ≡ Some at
   pub heard : after ≡ before ++ headers_before at (new_headers stream piece)
 
--- a header was refused, which isn't too long, nor is one before it
+-- a header was refused, and the lines that are too long begin only after it
 pub record EndsRefused (limit : ℕ) (stream piece : List ℕ) (before after : List Header) (stop : Option RefusedHeader) : Type 0 where
   pub refused : RefusedHeader
   pub kept : stop ≡ Some refused
   pub among : StopsAmong before after refused (new_headers stream piece)
   pub short : All (λ at. refused.at < at) (too_long limit (stream ++ piece))
 
--- the piece behind the stream ends it so: with a line that is too long, or with a header that was refused
+-- the piece after the stream ends it in one of these ways: with
+-- a line that is too long, or with a header that was refused
 abbrev pub Ends : ℕ → List ℕ → List ℕ → List Header → List Header → Option RefusedHeader → ScanFault → Type 0
 Ends limit stream piece before after stop (HeaderTooLong at) = EndsTooLong limit stream piece before after at
 Ends limit stream piece before after stop (Stop value) = EndsRefused limit stream piece before after stop

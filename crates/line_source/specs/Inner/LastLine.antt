@@ -1,4 +1,4 @@
--- What the last line of the stream has in bytes.
+-- The bytes that have come of the last line of the stream.
 use Rattle.std.specs.Prelude.{ℕ, Bool, true, false, List, []}
 use Rattle.line_source.specs.Streams.{LastLine, ended, plain, header}
 
@@ -8,7 +8,7 @@ header_bytes ended = []
 header_bytes plain = []
 header_bytes (header bytes) = bytes
 
--- whether the last line is a header line that lacks its LF
+-- whether the last line is a header line and lacks its LF
 abbrev pub is_header_line : LastLine → Bool
 is_header_line ended = false
 is_header_line plain = false

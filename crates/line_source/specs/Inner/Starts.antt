@@ -2,7 +2,7 @@
 use Rattle.std.specs.Prelude.{◌≡◌, ℕ, ◌-◌, ◌==◌, Bool, true, not, List, slice_index, if◌then◌else◌}
 use Rattle.dump_io.specs.Lines.{lf, equals_sign}
 
--- whether a line begins at this place, where `begun` says that the first line of the bytes began before them
+-- whether a line begins at this place; `begun` says whether the first line of the bytes began before them
 abbrev pub begins_line : Bool → List ℕ → ℕ → Bool
 begins_line begun bytes k = if k == 0 then not begun else slice_index bytes (k - 1) == lf
 

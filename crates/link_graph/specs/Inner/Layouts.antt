@@ -1,4 +1,4 @@
--- How the texts of a kind lie in the text of an entry.
+-- Where the texts of a kind are in the text of an entry.
 use Rattle.std.specs.Prelude.{◌≡◌, ℕ, ◌+◌, ◌-◌, ◌≤◌, List, length}
 use Rattle.std.specs.List.{between}
 use Rattle.link_graph.specs.Kinds.{Kind, Link, LinkPort, To, ToPort, ToName, From, FromPort, Other}
@@ -10,7 +10,7 @@ use Rattle.link_graph.specs.declared.listed.Layout.TheVariants as layout
 abbrev pub reference_in : ℕ → List ℕ → List ℕ
 reference_in size text = between (length text - 1 - size) (length text - 1) text
 
--- the partner, which stands behind the opening and before the comma of the reference
+-- the partner, which stands after the opening and before the comma of the reference
 abbrev pub partner_in : ℕ → ℕ → List ℕ → List ℕ
 partner_in opening size text = between opening (length text - 2 - size) text
 
@@ -25,7 +25,7 @@ layout_of (From pid reference) = layout.From (length reference)
 layout_of FromPort = layout.FromPort
 layout_of Other = layout.Other
 
--- the kind whose texts lie so in a text: `{to,` has four bytes and `{from,` six
+-- the kind of a text with this layout: `{to,` has four bytes and `{from,` six
 abbrev pub laid_out : Layout → List ℕ → Kind
 laid_out layout.Link text = Link text
 laid_out layout.LinkPort text = LinkPort
@@ -36,14 +36,14 @@ laid_out (layout.From size) text = From (partner_in 6 size text) (reference_in s
 laid_out layout.FromPort text = FromPort
 laid_out layout.Other text = Other
 
--- how many bytes there are at least where texts lie so
+-- how many bytes a text with this layout has at least
 abbrev pub least_size : Layout → ℕ
 least_size (layout.To size) = size + 6
 least_size (layout.ToName size) = size + 1
 least_size (layout.From size) = size + 8
 least_size _ = 0
 
--- the texts of a text's kind lie so in it
+-- the layout is that of the text's kind
 pub record IsLaidOut (layout : Layout) (text : List ℕ) : Type 0 where
   pub kind : laid_out layout text ≡ kind_of text
   pub room : least_size layout ≤ length text

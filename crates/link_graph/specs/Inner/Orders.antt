@@ -1,4 +1,4 @@
--- The order of kinds that are lent.
+-- The order of borrowed kinds.
 use Rattle.std.specs.Prelude.{List}
 use Rattle.std.specs.List.Sorted.{IsSorted}
 use Rattle.link_graph.specs.contracts.shapes.EntryKindOrd.TheImpl as order

@@ -7,6 +7,6 @@ use Rattle.link_graph.specs.Graph.{has_kind}
 use Rattle.link_graph.specs.Seen.{shown_kind}
 use Rattle.link_graph.specs.declared.shapes.EntryKind.{EntryKind}
 
--- the set has a kind exactly where an entry is of it
+-- the set has a kind exactly when some entry is of that kind
 abbrev pub AreKindsOf : List LinkEntry → List Kind → Type 0
 AreKindsOf entries kinds = (wanted : EntryKind) → list_any (is_same_kind (shown_kind wanted)) kinds ≡ has_kind (shown_kind wanted) entries

@@ -1,4 +1,4 @@
--- Link lists whose entries stand in one pool.
+-- Link lists whose entries are stored in one pool.
 use Rattle.std.specs.Prelude.{◌≡◌, ◌-◌, ◌<◌, ◌≤◌, ◌^◌, List, [], ◌∷◌, ◌++◌, length, map, slice_get, All, IsSomeAnd}
 use Rattle.std.specs.List.{between}
 use Rattle.link_graph.specs.Kinds.{Kind}
@@ -12,11 +12,11 @@ use Rattle.link_graph.specs.declared.lists.Lists.{Lists}
 abbrev pub span_entries : List LinkEntry → Span → List LinkEntry
 span_entries entries span = between span.from span.upto entries
 
--- what a span says of a list
+-- the links that a span stands for
 abbrev pub links_in_span : List LinkEntry → Span → Links
 links_in_span entries span = record { unread = span.unread; entries = span_entries entries span }
 
--- the entries are there, they can be counted by 32 bits, and where they are many their kinds are in a set
+-- the entries are there, 32 bits can count them, and if they are many, their kinds are in a set
 pub record IsSpan (entries : List LinkEntry) (sets : List (List Kind)) (span : Span) : Type 0 where
   pub ordered : span.from ≤ span.upto
   pub inside : span.upto ≤ length entries
@@ -31,13 +31,13 @@ lists_in lists = map (links_in_span lists.entries.items) lists.spans.items
 abbrev pub AreSpans : Lists → Type 0
 AreSpans lists = All (IsSpan lists.entries.items lists.sets.items) lists.spans.items
 
--- the kinds of many entries were put behind the sets
+-- if the entries are many, their kinds were appended to the sets
 pub record KeepsKinds (entries : List LinkEntry) (before after : List (List Kind)) : Type 0 where
   pub more : List (List Kind)
   pub grown : after ≡ before ++ more
   pub found : 16 < length entries → IsSomeAnd (slice_get after (length before)) (AreKindsOf entries)
 
--- the lists are those before and one more
+-- there is one more list, after those before
 pub record HasGained (before after : Lists) (links : Links) : Type 0 where
   pub lists : lists_in after ≡ lists_in before ++ links ∷ []
   pub within : AreSpans after

@@ -72,7 +72,7 @@ leads-missing heap b (Ref a) h =
     let found = missing-found a b (number_at heap a) h in
     (ap Ref found.0, ap (form_with heap) (sym found.0) ∙ ap (option_map (form_at heap)) found.1)
 
--- an element that leads nowhere is no reference
+-- an element that leads nowhere is an immediate
 pub leads-nowhere : (P : Element → Type 0) (heap : List Cell) (e : Element) → target heap e ≡ Plain → P Nil → ((integer : List ℕ) → P (Small integer)) → ((bytes : List ℕ) → P (Atom bytes))
     → ((pid : List ℕ) → P (Pid pid)) → ((port : List ℕ) → P (Port port)) → P e
 leads-nowhere P heap Nil h nil small atom pid port = nil

@@ -1,4 +1,4 @@
--- Processes are found one section after another.
+-- Finding processes one section after another.
 use Rattle.std.specs.Prelude.{◌≡◌, ℕ, ◌+◌, ◌-◌, ◌<◌, ◌≤◌, Bool, true, List, [], ◌∷◌, ◌++◌, length, map, slice_get, slice_index_or, position, Option, None, Some, Contains, codes, if◌then◌else◌}
 use Rattle.std.specs.BTreeMap.{BTreeMap, get_by}
 use Rattle.std.specs.Cmp.Lexicographic.{slice_cmp}
@@ -20,7 +20,7 @@ use Rattle.process_table.specs.declared.pids.PidOrder.TheVariants.{Rising, Ranke
 use Rattle.process_table.specs.declared.pids.PidPlace.{PidPlace}
 use Rattle.process_table.specs.Records.{Placed, is_process, process_sections, first_of_each, named_place}
 
--- the pid, where the section is that of a process
+-- the pid, if the section is that of a process
 abbrev pub pid_in : Section → Option (List ℕ)
 pid_in s = if has_tag (codes "proc") s.text then id_of s.text else None
 
@@ -36,32 +36,33 @@ sections_of places = map (λ place. place.section) places
 abbrev pub has_pid : List ℕ → PidPlace → Bool
 has_pid pid place = bytes_eq pid place.pid.items
 
--- the pid with a number, and past the last one an empty text
+-- the pid with a number; past the last one, an empty text
 abbrev pub pid_at : List PidPlace → ℕ → List ℕ
 pid_at places number = option_map_or (λ place. place.pid.items) (slice_get places number) []
 
--- no pid stands before its own place
+-- no pid occurs before its own place
 abbrev pub AreOwn : List PidPlace → Type 0
 AreOwn places = (number : ℕ) (place : PidPlace) → slice_get places number ≡ Some place → position (has_pid place.pid.items) places ≡ Some number
 
--- the tree has the number of each pid
+-- the tree maps each pid to its number
 pub record AreNumbered (numbers : BTreeMap (Bor (List ℕ)) ℕ) (places : List PidPlace) : Type 0 where
   pub own : AreOwn places
   pub found : (pid : List ℕ) → get_by (λ key. slice_cmp nat_cmp pid key.now) numbers ≡ position (has_pid pid) places
 
--- how pids compare where they rise: a shorter one comes first, and of two of one length the one whose bytes are less
+-- how pids compare where they rise: a shorter one is less, and
+-- of two with the same length the one whose bytes are less
 abbrev pub rising_cmp : List ℕ → List ℕ → Ordering
 rising_cmp pid other = ordering_then (nat_cmp (length pid) (length other)) (slice_cmp nat_cmp pid other)
 
--- each pid comes behind those before it
+-- each pid is greater than those before it
 abbrev pub AreRising : List PidPlace → Type 0
 AreRising places = IsStrictlySortedBy (λ a b. rising_cmp a.pid.items b.pid.items) places
 
--- whether a pid comes behind the last one, if there is one
+-- whether a pid is greater than the last one, if there is one
 abbrev pub is_behind : List PidPlace → List ℕ → Bool
 is_behind places pid = option_map_or (λ last. is_lt (rising_cmp last.pid.items pid)) (slice_get places (length places - 1)) true
 
--- a pid and the place of its section were put behind the others
+-- a pid and the place of its section were appended
 pub record HasGained (before after : List PidPlace) (pid : List ℕ) (section : ℕ) : Type 0 where
   pub place : PidPlace
   pub same_pid : place.pid.items ≡ pid
@@ -74,7 +75,7 @@ pub record AreRanked (places : List PidPlace) (order : List ℕ) : Type 0 where
   pub known : (k d : ℕ) → k < length order → position (has_pid (pid_at places (slice_index_or order k d))) places ≡ Some (slice_index_or order k d)
   pub all : (pid : List ℕ) (number : ℕ) → position (has_pid pid) places ≡ Some number → Contains order number
 
--- the order in which the pids are: they rise as they stand, or their numbers are ranked
+-- the order of the pids: they rise as they stand, or their numbers are ranked
 abbrev pub IsOrderOf : List PidPlace → PidOrder → Type 0
 IsOrderOf places Rising = AreRising places
 IsOrderOf places (Ranked order) = AreRanked places order.items
@@ -84,18 +85,19 @@ pub record AreOrdered (places : List PidPlace) (order : PidOrder) : Type 0 where
   pub own : AreOwn places
   pub kept : IsOrderOf places order
 
--- these are the places of the sections, of which there are no more than an index has, and the pids are in order
+-- these are the places of the sections, of which there are no
+-- more than an index has sections, and the pids are in order
 pub record AreListed (places : List PidPlace) (order : PidOrder) (sections : List ℕ) : Type 0 where
   pub listed : sections ≡ sections_of places
   pub count : length places ≤ usual.sections
   pub ordered : AreOrdered places order
 
--- these are the first sections of the processes among some sections, and the number of the others
+-- these are the first sections of the processes among some sections, and the number of their further sections
 pub record AreFound (found : Found) (among : List Placed) : Type 0 where
   pub records : named_places found.places.items ≡ map named_place (first_of_each (process_sections among))
   pub all : found.repeated + length found.places.items ≡ length (process_sections among)
 
--- what was found where no section was passed over
+-- what was found if no section was passed over
 abbrev pub found_rising : Vec PidPlace → Found
 found_rising places = record { places = places; repeated = 0 }
 
@@ -104,7 +106,7 @@ pub record AreFoundRising (places : Vec PidPlace) (among : List Placed) : Type 0
   pub rising : AreRising places.items
   pub found : AreFound (found_rising places) among
 
--- the record is a section of the index at its place, and that of a process
+-- the record is that of a process, and of a section of the index at its place
 pub record IsRecordOf (index : Contents) (r : Placed) : Type 0 where
   pub place : r.0 < length index.headers
   pub section : section_at index r.0 ≡ r.1

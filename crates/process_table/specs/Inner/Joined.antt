@@ -1,4 +1,4 @@
--- Processes that are kept as a list of their places, and a table of their fields.
+-- Processes that are stored as a list of their places and a table of their fields.
 use Rattle.std.specs.Prelude.{◌≡◌, ℕ, ◌≤◌, List, [], ◌∷◌, length, codes}
 use Rattle.dump_io.specs.Limits.{usual}
 use Rattle.section_rows.specs.Rows.{Column, field, Row, Table, cell_at}
@@ -11,7 +11,7 @@ use Rattle.process_table.specs.Inner.Finding.{AreOrdered}
 abbrev pub field_columns : List Column
 field_columns = field (codes "State") ∷ field (codes "Name") ∷ field (codes "Message queue length") ∷ field (codes "Memory") ∷ field (codes "Link list") ∷ []
 
--- the process of an entry and the row of its fields
+-- the process from an entry and the row of its fields
 abbrev pub joined : List ℕ × ℕ → Row → Process
 joined entry row = record {
   section = entry.1;
@@ -28,7 +28,7 @@ all_joined [] rows = []
 all_joined (entry ∷ entries) [] = []
 all_joined (entry ∷ entries) (row ∷ rows) = joined entry row ∷ all_joined entries rows
 
--- each process has a row, with a cell for each field, and their pids are in order
+-- each process has a row with a cell for each field, and their pids are in order
 pub record AreJoined (places : List PidPlace) (order : PidOrder) (fields : Table) : Type 0 where
   pub rows : length fields.rows ≡ length places
   pub width : fields.width ≡ 5

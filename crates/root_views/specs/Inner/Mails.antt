@@ -5,6 +5,6 @@ use Rattle.root_views.specs.Roots.{BodyRoot}
 use Rattle.root_views.specs.Seen.{root}
 use Rattle.root_views.specs.declared.mails.Mail.{Mail}
 
--- a message, and its token behind it
+-- a message, followed by its token
 abbrev pub mail_list : Mail → List BodyRoot
 mail_list mail = root mail.message ∷ option_to_list (option_map root mail.token)

@@ -14,7 +14,7 @@ use Rattle.section_index.specs.Sections.{id_of}
 abbrev pub is_lf : ℕ → Bool
 is_lf c = c == lf
 
--- these bytes are all, or a whole piece
+-- these bytes are all there are, or a whole piece
 abbrev pub IsAllOrLong : List ℕ → List ℕ → Type 0
 IsAllOrLong first more = length first < PIECE → more ≡ []
 
@@ -22,25 +22,25 @@ IsAllOrLong first more = length first < PIECE → more ≡ []
 abbrev pub id_in : List ℕ → List ℕ
 id_in text = unwrap_or (id_of text) []
 
--- the version that the text's id names, or the fault that it names none
+-- the version that the text's id names, or the fault that the id names none
 abbrev pub IsVersionOf : List ℕ → Result Version OpenFault → Type 0
 IsVersionOf text (Ok version) = version_named (id_in text) ≡ Some version
 IsVersionOf text (Err Memory) = Unit {0}
 IsVersionOf text (Err fault) = (fault ≡ UnknownVersion (id_in text)) × (version_named (id_in text) ≡ None)
 
--- the beginning is that of a dump of this version, which only a header can refuse
+-- these are the first bytes of a dump of this version, which only a header can still refuse
 pub record BeginsAs (limits : Numbers) (bytes : List ℕ) (read : Version) : Type 0 where
   pub signed : starts_with nat_eq bytes signature ≡ true
   pub fault : fault_of bytes limits ≡ header_fault bytes limits
   pub version : version_named (first_id bytes) ≡ Some read
 
--- the beginning is accepted, or these bytes are refused so
+-- the beginning is accepted, or these bytes are refused for this cause
 abbrev pub IsJudged : Numbers → List ℕ → Result Version OpenFault → Type 0
 IsJudged limits bytes (Ok version) = BeginsAs limits bytes version
 IsJudged limits bytes (Err Memory) = Unit {0}
 IsJudged limits bytes (Err fault) = fault_of bytes limits ≡ Some fault
 
--- a refusal by the bytes, or want of memory
+-- a refusal that the bytes decide, or a lack of memory
 abbrev pub IsOfTheBeginning : OpenFault → Type 0
 IsOfTheBeginning (TooLarge size) = ⊥
 IsOfTheBeginning Read = ⊥

@@ -1,4 +1,4 @@
--- The bytes of a dump that were read.
+-- The bytes of a dump that have been read.
 use Rattle.std.specs.Prelude.{◌≡◌, ℕ, true, List, nat_eq}
 use Rattle.std.specs.List.{starts_with}
 use Rattle.dump_io.specs.Dumps.{Now, told, Gives}
@@ -17,12 +17,13 @@ pub record HasBegun (now : Now) (scan : Scan) (hearing : Hearing) : Type 0 where
   pub signed : starts_with nat_eq bytes signature ≡ true
   pub heard : HasHeard scan hearing bytes
 
--- the refusal of a header, or want of memory; where the bytes of what is open are told, it is their refusal
+-- the refusal of a header, or a lack of memory; if the device
+-- tells the bytes of what is open, it is their refusal
 pub record IsHeaderRefusal (limits : Numbers) (now : Now) (fault : OpenFault) : Type 0 where
   pub kind : IsOfAHeader fault
   pub refusal : (bytes : List ℕ) → now ≡ told bytes → IsHeaderFault limits bytes fault
 
--- another refusal than that the dump is too large
+-- a refusal other than that the dump is too large
 abbrev pub IsNotTooLarge : OpenFault → Type 0
 IsNotTooLarge (TooLarge size) = ⊥
 IsNotTooLarge fault = Unit {0}

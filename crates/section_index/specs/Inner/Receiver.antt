@@ -18,7 +18,7 @@ IsStopCause limits heard (TooMany place) at size = (place ≡ at) × (length hea
 IsStopCause limits heard (PoolFull place) at size = (place ≡ at) × (length heard < limits.sections) × (limits.pool < text_bytes heard + size)
 IsStopCause limits heard Memory at size = Unit {0}
 
--- where a header was refused, there is the cause for it
+-- if a header was refused, the cause for it holds
 abbrev pub HasItsCause : Numbers → List Header → Option RefusedHeader → Type 0
 HasItsCause limits heard None = Unit {0}
 HasItsCause limits heard (Some refused) = IsStopCause limits heard refused.value refused.at refused.size

@@ -1,4 +1,4 @@
--- The scan of a dump that comes in pieces.
+-- Scanning a dump that comes in pieces.
 use Rattle.std.specs.Prelude.{◌≡◌, ℕ, List, Some}
 use Rattle.dump_io.specs.Limits.{Numbers}
 use Rattle.line_source.specs.Streams.{ended_headers}
@@ -12,28 +12,28 @@ use Rattle.section_index.specs.declared.opening.OpenFault.TheVariants.{HeaderToo
 use Rattle.section_index.specs.Opening.{header_fault}
 use Rattle.section_index.specs.Inner.Receiver.{Hearing}
 
--- the refusal that a receiver's refusal stands for
+-- the fault that a receiver's refusal becomes
 abbrev pub stop_fault : HeaderStop → OpenFault
 stop_fault (TooMany at) = TooManySections at
 stop_fault (PoolFull at) = HeadersTooLarge at
 stop_fault NoMemory = Memory
 
--- the refusal that a scan's fault stands for
+-- the fault that a scan's fault becomes
 abbrev pub open_fault_of : ScanFault → OpenFault
 open_fault_of (LineTooLong at) = HeaderTooLong at
 open_fault_of (Stop value) = stop_fault value
 
--- the scan stands for these bytes, and its receiver heard their headers whose lines have their LF
+-- the scan stands for these bytes, and its receiver heard those of their headers whose lines have their LF
 pub record HasHeard (scan : Scan) (hearing : Hearing) (bytes : List ℕ) : Type 0 where
   pub stands : StandsFor scan bytes
   pub heard : hearing.heard ≡ ended_headers bytes
 
--- the refusal of a header of these bytes, or want of memory
+-- the refusal of a header of these bytes, or a lack of memory
 abbrev pub IsHeaderFault : Numbers → List ℕ → OpenFault → Type 0
 IsHeaderFault limits bytes Memory = Unit {0}
 IsHeaderFault limits bytes fault = header_fault bytes limits ≡ Some fault
 
--- the refusal of a header, or want of memory
+-- the refusal of a header, or a lack of memory
 abbrev pub IsOfAHeader : OpenFault → Type 0
 IsOfAHeader (HeaderTooLong at) = Unit {0}
 IsOfAHeader (TooManySections at) = Unit {0}

@@ -1,4 +1,4 @@
--- A look-up by its kind.
+-- What a look-up looks for.
 use Rattle.std.specs.Prelude.{ℕ, Bool, List}
 use Rattle.std.specs.Option.{option_copied}
 use Rattle.section_index.specs.declared.lookups.Wanted.{Wanted}

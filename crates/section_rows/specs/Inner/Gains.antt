@@ -1,6 +1,6 @@
--- Rows are loaded one after another.
+-- Loading rows one after another.
 use Rattle.std.specs.Prelude.{◌≡◌, ◌⊎◌, ℕ, List, length, map}
-use Rattle.dump_io.specs.Dumps.{Now, told, Use, DeviceFailed}
+use Rattle.dump_io.specs.Dumps.{Now, told, DeviceState, DeviceFailed}
 use Rattle.section_index.specs.declared.bodies.BodyFault.{BodyFault}
 use Rattle.section_index.specs.declared.bodies.BodyFault.TheVariants.{Read, Memory}
 use Rattle.section_index.specs.Bodies.{IsBodyOf}
@@ -9,7 +9,7 @@ use Rattle.section_rows.specs.declared.store.Store.{Store}
 use Rattle.section_rows.specs.Rows.{Column, row_of, rows_of}
 use Rattle.section_rows.specs.Inner.Places.{HasGained, AreWithin, rows_in}
 
--- the store has the row of a section more, of which this is the body
+-- the store has gained the row of a section with this body
 pub record GainsRow (now : Now) (columns : List Column) (s : Section) (before after : Store) : Type 0 where
   pub body : List ℕ
   pub is_body : IsBodyOf now s body
@@ -22,6 +22,6 @@ pub record HoldsRows (now : Now) (columns : List Column) (sections : List Sectio
   pub rows : (bytes : List ℕ) → now ≡ told bytes → rows_in store ≡ rows_of bytes columns sections
   pub places : map (λ row. row.at) (rows_in store) ≡ map (λ s. s.at) sections
 
--- the device failed, or memory lacked
-abbrev pub IsUnread : Use → BodyFault → Type 0
-IsUnread device fault = ((fault ≡ Read) × DeviceFailed device) ⊎ (fault ≡ Memory)
+-- the device failed, or memory was lacking
+abbrev pub IsUnread : DeviceState → DeviceState → BodyFault → Type 0
+IsUnread before after fault = ((fault ≡ Read) × DeviceFailed before after) ⊎ (fault ≡ Memory)

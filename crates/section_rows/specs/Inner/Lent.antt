@@ -8,8 +8,8 @@ use Rattle.section_index.specs.Sections.{Section, section, tag_of, id_of}
 abbrev pub shown_section : LentSection → Section
 shown_section s = section s.at s.body s.end s.text.now
 
--- its tag and its id are those of its header's text, which its line has, the line isn't too long, and the section
--- ends within the largest dump
+-- its tag and id are those of its header's text, which its line contains;
+-- that line isn't too long, and the section ends within the largest dump
 pub record IsLent (s : LentSection) : Type 0 where
   pub tag : s.tag.now ≡ tag_of s.text.now
   pub id : option_copied s.id ≡ id_of s.text.now

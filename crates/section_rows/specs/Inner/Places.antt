@@ -1,4 +1,4 @@
--- Cells that are kept with their texts in one pool. The texts of a row stand there one behind the other.
+-- Cells that are stored with their texts in one pool. The texts of a row stand there one after another.
 use Rattle.std.specs.Prelude.{◌≡◌, ℕ, ◌+◌, ◌^◌, ◌<◌, ◌≤◌, List, [], ◌∷◌, ◌++◌, length, take, drop, map, Option, None, Some, IfSome, All}
 use Rattle.std.specs.List.{between, sum_by}
 use Rattle.section_rows.specs.declared.store.Place.{Place}
@@ -14,12 +14,12 @@ place_len (Some place) = place.len
 abbrev pub text_len : List (Option Place) → ℕ
 text_len places = sum_by place_len places
 
--- the cell whose text stands at the front of these bytes, of a section at this offset
+-- the cell whose text these bytes begin with, of a section at this offset
 abbrev pub cell_in : ℕ → List ℕ → Option Place → Option Kept
 cell_in base texts None = None
 cell_in base texts (Some place) = Some (kept (base + place.at) (base + place.value) (take place.len texts))
 
--- the cells whose texts stand there
+-- the cells whose texts these bytes begin with
 abbrev pub cells_in : ℕ → List ℕ → List (Option Place) → List (Option Kept)
 cells_in base texts [] = []
 cells_in base texts (place ∷ places) = cell_in base texts place ∷ cells_in base (drop (place_len place) texts) places
@@ -44,13 +44,13 @@ rows_in store = map (row_in store.width store.places.items store.pool.items) sto
 abbrev pub AreWithin : Store → Type 0
 AreWithin store = All (IsWithin store.width store.places.items store.pool.items) store.heads.items
 
--- the store has one row more
+-- the store has one more row
 pub record HasGained (before after : Store) (row : Row) : Type 0 where
   pub width : after.width ≡ before.width
   pub rows : rows_in after ≡ rows_in before ++ row ∷ []
   pub within : AreWithin after
 
--- cells were put behind the places and the pool
+-- cells were appended to the places and the pool
 pub record Gained (base : ℕ) (places_before places_after : List (Option Place)) (pool_before pool_after : List ℕ) (cells : List (Option Kept)) : Type 0 where
   pub places : List (Option Place)
   pub texts : List ℕ
@@ -60,13 +60,13 @@ pub record Gained (base : ℕ) (places_before places_after : List (Option Place)
   pub shown : cells_in base texts places ≡ cells
   pub bounded : All IsBoundedCell cells
 
--- a text and its line begin no earlier than this offset, and so near behind it that 32 bits count the distance
+-- a text and its line begin no earlier than this offset, and at a distance from it that 32 bits can hold
 pub record IsNear (base : ℕ) (k : Kept) : Type 0 where
   pub line : base ≤ k.at
   pub near_line : k.at < base + 2 ^ 32
   pub text : base ≤ k.value_at
   pub near_text : k.value_at < base + 2 ^ 32
 
--- the text of a cell that is there has room in the numbers of a place, and is within the bounds
+-- if there is a cell, its text fits the numbers of a place, and is within the bounds
 abbrev pub HasRoom : ℕ → Option Kept → Type 0
 HasRoom base cell = IfSome cell (λ k. IsNear base k × IsBounded k)

@@ -1,4 +1,4 @@
--- How the bytes of a payload are found.
+-- How the bytes of a payload are computed.
 use Rattle.std.specs.Prelude.{ℕ, nat_lt, Bool, ◌&&◌, List, Option}
 use Rattle.std.specs.List.{list_all}
 use Rattle.std.specs.Result.{result_ok}

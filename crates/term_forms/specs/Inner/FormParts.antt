@@ -1,4 +1,5 @@
--- How the readers of forms find the form, tag by tag. Each part is given what stands behind the first byte or the first two.
+-- How the readers of forms find the form, tag by tag. Each part
+-- is given what stands after the first byte or the first two.
 use Rattle.std.specs.Prelude.{ℕ, ◌==◌, List, [], ◌∷◌, length, drop, codes, Option, None, Some, nat_eq, if◌then◌else◌}
 use Rattle.std.specs.List.{starts_with}
 use Rattle.dump_io.specs.Numbers.{hex_number}
@@ -15,21 +16,21 @@ use Rattle.term_forms.specs.Inner.PayloadTest.{payload_test}
 unfoldable pub cons_of : List ℕ → Option HeapForm
 cons_of text = until_of bar text >>= λ head. whole_of head.1 >>= λ tail. Some (Cons head.0 tail)
 
--- a number, and so many elements
+-- a number, and that many elements
 unfoldable pub counted_of : List ℕ → Option (List Element)
 counted_of text = led_of text >>= λ led. joined_of led.0 led.1
 
 unfoldable pub float_of : List ℕ → Option HeapForm
 float_of text = led_of text >>= λ led. if length led.1 == led.0 then Some (Float led.1) else None
 
--- the whole text, where it is a bracketed number
+-- the whole text, if it is a bracketed number
 unfoldable pub bracketed_of : List ℕ → Option (List ℕ)
 bracketed_of text = bracketed_len text >>= λ n. if n == length text then Some text else None
 
 unfoldable pub port_of : List ℕ → Option HeapForm
 port_of text = bracketed_of (drop (if starts_with nat_eq text port_word then 5 else 0) text) >>= λ port. Some (Port port)
 
--- a length, and the characters of so many bytes
+-- a length, and the characters of that many bytes
 unfoldable pub payload_of : Enc → List ℕ → Option (ℕ × List ℕ)
 payload_of enc text = led_of text >>= λ led. if payload_test enc led.0 led.1 then Some led else None
 

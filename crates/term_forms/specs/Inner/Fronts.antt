@@ -1,4 +1,4 @@
--- How the readers of elements find the longest front of a text, tag by tag.
+-- How the readers of elements find the longest prefix of a text, tag by tag.
 use Rattle.std.specs.Prelude.{ℕ, ◌+◌, ◌-◌, ◌==◌, ◌&&◌, List, [], ◌∷◌, length, take, drop, Option, None, Some, nat_eq, nat_lt, nat_le, if◌then◌else◌}
 use Rattle.std.specs.List.{prefix_len, starts_with}
 use Rattle.std.specs.Char.{is_ascii_digit}
@@ -7,23 +7,23 @@ use Rattle.term_forms.specs.Words.{minus, less, greater, is_hex_digit, is_dotted
 use Rattle.term_forms.specs.Elements.{Element, Small, Atom, Pid, Port, Ref, port_word}
 use Rattle.term_forms.specs.Inner.Chain.{◌>>=◌}
 
--- how many digits begin the text, where there is one
+-- how many digits begin the text, if there are any
 unfoldable pub digits_len : List ℕ → Option ℕ
 digits_len text = let n = prefix_len is_ascii_digit text in if n == 0 then None else Some n
 
--- how long the integer is that begins the text
+-- the length of the integer that begins the text
 unfoldable pub integer_len : List ℕ → Option ℕ
 integer_len [] = None
 integer_len (c ∷ text) = if c == minus then (digits_len text >>= λ n. Some (n + 1)) else digits_len (c ∷ text)
 
--- how long the bracketed number is that begins the text
+-- the length of the bracketed number that begins the text
 unfoldable pub bracketed_len : List ℕ → Option ℕ
 bracketed_len [] = None
 bracketed_len (c ∷ text) =
     let n = prefix_len is_dotted text in
     if c == less && nat_lt 0 n && starts_with nat_eq (drop n text) (greater ∷ []) then Some (n + 2) else None
 
--- each reader of an element is given what stands behind the first byte, and counts that byte
+-- each reader of an element is given what stands after the first byte, and counts that byte too
 unfoldable pub small_front : List ℕ → Option (Element × ℕ)
 small_front text = integer_len text >>= λ n. Some (Small (take n text), n + 1)
 

@@ -1,4 +1,4 @@
--- What the stack stands for: the nodes that the walk has still to come to.
+-- What the stack stands for: the nodes that the walk has yet to come to.
 use Rattle.std.specs.Prelude.{◌≡◌, Bool, List, [], ◌∷◌, ◌++◌, drop}
 use Rattle.heap_cells.specs.Cells.{Cell}
 use Rattle.heap_cells.specs.Targets.{number}
@@ -13,7 +13,7 @@ use Rattle.term_unfold.specs.Rules.{Child}
 use Rattle.term_unfold.specs.Trees.{Tree, Trees, pre, pre_all, seen}
 use Rattle.term_unfold.specs.Unfolding.{trees, unfolded}
 
--- the trees of the children that the innermost cell has left
+-- the trees of the remaining children of the innermost cell
 abbrev pub left_of : List Cell → Entry → List Entry → Trees
 left_of heap e es = trees (unfolded heap (path_of heap (e ∷ es))) (drop e.next (kids_of heap e.kind (number e.cell)))
 
@@ -21,21 +21,22 @@ abbrev pub to_come : List Cell → List Entry → List Tree
 to_come heap [] = []
 to_come heap (e ∷ es) = pre_all (left_of heap e es) ++ to_come heap es
 
--- the walk is in a cell more, where it came to a node
+-- the walk is in one more cell, if it came to a node
 abbrev pub entered_by : Opened → Bool → List Entry → List Entry
 entered_by opened.Immediate came entries = entries
 entered_by (opened.Leaf ix) came entries = entries
 entered_by (opened.Bad address why) came entries = entries
 entered_by (opened.Node ix kind) came entries = record { cell = ix; next = 0; kind = kind; came = came } ∷ entries
 
--- what is said of a child by itself
+-- the verdict on a child by itself
 abbrev pub verdict_on : Opened → Verdict
 verdict_on opened.Immediate = verdicts.Clean
 verdict_on (opened.Leaf ix) = verdicts.Clean
 verdict_on (opened.Bad address why) = verdicts.Bad address why
 verdict_on (opened.Node ix kind) = verdicts.Clean
 
--- a child below the entries was visited: its first node has given the verdict, and the others are still to come
+-- a child below the entries was visited: its first node has
+-- given the verdict, and its other nodes are still to come
 pub record Visits (heap : List Cell) (before after : List Entry) (child : Child) (verdict : Verdict) : Type 0 where
   pub node : Tree
   pub first : pre (unfolded heap (path_of heap before) child) ++ to_come heap before ≡ node ∷ to_come heap after

@@ -1,4 +1,4 @@
--- The cells that a walk is in, from the innermost out.
+-- The cells that a walk is in, from the innermost outwards.
 use Rattle.std.specs.Prelude.{◌≡◌, ℕ, ◌+◌, ◌<◌, Bool, true, false, if◌then◌else◌, List, [], ◌∷◌, length, map, slice_index_or}
 use Rattle.heap_cells.specs.Cells.{Cell}
 use Rattle.heap_cells.specs.HeapMap.{HeapMap, IsBounded}
@@ -10,9 +10,9 @@ use Rattle.term_unfold.specs.declared.path.Entry.{Entry}
 use Rattle.term_unfold.specs.Rules.{is_on}
 
 pub record Entered : Type 0 where
-  -- how many cells there are
+  -- the number of cells
   pub cells : ℕ
-  -- for how many entries memory is taken
+  -- for how many entries memory has been taken
   pub reserved : ℕ
   pub entries : List Entry
 
@@ -33,11 +33,11 @@ next_of came e = record { cell = e.cell; next = e.next + 1; kind = e.kind; came 
 abbrev pub told_of : Bool → Entry → Entry
 told_of came e = record { cell = e.cell; next = e.next; kind = e.kind; came = came }
 
--- the innermost cell goes on to its next child, behind a text or behind none
+-- the innermost cell goes on to its next child, after a text or after none
 abbrev pub stepped : Bool → List Entry → List Entry
 stepped came entries = altered (next_of came) entries
 
--- the innermost cell stands behind a text or behind none
+-- the innermost cell is after a text or after none
 abbrev pub told : Bool → List Entry → List Entry
 told came entries = altered (told_of came) entries
 
@@ -54,23 +54,24 @@ is_item kinds.Hash = false
 is_item kinds.Inner = true
 is_item kinds.Pair = true
 
--- all but the innermost map and the items that the walk is in there
+-- all but the innermost map and those of its items that the walk is in
 abbrev pub outside : List Entry → List Entry
 outside [] = []
 outside (e ∷ es) = if is_item e.kind then outside es else es
 
--- different numbers below a bound
+-- distinct numbers below a bound
 abbrev pub IsLine : ℕ → List ℕ → Type 0
 IsLine cells [] = Unit {0}
 IsLine cells (n ∷ ns) = (n < cells) × (is_on n ns ≡ false) × IsLine cells ns
 
--- the marked cells are those of the entries, each once, and the stack has room for one entry more than there are cells
+-- the marked cells are those of the entries, each once, and
+-- the stack has room for one more entry than there are cells
 pub record IsTied (marks : List Bool) (capacity : ℕ) (entries : List Entry) : Type 0 where
   pub room : capacity ≡ length marks + 1
   pub line : IsLine (length marks) (numbers_of entries)
   pub marked : (n : ℕ) → n < length marks → slice_index_or marks n false ≡ is_on n (numbers_of entries)
 
--- a path of so many cells serves the heap
+-- a path over this many cells serves the heap
 pub record Serves (heap : HeapMap) (cells : ℕ) : Type 0 where
   pub size : cells ≡ length heap.cells
   pub bounded : IsBounded heap

@@ -15,14 +15,14 @@ use Rattle.term_unfold.specs.declared.children.Child.{Child as Kid}
 use Rattle.term_unfold.specs.declared.children.Child.TheVariants as kid
 use Rattle.term_unfold.specs.Rules.{Child, Term, Item, terms, items, pairs}
 
--- the children of a cell as a hash map or an inner node
+-- the children of a cell that is a hash map or an inner node
 abbrev pub members_in : Option HeapForm → List Element
 members_in (Some (Hash size children)) = children
 members_in (Some (Tuple elements)) = elements
 members_in (Some (Node children)) = children
 members_in form = []
 
--- a hash map, or what may be an inner node
+-- a hash map, or what may be one of its inner nodes
 abbrev pub HasMembers : Option HeapForm → Type 0
 HasMembers form = (option_map kind_of form ≡ Some cell_kind.Hash) ⊎ (option_map kind_of form ≡ Some cell_kind.Node) ⊎ (option_map kind_of form ≡ Some cell_kind.Tuple)
 
@@ -31,7 +31,7 @@ abbrev pub found_elements : Option (Option HeapForm) → List Element
 found_elements None = []
 found_elements (Some form) = elements_in form
 
--- the children of a flat map with the elements: the keys element, then the values
+-- the children of a flat map with these elements: the keys element, then the values
 abbrev pub flat_kids : List Cell → List Element → List Child
 flat_kids heap [] = []
 flat_kids heap (Ref k ∷ values) = pairs (found_elements (form_with heap k)) values
@@ -70,7 +70,7 @@ abbrev pub IsKid : List Cell → Kid → Type 0
 IsKid heap (kid.Term slot ix place) = IsTermAt heap slot (number ix) place
 IsKid heap (kid.Item ix place) = IsItemAt heap (number ix) place
 
--- a child that was asked for by its place is the one of so many children, and the place is small
+-- a child that was asked for by its place is that one of the children, and the place is small
 pub record IsKidAt (heap : List Cell) (children : List Child) (next most : ℕ) (found : Option Kid) : Type 0 where
   pub child : option_map (child_shown heap) found ≡ slice_get children next
   pub kid : IfSome found (IsKid heap)

@@ -1,4 +1,4 @@
--- What the walk finds where it comes to a child.
+-- What the walk finds when it comes to a child.
 use Rattle.std.specs.Prelude.{◌≡◌, ℕ, ◌<◌, Bool, true, false, List, ◌∷◌, length, Some}
 use Rattle.term_forms.specs.Elements.{Element}
 use Rattle.term_forms.specs.Forms.{HeapForm}
@@ -29,7 +29,7 @@ abbrev pub is_nil_term : Child → Bool
 is_nil_term (Term element) = is_nil (Immediate element)
 is_nil_term (Item parent element) = false
 
--- whether a list goes on
+-- whether a list continues
 abbrev pub is_list_kind : NodeKind → Bool
 is_list_kind kinds.Cons = true
 is_list_kind kinds.Tuple = false
@@ -63,7 +63,7 @@ IsOpened heap path child (opened.Leaf ix) = IsLeafAt heap path child (number ix)
 IsOpened heap path child (opened.Bad address why) = opening heap path child ≡ bad address why
 IsOpened heap path child (opened.Node ix kind) = IsNodeAt heap path child (number ix) kind
 
--- a node's cell may be entered
+-- the cell of a node may be entered
 abbrev pub MayEnter : Entered → Opened → Type 0
 MayEnter path opened.Immediate = Unit {0}
 MayEnter path (opened.Leaf ix) = Unit {0}
@@ -74,6 +74,6 @@ pub record Opens (heap : HeapMap) (path : Entered) (child : Child) (found : Open
   pub found_is : IsOpened heap.cells (path_of heap.cells path.entries) child found
   pub enters : MayEnter path found
 
--- what is found of each term that leads to a place
+-- what is found for each term that leads to a place
 abbrev pub OpensEach : HeapMap → Entered → Target → Opened → Type 0
 OpensEach heap path place found = (e : Element) → target heap.cells e ≡ place → Opens heap path (Term e) found

@@ -1,4 +1,4 @@
--- What the open cells of a walk still have to write.
+-- What the open cells of a walk have yet to write.
 use Rattle.std.specs.Prelude.{◌≡◌, ◌⊎◌, ℕ, zero, suc, ◌+◌, ◌<◌, ◌≤◌, length, drop, slice_get, Bool, true, false, not, if◌then◌else◌, List, [], ◌∷◌, ◌++◌, codes, Option, None, Some}
 use Rattle.term_forms.specs.Forms.{HeapForm}
 use Rattle.heap_cells.specs.Cells.{Cell}
@@ -21,7 +21,7 @@ use Rattle.term_unfold.specs.Text.{Shown, shown, Stand, Cut, At, Listed, listed,
 use Rattle.term_unfold.specs.Trees.{Value, Immediate, OfCell, Trees, none, more}
 use Rattle.term_unfold.specs.Unfolding.{unfolded}
 
--- what a list still has to write: its head, its tail, or the `]` behind a tail that isn't a list
+-- what a list has yet to write: its head, its tail, or the `]` after a tail that isn't a list
 abbrev pub closing : Bool → List ℕ
 closing true = codes "]"
 closing false = []
@@ -40,7 +40,7 @@ abbrev pub flat_rest : (Value → List ℕ) → Bool → Bool → Trees → ℕ 
 flat_rest leaf false came trees m = keys_text leaf came trees m
 flat_rest leaf true came trees m = values_text leaf trees m
 
--- what an open cell still has to write as a term, of the children that it has left
+-- what an open cell has yet to write as a term, for its remaining children
 abbrev pub term_rest : (Value → List ℕ) → NodeKind → Bool → ℕ → Trees → ℕ → Shown
 term_rest leaf kinds.Cons came next trees m = list_rest leaf came next trees m
 term_rest leaf kinds.Tuple came next trees m = elements_text leaf came trees m
@@ -49,13 +49,13 @@ term_rest leaf kinds.Hash came next trees m = closed (items_text leaf came trees
 term_rest leaf kinds.Inner came next trees m = shown [] m
 term_rest leaf kinds.Pair came next trees m = shown [] m
 
--- the same of a pair of a hash map
+-- the same for a pair of a hash map
 abbrev pub pair_rest : (Value → List ℕ) → Bool → ℕ → Trees → ℕ → Listed
 pair_rest leaf came next none m = listed [] (At true m)
 pair_rest leaf came zero (more key rest) m = pair_text leaf came (more key rest) m
 pair_rest leaf came (suc next) (more value rest) m = value_text leaf (more value rest) m
 
--- what an open cell still has to write as an item of a hash map
+-- what an open cell has yet to write as an item of a hash map
 abbrev pub item_rest : (Value → List ℕ) → NodeKind → Bool → ℕ → Trees → ℕ → Listed
 item_rest leaf kinds.Cons came next trees m = listed [] (At came m)
 item_rest leaf kinds.Tuple came next trees m = listed [] (At came m)
@@ -64,16 +64,16 @@ item_rest leaf kinds.Hash came next trees m = listed [] (At came m)
 item_rest leaf kinds.Inner came next trees m = items_text leaf came trees m
 item_rest leaf kinds.Pair came next trees m = pair_rest leaf came next trees m
 
--- a text with what follows it, which begins with the count that it leaves
+-- a text and what follows it, which begins with the count that the text leaves
 abbrev pub run : Shown → (ℕ → List ℕ) → List ℕ
 run first second = first.text ++ second first.left
 
--- a text of items with what follows it, which begins where it stands
+-- a text of items and what follows it, which begins at the stand that the items leave
 abbrev pub run_items : Listed → (Stand → List ℕ) → List ℕ
 run_items first second = first.text ++ second first.stand
 
--- what all open cells still have to write, where the innermost stands behind some text. An item hands its stand to the cell
--- below it, and a cut goes down to the map
+-- what all open cells have yet to write when the innermost is after some text;
+-- an item hands its stand to the cell below it, and a cut goes down to the map
 abbrev pub resume : (Value → List ℕ) → List Cell → List Entry → Stand → List ℕ
 resume leaf heap [] Cut = codes "}"
 resume leaf heap [] (At came m) = []
@@ -85,14 +85,14 @@ resume leaf heap (e ∷ es) (At came m) =
 abbrev pub rest : (Value → List ℕ) → List Cell → List Entry → ℕ → List ℕ
 rest leaf heap entries m = resume leaf heap entries (At (came_of entries) m)
 
--- what is to be written where a term, or an item, is visited
+-- what is to be written when a term, or an item, is visited
 abbrev pub to_show : (Value → List ℕ) → List Cell → List Entry → Child → ℕ → List ℕ
 to_show leaf heap entries child m = run (node_text leaf (unfolded heap (path_of heap entries) child) m) (rest leaf heap entries)
 
 abbrev pub to_list : (Value → List ℕ) → List Cell → List Entry → Bool → Child → ℕ → List ℕ
 to_list leaf heap entries came child m = run_items (item_text leaf came (unfolded heap (path_of heap entries) child) m) (resume leaf heap entries)
 
--- what stands in front of the children of a node
+-- what stands before the children of a node
 abbrev pub bracket : NodeKind → List ℕ
 bracket kinds.Cons = codes "["
 bracket kinds.Tuple = codes "{"
@@ -112,7 +112,7 @@ own_text leaf heap child (opened.Leaf ix) = cell_text leaf (address_of heap (num
 own_text leaf heap child (opened.Bad address why) = bad_text address why
 own_text leaf heap child (opened.Node ix kind) = bracket kind
 
--- what is written at a child: something in front, and its own text or not
+-- what is written at a child: something before it, and its own text or not
 abbrev pub turn_text : (Value → List ℕ) → List Cell → Child → Turn → List ℕ
 turn_text leaf heap child turn = turn.front.now ++ (if turn.own then own_text leaf heap child turn.opened else [])
 
@@ -136,7 +136,7 @@ pub record AtChild (heap : HeapMap) (path : Entered) (entry : Entry) (child : Ki
   pub kid : IsKid heap.cells child
   pub opens : Opens heap path (child_shown heap.cells child) found
 
--- with one node more to write, the open cells write what the turn says, and then what is open behind it writes
+-- with one more node to write, the open cells write what the turn says, and then what is open after it writes
 pub record IsTurn (heap : List Cell) (before after : List Entry) (child : Child) (turn : Turn) : Type 0 where
   pub text : (leaf : Value → List ℕ) (m : ℕ) → rest leaf heap before (suc m) ≡ turn_text leaf heap child turn ++ rest leaf heap after m
   pub more : length after ≤ length before + 1

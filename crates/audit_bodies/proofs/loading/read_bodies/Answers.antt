@@ -3,7 +3,6 @@ use Rattle.std.specs.Option.{option_map}
 use Rattle.std.specs.Prelude.{IfSome}
 use Rattle.std.proofs.lemmas.Result.{err_from_is_err_and}
 use Rattle.std.proofs.lemmas.List.Sums.{sum_by-append}
-use Rattle.dump_io.specs.Dumps.{used}
 use Rattle.dump_io.specs.Laws.Reads.{ReadsAtMost-both, ReadsAtMost-within}
 use Rattle.section_index.specs.Bodies.{body_length}
 use Rattle.section_index.specs.Index.{sections_in, state_of}
@@ -34,7 +33,7 @@ returns-in_err-procs-clause-fault g c =
     let sections = sections_in c.args.index.now in
     let limit = c.args.limits.now.section in
     let p = err_from_is_err_and c.from_residual.result c.from_residual.ensures.1 in
-    rw (p.1, p.2) (IsUncounted-small limit (record_sections sections) (used d.files d.now d.faults d.taken c.args.dumps.now c.read.new.dumps) _
+    rw (p.1, p.2) (IsUncounted-small limit (record_sections sections) (d.state c.args.dumps.now) (d.state c.read.new.dumps) _
     (none-large limit (record_sections sections) (small-both limit (record_sections sections) (mailboxes_at sections c.args.places.mailboxes.items) c.requires.small).0) c.in_err-procs.ensures.fault)
 
 pub returns-in_err-counts-clause-reads : goal.returns-in_err-counts-clause-reads
@@ -48,7 +47,7 @@ pub returns-in_err-counts-clause-fault : goal.returns-in_err-counts-clause-fault
 returns-in_err-counts-clause-fault g c =
     let d = g.D.Dumps in
     let p = err_from_is_err_and c.from_residual-in_err-counts.result c.from_residual-in_err-counts.ensures.1 in
-    rw (p.1, p.2) (IsUncounted-later (used d.files d.now d.faults d.taken c.read.new.dumps c.count_messages.new.dumps) (used d.files d.now d.faults d.taken c.args.dumps.now c.count_messages.new.dumps) _
+    rw (p.1, p.2) (IsUncounted-later (d.state c.read.new.dumps) (d.state c.count_messages.new.dumps) (d.state c.args.dumps.now) (d.state c.count_messages.new.dumps) _
     (λ rose. omega (arith, rose, c.in_ok-procs.ensures.reads.later)) c.in_err-counts.ensures.fault)
 
 pub returns-clause-reads : goal.returns-clause-reads

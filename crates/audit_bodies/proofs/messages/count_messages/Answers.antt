@@ -1,7 +1,7 @@
 use Rattle.std.proofs.Common.{◌≡◌, ◌+◌, [], ◌∷◌, ◌++◌, get_or, length, map, not, take, true, None, sym, ◌∙◌, ap, subst, if◌then◌else◌}
 use Rattle.std.specs.Prelude.{is_ok}
 use Rattle.std.proofs.lemmas.List.{length-append, map-append, take_more}
-use Rattle.dump_io.specs.Dumps.{used, ReadsAtMost}
+use Rattle.dump_io.specs.Dumps.{ReadsAtMost}
 use Rattle.dump_io.specs.Laws.Reads.{ReadsAtMost-then, ReadsAtMost-both}
 use Rattle.section_index.specs.Index.{sections_in, state_of}
 use Rattle.audit_bodies.specs.Mailboxes.{mail_in}
@@ -29,7 +29,7 @@ loop-place-preserved g c =
     let ok : is_ok c.push.result ≡ true = c.is_err.ensures.negation ∙ ap not c.if-is_err.false in
     let items : c.push.new.self.items ≡ counts ++ count ∷ [] = subst (λ b. c.push.new.self.items ≡ (if b then counts ++ count ∷ [] else counts)) ok c.push.ensures.items in
     record {
-      reads = subst (ReadsAtMost (used g.D.Dumps.files g.D.Dumps.now g.D.Dumps.faults g.D.Dumps.taken c.args.dumps.now c.count_in.new.dumps))
+      reads = subst (ReadsAtMost (g.D.Dumps.state c.args.dumps.now) (g.D.Dumps.state c.count_in.new.dumps))
           (sym (bodies-more sections places i None c.loop-place-test.true)) (ReadsAtMost-then c.loop-place.invariant.reads c.in_ok-count.ensures.reads);
       counts = λ bytes same.
           let mail = mail_in bytes (state_of c.args.index.now.headers) sections in

@@ -1,5 +1,5 @@
 use Rattle.std.proofs.Common.{◌≡◌, ℕ, List, length, map, take}
-use Rattle.dump_io.specs.Dumps.{told, used, ReadsAtMost}
+use Rattle.dump_io.specs.Dumps.{told, ReadsAtMost}
 use Rattle.section_index.specs.Index.{sections_in, state_of}
 use Rattle.section_rows.specs.Loading.{bodies_length}
 use Rattle.audit_bodies.specs.Mailboxes.{mail_in, mailboxes_at}
@@ -10,7 +10,7 @@ abbrev pub invariant-loop-place : goal.invariant-loop-place
 invariant-loop-place g l =
     let places = take l.place-index l.places in
     record {
-      reads : ReadsAtMost (used g.D.Dumps.files g.D.Dumps.now g.D.Dumps.faults g.D.Dumps.taken l.initial.dumps l.dumps) (bodies_length (mailboxes_at (sections_in l.index) places));
-      counts : (bytes : List ℕ) → g.D.Dumps.now l.initial.dumps ≡ told bytes → l.counts.items ≡ map (mail_in bytes (state_of l.index.headers) (sections_in l.index)) places;
+      reads : ReadsAtMost (g.D.Dumps.state l.initial.dumps) (g.D.Dumps.state l.dumps) (bodies_length (mailboxes_at (sections_in l.index) places));
+      counts : (bytes : List ℕ) → (g.D.Dumps.state l.initial.dumps).now ≡ told bytes → l.counts.items ≡ map (mail_in bytes (state_of l.index.headers) (sections_in l.index)) places;
       all : length l.counts.items ≡ l.place-index;
     }

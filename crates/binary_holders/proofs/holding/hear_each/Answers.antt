@@ -1,7 +1,7 @@
 use Rattle.std.proofs.Common.{◌<◌, [], length, map, take, None, sym, ◌∙◌, ap, subst, arith}
 use Rattle.std.proofs.lemmas.List.{map_more, length-map, length-take-le}
 use Rattle.std.proofs.lemmas.List.Sums.{sum_by_more}
-use Rattle.dump_io.specs.Dumps.{used, ReadsAtMost}
+use Rattle.dump_io.specs.Dumps.{ReadsAtMost}
 use Rattle.dump_io.specs.Laws.Reads.{ReadsAtMost-then}
 use Rattle.binary_holders.specs.Held.{holdings}
 use Rattle.binary_holders.specs.Inner.Places.{references_at, size_at}
@@ -19,7 +19,7 @@ loop-process-preserved g c =
     let inside : p < length heaps = omega (arith, c.loop-process-test.true) in
     record {
       buffer = omega (arith, before.buffer, c.hear_process.auto.buffer);
-      reads = subst (ReadsAtMost (used d.files d.now d.faults d.taken c.args.dumps.now c.hear_process.new.dumps)) (sym (sum_by_more (size_at index) heaps p None inside)) (ReadsAtMost-then before.reads one.reads);
+      reads = subst (ReadsAtMost (d.state c.args.dumps.now) (d.state c.hear_process.new.dumps)) (sym (sum_by_more (size_at index) heaps p None inside)) (ReadsAtMost-then before.reads one.reads);
       turn = omega (arith, before.turn, one.turn);
       room = one.room;
       held = λ dump is.

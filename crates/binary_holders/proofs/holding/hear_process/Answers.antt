@@ -9,7 +9,7 @@ use Rattle.binary_holders.proofs.holding.hear_process.Goals as goal
 pub returns-clause-held : goal.returns-clause-held
 returns-clause-held g c = λ dump is before place heard so_far.
     let refs = references_at dump c.args.index.now c.args.place in
-    let small : size_of (g.D.Dumps.now c.args.dumps.now) < 2 ^ 64 = search rules in
+    let small : size_of (g.D.Dumps.state c.args.dumps.now).now < 2 ^ 64 = search rules in
     let few : length refs < 2 ^ 64 = let size = ap size_of is in omega (arith, small, size, few-at dump c.args.index.now c.args.place) in
     c.in_ok-push_holding.ensures.pushed ∙ held-more c.args.sought.now before refs c.args.held.now.items c.hear_section.new.tally c.args.process so_far place
     ((c.in-Ok.ensures.hears dump is).heard before [] heard) few

@@ -34,9 +34,9 @@ loop-at-preserved g c =
       reads = ReadsAtMost-both before.reads read.reads (omega (arith, before.from, read.count));
       room = room-kept (length c.args.sought.now) c.loop-at.tally c.hear_piece-kept.new.tally before.room piece.room;
       keeps = keeps-then c.args.tally.now c.loop-at.tally c.hear_piece-kept.new.tally before.keeps piece.room;
-      heard = subst (HearsUpto c.args.enc c.args.sought.now c.args.tally.now c.hear_piece-kept.new.tally (d.now c.args.dumps.now) c.args.from (at + count) c.args.upto)
+      heard = subst (HearsUpto c.args.enc c.args.sought.now c.args.tally.now c.hear_piece-kept.new.tally (d.state c.args.dumps.now).now c.args.from (at + count) c.args.upto)
           (sym (take-append-le left bytes (drop size buffer) piece.within))
-          (upto-more c.args.enc c.args.sought.now c.args.tally.now c.loop-at.tally c.hear_piece-kept.new.tally (d.now c.args.dumps.now) (d.now c.loop-at.dumps) c.args.from at c.args.upto count
+          (upto-more c.args.enc c.args.sought.now c.args.tally.now c.loop-at.tally c.hear_piece-kept.new.tally (d.state c.args.dumps.now).now (d.state c.loop-at.dumps).now c.args.from at c.args.upto count
           (take kept c.loop-at.buffer) (take size buffer) (take left bytes) _ before.heard piece.hears fits before.reads.same_now read.piece (λ ends. eqb-true (at + count) c.args.upto ends));
     }
 

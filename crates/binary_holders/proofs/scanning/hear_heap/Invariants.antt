@@ -1,5 +1,5 @@
 use Rattle.std.proofs.Common.{◌≡◌, ◌-◌, ◌≤◌, length, take}
-use Rattle.dump_io.specs.Dumps.{used, ReadsAtMost}
+use Rattle.dump_io.specs.Dumps.{ReadsAtMost}
 use Rattle.binary_holders.specs.Inner.Tallies.{HasRoom, KeepsRoom}
 use Rattle.binary_holders.proofs.Scans.{HearsUpto}
 use Rattle.binary_holders.proofs.scanning.hear_heap.Given as goal
@@ -14,10 +14,10 @@ invariant-loop-at g l =
       inside : l.at ≤ l.upto;
       few : l.kept ≤ 72;
       none : l.at ≡ l.upto → l.kept ≡ 0;
-      reads : ReadsAtMost (used d.files d.now d.faults d.taken l.initial.dumps l.dumps) (l.at - l.from);
+      reads : ReadsAtMost (d.state l.initial.dumps) (d.state l.dumps) (l.at - l.from);
       room : HasRoom (length l.sought) l.tally;
       keeps : KeepsRoom l.initial.tally l.tally;
-      heard : HearsUpto l.enc l.sought l.initial.tally l.tally (d.now l.initial.dumps) l.from l.at l.upto (take l.kept l.buffer);
+      heard : HearsUpto l.enc l.sought l.initial.tally l.tally (d.state l.initial.dumps).now l.from l.at l.upto (take l.kept l.buffer);
     }
 
 abbrev pub decreases-loop-at : goal.decreases-loop-at

@@ -15,5 +15,5 @@ returns-clause-size g c = λ dump is.
     let room = length-take-le {A = ℕ} n (replicate 17 0) (omega (arith, len)) in
     let size : length c.read_full.new.into ≡ min (c.section-section.result.end - c.section-section.result.body) 17 = omega (arith, c.read_full.auto.into, room, len) in
     c.size_stated.ensures (between s.body s.end dump)
-    (front-read (g.D.Dumps.now c.args.dumps.now) dump c.read_full.new.into c.section-section.result.body c.section-section.result.end is c.in_ok-read_full.ensures.filled size
+    (front-read (g.D.Dumps.state c.args.dumps.now).now dump c.read_full.new.into c.section-section.result.body c.section-section.result.end is c.in_ok-read_full.ensures.filled size
     ∙ ap (λ (t : _). take 17 (between t.body t.end dump)) (sym at))

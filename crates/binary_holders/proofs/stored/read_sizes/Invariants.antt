@@ -1,5 +1,5 @@
 use Rattle.std.proofs.Common.{◌≡◌, ◌*◌, ℕ, List, map, take}
-use Rattle.dump_io.specs.Dumps.{told, used, ReadsAtMost}
+use Rattle.dump_io.specs.Dumps.{told, ReadsAtMost}
 use Rattle.binary_holders.specs.Usage.{sized}
 use Rattle.binary_holders.specs.Inner.Finding.{numbers_of, stored_of}
 use Rattle.binary_holders.specs.Inner.Places.{numbers_in}
@@ -10,7 +10,7 @@ abbrev pub invariant-loop-binary : goal.invariant-loop-binary
 invariant-loop-binary g l =
     let d = g.D.Dumps in
     record {
-      reads : ReadsAtMost (used d.files d.now d.faults d.taken l.initial.dumps l.dumps) (17 * l.binary-index);
+      reads : ReadsAtMost (d.state l.initial.dumps) (d.state l.dumps) (17 * l.binary-index);
       numbers : numbers_in l.binaries.items ≡ numbers_of (take l.binary-index l.stored);
-      sizes : (dump : List ℕ) → d.now l.initial.dumps ≡ told dump → l.binaries.items ≡ map (λ binary. sized dump (stored_of l.index binary)) (take l.binary-index l.stored);
+      sizes : (dump : List ℕ) → (d.state l.initial.dumps).now ≡ told dump → l.binaries.items ≡ map (λ binary. sized dump (stored_of l.index binary)) (take l.binary-index l.stored);
     }

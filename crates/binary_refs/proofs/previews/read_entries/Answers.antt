@@ -1,6 +1,6 @@
 use Rattle.std.proofs.Common.{◌<◌, ◌++◌, length, sym, ◌∙◌, ap, subst, arith}
 use Rattle.std.specs.Option.{option_and_then, option_to_list}
-use Rattle.dump_io.specs.Dumps.{used, ReadsAtMost}
+use Rattle.dump_io.specs.Dumps.{ReadsAtMost}
 use Rattle.dump_io.specs.Laws.Reads.{ReadsAtMost-then, ReadsAtMost-both}
 use Rattle.heap_cells.specs.HeapMap.{form_at}
 use Rattle.binary_refs.specs.Previews.{entry_of, stated}
@@ -20,7 +20,7 @@ loop-n-preserved g c =
     let before = c.loop-n.invariant in
     let one = c.in_ok-push_entry.ensures in
     record {
-      reads = subst (ReadsAtMost (used d.files d.now d.faults d.taken c.args.dumps.now c.push_entry.new.dumps)) (reads-more cells n) (ReadsAtMost-then before.reads one.reads);
+      reads = subst (ReadsAtMost (d.state c.args.dumps.now) (d.state c.push_entry.new.dumps)) (reads-more cells n) (ReadsAtMost-then before.reads one.reads);
       stated = one.stated ∙ (ap (λ l. l ++ option_to_list (option_and_then (stated n) (form_at cells n))) before.stated ∙ sym (by_number-more stated cells n));
       entries = λ dump is.
           let f = entry_of dump c.args.index.now c.args.heap.now.enc cells in

@@ -1,5 +1,5 @@
 use Rattle.std.proofs.Common.{◌≡◌, ℕ, ◌*◌, List, length, map}
-use Rattle.dump_io.specs.Dumps.{told, used, ReadsAtMost}
+use Rattle.dump_io.specs.Dumps.{told, ReadsAtMost}
 use Rattle.binary_refs.specs.Previews.{by_number, entry_of, stated, stating}
 use Rattle.binary_refs.proofs.previews.read_entries.Given as goal
 
@@ -8,7 +8,7 @@ abbrev pub invariant-loop-n : goal.invariant-loop-n
 invariant-loop-n g l =
     let d = g.D.Dumps in
     record {
-      reads : ReadsAtMost (used d.files d.now d.faults d.taken l.initial.dumps l.dumps) (128 * length (by_number stated l.heap.cells l.n));
+      reads : ReadsAtMost (d.state l.initial.dumps) (d.state l.dumps) (128 * length (by_number stated l.heap.cells l.n));
       stated : map stating l.entries.items ≡ by_number stated l.heap.cells l.n;
-      entries : (dump : List ℕ) → d.now l.initial.dumps ≡ told dump → l.entries.items ≡ by_number (entry_of dump l.index l.heap.enc l.heap.cells) l.heap.cells l.n;
+      entries : (dump : List ℕ) → (d.state l.initial.dumps).now ≡ told dump → l.entries.items ≡ by_number (entry_of dump l.index l.heap.enc l.heap.cells) l.heap.cells l.n;
     }

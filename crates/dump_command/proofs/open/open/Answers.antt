@@ -6,9 +6,9 @@ pub returns-in_err-build : goal.returns-in_err-build
 returns-in_err-build g c =
     let p = err_from_is_err_and c.from_residual.result c.from_residual.ensures.1 in
     let built = c.in_err-build.ensures in
-    rw (p.1, p.2) (IsUnopened-built _ _ _ _ built.device built.answer built.absent built.read)
+    rw (p.1, p.2) (IsUnopened-built _ _ _ _ _ built.device built.answer built.absent built.read)
 
 pub returns : goal.returns
 returns g c =
     let built = c.in_ok-build.ensures in
-    HasOpened-built _ _ _ _ built.device built.answer built.absent built.over
+    HasOpened-built _ _ _ _ _ built.device built.answer built.absent built.over

@@ -1,9 +1,7 @@
 use Rattle.std.proofs.Common.{◌+◌, ◌-◌, ◌≤◌, ◌++◌, length, take, refl, arith, length-append}
 use Rattle.std.specs.List.{between}
 use Rattle.std.proofs.lemmas.Result.{err_from_is_err_and}
-use Rattle.dump_io.specs.Dumps.{used}
 use Rattle.dump_io.specs.Laws.Reads.{ReadsAtMost-within}
-use Rattle.dump_io.specs.Sinks.{changed}
 use borrow.Rule.Slice.PartMut.{put_mid}
 use Rattle.dump_redact.specs.declared.parts.Part.TheVariants.{Binary}
 use Rattle.dump_redact.specs.Bodies.{redacted_body}
@@ -16,27 +14,25 @@ use Rattle.dump_redact.proofs.bodies.put_binary.Goals as goal
 
 pub returns-in_err-count : goal.returns-in_err-count
 returns-in_err-count g c =
-    let p = err_from_is_err_and c.from_residual.result c.from_residual.ensures.1 in
     let d = g.D.Dumps in
-    let k = g.K.Sink in
+    let sink = g.K.Sink.state c.args.sink.now in
+    let p = err_from_is_err_and c.from_residual.result c.from_residual.ensures.1 in
     let read = c.in_err-count.ensures in
-    let device = used d.files d.now d.faults d.taken c.args.dumps.now c.read_piece.new.dumps in
-    let sink = changed k.written k.faults c.args.sink.now c.args.sink.now in
-    rw (p.1, p.2) (Copies-failed _ (ReadsAtMost-within (omega arith) read.reads) (break-read device sink c.in_err-count.field-0.0 read.fault) (λ dump is.
+    rw (p.1, p.2) (Copies-failed _ (ReadsAtMost-within (omega arith) read.reads) (break-read (d.state c.args.dumps.now) (d.state c.read_piece.new.dumps) sink sink c.in_err-count.field-0.0 read.fault) (λ dump is.
     let front = between c.args.from c.args.body dump in
     let rest = between c.args.body c.args.upto dump in
     omega (
       arith,
       length-append front (redacted_body c.args.enc Binary rest),
       length-body c.args.enc Binary rest,
-      length-part dump c.args.body c.args.upto (told-size (d.now c.args.dumps.now) dump c.args.upto is c.requires.held.1),
+      length-part dump c.args.body c.args.upto (told-size (d.state c.args.dumps.now).now dump c.args.upto is c.requires.held.1),
       c.requires.some,
     )))
 
 pub returns-in_err-put_bytes : goal.returns-in_err-put_bytes
 returns-in_err-put_bytes g c =
     let p = err_from_is_err_and c.from_residual-in_err-put_bytes.result c.from_residual-in_err-put_bytes.ensures.1 in
-    let now = g.D.Dumps.now c.args.dumps.now in
+    let now = (g.D.Dumps.state c.args.dumps.now).now in
     let read = c.in_ok-count.ensures in
     let count = c.in_ok-count.count in
     let from = c.args.from in
@@ -52,7 +48,7 @@ returns-in_err-put_bytes g c =
 
 pub returns : goal.returns
 returns g c =
-    let now = g.D.Dumps.now c.args.dumps.now in
+    let now = (g.D.Dumps.state c.args.dumps.now).now in
     let read = c.in_ok-count.ensures in
     let count = c.in_ok-count.count in
     let from = c.args.from in

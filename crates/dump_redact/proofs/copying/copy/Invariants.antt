@@ -1,7 +1,6 @@
 use Rattle.std.proofs.Common.{◌≡◌, ℕ, ◌-◌, ◌≤◌, List}
 use Rattle.std.specs.List.{between}
-use Rattle.dump_io.specs.Dumps.{told, used}
-use Rattle.dump_io.specs.Sinks.{changed}
+use Rattle.dump_io.specs.Dumps.{told}
 use Rattle.dump_redact.specs.Inner.Copying.{copied, stretch_behind, HasCopied}
 use Rattle.dump_redact.proofs.copying.copy.Given as goal
 
@@ -13,9 +12,9 @@ invariant-loop-at g l =
     record {
       from : l.from ≤ l.at;
       inside : l.at ≤ l.upto;
-      copied : HasCopied (used d.files d.now d.faults d.taken l.initial.dumps l.dumps) (changed k.written k.faults l.initial.sink l.sink) (l.at - l.from)
+      copied : HasCopied (d.state l.initial.dumps) (d.state l.dumps) (k.state l.initial.sink) (k.state l.sink) (l.at - l.from)
           (λ dump. copied l.initial.stretch (between l.from l.at dump));
-      behind : (dump : List ℕ) → d.now l.initial.dumps ≡ told dump → l.stretch ≡ stretch_behind l.initial.stretch (between l.from l.at dump);
+      behind : (dump : List ℕ) → (d.state l.initial.dumps).now ≡ told dump → l.stretch ≡ stretch_behind l.initial.stretch (between l.from l.at dump);
     }
 
 abbrev pub decreases-loop-at : goal.decreases-loop-at

@@ -19,8 +19,8 @@ pub loop-i-init : goal.loop-i-init
 loop-i-init g c =
     let d = g.D.Dumps in
     let index = c.args.index.now in
-    let w = g.K.Sink.written c.args.sink.now in
-    let small : d.taken c.args.dumps.now < 2 ^ 64 = search rules in
+    let w = (g.K.Sink.state c.args.sink.now).written in
+    let small : (d.state c.args.dumps.now).taken < 2 ^ 64 = search rules in
     record {
       place = omega arith;
       copied = record {
@@ -69,7 +69,7 @@ returns-in_err-put_some g c =
     rw (p.1, p.2) (Copies-broken index.size redacted rest all.copied c.in_err-put_some.ensures (omega (arith, rise, inside)) (λ dump is.
     ap (λ l. l ++ rest dump) (between-join (redacted dump) (offset_of index 0) (offset_of index i) (offset_of index next) start rise)
     ∙ between-join (redacted dump) (offset_of index 0) (offset_of index next) index.size (omega (arith, start, rise)) inside
-    ∙ whole-text index bounded dump (built-told (g.D.Dumps.now c.args.dumps.now) index dump c.requires.over is)))
+    ∙ whole-text index bounded dump (built-told (g.D.Dumps.state c.args.dumps.now).now index dump c.requires.over is)))
 
 pub returns : goal.returns
 returns g c =
@@ -80,4 +80,4 @@ returns g c =
     let past : i ≡ length index.headers = omega (arith, all.place, c.len.ensures.value, c.loop-i-test.false) in
     Copies-text index.size redacted (Copies-done all.copied) (offset-within index bounded i all.place) (λ dump is.
     ap (λ n. between (offset_of index 0) n (redacted dump)) (offset-end index bounded i past)
-    ∙ whole-text index bounded dump (built-told (g.D.Dumps.now c.args.dumps.now) index dump c.requires.over is))
+    ∙ whole-text index bounded dump (built-told (g.D.Dumps.state c.args.dumps.now).now index dump c.requires.over is))

@@ -1,6 +1,4 @@
 use Rattle.std.proofs.Common.{ℕ, ◌-◌, ◌≤◌, List, length}
-use Rattle.dump_io.specs.Dumps.{used}
-use Rattle.dump_io.specs.Sinks.{changed}
 use Rattle.dump_redact.specs.Redacted.{redacted}
 use Rattle.dump_redact.specs.Inner.Copying.{HasCopied}
 use Rattle.dump_redact.specs.Inner.Places.{offset_of, text_between}
@@ -13,7 +11,7 @@ invariant-loop-i g l =
     let k = g.K.Sink in
     record {
       place : l.i ≤ length l.index.headers;
-      copied : HasCopied (used d.files d.now d.faults d.taken l.initial.dumps l.dumps) (changed k.written k.faults l.initial.sink l.sink) (offset_of l.index l.i)
+      copied : HasCopied (d.state l.initial.dumps) (d.state l.dumps) (k.state l.initial.sink) (k.state l.sink) (offset_of l.index l.i)
           (λ dump. text_between l.index 0 l.i (redacted dump));
     }
 

@@ -17,7 +17,7 @@ put_heap_from-requires-clause-body g c =
     let at : s.at ≡ c.section-section.result.at = ap (λ (x : Section). x.at) found.at_place in
     let body : s.body ≡ c.section-section.result.body = ap (λ (x : Section). x.body) found.at_place in
     let end : s.end ≡ c.section-section.result.end = ap (λ (x : Section). x.end) found.at_place in
-    let size = built-size (g.D.Dumps.now c.args.dumps.now) c.args.index.now c.requires.over in
+    let size = built-size (g.D.Dumps.state c.args.dumps.now).now c.args.index.now c.requires.over in
     record {
       some = omega (arith, at, body, found.short, c.requires.room, c.requires.large, at-offset c.args.index.now c.args.i c.requires.place, end-offset c.args.index.now c.args.i c.requires.place);
       is_open = size.0;
@@ -32,7 +32,7 @@ put_heap_from-requires-clause-heap g c =
 
 pub put_binary-requires-clause-held : goal.put_binary-requires-clause-held
 put_binary-requires-clause-held g c =
-    let size = built-size (g.D.Dumps.now c.args.dumps.now) c.args.index.now c.requires.over in
+    let size = built-size (g.D.Dumps.state c.args.dumps.now).now c.args.index.now c.requires.over in
     (size.0, omega (arith, size.1, c.section-section.ensures.within))
 
 pub put_binary-requires-clause-some : goal.put_binary-requires-clause-some
@@ -49,7 +49,7 @@ put_binary-requires-clause-near g c = omega (arith, c.section-section.ensures.sh
 
 pub copy-requires-clause-held : goal.copy-requires-clause-held
 copy-requires-clause-held g c =
-    let size = built-size (g.D.Dumps.now c.args.dumps.now) c.args.index.now c.requires.over in
+    let size = built-size (g.D.Dumps.state c.args.dumps.now).now c.args.index.now c.requires.over in
     (size.0, omega (arith, size.1, c.section-section.ensures.within))
 
 pub returns-in-Heap : goal.returns-in-Heap
@@ -68,7 +68,7 @@ returns-in-Heap g c =
     let whole = λ (dump : List ℕ). text_between index i (i + 1) (redacted dump) in
     let count : s.end - s.at ≤ length_between index i (i + 1) = omega (arith, at-offset index i inside, end-offset index i inside) in
     Copies-text (length_between index i (i + 1)) whole c.put_heap_from.ensures count (λ dump is.
-    section-text index i inside line ends Heap named dump (built-told (g.D.Dumps.now c.args.dumps.now) index dump c.requires.over is))
+    section-text index i inside line ends Heap named dump (built-told (g.D.Dumps.state c.args.dumps.now).now index dump c.requires.over is))
 
 pub returns-in-Binary : goal.returns-in-Binary
 returns-in-Binary g c =
@@ -88,7 +88,7 @@ returns-in-Binary g c =
     let enc : c.enc_of-enc.result ≡ enc_of index.version = c.enc_of-enc.ensures ∙ ap enc_of c.version.ensures in
     Copies-text (length_between index i (i + 1)) whole c.put_binary.ensures (omega (arith, at, end, count)) (λ dump is.
     ap₂ (λ (x : Section) e. text_of_section e Binary x dump) (sym found.at_place) enc
-    ∙ section-text index i inside line ends Binary named dump (built-told (g.D.Dumps.now c.args.dumps.now) index dump c.requires.over is))
+    ∙ section-text index i inside line ends Binary named dump (built-told (g.D.Dumps.state c.args.dumps.now).now index dump c.requires.over is))
 
 pub returns-in-Other : goal.returns-in-Other
 returns-in-Other g c =
@@ -108,4 +108,4 @@ returns-in-Other g c =
     Copies-text (length_between index i (i + 1)) whole c.copy.ensures (omega (arith, at, end, count)) (λ dump is.
     ap (λ (x : Section). between x.at x.end dump) (sym found.at_place)
     ∙ other-text (enc_of index.version) s dump line ends
-    ∙ section-text index i inside line ends Other named dump (built-told (g.D.Dumps.now c.args.dumps.now) index dump c.requires.over is))
+    ∙ section-text index i inside line ends Other named dump (built-told (g.D.Dumps.state c.args.dumps.now).now index dump c.requires.over is))

@@ -2,9 +2,7 @@ use Rattle.std.proofs.Common.{◌≡◌, ◌+◌, ◌<◌, ◌≤◌, length, ta
 use Rattle.std.specs.List.{between}
 use Rattle.std.proofs.lemmas.List.{length-take-le}
 use Rattle.std.proofs.lemmas.Result.{err_from_is_err_and}
-use Rattle.dump_io.specs.Dumps.{used}
 use Rattle.dump_io.specs.Laws.Reads.{ReadsAtMost-within}
-use Rattle.dump_io.specs.Sinks.{changed}
 use Rattle.dump_redact.specs.Redacted.{redacted}
 use Rattle.dump_redact.specs.Inner.Places.{offset_of, text_between}
 use Rattle.dump_redact.proofs.Copies.{Copies-failed, Copies-piece, break-read}
@@ -16,7 +14,7 @@ use Rattle.dump_redact.proofs.redacting.put_sections.Goals as goal
 pub read_piece-requires-clause-held : goal.read_piece-requires-clause-held
 read_piece-requires-clause-held g c =
     let index = c.args.index.now in
-    let size = built-size (g.D.Dumps.now c.args.dumps.now) index c.requires.over in
+    let size = built-size (g.D.Dumps.state c.args.dumps.now).now index c.requires.over in
     (size.0, omega (arith, size.1, c.offset-upto.ensures.value, offset-within index c.offset-upto.ensures.bounded c.args.next c.requires.within))
 
 pub read_piece-requires-clause-ordered : goal.read_piece-requires-clause-ordered
@@ -34,24 +32,22 @@ redact_sections-requires-clause-size g c =
 
 pub returns-in_err-count : goal.returns-in_err-count
 returns-in_err-count g c =
-    let p = err_from_is_err_and c.from_residual.result c.from_residual.ensures.1 in
     let d = g.D.Dumps in
-    let k = g.K.Sink in
+    let sink = g.K.Sink.state c.args.sink.now in
+    let p = err_from_is_err_and c.from_residual.result c.from_residual.ensures.1 in
     let index = c.args.index.now in
     let i = c.args.i in
     let next = c.args.next in
     let bounded = c.offset-upto.ensures.bounded in
     let read = c.in_err-count.ensures in
-    let device = used d.files d.now d.faults d.taken c.args.dumps.now c.read_piece.new.dumps in
-    let sink = changed k.written k.faults c.args.sink.now c.args.sink.now in
-    rw (p.1, p.2) (Copies-failed _ (ReadsAtMost-within (omega (arith, c.offset-from.ensures.value, c.offset-upto.ensures.value)) read.reads) (break-read device sink c.in_err-count.field-0.0 read.fault) (λ dump is.
-    let of = built-told (d.now c.args.dumps.now) index dump c.requires.over is in
+    rw (p.1, p.2) (Copies-failed _ (ReadsAtMost-within (omega (arith, c.offset-from.ensures.value, c.offset-upto.ensures.value)) read.reads) (break-read (d.state c.args.dumps.now) (d.state c.read_piece.new.dumps) sink sink c.in_err-count.field-0.0 read.fault) (λ dump is.
+    let of = built-told (d.state c.args.dumps.now).now index dump c.requires.over is in
     let inside : offset_of index next ≤ length (redacted dump) = omega (arith, keeps-length dump, of.size, offset-within index bounded next c.requires.within) in
     omega (arith, length-part (redacted dump) (offset_of index i) (offset_of index next) inside, offset-less index bounded i next c.requires.some c.requires.within)))
 
 pub returns : goal.returns
 returns g c =
-    let now = g.D.Dumps.now c.args.dumps.now in
+    let now = (g.D.Dumps.state c.args.dumps.now).now in
     let index = c.args.index.now in
     let i = c.args.i in
     let next = c.args.next in

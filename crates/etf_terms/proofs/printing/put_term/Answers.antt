@@ -1,4 +1,4 @@
-use Rattle.std.proofs.Common.{◌∷◌, ap, sym, ◌∙◌, subst, arith}
+use Rattle.std.proofs.Common.{◌∷◌, ap, sym, ◌∙◌, subst}
 use Rattle.etf_terms.specs.Text.{text}
 use Rattle.etf_terms.specs.Inner.Open.{Open}
 use Rattle.etf_terms.specs.Inner.Standing.{Stands}
@@ -11,10 +11,9 @@ loop-entry-init g c =
     let room = ap (λ (o : Open). o.room) c.push.ensures ∙ ap (λ (o : Open). o.room) c.clear.ensures in
     record {
       room = room;
-      later = omega arith;
       stands = λ term p. (
         text term,
-        IsPart-none _ (text term),
+        IsPart-none (text term),
         subst (λ es. Stands c.push.new.self.room es c.args.bytes.now (text term)) (sym entries)
             (stands-root term c.args.bytes.now c.push.new.self.room p (room ∙ c.requires.exact term p)),
       );
@@ -30,10 +29,9 @@ loop-entry-preserved g c =
     let inv = c.loop-entry.invariant in
     record {
       room = c.visit.ensures.room ∙ c.pop.ensures.room ∙ inv.room;
-      later = omega (arith, inv.later, c.visit.ensures.later);
       stands = λ term p.
           let s = inv.stands term p in
-          moves-on _ (g.K.Sink.written c.loop-entry.sink) _ (g.K.Sink.faults c.args.sink.now) (g.K.Sink.faults c.loop-entry.sink) _ (text term) s.0 _ _ _ s.1
+          moves-on (text term) s.0 _ _ _ s.1
           (c.in-Ok.ensures.moves s.0 (stands-popped _ _ _ _ _ c.in-Some.ensures.top c.pop.ensures.room s.2));
     }
 
@@ -41,5 +39,5 @@ pub returns-in-Err-clause-puts : goal.returns-in-Err-clause-puts
 returns-in-Err-clause-puts g c term p =
     let inv = c.loop-entry.invariant in
     let s = inv.stands term p in
-    moves-broken _ (g.K.Sink.written c.loop-entry.sink) _ _ (g.K.Sink.faults c.loop-entry.sink) _ (text term) s.0 _ _ _ c.in-Err.failed inv.later s.1
+    moves-broken (text term) s.0 _ _ _ c.in-Err.failed s.1
     (c.in-Err.ensures.moves s.0 (stands-popped _ _ _ _ _ c.in-Some.ensures.top c.pop.ensures.room s.2))

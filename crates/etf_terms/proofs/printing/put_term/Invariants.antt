@@ -1,4 +1,4 @@
-use Rattle.std.proofs.Common.{◌≡◌, ◌+◌, ◌*◌, ◌≤◌, List, ℕ, length}
+use Rattle.std.proofs.Common.{◌≡◌, ◌+◌, ◌*◌, List, ℕ, length}
 use Rattle.etf_terms.specs.Terms.{Term, IsTerm}
 use Rattle.etf_terms.specs.Text.{text}
 use Rattle.etf_terms.specs.Inner.Standing.{Stands, IsPart}
@@ -8,9 +8,8 @@ use Rattle.etf_terms.proofs.printing.put_term.Given as goal
 abbrev pub invariant-loop-entry : goal.invariant-loop-entry
 invariant-loop-entry g l = record {
   room : l.stack.room ≡ l.fn.stack.room;
-  later : g.K.Sink.faults l.fn.sink ≤ g.K.Sink.faults l.sink;
   stands : (term : Term) → IsTerm l.bytes term
-      → (to_come : List ℕ) × IsPart (g.K.Sink.written l.fn.sink) (g.K.Sink.written l.sink) (text term) to_come × Stands l.stack.room l.stack.entries l.rest to_come;
+      → (to_come : List ℕ) × IsPart (g.K.Sink.state l.fn.sink) (g.K.Sink.state l.sink) (text term) to_come × Stands l.stack.room l.stack.entries l.rest to_come;
 }
 
 abbrev pub decreases-loop-entry : goal.decreases-loop-entry

@@ -1,4 +1,3 @@
-use Rattle.std.proofs.Common.{arith}
 use Rattle.etf_terms.specs.Text.{dotted, words_text}
 use Rattle.etf_terms.proofs.Words.{word-first, word-shorter, word-none}
 use Rattle.etf_terms.proofs.Written.{part-more, part-broken, part-whole}
@@ -8,8 +7,8 @@ pub returns-in_err-put_dotted : goal.returns-in_err-put_dotted
 returns-in_err-put_dotted g c =
     let rest = c.loop-word.rest.now in
     let behind = c.in-Ok.behind.now in
-    part-broken _ (g.K.Sink.written c.loop-word.sink) _ _ (g.K.Sink.faults c.loop-word.sink) _ _ (words_text rest) (dotted c.in-Ok.word) (words_text behind) _ _
-    c.loop-word.invariant.later c.loop-word.invariant.part (word-first rest c.in-Ok.word behind c.in-Ok.ensures) c.from_residual.ensures.0 c.in_err-put_dotted.ensures
+    part-broken _ (words_text rest) (dotted c.in-Ok.word) (words_text behind) _ _
+    c.loop-word.invariant.part (word-first rest c.in-Ok.word behind c.in-Ok.ensures) c.from_residual.ensures.0 c.in_err-put_dotted.ensures
 
 pub loop-word-smaller : goal.loop-word-smaller
 loop-word-smaller g c = word-shorter c.loop-word.rest.now c.in-Ok.word c.in-Ok.behind.now c.in-Ok.ensures
@@ -19,12 +18,11 @@ loop-word-preserved g c =
     let rest = c.loop-word.rest.now in
     let behind = c.in-Ok.behind.now in
     record {
-      later = omega (arith, c.loop-word.invariant.later, c.in_ok-put_dotted.ensures.later);
-      part = part-more _ (g.K.Sink.written c.loop-word.sink) _ (g.K.Sink.faults c.loop-word.sink) _ _ (words_text rest) (dotted c.in-Ok.word) (words_text behind) _
+      part = part-more _ (words_text rest) (dotted c.in-Ok.word) (words_text behind) _
           c.loop-word.invariant.part c.in_ok-put_dotted.ensures (word-first rest c.in-Ok.word behind c.in-Ok.ensures);
     }
 
 pub returns : goal.returns
 returns g c =
-    part-whole _ _ _ _ _ (words_text c.loop-word.rest.now) _ c.loop-word.invariant.later c.loop-word.invariant.part
+    part-whole _ (words_text c.loop-word.rest.now) _ c.loop-word.invariant.part
     (word-none c.loop-word.rest.now c.in_default.field-0 c.in_default.ensures)

@@ -1,12 +1,11 @@
-use Rattle.std.proofs.Common.{◌≤◌, length}
+use Rattle.std.proofs.Common.{length}
 use Rattle.etf_terms.specs.Text.{words_text}
 use Rattle.etf_terms.specs.Inner.Standing.{IsPart}
 use Rattle.etf_terms.proofs.printing.put_words.Given as goal
 
 abbrev pub invariant-loop-word : goal.invariant-loop-word
 invariant-loop-word g l = record {
-  later : g.K.Sink.faults l.fn.sink ≤ g.K.Sink.faults l.sink;
-  part : IsPart (g.K.Sink.written l.fn.sink) (g.K.Sink.written l.sink) (words_text l.words) (words_text l.rest);
+  part : IsPart (g.K.Sink.state l.fn.sink) (g.K.Sink.state l.sink) (words_text l.words) (words_text l.rest);
 }
 
 abbrev pub decreases-loop-word : goal.decreases-loop-word

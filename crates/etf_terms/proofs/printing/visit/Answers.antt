@@ -9,12 +9,12 @@ use Rattle.etf_terms.proofs.printing.visit.Goals as goal
 pub returns-in-Ok-clause-moves : goal.returns-in-Ok-clause-moves
 returns-in-Ok-clause-moves g c to_come s =
     let d = closes c.args.stack.now.room c.args.entry c.args.stack.now.entries c.args.rest.now to_come c.if-entry.true s in
-    moves-ok _ _ _ _ _ to_come d.below _ _ c.args.rest _ c.in-Ok.ensures.puts (d.splits ∙ ap (λ l. l ++ d.below) (sym c.closing_text.ensures)) d.stands
+    moves-ok _ to_come d.below _ _ c.args.rest _ c.in-Ok.ensures.puts (d.splits ∙ ap (λ l. l ++ d.below) (sym c.closing_text.ensures)) d.stands
 
 pub returns-in-Err-clause-moves : goal.returns-in-Err-clause-moves
 returns-in-Err-clause-moves g c to_come s =
     let d = closes c.args.stack.now.room c.args.entry c.args.stack.now.entries c.args.rest.now to_come c.if-entry.true s in
-    moves-err _ _ _ _ _ to_come d.below _ _ _ c.in-Err.failed c.in-Err.ensures.puts (d.splits ∙ ap (λ l. l ++ d.below) (sym c.closing_text.ensures))
+    moves-err _ to_come d.below _ _ _ c.in-Err.failed c.in-Err.ensures.puts (d.splits ∙ ap (λ l. l ++ d.below) (sym c.closing_text.ensures))
 
 pub returns-in-Err-read_head-clause-moves : goal.returns-in-Err-read_head-clause-moves
 returns-in-Err-read_head-clause-moves g c to_come s =
@@ -49,10 +49,10 @@ returns-in-Ok-put_begun-clause-moves g c to_come s =
     let o = opened c.args.stack.now.room c.args.entry c.args.stack.now.entries c.args.rest.now to_come h behind.now c.if-entry.false c.in-Ok-read_head.ensures s in
     let room = ap (λ (o : Open). o.room) c.enter.ensures ∙ ap (λ (o : Open). o.room) c.push.ensures in
     let entries = ap (λ (o : Open). o.entries) c.enter.ensures ∙ ap (λ (o : Open). entered h o.entries) c.push.ensures in
-    moves-ok _ _ _ _ _ to_come o.0 _ _ behind _ c.in-Ok-put_begun.ensures o.1
+    moves-ok _ to_come o.0 _ _ behind _ c.in-Ok-put_begun.ensures o.1
     (subst (λ r. Stands r c.enter.new.stack.entries behind.now o.0) (sym room) (subst (λ l. Stands c.args.stack.now.room l behind.now o.0) (sym entries) o.2))
 
 pub returns-in-Err-put_begun-clause-moves : goal.returns-in-Err-put_begun-clause-moves
 returns-in-Err-put_begun-clause-moves g c to_come s =
     let o = opened c.args.stack.now.room c.args.entry c.args.stack.now.entries c.args.rest.now to_come (head c.in-Ok-read_head.found.0) c.in-Ok-read_head.found.1.now c.if-entry.false c.in-Ok-read_head.ensures s in
-    moves-err _ _ _ _ _ to_come o.0 _ _ _ c.in-Err-put_begun.failed c.in-Err-put_begun.ensures o.1
+    moves-err _ to_come o.0 _ _ _ c.in-Err-put_begun.failed c.in-Err-put_begun.ensures o.1

@@ -1,6 +1,6 @@
 use Rattle.std.proofs.Common.{◌≡◌, ℕ, ◌<◌, List, length, map, All, IfOk, OnOk, IfErr, None, sym, ◌∙◌, ap, subst}
 use Rattle.std.specs.Prelude.{IsSome}
-use Rattle.dump_io.specs.Dumps.{told, used, ReadsAtMost}
+use Rattle.dump_io.specs.Dumps.{told, ReadsAtMost}
 use Rattle.section_index.specs.Index.{sections_in}
 use Rattle.section_index.specs.Sections.{Section}
 use Rattle.section_rows.specs.Loading.{sections_at, bodies_length, first_large, AreRefused}
@@ -23,12 +23,12 @@ are g c =
 
 pub returns-clause-reads : goal.returns-clause-reads
 returns-clause-reads g c =
-    subst (λ (sections : List Section). ReadsAtMost (used g.D.Dumps.files g.D.Dumps.now g.D.Dumps.faults g.D.Dumps.taken c.args.dumps.now c.load.new.dumps) (bodies_length sections))
+    subst (λ (sections : List Section). ReadsAtMost (g.D.Dumps.state c.args.dumps.now) (g.D.Dumps.state c.load.new.dumps) (bodies_length sections))
     (are g c) c.load.ensures.reads
 
 pub returns-clause-rows : goal.returns-clause-rows
 returns-clause-rows g c =
-    subst (λ (sections : List Section). IfOk c.load.result (λ (table : Table). (bytes : List ℕ) → g.D.Dumps.now c.args.dumps.now ≡ told bytes → table.rows ≡ rows_of bytes field_columns sections))
+    subst (λ (sections : List Section). IfOk c.load.result (λ (table : Table). (bytes : List ℕ) → (g.D.Dumps.state c.args.dumps.now).now ≡ told bytes → table.rows ≡ rows_of bytes field_columns sections))
     (are g c) c.load.ensures.rows
 
 pub returns-clause-places : goal.returns-clause-places
@@ -41,7 +41,7 @@ returns-clause-loaded g c =
 
 pub returns-clause-fault : goal.returns-clause-fault
 returns-clause-fault g c =
-    subst (λ (sections : List Section). IfErr c.load.result (AreRefused sections c.args.limits.now.section (used g.D.Dumps.files g.D.Dumps.now g.D.Dumps.faults g.D.Dumps.taken c.args.dumps.now c.load.new.dumps)))
+    subst (λ (sections : List Section). IfErr c.load.result (AreRefused sections c.args.limits.now.section (g.D.Dumps.state c.args.dumps.now) (g.D.Dumps.state c.load.new.dumps)))
     (are g c) c.load.ensures.fault
 
 pub returns-clause-unread : goal.returns-clause-unread

@@ -1,7 +1,7 @@
 use Rattle.std.proofs.Common.{◌≡◌, ℕ, List, ◌++◌}
 use Rattle.std.specs.Prelude.{All}
 use Rattle.std.specs.List.{flat_map}
-use Rattle.dump_io.specs.Sinks.{changed, HasPut}
+use Rattle.dump_io.specs.Sinks.{HasPut}
 use Rattle.field_lines.specs.Lines.{IsPart, text_lines}
 use Rattle.report_text.specs.Tables.{line_row}
 use Rattle.report_text.proofs.field_report.put_lines.Given as goal
@@ -12,5 +12,5 @@ invariant-loop-line g l =
     (goal.iterator-loop-line g).can_next l.line-iterator
     × (goal.iterator-loop-line g).is_finite l.line-iterator
     × All (IsPart l.body) l.line-iterator
-    × ((written : List ℕ) × HasPut (changed g.K.Sink.written g.K.Sink.faults l.initial.sink l.sink) written
+    × ((written : List ℕ) × HasPut (g.K.Sink.state l.initial.sink) (g.K.Sink.state l.sink) written
     × (written ++ flat_map (line_row l.base) l.line-iterator ≡ flat_map (line_row l.base) (text_lines l.body)))

@@ -1,9 +1,9 @@
 use Rattle.std.proofs.Common.{take}
 use Rattle.std.specs.List.{flat_map}
-use Rattle.dump_io.specs.Sinks.{changed, HasPut}
+use Rattle.dump_io.specs.Sinks.{HasPut}
 use Rattle.report_text.specs.Tables.{process_line}
 use Rattle.report_text.proofs.process_report.put_processes.Given as goal
 
 -- the lines of the processes so far are written
 abbrev pub invariant-loop-i : goal.invariant-loop-i
-invariant-loop-i g l = HasPut (changed g.K.Sink.written g.K.Sink.faults l.initial.sink l.sink) (flat_map process_line (take l.i l.procs.processes))
+invariant-loop-i g l = HasPut (g.K.Sink.state l.initial.sink) (g.K.Sink.state l.sink) (flat_map process_line (take l.i l.procs.processes))

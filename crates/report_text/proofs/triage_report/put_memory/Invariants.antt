@@ -1,6 +1,6 @@
 use Rattle.std.proofs.Common.{◌≡◌, ℕ, List, ◌++◌}
 use Rattle.std.specs.List.{flat_map}
-use Rattle.dump_io.specs.Sinks.{changed, HasPut}
+use Rattle.dump_io.specs.Sinks.{HasPut}
 use Rattle.field_lines.specs.Lines.{text_lines}
 use Rattle.report_text.specs.Triage.{memory_line}
 use Rattle.report_text.proofs.triage_report.put_memory.Given as goal
@@ -10,5 +10,5 @@ abbrev pub invariant-loop-line : goal.invariant-loop-line
 invariant-loop-line g l =
     (goal.iterator-loop-line g).can_next l.line-iterator
     × (goal.iterator-loop-line g).is_finite l.line-iterator
-    × ((written : List ℕ) × HasPut (changed g.K.Sink.written g.K.Sink.faults l.initial.sink l.sink) written
+    × ((written : List ℕ) × HasPut (g.K.Sink.state l.initial.sink) (g.K.Sink.state l.sink) written
     × (written ++ flat_map memory_line l.line-iterator ≡ flat_map memory_line (text_lines l.body)))

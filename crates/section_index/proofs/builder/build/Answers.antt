@@ -9,16 +9,16 @@ index_of-requires-clause-limits g c = refl
 
 pub returns-clause-answer : goal.returns-clause-answer
 returns-clause-answer g c bytes file =
-    let files = g.D.Dumps.files c.args.dumps.now in
+    let files = (g.D.Dumps.state c.args.dumps.now).files in
     c.index_of.ensures.answer bytes (told-file files c.args.name.now _ bytes c.in-Ok.ensures.named
     (⊎_elim (λ held. inl held) (λ now. inr (sym c.index_of.ensures.reads.same_now ∙ now)) file))
 
 pub returns-clause-too_large : goal.returns-clause-too_large
-returns-clause-too_large g c = none-too_large (g.D.Dumps.now c.index_of.new.dumps) c.args.limits.now c.index_of.result c.index_of.ensures.fault
+returns-clause-too_large g c = none-too_large (g.D.Dumps.state c.index_of.new.dumps).now c.args.limits.now c.index_of.result c.index_of.ensures.fault
 
 pub returns-clause-device : goal.returns-clause-device
 returns-clause-device g c =
-    let files = g.D.Dumps.files c.args.dumps.now in
+    let files = (g.D.Dumps.state c.args.dumps.now).files in
     let opened = c.in-Ok.ensures in
     let read = c.index_of.ensures.reads in
     record {
@@ -31,4 +31,4 @@ returns-clause-device g c =
 
 pub returns-clause-absent : goal.returns-clause-absent
 returns-clause-absent g c gone =
-    absurd (present-named (g.D.Dumps.files c.args.dumps.now) c.args.name.now _ c.in-Ok.ensures.named gone)
+    absurd (present-named (g.D.Dumps.state c.args.dumps.now).files c.args.name.now _ c.in-Ok.ensures.named gone)

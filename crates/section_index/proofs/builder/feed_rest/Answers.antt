@@ -10,7 +10,7 @@ use Rattle.section_index.proofs.builder.feed_rest.Goals as goal
 pub returns-in_err-feed_piece-clause-fault : goal.returns-in_err-feed_piece-clause-fault
 returns-in_err-feed_piece-clause-fault g c =
     let p = err_from_is_err_and c.from_residual.result c.from_residual.ensures.1 in
-    let now = g.D.Dumps.now c.args.dumps.now in
+    let now = (g.D.Dumps.state c.args.dumps.now).now in
     let all = c.loop-at.invariant in
     let begun = all.begun in
     let read = c.in-Ok.ensures in
@@ -25,7 +25,7 @@ returns-in_err-feed_piece-clause-fault g c =
 pub loop-at-preserved : goal.loop-at-preserved
 loop-at-preserved g c =
     let d = g.D.Dumps in
-    let now = d.now c.args.dumps.now in
+    let now = (d.state c.args.dumps.now).now in
     let all = c.loop-at.invariant in
     let read = c.in-Ok.ensures in
     let fed = c.in_ok-feed_piece.ensures in

@@ -1,5 +1,5 @@
 use Rattle.std.proofs.Common.{◌≡◌, ◌-◌, ◌≤◌, false, None}
-use Rattle.dump_io.specs.Dumps.{used, ReadsAtMost}
+use Rattle.dump_io.specs.Dumps.{ReadsAtMost}
 use Rattle.section_index.specs.Inner.Reading.{HasBegun}
 use Rattle.section_index.proofs.builder.feed_rest.Given as goal
 
@@ -9,12 +9,12 @@ invariant-loop-at g l =
     record {
       from : l.from ≤ l.at;
       inside : l.at ≤ l.size;
-      reads : ReadsAtMost (used d.files d.now d.faults d.taken l.initial.dumps l.dumps) (l.at - l.from);
+      reads : ReadsAtMost (d.state l.initial.dumps) (d.state l.dumps) (l.at - l.from);
       fresh : l.scan.spent ≡ false;
       limit : l.scan.limit ≡ l.initial.scan.limit;
       offset : l.scan.offset ≡ l.at;
       silent : l.receiver.stop ≡ None;
-      begun : HasBegun (d.now l.initial.dumps) l.scan l.receiver;
+      begun : HasBegun (d.state l.initial.dumps).now l.scan l.receiver;
     }
 
 abbrev pub decreases-loop-at : goal.decreases-loop-at

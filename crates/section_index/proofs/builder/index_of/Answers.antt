@@ -18,7 +18,7 @@ pub returns-in_err-version-clause-answer : goal.returns-in_err-version-clause-an
 returns-in_err-version-clause-answer g c bytes is =
     let p = err_from_is_err_and c.from_residual.result c.from_residual.ensures.1 in
     let read = c.in-Ok.ensures in
-    let now = g.D.Dumps.now c.args.dumps.now in
+    let now = (g.D.Dumps.state c.args.dumps.now).now in
     let limits = c.args.limits.now in
     let first = take c.in-Ok.count c.read_piece.new.buffer in
     let piece : IsFirstPiece bytes first c.args.size =
@@ -41,7 +41,7 @@ pub returns-in_err-feed_piece-clause-answer : goal.returns-in_err-feed_piece-cla
 returns-in_err-feed_piece-clause-answer g c bytes is =
     let p = err_from_is_err_and c.from_residual-in_err-feed_piece.result c.from_residual-in_err-feed_piece.ensures.1 in
     let read = c.in-Ok.ensures in
-    let now = g.D.Dumps.now c.args.dumps.now in
+    let now = (g.D.Dumps.state c.args.dumps.now).now in
     let limits = c.args.limits.now in
     let first = take c.in-Ok.count c.read_piece.new.buffer in
     let piece : IsFirstPiece bytes first c.args.size =
@@ -69,13 +69,13 @@ pub returns-in_err-feed_rest-clause-answer : goal.returns-in_err-feed_rest-claus
 returns-in_err-feed_rest-clause-answer g c bytes is =
     let p = err_from_is_err_and c.from_residual-in_err-feed_rest.result c.from_residual-in_err-feed_rest.ensures.1 in
     let read = c.in-Ok.ensures in
-    let now = g.D.Dumps.now c.args.dumps.now in
+    let now = (g.D.Dumps.state c.args.dumps.now).now in
     let limits = c.args.limits.now in
     let first = take c.in-Ok.count c.read_piece.new.buffer in
     let piece : IsFirstPiece bytes first c.args.size =
     IsFirstPiece-read bytes c.args.buffer.now c.read_piece.new.buffer now c.in-Ok.count c.args.size is read.piece c.read_piece.auto.buffer c.requires.room read.count c.requires.size in
     let fault = c.in_err-feed_rest.field-0.0 in
-    rw (p.1, p.2) (answer-rest bytes limits g.B.Bounds.limits c.in_ok-version.version (g.D.Dumps.now c.read_piece.new.dumps) fault (omega (arith, c.requires.small, piece.size'))
+    rw (p.1, p.2) (answer-rest bytes limits g.B.Bounds.limits c.in_ok-version.version (g.D.Dumps.state c.read_piece.new.dumps).now fault (omega (arith, c.requires.small, piece.size'))
     (judged-whole bytes first c.args.size limits (Ok c.in_ok-version.version) piece c.in_ok-version.ensures.judged)
     c.requires.limits (read.reads.same_now ∙ is) c.in_err-feed_rest.ensures.fault)
 
@@ -83,7 +83,7 @@ pub returns-in_err-headers-clause-answer : goal.returns-in_err-headers-clause-an
 returns-in_err-headers-clause-answer g c bytes is =
     let p = err_from_is_err_and c.from_residual-in_err-headers.result c.from_residual-in_err-headers.ensures.1 in
     let read = c.in-Ok.ensures in
-    let now = g.D.Dumps.now c.args.dumps.now in
+    let now = (g.D.Dumps.state c.args.dumps.now).now in
     let limits = c.args.limits.now in
     let first = take c.in-Ok.count c.read_piece.new.buffer in
     let piece : IsFirstPiece bytes first c.args.size =
@@ -120,7 +120,7 @@ new-requires-clause-tiled g c =
 pub returns-clause-answer : goal.returns-clause-answer
 returns-clause-answer g c bytes is =
     let read = c.in-Ok.ensures in
-    let now = g.D.Dumps.now c.args.dumps.now in
+    let now = (g.D.Dumps.state c.args.dumps.now).now in
     let limits = c.args.limits.now in
     let first = take c.in-Ok.count c.read_piece.new.buffer in
     let piece : IsFirstPiece bytes first c.args.size =
@@ -137,5 +137,5 @@ returns-clause-answer g c bytes is =
 
 pub returns-clause-over : goal.returns-clause-over
 returns-clause-over g c =
-    built-over (g.D.Dumps.now c.args.dumps.now) c.new.result c.args.size c.requires.open c.requires.size (ap (λ index. index.size) c.new.ensures)
+    built-over (g.D.Dumps.state c.args.dumps.now).now c.new.result c.args.size c.requires.open c.requires.size (ap (λ index. index.size) c.new.ensures)
     (λ bytes is. (returns-clause-answer g c bytes is).1)

@@ -1,5 +1,5 @@
 use Rattle.std.proofs.Common.{map, take, get_or, sym, subst}
-use Rattle.dump_io.specs.Dumps.{Now, used, ReadsAtMost}
+use Rattle.dump_io.specs.Dumps.{Now, ReadsAtMost}
 use Rattle.dump_io.specs.Laws.Reads.{ReadsAtMost-then, ReadsAtMost-both}
 use Rattle.section_index.specs.Bodies.{section_at}
 use Rattle.section_rows.specs.Loading.{sections_at}
@@ -21,8 +21,8 @@ loop-i-preserved g c =
     let before = sections_at index (take i places) in
     let row = subst (λ (now : Now). GainsRow now columns (section_at index (get_or places i 0)) c.loop-i.store c.load_row.new.store) c.loop-i.invariant.reads.same_now c.in_ok-load_row.ensures.row in
     record {
-      reads = subst (ReadsAtMost (used g.D.Dumps.files g.D.Dumps.now g.D.Dumps.faults g.D.Dumps.taken c.args.dumps.now c.load_row.new.dumps))
+      reads = subst (ReadsAtMost (g.D.Dumps.state c.args.dumps.now) (g.D.Dumps.state c.load_row.new.dumps))
           (sym (bodies-more index places i 0 c.loop-i-test.true)) (ReadsAtMost-then c.loop-i.invariant.reads c.in_ok-load_row.ensures.reads);
-      rows = subst (λ sections. HoldsRows (g.D.Dumps.now c.args.dumps.now) columns sections c.load_row.new.store) (sym (sections-more index places i 0 c.loop-i-test.true))
-          (HoldsRows-more (g.D.Dumps.now c.args.dumps.now) columns before (section_at index (get_or places i 0)) c.loop-i.store c.load_row.new.store c.loop-i.invariant.rows row);
+      rows = subst (λ sections. HoldsRows (g.D.Dumps.state c.args.dumps.now).now columns sections c.load_row.new.store) (sym (sections-more index places i 0 c.loop-i-test.true))
+          (HoldsRows-more (g.D.Dumps.state c.args.dumps.now).now columns before (section_at index (get_or places i 0)) c.loop-i.store c.load_row.new.store c.loop-i.invariant.rows row);
     }

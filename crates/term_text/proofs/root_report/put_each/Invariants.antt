@@ -1,7 +1,7 @@
 use Rattle.std.proofs.Common.{◌≡◌, ℕ, ◌+◌, List, ◌++◌, length}
 use Rattle.std.specs.Prelude.{All}
 use Rattle.std.specs.List.{flat_map}
-use Rattle.dump_io.specs.Sinks.{changed, HasPut}
+use Rattle.dump_io.specs.Sinks.{HasPut}
 use Rattle.root_views.specs.Kinds.{roots_in}
 use Rattle.root_views.specs.Roots.{IsInside}
 use Rattle.term_text.specs.Roots.{answer_over, root_line}
@@ -17,5 +17,5 @@ invariant-loop-found g l =
     × All (IsInside l.body) l.found-iterator
     × (l.walker ≡ l.fn.walker)
     × (l.count + length l.found-iterator ≡ length all)
-    × ((written : List ℕ) × HasPut (changed g.K.Sink.written g.K.Sink.faults l.initial.sink l.sink) written
+    × ((written : List ℕ) × HasPut (g.K.Sink.state l.initial.sink) (g.K.Sink.state l.sink) written
     × (written ++ flat_map line l.found-iterator ≡ flat_map line all))

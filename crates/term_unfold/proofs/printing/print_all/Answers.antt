@@ -1,4 +1,4 @@
-use Rattle.std.proofs.Common.{◌≡◌, [], ◌∙◌, ap, subst, arith}
+use Rattle.std.proofs.Common.{◌≡◌, [], ◌∙◌, ap, subst}
 use Rattle.term_forms.specs.Seen.{element}
 use Rattle.term_unfold.specs.Inner.Rest.{rest}
 use Rattle.term_unfold.specs.Leaves.{leaf_text}
@@ -14,18 +14,17 @@ loop-entry-preserved g c =
     let next = c.in_ok-left-2.ensures in
     record {
       cells = next.cells ∙ inv.cells;
-      later = omega (arith, inv.later, next.step.later);
-      part = IsPart-next _ (g.K.Sink.written c.loop-entry.sink) _ _ _ _ inv.part next.step.writes;
+      part = IsPart-next _ _ _ inv.part next.step.writes;
     }
 
 pub returns-in_err-left-clause-puts : goal.returns-in_err-left-clause-puts
 returns-in_err-left-clause-puts g c =
-    Puts-broken_step _ _ _ _ _ _ _ c.from_residual.result c.from_residual.ensures.0 c.in_err-left.ensures.step
+    Puts-broken_step _ _ _ c.from_residual.result c.from_residual.ensures.0 c.in_err-left.ensures.step
 
 pub returns-in_err-left-2-clause-puts : goal.returns-in_err-left-2-clause-puts
 returns-in_err-left-2-clause-puts g c =
-    Puts-part _ (g.K.Sink.written c.loop-entry.sink) _ _ (g.K.Sink.faults c.loop-entry.sink) _ _ _ c.from_residual-in_err-left-2.result c.loop-entry.invariant.later c.loop-entry.invariant.part
-    (Puts-broken_step _ _ _ _ _ _ _ c.from_residual-in_err-left-2.result c.from_residual-in_err-left-2.ensures.0 c.in_err-left-2.ensures.step)
+    Puts-part _ _ c.from_residual-in_err-left-2.result c.loop-entry.invariant.part
+    (Puts-broken_step _ _ _ c.from_residual-in_err-left-2.result c.from_residual-in_err-left-2.ensures.0 c.in_err-left-2.ensures.step)
 
 pub returns-clause-puts : goal.returns-clause-puts
 returns-clause-puts g c =
@@ -34,4 +33,4 @@ returns-clause-puts g c =
     let inv = c.loop-entry.invariant in
     let whole = show leaf (unfolding_of heap (element c.args.root.now)) c.args.budget in
     let end : rest leaf heap c.loop-entry.path.entries c.loop-entry.left ≡ [] = ap (λ es. rest leaf heap es c.loop-entry.left) c.in_default.ensures.top in
-    Puts-whole _ _ _ _ whole tt inv.later (subst (IsPart (g.K.Sink.written c.args.sink.now) (g.K.Sink.written c.loop-entry.sink) whole) end inv.part)
+    Puts-whole whole tt (subst (IsPart (g.K.Sink.state c.args.sink.now) (g.K.Sink.state c.loop-entry.sink) whole) end inv.part)

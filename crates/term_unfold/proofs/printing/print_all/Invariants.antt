@@ -1,4 +1,4 @@
-use Rattle.std.proofs.Common.{◌≡◌, ◌+◌, ◌*◌, ◌≤◌, length}
+use Rattle.std.proofs.Common.{◌≡◌, ◌+◌, ◌*◌, length}
 use Rattle.term_forms.specs.Seen.{element}
 use Rattle.term_unfold.specs.Inner.Rest.{rest}
 use Rattle.term_unfold.specs.Inner.Steps.{IsPart}
@@ -11,8 +11,7 @@ use Rattle.term_unfold.proofs.printing.print_all.Given as goal
 abbrev pub invariant-loop-entry : goal.invariant-loop-entry
 invariant-loop-entry g l = record {
   cells : l.path.cells ≡ l.fn.path.cells;
-  later : g.K.Sink.faults l.fn.sink ≤ g.K.Sink.faults l.sink;
-  part : IsPart (g.K.Sink.written l.fn.sink) (g.K.Sink.written l.sink)
+  part : IsPart (g.K.Sink.state l.fn.sink) (g.K.Sink.state l.sink)
       (show (leaf_text l.heap.enc l.heap.cells l.previews) (unfolding_of l.heap.cells (element l.fn.root)) l.fn.budget)
       (rest (leaf_text l.heap.enc l.heap.cells l.previews) l.heap.cells l.path.entries l.left);
 }

@@ -27,5 +27,5 @@ returns-clause-step g c =
     let no_entries : List Entry = [] in
     let none : length no_entries ≤ length heap = omega arith in
     let now : c.enter.new.path.entries ≡ entered_by o false [] = ap (λ (p : Entered). p.entries) c.enter.ensures ∙ ap (entered_by o false) c.requires.empty in
-    Steps-text _ _ _ _ whole own (rest leaf heap c.enter.new.path.entries) m c.put_root.result c.counted.result c.counted.ensures c.put_root.ensures
+    Steps-text whole own (rest leaf heap c.enter.new.path.entries) m c.put_root.result c.counted.result c.counted.ensures c.put_root.ensures
     (ap (show leaf (unfolding_of heap (element c.args.root.now))) count ∙ sym (append-nil _) ∙ show-opened leaf heap [] child o m none refl opens ∙ ap (λ es. own ++ rest leaf heap es m) (sym now))

@@ -1,7 +1,7 @@
 use Rattle.std.proofs.Common.{◌≡◌, None, sym, ◌∙◌, ap, subst}
 use Rattle.std.specs.Prelude.{is_some}
 use Rattle.std.proofs.lemmas.Result.{IfErr-weaker}
-use Rattle.dump_io.specs.Dumps.{used, ReadsAtMost}
+use Rattle.dump_io.specs.Dumps.{ReadsAtMost}
 use Rattle.section_index.specs.Index.{sections_in}
 use Rattle.section_rows.specs.Loading.{bodies_length, first_large, large_fault}
 use Rattle.audit_bodies.specs.Mailboxes.{audited_sections}
@@ -13,14 +13,14 @@ returns-in-Some-clause-fault g c =
     let d = g.D.Dumps in
     let sections = sections_in c.args.index.now in
     let same = bodies-found c.args.full sections c.in-Ok.places.mailboxes.items c.in-Ok.ensures.mailboxes in
-    AreRefused-large c.args.limits.now.section (audited_sections c.args.full sections) (used d.files d.now d.faults d.taken c.args.dumps.now c.args.dumps.now) _
+    AreRefused-large c.args.limits.now.section (audited_sections c.args.full sections) (d.state c.args.dumps.now) (d.state c.args.dumps.now) _
     (ap (large_fault c.args.limits.now.section) (sym same) ∙ sym c.in-Some.ensures)
 
 pub returns-clause-reads : goal.returns-clause-reads
 returns-clause-reads g c =
     let d = g.D.Dumps in
     let same = bodies-found c.args.full (sections_in c.args.index.now) c.in-Ok.places.mailboxes.items c.in-Ok.ensures.mailboxes in
-    subst (λ ss. ReadsAtMost (used d.files d.now d.faults d.taken c.args.dumps.now c.read_bodies.new.dumps) (bodies_length ss)) same c.read_bodies.ensures.reads
+    subst (λ ss. ReadsAtMost (d.state c.args.dumps.now) (d.state c.read_bodies.new.dumps) (bodies_length ss)) same c.read_bodies.ensures.reads
 
 -- none of the bodies is too large where they are read
 pub returns-clause-loaded : goal.returns-clause-loaded
@@ -39,7 +39,7 @@ returns-clause-fault g c =
     let same = bodies-found c.args.full (sections_in c.args.index.now) c.in-Ok.places.mailboxes.items c.in-Ok.ensures.mailboxes in
     let small : first_large limit bodies ≡ None = none-large limit bodies (ap (large_fault limit) (sym same) ∙ sym c.in_default-large_body.ensures) in
     IfErr-weaker c.read_bodies.result _ _
-    (λ fault is. AreRefused-small limit bodies (used d.files d.now d.faults d.taken c.args.dumps.now c.read_bodies.new.dumps) fault small is) c.read_bodies.ensures.fault
+    (λ fault is. AreRefused-small limit bodies (d.state c.args.dumps.now) (d.state c.read_bodies.new.dumps) fault small is) c.read_bodies.ensures.fault
 
 pub returns-clause-unread : goal.returns-clause-unread
 returns-clause-unread g c = λ large.

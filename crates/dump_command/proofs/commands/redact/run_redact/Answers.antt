@@ -1,5 +1,6 @@
 use Rattle.std.proofs.Common.{ap, refl}
 use Rattle.std.proofs.lemmas.Result.{err_from_is_err_and}
+use Rattle.dump_command.proofs.Reading.{ReadsAtMost-same}
 use Rattle.dump_command.proofs.Redacting.{Runs-redact}
 use Rattle.dump_command.proofs.Runs.{Runs-unopened}
 use Rattle.dump_command.proofs.commands.redact.run_redact.Goals as goal
@@ -7,11 +8,11 @@ use Rattle.dump_command.proofs.commands.redact.run_redact.Goals as goal
 pub returns-in_err-index : goal.returns-in_err-index
 returns-in_err-index g c =
     let p = err_from_is_err_and c.from_residual.result c.from_residual.ensures.1 in
-    rw (p.1, p.2) (Runs-unopened _ _ _ _ _ _ refl c.in_err-index.ensures refl)
+    rw (p.1, p.2) (Runs-unopened _ _ _ _ _ _ _ _ refl c.in_err-index.ensures refl)
 
 pub returns : goal.returns
 returns g c =
     let d = g.D.Dumps in
     let call = c.redact.ensures in
-    rw c.ended.ensures (Runs-redact d.files d.now d.faults d.taken c.args.dumps.now c.open.new.dumps c.redact.new.dumps _ _ c.in_ok-index.index _
-    c.in_ok-index.ensures call.reads call.unread (λ some. ap g.K.Sink.written (call.unwritten some)) c.redact.result call.writes call.fault call.loaded call.too_large)
+    rw c.ended.ensures (Runs-redact _ _ _ _ _ c.in_ok-index.index _ _ c.in_ok-index.ensures call.reads (λ some. ReadsAtMost-same d.state _ _ _ call.reads (call.unread some))
+    (λ some. ap (λ s. (g.K.Sink.state s).written) (call.unwritten some)) c.redact.result call.writes call.fault call.loaded call.too_large)

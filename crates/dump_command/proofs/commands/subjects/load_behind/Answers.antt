@@ -1,6 +1,5 @@
 use Rattle.std.proofs.Common.{sym, ◌∙◌}
 use Rattle.std.proofs.lemmas.Result.{err_from_is_err_and}
-use Rattle.dump_io.specs.Dumps.{used}
 use Rattle.dump_command.proofs.HeapLoads.{HoldsHeap-loaded, IsClear-judged, IsHeapless-heap, IsHeapless-judged, IsHeapless-large, IsSome-fault}
 use Rattle.dump_command.proofs.commands.subjects.load_behind.Goals as goal
 
@@ -8,13 +7,13 @@ pub returns-in_err-find_process-clause-heap : goal.returns-in_err-find_process-c
 returns-in_err-find_process-clause-heap g c = λ before is.
     let p = err_from_is_err_and c.from_residual.result c.from_residual.ensures.1 in
     let d = g.D.Dumps in
-    rw (p.1, p.2) (IsHeapless-judged c.args.pid.now before _ _ (used d.files d.now d.faults d.taken c.args.dumps.now c.args.dumps.now) _ c.in_err-find_process.ensures.judges)
+    rw (p.1, p.2) (IsHeapless-judged c.args.pid.now before _ _ (d.state c.args.dumps.now) (d.state c.args.dumps.now) _ c.in_err-find_process.ensures.judges)
 
 pub returns-in-Some-clause-heap : goal.returns-in-Some-clause-heap
 returns-in-Some-clause-heap g c = λ before is.
     let d = g.D.Dumps in
     rw c.from.ensures (IsHeapless-large c.args.pid.now before c.args.at.now.limits.now c.args.at.now.index.now
-    (used d.files d.now d.faults d.taken c.args.dumps.now c.args.dumps.now) c.in-Some.fault c.in_ok-find_process.ensures.judges (sym c.in-Some.is ∙ is))
+    (d.state c.args.dumps.now) (d.state c.args.dumps.now) c.in-Some.fault c.in_ok-find_process.ensures.judges (sym c.in-Some.is ∙ is))
 
 pub returns-in_err-load-clause-unread : goal.returns-in_err-load-clause-unread
 returns-in_err-load-clause-unread g c = λ before is some.
@@ -30,7 +29,7 @@ returns-in_err-load-clause-heap g c = λ before is.
     let read = c.in_err-load.ensures in
     let d = g.D.Dumps in
     rw (p.1, p.2) (IsHeapless-heap _ _ _ _ clear
-    (used d.files d.now d.faults d.taken c.args.dumps.now c.load.new.dumps) _ read.fault read.too_large read.answer)
+    (d.state c.args.dumps.now) (d.state c.load.new.dumps) _ read.fault read.too_large read.answer)
 
 pub returns-clause-unread : goal.returns-clause-unread
 returns-clause-unread g c = λ before is some.

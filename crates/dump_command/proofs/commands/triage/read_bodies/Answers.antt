@@ -1,6 +1,5 @@
 use Rattle.std.proofs.Common.{Some, ◌∙◌, ap, subst, arith}
 use Rattle.std.proofs.lemmas.Result.{err_from_is_err_and}
-use Rattle.dump_io.specs.Dumps.{used}
 use Rattle.dump_io.specs.Laws.Reads.{ReadsAtMost-then, ReadsAtMost-within}
 use Rattle.section_index.specs.Index.{sections_in}
 use Rattle.process_table.specs.Records.{record_sections}
@@ -21,7 +20,7 @@ returns-in_err-first-clause-fault g c =
     let limit = c.args.at.now.limits.now.section in
     let small = AreSmall-all limit c.args.at.now.index.now c.args.places c.requires.places c.requires.small in
     rw (p.1, p.2) (IsUnread-small limit (one_of (section_in c.args.at.now.index.now (Some 0)))
-    (used d.files d.now d.faults d.taken c.args.dumps.now c.read_found.new.dumps) (used d.files d.now d.faults d.taken c.args.dumps.now c.read_found.new.dumps) _ small.first (λ rose. rose) c.in_err-first.ensures.fault)
+    (d.state c.args.dumps.now) (d.state c.read_found.new.dumps) (d.state c.args.dumps.now) (d.state c.read_found.new.dumps) _ small.first (λ rose. rose) c.in_err-first.ensures.fault)
 
 pub returns-in_err-memory-clause-reads : goal.returns-in_err-memory-clause-reads
 returns-in_err-memory-clause-reads g c =
@@ -34,7 +33,7 @@ returns-in_err-memory-clause-fault g c =
     let limit = c.args.at.now.limits.now.section in
     let small = AreSmall-all limit c.args.at.now.index.now c.args.places c.requires.places c.requires.small in
     rw (p.1, p.2) (IsUnread-small limit (one_of (section_in c.args.at.now.index.now c.args.places.memory))
-    (used d.files d.now d.faults d.taken c.args.dumps.now c.read_found-2.new.dumps) (used d.files d.now d.faults d.taken c.read_found.new.dumps c.read_found-2.new.dumps) _ small.memory (λ rose. omega (arith, rose, c.in_ok-first.ensures.reads.later)) c.in_err-memory.ensures.fault)
+    (d.state c.args.dumps.now) (d.state c.read_found-2.new.dumps) (d.state c.read_found.new.dumps) (d.state c.read_found-2.new.dumps) _ small.memory (λ rose. omega (arith, rose, c.in_ok-first.ensures.reads.later)) c.in_err-memory.ensures.fault)
 
 pub returns-in_err-procs-clause-reads : goal.returns-in_err-procs-clause-reads
 returns-in_err-procs-clause-reads g c =
@@ -48,7 +47,7 @@ returns-in_err-procs-clause-fault g c =
     let limit = c.args.at.now.limits.now.section in
     let small = AreSmall-all limit c.args.at.now.index.now c.args.places c.requires.places c.requires.small in
     rw (p.1, p.2) (IsUnread-small limit (record_sections (sections_in c.args.at.now.index.now))
-    (used d.files d.now d.faults d.taken c.args.dumps.now c.read.new.dumps) (used d.files d.now d.faults d.taken c.read_found-2.new.dumps c.read.new.dumps) _ small.procs
+    (d.state c.args.dumps.now) (d.state c.read.new.dumps) (d.state c.read_found-2.new.dumps) (d.state c.read.new.dumps) _ small.procs
     (λ rose. omega (arith, rose, c.in_ok-first.ensures.reads.later, c.in_ok-memory.ensures.reads.later)) c.in_err-procs.ensures.fault)
 
 pub returns-in_err-tables-clause-reads : goal.returns-in_err-tables-clause-reads
@@ -64,7 +63,7 @@ returns-in_err-tables-clause-fault g c =
     let limit = c.args.at.now.limits.now.section in
     let small = AreSmall-all limit c.args.at.now.index.now c.args.places c.requires.places c.requires.small in
     rw (p.1, p.2) (IsUnread-small limit (listed c.args.places.tables.kind (sections_in c.args.at.now.index.now))
-    (used d.files d.now d.faults d.taken c.args.dumps.now c.read-2.new.dumps) (used d.files d.now d.faults d.taken c.read.new.dumps c.read-2.new.dumps) _ small.tables
+    (d.state c.args.dumps.now) (d.state c.read-2.new.dumps) (d.state c.read.new.dumps) (d.state c.read-2.new.dumps) _ small.tables
     (λ rose. omega (arith, rose, c.in_ok-first.ensures.reads.later, c.in_ok-memory.ensures.reads.later, c.in_ok-procs.ensures.reads.later)) c.in_err-tables.ensures.fault)
 
 pub returns-clause-reads : goal.returns-clause-reads
@@ -83,7 +82,7 @@ returns-clause-bodies g c =
     record {
       first = first.body;
       memory = subst (λ n. IsBodyIn n (memory_section (sections_in c.args.at.now.index.now)) c.in_ok-memory.memory.bytes.items) first.reads.same_now
-          (subst (λ s. IsBodyIn (d.now c.read_found.new.dumps) s c.in_ok-memory.memory.bytes.items) found.memory memory.body);
+          (subst (λ s. IsBodyIn (d.state c.read_found.new.dumps).now s c.in_ok-memory.memory.bytes.items) found.memory memory.body);
       procs = λ bytes same. procs.table bytes (memory.reads.same_now ∙ first.reads.same_now ∙ same);
       tables = λ bytes same. c.in_ok-tables.ensures.table bytes (procs.reads.same_now ∙ memory.reads.same_now ∙ first.reads.same_now ∙ same)
           ∙ ap (λ k. table_of k bytes) found.kind;

@@ -31,7 +31,7 @@ returns-clause-table g c = λ bytes same.
     let found = c.into_parts-places in
     let read = c.in_ok-fields in
     built_told index c.args.found found.result.0.items found.result.3 read.fields.rows c.requires.found found.ensures.places found.ensures.repeated read.ensures.places bytes
-    (sections_told (g.D.Dumps.now c.args.dumps.now) index bytes c.requires.over same) (read.ensures.rows bytes same)
+    (sections_told (g.D.Dumps.state c.args.dumps.now).now index bytes c.requires.over same) (read.ensures.rows bytes same)
 
 pub returns-clause-over : goal.returns-clause-over
 returns-clause-over g c =

@@ -7,5 +7,5 @@ returns-clause-reads g c =
     let d = g.D.Dumps in
     let t = c.args.self.now in
     let read = c.load.ensures in
-    rw c.or_stop.ensures (ReadsFor-audit t.file.now t.limit t.full _ c.args.at.now.index.now _ _
-    (Loads-told d.files d.now d.faults d.taken _ _ _ _ _ read.reads read.unread read.loaded read.fault) read.table read.counts)
+    rw c.or_stop.ensures (ReadsFor-audit t.file.now t.limit t.full _ c.args.at.now.index.now _ _ _
+    (Loads-told d.state _ _ _ _ _ read.reads read.unread read.loaded read.fault) read.table read.counts)

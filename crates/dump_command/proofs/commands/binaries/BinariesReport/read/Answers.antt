@@ -1,6 +1,5 @@
 use Rattle.std.proofs.Common.{refl, ◌∙◌, arith}
 use Rattle.std.proofs.lemmas.Result.{err_from_is_err_and}
-use Rattle.dump_io.specs.Dumps.{used}
 use Rattle.dump_io.specs.Laws.Reads.{ReadsAtMost-then}
 use Rattle.dump_command.proofs.HolderLoads.{binaries-told, fronts-told, none-listed, HearsHeaps-binaries, IsHalted-holders, IsHalted-processes, Takes-heard}
 use Rattle.dump_command.proofs.Reading.{HasRead-listed, ReadsAtMost-same}
@@ -11,8 +10,8 @@ returns-in_err-procs-clause-reads g c =
     let d = g.D.Dumps in
     let p = err_from_is_err_and c.from_residual.result c.from_residual.ensures.1 in
     let read = c.in_err-procs.ensures in
-    rw (p.1, p.2) (IsHalted-processes _ _ _ _ (HearsHeaps-binaries c.args.self.now.file.now _ _) _ _ read.reads
-    (λ some. ReadsAtMost-same d.files d.now d.faults d.taken _ _ _ read.reads (read.unread some)) read.fault)
+    rw (p.1, p.2) (IsHalted-processes _ _ _ _ (HearsHeaps-binaries c.args.self.now.file.now _ _) _ _ _ read.reads
+    (λ some. ReadsAtMost-same d.state _ _ _ read.reads (read.unread some)) read.fault)
 
 pub returns-in_err-found-clause-reads : goal.returns-in_err-found-clause-reads
 returns-in_err-found-clause-reads g c =
@@ -20,8 +19,8 @@ returns-in_err-found-clause-reads g c =
     let p = err_from_is_err_and c.from_residual-in_err-found.result c.from_residual-in_err-found.ensures.1 in
     let read = c.in_ok-procs.ensures in
     let heard = c.in_err-found.ensures in
-    rw (p.1, p.2) (IsHalted-holders _ _ _ _ (used d.files d.now d.faults d.taken c.load.new.dumps c.binary_use.new.dumps) _
-    (Takes-heard _ _ _ _ (HearsHeaps-binaries c.args.self.now.file.now _ _) _ _ _ read.loaded (ReadsAtMost-then read.reads heard.reads) (omega arith)
+    rw (p.1, p.2) (IsHalted-holders _ _ _ _ _ (d.state c.load.new.dumps) (d.state c.binary_use.new.dumps) _
+    (Takes-heard _ _ _ _ (HearsHeaps-binaries c.args.self.now.file.now _ _) _ _ _ _ read.loaded (ReadsAtMost-then read.reads heard.reads) (omega arith)
     (λ bytes all. fronts-told bytes _ _ all.of (read.table bytes all.opened)))
     heard.fault (λ rose. omega (arith, rose, read.reads.later)))
 
@@ -30,7 +29,7 @@ returns-clause-reads g c =
     let read = c.in_ok-procs.ensures in
     let heard = c.in_ok-found.ensures in
     let of = HearsHeaps-binaries c.args.self.now.file.now c.args.at.now.limits.now c.args.at.now.index.now in
-    HasRead-listed _ _ _ _ _ (Takes-heard _ _ _ _ of _ _ _ read.loaded (ReadsAtMost-then read.reads heard.reads) (omega arith)
+    HasRead-listed _ _ _ _ _ _ (Takes-heard _ _ _ _ of _ _ _ _ read.loaded (ReadsAtMost-then read.reads heard.reads) (omega arith)
     (λ bytes all. fronts-told bytes _ _ all.of (read.table bytes all.opened)))
     (none-listed _ _ _ _ of read.loaded)
     (λ bytes all. (

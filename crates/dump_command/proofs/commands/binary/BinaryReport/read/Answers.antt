@@ -15,7 +15,7 @@ returns-in-Ok-clause-reads g c =
     let cmd = binary t.file.now t.addr in
     let index = c.args.at.now.index.now in
     let listed = listed-binary t.file.now t.addr c.args.at.now.limits.now index read.loaded in
-    HasRead-listed cmd _ index _ _ (Takes-listed cmd _ index _ _ listed read.reads (λ bytes all. few-binary t.file.now t.addr _ index _ bytes all)) listed
+    HasRead-listed cmd _ index _ _ _ (Takes-listed cmd _ index _ _ _ listed read.reads (λ bytes all. few-binary t.file.now t.addr _ index _ bytes all)) listed
     (λ bytes all.
     let known = sym (bytes-index bytes index t.addr all.of) ∙ read.bytes bytes all.opened in (
       ap (bad_cause (binary_at t.addr (sections bytes))) known,
@@ -29,11 +29,11 @@ returns-in-Err-clause-reads g c =
     let t = c.args.self.now in
     let read = c.in-Err.ensures in
     let index = c.args.at.now.index.now in
-    rw c.stop_of.ensures (IsHalted-binary t.file.now t.addr _ index _ c.in-Err.fault
+    rw c.stop_of.ensures (IsHalted-binary t.file.now t.addr _ index _ _ c.in-Err.fault
     (record {
       bytes = _;
       reads = read.reads;
       few = λ bytes all. few-binary t.file.now t.addr _ index _ bytes all;
-      unread = λ some. ReadsAtMost-same d.files d.now d.faults d.taken _ _ _ read.reads (unread-binary t.file.now t.addr c.args.at.now.limits.now index read.unread some);
+      unread = λ some. ReadsAtMost-same d.state _ _ _ read.reads (unread-binary t.file.now t.addr c.args.at.now.limits.now index read.unread some);
     })
     read.fault read.refused read.bad)

@@ -7,5 +7,5 @@ returns-clause-reads g c =
     let d = g.D.Dumps in
     let t = c.args.self.now in
     let read = c.load_heap.ensures in
-    reads-cells t.file.now t.pid.now _ c.args.at.now.index.now _ _ read.reads
-    (λ some. ReadsAtMost-same d.files d.now d.faults d.taken _ _ _ read.reads (read.unread some)) read.heap
+    reads-cells t.file.now t.pid.now _ c.args.at.now.index.now _ _ _ read.reads
+    (λ some. ReadsAtMost-same d.state _ _ _ read.reads (read.unread some)) read.heap

@@ -10,11 +10,11 @@ returns-in_err-heap-clause-reads g c =
     let p = err_from_is_err_and c.from_residual.result c.from_residual.ensures.1 in
     let t = c.args.self.now in
     let read = c.in_err-heap.ensures in
-    rw (p.1, p.2) (IsHalted-heap _ _ _ _ _ (IsOfHeap-ext t.file.now t.pid.now t.addr _ _) _ _ read.reads
-    (λ some. ReadsAtMost-same d.files d.now d.faults d.taken _ _ _ read.reads (read.unread some)) read.heap)
+    rw (p.1, p.2) (IsHalted-heap _ _ _ _ _ (IsOfHeap-ext t.file.now t.pid.now t.addr _ _) _ _ _ read.reads
+    (λ some. ReadsAtMost-same d.state _ _ _ read.reads (read.unread some)) read.heap)
 
 pub returns-clause-reads : goal.returns-clause-reads
 returns-clause-reads g c =
     let t = c.args.self.now in
     let read = c.in_ok-heap.ensures in
-    reads-ext t.file.now t.pid.now t.addr _ c.args.at.now.index.now _ _ _ read.reads read.heap c.read_external.ensures.judges c.read_external.ensures.bytes
+    reads-ext t.file.now t.pid.now t.addr _ c.args.at.now.index.now _ _ _ _ read.reads read.heap c.read_external.ensures.judges c.read_external.ensures.bytes

@@ -1,6 +1,5 @@
 use Rattle.std.proofs.Common.{refl, ◌∙◌, arith, rules}
 use Rattle.std.proofs.lemmas.Result.{err_from_is_err_and}
-use Rattle.dump_io.specs.Dumps.{used}
 use Rattle.dump_io.specs.Laws.Reads.{ReadsAtMost-then}
 use Rattle.command_words.specs.Command.{holders}
 use Rattle.dump_command.proofs.HolderLoads.{heaps-told, holders-told, none-listed, HearsHeaps-holders, IsHalted-holders, IsHalted-processes, Takes-heard}
@@ -11,7 +10,7 @@ pub returns-in_err-find_binary-clause-reads : goal.returns-in_err-find_binary-cl
 returns-in_err-find_binary-clause-reads g c =
     let p = err_from_is_err_and c.from_residual.result c.from_residual.ensures.1 in
     let t = c.args.self.now in
-    rw (p.1, p.2) (IsHalted-subject (holders t.file.now t.addr) _ c.args.at.now.index.now _ (Unit {0}) _ (search rules) c.in_err-find_binary.ensures)
+    rw (p.1, p.2) (IsHalted-subject (holders t.file.now t.addr) _ c.args.at.now.index.now _ _ (Unit {0}) _ (search rules) c.in_err-find_binary.ensures)
 
 pub returns-in_err-procs-clause-reads : goal.returns-in_err-procs-clause-reads
 returns-in_err-procs-clause-reads g c =
@@ -19,8 +18,8 @@ returns-in_err-procs-clause-reads g c =
     let p = err_from_is_err_and c.from_residual-in_err-procs.result c.from_residual-in_err-procs.ensures.1 in
     let t = c.args.self.now in
     let read = c.in_err-procs.ensures in
-    rw (p.1, p.2) (IsHalted-processes _ _ _ _ (HearsHeaps-holders t.file.now t.addr _ _ c.in_ok-find_binary.ensures) _ _ read.reads
-    (λ some. ReadsAtMost-same d.files d.now d.faults d.taken _ _ _ read.reads (read.unread some)) read.fault)
+    rw (p.1, p.2) (IsHalted-processes _ _ _ _ (HearsHeaps-holders t.file.now t.addr _ _ c.in_ok-find_binary.ensures) _ _ _ read.reads
+    (λ some. ReadsAtMost-same d.state _ _ _ read.reads (read.unread some)) read.fault)
 
 pub returns-in_err-held-clause-reads : goal.returns-in_err-held-clause-reads
 returns-in_err-held-clause-reads g c =
@@ -29,8 +28,8 @@ returns-in_err-held-clause-reads g c =
     let t = c.args.self.now in
     let read = c.in_ok-procs.ensures in
     let heard = c.in_err-held.ensures in
-    rw (p.1, p.2) (IsHalted-holders _ _ _ _ (used d.files d.now d.faults d.taken c.load.new.dumps c.holders.new.dumps) _
-    (Takes-heard _ _ _ _ (HearsHeaps-holders t.file.now t.addr _ _ c.in_ok-find_binary.ensures) _ _ _ read.loaded (ReadsAtMost-then read.reads heard.reads) (omega arith)
+    rw (p.1, p.2) (IsHalted-holders _ _ _ _ _ (d.state c.load.new.dumps) (d.state c.holders.new.dumps) _
+    (Takes-heard _ _ _ _ (HearsHeaps-holders t.file.now t.addr _ _ c.in_ok-find_binary.ensures) _ _ _ _ read.loaded (ReadsAtMost-then read.reads heard.reads) (omega arith)
     (λ bytes all. heaps-told bytes _ _ all.of (read.table bytes all.opened)))
     heard.fault (λ rose. omega (arith, rose, read.reads.later)))
 
@@ -40,7 +39,7 @@ returns-clause-reads g c =
     let read = c.in_ok-procs.ensures in
     let heard = c.in_ok-held.ensures in
     let of = HearsHeaps-holders t.file.now t.addr c.args.at.now.limits.now c.args.at.now.index.now c.in_ok-find_binary.ensures in
-    HasRead-listed _ _ _ _ _ (Takes-heard _ _ _ _ of _ _ _ read.loaded (ReadsAtMost-then read.reads heard.reads) (omega arith)
+    HasRead-listed _ _ _ _ _ _ (Takes-heard _ _ _ _ of _ _ _ _ read.loaded (ReadsAtMost-then read.reads heard.reads) (omega arith)
     (λ bytes all. heaps-told bytes _ _ all.of (read.table bytes all.opened)))
     (none-listed _ _ _ _ of read.loaded)
     (λ bytes all. (

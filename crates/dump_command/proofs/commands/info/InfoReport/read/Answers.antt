@@ -12,6 +12,6 @@ returns-clause-reads g c =
     let file = c.args.self.now.file.now in
     let index = c.args.at.now.index.now in
     let read = c.read_found.ensures in
-    rw c.or_stop.ensures (ReadsFor-found (info file) _ index _ (record { there = refl; held = λ _. refl; taken = λ _. refl }) (section_in index (Some 0)) refl (info_text index) _
-    (Loads-found d.files d.now d.faults d.taken _ _ (section_in index (Some 0)) _ _ read.reads read.unread read.loaded read.fault) read.body read.base
+    rw c.or_stop.ensures (ReadsFor-found (info file) _ index _ _ (record { there = refl; held = λ _. refl; taken = λ _. refl }) (section_in index (Some 0)) refl (info_text index) _
+    (Loads-found d.state _ _ (section_in index (Some 0)) _ _ read.reads read.unread read.loaded read.fault) read.body read.base
     (λ body bytes all base items. (info_text-report file bytes index body.bytes.items all.of items, refl)))

@@ -11,6 +11,6 @@ returns-clause-reads g c =
     let d = g.D.Dumps in
     let index = c.args.at.now.index.now in
     let read = c.read_found.ensures in
-    rw c.or_stop.ensures (ReadsFor-fields (memory c.args.self.now.file.now) _ index _ (record { there = refl; held = λ _. refl; taken = λ _. refl }) _ memory_section _
+    rw c.or_stop.ensures (ReadsFor-fields (memory c.args.self.now.file.now) _ index _ _ (record { there = refl; held = λ _. refl; taken = λ _. refl }) _ memory_section _
     (section-found (λ s. has_tag (codes "memory") s.text) index _ (sym c.first_tag-place.ensures.place)) (λ _. refl) (λ _. (refl, refl))
-    (Loads-found d.files d.now d.faults d.taken _ _ _ _ _ read.reads read.unread read.loaded read.fault) read.body read.base)
+    (Loads-found d.state _ _ _ _ _ read.reads read.unread read.loaded read.fault) read.body read.base)

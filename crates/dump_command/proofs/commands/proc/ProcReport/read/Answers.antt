@@ -10,7 +10,7 @@ use Rattle.dump_command.proofs.commands.proc.ProcReport.read.Goals as goal
 pub returns-in_err-place-clause-reads : goal.returns-in_err-place-clause-reads
 returns-in_err-place-clause-reads g c =
     let p = err_from_is_err_and c.from_residual.result c.from_residual.ensures.1 in
-    rw (p.1, p.2) (IsHalted-subject (proc c.args.self.now.file.now c.args.self.now.pid.now) _ c.args.at.now.index.now _ ℕ _ (search rules) c.in_err-place.ensures.judges)
+    rw (p.1, p.2) (IsHalted-subject (proc c.args.self.now.file.now c.args.self.now.pid.now) _ c.args.at.now.index.now _ _ ℕ _ (search rules) c.in_err-place.ensures.judges)
 
 pub returns-clause-reads : goal.returns-clause-reads
 returns-clause-reads g c =
@@ -20,6 +20,6 @@ returns-clause-reads g c =
     let place = c.in_ok-place.ensures in
     let found = section_in index (Some c.in_ok-place.place) in
     let read = c.read_found.ensures in
-    rw c.or_stop.ensures (ReadsFor-fields (proc c.args.self.now.file.now pid) _ index _ (record { there = place.judges; held = λ _. refl; taken = λ _. refl }) found
+    rw c.or_stop.ensures (ReadsFor-fields (proc c.args.self.now.file.now pid) _ index _ _ (record { there = place.judges; held = λ _. refl; taken = λ _. refl }) found
     (process_section pid) _ (sym place.there) (λ _. refl) (λ _. (refl, refl))
-    (Loads-found d.files d.now d.faults d.taken _ _ found _ _ read.reads read.unread read.loaded read.fault) read.body read.base)
+    (Loads-found d.state _ _ found _ _ read.reads read.unread read.loaded read.fault) read.body read.base)

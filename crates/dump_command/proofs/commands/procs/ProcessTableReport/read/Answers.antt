@@ -9,5 +9,5 @@ pub returns-clause-reads : goal.returns-clause-reads
 returns-clause-reads g c =
     let d = g.D.Dumps in
     let read = c.load.ensures in
-    rw c.or_stop.ensures (ReadsFor-whole (procs c.args.self.now.file.now) _ _ _ procs_report process_table _ (record { there = refl; held = λ _. refl; taken = λ _. refl })
-    (Loads-told d.files d.now d.faults d.taken _ _ _ _ _ read.reads read.unread read.loaded read.fault) read.table (λ _. (refl, refl)))
+    rw c.or_stop.ensures (ReadsFor-whole (procs c.args.self.now.file.now) _ _ _ _ procs_report process_table _ (record { there = refl; held = λ _. refl; taken = λ _. refl })
+    (Loads-told d.state _ _ _ _ _ read.reads read.unread read.loaded read.fault) read.table (λ _. (refl, refl)))

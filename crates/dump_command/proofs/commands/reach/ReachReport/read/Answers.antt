@@ -1,6 +1,5 @@
 use Rattle.std.proofs.Common.{refl, ◌∙◌, subst, arith}
 use Rattle.std.proofs.lemmas.Result.{err_from_is_err_and}
-use Rattle.dump_io.specs.Dumps.{used}
 use Rattle.dump_io.specs.Laws.Reads.{ReadsAtMost-then}
 use Rattle.dump_command.specs.Inner.ReachLoads.{roots_at, HoldsRoots}
 use Rattle.dump_command.proofs.HeapLoads.{none-listed, IsHalted-heap, Takes-all}
@@ -16,8 +15,8 @@ returns-in_err-heap-clause-reads g c =
     let index = c.args.at.now.index.now in
     let before = roots_at index c.root_places-places.result in
     let read = c.in_err-heap.ensures in
-    rw (p.1, p.2) (IsHalted-heap _ _ _ _ _ (IsOfHeap-reach t.file.now t.pid.now _ index _ c.root_places-places.ensures.sections) _ _ read.reads
-    (λ some. ReadsAtMost-same d.files d.now d.faults d.taken _ _ _ read.reads (read.unread before c.large_roots.ensures some)) (read.heap before c.large_roots.ensures))
+    rw (p.1, p.2) (IsHalted-heap _ _ _ _ _ (IsOfHeap-reach t.file.now t.pid.now _ index _ c.root_places-places.ensures.sections) _ _ _ read.reads
+    (λ some. ReadsAtMost-same d.state _ _ _ read.reads (read.unread before c.large_roots.ensures some)) (read.heap before c.large_roots.ensures))
 
 pub returns-in_err-roots-clause-reads : goal.returns-in_err-roots-clause-reads
 returns-in_err-roots-clause-reads g c =
@@ -30,8 +29,8 @@ returns-in_err-roots-clause-reads g c =
     let holds = read.heap before c.large_roots.ensures in
     let last = c.in_err-roots.ensures in
     let of = IsOfHeap-reach t.file.now t.pid.now c.args.at.now.limits.now index _ c.root_places-places.ensures.sections in
-    rw (p.1, p.2) (IsHalted-roots _ _ before _ _ _ _ _ (used d.files d.now d.faults d.taken c.load_behind.new.dumps c.read_roots.new.dumps) _
-    (Takes-all _ _ _ _ _ of _ _ holds _ (ReadsAtMost-then read.reads last.reads) (omega arith)) holds last.fault (λ rose. omega (arith, rose, read.reads.later)))
+    rw (p.1, p.2) (IsHalted-roots _ _ before _ _ _ _ _ _ (d.state c.load_behind.new.dumps) (d.state c.read_roots.new.dumps) _
+    (Takes-all _ _ _ _ _ of _ _ _ holds _ (ReadsAtMost-then read.reads last.reads) (omega arith)) holds last.fault (λ rose. omega (arith, rose, read.reads.later)))
 
 pub returns-clause-reads : goal.returns-clause-reads
 returns-clause-reads g c =
@@ -43,7 +42,7 @@ returns-clause-reads g c =
     let holds = read.heap before c.large_roots.ensures in
     let last = c.in_ok-roots.ensures in
     let of = IsOfHeap-reach t.file.now t.pid.now c.args.at.now.limits.now index _ c.root_places-places.ensures.sections in
-    HasRead-listed _ _ _ _ _ (Takes-all _ _ _ _ _ of _ _ holds _ (ReadsAtMost-then read.reads last.reads) (omega arith)) (none-listed _ _ _ _ _ of _ _ holds)
+    HasRead-listed _ _ _ _ _ _ (Takes-all _ _ _ _ _ of _ _ _ holds _ (ReadsAtMost-then read.reads last.reads) (omega arith)) (none-listed _ _ _ _ _ of _ _ holds)
     (λ bytes all. (
       holds.sparse bytes all,
       reach-told t.pid.now _ index _ bytes all before places _ holds c.root_places-places.ensures.sections

@@ -1,6 +1,6 @@
 use Rattle.std.proofs.Common.{refl, ◌∙◌, subst, arith}
 use Rattle.std.proofs.lemmas.Result.{err_from_is_err_and}
-use Rattle.dump_io.specs.Dumps.{told, used}
+use Rattle.dump_io.specs.Dumps.{told}
 use Rattle.dump_io.specs.Laws.Reads.{ReadsAtMost-then}
 use Rattle.heap_cells.specs.Loading.{section_in, IsBodyIn}
 use Rattle.dump_command.proofs.FoundLoads.{bytes-one}
@@ -15,8 +15,8 @@ returns-in_err-heap-clause-reads g c =
     let t = c.args.self.now in
     let read = c.in_err-heap.ensures in
     let here = roots-found t.kind t.pid.now c.tag.result.now c.args.at.now.index.now _ c.tag.ensures c.first-place.ensures.place in
-    rw (p.1, p.2) (IsHalted-heap _ _ _ _ _ (IsOfHeap-roots t.kind t.file.now t.pid.now t.nodes t.marked _ _ _ here) _ _ read.reads
-    (λ some. ReadsAtMost-same d.files d.now d.faults d.taken _ _ _ read.reads (read.unread some)) read.heap)
+    rw (p.1, p.2) (IsHalted-heap _ _ _ _ _ (IsOfHeap-roots t.kind t.file.now t.pid.now t.nodes t.marked _ _ _ here) _ _ _ read.reads
+    (λ some. ReadsAtMost-same d.state _ _ _ read.reads (read.unread some)) read.heap)
 
 pub returns-in_err-previews-clause-reads : goal.returns-in_err-previews-clause-reads
 returns-in_err-previews-clause-reads g c =
@@ -27,8 +27,8 @@ returns-in_err-previews-clause-reads g c =
     let shown = c.in_err-previews.ensures in
     let here = roots-found t.kind t.pid.now c.tag.result.now c.args.at.now.index.now _ c.tag.ensures c.first-place.ensures.place in
     let of = IsOfHeap-roots t.kind t.file.now t.pid.now t.nodes t.marked c.args.at.now.limits.now _ _ here in
-    rw (p.1, p.2) (IsHalted-previews _ _ _ _ (used d.files d.now d.faults d.taken c.load_heap.new.dumps c.load.new.dumps) _
-    (Takes-previews _ _ _ _ _ of _ _ read.heap _ (λ bytes. omega arith) (ReadsAtMost-then read.reads shown.reads) (omega arith))
+    rw (p.1, p.2) (IsHalted-previews _ _ _ _ _ (d.state c.load_heap.new.dumps) (d.state c.load.new.dumps) _
+    (Takes-previews _ _ _ _ _ of _ _ _ read.heap _ (λ bytes. omega arith) (ReadsAtMost-then read.reads shown.reads) (omega arith))
     shown.fault (λ rose. omega (arith, rose, read.reads.later)))
 
 pub returns-in_err-body-clause-reads : goal.returns-in_err-body-clause-reads
@@ -41,8 +41,8 @@ returns-in_err-body-clause-reads g c =
     let last = c.in_err-body.ensures in
     let here = roots-found t.kind t.pid.now c.tag.result.now c.args.at.now.index.now _ c.tag.ensures c.first-place.ensures.place in
     let of = IsOfHeap-roots t.kind t.file.now t.pid.now t.nodes t.marked c.args.at.now.limits.now _ _ here in
-    rw (p.1, p.2) (IsHalted-last _ _ _ _ _ _ _ _ (used d.files d.now d.faults d.taken c.load.new.dumps c.read_found.new.dumps) _
-    (Takes-previews _ _ _ _ _ of _ _ read.heap _ (λ bytes. omega arith) (ReadsAtMost-then (ReadsAtMost-then read.reads shown.reads) last.reads)
+    rw (p.1, p.2) (IsHalted-last _ _ _ _ _ _ _ _ _ (d.state c.load.new.dumps) (d.state c.read_found.new.dumps) _
+    (Takes-previews _ _ _ _ _ of _ _ _ read.heap _ (λ bytes. omega arith) (ReadsAtMost-then (ReadsAtMost-then read.reads shown.reads) last.reads)
     (omega (arith, bytes-one (section_in c.args.at.now.index.now c.first-place.result)))) read.heap last.fault (λ rose. omega (arith, rose, read.reads.later, shown.reads.later)))
 
 pub returns-clause-reads : goal.returns-clause-reads
@@ -55,7 +55,7 @@ returns-clause-reads g c =
     let found = section_in c.args.at.now.index.now c.first-place.result in
     let here = roots-found t.kind t.pid.now c.tag.result.now c.args.at.now.index.now _ c.tag.ensures c.first-place.ensures.place in
     let of = IsOfHeap-roots t.kind t.file.now t.pid.now t.nodes t.marked c.args.at.now.limits.now _ _ here in
-    HasRead-listed _ _ _ _ _ (Takes-previews _ _ _ _ _ of _ _ read.heap _ (λ bytes. omega arith)
+    HasRead-listed _ _ _ _ _ _ (Takes-previews _ _ _ _ _ of _ _ _ read.heap _ (λ bytes. omega arith)
     (ReadsAtMost-then (ReadsAtMost-then read.reads shown.reads) last.reads) (omega (arith, bytes-one found))) (none-listed _ _ _ _ _ of _ _ read.heap)
     (λ bytes all.
     let then = read.reads.same_now ∙ all.opened in

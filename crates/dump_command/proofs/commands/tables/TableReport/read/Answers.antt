@@ -10,5 +10,5 @@ returns-clause-reads g c =
     let d = g.D.Dumps in
     let t = c.args.self.now in
     let read = c.load.ensures in
-    rw c.or_stop.ensures (ReadsFor-whole (table t.kind t.file.now) _ _ _ rows_report (table_of t.kind) _ (record { there = refl; held = λ _. refl; taken = λ _. refl })
-    (Loads-told d.files d.now d.faults d.taken _ _ _ _ _ read.reads read.unread read.loaded read.fault) read.table (λ _. (refl, refl)))
+    rw c.or_stop.ensures (ReadsFor-whole (table t.kind t.file.now) _ _ _ _ rows_report (table_of t.kind) _ (record { there = refl; held = λ _. refl; taken = λ _. refl })
+    (Loads-told d.state _ _ _ _ _ read.reads read.unread read.loaded read.fault) read.table (λ _. (refl, refl)))

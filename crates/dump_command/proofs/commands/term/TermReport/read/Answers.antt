@@ -1,6 +1,5 @@
 use Rattle.std.proofs.Common.{◌∙◌, refl, arith}
 use Rattle.std.proofs.lemmas.Result.{err_from_is_err_and}
-use Rattle.dump_io.specs.Dumps.{used}
 use Rattle.dump_io.specs.Laws.Reads.{ReadsAtMost-then}
 use Rattle.heap_cells.specs.HeapMap.{number_at}
 use Rattle.dump_command.specs.Terms.{address_cause}
@@ -14,8 +13,8 @@ returns-in_err-heap-clause-reads g c =
     let p = err_from_is_err_and c.from_residual.result c.from_residual.ensures.1 in
     let t = c.args.self.now in
     let read = c.in_err-heap.ensures in
-    rw (p.1, p.2) (IsHalted-heap _ _ _ _ _ (IsOfHeap-term t.file.now t.pid.now t.addr t.nodes t.marked _ _) _ _ read.reads
-    (λ some. ReadsAtMost-same d.files d.now d.faults d.taken _ _ _ read.reads (read.unread some)) read.heap)
+    rw (p.1, p.2) (IsHalted-heap _ _ _ _ _ (IsOfHeap-term t.file.now t.pid.now t.addr t.nodes t.marked _ _) _ _ _ read.reads
+    (λ some. ReadsAtMost-same d.state _ _ _ read.reads (read.unread some)) read.heap)
 
 pub returns-in_err-find_cell-clause-reads : goal.returns-in_err-find_cell-clause-reads
 returns-in_err-find_cell-clause-reads g c =
@@ -24,7 +23,7 @@ returns-in_err-find_cell-clause-reads g c =
     let read = c.in_ok-heap.ensures in
     let heap = c.in_ok-heap.heap in
     let of = IsOfHeap-term t.file.now t.pid.now t.addr t.nodes t.marked c.args.at.now.limits.now c.args.at.now.index.now in
-    rw (p.1, p.2) (IsHalted-held _ _ _ _ (Unit {0}) (address_cause t.addr (number_at heap.cells t.addr)) _ (Takes-heap _ _ _ _ _ of _ _ read.heap read.reads)
+    rw (p.1, p.2) (IsHalted-held _ _ _ _ _ (Unit {0}) (address_cause t.addr (number_at heap.cells t.addr)) _ (Takes-heap _ _ _ _ _ of _ _ _ read.heap read.reads)
     (none-listed _ _ _ _ _ of _ _ read.heap) (λ bytes all. term-held _ _ _ _ _ _ read.heap bytes all t.file.now t.addr t.nodes t.marked) c.in_err-find_cell.ensures)
 
 pub returns-in_err-previews-clause-reads : goal.returns-in_err-previews-clause-reads
@@ -35,8 +34,8 @@ returns-in_err-previews-clause-reads g c =
     let read = c.in_ok-heap.ensures in
     let shown = c.in_err-previews.ensures in
     let of = IsOfHeap-term t.file.now t.pid.now t.addr t.nodes t.marked c.args.at.now.limits.now c.args.at.now.index.now in
-    rw (p.1, p.2) (IsHalted-previews _ _ _ _ (used d.files d.now d.faults d.taken c.load_heap.new.dumps c.load.new.dumps) _
-    (Takes-previews _ _ _ _ _ of _ _ read.heap _ (λ bytes. omega arith) (ReadsAtMost-then read.reads shown.reads) (omega arith))
+    rw (p.1, p.2) (IsHalted-previews _ _ _ _ _ (d.state c.load_heap.new.dumps) (d.state c.load.new.dumps) _
+    (Takes-previews _ _ _ _ _ of _ _ _ read.heap _ (λ bytes. omega arith) (ReadsAtMost-then read.reads shown.reads) (omega arith))
     shown.fault (λ rose. omega (arith, rose, read.reads.later)))
 
 pub returns-clause-reads : goal.returns-clause-reads
@@ -45,7 +44,7 @@ returns-clause-reads g c =
     let read = c.in_ok-heap.ensures in
     let shown = c.in_ok-previews.ensures in
     let of = IsOfHeap-term t.file.now t.pid.now t.addr t.nodes t.marked c.args.at.now.limits.now c.args.at.now.index.now in
-    HasRead-listed _ _ _ _ _ (Takes-previews _ _ _ _ _ of _ _ read.heap _ (λ bytes. omega arith) (ReadsAtMost-then read.reads shown.reads) (omega arith))
+    HasRead-listed _ _ _ _ _ _ (Takes-previews _ _ _ _ _ of _ _ _ read.heap _ (λ bytes. omega arith) (ReadsAtMost-then read.reads shown.reads) (omega arith))
     (none-listed _ _ _ _ _ of _ _ read.heap)
     (λ bytes all. (
       term-held _ _ _ _ _ _ read.heap bytes all t.file.now t.addr t.nodes t.marked ∙ c.in_ok-find_cell.ensures,
