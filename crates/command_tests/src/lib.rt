@@ -1,7 +1,7 @@
-//! Tests of the crates of which the run of a command is made: its words, the bodies of an audit, reports and their JSON,
-//! redacted dumps and trials.
+//! Tests of the crates that make up the run of a command: its words, the
+//! bodies of an audit, reports and their JSON, redacted dumps and trials.
 //!
-//! They stand apart from what they test, whose proof would else be made once more with them.
+//! They are separate from what they test, which would otherwise be proved once more together with them.
 #![tactic(auto)]
 
 #[cfg(test)]

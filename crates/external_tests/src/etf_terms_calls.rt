@@ -12,7 +12,7 @@ fn place(alloc: Global, bytes: &[u8]) -> Option<u64> {
     }
 }
 
-// The bytes are a term with this text, and each of their fronts begins one.
+// The bytes are a term with this text, and each of their prefixes begins one.
 fn reads(rt: &impl Abort, alloc: Global, bytes: &[u8], text: &str) -> Result<(), Fail> {
     let mut ext = Ext::read(alloc, bytes).ok().ok_or("no term")?;
     let mut sink = MemSink::new(alloc, 3, Vec::new(alloc));
@@ -201,7 +201,7 @@ fn what_is_no_term_has_its_place(rt: HostRuntime) -> Result<(), Fail> {
     Ok(())
 }
 
-// So many times a front, a middle, and so many times a back.
+// A front, this many times, a middle, and a back, as many times.
 fn nested(
     alloc: Global,
     levels: usize,
@@ -221,7 +221,7 @@ fn nested(
     Ok(bytes)
 }
 
-// How long the text is of the term that the bytes are.
+// How long the text of the term with these bytes is.
 fn text_length(alloc: Global, bytes: &[u8]) -> Result<usize, Fail> {
     let mut ext = Ext::read(alloc, bytes).ok().ok_or("no term")?;
     let mut sink = MemSink::new(alloc, 0, Vec::new(alloc));

@@ -1,6 +1,6 @@
 //! Tests of external terms.
 //!
-//! They stand apart from what they test, whose proof would else be made once more with them.
+//! They are separate from what they test, which would otherwise be proved once more together with them.
 #![tactic(auto)]
 
 #[cfg(test)]

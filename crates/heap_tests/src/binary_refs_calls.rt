@@ -8,18 +8,13 @@ use section_index::build;
 use std::alloc::{AllocError, Global};
 use std::test::Fail;
 
-// A dump of this version with these sections, over a device that fails these calls.
-fn device(
-    alloc: Global,
-    version: &str,
-    sections: &str,
-    fails: &[u64],
-) -> Result<MemDumps, AllocError> {
+// A dump of this version with these sections, on a device.
+fn device(alloc: Global, version: &str, sections: &str) -> Result<MemDumps, AllocError> {
     let text = format!(in alloc; "=erl_crash_dump:{version}\n{sections}")?;
-    MemDumps::holding(alloc, "V", text.as_bytes(), &[], fails)
+    MemDumps::holding(alloc, "V", text.as_bytes(), &[], &[])
 }
 
-// The stated size, `:`, and the bytes, or `?` where they are unknown.
+// The stated size, `:`, and the bytes, or `?` if they are unknown.
 fn draw_preview(out: &mut Vec<u8>, preview: &Preview<'_>) -> Result<(), AllocError> {
     let alloc = *out.allocator();
     match preview {
@@ -145,7 +140,7 @@ fn previews_show_the_stated_range(rt: HostRuntime) -> Result<(), Fail> {
         ("0.5", "10:Ys20:1:2\n20:Yh3:YWJj\n", "", "2:bc "),
     ] {
         let text = format!(in alloc; "=proc_heap:<0.1.0>\n{cells}{sections}")?;
-        let mut dumps = device(alloc, version, text.as_str(), &[])?;
+        let mut dumps = device(alloc, version, text.as_str())?;
         let (heap, found, _) = load(alloc, &mut dumps)??;
         let shown = drawn(alloc, &heap, &found)?;
         assert_eq!(rt; shown.as_slice(), previews.as_bytes());
@@ -158,34 +153,10 @@ fn a_preview_reads_few_bytes(rt: HostRuntime) -> Result<(), Fail> {
     let alloc = rt.alloc();
     let cells = "=proc_heap:<0.1.0>\n10:YcA0:0:5\n11:YcA0:5:0\n12:YcB0:0:5\n13:lN|N\n";
     let text = format!(in alloc; "{cells}=binary:a0\n5:68656C6C6F\n")?;
-    let mut dumps = device(alloc, "0.4", text.as_str(), &[])?;
+    let mut dumps = device(alloc, "0.4", text.as_str())?;
     let (_, _, taken) = load(alloc, &mut dumps)??;
-    // The front of the body twice, and the characters of 5 bytes.
+    // The beginning of the body twice, and the characters of 5 bytes.
     assert_eq!(rt; taken, 36);
-    Ok(())
-}
-
-#[test]
-fn a_failed_read_gives_no_previews(rt: HostRuntime) -> Result<(), Fail> {
-    let alloc = rt.alloc();
-    let text = "=proc_heap:<0.1.0>\n10:YcA0:0:5\n11:YcA0:5:0\n=binary:a0\n5:68656C6C6F\n";
-    let mut answers = Vec::new(alloc);
-    for call in 1..10 {
-        let mut dumps = device(alloc, "0.4", text, &[call])?;
-        let Ok(index) = build(alloc, &mut dumps, "V", &Limits::usual()) else {
-            continue;
-        };
-        let Ok(heap) = Heap::load(alloc, &mut dumps, &index, b"<0.1.0>", &Limits::usual()) else {
-            continue;
-        };
-        answers.push(match Previews::load(alloc, &mut dumps, &index, &heap) {
-            Ok(_) => b'.',
-            Err(PreviewFault::Read) => b'r',
-            Err(PreviewFault::Memory) => b'm',
-        })?;
-    }
-    // The front of the body twice, and the characters of 5 bytes.
-    assert_eq!(rt; answers.as_slice(), b"rrr...".as_slice());
     Ok(())
 }
 
@@ -224,7 +195,7 @@ fn whole_binaries_are_read(rt: HostRuntime) -> Result<(), Fail> {
             "too large 20 44",
         ),
     ] {
-        let mut dumps = device(alloc, version, sections, &[])?;
+        let mut dumps = device(alloc, version, sections)?;
         let limits = Limits::new(1000, 100, 100, 1000, 43, 100).ok_or("refused")?;
         let text = draw_whole(alloc, &mut dumps, &limits)?;
         assert_eq!(rt; text.as_slice(), answer.as_bytes());

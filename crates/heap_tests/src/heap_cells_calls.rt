@@ -9,7 +9,7 @@ use std::alloc::{AllocError, Global};
 use std::test::Fail;
 use term_forms::{put_elem, put_form};
 
-// The dump of a process with these lines as its heap and as the literals, over a device that fails these calls.
+// The dump of a process with these lines as its heap and as the literals, on a device that fails these calls.
 fn device(
     alloc: Global,
     version: &str,
@@ -32,7 +32,7 @@ fn load(
     Ok(Heap::load(alloc, dumps, &index, b"<0.1.0>", limits))
 }
 
-// An element: a cell by its number behind `#`, an address that no cell has behind `?`, or its plain spelling.
+// An element: the number of a cell after `#`, an address that no cell has after `?`, or its plain spelling.
 fn draw_kid(out: &mut Vec<u8>, kid: Kid<'_>) -> Result<(), AllocError> {
     let alloc = *out.allocator();
     match kid {
@@ -58,7 +58,7 @@ fn draw_cell(out: &mut Vec<u8>, heap: &Heap, ix: CellIx) -> Result<(), AllocErro
     Ok(())
 }
 
-// The cells, those of the literals behind a `+`.
+// The cells, with those of the literals after a `+`.
 fn drawn(alloc: Global, heap: &Heap) -> Result<Vec<u8>, AllocError> {
     let mut out = Vec::new(alloc);
     for n in 0..heap.cells() {

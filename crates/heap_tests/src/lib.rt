@@ -1,6 +1,6 @@
-//! Tests of the crates over heaps: cells, roots, binaries and made dumps.
+//! Tests of the crates on heaps: cells, roots, binaries and written dumps.
 //!
-//! They stand apart from what they test, whose proof would else be made once more with them.
+//! They are separate from what they test, which would otherwise be proved once more together with them.
 #![tactic(auto)]
 
 #[cfg(test)]

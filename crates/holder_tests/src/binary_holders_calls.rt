@@ -2,15 +2,15 @@ ghost use Rattle.std.specs.Prelude.{IfOk};
 ghost use Rattle.section_index.specs.Index.{IsBuiltOver};
 ghost use Rattle.process_table.specs.Processes.{IsOver};
 
-use binary_holders::{BinaryUse, HolderFault, Holding, binary_use, holders};
+use binary_holders::{BinaryUse, Holding, binary_use, holders};
 use dump_io::{Dumps, Limits, MemDumps};
 use process_table::Procs;
 use section_index::{Index, build};
 use std::alloc::{AllocError, Global};
 use std::test::Fail;
 
-// Three processes, of which two hold binaries. One number is written by two sections, one body is cut, and one section has no
-// number.
+// Three processes, two of which hold binaries. Two sections have
+// the same number, one body is cut, and one section has no number.
 const SAMPLE: &[u8] = b"=erl_crash_dump:0.5
 =proc:<0.1.0>
 =proc:<0.2.0>
@@ -45,11 +45,11 @@ no size
 =end
 ";
 
-fn device(alloc: Global, cuts: &[usize], fails: &[u64]) -> Result<MemDumps, AllocError> {
-    MemDumps::holding(alloc, "S", SAMPLE, cuts, fails)
+fn device(alloc: Global, cuts: &[usize]) -> Result<MemDumps, AllocError> {
+    MemDumps::holding(alloc, "S", SAMPLE, cuts, &[])
 }
 
-// Holdings as rows of the place, the bytes, how many binaries, and how many cells.
+// Holdings as rows: the place, the bytes, how many binaries, and how many cells.
 fn draw_holdings(out: &mut Vec<u8>, held: &[Holding]) -> Result<(), AllocError> {
     let alloc = *out.allocator();
     for holding in held {
@@ -101,7 +101,7 @@ fn with_heap(
 
 // The index and the processes of what the device holds.
 fn load<D: Dumps>(alloc: Global, dumps: &mut D) -> Result<(Index, Procs), Fail>
-    ensures over { IfOk result (λ found. IsBuiltOver (D.now dumps.new) found.0) }
+    ensures over { IfOk result (λ found. IsBuiltOver (D.state dumps.new).now found.0) }
     ensures procs { IfOk result (λ found. IsOver found.0 found.1) }
 {
     let limits = Limits::usual();
@@ -117,7 +117,7 @@ fn draw_use<D: Dumps>(alloc: Global, dumps: &mut D) -> Result<Vec<u8>, Fail> {
     Ok(drawn(alloc, &found)?)
 }
 
-// Who holds the binary with a number on the device, as rows behind others.
+// Appends, as rows, which processes hold the binary with a number on the device.
 fn draw_holders<D: Dumps>(
     alloc: Global,
     dumps: &mut D,
@@ -130,7 +130,7 @@ fn draw_holders<D: Dumps>(
     Ok(())
 }
 
-// Who holds the binary 500 of a dump of one process with this heap.
+// Which processes hold the binary 500 in a dump of one process with this heap.
 fn drawn_holders(
     alloc: Global,
     version: &str,
@@ -147,7 +147,7 @@ fn drawn_holders(
 fn the_most_stands_first(rt: HostRuntime) -> Result<(), Fail> {
     let alloc = rt.alloc();
     for cuts in [&[][..], &[1], &[7, 3]] {
-        let mut dumps = device(alloc, cuts, &[])?;
+        let mut dumps = device(alloc, cuts)?;
         let text = draw_use(alloc, &mut dumps)?;
         let expected: &[u8] = b"1 47 3 4
 0 32 1 2
@@ -164,36 +164,11 @@ fn the_most_stands_first(rt: HostRuntime) -> Result<(), Fail> {
 }
 
 #[test]
-fn holders_are_told_by_their_lines(rt: HostRuntime) -> Result<(), Fail> {
-    let alloc = rt.alloc();
-    let mut dumps = device(alloc, &[], &[])?;
-    let mut out = Vec::new(alloc);
-    for number in [0x500, 0xAF0, 0x900, 0x77, 2] {
-        draw_holders(alloc, &mut dumps, number, &mut out)?;
-        out.extend_from_slice(b"-\n")?;
-    }
-    // A number that no section has is one like any other.
-    let expected: &[u8] = b"1 0 1 2
--
-0 0 1 2
-1 0 1 1
--
-1 0 1 1
--
-1 0 1 1
--
--
-";
-    assert_eq!(rt; out.as_slice(), expected);
-    Ok(())
-}
-
-#[test]
 fn a_line_counts_wherever_pieces_end_in_it(rt: HostRuntime) -> Result<(), Fail> {
     let alloc = rt.alloc();
     let line: &[u8] = b"0000000000000010:Yc0000000000000500:0000000000000000:0000000000000005\r\n";
     for before in 65_464..65_540 {
-        // A line in front of it, whose bytes are none of a reference, is as long as to end here.
+        // The line before it has bytes that are none of a reference, and is long enough to end here.
         let mut heap = vec![in alloc; b'x'; before]?;
         heap.extend_from_slice(b"\n")?;
         heap.extend_from_slice(line)?;
@@ -223,30 +198,5 @@ fn the_rest_of_a_long_line_is_no_line(rt: HostRuntime) -> Result<(), Fail> {
         let text = drawn_holders(alloc, "0.5", &heap, &[])?;
         assert_eq!(rt; text.as_slice(), answer.as_bytes());
     }
-    Ok(())
-}
-
-#[test]
-fn a_failed_read_tells_nothing(rt: HostRuntime) -> Result<(), Fail> {
-    let alloc = rt.alloc();
-    let mut answers = Vec::new(alloc);
-    for call in 1..18u64 {
-        let mut dumps = device(alloc, &[], &[call])?;
-        let Ok(index) = build(alloc, &mut dumps, "S", &Limits::usual()) else {
-            answers.push(b'i')?;
-            continue;
-        };
-        let Ok(procs) = Procs::load(alloc, &mut dumps, &index, &Limits::usual()) else {
-            answers.push(b'p')?;
-            continue;
-        };
-        answers.push(match binary_use(alloc, &mut dumps, &index, &procs) {
-            Ok(_) => b'.',
-            Err(HolderFault::Read) => b'r',
-            Err(HolderFault::Memory) => b'm',
-        })?;
-    }
-    // The file is opened and read once, no process has a body, and five binaries and two heaps are read.
-    assert_eq!(rt; answers.as_slice(), b"iirrrrrrr........".as_slice());
     Ok(())
 }

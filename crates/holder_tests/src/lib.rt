@@ -1,6 +1,6 @@
-//! Tests of the crate that tells who holds binaries.
+//! Tests of the crate that finds the holders of binaries.
 //!
-//! They stand apart from what they test, whose proof would else be made once more with them.
+//! They are separate from what they test, which would otherwise be proved once more together with them.
 #![tactic(auto)]
 
 #[cfg(test)]

@@ -1,28 +1,6 @@
-use field_lines::reading::lines;
 use field_lines::{FieldAt, field, find};
-use std::test::Fail;
 
 const BODY: &[u8] = b"State: Waiting\r\nname:  a:b\n\nnames:x\nState:\nlast: c\r";
-
-#[test]
-fn a_body_has_lines(rt: HostRuntime) -> Result<(), Fail> {
-    let mut left = lines(BODY);
-    for (at, text) in [
-        (0, "State: Waiting"),
-        (16, "name:  a:b"),
-        (27, ""),
-        (28, "names:x"),
-        (36, "State:"),
-        (43, "last: c\r"),
-    ] {
-        let line = left.next().ok_or("no line")?;
-        assert_eq!(rt; line.at, at);
-        assert_eq!(rt; line.text, text.as_bytes());
-    }
-    assert!(rt; left.next().is_none());
-    assert!(rt; lines(b"".as_slice()).next().is_none());
-    Ok(())
-}
 
 #[test]
 fn fields_are_found(rt: HostRuntime) {

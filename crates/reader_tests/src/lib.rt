@@ -1,6 +1,7 @@
-//! Tests of the crates that read and write bytes: devices and numbers, the scan for headers, fields, and the forms of terms.
+//! Tests of the crates that read and write bytes: devices and
+//! numbers, the scan for headers, fields, and the forms of terms.
 //!
-//! They stand apart from what they test, whose proof would else be made once more with them.
+//! They are separate from what they test, which would otherwise be proved once more together with them.
 #![tactic(auto)]
 
 #[cfg(test)]

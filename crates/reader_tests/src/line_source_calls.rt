@@ -72,7 +72,7 @@ impl HeaderSink for Listener {
     }
 }
 
-// Feeds two pieces to a scan, and ends it.
+// Feeds two pieces to a scan, and finishes it.
 fn feed_both<H: HeaderSink>(
     scan: &mut LineScan,
     first: &[u8],
@@ -109,7 +109,7 @@ fn headers_are_heard_in_pieces(rt: HostRuntime) -> Result<(), Fail> {
             Ok(()),
             [(0, 3, "=a"), (5, 9, "=b")].as_slice(),
         ),
-        // a header over two pieces, which are cut between CR and LF, and one without LF
+        // a header over two pieces, cut between CR and LF, and one without LF
         (
             9,
             "=ab\r",

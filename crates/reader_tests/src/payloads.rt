@@ -24,7 +24,7 @@ fn payloads_are_read(rt: HostRuntime) {
     read(&rt, b"", Enc::Base64, b"");
     read(&rt, b"68656C6C6F", Enc::Hex, b"hello");
     read(&rt, b"68656c6c6f", Enc::Hex, b"hello");
-    // An unused bit isn't zero, the padding lacks, and the number of bytes is another.
+    // An unused bit isn't zero, the padding is missing, or the number of bytes is wrong.
     refused(&rt, b"aGVsbG9=", Enc::Base64, 5);
     refused(&rt, b"aGVsbG8", Enc::Base64, 5);
     refused(&rt, b"aGVsbG8=", Enc::Base64, 6);

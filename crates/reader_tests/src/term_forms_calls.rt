@@ -3,9 +3,9 @@ use std::process::Abort;
 use std::test::Fail;
 use term_forms::reading::{elem, form};
 use term_forms::shapes::{Elem, PlacedElem};
-use term_forms::{Enc, heap_line, placed_form, put_elem, put_form, whole_elem};
+use term_forms::{Enc, heap_line, placed_form, put_elem, put_form};
 
-// The text begins with an element of that many bytes, which is written in the plain spelling.
+// The text begins with an element of that many bytes, whose plain spelling is this.
 fn begins(
     rt: &impl Abort,
     alloc: Global,
@@ -62,14 +62,6 @@ fn elements_are_read_and_written(rt: HostRuntime) -> Result<(), Fail> {
         assert_eq!(rt; elem(text), None);
     }
     Ok(())
-}
-
-#[test]
-fn whole_texts_are_elements(rt: HostRuntime) {
-    assert_eq!(rt; whole_elem(b"A2:ok"), Some(Elem::Atom(b"ok")));
-    for text in [b"".as_slice(), b"A2:okN", b"N ", b"H00000000000000020"] {
-        assert_eq!(rt; whole_elem(text), None);
-    }
 }
 
 // The elements of the form that the text spells, each with its place.
@@ -129,7 +121,7 @@ fn heap_lines_are_split(rt: HostRuntime) {
     }
 }
 
-// The text spells a form under the encoding, which is written in the plain spelling.
+// The text spells a form under the encoding, whose plain spelling is this.
 fn spells(rt: &impl Abort, alloc: Global, text: &[u8], enc: Enc, plain: &[u8]) -> Result<(), Fail> {
     let mut written = Vec::new(alloc);
     put_form(&mut written, &form(text, enc).ok_or("no form")?)?;

@@ -6,7 +6,7 @@ use section_index::build;
 use std::alloc::Global;
 use std::test::Fail;
 
-// The findings of the dump of a device, with a limit, and in a full audit with the numbers of messages.
+// The findings in the dump of a device, with a limit, and, in a full audit, with the numbers of messages.
 fn findings_of<D: Dumps>(
     alloc: Global,
     dumps: &mut D,
@@ -36,25 +36,7 @@ fn findings(
     findings_of(alloc, &mut dumps, limit, mails)
 }
 
-// The monitored name of the first process answers the monitor of the second, a link to itself is none, and a link to
-// the second is told.
-const LINKED: &str = "=proc:<0.1.0>
-Link list: [<0.2.0>, <0.1.0>, {to,{q,n@h},#Ref<0.0.0.9>}]
-Message queue length: 10
-=proc:<0.2.0>
-Link list: [{from,<0.1.0>,#Ref<0.0.0.9>}]
-=end
-";
-
-const MONITORED: &str = "=proc:<0.1.0>
-Link list: [{to,<0.2.0>,#Ref<0.0.0.1>}]
-=proc:<0.2.0>
-Link list: [{from,<0.1.0>,#Ref<0.0.0.2>}]
-Message queue length: x
-=end
-";
-
-// Of two processes with one pid the first counts, and pids of another node are passed over.
+// Of two processes with the same pid the first counts, and pids of other nodes are passed over.
 const UNREAD: &str = "=proc:<0.1.0>
 Link list: x
 Name: a
@@ -78,50 +60,6 @@ Link list: [<0.7.0>, x, {to,<0.8.0>,#Ref<0.1>}, {from,<0.9.0>,#Ref<0.1>}, <7.1.0
 Message queue length: 3
 =end
 ";
-
-#[test]
-fn links_monitors_and_queues_are_told(rt: HostRuntime) -> Result<(), Fail> {
-    let alloc = rt.alloc();
-    let link = Finding::LinkOneSided {
-        p: 0,
-        q: 1,
-        entry: 0,
-        at: 46,
-        other: 117,
-    };
-    let mailbox = Finding::Mailbox {
-        p: 0,
-        count: 10,
-        at: 92,
-        other: 20,
-    };
-    let found = findings(alloc, LINKED, 10, None)?;
-    assert_eq!(rt; found.as_slice(), [link].as_slice());
-    let found = findings(alloc, LINKED, 9, None)?;
-    assert_eq!(rt; found.as_slice(), [link, mailbox].as_slice());
-    let found = findings(alloc, MONITORED, 5, None)?;
-    let to = Finding::MonitorTo {
-        p: 0,
-        q: 1,
-        entry: 0,
-        at: 46,
-        other: 74,
-    };
-    let from = Finding::MonitorFrom {
-        p: 1,
-        q: 0,
-        entry: 0,
-        at: 100,
-        other: 20,
-    };
-    let unread = Finding::UnreadQueue {
-        p: 1,
-        at: 130,
-        other: 74,
-    };
-    assert_eq!(rt; found.as_slice(), [to, from, unread].as_slice());
-    Ok(())
-}
 
 #[test]
 fn unread_cut_and_other_processes_are_passed_over(rt: HostRuntime) -> Result<(), Fail> {

@@ -6,8 +6,8 @@ use std::alloc::Global;
 use std::test::Fail;
 use table_sections::{Rows, TableKind};
 
-// A state occurs twice and two of them once, one of which is none; two queues are equally long, one is empty and one is no
-// number; the largest memory stands last; and one of the tables has no words.
+// One state occurs twice and two of them once, one of these being a missing state; two queues are equally
+// long, one is empty and one is no number; the largest memory comes last; and one of the tables has no words.
 const DUMP: &str = "=proc:<0.1.0>
 State: Running
 Message queue length: 3
@@ -33,7 +33,7 @@ Words: 6
 =end
 ";
 
-// The states, the queues, the memory and the tables, first all and then one of each.
+// The states, the queues, the memory and the tables, first all rows and then one of each.
 const PRINTED: &str = "1 2
 0 1
 2 1

@@ -1,6 +1,6 @@
-//! Tests of the crates over sections: the index, rows, processes, tables, links, audits and what stands out.
+//! Tests of the crates on sections: the index, rows, processes, links, audits and what stands out.
 //!
-//! They stand apart from what they test, whose proof would else be made once more with them.
+//! They are separate from what they test, which would otherwise be proved once more together with them.
 #![tactic(auto)]
 
 #[cfg(test)]
@@ -15,5 +15,3 @@ mod process_table_calls;
 mod section_index_calls;
 #[cfg(test)]
 mod section_rows_calls;
-#[cfg(test)]
-mod table_sections_calls;

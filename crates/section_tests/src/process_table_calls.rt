@@ -1,6 +1,6 @@
 use dump_io::{Failed, Limits, MemDumps, MemSink, Sink, put_dec, write_all};
-use process_table::{Kept, ProcSections, Procs};
-use section_index::{BodyFault, build};
+use process_table::{Kept, Procs};
+use section_index::build;
 use std::alloc::Global;
 use std::test::Fail;
 
@@ -53,34 +53,7 @@ fn processes_are_loaded(rt: HostRuntime) -> Result<(), Fail> {
     Ok(())
 }
 
-// The slots of the first, the second and the fourth pid are one.
-const ALIKE: &[u8] =
-    b"=erl_crash_dump:0.5\n=proc:<0.1.0>\n=proc:<1.1.0>\n=proc:<0.2.0>\n=proc:<0.9.0>\n=proc:x\n=end";
-
-#[test]
-fn pids_with_one_slot_are_told_apart(rt: HostRuntime) -> Result<(), Fail> {
-    let mut dumps = MemDumps::holding(rt.alloc(), "V", ALIKE, &[], &[])?;
-    let usual = Limits::usual();
-    let index = build(rt.alloc(), &mut dumps, "V", &usual)?;
-    let procs = Procs::load(rt.alloc(), &mut dumps, &index, &usual)?;
-    let there = [
-        procs.get(b"<0.1.0>".as_slice()),
-        procs.get(b"<1.1.0>".as_slice()),
-        procs.get(b"<0.2.0>".as_slice()),
-        procs.get(b"<0.9.0>".as_slice()),
-        procs.get(b"x".as_slice()),
-    ];
-    assert_eq!(rt; there, [Some(0), Some(1), Some(2), Some(3), Some(4)]);
-    let absent = [
-        procs.get(b"<0.1.1>".as_slice()),
-        procs.get(b"<0.17.0>".as_slice()),
-        procs.get(b"".as_slice()),
-    ];
-    assert_eq!(rt; absent, [None, None, None]);
-    Ok(())
-}
-
-// Pids of one slot that rise, that fall, and that rise until one comes a second time.
+// Pids with the same slot that rise, that fall, and that rise until one comes a second time.
 const RISING: &[u8] = b"=erl_crash_dump:0.5\n=proc:<0.1.0>\n=proc:<0.9.0>\n=proc:<0.17.0>\n=end";
 
 const FALLING: &[u8] = b"=erl_crash_dump:0.5\n=proc:<0.17.0>\n=proc:<0.9.0>\n=proc:<0.1.0>\n=end";
@@ -110,28 +83,5 @@ fn pids_are_found_in_any_order(rt: HostRuntime) -> Result<(), Fail> {
     assert_eq!(rt; falling, [Some(2), Some(1), Some(0), None]);
     let twice = places(rt.alloc(), TWICE)?;
     assert_eq!(rt; twice, [Some(0), Some(1), Some(2), None]);
-    Ok(())
-}
-
-#[test]
-fn a_body_that_is_not_read_is_a_fault(rt: HostRuntime) -> Result<(), Fail> {
-    let mut dumps = MemDumps::holding(rt.alloc(), "V", DUMP, &[], &[4])?;
-    let usual = Limits::usual();
-    let index = build(rt.alloc(), &mut dumps, "V", &usual)?;
-    match Procs::load(rt.alloc(), &mut dumps, &index, &usual) {
-        Err(BodyFault::Read) => Ok(()),
-        _ => Err("no fault".into()),
-    }
-}
-
-#[test]
-fn processes_are_found_without_a_read(rt: HostRuntime) -> Result<(), Fail> {
-    let mut dumps = MemDumps::holding(rt.alloc(), "V", DUMP, &[], &[4])?;
-    let usual = Limits::usual();
-    let index = build(rt.alloc(), &mut dumps, "V", &usual)?;
-    let found = ProcSections::find(rt.alloc(), &index)?;
-    assert_eq!(rt; found.len(), 2);
-    assert_eq!(rt; found.at(1), (b"<0.2.0>".as_slice(), 4usize));
-    assert!(rt; found.large(&index, &usual).is_none());
     Ok(())
 }

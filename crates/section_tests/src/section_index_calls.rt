@@ -3,7 +3,7 @@ use section_index::{BodyFault, State, Tags, Version, build, read_body};
 use std::alloc::Global;
 use std::test::Fail;
 
-// What is said of these bytes under these limits.
+// The answer about these bytes under these limits.
 fn answer(alloc: Global, bytes: &[u8], limits: &Limits) -> Result<String, Fail> {
     let mut dumps = MemDumps::holding(alloc, "V", bytes, &[7], &[])?;
     match build(alloc, &mut dumps, "V", limits) {
@@ -44,7 +44,7 @@ fn a_dump_is_refused_by_its_first_cause(rt: HostRuntime) -> Result<(), Fail> {
             0,
             "the header at 0 is too long",
         ),
-        // of three causes at one header, the first that is named
+        // of three causes at one header, the first that is listed
         (
             b"=erl_crash_dump:0.5\n=bcdefghijklmnopqrstuvw".as_slice(),
             99,
@@ -107,24 +107,6 @@ fn body_of<D: Dumps>(
 }
 
 #[test]
-fn sections_are_found(rt: HostRuntime) -> Result<(), Fail> {
-    let mut dumps = MemDumps::holding(rt.alloc(), "V", DUMP, &[3], &[])?;
-    let index = build(rt.alloc(), &mut dumps, "V", &Limits::usual())?;
-    let pid = b"<0.1.0>".as_slice();
-    assert_eq!(rt; index.first(b"proc".as_slice(), Some(pid)), Some(1));
-    assert_eq!(rt; index.first(b"proc".as_slice(), None), Some(2));
-    assert_eq!(rt;
-        index.first(b"proc".as_slice(), Some(b"<0.1".as_slice())),
-        None
-    );
-    assert_eq!(rt; index.first_tag(b"proc".as_slice()), Some(1));
-    assert_eq!(rt; index.first_tag(b"pro".as_slice()), None);
-    assert_eq!(rt; index.first_hex(b"node".as_slice(), 31), Some(3));
-    assert_eq!(rt; index.first_hex(b"proc".as_slice(), 31), None);
-    Ok(())
-}
-
-#[test]
 fn tags_are_counted(rt: HostRuntime) -> Result<(), Fail> {
     let mut dumps = MemDumps::holding(rt.alloc(), "V", DUMP, &[3], &[])?;
     let index = build(rt.alloc(), &mut dumps, "V", &Limits::usual())?;
@@ -143,18 +125,6 @@ fn tags_are_counted(rt: HostRuntime) -> Result<(), Fail> {
         assert_eq!(rt; found, tag.as_bytes());
         assert_eq!(rt; number, count);
     }
-    Ok(())
-}
-
-#[test]
-fn bodies_are_read(rt: HostRuntime) -> Result<(), Fail> {
-    let mut dumps = MemDumps::holding(rt.alloc(), "V", DUMP, &[3], &[])?;
-    let usual = Limits::usual();
-    let body = body_of(rt.alloc(), &mut dumps, 1, &usual)??;
-    assert_eq!(rt; body.as_slice(), b"A: 1\n".as_slice());
-    assert_eq!(rt; dumps.taken(), (DUMP.len() as u64).saturating_add(5));
-    let last = body_of(rt.alloc(), &mut dumps, 6, &usual)??;
-    assert!(rt; last.is_empty());
     Ok(())
 }
 

@@ -7,7 +7,7 @@ use std::test::Fail;
 const DUMP: &[u8] =
     b"=erl_crash_dump:0.5\nA: 0\n=node:b:1\nA:  x\nB: 2\n=ets\nB:\nA\n=node:c\nA: y\nA: z";
 
-// The rows of the sections behind the first one.
+// The rows of the sections after the first one.
 fn rows_of<D: Dumps>(
     alloc: Global,
     dumps: &mut D,
@@ -60,17 +60,5 @@ fn rows_are_loaded(rt: HostRuntime) -> Result<(), Fail> {
         sink.written(),
         b"25 25:26:node 25:31:b:1 35:38: x 41:44:2\n46 46:47:ets - - 51:53:\n56 56:57:node 56:62:c 64:67:y -\n".as_slice()
     );
-    Ok(())
-}
-
-#[test]
-fn a_body_that_is_too_large_is_refused_before_a_read(rt: HostRuntime) -> Result<(), Fail> {
-    let mut dumps = MemDumps::holding(rt.alloc(), "V", DUMP, &[3], &[])?;
-    let small = Limits::new(100, 100, 100, 100, 8, 100).ok_or("refused")?;
-    match rows_of(rt.alloc(), &mut dumps, &small)? {
-        Err(BodyFault::SectionTooLarge { at, len }) => assert_eq!(rt; (at, len), (25, 11)),
-        _ => return Err("loaded".into()),
-    }
-    assert_eq!(rt; dumps.taken(), DUMP.len() as u64);
     Ok(())
 }
