@@ -15,7 +15,7 @@ use Rattle.binary_holders.specs.Usage.{Usage, fronts_length, heaps_length, holde
 use Rattle.binary_holders.specs.declared.faults.HolderFault.{HolderFault}
 use Rattle.binary_holders.specs.declared.faults.HolderFault.TheVariants as holder_faults
 use Rattle.binary_holders.specs.declared.rows.Holding.{Holding}
-use Rattle.report_text.specs.Holders.{binaries_report, holders_report}
+use Rattle.glance_text.specs.Holders.{binaries_report, holders_report}
 use Rattle.command_words.specs.Command.{Command, binaries, holders}
 use Rattle.dump_command.specs.Holders.{binaries_listing, binaries_over, fronts_bytes, heaps_bytes, holders_listing, holders_over, pids_of}
 use Rattle.dump_command.specs.Report.{bodies, no_subject, refusal_held, refusal_listed, reread, too_large}

@@ -3,7 +3,7 @@ use Rattle.std.specs.Prelude.{ℕ, List, map}
 use Rattle.section_index.specs.Index.{Contents, index_of}
 use Rattle.process_table.specs.Processes.{Process, process_table}
 use Rattle.binary_holders.specs.Usage.{fronts_length, heaps_length, holders_in, usage_of}
-use Rattle.report_text.specs.Holders.{binaries_report, holders_report}
+use Rattle.glance_text.specs.Holders.{binaries_report, holders_report}
 
 -- the pids of processes
 abbrev pub pids_of : List Process → List (List ℕ)

@@ -4,7 +4,7 @@ use Rattle.section_index.specs.Index.{Contents}
 use Rattle.section_rows.specs.Rows.{Table}
 use Rattle.process_table.specs.Processes.{ProcessTable}
 use Rattle.dump_triage.specs.Triage.{triage_of}
-use Rattle.report_text.specs.Triage.{triage_report}
+use Rattle.glance_text.specs.Triage.{triage_report}
 
 -- what its report is on: the body of the first section and that
 -- of the first one on memory, the processes and the ETS tables

@@ -1,7 +1,5 @@
 pub mod Findings
-pub mod Holders
 pub mod Links
 pub mod Refusals
 pub mod Reports
 pub mod Tables
-pub mod Triage

@@ -28,8 +28,10 @@ fn put_section<K: Sink>(sink: &mut K, s: &Section<'_>) -> Result<(), Failed>
     )
 }
 
-// Writes the state line: that the dump is whole, or in which section it is truncated.
-pub(crate) fn put_state<K: Sink>(sink: &mut K, index: &Index) -> Result<(), Failed>
+/// Writes the state line: that the dump is whole, or in which section it is truncated.
+///
+/// Returns `Failed` only if the sink failed; a proper prefix of the line was written then.
+pub fn put_state<K: Sink>(sink: &mut K, index: &Index) -> Result<(), Failed>
     ensures { Puts (K.state sink.old) (K.state sink.new) (state_line (sections_in index.now) (state_of index.now.headers)) result }
 {
     match index.state() {

@@ -30,12 +30,10 @@ fn slogan_of(first_body: &[u8]) -> &[u8]
     }
 }
 
-// Writes the version, the size, the number of sections and the slogan.
-pub(crate) fn put_heading<K: Sink>(
-    sink: &mut K,
-    index: &Index,
-    first_body: &[u8],
-) -> Result<(), Failed>
+/// Writes the version, the size, the number of sections and the slogan, a line each.
+///
+/// Returns `Failed` only if the sink failed; a proper prefix of the lines was written then.
+pub fn put_heading<K: Sink>(sink: &mut K, index: &Index, first_body: &[u8]) -> Result<(), Failed>
     ensures { Puts (K.state sink.old) (K.state sink.new)
         (info_heading (version_text index.now.version) index.now.size (length index.now.headers) (find_value first_body.now (codes "Slogan"))) result }
 {

@@ -11,22 +11,18 @@
 
 mod audit_report;
 mod field_report;
-mod holder_report;
 mod index_report;
 mod info_report;
 mod link_report;
 mod process_report;
 mod refusals;
 mod table_report;
-mod triage_report;
 
 pub use audit_report::put_findings;
 pub use field_report::put_fields;
-pub use holder_report::{put_binaries, put_holders};
-pub use index_report::put_index;
-pub use info_report::put_info;
+pub use index_report::{put_index, put_state};
+pub use info_report::{put_heading, put_info};
 pub use link_report::put_links;
-pub use process_report::put_procs;
+pub use process_report::{put_process_end, put_processes_line, put_procs, text_of};
 pub use refusals::{Refusal, put_refusal};
-pub use table_report::put_rows;
-pub use triage_report::put_triage;
+pub use table_report::{put_rows, text_at};

@@ -11,8 +11,8 @@ use dump_io::{Failed, Piece, Sink, put_pieces};
 use process_table::{Kept, Proc, Procs};
 use section_index::Index;
 
-// The text of a field, or `-`.
-pub(crate) fn text_of<'a>(cell: &Option<Kept<'a>>) -> &'a [u8]
+/// The text of a field, or `-`.
+pub fn text_of<'a>(cell: &Option<Kept<'a>>) -> &'a [u8]
     ensures { result.now ≡ cell_text (shown_cell cell.now) }
 {
     match cell {
@@ -42,8 +42,10 @@ fn put_process<K: Sink>(sink: &mut K, process: &Proc<'_>) -> Result<(), Failed>
     )
 }
 
-// Writes the end of a line on the process at a place.
-pub(crate) fn put_process_end<K: Sink>(
+/// Writes the end of a line on the process at a place, `PID NAME AT` with tabs between them.
+///
+/// Returns `Failed` only if the sink failed; a proper prefix of the text was written then.
+pub fn put_process_end<K: Sink>(
     sink: &mut K,
     index: &Index,
     procs: &Procs,
@@ -78,8 +80,10 @@ fn put_processes<K: Sink>(sink: &mut K, procs: &Procs) -> Result<(), Failed>
     Ok(())
 }
 
-// Writes how many processes there are, and how many sections of processes were passed over.
-pub(crate) fn put_processes_line<K: Sink>(sink: &mut K, procs: &Procs) -> Result<(), Failed>
+/// Writes `processes N repeated R`: how many processes there are, and how many sections of processes were passed over.
+///
+/// Returns `Failed` only if the sink failed; a proper prefix of the line was written then.
+pub fn put_processes_line<K: Sink>(sink: &mut K, procs: &Procs) -> Result<(), Failed>
     ensures { Puts (K.state sink.old) (K.state sink.new) (processes_line (length procs.now.processes) procs.now.repeated) result }
 {
     put_pieces(

@@ -10,8 +10,8 @@ use crate::field_report::put_rows_line;
 use dump_io::{Failed, Piece, Sink, put_dec, put_pieces, write_all};
 use table_sections::Rows;
 
-// The text of a cell, or `-`.
-pub(crate) fn text_at(rows: &Rows, i: usize, c: usize) -> &[u8]
+/// The text of a cell, or `-`.
+pub fn text_at(rows: &Rows, i: usize, c: usize) -> &[u8]
     requires row { i < length rows.now.rows }
     requires column { c < rows.now.width }
     ensures { result.now ≡ text_or_dash (text_in (cell_at (row_at rows.now.rows i) c)) }

@@ -4,7 +4,7 @@ use Rattle.section_index.specs.Index.{Contents}
 use Rattle.process_table.specs.Processes.{ProcessTable, IsIn}
 use Rattle.binary_holders.specs.Usage.{NamesProcess, shown_use}
 use Rattle.binary_holders.specs.declared.rows.Holding.{Holding}
-use Rattle.report_text.specs.Holders.{binaries_report, holders_report}
+use Rattle.glance_text.specs.Holders.{binaries_report, holders_report}
 use Rattle.dump_command.specs.declared.commands.binaries.Loaded.{Loaded}
 use Rattle.dump_command.specs.declared.commands.holders.Loaded.{Loaded as HoldersLoaded}
 

@@ -8,8 +8,8 @@ use crate::status::DONE;
 use crate::stop::Stop;
 use binary_holders::{BinaryUse, binary_use};
 use dump_io::{Dumps, Sink};
+use glance_text::put_binaries;
 use process_table::Procs;
-use report_text::put_binaries;
 
 #[derive(Clone, Copy)]
 pub(crate) struct Binaries<'a> {

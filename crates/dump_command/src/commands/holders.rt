@@ -9,8 +9,8 @@ use crate::status::DONE;
 use crate::stop::Stop;
 use binary_holders::{Holding, holders};
 use dump_io::{Dumps, Sink};
+use glance_text::put_holders;
 use process_table::Procs;
-use report_text::put_holders;
 
 #[derive(Clone, Copy)]
 pub(crate) struct Holders<'a> {

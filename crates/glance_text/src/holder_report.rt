@@ -1,0 +1,188 @@
+// The reports of `binaries` and of `holders`.
+ghost use Rattle.std.specs.Prelude.{All, length};
+ghost use Rattle.std.specs.List.{flat_map};
+ghost use Rattle.dump_io.specs.Sinks.{Puts};
+ghost use Rattle.process_table.specs.Processes.{IsIn};
+ghost use Rattle.binary_holders.specs.Usage.{NamesProcess, shown_use};
+ghost use Rattle.glance_text.specs.Holders.{binaries_line, binaries_report, held_line, holder_line, holders_line, holders_report, stored_line};
+
+use binary_holders::{BinaryRow, BinaryUse, Holding};
+use dump_io::{Failed, Piece, Sink, put_pieces};
+use process_table::Procs;
+use report_text::put_process_end;
+use section_index::Index;
+
+// Writes the line of a process that holds binaries.
+fn put_held<K: Sink>(
+    sink: &mut K,
+    index: &Index,
+    procs: &Procs,
+    held: &Holding,
+) -> Result<(), Failed>
+    requires named { NamesProcess (length procs.now.processes) held.now }
+    requires processes { All (IsIn index.now) procs.now.processes }
+    ensures { Puts (K.state sink.old) (K.state sink.new) (held_line index.now procs.now.processes held.now) result }
+{
+    let tab = Piece::Bytes(b"\t");
+    put_pieces(
+        sink,
+        &[
+            Piece::Bytes(b"held\t"),
+            Piece::Dec(held.bytes),
+            tab,
+            Piece::Dec(held.count),
+            tab,
+        ],
+    )?;
+    put_process_end(sink, index, procs, held.process)
+}
+
+fn put_all_held<K: Sink>(
+    sink: &mut K,
+    index: &Index,
+    procs: &Procs,
+    rows: &[Holding],
+) -> Result<(), Failed>
+    requires named { All (NamesProcess (length procs.now.processes)) rows.now }
+    requires processes { All (IsIn index.now) procs.now.processes }
+    ensures { Puts (K.state sink.old) (K.state sink.new) (flat_map (held_line index.now procs.now.processes) rows.now) result }
+{
+    for held in rows {
+        put_held(sink, index, procs, held)?;
+    }
+    Ok(())
+}
+
+// Writes the line of a stored binary.
+fn put_stored<K: Sink>(sink: &mut K, row: &BinaryRow) -> Result<(), Failed>
+    ensures { Puts (K.state sink.old) (K.state sink.new) (stored_line row.now) result }
+{
+    let tab = Piece::Bytes(b"\t");
+    put_pieces(
+        sink,
+        &[
+            Piece::Bytes(b"binary\t"),
+            Piece::Dec(row.size),
+            tab,
+            Piece::Dec(row.holders),
+            tab,
+            Piece::Hex(row.number),
+            tab,
+            Piece::Dec(row.at),
+            Piece::Bytes(b"\n"),
+        ],
+    )
+}
+
+fn put_all_stored<K: Sink>(sink: &mut K, rows: &[BinaryRow]) -> Result<(), Failed>
+    ensures { Puts (K.state sink.old) (K.state sink.new) (flat_map stored_line rows.now) result }
+{
+    for row in rows {
+        put_stored(sink, row)?;
+    }
+    Ok(())
+}
+
+fn put_total<K: Sink>(sink: &mut K, found: &BinaryUse) -> Result<(), Failed>
+    ensures { Puts (K.state sink.old) (K.state sink.new) (binaries_line (length found.now.binaries.items) found.now.bytes found.now.with_holders) result }
+{
+    put_pieces(
+        sink,
+        &[
+            Piece::Bytes(b"binaries "),
+            Piece::Dec(found.binaries.len() as u64),
+            Piece::Bytes(b" bytes "),
+            Piece::Dec(found.bytes),
+            Piece::Bytes(b" held "),
+            Piece::Dec(found.with_holders),
+            Piece::Bytes(b"\n"),
+        ],
+    )
+}
+
+/// Writes a line for each process that holds binaries, `held BYTES COUNT PID NAME AT`, and a line for each
+/// stored binary, `binary SIZE HOLDERS ADDR AT`, both with tabs between their parts and in the order given.
+/// Then comes `binaries N bytes B held H`: how many binaries there are, the sum of their sizes, and how many
+/// of them a process holds. The address of a binary is written in upper-case hex, `-` stands for a missing
+/// name, and the last part of a line is the offset of the header of the section of the process or binary.
+///
+/// The processes are those of the index, and what was found is on these
+/// processes, as from [`binary_use`](binary_holders::binary_use).
+pub fn put_binaries<K: Sink>(
+    sink: &mut K,
+    index: &Index,
+    procs: &Procs,
+    found: &BinaryUse,
+) -> Result<(), Failed>
+    requires named { All (NamesProcess (length procs.now.processes)) found.now.held.items }
+    requires processes { All (IsIn index.now) procs.now.processes }
+    ensures { Puts (K.state sink.old) (K.state sink.new) (binaries_report index.now procs.now.processes (shown_use found.now)) result }
+{
+    put_all_held(sink, index, procs, &found.held)?;
+    put_all_stored(sink, &found.binaries)?;
+    put_total(sink, found)
+}
+
+// Writes the line of a process that holds the binary.
+fn put_holder<K: Sink>(
+    sink: &mut K,
+    index: &Index,
+    procs: &Procs,
+    held: &Holding,
+) -> Result<(), Failed>
+    requires named { NamesProcess (length procs.now.processes) held.now }
+    requires processes { All (IsIn index.now) procs.now.processes }
+    ensures { Puts (K.state sink.old) (K.state sink.new) (holder_line index.now procs.now.processes held.now) result }
+{
+    put_pieces(sink, &[Piece::Dec(held.cells), Piece::Bytes(b"\t")])?;
+    put_process_end(sink, index, procs, held.process)
+}
+
+fn put_each<K: Sink>(
+    sink: &mut K,
+    index: &Index,
+    procs: &Procs,
+    rows: &[Holding],
+) -> Result<(), Failed>
+    requires named { All (NamesProcess (length procs.now.processes)) rows.now }
+    requires processes { All (IsIn index.now) procs.now.processes }
+    ensures { Puts (K.state sink.old) (K.state sink.new) (flat_map (holder_line index.now procs.now.processes) rows.now) result }
+{
+    for held in rows {
+        put_holder(sink, index, procs, held)?;
+    }
+    Ok(())
+}
+
+fn put_count<K: Sink>(sink: &mut K, count: usize) -> Result<(), Failed>
+    ensures { Puts (K.state sink.old) (K.state sink.new) (holders_line count) result }
+{
+    put_pieces(
+        sink,
+        &[
+            Piece::Bytes(b"holders "),
+            Piece::Dec(count as u64),
+            Piece::Bytes(b"\n"),
+        ],
+    )
+}
+
+/// Writes a line for each process that holds a binary, `CELLS PID NAME AT` with tabs between
+/// them, in the order given: how many lines of its heap refer to the binary, the pid, the name
+/// or `-`, and the offset of the header of the process's section. Then comes `holders N`.
+///
+/// The processes are those of the index, and each holding is of
+/// one of them, as from [`holders`](binary_holders::holders).
+pub fn put_holders<K: Sink>(
+    sink: &mut K,
+    index: &Index,
+    procs: &Procs,
+    held: &[Holding],
+) -> Result<(), Failed>
+    requires named { All (NamesProcess (length procs.now.processes)) held.now }
+    requires processes { All (IsIn index.now) procs.now.processes }
+    ensures { Puts (K.state sink.old) (K.state sink.new) (holders_report index.now procs.now.processes held.now) result }
+{
+    put_each(sink, index, procs, held)?;
+    put_count(sink, held.len())
+}

@@ -1,0 +1,232 @@
+// The report of `triage`.
+ghost use Rattle.std.specs.Prelude.{◌≡◌, ◌<◌, length, codes, All};
+ghost use Rattle.std.specs.List.{flat_map};
+ghost use Rattle.dump_io.specs.Sinks.{Puts};
+ghost use Rattle.field_lines.specs.Lines.{text_lines};
+ghost use Rattle.field_lines.specs.Shown.{shown_line};
+ghost use Rattle.process_table.specs.Processes.{IsIn};
+ghost use Rattle.table_sections.specs.Tables.{IsOver};
+ghost use Rattle.table_sections.specs.declared.kinds.TableKind.TheVariants.{Ets};
+ghost use Rattle.dump_triage.specs.Ranking.{AreWithin};
+ghost use Rattle.dump_triage.specs.Triage.{Fits};
+ghost use Rattle.report_lines.specs.Lines.{count_line};
+ghost use Rattle.glance_text.specs.Triage.{finding_counts, memory_line, process_number_line, state_count_line, table_words_line, triage_heading, triage_report, triage_rows};
+
+use dump_io::{Failed, Piece, Sink, put_pieces};
+use dump_triage::{FindingCounts, Ranked, Triage};
+use field_lines::Line;
+use field_lines::reading::{field, lines};
+use process_table::Procs;
+use report_lines::put_count_line;
+use report_text::{put_heading, put_process_end, put_processes_line, put_state, text_at, text_of};
+use section_index::Index;
+use table_sections::Rows;
+
+// Writes the line of a field of the `memory` section.
+fn put_memory_line<K: Sink>(sink: &mut K, line: &Line<'_>) -> Result<(), Failed>
+    ensures { Puts (K.state sink.old) (K.state sink.new) (memory_line (shown_line line.now)) result }
+{
+    let Some((key, value)) = field(line.text) else {
+        return Ok(());
+    };
+    put_pieces(
+        sink,
+        &[
+            Piece::Bytes(b"memory\t"),
+            Piece::Bytes(key),
+            Piece::Bytes(b"\t"),
+            Piece::Bytes(value),
+            Piece::Bytes(b"\n"),
+        ],
+    )
+}
+
+fn put_memory<K: Sink>(sink: &mut K, body: &[u8]) -> Result<(), Failed>
+    ensures { Puts (K.state sink.old) (K.state sink.new) (flat_map memory_line (text_lines body.now)) result }
+{
+    for line in lines(body) {
+        put_memory_line(sink, &line)?;
+    }
+    Ok(())
+}
+
+// Writes the lines about the node.
+fn put_node<K: Sink>(
+    sink: &mut K,
+    index: &Index,
+    first_body: &[u8],
+    memory_body: &[u8],
+    procs: &Procs,
+) -> Result<(), Failed>
+    ensures { Puts (K.state sink.old) (K.state sink.new)
+        (triage_heading index.now first_body.now memory_body.now procs.now) result }
+{
+    put_heading(sink, index, first_body)?;
+    put_memory(sink, memory_body)?;
+    put_processes_line(sink, procs)
+}
+
+// Writes the line of a state.
+fn put_state_count<K: Sink>(sink: &mut K, procs: &Procs, row: &Ranked) -> Result<(), Failed>
+    requires { row.now.place < length procs.now.processes }
+    ensures { Puts (K.state sink.old) (K.state sink.new) (state_count_line procs.now.processes row.now) result }
+{
+    let process = procs.at(row.place);
+    put_count_line(sink, b"state\t", text_of(&process.state), row.number)
+}
+
+fn put_states<K: Sink>(sink: &mut K, procs: &Procs, rows: &[Ranked]) -> Result<(), Failed>
+    requires { AreWithin (length procs.now.processes) rows.now }
+    ensures { Puts (K.state sink.old) (K.state sink.new)
+        (flat_map (state_count_line procs.now.processes) rows.now) result }
+{
+    for row in rows {
+        put_state_count(sink, procs, row)?;
+    }
+    Ok(())
+}
+
+// Writes the line of a process with one of its numbers.
+fn put_process_number<K: Sink>(
+    sink: &mut K,
+    word: &[u8],
+    index: &Index,
+    procs: &Procs,
+    row: &Ranked,
+) -> Result<(), Failed>
+    requires place { row.now.place < length procs.now.processes }
+    requires sections { All (IsIn index.now) procs.now.processes }
+    ensures { Puts (K.state sink.old) (K.state sink.new)
+        (process_number_line word.now index.now procs.now.processes row.now) result }
+{
+    put_pieces(
+        sink,
+        &[
+            Piece::Bytes(word),
+            Piece::Dec(row.number),
+            Piece::Bytes(b"\t"),
+        ],
+    )?;
+    put_process_end(sink, index, procs, row.place)
+}
+
+// Writes the lines of processes, each after a word.
+fn put_process_numbers<K: Sink>(
+    sink: &mut K,
+    word: &[u8],
+    index: &Index,
+    procs: &Procs,
+    rows: &[Ranked],
+) -> Result<(), Failed>
+    requires within { AreWithin (length procs.now.processes) rows.now }
+    requires sections { All (IsIn index.now) procs.now.processes }
+    ensures { Puts (K.state sink.old) (K.state sink.new)
+        (flat_map (process_number_line word.now index.now procs.now.processes) rows.now) result }
+{
+    for row in rows {
+        put_process_number(sink, word, index, procs, row)?;
+    }
+    Ok(())
+}
+
+// Writes the line of an ETS table with its number of words.
+fn put_table_words<K: Sink>(sink: &mut K, tables: &Rows, row: &Ranked) -> Result<(), Failed>
+    requires place { row.now.place < length tables.now.rows }
+    requires width { tables.now.width ≡ 5 }
+    ensures { Puts (K.state sink.old) (K.state sink.new) (table_words_line tables.now.rows row.now) result }
+{
+    let tab = Piece::Bytes(b"\t");
+    put_pieces(
+        sink,
+        &[
+            Piece::Bytes(b"ets\t"),
+            Piece::Dec(row.number),
+            tab,
+            Piece::Bytes(text_at(tables, row.place, 0)),
+            tab,
+            Piece::Bytes(text_at(tables, row.place, 2)),
+            tab,
+            Piece::Dec(tables.at(row.place)),
+            Piece::Bytes(b"\n"),
+        ],
+    )
+}
+
+fn put_tables<K: Sink>(sink: &mut K, tables: &Rows, rows: &[Ranked]) -> Result<(), Failed>
+    requires within { AreWithin (length tables.now.rows) rows.now }
+    requires width { tables.now.width ≡ 5 }
+    ensures { Puts (K.state sink.old) (K.state sink.new) (flat_map (table_words_line tables.now.rows) rows.now) result }
+{
+    for row in rows {
+        put_table_words(sink, tables, row)?;
+    }
+    Ok(())
+}
+
+// Writes the lines of states, message queues, processes and tables.
+fn put_triage_rows<K: Sink>(
+    sink: &mut K,
+    index: &Index,
+    procs: &Procs,
+    tables: &Rows,
+    triage: &Triage,
+) -> Result<(), Failed>
+    requires sections { All (IsIn index.now) procs.now.processes }
+    requires width { tables.now.width ≡ 5 }
+    requires fits { Fits procs.now.processes tables.now.rows triage.now }
+    ensures { Puts (K.state sink.old) (K.state sink.new)
+        (triage_rows index.now procs.now.processes tables.now.rows triage.now) result }
+{
+    put_states(sink, procs, triage.states())?;
+    put_process_numbers(sink, b"queue\t", index, procs, triage.queues())?;
+    put_process_numbers(sink, b"process\t", index, procs, triage.memory())?;
+    put_tables(sink, tables, triage.tables())
+}
+
+// Writes how many findings of a kind there are, if there are any.
+fn put_finding_count<'x, K: Sink>(sink: &mut K, kind: &'x [u8], count: u64) -> Result<(), Failed>
+    ensures { Puts (K.state sink.old) (K.state sink.new) (count_line (codes "finding\t") kind.now count) result }
+{
+    put_count_line(sink, b"finding\t", kind, count)
+}
+
+fn put_finding_counts<K: Sink>(sink: &mut K, counts: FindingCounts) -> Result<(), Failed>
+    ensures { Puts (K.state sink.old) (K.state sink.new) (finding_counts counts) result }
+{
+    put_finding_count(sink, b"link", counts.links)?;
+    put_finding_count(sink, b"monitor-to", counts.monitors_to)?;
+    put_finding_count(sink, b"monitor-from", counts.monitors_from)?;
+    put_finding_count(sink, b"unread-links", counts.unread_links)?;
+    put_finding_count(sink, b"unread-queue", counts.unread_queues)
+}
+
+/// Writes one page on a dump: version, size, number of sections and slogan, as in
+/// [`put_info`](crate::put_info); `memory KEY VALUE` for each field of the body of the first `memory`
+/// section, which is empty if there is none; the number of processes, as in
+/// [`put_procs`](crate::put_procs); `state COUNT STATE`, `queue LENGTH PID NAME AT`,
+/// `process BYTES PID NAME AT` and `ets WORDS ID NAME AT` for each row of the triage; `finding COUNT KIND`
+/// for each kind of findings that occurs; and the state line, as in [`put_index`](crate::put_index). Words
+/// and values have tabs between them, `-` stands for a missing name, and AT is the offset of the section.
+///
+/// The processes and the tables are those of the index, and the triage
+/// fits them, as that of [`Triage::of`](dump_triage::Triage::of) does.
+pub fn put_triage<K: Sink>(
+    sink: &mut K,
+    index: &Index,
+    first_body: &[u8],
+    memory_body: &[u8],
+    procs: &Procs,
+    tables: &Rows,
+    triage: &Triage,
+) -> Result<(), Failed>
+    requires sections { All (IsIn index.now) procs.now.processes }
+    requires tables { IsOver Ets index.now tables.now }
+    requires fits { Fits procs.now.processes tables.now.rows triage.now }
+    ensures { Puts (K.state sink.old) (K.state sink.new)
+        (triage_report index.now first_body.now memory_body.now procs.now tables.now.rows triage.now) result }
+{
+    put_node(sink, index, first_body, memory_body, procs)?;
+    put_triage_rows(sink, index, procs, tables, triage)?;
+    put_finding_counts(sink, triage.findings())?;
+    put_state(sink, index)
+}
