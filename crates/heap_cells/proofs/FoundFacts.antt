@@ -1,47 +1,92 @@
 -- What the text of a cell's form spells, as it is read.
-use Rattle.std.proofs.Common.{◌≡◌, ℕ, suc, ◌+◌, List, [], ◌∷◌, ◌++◌, length, drop, Some, refl, sym, ◌∙◌, ap, subst, arith, length-append, append_assoc, inl}
-use Rattle.std.specs.Prelude.{codes, ◌↔◌, All}
-use Rattle.std.proofs.Math.Seq.{drop-append_seam}
+use Rattle.std.proofs.Common.{◌≡◌, ℕ, suc, ◌+◌, ◌-◌, ◌≤◌, List, [], ◌∷◌, ◌++◌, length, take, drop, map, Some, refl, sym, ◌∙◌, ap, subst, arith, length-append, append_assoc}
+use Rattle.std.specs.Prelude.{codes, ◌↔◌, slice_range, All}
+use Rattle.std.proofs.lemmas.List.{length-take, length-drop}
+use Rattle.std.proofs.lemmas.List.Elements.{All-map, All-weaker}
+use Rattle.std.proofs.Math.Seq.{drop-append_seam, take-append_seam, take-length}
 use Rattle.term_forms.specs.declared.enc.Enc.{Enc}
-use Rattle.term_forms.specs.Elements.{Element, IsElem, IsFront, EndsElement}
+use Rattle.term_forms.specs.declared.shapes.Elem.{Elem}
+use Rattle.term_forms.specs.Elements.{Element, Small, IsElem, IsFront}
 use Rattle.term_forms.specs.Forms.{IsForm, Cons}
 use Rattle.term_forms.specs.Places.{Placed, StandsAt}
-use Rattle.term_forms.specs.Reading.{front}
+use Rattle.term_forms.specs.Reading.{front, whole_of}
+use Rattle.term_forms.specs.Seen.{element}
 use Rattle.term_forms.specs.Words.{bar}
-use Rattle.heap_cells.specs.Inner.Found.{behind_bar, tail_at}
-use Rattle.heap_cells.proofs.GatheringFacts.{elem-some}
-use Rattle.heap_cells.proofs.RecordFacts.{append-none}
-
--- what is behind an element's spelling ends it
-abbrev pub IsEnded : Type 0
-IsEnded = (text rest : List ℕ) (e : Element) → IsElem text e → EndsElement rest → IsFront (text ++ rest) e (length text)
+use Rattle.heap_cells.specs.Inner.Found.{IsPairOf, pair_spelled, size_read, size_at, spelled_at}
+use Rattle.heap_cells.specs.Inner.Spellings.{Spelling, IsSpelling}
 
 -- the front of a text is the longest prefix that spells an element
 abbrev pub IsLongest : Type 0
 IsLongest = (text : List ℕ) (e : Element) (n : ℕ) → (front text ≡ Some (e, n)) ↔ IsFront text e n
 
-All-two : (P : Placed → Type 0) (p q : Placed) → P p → P q → All P (p ∷ q ∷ [])
+-- what is read of a whole text is the element that it spells
+abbrev pub IsRead : Type 0
+IsRead = (text : List ℕ) (e : Element) → (whole_of text ≡ Some e) ↔ IsElem text e
+
+-- ---- a cons cell
+
+pub pair-form : (enc : Enc) (text : List ℕ) (head : Elem) (len : ℕ) (tail : Elem) → IsPairOf text head len tail → IsForm enc text (Cons (element head) (element tail))
+pair-form enc text head len tail is = (is.first, is.rest, is.split, is.head_is, is.tail_is)
+
+All-two : (P : Spelling → Type 0) (p q : Spelling) → P p → P q → All P (p ∷ q ∷ [])
 All-two P p q one other ℕ.zero d inside = one
 All-two P p q one other (suc ℕ.zero) d inside = other
 All-two P p q one other (suc (suc k)) d inside = absurd (omega arith)
 
-pub list-stands : (enc : Enc) (text : List ℕ) (head tail : Element) → IsEnded → IsLongest → IsForm enc text (Cons head tail)
-    → All (StandsAt text) (record { at = 1; element = head } ∷ record { at = tail_at text; element = tail } ∷ [])
-list-stands enc text head tail ended longest is =
-    let first = is.0 in
-    let rest = is.1 in
-    let behind : drop 1 text ≡ first ++ bar ∷ rest = ap (drop 1) is.2 in
-    let head_read : front (drop 1 text) ≡ Some (head, length first) =
-    ap front behind ∙ (longest (first ++ bar ∷ rest) head (length first)).1 (ended first (bar ∷ rest) head is.3 (inl refl)) in
-    let place : tail_at text ≡ length first + 2 = ap behind_bar head_read in
-    let size : length text ≡ length first + 2 + length rest = let n = ap length is.2 in omega (arith, n, length-append first (bar ∷ rest)) in
-    let tail_read : front rest ≡ Some (tail, length rest) =
-    (longest rest tail (length rest)).1 (subst (λ l. IsFront l tail (length rest)) (append-none rest) (ended rest [] tail is.4 tt)) in
-    let front_size : length first + 2 ≡ length (codes "l" ++ (first ++ bar ∷ [])) = omega (arith, length-append first (bar ∷ [])) in
-    let whole : text ≡ (codes "l" ++ (first ++ bar ∷ [])) ++ rest = is.2 ∙ ap (λ l. codes "l" ++ l) (sym (append_assoc first (bar ∷ []) rest)) in
-    let there : drop (length first + 2) text ≡ rest =
-    ap (λ n. drop n text) front_size ∙ ap (drop (length (codes "l" ++ (first ++ bar ∷ [])))) whole ∙ drop-append_seam (codes "l" ++ (first ++ bar ∷ [])) rest in
-    let some = elem-some rest tail is.4 in
-    All-two (StandsAt text) (record { at = 1; element = head }) (record { at = tail_at text; element = tail })
-    (record { within = omega (arith, size); len = length first; read = head_read })
-    (record { within = omega (arith, size, place, some); len = length rest; read = ap (λ n. front (drop n text)) place ∙ ap front there ∙ tail_read })
+pub pair-spelled : (text : List ℕ) (head : Elem) (len : ℕ) (tail : Elem) → IsRead → IsPairOf text head len tail → All (IsSpelling text) (pair_spelled text head len tail)
+pair-spelled text head len tail read is =
+    let first = is.first in
+    let rest = is.rest in
+    let behind : drop 1 text ≡ first ++ bar ∷ rest = ap (drop 1) is.split in
+    let size : length text ≡ len + 2 + length rest = let n = ap length is.split in omega (arith, n, is.len_is, length-append first (bar ∷ rest)) in
+    let count : 1 + len - 1 ≡ length first = omega (arith, is.len_is) in
+    let one : slice_range text 1 (1 + len) ≡ first =
+    ap (λ n. take n (drop 1 text)) count ∙ ap (take (length first)) behind ∙ take-append_seam first (bar ∷ rest) in
+    let before : len + 2 ≡ length (codes "l" ++ (first ++ bar ∷ [])) = omega (arith, is.len_is, length-append first (bar ∷ [])) in
+    let whole : text ≡ (codes "l" ++ (first ++ bar ∷ [])) ++ rest = is.split ∙ ap (λ l. codes "l" ++ l) (sym (append_assoc first (bar ∷ []) rest)) in
+    let there : drop (len + 2) text ≡ rest =
+    ap (λ n. drop n text) before ∙ ap (drop (length (codes "l" ++ (first ++ bar ∷ [])))) whole ∙ drop-append_seam (codes "l" ++ (first ++ bar ∷ [])) rest in
+    let others : len + 2 + (length text - (len + 2)) - (len + 2) ≡ length rest = omega (arith, size) in
+    let other : slice_range text (len + 2) (len + 2 + (length text - (len + 2))) ≡ rest =
+    ap (λ n. take n (drop (len + 2) text)) others ∙ ap (take (length rest)) there ∙ take-length rest in
+    All-two (IsSpelling text) (record { at = 1; len = len; element = element head }) (record { at = len + 2; len = length text - (len + 2); element = element tail })
+    (record { within = omega (arith, size); spells = ap whole_of one ∙ (read first (element head)).1 is.head_is })
+    (record { within = omega (arith, size); spells = ap whole_of other ∙ (read rest (element tail)).1 is.tail_is })
+
+-- ---- another form
+
+same-elements : (text : List ℕ) (ps : List Placed) → map (λ (s : Spelling). s.element) (map (spelled_at text) ps) ≡ map (λ (p : Placed). p.element) ps
+same-elements text [] = refl
+same-elements text (p ∷ ps) = ap (λ es. p.element ∷ es) (same-elements text ps)
+
+pub elements-spelled : (text : List ℕ) (ps : List Placed) (es : List Element) → map (λ (p : Placed). p.element) ps ≡ es
+    → map (λ (s : Spelling). s.element) (map (spelled_at text) ps) ≡ es
+elements-spelled text ps es are = same-elements text ps ∙ are
+
+spelled-there : (text : List ℕ) (p : Placed) → IsLongest → IsRead → StandsAt text p → IsSpelling text (spelled_at text p)
+spelled-there text p longest read stands =
+    let len = stands.len in
+    let size : size_read (front (drop p.at text)) ≡ len = ap size_read stands.read in
+    let is : IsFront (drop p.at text) p.element len = (longest (drop p.at text) p.element len).0 stands.read in
+    let before = stands.within in
+    let within = is.within in
+    let fits : p.at + len ≤ length text = omega (arith, before, within, length-drop p.at text) in
+    let count : p.at + len - p.at ≡ len = omega arith in
+    subst (λ n. IsSpelling text (record { at = p.at; len = n; element = p.element })) (sym size) (record {
+      within = fits;
+      spells = ap (λ n. whole_of (take n (drop p.at text))) count ∙ (read (take len (drop p.at text)) p.element).1 is.spells;
+    })
+
+pub all-spelled : (text : List ℕ) (ps : List Placed) → IsLongest → IsRead → All (StandsAt text) ps → All (IsSpelling text) (map (spelled_at text) ps)
+all-spelled text ps longest read stand =
+    All-map (IsSpelling text) (spelled_at text) ps (All-weaker (StandsAt text) (λ p. IsSpelling text (spelled_at text p)) (λ p. spelled-there text p longest read) ps stand)
+
+-- an integer is spelled by one byte more than it has
+pub small-size : (text : List ℕ) (p : Placed) (integer : List ℕ) → IsRead → p.element ≡ Small integer → IsSpelling text (spelled_at text p) → length integer + 1 ≡ size_at text p.at
+small-size text p integer read same is =
+    let n = size_at text p.at in
+    let part = slice_range text p.at (p.at + size_at text p.at) in
+    let spelled : IsElem part (Small integer) = subst (IsElem part) same ((read part p.element).0 is.spells) in
+    let count : length part ≡ suc (length integer) = ap length spelled.0 in
+    let within = is.within in
+    omega (arith, count, within, length-take (p.at + n - p.at) (drop p.at text), length-drop p.at text)

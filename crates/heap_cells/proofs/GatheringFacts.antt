@@ -13,20 +13,22 @@ use Rattle.term_forms.specs.Elements.{Element, IsElem, Nil, Small, Atom, Pid, Po
 use Rattle.term_forms.specs.Forms as forms
 use Rattle.term_forms.specs.Forms.{HeapForm, IsForm}
 use Rattle.term_forms.specs.Joined.{IsJoined}
-use Rattle.term_forms.specs.Places.{elements_of, Placed, StandsAt}
-use Rattle.term_forms.specs.Reading.{front}
+use Rattle.term_forms.specs.Places.{elements_of}
+use Rattle.term_forms.specs.Reading.{whole_of}
 use Rattle.term_forms.specs.ReadingForms.{form_of}
 use Rattle.term_forms.specs.SeenForms.{heap_form}
 use Rattle.term_forms.specs.declared.shapes.Form.{Form}
 use Rattle.term_forms.specs.Words.{comma, colon, bar, IsLed, led_of}
 use Rattle.heap_cells.specs.declared.arena.Arena.{Arena}
 use Rattle.heap_cells.specs.declared.cells.Slot.{Slot}
+use Rattle.heap_cells.specs.declared.cells.Span.{Span}
 use Rattle.heap_cells.specs.declared.gathering.Gathering.{Gathering}
 use Rattle.heap_cells.specs.Cells.{Cell, spelled_cell, cell_of, line_cells, elements_in, kind_of, cell_weight, weight_of}
 use Rattle.heap_cells.specs.Targets.{target, slot_target}
-use Rattle.heap_cells.specs.Inner.Gathering.{slot_with, slot_for, form_found, slots_found, AreSmall, new_record, IsLineAt, IsBodyAt, IsGathered, Leads, AreAll}
+use Rattle.heap_cells.specs.Inner.Gathering.{slot_with, slot_for, form_found, slots_found, new_record, IsLineAt, IsBodyAt, IsGathered, Leads, AreAll}
 use Rattle.heap_cells.specs.Inner.Parts.{IsPart}
-use Rattle.heap_cells.specs.Inner.Records.{cell_in, cells_in, elements_by, AreSlots, Spells, AllSpell, element_at}
+use Rattle.heap_cells.specs.Inner.Records.{cell_in, cells_in, AreSlots, IsSpan, Spells, AllSpell, element_at}
+use Rattle.heap_cells.specs.Inner.Spellings.{Spelling, IsSpelling}
 use Rattle.heap_cells.proofs.PushingFacts.{AreSlots-push}
 use Rattle.heap_cells.specs.declared.texts.Texts.{Texts}
 use Rattle.heap_cells.specs.Inner.Texts.{text_of, seam_of}
@@ -93,82 +95,90 @@ form-few enc text (forms.Node children) is =
 -- ---- what was found in the text of a form
 
 abbrev pub Found : Type 0
-Found = Option (Form × List Placed)
+Found = Option (Form × List Spelling)
 
 pub found-few : (enc : Enc) (text : List ℕ) (found : Found) → IfSome found (λ f. IsForm enc text (heap_form f.0)) → length (elements_in (form_found found)) ≤ length text
 found-few enc text None is = omega arith
 found-few enc text (Some f) is = form-few enc text (heap_form f.0) is
 
-pub found-small : (text : List ℕ) (from : ℕ) (found : Found) → from + length text < 4294967296 → IfSome found (λ f. All (StandsAt text) f.1) → AreSmall from found
-found-small text from None small stand = tt
-found-small text from (Some f) small stand = λ k d inside. let within = (stand k d inside).within in omega (arith, within, small)
-
 -- ---- the slots of its elements
 
-with-target : (place : ℕ) (e : Element) → slot_target (slot_with place e) ≡ target [] e
-with-target place Nil = refl
-with-target place (Small integer) = refl
-with-target place (Atom bytes) = refl
-with-target place (Pid pid) = refl
-with-target place (Port port) = refl
-with-target place (Ref address) = refl
+with-target : (span : Span) (e : Element) → slot_target (slot_with span e) ≡ target [] e
+with-target span Nil = refl
+with-target span (Small integer) = refl
+with-target span (Atom bytes) = refl
+with-target span (Pid pid) = refl
+with-target span (Port port) = refl
+with-target span (Ref address) = refl
 
-for-targets : (from : ℕ) (ps : List Placed) → map slot_target (map (slot_for from) ps) ≡ map (target []) (map (λ (p : Placed). p.element) ps)
+for-targets : (from : ℕ) (ss : List Spelling) → map slot_target (map (slot_for from) ss) ≡ map (target []) (map (λ (s : Spelling). s.element) ss)
 for-targets from [] = refl
-for-targets from (p ∷ ps) =
-    ap (λ t. t ∷ map slot_target (map (slot_for from) ps)) (with-target (from + p.at) p.element)
-    ∙ ap (λ ts. target [] p.element ∷ ts) (for-targets from ps)
+for-targets from (s ∷ ss) =
+    ap (λ t. t ∷ map slot_target (map (slot_for from) ss)) (with-target (record { at = from + s.at; len = s.len }) s.element)
+    ∙ ap (λ ts. target [] s.element ∷ ts) (for-targets from ss)
 
-pub found-targets : (from : ℕ) (found : Found) → IfSome found (λ f. map (λ (p : Placed). p.element) f.1 ≡ elements_of (heap_form f.0))
+pub found-targets : (from : ℕ) (found : Found) → IfSome found (λ f. map (λ (s : Spelling). s.element) f.1 ≡ elements_of (heap_form f.0))
     → map slot_target (slots_found from found) ≡ map (target []) (elements_in (form_found found))
 found-targets from None are = refl
 found-targets from (Some f) are = for-targets from f.1 ∙ ap (map (target [])) are
 
--- the element that stands at a place of a part of the text
-part-element : (text : List ℕ) (from upto at : ℕ) → at ≤ upto - from → slice_range text (from + at) upto ≡ drop at (slice_range text from upto)
-part-element text from upto at within =
-    let rest : upto - (from + at) ≡ (upto - from) - at = omega arith in
-    let whole : at + ((upto - from) - at) ≡ upto - from = omega (arith, within) in
-    ap (λ n. take n (drop (from + at) text)) rest
-    ∙ ap (take ((upto - from) - at)) (sym (drop-drop at from text))
-    ∙ sym (drop-take at ((upto - from) - at) (drop from text))
-    ∙ ap (λ n. drop at (take n (drop from text))) whole
+with-spells : (text : List ℕ) (seam : ℕ) (span : Span) (e : Element) → IsSpan text seam span → element_at text span ≡ Some e → Spells text seam (slot_with span e) e
+with-spells text seam span Nil part is = (part, is)
+with-spells text seam span (Small integer) part is = (part, is)
+with-spells text seam span (Atom bytes) part is = (part, is)
+with-spells text seam span (Pid pid) part is = (part, is)
+with-spells text seam span (Port port) part is = (part, is)
+with-spells text seam span (Ref address) part is = tt
 
-with-spells : (text : List ℕ) (seam place upto : ℕ) (e : Element) → IsPart seam (length text) place upto → element_at text place upto ≡ Some e
-    → Spells text seam upto (slot_with place e) e
-with-spells text seam place upto Nil part is = (part, is)
-with-spells text seam place upto (Small integer) part is = (part, is)
-with-spells text seam place upto (Atom bytes) part is = (part, is)
-with-spells text seam place upto (Pid pid) part is = (part, is)
-with-spells text seam place upto (Port port) part is = (part, is)
-with-spells text seam place upto (Ref address) part is = tt
+slice-slice : (text : List ℕ) (base n from upto : ℕ) → from ≤ upto → upto ≤ n
+    → slice_range (slice_range text base (base + n)) from upto ≡ slice_range text (base + from) (base + upto)
+slice-slice text base n from upto ordered within =
+    let whole : base + n - base ≡ from + (n - from) = omega arith in
+    let size : base + upto - (base + from) ≡ upto - from = omega arith in
+    ap (λ k. take (upto - from) (drop from (take k (drop base text)))) whole
+    ∙ ap (take (upto - from)) (drop-take from (n - from) (drop base text))
+    ∙ take-take (upto - from) (n - from) (drop from (drop base text)) (omega arith)
+    ∙ ap (take (upto - from)) (drop-drop from base text)
+    ∙ ap (λ k. take k (drop (base + from) text)) (sym size)
 
-for-spells : (text : List ℕ) (seam from upto : ℕ) (p : Placed) → IsPart seam (length text) from upto → StandsAt (slice_range text from upto) p
-    → Spells text seam upto (slot_for from p) p.element
-for-spells text seam from upto p part stands =
+-- what is spelled in a part of the text is spelled in the text
+for-spells : (text : List ℕ) (seam from upto : ℕ) (s : Spelling) → IsPart seam (length text) from upto → IsSpelling (slice_range text from upto) s
+    → Spells text seam (slot_for from s) s.element
+for-spells text seam from upto s part is =
     let size : length (slice_range text from upto) ≤ upto - from = omega (arith, length-take (upto - from) (drop from text)) in
-    let within = stands.within in
-    with-spells text seam (from + p.at) upto p.element
-    (record { ordered = omega (arith, size, within, part.ordered); within = part.within; one_body = λ before. part.one_body (omega (arith, before)) })
-    (ap (λ l. option_map (λ (found : Element × ℕ). found.0) (front l)) (part-element text from upto p.at (omega (arith, size, within)))
-    ∙ ap (option_map (λ (found : Element × ℕ). found.0)) stands.read)
+    let fits : s.at + s.len ≤ upto - from = let within = is.within in omega (arith, size, within) in
+    let ordered = part.ordered in
+    let within = part.within in
+    let whole : upto ≡ from + (upto - from) = omega (arith, ordered) in
+    let end : from + s.at + s.len ≡ from + (s.at + s.len) = omega arith in
+    let same : slice_range text (from + s.at) (from + s.at + s.len) ≡ slice_range (slice_range text from upto) s.at (s.at + s.len) =
+    ap (slice_range text (from + s.at)) end
+    ∙ sym (slice-slice text from (upto - from) s.at (s.at + s.len) (omega arith) fits)
+    ∙ ap (λ k. slice_range (slice_range text from k) s.at (s.at + s.len)) (sym whole) in
+    with-spells text seam (record { at = from + s.at; len = s.len }) s.element
+    (record {
+      ordered = omega arith;
+      within = omega (arith, fits, ordered, within);
+      one_body = λ before. let one = part.one_body (omega (arith, before)) in omega (arith, fits, ordered, one);
+    })
+    (ap whole_of same ∙ is.spells)
 
 pub found-spell : (text : List ℕ) (seam from upto : ℕ) (found : Found) → IsPart seam (length text) from upto
-    → IfSome found (λ f. map (λ (p : Placed). p.element) f.1 ≡ elements_of (heap_form f.0)) → IfSome found (λ f. All (StandsAt (slice_range text from upto)) f.1)
-    → AllSpell text seam upto (slots_found from found) (elements_in (form_found found))
-found-spell text seam from upto None part are stand k s e slot_is element_is = cc
-found-spell text seam from upto (Some f) part are stand k s e slot_is element_is =
+    → IfSome found (λ f. map (λ (s : Spelling). s.element) f.1 ≡ elements_of (heap_form f.0)) → IfSome found (λ f. All (IsSpelling (slice_range text from upto)) f.1)
+    → AllSpell text seam (slots_found from found) (elements_in (form_found found))
+found-spell text seam from upto None part are spelled k s e slot_is element_is = cc
+found-spell text seam from upto (Some f) part are spelled k s e slot_is element_is =
     let ps = f.1 in
     let there = has-at ps k (omega (arith, slice_get_within (map (slot_for from) ps) k s slot_is, length-map ps (slot_for from))) in
     let p = there.0 in
     let slot_same : Some (slot_for from p) ≡ Some s = sym (slice_get-map (slot_for from) ps k ∙ ap (option_map (slot_for from)) there.1) ∙ slot_is in
     let element_same : Some p.element ≡ Some e =
-    sym (ap (λ l. slice_get l k) (sym are) ∙ slice_get-map (λ (p : Placed). p.element) ps k ∙ ap (option_map (λ (p : Placed). p.element)) there.1) ∙ element_is in
-    let stands : StandsAt (slice_range text from upto) p =
-    subst (StandsAt (slice_range text from upto)) (get_or_from_slice_get ps k p p there.1) (stand k p (slice_get_within ps k p there.1)) in
+    sym (ap (λ l. slice_get l k) (sym are) ∙ slice_get-map (λ (p : Spelling). p.element) ps k ∙ ap (option_map (λ (p : Spelling). p.element)) there.1) ∙ element_is in
+    let is : IsSpelling (slice_range text from upto) p =
+    subst (IsSpelling (slice_range text from upto)) (get_or_from_slice_get ps k p p there.1) (spelled k p (slice_get_within ps k p there.1)) in
     let s_is : slot_for from p ≡ s = cc in
     let e_is : p.element ≡ e = cc in
-    subst (λ (x : Slot). Spells text seam upto x e) s_is (subst (Spells text seam upto (slot_for from p)) e_is (for-spells text seam from upto p part stands))
+    subst (λ (x : Slot). Spells text seam x e) s_is (subst (Spells text seam (slot_for from p)) e_is (for-spells text seam from upto p part is))
 
 -- ---- one more cell
 
@@ -176,8 +186,8 @@ found-spell text seam from upto (Some f) part are stand k s e slot_is element_is
 pub record IsFound (text : List ℕ) (seam : ℕ) (enc : Enc) (from upto : ℕ) (found : Found) : Type 0 where
   pub part : IsPart seam (length text) from upto
   pub form : form_found found ≡ form_of enc (slice_range text from upto)
-  pub elements : IfSome found (λ f. map (λ (p : Placed). p.element) f.1 ≡ elements_of (heap_form f.0))
-  pub places : IfSome found (λ f. All (StandsAt (slice_range text from upto)) f.1)
+  pub elements : IfSome found (λ f. map (λ (s : Spelling). s.element) f.1 ≡ elements_of (heap_form f.0))
+  pub places : IfSome found (λ f. All (IsSpelling (slice_range text from upto)) f.1)
 
 -- the record of its cell
 new-form : (text : List ℕ) (seam : ℕ) (enc : Enc) (address from upto first : ℕ) (found : Found) → IsFound text seam enc from upto found
@@ -198,10 +208,9 @@ slots-more text seam enc address from upto found old new is are cells slots =
     rw (cells, slots) (AreSlots-push text seam enc [] old.cells.items old.slots.items (slots_found from found) r are
     (record { first = refl; part = subst (IsPart seam (length text) from) end is.part; kind = ap (option_map kind_of) form })
     (found-targets from found is.elements ∙ ap (λ f. map (target []) (elements_in f)) form)
-    (subst (λ n. AllSpell text seam n (slots_found from found) (elements_by text enc r)) end
-    (subst (AllSpell text seam upto (slots_found from found)) (ap elements_in form) (found-spell text seam from upto found is.part is.elements is.places))))
+    (subst (AllSpell text seam (slots_found from found)) (ap elements_in form) (found-spell text seam from upto found is.part is.elements is.places)))
 
-pub slots-found-count : (from : ℕ) (found : Found) → IfSome found (λ f. map (λ (p : Placed). p.element) f.1 ≡ elements_of (heap_form f.0))
+pub slots-found-count : (from : ℕ) (found : Found) → IfSome found (λ f. map (λ (s : Spelling). s.element) f.1 ≡ elements_of (heap_form f.0))
     → length (slots_found from found) ≡ length (elements_in (form_found found))
 slots-found-count from found are =
     sym (length-map (slots_found from found) slot_target) ∙ ap length (found-targets from found are) ∙ length-map (elements_in (form_found found)) (target [])
@@ -233,13 +242,13 @@ leads-passed text enc old new cell rest all weight over leads = record {
 }
 
 pub found-is : (text : List ℕ) (seam : ℕ) (enc : Enc) (from upto : ℕ) (part : List ℕ) (found : Found) → IsPart seam (length text) from upto → part ≡ slice_range text from upto
-    → form_found found ≡ form_of enc part → IfSome found (λ f. map (λ (p : Placed). p.element) f.1 ≡ elements_of (heap_form f.0)) → IfSome found (λ f. All (StandsAt part) f.1)
+    → form_found found ≡ form_of enc part → IfSome found (λ f. map (λ (s : Spelling). s.element) f.1 ≡ elements_of (heap_form f.0)) → IfSome found (λ f. All (IsSpelling part) f.1)
     → IsFound text seam enc from upto found
 found-is text seam enc from upto part found within is form elements places = record {
   part = within;
   form = form ∙ ap (form_of enc) is;
   elements = elements;
-  places = subst (λ l. IfSome found (λ f. All (StandsAt l) f.1)) is places;
+  places = subst (λ l. IfSome found (λ f. All (IsSpelling l) f.1)) is places;
 }
 
 -- the weight of the line's cell
@@ -285,17 +294,6 @@ pub no-line : (enc : Enc) (line : TextLine) (rest : List TextLine) → None ≡ 
 no-line enc line rest none = ap (λ o. cons_option (option_map (spelled_cell enc) o) (filter_map (cell_of enc) rest)) (sym none)
 
 -- ---- a line of a body
-
-slice-slice : (text : List ℕ) (base n from upto : ℕ) → from ≤ upto → upto ≤ n
-    → slice_range (slice_range text base (base + n)) from upto ≡ slice_range text (base + from) (base + upto)
-slice-slice text base n from upto ordered within =
-    let whole : base + n - base ≡ from + (n - from) = omega arith in
-    let size : base + upto - (base + from) ≡ upto - from = omega arith in
-    ap (λ k. take (upto - from) (drop from (take k (drop base text)))) whole
-    ∙ ap (take (upto - from)) (drop-take from (n - from) (drop base text))
-    ∙ take-take (upto - from) (n - from) (drop from (drop base text)) (omega arith)
-    ∙ ap (take (upto - from)) (drop-drop from base text)
-    ∙ ap (λ k. take k (drop (base + from) text)) (sym size)
 
 pub line-at : (text : List ℕ) (seam base : ℕ) (body : List ℕ) (line : TextLine) → IsBodyAt text seam base body → IsLinePart body line → IsLineAt text seam base line
 line-at text seam base body line stands part = record {

@@ -120,7 +120,7 @@ found-target address (Some n) = refl
 slot-settled : (rs : List CellRecord) (known : List Cell) (s : Slot) → ((address : ℕ) → record_with rs address ≡ number_at known address)
     → slot_target (settled rs s) ≡ settled_target known (slot_target s)
 unfolding settled_target
-slot-settled rs known (slot.Imm place) same = refl
+slot-settled rs known (slot.Imm span) same = refl
 slot-settled rs known (slot.Cell ix) same = refl
 slot-settled rs known (slot.Gone address) same = found-target address (record_with rs address) ∙ ap (target_at address) (same address)
 
@@ -145,24 +145,24 @@ elements-settled known [] = refl
 elements-settled known (e ∷ es) =
     ap (λ t. t ∷ map (settled_target known) (map (target []) es)) (element-settled known e) ∙ ap (λ ts. target known e ∷ ts) (elements-settled known es)
 
-found-spells : (text : List ℕ) (seam upto address : ℕ) (found : Option ℕ) (e : Element) → Spells text seam upto (cell_or_gone address found) e
-found-spells text seam upto address None e = tt
-found-spells text seam upto address (Some n) e = tt
+found-spells : (text : List ℕ) (seam address : ℕ) (found : Option ℕ) (e : Element) → Spells text seam (cell_or_gone address found) e
+found-spells text seam address None e = tt
+found-spells text seam address (Some n) e = tt
 
-spells-settled : (text : List ℕ) (seam upto : ℕ) (rs : List CellRecord) (s : Slot) (e : Element) → Spells text seam upto s e → Spells text seam upto (settled rs s) e
-spells-settled text seam upto rs (slot.Imm place) e is = is
-spells-settled text seam upto rs (slot.Cell ix) e is = tt
-spells-settled text seam upto rs (slot.Gone address) e is = found-spells text seam upto address (record_with rs address) e
+spells-settled : (text : List ℕ) (seam : ℕ) (rs : List CellRecord) (s : Slot) (e : Element) → Spells text seam s e → Spells text seam (settled rs s) e
+spells-settled text seam rs (slot.Imm span) e is = is
+spells-settled text seam rs (slot.Cell ix) e is = tt
+spells-settled text seam rs (slot.Gone address) e is = found-spells text seam address (record_with rs address) e
 
 some-mapped : (f : Slot → Slot) (o : Option Slot) (s : Slot) → option_map f o ≡ Some s → (old : Slot) × (o ≡ Some old) × (f old ≡ s)
 some-mapped f None s is = cc
 some-mapped f (Some old) s is = (old, refl, cc)
 
-spell-settled : (text : List ℕ) (seam upto : ℕ) (rs : List CellRecord) (slots : List Slot) (es : List Element) → AllSpell text seam upto slots es
-    → AllSpell text seam upto (map (settled rs) slots) es
-spell-settled text seam upto rs slots es all k s e slot_is element_is =
+spell-settled : (text : List ℕ) (seam : ℕ) (rs : List CellRecord) (slots : List Slot) (es : List Element) → AllSpell text seam slots es
+    → AllSpell text seam (map (settled rs) slots) es
+spell-settled text seam rs slots es all k s e slot_is element_is =
     let old = some-mapped (settled rs) (slice_get slots k) s (sym (slice_get-map (settled rs) slots k) ∙ slot_is) in
-    subst (λ (x : Slot). Spells text seam upto x e) old.2 (spells-settled text seam upto rs old.0 e (all k old.0 e old.1 element_is))
+    subst (λ (x : Slot). Spells text seam x e) old.2 (spells-settled text seam rs old.0 e (all k old.0 e old.1 element_is))
 
 slots_at-map : (f : Slot → Slot) (rs : List CellRecord) (slots : List Slot) (i : ℕ) → slots_at rs (map f slots) i ≡ map f (slots_at rs slots i)
 slots_at-map f rs slots i =
@@ -180,8 +180,8 @@ AreSlots-settled text seam enc rs slots are =
       laid = subst (AreLaid text seam enc 0 rs) (sym (length-map slots (settled rs))) are.laid;
       targets = slots-settled rs known slots (λ address. number-at text enc rs known address refl)
           ∙ ap (map (settled_target known)) are.targets ∙ elements-settled known (flat_map (elements_by text enc) rs);
-      spelled = λ i r is. subst (λ l. AllSpell text seam (r.at + r.len) l (elements_by text enc r)) (sym (slots_at-map (settled rs) rs slots i))
-          (spell-settled text seam (r.at + r.len) rs (slots_at rs slots i) (elements_by text enc r) (are.spelled i r is));
+      spelled = λ i r is. subst (λ l. AllSpell text seam l (elements_by text enc r)) (sym (slots_at-map (settled rs) rs slots i))
+          (spell-settled text seam rs (slots_at rs slots i) (elements_by text enc r) (are.spelled i r is));
     }
 
 -- ---- the heap of two bodies

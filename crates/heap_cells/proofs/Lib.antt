@@ -9,4 +9,5 @@ pub mod PushingFacts
 pub mod RanksFacts
 pub mod RecordFacts
 pub mod ResolvingFacts
+pub mod SpelledFacts
 pub mod TargetFacts

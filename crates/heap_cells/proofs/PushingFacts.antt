@@ -73,7 +73,7 @@ slots_at-new rs slots added r i first last =
 
 pub AreSlots-push : (text : List ℕ) (seam : ℕ) (enc : Enc) (known : List Cell) (rs : List CellRecord) (slots added : List Slot) (r : CellRecord)
     → AreSlots text seam enc known rs slots → IsRecord text seam enc (length slots) r → map slot_target added ≡ map (target known) (elements_by text enc r)
-    → AllSpell text seam (r.at + r.len) added (elements_by text enc r) → AreSlots text seam enc known (rs ++ r ∷ []) (slots ++ added)
+    → AllSpell text seam added (elements_by text enc r) → AreSlots text seam enc known (rs ++ r ∷ []) (slots ++ added)
 AreSlots-push text seam enc known rs slots added r are one leads spell =
     let es = elements_by text enc r in
     let count : length added ≡ length es = sym (length-map added slot_target) ∙ ap length leads ∙ length-map es (target known) in
@@ -88,12 +88,12 @@ AreSlots-push text seam enc known rs slots added r are one leads spell =
     }
   where
     each : (i : ℕ) (other : CellRecord) → slice_get (rs ++ r ∷ []) i ≡ Some other → (i < length rs) ⊎ (length rs ≤ i)
-        → AllSpell text seam (other.at + other.len) (slots_at (rs ++ r ∷ []) (slots ++ added) i) (elements_by text enc other)
+        → AllSpell text seam (slots_at (rs ++ r ∷ []) (slots ++ added) i) (elements_by text enc other)
     each i other is (inl before) =
         let old = sym (get-old rs r i before) ∙ is in
-        subst (λ l. AllSpell text seam (other.at + other.len) l (elements_by text enc other))
+        subst (λ l. AllSpell text seam l (elements_by text enc other))
         (sym (slots_at-old text seam enc known rs slots added r other i are one.first old before)) (are.spelled i other old)
     each i other is (inr last) =
         let new = get-new rs r other i last is in
-        subst (λ l. AllSpell text seam (other.at + other.len) l (elements_by text enc other)) (sym (slots_at-new rs slots added r i one.first new.0))
-        (subst (λ (x : CellRecord). AllSpell text seam (x.at + x.len) added (elements_by text enc x)) new.1 spell)
+        subst (λ l. AllSpell text seam l (elements_by text enc other)) (sym (slots_at-new rs slots added r i one.first new.0))
+        (subst (λ (x : CellRecord). AllSpell text seam added (elements_by text enc x)) new.1 spell)

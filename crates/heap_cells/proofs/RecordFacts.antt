@@ -197,10 +197,10 @@ slots_at-few rs slots i within = omega (arith, length-take {A = Slot}, length-dr
 -- ---- an element of a cell
 
 -- a slot of a cell, with the element that it stands for
-pub record IsKidOf (text : List ℕ) (seam : ℕ) (cells : List Cell) (i n upto : ℕ) (s : Slot) : Type 0 where
+pub record IsKidOf (text : List ℕ) (seam : ℕ) (cells : List Cell) (i n : ℕ) (s : Slot) : Type 0 where
   pub element : Element
   pub stands : slice_get (elements_at cells i) n ≡ Some element
-  pub spells : Spells text seam upto s element
+  pub spells : Spells text seam s element
   pub target_is : slot_target s ≡ target cells element
 
 pub slots-length : (rs : List CellRecord) (slots : List Slot) (cells : List Cell) (i : ℕ) → map slot_target (slots_at rs slots i) ≡ map (target cells) (elements_at cells i)
@@ -208,11 +208,12 @@ pub slots-length : (rs : List CellRecord) (slots : List Slot) (cells : List Cell
 slots-length rs slots cells i are =
     sym (length-map (slots_at rs slots i) slot_target) ∙ ap length are ∙ length-map (elements_at cells i) (target cells)
 
-pub kid-of : (text : List ℕ) (seam : ℕ) (enc : Enc) (rs : List CellRecord) (slots : List Slot) (cells : List Cell) (i n : ℕ) (r : CellRecord) (d : Slot)
-    → AreSlots text seam enc (cells_in text enc rs) rs slots → cells_in text enc rs ≡ cells → i < length cells → slice_get rs i ≡ Some r
-    → n < length (elements_at cells i) → IsKidOf text seam cells i n (r.at + r.len) (get_or (slots_at rs slots i) n d)
-kid-of text seam enc rs slots cells i n r d slots_are are inside stands place =
+pub kid-of : (text : List ℕ) (seam : ℕ) (enc : Enc) (rs : List CellRecord) (slots : List Slot) (cells : List Cell) (i n : ℕ) (d : Slot)
+    → AreSlots text seam enc (cells_in text enc rs) rs slots → cells_in text enc rs ≡ cells → i < length cells
+    → n < length (elements_at cells i) → IsKidOf text seam cells i n (get_or (slots_at rs slots i) n d)
+kid-of text seam enc rs slots cells i n d slots_are are inside place =
     let facts = slots-of text seam enc rs slots cells i slots_are are inside in
+    let read = has-at rs i (within-records text enc rs cells i are inside) in
     let there = has-at (elements_at cells i) n place in
     let count = slots-length rs slots cells i facts.targets in
     let s = get_or (slots_at rs slots i) n d in
@@ -223,28 +224,28 @@ kid-of text seam enc rs slots cells i n r d slots_are are inside stands place =
     record {
       element = there.0;
       stands = there.1;
-      spells = slots_are.spelled i r stands n s there.0 slot_is (ap (λ l. slice_get l n) (elements-of text enc rs cells i r are stands) ∙ there.1);
+      spells = slots_are.spelled i read.0 read.1 n s there.0 slot_is (ap (λ l. slice_get l n) (elements-of text enc rs cells i read.0 are read.1) ∙ there.1);
       target_is = cc;
     }
 
-pub spells-readable : (text : List ℕ) (seam upto : ℕ) (s : Slot) (e : Element) → Spells text seam upto s e → IsReadable text seam upto s
-spells-readable text seam upto (slot.Imm place) e spells = (spells.0, ap is_some spells.1)
-spells-readable text seam upto (slot.Cell ix) e spells = tt
-spells-readable text seam upto (slot.Gone address) e spells = tt
+pub spells-readable : (text : List ℕ) (seam : ℕ) (s : Slot) (e : Element) → Spells text seam s e → IsReadable text seam s
+spells-readable text seam (slot.Imm span) e spells = (spells.0, ap is_some spells.1)
+spells-readable text seam (slot.Cell ix) e spells = tt
+spells-readable text seam (slot.Gone address) e spells = tt
 
 keeps-imm : (found : Option Element) (e : Element) (k : Kid) → found ≡ Some e → IfSome found (KeepsElement k) → KeepsElement k e
 keeps-imm found e k is keeps = rw is at keeps
 
 -- what is kept of the slot's spelling is the element
-pub keeps-element : (text : List ℕ) (seam upto : ℕ) (s : Slot) (e : Element) (k : Kid) → Spells text seam upto s e → kid_target k ≡ slot_target s
-    → IfSome (spelled_by text upto s) (KeepsElement k) → KeepsElement k e
-keeps-element text seam upto (slot.Imm place) e k spells is keeps = keeps-imm (element_at text place upto) e k spells.1 keeps
-keeps-element text seam upto (slot.Cell ix) e (kid.Imm found) spells is keeps = cc
-keeps-element text seam upto (slot.Cell ix) e (kid.Cell to) spells is keeps = tt
-keeps-element text seam upto (slot.Cell ix) e (kid.Gone address) spells is keeps = tt
-keeps-element text seam upto (slot.Gone gone) e (kid.Imm found) spells is keeps = cc
-keeps-element text seam upto (slot.Gone gone) e (kid.Cell to) spells is keeps = tt
-keeps-element text seam upto (slot.Gone gone) e (kid.Gone address) spells is keeps = tt
+pub keeps-element : (text : List ℕ) (seam : ℕ) (s : Slot) (e : Element) (k : Kid) → Spells text seam s e → kid_target k ≡ slot_target s
+    → IfSome (spelled_by text s) (KeepsElement k) → KeepsElement k e
+keeps-element text seam (slot.Imm span) e k spells is keeps = keeps-imm (element_at text span) e k spells.1 keeps
+keeps-element text seam (slot.Cell ix) e (kid.Imm found) spells is keeps = cc
+keeps-element text seam (slot.Cell ix) e (kid.Cell to) spells is keeps = tt
+keeps-element text seam (slot.Cell ix) e (kid.Gone address) spells is keeps = tt
+keeps-element text seam (slot.Gone gone) e (kid.Imm found) spells is keeps = cc
+keeps-element text seam (slot.Gone gone) e (kid.Cell to) spells is keeps = tt
+keeps-element text seam (slot.Gone gone) e (kid.Gone address) spells is keeps = tt
 
 -- ---- the record with an address
 

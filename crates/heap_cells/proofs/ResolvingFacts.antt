@@ -46,7 +46,7 @@ IsOf slots r = slice_get slots r.1 ≡ Some (slot.Gone r.0)
 
 sound-more : (slots : List Slot) (references : List (ℕ × ℕ)) (i : ℕ) (s : Slot) → slice_get slots i ≡ Some s → All (λ (r : ℕ × ℕ). IsOf slots r) references
     → All (λ (r : ℕ × ℕ). IsOf slots r) (references ++ reference_of s i)
-sound-more slots references i (slot.Imm at) is all = subst (All (λ (r : ℕ × ℕ). IsOf slots r)) (sym (append-none references)) all
+sound-more slots references i (slot.Imm span) is all = subst (All (λ (r : ℕ × ℕ). IsOf slots r)) (sym (append-none references)) all
 sound-more slots references i (slot.Cell ix) is all = subst (All (λ (r : ℕ × ℕ). IsOf slots r)) (sym (append-none references)) all
 sound-more slots references i (slot.Gone address) is all = All-push (λ (r : ℕ × ℕ). IsOf slots r) references (address, i) all is
 
@@ -152,7 +152,7 @@ resolving-all rs olds slots references k are all resolving =
     at j d listed (get_or olds j d) refl ∙ sym (get_or-map (settled rs) olds j d d listed))
   where
     at : (j : ℕ) (d : Slot) → j < length olds → (s : Slot) → get_or olds j d ≡ s → get_or slots j d ≡ settled rs (get_or olds j d)
-    at j d listed (slot.Imm place) is = either _ _ _ (rw is refl) (resolving.each j d listed)
+    at j d listed (slot.Imm span) is = either _ _ _ (rw is refl) (resolving.each j d listed)
     at j d listed (slot.Cell ix) is = either _ _ _ (rw is refl) (resolving.each j d listed)
     at j d listed (slot.Gone address) is =
         let there = are.complete j address (slice_get-get_or olds j d listed ∙ ap Some is) in

@@ -6,4 +6,5 @@ pub mod Parts
 pub mod Ranks
 pub mod Records
 pub mod Resolving
+pub mod Spellings
 pub mod Texts

@@ -37,9 +37,9 @@ target cells (Pid pid) = Plain
 target cells (Port port) = Plain
 target cells (Ref address) = target_at address (number_at cells address)
 
--- where a slot leads; the place in an `Imm` plays no part
+-- where a slot leads; the span in an `Imm` plays no part
 abbrev pub slot_target : Slot → Target
-slot_target (slot.Imm place) = Plain
+slot_target (slot.Imm span) = Plain
 slot_target (slot.Cell ix) = At (number ix)
 slot_target (slot.Gone address) = Missing address
 

@@ -1,15 +1,14 @@
 // Reading the records and the slots of a heap.
 ghost use Rattle.std.specs.Prelude.{◌≡◌, ◌+◌, ◌<◌, ◌≤◌, [], length, slice_range, IfSome, IsSome, Some};
 ghost use Rattle.heap_cells.specs.Targets.{slot_target, kid_target, KeepsElement};
-ghost use Rattle.heap_cells.specs.Inner.Records.{start_at, slots_at, element_at, spelled_by, IsReadable};
-ghost use Rattle.heap_cells.specs.Inner.Parts.{IsPart};
+ghost use Rattle.heap_cells.specs.Inner.Records.{start_at, slots_at, element_at, spelled_by, IsSpan, IsReadable};
 ghost use Rattle.heap_cells.specs.Inner.Texts.{text_of, seam_of};
 ghost use Rattle.term_forms.specs.Seen.{element};
 
-use crate::cells::{CellRecord, Kid, Slot};
+use crate::cells::{CellRecord, Kid, Slot, Span};
+use crate::spelled::spelled_elem;
 use crate::texts::{Texts, part};
 use std::alloc::Global;
-use term_forms::reading::elem;
 use term_forms::shapes::Elem;
 
 // The records of cells, and the slots of their elements. The
@@ -62,26 +61,25 @@ pub(crate) fn slots_of(arena: &Arena, i: usize) -> &[Slot]
     between(&arena.slots, from, upto)
 }
 
-// The element with which a part of the text begins.
-fn first_elem(texts: &Texts, from: usize, upto: usize) -> Elem<'_>
-    requires part { IsPart (seam_of texts.now) (length (text_of texts.now)) from upto }
-    requires some { IsSome (element_at (text_of texts.now) from upto) }
-    ensures { Some (element result) ≡ element_at (text_of texts.now) from upto }
+// The element that a part of the text is known to spell.
+fn elem_in(texts: &Texts, span: Span) -> Elem<'_>
+    requires part { IsSpan (text_of texts.now) (seam_of texts.now) span }
+    requires some { IsSome (element_at (text_of texts.now) span) }
+    ensures { Some (element result) ≡ element_at (text_of texts.now) span }
 {
-    let Some((found, _)) = elem(part(texts, from, upto)) else {
-        unreachable!()
-    };
-    found
+    let from = span.at as usize;
+    let upto = from + span.len as usize;
+    spelled_elem(part(texts, from, upto))
 }
 
-// What a slot stands for, given the place where the text of its form ends.
-pub(crate) fn kid_of(texts: &Texts, slot: Slot, upto: usize) -> Kid<'_>
-    requires { IsReadable (text_of texts.now) (seam_of texts.now) upto slot }
+// What a slot stands for.
+pub(crate) fn kid_of(texts: &Texts, slot: Slot) -> Kid<'_>
+    requires { IsReadable (text_of texts.now) (seam_of texts.now) slot }
     ensures target { kid_target result ≡ slot_target slot }
-    ensures element { IfSome (spelled_by (text_of texts.now) upto slot) (KeepsElement result) }
+    ensures element { IfSome (spelled_by (text_of texts.now) slot) (KeepsElement result) }
 {
     match slot {
-        Slot::Imm(place) => Kid::Imm(first_elem(texts, place as usize, upto)),
+        Slot::Imm(span) => Kid::Imm(elem_in(texts, span)),
         Slot::Cell(ix) => Kid::Cell(ix),
         Slot::Gone(address) => Kid::Gone(address),
     }

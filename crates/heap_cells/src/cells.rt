@@ -74,11 +74,18 @@ pub enum Kid<'a> {
     Gone(u64),
 }
 
+/// The part of a heap's texts that spells an element. No clause speaks of it.
+#[derive(Clone, Copy, Debug, PartialEq, Eq)]
+pub struct Span {
+    pub(crate) at: u32,
+    pub(crate) len: u32,
+}
+
 /// An element of a cell's form as it is stored, with its reference resolved.
 #[derive(Clone, Copy, Debug, PartialEq, Eq)]
 pub enum Slot {
-    /// An immediate, which is no reference. The number is the place of its spelling; no clause speaks of it.
-    Imm(u32),
+    /// An immediate, which is no reference, by the part of the texts that spells it.
+    Imm(Span),
     /// The element refers to this cell, which may be malformed.
     Cell(CellIx),
     /// The element refers to this address, which no cell has.

@@ -1,47 +1,67 @@
 // What the text of a cell's form spells.
-ghost use Rattle.std.specs.Prelude.{◌≡◌, ◌+◌, ◌<◌, ◌≤◌, ◌++◌, ◌^◌, length, drop, map, All, OnOk, IfOk};
+ghost use Rattle.std.specs.Prelude.{◌≡◌, ◌+◌, ◌<◌, ◌≤◌, ◌∷◌, ◌++◌, ◌^◌, length, drop, map, All, OnOk, IfOk, IfSome};
 ghost use Rattle.std.specs.Option.{option_map};
 ghost use Rattle.term_forms.specs.Places.{elements_of};
 ghost use Rattle.term_forms.specs.Seen.{element};
 ghost use Rattle.term_forms.specs.SeenForms.{heap_form};
 ghost use Rattle.term_forms.specs.SeenPlaces.{placed};
 ghost use Rattle.heap_cells.specs.Cells.{elements_in, kind_of};
-ghost use Rattle.heap_cells.specs.Inner.Gathering.{slot_with, slot_for, form_found, slots_found, AreSmall};
-ghost use Rattle.heap_cells.specs.Inner.Found.{tail_at, list_placed, read_in, IsReadOf};
+ghost use Rattle.heap_cells.specs.Inner.Gathering.{slot_with, slot_for, form_found, slots_found};
+ghost use Rattle.heap_cells.specs.Inner.Found.{size_at, spelled_at, pair_spelled, read_in, IsPairOf, IsReadOf};
+ghost use Rattle.heap_cells.specs.Inner.Spellings.{IsSpelling};
 
-use crate::cells::{Kind, Slot};
+use crate::cells::{Kind, Slot, Span};
 use std::alloc::AllocError;
-use term_forms::reading::{elem, form};
+use term_forms::reading::elem;
 use term_forms::shapes::{Elem, Form};
-use term_forms::{Enc, PlacedElem, PlacedElems, front_is_longest, front_of_element, placed_form};
+use term_forms::{
+    Enc, PlacedElem, PlacedElems, form_is_read, front_is_longest, placed_form, whole_elem,
+    whole_is_read,
+};
 
-// No form, a cons cell with its head and its tail, or another form with its elements and their places.
+// No form; a cons cell with its head, how many bytes spell that,
+// and its tail; or another form with its elements and their places.
 #[derive(Drop)]
 pub(crate) enum Found<'a> {
     Malformed,
-    List(Elem<'a>, Elem<'a>),
+    List(Elem<'a>, usize, Elem<'a>),
     Other(Form<'a>, PlacedElems<'a>),
+}
+
+fn text_from(text: &[u8], from: usize) -> &[u8]
+    requires { from ≤ length text.now }
+    ensures { result.now ≡ drop from text.now }
+{
+    &text[from..]
+}
+
+// What stands after the byte, if the text begins with it.
+fn behind(byte: u8, text: &[u8]) -> Option<&[u8]>
+    ensures { IfSome result (λ rest. text.now ≡ byte ∷ rest.now) }
+{
+    let (first, rest) = text.split_first()?;
+    if *first == byte { Some(rest) } else { None }
+}
+
+// The head of a cons cell, how many bytes spell it, and the tail, each of which is read once.
+fn read_pair(text: &[u8]) -> Option<(Elem<'_>, usize, Elem<'_>)>
+    ensures { IfSome result (λ pair. IsPairOf text.now pair.0 pair.1 pair.2) }
+{
+    let spelled = behind(b'l', text)?;
+    let (head, len) = elem(spelled)?;
+    let rest = behind(b'|', text_from(spelled, len))?;
+    let tail = whole_elem(rest)?;
+    Some((head, len, tail))
 }
 
 fn read_other(text: &[u8], enc: Enc) -> Found<'_>
     ensures { IsReadOf enc text.now (read_in text.now result) }
 {
+    front_is_longest();
+    whole_is_read();
     match placed_form(text, enc) {
         None => Found::Malformed,
         Some((form, elements)) => Found::Other(form, elements),
-    }
-}
-
-// A head and a tail are read once, and their places are mostly known without reading them again.
-fn read_list(text: &[u8], enc: Enc) -> Found<'_>
-    ensures { IsReadOf enc text.now (read_in text.now result) }
-{
-    front_of_element();
-    front_is_longest();
-    match form(text, enc) {
-        None => Found::Malformed,
-        Some(Form::List(head, tail)) => Found::List(head, tail),
-        Some(_) => read_other(text, enc),
     }
 }
 
@@ -49,10 +69,11 @@ fn read_list(text: &[u8], enc: Enc) -> Found<'_>
 pub(crate) fn read_found(text: &[u8], enc: Enc) -> Found<'_>
     ensures { IsReadOf enc text.now (read_in text.now result) }
 {
-    if text.starts_with(b"l") {
-        read_list(text, enc)
-    } else {
-        read_other(text, enc)
+    form_is_read(enc);
+    whole_is_read();
+    match read_pair(text) {
+        Some((head, len, tail)) => Found::List(head, len, tail),
+        None => read_other(text, enc),
     }
 }
 
@@ -96,63 +117,83 @@ pub(crate) fn found_weight(text: &[u8], found: &Found<'_>) -> u64
 {
     match found {
         Found::Malformed => 1,
-        Found::List(_, _) => 3,
+        Found::List(_, _, _) => 3,
         Found::Other(form, _) => 1 + element_count(form),
     }
 }
 
-fn slot_for(found: &PlacedElem<'_>, from: usize) -> Slot
-    requires { from + found.now.at < 4294967296 }
-    ensures { result ≡ slot_for from (placed found.now) }
+// How many bytes spell the element that is read at a place of the text.
+fn size_at(text: &[u8], at: usize) -> usize
+    requires { at ≤ length text.now }
+    ensures { result ≡ size_at text.now at }
+{
+    match elem(text_from(text, at)) {
+        Some((_, len)) => len,
+        None => 0,
+    }
+}
+
+// How many bytes spell an element of a form. An integer is not read again for that.
+fn size_of(text: &[u8], found: &PlacedElem<'_>) -> usize
+    requires { IsSpelling text.now (spelled_at text.now (placed found.now)) }
+    ensures { result ≡ size_at text.now found.now.at }
+{
+    whole_is_read();
+    match found.elem {
+        Elem::Small(integer) => integer.len() + 1,
+        _ => size_at(text, found.at),
+    }
+}
+
+// The slot of an immediate, given the place where its spelling begins, and how many bytes it has.
+fn imm(at: usize, len: usize) -> Slot
+    requires { at + len < 4294967296 }
+    ensures { result ≡ Slot.Imm (record { at = at; len = len }) }
+{
+    Slot::Imm(Span {
+        at: at as u32,
+        len: len as u32,
+    })
+}
+
+// The slot of an element, given the place where its spelling begins, and how many bytes it has.
+fn slot_with(e: &Elem<'_>, at: usize, len: usize) -> Slot
+    requires { at + len < 4294967296 }
+    ensures { result ≡ slot_with (record { at = at; len = len }) (element e.now) }
+{
+    match e {
+        Elem::Ref(address) => Slot::Gone(*address),
+        Elem::Nil | Elem::Small(_) | Elem::Atom(_) | Elem::Pid(_) | Elem::Port(_) => imm(at, len),
+    }
+}
+
+// The slot of an element of a form whose text begins at a place.
+fn slot_for(text: &[u8], found: &PlacedElem<'_>, from: usize) -> Slot
+    requires spelled { IsSpelling text.now (spelled_at text.now (placed found.now)) }
+    requires small { from + length text.now < 4294967296 }
+    ensures { result ≡ slot_for from (spelled_at text.now (placed found.now)) }
 {
     match found.elem {
         Elem::Ref(address) => Slot::Gone(address),
-        _ => Slot::Imm((from + found.at) as u32),
+        _ => imm(from + found.at, size_of(text, found)),
     }
 }
 
 // The slots of the elements of a form whose text begins at a place.
 fn push_slots(
     slots: &mut Vec<Slot>,
+    text: &[u8],
     elements: PlacedElems<'_>,
     from: usize,
 ) -> Result<(), AllocError>
-    requires { All (λ p. from + p.at < 4294967296) elements }
-    ensures { OnOk result (slots.new.items ≡ slots.old.items ++ map (slot_for from) elements.entry) }
+    requires spelled { All (IsSpelling text.now) (map (spelled_at text.now) elements) }
+    requires small { from + length text.now < 4294967296 }
+    ensures { OnOk result (slots.new.items ≡ slots.old.items ++ map (slot_for from) (map (spelled_at text.now) elements.entry)) }
 {
     for found in elements {
-        slots.push(slot_for(&found, from))?;
+        slots.push(slot_for(text, &found, from))?;
     }
     Ok(())
-}
-
-fn behind_tag(text: &[u8]) -> &[u8]
-    ensures { result.now ≡ drop 1 text.now }
-{
-    if text.is_empty() { text } else { &text[1..] }
-}
-
-// The place of a cons cell's tail in its text.
-fn tail_at(text: &[u8]) -> usize
-    ensures { result ≡ tail_at text.now }
-{
-    match elem(behind_tag(text)) {
-        Some((_, len)) => len + 2,
-        None => 0,
-    }
-}
-
-// The slot of a cons cell's tail. If the tail is a reference, the slot has no place.
-fn tail_slot(text: &[u8], tail: &Elem<'_>, from: usize) -> Slot
-    requires { from + tail_at text.now < 4294967296 }
-    ensures { result ≡ slot_with (from + tail_at text.now) (element tail.now) }
-{
-    match tail {
-        Elem::Ref(address) => Slot::Gone(*address),
-        Elem::Nil | Elem::Small(_) | Elem::Atom(_) | Elem::Pid(_) | Elem::Port(_) => {
-            Slot::Imm((from + tail_at(text)) as u32)
-        }
-    }
 }
 
 // The slots of a cons cell's head and tail.
@@ -160,14 +201,17 @@ fn push_list(
     slots: &mut Vec<Slot>,
     text: &[u8],
     head: Elem<'_>,
+    len: usize,
     tail: Elem<'_>,
     from: usize,
 ) -> Result<(), AllocError>
-    requires { All (λ p. from + p.at < 4294967296) (list_placed text.now head tail) }
-    ensures { OnOk result (slots.new.items ≡ slots.old.items ++ map (slot_for from) (list_placed text.now head.entry tail.entry)) }
+    requires spelled { All (IsSpelling text.now) (pair_spelled text.now head len tail) }
+    requires small { from + length text.now < 4294967296 }
+    ensures { OnOk result (slots.new.items ≡ slots.old.items ++ map (slot_for from) (pair_spelled text.now head.entry len tail.entry)) }
 {
-    slots.push(slot_for(&PlacedElem { at: 1, elem: head }, from))?;
-    slots.push(tail_slot(text, &tail, from))?;
+    let at = len + 2;
+    slots.push(slot_with(&head, from + 1, len))?;
+    slots.push(slot_with(&tail, from + at, text.len() - at))?;
     Ok(())
 }
 
@@ -178,18 +222,19 @@ pub(crate) fn push_found(
     found: Found<'_>,
     from: usize,
 ) -> Result<Option<Kind>, AllocError>
-    requires { AreSmall from (read_in text.now found) }
+    requires spelled { IfSome (read_in text.now found) (λ f. All (IsSpelling text.now) f.1) }
+    requires small { from + length text.now < 4294967296 }
     ensures slots { OnOk result (slots.new.items ≡ slots.old.items ++ slots_found from (read_in text.now found.entry)) }
     ensures kind { IfOk result (λ kind. kind ≡ option_map kind_of (form_found (read_in text.now found.entry))) }
 {
     match found {
         Found::Malformed => Ok(None),
-        Found::List(head, tail) => {
-            push_list(slots, text, head, tail, from)?;
+        Found::List(head, len, tail) => {
+            push_list(slots, text, head, len, tail, from)?;
             Ok(Some(Kind::List))
         }
         Found::Other(form, elements) => {
-            push_slots(slots, elements, from)?;
+            push_slots(slots, text, elements, from)?;
             Ok(Some(kind_of(&form)))
         }
     }

@@ -1,12 +1,13 @@
 // Gathering the heap lines of the bodies one by one.
-ghost use Rattle.std.specs.Prelude.{◌≡◌, ◌+◌, ◌^◌, ◌<◌, ◌≤◌, ◌-◌, ◌∷◌, ◌++◌, [], List, length, slice_range, OnOk, IfOk};
+ghost use Rattle.std.specs.Prelude.{◌≡◌, ◌+◌, ◌^◌, ◌<◌, ◌≤◌, ◌-◌, ◌∷◌, ◌++◌, [], List, length, slice_range, All, OnOk, IfOk, IfSome};
 ghost use Rattle.std.specs.List.{filter_map};
 ghost use Rattle.field_lines.specs.Lines.{TextLine};
 ghost use Rattle.field_lines.specs.Shown.{shown_line};
 ghost use Rattle.heap_cells.specs.Cells.{Cell, spelled_cell, cell_of, line_cells};
 ghost use Rattle.heap_cells.specs.Inner.Found.{read_in};
-ghost use Rattle.heap_cells.specs.Inner.Gathering.{form_found, slots_found, new_record, AreSmall, IsLineAt, IsBodyAt, IsGathered, Leads, AreAll};
+ghost use Rattle.heap_cells.specs.Inner.Gathering.{form_found, slots_found, new_record, IsLineAt, IsBodyAt, IsGathered, Leads, AreAll};
 ghost use Rattle.heap_cells.specs.Inner.Parts.{IsPart};
+ghost use Rattle.heap_cells.specs.Inner.Spellings.{IsSpelling};
 ghost use Rattle.heap_cells.specs.Inner.Texts.{text_of, seam_of};
 
 use crate::arena::Arena;
@@ -36,7 +37,8 @@ fn push_cell(
     text: &[u8],
     found: Found<'_>,
 ) -> Result<(), AllocError>
-    requires places { AreSmall from (read_in text.now found) }
+    requires spelled { IfSome (read_in text.now found) (λ f. All (IsSpelling text.now) f.1) }
+    requires small { from + length text.now < 4294967296 }
     requires ordered { from ≤ upto }
     requires within { upto < 4294967296 }
     requires few { length arena.old.slots.items < 4294967296 }

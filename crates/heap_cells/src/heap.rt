@@ -224,9 +224,8 @@ impl Heap {
         ensures within { IsWithin (length self.now.cells) (kid_target result) }
     {
         let i = ix.number() as usize;
-        let cell = &self.arena.cells[i];
         let slot = slots_of(&self.arena, i)[n as usize];
-        kid_of(&self.texts, slot, (cell.at + cell.len) as usize)
+        kid_of(&self.texts, slot)
     }
 
     /// The form of a cell, whose text is only split: that it spells a form was checked

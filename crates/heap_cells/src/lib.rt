@@ -17,8 +17,9 @@ mod loading;
 mod order;
 mod ranks;
 mod resolving;
+mod spelled;
 mod texts;
 
-pub use cells::{CellIx, Kid, Kind, Seat, Slot, Why};
+pub use cells::{CellIx, Kid, Kind, Seat, Slot, Span, Why};
 pub use faults::HeapFault;
 pub use heap::Heap;

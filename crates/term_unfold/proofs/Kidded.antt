@@ -12,10 +12,9 @@ use Rattle.term_forms.specs.Forms.{HeapForm, Cons, Tuple, Flat, Hash, Node}
 use Rattle.heap_cells.specs.Cells.{Cell, cell_weight, weight_of, elements_in}
 use Rattle.heap_cells.specs.declared.cells.CellIx.{CellIx}
 use Rattle.heap_cells.specs.declared.cells.Slot.{Slot}
-use Rattle.heap_cells.specs.declared.cells.Slot.TheVariants as slot
 use Rattle.heap_cells.specs.HeapMap.{HeapMap, IsBounded, form_at, elements_at}
 use Rattle.heap_cells.specs.Targets.{At, number, target, slot_target, IsWithin}
-use Rattle.map_nodes.specs.Laws.Targets.{slot-leads, leads-at}
+use Rattle.map_nodes.specs.Laws.Targets.{no_slot, slot-leads, leads-at}
 use Rattle.map_nodes.specs.Rules.{address_of}
 use Rattle.term_unfold.specs.declared.children.Child.{Child as Kid}
 use Rattle.term_unfold.specs.declared.children.Child.TheVariants as kid
@@ -47,15 +46,15 @@ items-past a elements next past = slice_get_past (items a elements) next (omega 
 -- the child at a place
 
 pub term-kid : (heap : HeapMap) (ix : CellIx) (place : ℕ) (slots : List Slot) → IsBounded heap → number ix < length heap.cells → place < length (elements_at heap.cells (number ix))
-    → map slot_target slots ≡ map (target heap.cells) (elements_at heap.cells (number ix)) → IsWithin (length heap.cells) (slot_target (get_or slots place (slot.Imm 0)))
-    → IsKidAt heap.cells (terms (elements_at heap.cells (number ix))) place 100000000 (Some (kid.Term (get_or slots place (slot.Imm 0)) ix place))
+    → map slot_target slots ≡ map (target heap.cells) (elements_at heap.cells (number ix)) → IsWithin (length heap.cells) (slot_target (get_or slots place no_slot))
+    → IsKidAt heap.cells (terms (elements_at heap.cells (number ix))) place 100000000 (Some (kid.Term (get_or slots place no_slot) ix place))
 term-kid heap ix place slots bounded cell within same inside =
     let elements = elements_at heap.cells (number ix) in
     record {
       child = sym (slice_get-map Term elements place ∙ ap (option_map Term) (slice_get-get_or elements place Nil within));
       kid = record {
         at = record { cell = cell; within = within };
-        leads = slot-leads heap.cells slots elements place (get_or slots place (slot.Imm 0)) same refl;
+        leads = slot-leads heap.cells slots elements place (get_or slots place no_slot) same refl;
         within = inside;
       };
       few = omega (arith, within, elements-few heap (number ix) bounded);

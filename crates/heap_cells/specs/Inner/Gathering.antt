@@ -1,47 +1,44 @@
 -- Gathering the heap lines of the bodies one by one.
-use Rattle.std.specs.Prelude.{◌≡◌, ℕ, ◌+◌, ◌-◌, ◌<◌, ◌≤◌, List, [], ◌++◌, map, length, slice_range, Option, None, Some, All}
+use Rattle.std.specs.Prelude.{◌≡◌, ℕ, ◌+◌, ◌-◌, ◌≤◌, List, [], ◌++◌, map, length, slice_range, Option, None, Some}
 use Rattle.std.specs.Option.{option_map}
 use Rattle.field_lines.specs.Lines.{TextLine}
 use Rattle.term_forms.specs.declared.enc.Enc.{Enc}
 use Rattle.term_forms.specs.Elements.{Element, Nil, Small, Atom, Pid, Port, Ref}
 use Rattle.term_forms.specs.Forms.{HeapForm}
-use Rattle.term_forms.specs.Places.{Placed}
 use Rattle.term_forms.specs.SeenForms.{heap_form}
 use Rattle.term_forms.specs.declared.shapes.Form.{Form}
 use Rattle.heap_cells.specs.declared.cells.CellRecord.{CellRecord}
 use Rattle.heap_cells.specs.declared.cells.Slot.{Slot}
 use Rattle.heap_cells.specs.declared.cells.Slot.TheVariants as slot
+use Rattle.heap_cells.specs.declared.cells.Span.{Span}
 use Rattle.heap_cells.specs.declared.gathering.Gathering.{Gathering}
 use Rattle.heap_cells.specs.Cells.{Cell, kind_of, weight_of, weight, line_cells}
 use Rattle.heap_cells.specs.Inner.Parts.{IsPart}
 use Rattle.heap_cells.specs.declared.texts.Texts.{Texts}
 use Rattle.heap_cells.specs.Inner.Texts.{text_of, seam_of}
 use Rattle.heap_cells.specs.Inner.Records.{cells_in, AreSlots}
+use Rattle.heap_cells.specs.Inner.Spellings.{Spelling}
 
--- the slot of an element before references are resolved, given the place where the text of its form begins
-abbrev pub slot_with : ℕ → Element → Slot
-slot_with place Nil = slot.Imm place
-slot_with place (Small integer) = slot.Imm place
-slot_with place (Atom bytes) = slot.Imm place
-slot_with place (Pid pid) = slot.Imm place
-slot_with place (Port port) = slot.Imm place
-slot_with place (Ref address) = slot.Gone address
+-- the slot of an element before references are resolved, given the part of the text that spells it
+abbrev pub slot_with : Span → Element → Slot
+slot_with span Nil = slot.Imm span
+slot_with span (Small integer) = slot.Imm span
+slot_with span (Atom bytes) = slot.Imm span
+slot_with span (Pid pid) = slot.Imm span
+slot_with span (Port port) = slot.Imm span
+slot_with span (Ref address) = slot.Gone address
 
-abbrev pub slot_for : ℕ → Placed → Slot
-slot_for from placed = slot_with (from + placed.at) placed.element
+-- the same, given the place where the text of its form begins
+abbrev pub slot_for : ℕ → Spelling → Slot
+slot_for from s = slot_with (record { at = from + s.at; len = s.len }) s.element
 
--- what a form's text spells: its form, and its elements with their places
-abbrev pub form_found : Option (Form × List Placed) → Option HeapForm
+-- what a form's text spells: its form, and its elements with their spellings
+abbrev pub form_found : Option (Form × List Spelling) → Option HeapForm
 form_found found = option_map (λ f. heap_form f.0) found
 
-abbrev pub slots_found : ℕ → Option (Form × List Placed) → List Slot
+abbrev pub slots_found : ℕ → Option (Form × List Spelling) → List Slot
 slots_found from None = []
 slots_found from (Some found) = map (slot_for from) found.1
-
--- each place fits into 32 bits
-abbrev pub AreSmall : ℕ → Option (Form × List Placed) → Type 0
-AreSmall from None = Unit {0}
-AreSmall from (Some found) = All (λ p. from + p.at < 4294967296) found.1
 
 -- a record of these parts, whose first slot comes after this many
 abbrev pub new_record : ℕ → ℕ → ℕ → ℕ → Option HeapForm → CellRecord

@@ -4,11 +4,12 @@ use Rattle.std.specs.Option.{option_map}
 use Rattle.std.specs.List.{flat_map, IsDistinct}
 use Rattle.term_forms.specs.declared.enc.Enc.{Enc}
 use Rattle.term_forms.specs.Elements.{Element}
-use Rattle.term_forms.specs.Reading.{front}
+use Rattle.term_forms.specs.Reading.{whole_of}
 use Rattle.term_forms.specs.ReadingForms.{form_of}
 use Rattle.heap_cells.specs.declared.cells.CellRecord.{CellRecord}
 use Rattle.heap_cells.specs.declared.cells.Slot.{Slot}
 use Rattle.heap_cells.specs.declared.cells.Slot.TheVariants as slot
+use Rattle.heap_cells.specs.declared.cells.Span.{Span}
 use Rattle.heap_cells.specs.Cells.{Cell, elements_in, kind_of, addresses}
 use Rattle.heap_cells.specs.Targets.{target, slot_target}
 use Rattle.heap_cells.specs.Inner.Order.{IsOrder}
@@ -47,39 +48,43 @@ start_at records i total = first_or total (slice_get records i)
 abbrev pub slots_at : List CellRecord → List Slot → ℕ → List Slot
 slots_at records slots i = slice_range slots (start_at records i (length slots)) (start_at records (i + 1) (length slots))
 
--- the element with which a part of the text begins
-abbrev pub element_at : List ℕ → ℕ → ℕ → Option Element
-element_at text from upto = option_map (λ found. found.0) (front (slice_range text from upto))
+-- the element that a part of the text spells
+abbrev pub element_at : List ℕ → Span → Option Element
+element_at text span = whole_of (slice_range text span.at (span.at + span.len))
 
--- the element that a slot spells, given the place where the text of its form ends
-abbrev pub spelled_by : List ℕ → ℕ → Slot → Option Element
-spelled_by text upto (slot.Imm place) = element_at text place upto
-spelled_by text upto (slot.Cell ix) = None
-spelled_by text upto (slot.Gone address) = None
+-- the part lies within one of the two bodies
+abbrev pub IsSpan : List ℕ → ℕ → Span → Type 0
+IsSpan text seam span = IsPart seam (length text) span.at (span.at + span.len)
+
+-- the element that a slot spells
+abbrev pub spelled_by : List ℕ → Slot → Option Element
+spelled_by text (slot.Imm span) = element_at text span
+spelled_by text (slot.Cell ix) = None
+spelled_by text (slot.Gone address) = None
 
 -- if a slot spells an element, it can be read
-abbrev pub IsReadable : List ℕ → ℕ → ℕ → Slot → Type 0
-IsReadable text seam upto (slot.Imm place) = IsPart seam (length text) place upto × IsSome (element_at text place upto)
-IsReadable text seam upto (slot.Cell ix) = Unit {0}
-IsReadable text seam upto (slot.Gone address) = Unit {0}
+abbrev pub IsReadable : List ℕ → ℕ → Slot → Type 0
+IsReadable text seam (slot.Imm span) = IsSpan text seam span × IsSome (element_at text span)
+IsReadable text seam (slot.Cell ix) = Unit {0}
+IsReadable text seam (slot.Gone address) = Unit {0}
 
 -- if a slot spells an element, it is this one
-abbrev pub Spells : List ℕ → ℕ → ℕ → Slot → Element → Type 0
-Spells text seam upto (slot.Imm place) e = IsPart seam (length text) place upto × (element_at text place upto ≡ Some e)
-Spells text seam upto (slot.Cell ix) e = Unit {0}
-Spells text seam upto (slot.Gone address) e = Unit {0}
+abbrev pub Spells : List ℕ → ℕ → Slot → Element → Type 0
+Spells text seam (slot.Imm span) e = IsSpan text seam span × (element_at text span ≡ Some e)
+Spells text seam (slot.Cell ix) e = Unit {0}
+Spells text seam (slot.Gone address) e = Unit {0}
 
 -- each of the slots spells the element at its place
-abbrev pub AllSpell : List ℕ → ℕ → ℕ → List Slot → List Element → Type 0
-AllSpell text seam upto slots es =
-    (k : ℕ) (s : Slot) (e : Element) → slice_get slots k ≡ Some s → slice_get es k ≡ Some e → Spells text seam upto s e
+abbrev pub AllSpell : List ℕ → ℕ → List Slot → List Element → Type 0
+AllSpell text seam slots es =
+    (k : ℕ) (s : Slot) (e : Element) → slice_get slots k ≡ Some s → slice_get es k ≡ Some e → Spells text seam s e
 
 -- the slots are those of the elements, with references leading to these cells
 pub record AreSlots (text : List ℕ) (seam : ℕ) (enc : Enc) (known : List Cell) (records : List CellRecord) (slots : List Slot) : Type 0 where
   pub laid : AreLaid text seam enc 0 records (length slots)
   pub targets : map slot_target slots ≡ map (target known) (flat_map (elements_by text enc) records)
   pub spelled : (i : ℕ) (r : CellRecord) → slice_get records i ≡ Some r
-      → AllSpell text seam (r.at + r.len) (slots_at records slots i) (elements_by text enc r)
+      → AllSpell text seam (slots_at records slots i) (elements_by text enc r)
 
 -- the whole of a heap
 pub record IsArena (text : List ℕ) (seam : ℕ) (enc : Enc) (records : List CellRecord) (slots : List Slot) (order : List ℕ) (own : ℕ) : Type 0 where

@@ -11,13 +11,13 @@ cell_or_gone address (Some number) = slot.Cell (record { 0 = number })
 
 -- a slot whose reference leads to the first record with its address, if there is one
 abbrev pub settled : List CellRecord → Slot → Slot
-settled records (slot.Imm place) = slot.Imm place
+settled records (slot.Imm span) = slot.Imm span
 settled records (slot.Cell ix) = slot.Cell ix
 settled records (slot.Gone address) = cell_or_gone address (record_with records address)
 
 -- the address of a slot that is a reference, with the place of the slot
 abbrev pub reference_of : Slot → ℕ → List (ℕ × ℕ)
-reference_of (slot.Imm at) place = []
+reference_of (slot.Imm span) place = []
 reference_of (slot.Cell ix) place = []
 reference_of (slot.Gone address) place = (address, place) ∷ []
 

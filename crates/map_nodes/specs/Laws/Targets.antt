@@ -82,8 +82,12 @@ leads-nowhere P heap (Pid p) h nil small atom pid port = pid p
 leads-nowhere P heap (Port p) h nil small atom pid port = port p
 leads-nowhere P heap (Ref a) h nil small atom pid port = plain-found a (number_at heap a) h
 
+-- what is read of a slot past the last one
+abbrev pub no_slot : Slot
+no_slot = slot.Imm (record { at = 0; len = 0 })
+
 -- a slot leads where its element leads
-pub slot-leads : (heap : List Cell) (slots : List Slot) (elements : List Element) (n : ℕ) (s : Slot) → map slot_target slots ≡ map (target heap) elements → get_or slots n (slot.Imm 0) ≡ s
+pub slot-leads : (heap : List Cell) (slots : List Slot) (elements : List Element) (n : ℕ) (s : Slot) → map slot_target slots ≡ map (target heap) elements → get_or slots n no_slot ≡ s
     → target heap (get_or elements n Nil) ≡ slot_target s
 slot-leads heap slots elements n s same is =
-    sym (get_or-map (target heap) elements n Nil) ∙ ap (λ l. get_or l n Plain) (sym same) ∙ get_or-map slot_target slots n (slot.Imm 0) ∙ ap slot_target is
+    sym (get_or-map (target heap) elements n Nil) ∙ ap (λ l. get_or l n Plain) (sym same) ∙ get_or-map slot_target slots n no_slot ∙ ap slot_target is

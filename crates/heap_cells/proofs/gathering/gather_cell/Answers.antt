@@ -11,7 +11,7 @@ use Rattle.heap_cells.specs.declared.cells.CellRecord.{CellRecord}
 use Rattle.heap_cells.specs.declared.cells.Slot.{Slot}
 use Rattle.heap_cells.specs.declared.gathering.Gathering.{Gathering}
 use Rattle.heap_cells.specs.declared.texts.Texts.{Texts}
-use Rattle.heap_cells.proofs.GatheringFacts.{Found, OnOk-both, found-few, found-small, found-is, found-weight, part-few, slots-more, slots-found-count, cells-more, leads-kept}
+use Rattle.heap_cells.proofs.GatheringFacts.{Found, OnOk-both, found-few, found-is, found-weight, part-few, slots-more, slots-found-count, cells-more, leads-kept}
 use Rattle.heap_cells.proofs.gathering.gather_cell.Goals as goal
 
 weight-few : (texts : Texts) (from upto weight : ℕ) (part : List ℕ) (found : Found) → part ≡ slice_range (text_of texts) from upto
@@ -34,13 +34,16 @@ returns-then-g-from-clause-weight c =
     c.read_found-found.ensures.spelled c.found_weight.ensures in
     omega (arith, most)
 
-pub push_cell-requires-clause-places : goal.push_cell-requires-clause-places
-push_cell-requires-clause-places c =
+pub push_cell-requires-clause-spelled : goal.push_cell-requires-clause-spelled
+push_cell-requires-clause-spelled c = c.read_found-found.ensures.places
+
+pub push_cell-requires-clause-small : goal.push_cell-requires-clause-small
+push_cell-requires-clause-small c =
     let size = ap length c.part-text.ensures in
     let most = part-few (text_of c.args.texts.now) c.args.from c.args.upto in
     let within = c.requires.part.within in
     let ordered = c.requires.part.ordered in
-    found-small c.part-text.result.now c.args.from (read_in c.part-text.result.now c.read_found-found.result) (omega (arith, size, most, within, ordered, c.requires.small)) c.read_found-found.ensures.places
+    omega (arith, size, most, within, ordered, c.requires.small)
 
 pub returns-clause-weight : goal.returns-clause-weight
 returns-clause-weight c =

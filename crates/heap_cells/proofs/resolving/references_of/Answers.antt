@@ -8,7 +8,7 @@ loop-i-init c = subst (λ l. AreFound c.args.slots.now l 0) (sym c.in_ok-referen
 
 pub loop-i-preserved : goal.loop-i-preserved
 loop-i-preserved c =
-    found-more c.args.slots.now c.loop-i.references c.push_reference.new.references c.loop-i.i (slot.Imm 0) c.loop-i-test.true c.loop-i.invariant
+    found-more c.args.slots.now c.loop-i.references c.push_reference.new.references c.loop-i.i (slot.Imm (record { at = 0; len = 0 })) c.loop-i-test.true c.loop-i.invariant
     c.in_ok-push_reference.ensures
 
 pub returns : goal.returns

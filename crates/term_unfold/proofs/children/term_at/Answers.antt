@@ -3,7 +3,7 @@ use Rattle.std.proofs.lemmas.List.{length-map, get_or_default}
 use Rattle.heap_cells.specs.HeapMap.{elements_at}
 use Rattle.heap_cells.specs.Targets.{number}
 use Rattle.heap_cells.specs.declared.cells.Slot.{Slot}
-use Rattle.heap_cells.specs.declared.cells.Slot.TheVariants as slot
+use Rattle.map_nodes.specs.Laws.Targets.{no_slot}
 use Rattle.term_unfold.specs.declared.children.Child.TheVariants as kid
 use Rattle.term_unfold.specs.Inner.Kids.{IsKidAt}
 use Rattle.term_unfold.specs.Rules.{terms}
@@ -17,7 +17,7 @@ returns c =
     let here = c.in_ok-slot.field-0.now in
     let same = simp length-map at (ap length c.slots.ensures.targets) in
     let inside : c.args.place < length slots = omega (arith, found) in
-    let is : get_or slots c.args.place (slot.Imm 0) ≡ here = get_or_default slots c.args.place (slot.Imm 0) here inside ∙ sym found.1 in
+    let is : get_or slots c.args.place no_slot ≡ here = get_or_default slots c.args.place no_slot here inside ∙ sym found.1 in
     subst (λ (s : Slot). IsKidAt c.args.heap.now.cells (terms (elements_at c.args.heap.now.cells (number c.args.ix))) c.args.place 100000000 (Some (kid.Term s c.args.ix c.args.place))) is
     (term-kid c.args.heap.now c.args.ix c.args.place slots c.requires.bounded c.requires.cell (omega (arith, inside, same)) c.slots.ensures.targets
-    (c.slots.ensures.within c.args.place (slot.Imm 0) inside))
+    (c.slots.ensures.within c.args.place no_slot inside))
