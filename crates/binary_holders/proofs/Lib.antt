@@ -4,7 +4,9 @@ mod HoldingFacts
 mod LineFacts
 mod MarkFacts
 mod Scans
+mod SoughtFacts
 mod StoredFacts
 mod SumFacts
 mod TallyFacts
+mod TextFacts
 mod UsingFacts

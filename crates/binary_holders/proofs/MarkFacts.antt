@@ -1,12 +1,12 @@
 -- A line that refers to a binary has a mark behind its address, and is short.
-use Rattle.std.proofs.Common.{◌≡◌, ℕ, zero, suc, ◌+◌, ◌-◌, ◌<◌, ◌≤◌, ◌==◌, ◌↔◌, Bool, true, false, List, [], ◌∷◌, ◌++◌, length, take, take-take, drop, Option, None, Some, if◌then◌else◌, refl, sym, ◌∙◌, ap, subst, arith, append_assoc, length-append}
+use Rattle.std.proofs.Common.{◌≡◌, ℕ, zero, suc, ◌+◌, ◌-◌, ◌<◌, ◌≤◌, ◌==◌, ◌↔◌, Bool, true, false, List, [], ◌∷◌, ◌++◌, length, take, drop, Option, None, Some, if◌then◌else◌, refl, sym, ◌∙◌, ap, subst, arith, append_assoc, length-append}
 use Rattle.std.specs.Prelude.{codes, nat_eq, slice_index}
 use Rattle.std.specs.List.{concat, ends_with, filter_map, between}
 use Rattle.std.specs.Option.{option_and_then, option_to_list}
-use Rattle.std.proofs.lemmas.Bool.{and_parts, leb-true}
+use Rattle.std.proofs.lemmas.Bool.{and_parts, eqb-true, leb-true}
 use Rattle.std.proofs.lemmas.List.{take_all, get_or-take, get_or_append_left, get_or-append-add, take-append-drop, length-take-le, length-take, drop-drop, drop-take}
 use Rattle.std.proofs.lemmas.Option.{cond_some}
-use Rattle.memchr.specs.Find.{OccursAt, Nowhere, Passes, is_byte}
+use Rattle.memchr.specs.Find.{OccursAt, NoneBefore, Nowhere, Passes, is_byte}
 use Rattle.dump_io.specs.Laws.Lines.{AreLines-raw}
 use Rattle.dump_io.specs.Laws.Reads.{take-two}
 use Rattle.dump_io.specs.Lines.{lf, cr, raw_lines, text_of}
@@ -16,7 +16,7 @@ use Rattle.term_forms.specs.Forms.{HeapForm, Cons, Tuple, Float, Long, Pid, Port
 use Rattle.term_forms.specs.ReadingForms.{form_of}
 use Rattle.term_forms.specs.Words.{colon, led_of, IsLed}
 use Rattle.binary_holders.specs.HeapReferences.{referred}
-use Rattle.binary_holders.specs.Inner.Lines.{text_reference, line_reference, line_references, HasNoLf, AreWhole}
+use Rattle.binary_holders.specs.Inner.Lines.{text_reference, line_reference, line_references, HasNoLf, AreWhole, IsMarked}
 use Rattle.binary_holders.proofs.LineFacts.{join, lines-first, lines-join, references-whole, one-more}
 
 -- ---- what the laws of the grammar say
@@ -46,34 +46,42 @@ pub record Refers (text : List ℕ) : Type 0 where
   pub is_range : IsRange range binary offset size
   pub text_is : text ≡ hex ++ (mark ++ range)
 
-refers-form : (enc : Enc) → AreForms enc → (text hex rest : List ℕ) (address n : ℕ) (f : Option HeapForm) → hex_number hex ≡ Some address → text ≡ hex ++ colon ∷ rest
-    → form_of enc rest ≡ f → referred f ≡ Some n → Refers text
-refers-form enc forms text hex rest address n None is_hex is found refers = absurd (let no : ⊥ = cc (refers) in no)
-refers-form enc forms text hex rest address n (Some (RefBin binary offset size)) is_hex is found refers =
+-- only the form of such a text is a reference to a binary
+pub refers-range : (enc : Enc) → AreForms enc → (rest : List ℕ) (n : ℕ) (f : Option HeapForm) → form_of enc rest ≡ f → referred f ≡ Some n
+    → (range : List ℕ) × (rest ≡ codes "Yc" ++ range) × (offset : ℕ) × (size : ℕ) × IsRange range n offset size
+refers-range enc forms rest n None found refers = absurd (let no : ⊥ = cc (refers) in no)
+refers-range enc forms rest n (Some (RefBin binary offset size)) found refers =
     let spelled = (forms rest (RefBin binary offset size)).0 found in
+    let same : binary ≡ n = cc (refers) in
+    (spelled.0, spelled.1, offset, size, subst (λ m. IsRange spelled.0 m offset size) same spelled.2)
+refers-range enc forms rest n (Some (Cons head tail)) found refers = absurd (let no : ⊥ = cc (refers) in no)
+refers-range enc forms rest n (Some (Tuple elements)) found refers = absurd (let no : ⊥ = cc (refers) in no)
+refers-range enc forms rest n (Some (Float bytes)) found refers = absurd (let no : ⊥ = cc (refers) in no)
+refers-range enc forms rest n (Some (Long number)) found refers = absurd (let no : ⊥ = cc (refers) in no)
+refers-range enc forms rest n (Some (Pid pid)) found refers = absurd (let no : ⊥ = cc (refers) in no)
+refers-range enc forms rest n (Some (Port port)) found refers = absurd (let no : ⊥ = cc (refers) in no)
+refers-range enc forms rest n (Some (Ext size chars)) found refers = absurd (let no : ⊥ = cc (refers) in no)
+refers-range enc forms rest n (Some (HeapBin size chars)) found refers = absurd (let no : ⊥ = cc (refers) in no)
+refers-range enc forms rest n (Some (SubBin binary offset size)) found refers = absurd (let no : ⊥ = cc (refers) in no)
+refers-range enc forms rest n (Some (Flat keys values)) found refers = absurd (let no : ⊥ = cc (refers) in no)
+refers-range enc forms rest n (Some (Hash size children)) found refers = absurd (let no : ⊥ = cc (refers) in no)
+refers-range enc forms rest n (Some (Node children)) found refers = absurd (let no : ⊥ = cc (refers) in no)
+
+refers-form : (enc : Enc) → AreForms enc → (text hex rest : List ℕ) (address n : ℕ) → hex_number hex ≡ Some address → text ≡ hex ++ colon ∷ rest
+    → referred (form_of enc rest) ≡ Some n → Refers text
+refers-form enc forms text hex rest address n is_hex is refers =
+    let spelled = refers-range enc forms rest n (form_of enc rest) refl refers in
     record {
       hex = hex;
       address = address;
       is_hex = is_hex;
       range = spelled.0;
-      binary = binary;
-      offset = offset;
-      size = size;
-      is_range = spelled.2;
+      binary = n;
+      offset = spelled.2;
+      size = spelled.3;
+      is_range = spelled.4;
       text_is = is ∙ ap (λ l. hex ++ colon ∷ l) spelled.1;
     }
-refers-form enc forms text hex rest address n (Some (Cons head tail)) is_hex is found refers = absurd (let no : ⊥ = cc (refers) in no)
-refers-form enc forms text hex rest address n (Some (Tuple elements)) is_hex is found refers = absurd (let no : ⊥ = cc (refers) in no)
-refers-form enc forms text hex rest address n (Some (Float bytes)) is_hex is found refers = absurd (let no : ⊥ = cc (refers) in no)
-refers-form enc forms text hex rest address n (Some (Long number)) is_hex is found refers = absurd (let no : ⊥ = cc (refers) in no)
-refers-form enc forms text hex rest address n (Some (Pid pid)) is_hex is found refers = absurd (let no : ⊥ = cc (refers) in no)
-refers-form enc forms text hex rest address n (Some (Port port)) is_hex is found refers = absurd (let no : ⊥ = cc (refers) in no)
-refers-form enc forms text hex rest address n (Some (Ext size chars)) is_hex is found refers = absurd (let no : ⊥ = cc (refers) in no)
-refers-form enc forms text hex rest address n (Some (HeapBin size chars)) is_hex is found refers = absurd (let no : ⊥ = cc (refers) in no)
-refers-form enc forms text hex rest address n (Some (SubBin binary offset size)) is_hex is found refers = absurd (let no : ⊥ = cc (refers) in no)
-refers-form enc forms text hex rest address n (Some (Flat keys values)) is_hex is found refers = absurd (let no : ⊥ = cc (refers) in no)
-refers-form enc forms text hex rest address n (Some (Hash size children)) is_hex is found refers = absurd (let no : ⊥ = cc (refers) in no)
-refers-form enc forms text hex rest address n (Some (Node children)) is_hex is found refers = absurd (let no : ⊥ = cc (refers) in no)
 
 pub refers : (enc : Enc) → AreLed → AreForms enc → (text : List ℕ) (n : ℕ) → text_reference enc text ≡ Some n → Refers text
 refers enc leds forms text n is = by (led_of text) refl
@@ -82,7 +90,7 @@ refers enc leds forms text n is = by (led_of text) refl
     by None found = absurd (let e = sym (ap (option_and_then (λ (led : ℕ × List ℕ). referred (form_of enc led.1))) found) ∙ is in let no : ⊥ = cc (e) in no)
     by (Some led) found =
         let whole = (leds text led.0 led.1).0 found in
-        refers-form enc forms text whole.0 led.1 led.0 n (form_of enc led.1) whole.1 whole.2 refl
+        refers-form enc forms text whole.0 led.1 led.0 n whole.1 whole.2
         (sym (ap (option_and_then (λ (led : ℕ × List ℕ). referred (form_of enc led.1))) found) ∙ is)
 
 -- ---- its length
@@ -161,6 +169,35 @@ occurs-right xs ys needle k is = record {
       ap (λ n. slice_index (xs ++ ys) n) same ∙ get_or-append-add xs ys (k + j) 0 ∙ is.reads j inside;
 }
 
+-- ---- the mark by its `Y`
+
+pub marks-none : (bytes : List ℕ) → Nowhere (Passes (is_byte 89) bytes) 0 (length bytes) → Nowhere (OccursAt bytes mark) 0 (length bytes + 1)
+marks-none bytes none = λ k low high is. none (k + 1) (omega arith) (let room = is.fits in omega (arith, room)) (ap (λ c. c == 89) (is.reads 1 (omega arith)))
+
+mark-around : (bytes : List ℕ) (at : ℕ) → slice_index bytes at ≡ 58 → slice_index bytes (at + 1) ≡ 89 → slice_index bytes (at + 2) ≡ 99
+    → (j : ℕ) → j < 3 → slice_index bytes (at + j) ≡ slice_index mark j
+mark-around bytes at first second third zero inside = (let e : at + 0 ≡ at = omega arith in ap (slice_index bytes) e) ∙ first
+mark-around bytes at first second third (suc zero) inside = second
+mark-around bytes at first second third (suc (suc zero)) inside = third
+mark-around bytes at first second third (suc (suc (suc j))) inside = absurd (omega (arith, inside))
+
+pub mark-at : (bytes : List ℕ) (place : ℕ) → NoneBefore (Passes (is_byte 89) bytes) 0 (length bytes) place → Passes (is_byte 89) bytes place → IsMarked bytes place
+    → NoneBefore (OccursAt bytes mark) 0 (length bytes + 1) (place - 1) × OccursAt bytes mark (place - 1)
+mark-at bytes place first here around =
+    let some = around.0 in
+    let room = around.1 in
+    let second : slice_index bytes (place - 1 + 1) ≡ 89 =
+    (let e : place - 1 + 1 ≡ place = omega (arith, some) in ap (slice_index bytes) e) ∙ eqb-true (slice_index bytes place) 89 here in
+    let third : slice_index bytes (place - 1 + 2) ≡ 99 =
+    (let e : place - 1 + 2 ≡ place + 1 = omega (arith, some) in ap (slice_index bytes) e) ∙ around.3 in (
+      record {
+        low = omega arith;
+        high = omega (arith, room);
+        before = λ k low high is. first.before (k + 1) (omega arith) (omega (arith, high, some)) (ap (λ c. c == 89) (is.reads 1 (omega arith)));
+      },
+      record { fits = omega (arith, room, some); reads = mark-around bytes (place - 1) around.2 second third },
+    )
+
 -- ---- a line without the mark, and a long one
 
 module _ (enc : Enc) (leds : AreLed) (forms : AreForms enc) where
@@ -189,27 +226,6 @@ module _ (enc : Enc) (leds : AreLed) (forms : AreForms enc) where
   pub unmarked : (bytes : List ℕ) → ((k : ℕ) → OccursAt bytes mark k → ⊥) → line_references enc bytes ≡ []
   unmarked bytes none =
       lines-unmarked (raw_lines bytes) (λ k is. none k (subst (λ l. OccursAt l mark k) (AreLines-raw bytes).together is))
-
-  -- the lines before the first `Y` refer to no binary
-  pub plain : (bytes : List ℕ) → Nowhere (Passes (is_byte 89) bytes) 0 (length bytes) → line_references enc bytes ≡ []
-  plain bytes none =
-      unmarked bytes (λ k is.
-      none (k + 1) (omega arith) (let room = is.fits in omega (arith, room)) (ap (λ c. c == 89) (is.reads 1 (omega arith))))
-
-  pub plain-front : (bytes : List ℕ) (place start : ℕ) → place ≤ length bytes → Nowhere (Passes (is_byte 89) bytes) 0 place → start ≤ place
-      → AreWhole (take start (take place bytes)) → line_references enc (drop start bytes) ≡ line_references enc bytes
-  plain-front bytes place start inside before within whole =
-      let front = take start (take place bytes) in
-      let unseen : line_references enc front ≡ [] =
-      unmarked front (λ k is.
-      let here = occurs-take place k bytes mark (occurs-take start k (take place bytes) mark is) in
-      before (k + 1) (omega arith) (let room = is.fits in omega (arith, room, length-take start (take place bytes), within)) (ap (λ c. c == 89) (here.reads 1 (omega arith)))) in
-      let same : front ≡ take start bytes = take-take start place bytes within in
-      sym (
-      ap (line_references enc) (sym (take-append-drop start bytes) ∙ ap (λ l. l ++ drop start bytes) (sym same))
-      ∙ references-whole enc front (drop start bytes) whole
-      ∙ ap (λ l. l ++ line_references enc (drop start bytes)) unseen
-      )
 
   -- ---- the first line with the mark
 

@@ -16,6 +16,7 @@
 
 mod faults;
 mod heap_places;
+mod hints;
 mod holding;
 mod lines;
 mod rows;
@@ -23,6 +24,7 @@ mod scanning;
 mod sought;
 mod stored;
 mod tally;
+mod texts;
 mod using;
 
 pub use faults::HolderFault;

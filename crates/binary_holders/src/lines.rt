@@ -1,29 +1,17 @@
 // The lines of a heap's body that refer to binaries.
-ghost use Rattle.std.specs.Prelude.{◌≡◌, [], ◌∷◌, ◌++◌, ◌<◌, ◌≤◌, length, take, drop, IfSome, IfNone, codes};
+ghost use Rattle.std.specs.Prelude.{◌≡◌, [], ◌∷◌, ◌++◌, ◌<◌, ◌≤◌, length, take, drop, IfSome, IfNone, IsTrue, codes};
 ghost use Rattle.std.specs.Option.{option_to_list};
 ghost use Rattle.dump_io.specs.Lines.{raw_lines};
-ghost use Rattle.binary_holders.specs.Inner.Lines.{text_reference, line_references, HasNoLf, AreWhole};
+ghost use Rattle.memchr.specs.Find.{FindsNeedle};
+ghost use Rattle.binary_holders.specs.Inner.Lines.{line_references, HasNoLf, AreWhole, IsMarked};
 
+use crate::texts::text_reference;
 use dump_io::line_text;
-use memchr::memmem::Finder;
-use memchr::{memchr, memrchr};
-use term_forms::reading::form;
-use term_forms::shapes::Form;
-use term_forms::{Enc, form_is_read, heap_line, number_is_read};
+use memchr::{memchr, memmem, memrchr};
+use term_forms::{Enc, form_is_read, number_is_read};
 
-/// What follows the address in each line that refers to a binary outside the heap.
-pub(crate) const MARK: &[u8] = b":Yc";
-
-// The number to which a text refers, if it is a heap line whose form is a reference to a binary.
-fn text_reference(text: &[u8], enc: Enc) -> Option<u64>
-    ensures { result ≡ text_reference enc text.now }
-{
-    let (_, spelled) = heap_line(text)?;
-    match form(spelled, enc)? {
-        Form::RefBin(number, _, _) => Some(number),
-        _ => None,
-    }
-}
+// What follows the address in each line that refers to a binary outside the heap.
+const MARK: &[u8] = b":Yc";
 
 /// Where the last line begins: after the last LF, or at the beginning if there is none.
 pub(crate) fn line_start(bytes: &[u8]) -> usize
@@ -50,48 +38,40 @@ fn line_len(bytes: &[u8]) -> usize
     }
 }
 
-// The lines from the first one with a `Y` on. No line before it refers to a binary,
-// since the form of one that does begins with that letter, and few other lines have it.
-fn skip_plain(bytes: &[u8], enc: Enc) -> &[u8]
-    ensures same { line_references enc result.now ≡ line_references enc bytes.now }
-    ensures within { length result.now ≤ length bytes.now }
+// Whether the rest of the mark stands around the `Y` at a place.
+fn is_marked(bytes: &[u8], place: usize) -> bool
+    requires { place < length bytes.now }
+    ensures { IsTrue result → IsMarked bytes.now place }
 {
-    number_is_read();
-    form_is_read(enc);
-    match memchr(b'Y', bytes) {
-        Some(place) => &bytes[line_start(&bytes[..place])..],
-        None => b"",
-    }
+    place > 0 && place + 1 < bytes.len() && bytes[place - 1] == b':' && bytes[place + 1] == b'c'
 }
 
-// The same, line by line from the first one on.
-fn next_marked<'a>(mark: &Finder<'_>, bytes: &'a [u8], enc: Enc) -> Option<(Option<u64>, &'a [u8])>
-    requires { mark.now ≡ codes ":Yc" }
-    ensures found { IfSome result (λ found. line_references enc bytes.now ≡ option_to_list found.0 ++ line_references enc found.1.now) }
-    ensures shorter { IfSome result (λ found. length found.1.now < length bytes.now) }
-    ensures none { IfNone result (line_references enc bytes.now ≡ []) }
+// Where the first mark stands. Few lines without it have its `Y`, so that letter is sought
+// first; only if another line has it before is the mark sought by all its bytes.
+fn find_mark(bytes: &[u8]) -> Option<usize>
+    ensures { FindsNeedle bytes.now (codes ":Yc") 0 result }
 {
-    number_is_read();
-    form_is_read(enc);
-    let at = mark.find(bytes)?;
-    let start = line_start(&bytes[..at]);
-    let end = at + line_len(&bytes[at..]);
-    let number = text_reference(line_text(&bytes[start..end]), enc);
-    Some((number, &bytes[end..]))
+    let place = memchr(b'Y', bytes)?;
+    if is_marked(bytes, place) {
+        Some(place - 1)
+    } else {
+        memmem::find(bytes, MARK)
+    }
 }
 
 /// Looks for the first line with the mark, and returns the number to which it refers, if it
 /// does, and the bytes after it. No line before that one refers to a binary, and if there is
-/// no such line, none does. The lines before the first one with a `Y` are passed over at once.
-pub(crate) fn next_reference<'a>(
-    mark: &Finder<'_>,
-    bytes: &'a [u8],
-    enc: Enc,
-) -> Option<(Option<u64>, &'a [u8])>
-    requires { mark.now ≡ codes ":Yc" }
+/// no such line, none does.
+pub(crate) fn next_reference(bytes: &[u8], enc: Enc) -> Option<(Option<u64>, &[u8])>
     ensures found { IfSome result (λ found. line_references enc bytes.now ≡ option_to_list found.0 ++ line_references enc found.1.now) }
     ensures shorter { IfSome result (λ found. length found.1.now < length bytes.now) }
     ensures none { IfNone result (line_references enc bytes.now ≡ []) }
 {
-    next_marked(mark, skip_plain(bytes, enc), enc)
+    number_is_read();
+    form_is_read(enc);
+    let at = find_mark(bytes)?;
+    let start = line_start(&bytes[..at]);
+    let end = at + line_len(&bytes[at..]);
+    let number = text_reference(line_text(&bytes[start..end]), enc);
+    Some((number, &bytes[end..]))
 }

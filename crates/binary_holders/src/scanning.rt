@@ -8,11 +8,10 @@ ghost use Rattle.binary_holders.specs.Inner.Lines.{line_references};
 ghost use Rattle.binary_holders.specs.Inner.Pieces.{HearsFront};
 ghost use Rattle.binary_holders.specs.Inner.Tallies.{HasRoom, Hears, KeepsRoom};
 
-use crate::lines::{MARK, line_start, next_reference};
+use crate::lines::{line_start, next_reference};
 use crate::sought::Sought;
 use crate::tally::Tally;
 use dump_io::{Dumps, Failed, read_full};
-use memchr::memmem::Finder;
 use std::alloc::{AllocError, Global};
 use term_forms::{Enc, form_is_read, number_is_read};
 
@@ -50,9 +49,8 @@ fn hear_lines(bytes: &[u8], enc: Enc, sought: &Sought, tally: &mut Tally)
     ensures room { KeepsRoom tally.old tally.new }
     ensures hears { Hears sought.now tally.old tally.new (line_references enc bytes.now) }
 {
-    let mark = Finder::new(MARK);
     let mut rest = bytes;
-    while let Some((number, behind)) = next_reference(&mark, rest, enc) {
+    while let Some((number, behind)) = next_reference(rest, enc) {
         hear_line(number, sought, tally);
         rest = behind;
     }

@@ -1,7 +1,9 @@
 // The binaries whose holders are sought.
-ghost use Rattle.std.specs.Prelude.{◌≡◌, length};
+ghost use Rattle.std.specs.Prelude.{◌≡◌, length, IfOk};
 ghost use Rattle.binary_holders.specs.Inner.Places.{numbers_in, ArePlaces, IsOnlyPlace};
 
+use crate::hints::Hints;
+use std::alloc::{AllocError, Global};
 use std::collections::BTreeMap;
 use std::marker::Model;
 
@@ -12,11 +14,13 @@ pub(crate) struct Binary {
     pub size: u64,
 }
 
-/// The binaries whose holders are sought, and the place of each by its number. They are looked up
-/// by the order of their numbers, since whoever writes a dump could give all of them one hash.
+/// The binaries whose holders are sought, and the place of each by its number. If no hint is
+/// right, they are looked up by the order of their numbers: so it is for nearly all of
+/// them only if whoever wrote the dump chose numbers that want the same few slots.
 #[derive(Drop)]
 pub(crate) struct Sought {
     binaries: Vec<Binary>,
+    hints: Hints,
     places: BTreeMap<u64, u32>,
 }
 
@@ -34,11 +38,20 @@ impl Model for Sought {
 
 impl Sought {
     /// These binaries, with the places of their numbers.
-    pub fn new(binaries: Vec<Binary>, places: BTreeMap<u64, u32>) -> Sought
+    pub fn new(
+        alloc: Global,
+        binaries: Vec<Binary>,
+        places: BTreeMap<u64, u32>,
+    ) -> Result<Sought, AllocError>
         requires { ArePlaces places (numbers_in binaries.items) }
-        ensures { result ≡ binaries.items }
+        ensures { IfOk result (λ sought. sought ≡ binaries.items) }
     {
-        Sought { binaries, places }
+        let hints = Hints::of(alloc, &binaries)?;
+        Ok(Sought {
+            binaries,
+            hints,
+            places,
+        })
     }
 
     /// The number of binaries.
@@ -48,11 +61,21 @@ impl Sought {
         self.binaries.len()
     }
 
+    // The same, by the order of the numbers.
+    fn search(&self, number: u64) -> Option<usize>
+        ensures { IsOnlyPlace (numbers_in self.now) number result }
+    {
+        Some(*self.places.get(&number)? as usize)
+    }
+
     /// The place of the only binary with a number.
     pub fn place(&self, number: u64) -> Option<usize>
         ensures { IsOnlyPlace (numbers_in self.now) number result }
     {
-        Some(*self.places.get(&number)? as usize)
+        if let Some(place) = self.hints.find(&self.binaries, number) {
+            return Some(place);
+        }
+        self.search(number)
     }
 
     /// The binaries.

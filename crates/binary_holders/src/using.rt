@@ -168,7 +168,10 @@ fn stored_sought<D: Dumps>(
         return Err(HolderFault::Memory);
     };
     let binaries = read_sizes(alloc, dumps, index, found.binaries.as_slice())?;
-    Ok((found.binaries, Sought::new(binaries, found.places)))
+    let Ok(sought) = Sought::new(alloc, binaries, found.places) else {
+        return Err(HolderFault::Memory);
+    };
+    Ok((found.binaries, sought))
 }
 
 /// Which processes hold how much of the binaries outside the heaps, and which binaries are large.
@@ -216,7 +219,7 @@ fn one_sought(alloc: Global, number: u64) -> Result<Sought, AllocError>
     places.insert(number, 0)?;
     let mut binaries = Vec::new(alloc);
     binaries.push(Binary { number, size: 0 })?;
-    Ok(Sought::new(binaries, places))
+    Sought::new(alloc, binaries, places)
 }
 
 /// Which processes hold the binary with this number, in dump order, and by how

@@ -1,5 +1,5 @@
 -- The lines of a heap's body that refer to binaries.
-use Rattle.std.specs.Prelude.{◌≡◌, ◌≢◌, ◌⊎◌, ℕ, List, [], ◌∷◌, ◌++◌, All, Option}
+use Rattle.std.specs.Prelude.{◌≡◌, ◌≢◌, ◌⊎◌, ℕ, ◌+◌, ◌-◌, ◌<◌, List, [], ◌∷◌, ◌++◌, length, All, Option, slice_index}
 use Rattle.std.specs.List.{filter_map}
 use Rattle.std.specs.Option.{option_and_then}
 use Rattle.dump_io.specs.Lines.{lf, raw_lines, text_of}
@@ -27,3 +27,7 @@ HasNoLf bytes = All (λ c. c ≢ lf) bytes
 -- the bytes are lines that have their LF
 abbrev pub AreWhole : List ℕ → Type 0
 AreWhole bytes = (bytes ≡ []) ⊎ ((front : List ℕ) × (bytes ≡ front ++ lf ∷ []))
+
+-- the byte before a place is `:`, and the one after it `c`
+abbrev pub IsMarked : List ℕ → ℕ → Type 0
+IsMarked bytes place = (0 < place) × (place + 1 < length bytes) × (slice_index bytes (place - 1) ≡ 58) × (slice_index bytes (place + 1) ≡ 99)

@@ -1,5 +1,4 @@
-use Rattle.std.proofs.Common.{◌≡◌, length}
-use Rattle.std.specs.Prelude.{codes}
+use Rattle.std.proofs.Common.{length}
 use Rattle.binary_holders.specs.Inner.Tallies.{HasRoom, KeepsRoom}
 use Rattle.binary_holders.proofs.Scans.{HeardSome}
 use Rattle.binary_holders.proofs.scanning.hear_lines.Given as goal
@@ -7,7 +6,6 @@ use Rattle.binary_holders.proofs.scanning.hear_lines.Given as goal
 -- the lines in front of the rest were heard
 abbrev pub invariant-loop-number : goal.invariant-loop-number
 invariant-loop-number l = record {
-  mark : l.mark ≡ codes ":Yc";
   room : HasRoom (length l.sought) l.tally;
   keeps : KeepsRoom l.initial.tally l.tally;
   some : HeardSome l.enc l.sought l.initial.tally l.tally l.bytes l.rest;

@@ -6,15 +6,14 @@ use Rattle.dump_io.specs.Lines.{raw_lines}
 use Rattle.memchr.specs.Find.{OccursAt, Nowhere}
 use Rattle.binary_holders.specs.Inner.Lines.{line_references, line_reference, text_reference}
 use Rattle.binary_holders.proofs.MarkFacts.{unmarked, marked, mark}
-use Rattle.binary_holders.proofs.lines.next_marked.Goals as goal
+use Rattle.binary_holders.proofs.lines.next_reference.Goals as goal
 
 pub returns-in_err-at-clause-none : goal.returns-in_err-at-clause-none
 returns-in_err-at-clause-none c =
     rw c.from_residual.ensures (unmarked c.args.enc c.number_is_read.ensures c.form_is_read.ensures.found c.args.bytes.now
     (λ k is.
-    let here = subst (λ n. OccursAt c.args.bytes.now n k) (sym c.requires) is in
     let room = is.fits in
-    c.in_err-at.ensures k (omega arith) (omega (arith, room)) here))
+    c.in_err-at.ensures k (omega arith) (omega (arith, room)) is))
 
 pub returns-clause-found : goal.returns-clause-found
 returns-clause-found c =
@@ -23,9 +22,8 @@ returns-clause-found c =
     let at = c.in_ok-at.at in
     let n = c.line_len.result in
     let found = c.in_ok-at.ensures in
-    let here : OccursAt bytes mark at = subst (λ m. OccursAt bytes m at) c.requires found.1 in
-    let before : Nowhere (OccursAt bytes mark) 0 at = λ k low high is. found.0.before k low high (subst (λ m. OccursAt bytes m k) (sym c.requires) is) in
-    let inside : at < length bytes = let room = here.fits in omega (arith, room) in
+    let before : Nowhere (OccursAt bytes mark) 0 at = found.0.before in
+    let inside : at < length bytes = let room = found.1.fits in omega (arith, room) in
     let start = c.line_start-start.result in
     let line = c.line_start-start.ensures in
     let low : start ≤ at = omega (arith, line.within, length-take-le at bytes (omega (arith, inside))) in
