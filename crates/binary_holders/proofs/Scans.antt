@@ -35,12 +35,12 @@ pub record HeardSome (enc : Enc) (binaries : List Binary) (old new : Tally) (byt
 pub some-none : (enc : Enc) (binaries : List Binary) (tally : Tally) (bytes : List ℕ) → HeardSome enc binaries tally tally bytes bytes
 some-none enc binaries tally bytes = record { heard = []; hears = Hears-none binaries tally; whole = refl }
 
-pub some-more : (enc : Enc) (binaries : List Binary) (old mid new : Tally) (bytes rest behind : List ℕ) (number : Option ℕ) → HeardSome enc binaries old mid bytes rest
-    → line_references enc rest ≡ option_to_list number ++ line_references enc behind → Hears binaries mid new (option_to_list number) → HeardSome enc binaries old new bytes behind
-some-more enc binaries old mid new bytes rest behind number some next one = record {
-  heard = some.heard ++ option_to_list number;
-  hears = Hears-then binaries old mid new some.heard (option_to_list number) some.hears one;
-  whole = some.whole ∙ ap (λ l. some.heard ++ l) next ∙ sym (append_assoc some.heard (option_to_list number) (line_references enc behind));
+pub some-more : (enc : Enc) (binaries : List Binary) (old mid new : Tally) (bytes rest behind more : List ℕ) → HeardSome enc binaries old mid bytes rest
+    → line_references enc rest ≡ more ++ line_references enc behind → Hears binaries mid new more → HeardSome enc binaries old new bytes behind
+some-more enc binaries old mid new bytes rest behind more some next one = record {
+  heard = some.heard ++ more;
+  hears = Hears-then binaries old mid new some.heard more some.hears one;
+  whole = some.whole ∙ ap (λ l. some.heard ++ l) next ∙ sym (append_assoc some.heard more (line_references enc behind));
 }
 
 pub some-all : (enc : Enc) (binaries : List Binary) (old new : Tally) (bytes rest : List ℕ) → HeardSome enc binaries old new bytes rest → line_references enc rest ≡ []

@@ -1,5 +1,5 @@
 // Reading a heap in pieces, and counting what its lines refer to.
-ghost use Rattle.std.specs.Prelude.{◌≡◌, ℕ, List, ◌+◌, ◌-◌, ◌≤◌, ◌++◌, length, take, min, true, IfOk, OnOk, OnErr};
+ghost use Rattle.std.specs.Prelude.{◌≡◌, ℕ, List, ◌+◌, ◌-◌, ◌<◌, ◌≤◌, ◌++◌, length, take, min, true, IfOk, OnOk, OnErr};
 ghost use Rattle.std.specs.List.{between};
 ghost use Rattle.std.specs.Option.{option_to_list};
 ghost use Rattle.dump_io.specs.Dumps.{told, size_of, IsOpen, DeviceFailed, ReadsAtMost};
@@ -32,14 +32,53 @@ pub(crate) fn make_buffer(alloc: Global) -> Result<Vec<u8>, AllocError>
     vec![in alloc; 0u8; ROOM]
 }
 
-// Hears what a line refers to, if it refers to a binary.
-fn hear_line(number: Option<u64>, sought: &Sought, tally: &mut Tally)
+// Puts a number, if there is one, behind those that are gathered, and returns how many these are then.
+fn put_number(numbers: &mut [u64], count: usize, number: Option<u64>) -> usize
+    requires { count < length numbers.old }
+    ensures few { result ≤ count + 1 }
+    ensures size { length numbers.new ≡ length numbers.old }
+    ensures put { take result numbers.new ≡ take count numbers.old ++ option_to_list number }
+{
+    match number {
+        Some(number) => {
+            numbers[count] = number;
+            count + 1
+        }
+        None => count,
+    }
+}
+
+// Gathers what the first lines of these bytes refer to, as many numbers as
+// there is room for, and returns how many, and the lines that are left.
+fn gather<'a>(bytes: &'a [u8], enc: Enc, numbers: &mut [u64]) -> (usize, &'a [u8])
+    requires some { 0 < length bytes.now }
+    requires room { 0 < length numbers.old }
+    ensures few { result.0 ≤ length numbers.new }
+    ensures size { length numbers.new ≡ length numbers.old }
+    ensures found { line_references enc bytes.now ≡ take result.0 numbers.new ++ line_references enc result.1.now }
+    ensures shorter { length result.1.now < length bytes.now }
+{
+    let mut count = 0;
+    let mut rest = bytes;
+    while count < numbers.len() {
+        let Some((number, behind)) = next_reference(rest, enc) else {
+            return (count, b"");
+        };
+        count = put_number(numbers, count, number);
+        rest = behind;
+    }
+    (count, rest)
+}
+
+// Hears that lines refer to the binaries with these numbers. One look-up
+// after another lets the processor wait for several of them at once.
+fn hear_numbers(numbers: &[u64], sought: &Sought, tally: &mut Tally)
     requires { HasRoom (length sought.now) tally.old }
     ensures room { KeepsRoom tally.old tally.new }
-    ensures hears { Hears sought.now tally.old tally.new (option_to_list number) }
+    ensures hears { Hears sought.now tally.old tally.new numbers.now }
 {
-    if let Some(number) = number {
-        tally.hear(sought, number);
+    for number in numbers {
+        tally.hear(sought, *number);
     }
 }
 
@@ -49,9 +88,11 @@ fn hear_lines(bytes: &[u8], enc: Enc, sought: &Sought, tally: &mut Tally)
     ensures room { KeepsRoom tally.old tally.new }
     ensures hears { Hears sought.now tally.old tally.new (line_references enc bytes.now) }
 {
+    let mut numbers = [0u64; 32];
     let mut rest = bytes;
-    while let Some((number, behind)) = next_reference(rest, enc) {
-        hear_line(number, sought, tally);
+    while !rest.is_empty() {
+        let (count, behind) = gather(rest, enc, &mut numbers);
+        hear_numbers(&numbers[..count], sought, tally);
         rest = behind;
     }
 }
