@@ -14,9 +14,9 @@ pub(crate) struct Binary {
     pub size: u64,
 }
 
-/// The binaries whose holders are sought, and the place of each by its number. If no hint is
-/// right, they are looked up by the order of their numbers: so it is for nearly all of
-/// them only if whoever wrote the dump chose numbers that want the same few slots.
+/// The binaries whose holders are sought, and the place of each by its number. A hint is asked
+/// first, and if it isn't right, the number is sought by the order of the numbers: whoever
+/// writes a dump can make all hints wrong, and then a look-up takes as long as that search.
 #[derive(Drop)]
 pub(crate) struct Sought {
     binaries: Vec<Binary>,
@@ -61,7 +61,7 @@ impl Sought {
         self.binaries.len()
     }
 
-    // The same, by the order of the numbers.
+    // The place of the only binary with a number, by the order of the numbers.
     fn search(&self, number: u64) -> Option<usize>
         ensures { IsOnlyPlace (numbers_in self.now) number result }
     {
