@@ -1,14 +1,11 @@
 -- Lines that are cut: at an LF, and within a line.
-use Rattle.std.proofs.Common.{◌≡◌, ℕ, ◌+◌, ◌-◌, ◌<◌, ◌≤◌, ◌==◌, ◌⊎◌, inl, inr, true, false, List, [], ◌∷◌, ◌++◌, length, take, drop, get_or, eqb, Option, None, Some, if◌then◌else◌, refl, sym, ◌∙◌, ap, subst, arith, append_assoc, append-nil}
+use Rattle.std.proofs.Common.{◌≡◌, ℕ, ◌==◌, ◌⊎◌, inl, inr, true, false, List, [], ◌∷◌, ◌++◌, Option, None, Some, if◌then◌else◌, refl, sym, ◌∙◌, ap, append_assoc}
 use Rattle.std.specs.Prelude.{◌≢◌}
 use Rattle.std.specs.List.{filter_map, cons_option}
 use Rattle.std.specs.Option.{option_to_list}
-use Rattle.std.proofs.Math.Seq.{take-length, drop-length}
-use Rattle.std.proofs.lemmas.Bool.{ne_eqb, eqb-true}
+use Rattle.std.proofs.lemmas.Bool.{ne_eqb}
 use Rattle.std.proofs.lemmas.Bool.Decides.{eqb_tells}
-use Rattle.std.proofs.lemmas.List.{take_more, take-append-drop, get_or-take, get_or-drop, length-take-le, length-drop}
-use Rattle.std.proofs.lemmas.List.Elements.{All-head, All-tail, All-from_get_or, filter_map-append}
-use Rattle.memchr.specs.Find.{Passes, is_byte, Nowhere}
+use Rattle.std.proofs.lemmas.List.Elements.{All-head, All-tail, filter_map-append}
 use Rattle.dump_io.specs.Lines.{lf, lines_after, raw_lines}
 use Rattle.term_forms.specs.declared.enc.Enc.{Enc}
 use Rattle.binary_holders.specs.Inner.Lines.{line_reference, line_references, HasNoLf, AreWhole}
@@ -92,43 +89,3 @@ cons-list (Some y) ys = refl
 
 pub one-more : {X Y : Type 0} (h : X → Option Y) (x : X) (xs : List X) → filter_map h (x ∷ xs) ≡ option_to_list (h x) ++ filter_map h xs
 one-more h x xs = cons-list (h x) (filter_map h xs)
-
--- ---- where LF stands
-
-lf-free : (bytes : List ℕ) (n : ℕ) → n ≤ length bytes → Nowhere (Passes (is_byte lf) bytes) 0 n → HasNoLf (take n bytes)
-lf-free bytes n fits none =
-    All-from_get_or (λ c. c ≢ lf) (take n bytes) 0 (λ i l same.
-    let len : length (take n bytes) ≡ n = length-take-le n bytes fits in
-    let inside : i < n = omega (arith, l, len) in
-    none i (omega arith) inside (ap (λ c. eqb c lf) (sym (get_or-take n bytes i 0 inside) ∙ same)))
-
-pub lf-behind : (bytes : List ℕ) (n : ℕ) → Nowhere (Passes (is_byte lf) bytes) n (length bytes) → HasNoLf (drop n bytes)
-lf-behind bytes n none =
-    All-from_get_or (λ c. c ≢ lf) (drop n bytes) 0 (λ i l same.
-    let len : length (drop n bytes) ≡ length bytes - n = length-drop n bytes in
-    none (n + i) (omega arith) (omega (arith, l, len)) (ap (λ c. eqb c lf) (sym (get_or-drop n bytes i 0) ∙ same)))
-
--- the bytes up to an LF, and it
-pub upto-lf : (bytes : List ℕ) (k : ℕ) → k < length bytes → Passes (is_byte lf) bytes k → take (k + 1) bytes ≡ take k bytes ++ lf ∷ []
-upto-lf bytes k inside here = take_more bytes k 0 inside ∙ ap (λ c. take k bytes ++ c ∷ []) (eqb-true (get_or bytes k 0) lf here)
-
-pub first-ended : (bytes : List ℕ) (k : ℕ) → k < length bytes → Nowhere (Passes (is_byte lf) bytes) 0 k → Passes (is_byte lf) bytes k
-    → raw_lines bytes ≡ take (k + 1) bytes ∷ raw_lines (drop (k + 1) bytes)
-first-ended bytes k inside none here =
-    let behind = drop (k + 1) bytes in
-    let parts : bytes ≡ take k bytes ++ (lf ∷ behind) =
-    sym (take-append-drop (k + 1) bytes) ∙ ap (λ l. l ++ behind) (upto-lf bytes k inside here) ∙ append_assoc (take k bytes) (lf ∷ []) behind in
-    ap raw_lines parts
-    ∙ lines-first (take k bytes) (lf ∷ behind) (lf ∷ []) (raw_lines behind) (lf-free bytes k (omega arith) none) refl
-    ∙ sym (ap (λ l. l ∷ raw_lines behind) (upto-lf bytes k inside here))
-
-pub first-open : (bytes : List ℕ) → 0 < length bytes → Nowhere (Passes (is_byte lf) bytes) 0 (length bytes)
-    → raw_lines bytes ≡ take (length bytes) bytes ∷ raw_lines (drop (length bytes) bytes)
-first-open [] some none = absurd (omega arith)
-first-open (c ∷ front) some none =
-    let all : take (length (c ∷ front)) (c ∷ front) ≡ c ∷ front = take-length (c ∷ front) in
-    let free : HasNoLf (c ∷ front) = subst HasNoLf all (lf-free (c ∷ front) (length (c ∷ front)) (omega arith) none) in
-    ap raw_lines (sym (append-nil (c ∷ front)))
-    ∙ lines-join c front [] free
-    ∙ ap (λ l. l ∷ []) (sym all)
-    ∙ ap (λ l. take (length (c ∷ front)) (c ∷ front) ∷ raw_lines l) (sym (drop-length (c ∷ front)))

@@ -1,12 +1,11 @@
 // The lines of a heap's body that refer to binaries.
-ghost use Rattle.std.specs.Prelude.{◌≡◌, [], ◌∷◌, ◌++◌, ◌<◌, ◌≤◌, length, take, drop, IfSome, IfNone, IsTrue, codes};
+ghost use Rattle.std.specs.Prelude.{◌≡◌, [], ◌++◌, ◌<◌, ◌≤◌, length, take, drop, IfSome, IfNone, IsTrue, codes};
 ghost use Rattle.std.specs.Option.{option_to_list};
-ghost use Rattle.dump_io.specs.Lines.{raw_lines};
 ghost use Rattle.memchr.specs.Find.{FindsNeedle};
 ghost use Rattle.binary_holders.specs.Inner.Lines.{line_references, HasNoLf, AreWhole, IsMarked};
 
 use crate::texts::text_reference;
-use dump_io::line_text;
+use dump_io::{line_len, line_text};
 use memchr::{memchr, memmem, memrchr};
 use term_forms::{Enc, form_is_read, number_is_read};
 
@@ -22,19 +21,6 @@ pub(crate) fn line_start(bytes: &[u8]) -> usize
     match memrchr(b'\n', bytes) {
         Some(lf) => lf + 1,
         None => 0,
-    }
-}
-
-// How many bytes the first raw line has.
-fn line_len(bytes: &[u8]) -> usize
-    requires { 0 < length bytes.now }
-    ensures some { 0 < result }
-    ensures within { result ≤ length bytes.now }
-    ensures first { raw_lines bytes.now ≡ take result bytes.now ∷ raw_lines (drop result bytes.now) }
-{
-    match memchr(b'\n', bytes) {
-        Some(lf) => lf + 1,
-        None => bytes.len(),
     }
 }
 

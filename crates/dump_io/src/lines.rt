@@ -1,6 +1,8 @@
 // Lines: their texts and their law.
-ghost use Rattle.std.specs.Prelude.{◌≡◌, ◌<◌, ◌++◌, ◌∷◌, [], ℕ, List, length};
+ghost use Rattle.std.specs.Prelude.{◌≡◌, ◌<◌, ◌≤◌, ◌++◌, ◌∷◌, [], ℕ, List, length, take, drop};
 ghost use Rattle.dump_io.specs.Lines.{AreLines, HasLfLast, IsEnded, raw_lines, lf, text_of};
+
+use memchr::memchr;
 
 /// The text of the line that consists of these bytes and an LF: the bytes without one CR at their end.
 pub fn text_before_lf(line: &[u8]) -> &[u8]
@@ -20,6 +22,19 @@ pub fn line_text(raw: &[u8]) -> &[u8]
         return text;
     }
     raw.strip_suffix(b"\n").unwrap_or(raw)
+}
+
+/// How many bytes the first raw line has, its LF among them. There is at least one byte.
+pub fn line_len(bytes: &[u8]) -> usize
+    requires { 0 < length bytes.now }
+    ensures some { 0 < result }
+    ensures within { result ≤ length bytes.now }
+    ensures first { raw_lines bytes.now ≡ take result bytes.now ∷ raw_lines (drop result bytes.now) }
+{
+    match memchr(b'\n', bytes) {
+        Some(lf) => lf + 1,
+        None => bytes.len(),
+    }
 }
 
 /// States a law and does no work: the lines of any bytes are the only list that satisfies

@@ -10,7 +10,7 @@ use Rattle.term_forms.specs.declared.enc.Enc.{Enc}
 use Rattle.dump_redact.specs.declared.copying.Stretch.TheVariants.{Plain, Payload}
 use Rattle.dump_redact.specs.Redacted.{blank}
 use Rattle.dump_redact.specs.Inner.Copying.{blank_line, stretch_behind}
-use Rattle.dump_redact.proofs.FirstLines.{lf_free}
+use Rattle.dump_redact.proofs.Absent.{lf_free}
 use Rattle.dump_redact.proofs.Stretches.{blank-free, behind-free, blank-ended, behind-ended}
 
 module _ (enc : Enc) (chars : List ℕ) (k : ℕ) (fits : k < length chars) (none : Nowhere (Passes (is_byte lf) chars) 0 k) (here : Passes (is_byte lf) chars k) where

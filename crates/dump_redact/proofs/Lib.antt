@@ -1,10 +1,10 @@
+pub mod Absent
 pub mod Alike
 pub mod Base64Zeros
 pub mod Binaries
 pub mod Blanks
 pub mod Copies
 mod Examples
-pub mod FirstLines
 pub mod Heads
 pub mod HexZeros
 pub mod InTurn

@@ -1,29 +1,16 @@
 // Redacting the body of a heap in place.
-ghost use Rattle.std.specs.Prelude.{◌≡◌, ◌<◌, ◌≤◌, ◌∷◌, ◌++◌, length, take, drop, map, IfSome};
-ghost use Rattle.dump_io.specs.Lines.{raw_lines, IsEnded};
+ghost use Rattle.std.specs.Prelude.{◌≡◌, ◌<◌, ◌≤◌, ◌++◌, length, take, drop, map, IfSome};
+ghost use Rattle.dump_io.specs.Lines.{IsEnded};
 ghost use Rattle.dump_redact.specs.Bodies.{heap_line, redacted_body};
 ghost use Rattle.dump_redact.specs.Redacted.{blank};
 ghost use Rattle.dump_redact.specs.Inner.Places.{place_of};
 
 use crate::parts::Part;
-use dump_io::line_text;
+use dump_io::{line_len, line_text};
 use memchr::{memchr, memrchr};
 use term_forms::reading::form;
 use term_forms::shapes::Form;
 use term_forms::{Enc, form_is_read, heap_line as split_heap_line, number_is_read};
-
-// How many bytes the first raw line has.
-fn line_len(bytes: &[u8]) -> usize
-    requires { 0 < length bytes.now }
-    ensures some { 0 < result }
-    ensures within { result ≤ length bytes.now }
-    ensures first { raw_lines bytes.now ≡ take result bytes.now ∷ raw_lines (drop result bytes.now) }
-{
-    match memchr(b'\n', bytes) {
-        Some(lf) => lf + 1,
-        None => bytes.len(),
-    }
-}
 
 fn blanked(c: u8, enc: Enc) -> u8
     ensures { result ≡ blank enc c }

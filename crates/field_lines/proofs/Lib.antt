@@ -1,4 +1,3 @@
 pub mod Examples
 pub mod FieldFacts
-pub mod LineFacts
 pub mod PartFacts

@@ -1,12 +1,10 @@
 // A line, the lines that are still to come, and the place of a field.
-ghost use Rattle.std.specs.Prelude.{◌≡◌, ◌+◌, ◌<◌, ◌≤◌, ◌∷◌, length, take, drop};
+ghost use Rattle.std.specs.Prelude.{◌≡◌};
 ghost use Rattle.std.specs.Iterator.{YieldsFirstBy, item_count};
-ghost use Rattle.dump_io.specs.Lines.{raw_lines};
 ghost use Rattle.field_lines.specs.Lines.{text_lines};
 ghost use Rattle.field_lines.specs.Shown.{shown_line};
 
-use dump_io::line_text;
-use memchr::memchr;
+use dump_io::{line_len, line_text};
 use std::marker::Model;
 
 /// A line of a body.
@@ -52,19 +50,6 @@ impl<'a> Lines<'a> {
         ensures { result ≡ text_lines body.now }
     {
         Lines { body, at: 0 }
-    }
-}
-
-// How many bytes the first raw line has.
-fn line_len(bytes: &[u8]) -> usize
-    requires { 0 < length bytes.now }
-    ensures some { 0 < result }
-    ensures within { result ≤ length bytes.now }
-    ensures first { raw_lines bytes.now ≡ take result bytes.now ∷ raw_lines (drop result bytes.now) }
-{
-    match memchr(b'\n', bytes) {
-        Some(lf) => lf + 1,
-        None => bytes.len(),
     }
 }
 

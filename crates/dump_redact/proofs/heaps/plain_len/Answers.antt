@@ -1,5 +1,5 @@
 use Rattle.std.proofs.Common.{length, refl, arith}
-use Rattle.dump_redact.proofs.FirstLines.{byte_free}
+use Rattle.dump_redact.proofs.Absent.{byte_free}
 use Rattle.dump_redact.proofs.PlainLines.{plain-front, plain-all}
 use Rattle.dump_redact.proofs.heaps.plain_len.Goals as goal
 

@@ -1,5 +1,5 @@
-use Rattle.binary_holders.proofs.LineFacts.{first-ended, first-open}
-use Rattle.binary_holders.proofs.lines.line_len.Goals as goal
+use Rattle.dump_io.proofs.FirstLines.{first-ended, first-open}
+use Rattle.dump_io.proofs.lines.line_len.Goals as goal
 
 pub returns-in-Some-clause-first : goal.returns-in-Some-clause-first
 returns-in-Some-clause-first c =
