@@ -3,6 +3,7 @@ pub mod Examples
 pub mod Files
 pub mod Fill
 pub mod FirstLines
+pub mod Fronts
 pub mod Grown
 pub mod Numerals
 pub mod Splits

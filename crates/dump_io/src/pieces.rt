@@ -9,7 +9,6 @@ use crate::hex::{HexText, put_hex};
 use crate::numbers::put_dec;
 use crate::short_text::ShortText;
 use crate::sink::{Sink, write_all};
-use itoa::Buffer;
 
 /// A piece of a line: bytes as they are, a number in decimal, or a number in upper-case hex.
 #[derive(Clone, Copy)]
@@ -42,24 +41,26 @@ fn put_each<K: Sink>(sink: &mut K, pieces: &[Piece<'_>]) -> Result<(), Failed>
     Ok(())
 }
 
-// Appends a piece to a short text, and returns whether there was room.
-fn push_piece(text: &mut ShortText, piece: &Piece<'_>) -> bool
-    ensures { text.new ≡ (if result then text.old ++ piece_text piece.now else text.old) }
+// Puts a piece before a short text, and returns whether there was room.
+fn put_before(text: &mut ShortText, piece: &Piece<'_>) -> bool
+    ensures { text.new ≡ (if result then piece_text piece.now ++ text.old else text.old) }
 {
     match piece {
-        Piece::Bytes(bytes) => text.push(bytes),
-        Piece::Dec(n) => text.push(Buffer::new().format(*n).as_bytes()),
-        Piece::Hex(n) => text.push(HexText::new(*n).bytes()),
+        Piece::Bytes(bytes) => text.put(bytes),
+        Piece::Dec(n) => text.put_dec(*n),
+        Piece::Hex(n) => text.put(HexText::new(*n).bytes()),
     }
 }
 
-// Appends the pieces to a short text, and returns whether there was room for all.
+// Puts the pieces into a short text, the last one first, and returns whether there was room for all.
 fn gather(text: &mut ShortText, pieces: &[Piece<'_>]) -> bool
     requires { text.old ≡ [] }
     ensures { OnTrue result (text.new ≡ pieces_text pieces.now) }
 {
-    for piece in pieces {
-        if !push_piece(text, piece) {
+    let mut left = pieces.len();
+    while left > 0 {
+        left -= 1;
+        if !put_before(text, &pieces[left]) {
             return false;
         }
     }
