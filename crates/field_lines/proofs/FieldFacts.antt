@@ -1,11 +1,16 @@
 -- A field by the place of its colon, and the place of a value.
-use Rattle.std.proofs.Common.{◌≡◌, ℕ, ◌+◌, ◌-◌, ◌≤◌, ◌==◌, Bool, true, false, List, [], ◌∷◌, length, take, drop, Option, None, Some, if◌then◌else◌, refl, sym, ◌∙◌, ap, subst, length-drop, drop_of_length-le, ⊎_elim, arith}
-use Rattle.std.specs.Prelude.{unwrap_or, find, cond, slice_range}
+use Rattle.std.proofs.Common.{◌≡◌, ℕ, ◌+◌, ◌-◌, ◌<◌, ◌≤◌, ◌==◌, ◌&&◌, Bool, true, false, nat_lt, List, [], ◌∷◌, length, take, drop, Option, None, Some, if◌then◌else◌, refl, sym, ◌∙◌, ap, subst, length-drop, drop_of_length-le, ⊎_elim, true≢false, lt-ltb, eq-eqb, arith}
+use Rattle.std.specs.Prelude.{unwrap_or, find, cond, slice_index, slice_range}
 use Rattle.std.specs.List.{position_or_len}
-use Rattle.std.proofs.lemmas.Bool.{cases_lt}
-use Rattle.std.proofs.lemmas.List.{drop-drop, drop-take}
+use Rattle.std.specs.Str.{bytes_eq}
+use Rattle.std.proofs.lemmas.Bool.{cases_lt, and_parts, and_from, eqb-true, false_from_ne_true}
+use Rattle.std.proofs.lemmas.List.{drop-drop, drop-take, length-take-le}
+use Rattle.std.proofs.lemmas.List.Elements.{All-from_get_or}
+use Rattle.std.proofs.lemmas.List.Folds.{list_any_none}
+use Rattle.std.proofs.lemmas.List.Sums.{fails_before_first, passes_at_first}
+use Rattle.std.proofs.lemmas.Slice.Eq.{bytes_eq-Decides}
 use Rattle.std.proofs.Math.Seq.{drop-length}
-use Rattle.dump_io.specs.Colons.{is_colon, has_colon}
+use Rattle.dump_io.specs.Colons.{colon, is_colon, has_colon}
 use Rattle.field_lines.specs.Fields.{Field, field_of, space, without_space, key_of, value_of, has_key, place_of}
 use Rattle.field_lines.specs.Lines.{TextLine, IsPart}
 use Rattle.field_lines.specs.declared.shapes.FieldAt.{FieldAt}
@@ -73,6 +78,33 @@ IsEnd-value text =
     IsEnd-then text (drop n text) (value_of text)
     (⊎_elim (λ l. IsEnd-past n text (omega (arith, l))) (λ l. IsEnd-drop n text l) (cases_lt (length text) n))
     (IsEnd-without_space (drop n text))
+
+-- ---- a field's first colon stands after its key
+first-inside : (text : List ℕ) → has_colon text ≡ true → position_or_len is_colon text < length text
+first-inside text has =
+    let n = position_or_len is_colon text in
+    ⊎_elim (λ l. l)
+    (λ past. absurd (true≢false (sym has ∙ list_any_none is_colon text
+    (All-from_get_or (λ c. is_colon c ≡ false) text 0 (λ i l. fails_before_first is_colon text i 0 (omega (arith, l, past)))))))
+    (cases_lt n (length text))
+
+colon-behind : (key : List ℕ) (line : TextLine) → has_key key line ≡ true → (length key < length line.text) × (slice_index line.text (length key) ≡ colon)
+colon-behind key line has =
+    let text = line.text in
+    let n = position_or_len is_colon text in
+    let parts = and_parts (has_colon text) (bytes_eq (key_of text) key) has in
+    let inside : n < length text = first-inside text parts.0 in
+    let same : key_of text ≡ key = (bytes_eq-Decides (key_of text) key).0 parts.1 in
+    let count : length key ≡ n = ap length (sym same) ∙ length-take-le n text (omega (arith, inside)) in
+    (omega (arith, count, inside), ap (slice_index text) count ∙ eqb-true _ _ (passes_at_first is_colon text 0 inside))
+
+-- where no colon stands there, the line has another key
+pub no_colon-there : (key : List ℕ) (line : TextLine) → (nat_lt (length key) (length line.text) && (slice_index line.text (length key) == colon)) ≡ false
+    → has_key key line ≡ false
+no_colon-there key line none =
+    false_from_ne_true (has_key key line) (λ has.
+    let there = colon-behind key line has in
+    true≢false (sym (and_from _ _ (lt-ltb _ _ there.0) (eq-eqb _ _ there.1)) ∙ none))
 
 -- ---- the place of a value in its body
 pub place-found : (key : List ℕ) (line : TextLine) (field : FieldAt) → Some field ≡ (if has_key key line then Some (place_of line) else None)

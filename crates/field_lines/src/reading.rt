@@ -1,5 +1,6 @@
 // Reading a body: its lines, and its fields.
-ghost use Rattle.std.specs.Prelude.{◌≡◌, ◌+◌, ◌^◌, ◌<◌, ◌≤◌, length, Some, None, IfSome, All, option_map, slice_range, if◌then◌else◌};
+ghost use Rattle.std.specs.Prelude.{◌≡◌, ◌==◌, ◌&&◌, ◌+◌, ◌^◌, ◌<◌, ◌≤◌, length, nat_lt, Some, None, IfSome, All, option_map, slice_index, slice_range, if◌then◌else◌};
+ghost use Rattle.dump_io.specs.Colons.{colon};
 ghost use Rattle.field_lines.specs.Lines.{text_lines, IsPart};
 ghost use Rattle.field_lines.specs.Fields.{field_of, find_field, find_value, has_key, place_of, without_space};
 ghost use Rattle.field_lines.specs.Shown.{shown_field, shown_line};
@@ -35,11 +36,22 @@ pub fn field(text: &[u8]) -> Option<(&[u8], &[u8])>
     Some((key, value(rest)))
 }
 
+// Whether a `:` stands where a field with this key has its first one. In
+// few other lines it does, so that few are searched for their first `:`.
+fn may_have_key(text: &[u8], key: &[u8]) -> bool
+    ensures { result ≡ (nat_lt (length key.now) (length text.now) && (slice_index text.now (length key.now) == colon)) }
+{
+    key.len() < text.len() && text[key.len()] == b':'
+}
+
 // Where the line's field stands, if it has this key.
 fn place(line: &Line<'_>, key: &[u8]) -> Option<FieldAt>
     requires { line.now.at + length line.now.text.now < 2 ^ 64 }
     ensures { result ≡ (if has_key key.now (shown_line line.now) then Some (place_of (shown_line line.now)) else None) }
 {
+    if !may_have_key(line.text, key) {
+        return None;
+    }
     let (name, value) = field(line.text)?;
     if name != key {
         return None;
