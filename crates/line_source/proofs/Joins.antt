@@ -70,7 +70,7 @@ EndsTooLong-later limit s a b before middle after at short heard ends = record {
       ∙ ap (headers_before at) (sym (new_headers-append s a b)));
 }
 
-EndsRefused-later : (limit : ℕ) (s a b : List ℕ) (before middle after : List Header) (stop : Option RefusedHeader)
+pub EndsRefused-later : (limit : ℕ) (s a b : List ℕ) (before middle after : List Header) (stop : Option RefusedHeader)
     → middle ≡ before ++ new_headers s a → EndsRefused limit (s ++ a) b middle after stop → EndsRefused limit s (a ++ b) before after stop
 EndsRefused-later limit s a b before middle after stop heard ends =
     let among = ends.among in record {

@@ -7,3 +7,4 @@ pub mod Scans
 pub mod StartPlaces
 pub mod Stretches
 pub mod Walk
+pub mod WholeLines

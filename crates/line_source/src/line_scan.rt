@@ -1,5 +1,6 @@
 // Headers from a stream that comes in pieces.
-ghost use Rattle.std.specs.Prelude.{◌≡◌, ◌+◌, ◌-◌, ◌<◌, ◌≤◌, ◌^◌, ◌++◌, ◌∷◌, [], ℕ, true, false, is_err, length, take, List, None, Some, Ok, Err, OnOk, OnErr, IfOk, IfErr, IsErrOf, All, ◌↔◌, slice_index, ◌==◌, if◌then◌else◌};
+ghost use Rattle.std.specs.Prelude.{◌≡◌, ◌+◌, ◌-◌, ◌<◌, ◌≤◌, ◌^◌, ◌++◌, ◌∷◌, [], ℕ, true, false, is_err, length, take, List, None, Some, Ok, Err, OnOk, OnErr, IfOk, IfErr, IfSome, IsErrOf, All, ◌↔◌, slice_index, ◌==◌, if◌then◌else◌};
+ghost use Rattle.memchr.specs.Find.{Nowhere, Passes, is_byte};
 ghost use Rattle.dump_io.specs.Lines.{Header, lf, equals_sign, text_of};
 ghost use Rattle.line_source.specs.Streams.{ended, plain, header, too_long, new_headers, open_headers, headers_before};
 ghost use Rattle.line_source.specs.Scan.{Scan, StandsFor, most_kept};
@@ -184,12 +185,11 @@ impl LineScan {
         into.header(at, self.offset, self.kept.bytes())
     }
 
-    // Passes over bytes up to and including the `=` of the next header, or over all of them if there is none.
+    // Passes over bytes up to the next header, or over all of them if there is none.
     fn pass(&mut self, rest: &[u8]) -> usize
         requires other { is_header_line self.old.last ≡ false }
         requires some { 0 < length rest.now }
         requires fits { self.old.offset + length rest.now < 2 ^ 64 }
-        ensures some { 1 ≤ result }
         ensures within { result ≤ length rest.now }
         ensures offset { self.new.offset ≡ self.old.offset + result }
         ensures limit { self.new.limit ≡ self.old.limit }
@@ -198,11 +198,12 @@ impl LineScan {
             → StandsFor self.new (stream ++ take result rest.now) }
         ensures silent { (stream : List ℕ) → StandsFor self.old stream
             → new_headers stream (take result rest.now) ≡ [] }
+        ensures header { result < length rest.now → (self.new.last ≡ ended) × (slice_index rest.now result ≡ equals_sign) }
     {
         match header_start(rest, self.has_begun()) {
             Some(at) => {
-                self.begin_header(at as u64);
-                at + 1
+                self.pass_lines(at as u64);
+                at
             }
             None => {
                 self.pass_all(rest);
@@ -219,18 +220,30 @@ impl LineScan {
         matches!(self.line, LineState::Plain)
     }
 
-    // Passes over bytes up to the `=` of a header, and keeps that byte.
-    fn begin_header(&mut self, passed: u64)
-        requires { self.old.offset + passed + 1 < 2 ^ 64 }
+    // Takes the `=` of a header's line, and keeps it.
+    fn begin_header(&mut self)
+        requires { self.old.offset + 1 < 2 ^ 64 }
         ensures header { self.new ≡ record self.old {
-          offset = self.old.offset + passed + 1;
+          offset = self.old.offset + 1;
           last = header (equals_sign ∷ []);
         } }
         ensures limit { 1 ≤ self.old.limit }
     {
         self.kept.begin(b'=');
         self.line = LineState::Header;
-        self.offset += passed + 1;
+        self.offset += 1;
+    }
+
+    // Passes over bytes in which no header begins, the last of which is an LF.
+    fn pass_lines(&mut self, passed: u64)
+        requires { self.old.offset + passed < 2 ^ 64 }
+        ensures { self.new ≡ record self.old {
+          offset = self.old.offset + passed;
+          last = ended;
+        } }
+    {
+        self.line = LineState::Ended;
+        self.offset += passed;
     }
 
     // Passes over bytes in which no header begins.
@@ -332,6 +345,100 @@ impl LineScan {
         }
     }
 
+    // Where the first line of the bytes has its LF, if that is among
+    // them and the line isn't longer than a header's may be.
+    fn line_end(&self, rest: &[u8]) -> Option<usize>
+        ensures fits { IfSome result (λ end. end ≤ self.now.limit) }
+        ensures inside { IfSome result (λ end. end < length rest.now) }
+        ensures before { IfSome result (λ end. Nowhere (Passes (is_byte lf) rest.now) 0 end) }
+        ensures here { IfSome result (λ end. Passes (is_byte lf) rest.now end) }
+    {
+        match memchr(b'\n', rest) {
+            Some(end) if end <= self.limit as usize => Some(end),
+            _ => None,
+        }
+    }
+
+    // Lets the receiver hear the header whose line has these bytes before its LF, and takes the line with its LF.
+    fn hear_line<H: HeaderSink>(&mut self, line: &[u8], into: &mut H) -> Result<(), HeaderStop>
+        requires fits { self.old.offset + length line.now + 1 < 2 ^ 64 }
+        requires open { H.stop into.old ≡ None }
+        ensures hears { Hears (H.heard into.old) (H.heard into.new) (H.stop into.new) (record {
+          at = self.old.offset;
+          body = self.old.offset + length line.now + 1;
+          text = text_of (line.now ++ lf ∷ []);
+        }) result }
+        ensures ok { OnOk result (self.new ≡ record self.old {
+          offset = self.old.offset + length line.now + 1;
+          last = ended;
+        }) }
+        ensures err { OnErr result (self.new ≡ self.old) }
+    {
+        let body = self.offset + line.len() as u64 + 1;
+        into.header(self.offset, body, text_before_lf(line))?;
+        self.line = LineState::Ended;
+        self.offset = body;
+        Ok(())
+    }
+
+    // Takes the line of a header, whose `=` is the first of the bytes, up to and including
+    // its LF. If the LF isn't among them, or too far away, only the `=` is taken and kept.
+    fn take_line<H: HeaderSink>(&mut self, rest: &[u8], into: &mut H) -> Result<usize, ScanFault>
+        requires line { self.old.last ≡ ended }
+        requires some { 0 < length rest.now }
+        requires sign { slice_index rest.now 0 ≡ equals_sign }
+        requires fits { self.old.offset + length rest.now < 2 ^ 64 }
+        requires open { H.stop into.old ≡ None }
+        ensures within { IfOk result (λ n. (1 ≤ n) × (n ≤ length rest.now)) }
+        ensures offset { IfOk result (λ n. self.new.offset ≡ self.old.offset + n) }
+        ensures limit { self.new.limit ≡ self.old.limit }
+        ensures stop { stop_value (H.stop into.new) ≡ stop_of result }
+        ensures stands { IfOk result (λ n. (stream : List ℕ) → StandsFor self.old stream
+            → StandsFor self.new (stream ++ take n rest.now)) }
+        ensures heard { IfOk result (λ n. (stream : List ℕ) → StandsFor self.old stream
+            → H.heard into.new ≡ H.heard into.old ++ new_headers stream (take n rest.now)) }
+        ensures ends { IfErr result (λ fault. (stream : List ℕ) → StandsFor self.old stream
+            → Ends self.old.limit stream rest.now (H.heard into.old) (H.heard into.new)
+            (H.stop into.new) fault) }
+    {
+        match self.line_end(rest) {
+            Some(end) => {
+                self.hear_line(&rest[..end], into)?;
+                Ok(end + 1)
+            }
+            None => {
+                self.begin_header();
+                Ok(1)
+            }
+        }
+    }
+
+    // Takes bytes up to the next header and what `take_line` takes of its line, or all the bytes if no header begins there.
+    fn take_other<H: HeaderSink>(&mut self, rest: &[u8], into: &mut H) -> Result<usize, ScanFault>
+        requires other { is_header_line self.old.last ≡ false }
+        requires some { 0 < length rest.now }
+        requires fits { self.old.offset + length rest.now < 2 ^ 64 }
+        requires open { H.stop into.old ≡ None }
+        ensures within { IfOk result (λ n. (1 ≤ n) × (n ≤ length rest.now)) }
+        ensures offset { IfOk result (λ n. self.new.offset ≡ self.old.offset + n) }
+        ensures limit { self.new.limit ≡ self.old.limit }
+        ensures stop { stop_value (H.stop into.new) ≡ stop_of result }
+        ensures stands { IfOk result (λ n. (stream : List ℕ) → StandsFor self.old stream
+            → StandsFor self.new (stream ++ take n rest.now)) }
+        ensures heard { IfOk result (λ n. (stream : List ℕ) → StandsFor self.old stream
+            → H.heard into.new ≡ H.heard into.old ++ new_headers stream (take n rest.now)) }
+        ensures ends { IfErr result (λ fault. (stream : List ℕ) → StandsFor self.old stream
+            → Ends self.old.limit stream rest.now (H.heard into.old) (H.heard into.new)
+            (H.stop into.new) fault) }
+    {
+        let passed = self.pass(rest);
+        if passed == rest.len() {
+            return Ok(passed);
+        }
+        let taken = self.take_line(&rest[passed..], into)?;
+        Ok(passed + taken)
+    }
+
     // Whether the last line is a header's and lacks its LF.
     fn in_header(&self) -> bool
         ensures { result ≡ is_header_line self.now.last }
@@ -359,7 +466,7 @@ impl LineScan {
         if self.in_header() {
             self.take_header(rest, into)
         } else {
-            Ok(self.pass(rest))
+            self.take_other(rest, into)
         }
     }
 

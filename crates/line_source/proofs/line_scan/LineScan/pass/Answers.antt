@@ -1,8 +1,8 @@
-use Rattle.std.proofs.Common.{◌≡◌, ◌+◌, length, take, sym, ◌∙◌, ap, arith}
+use Rattle.std.proofs.Common.{◌≡◌, ◌≤◌, ◌+◌, length, take, sym, ◌∙◌, ap, arith}
 use Rattle.std.proofs.lemmas.List.{take_all, length-take-le}
 use Rattle.line_source.proofs.Walk.{last_by, heard_by, long_by}
-use Rattle.line_source.proofs.Stretches.{other_line, heard_by-quiet, long_by-quiet}
-use Rattle.line_source.proofs.Scans.{StandsFor-more, new_headers-walked, last_by-found, last_by-all, heard_by-found, long_by-found}
+use Rattle.line_source.proofs.Stretches.{other_line, heard_by-quiet, long_by-quiet, last_by-start, Nowhere-front}
+use Rattle.line_source.proofs.Scans.{StandsFor-more, new_headers-walked, last_by-all}
 use Rattle.line_source.proofs.line_scan.LineScan.pass.Goals as goal
 
 pub returns-in-Some-clause-stands : goal.returns-in-Some-clause-stands
@@ -14,13 +14,14 @@ returns-in-Some-clause-stands c stream stands =
     let first = c.in-Some.ensures.0 in
     let here = c.in-Some.ensures.1 in
     let other : scan.last ≡ other_line begun = c.has_begun.ensures in
-    let now = c.begin_header.ensures.header in
-    let size : length (take (at + 1) rest) ≡ at + 1 = length-take-le (at + 1) rest (omega (arith, first.high)) in
-    StandsFor-more scan c.begin_header.new.self stream (take (at + 1) rest) stands (ap (λ s. s.limit) now)
+    let now = c.pass_lines.ensures in
+    let upto : at ≤ length rest = omega (arith, first.high) in
+    let size : length (take at rest) ≡ at = length-take-le at rest upto in
+    StandsFor-more scan c.pass_lines.new.self stream (take at rest) stands (ap (λ s. s.limit) now)
     (ap (λ s. s.offset) now ∙ omega (arith, size))
-    (ap (λ s. s.last) now ∙ sym (last_by-found begun rest at first.high first.before here.0 here.1) ∙ ap (λ l. last_by l (take (at + 1) rest)) (sym other))
-    (ap (λ l. long_by scan.limit scan.offset l (take (at + 1) rest)) other
-    ∙ long_by-found scan.limit scan.offset begun rest at c.begin_header.ensures.limit first.high first.before here.0 here.1)
+    (ap (λ s. s.last) now ∙ sym (last_by-start begun rest at upto first.before here.1) ∙ ap (λ l. last_by l (take at rest)) (sym other))
+    (ap (λ l. long_by scan.limit scan.offset l (take at rest)) other
+    ∙ long_by-quiet scan.limit scan.offset begun (take at rest) (Nowhere-front begun rest at upto first.before))
 
 pub returns-in-Some-clause-silent : goal.returns-in-Some-clause-silent
 returns-in-Some-clause-silent c stream stands =
@@ -29,11 +30,14 @@ returns-in-Some-clause-silent c stream stands =
     let at = c.in-Some.at in
     let begun = c.has_begun.result in
     let first = c.in-Some.ensures.0 in
-    let here = c.in-Some.ensures.1 in
     let other : scan.last ≡ other_line begun = c.has_begun.ensures in
-    new_headers-walked scan stream (take (at + 1) rest) stands
-    ∙ ap (λ l. heard_by scan.offset l (take (at + 1) rest)) other
-    ∙ heard_by-found scan.offset begun rest at first.high first.before here.0 here.1
+    let upto : at ≤ length rest = omega (arith, first.high) in
+    new_headers-walked scan stream (take at rest) stands
+    ∙ ap (λ l. heard_by scan.offset l (take at rest)) other
+    ∙ heard_by-quiet scan.offset begun (take at rest) (Nowhere-front begun rest at upto first.before)
+
+pub returns-in-Some-clause-header : goal.returns-in-Some-clause-header
+returns-in-Some-clause-header c = λ _. (ap (λ s. s.last) c.pass_lines.ensures, c.in-Some.ensures.1.0)
 
 pub returns-in-None-clause-stands : goal.returns-in-None-clause-stands
 returns-in-None-clause-stands c stream stands =

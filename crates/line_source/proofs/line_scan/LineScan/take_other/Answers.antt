@@ -1,0 +1,63 @@
+use Rattle.std.proofs.Common.{◌≡◌, ◌+◌, ◌-◌, ◌++◌, length, take, drop, get_or, sym, ◌∙◌, ap, subst, append_assoc, append-nil, arith}
+use Rattle.std.proofs.lemmas.Result.{err_from_is_err_and}
+use Rattle.std.proofs.lemmas.List.{take_rest, get_or-drop}
+use Rattle.line_source.specs.Streams.{new_headers, too_long}
+use Rattle.line_source.specs.Scan.{StandsFor}
+use Rattle.line_source.specs.Inner.Ends.{Ends}
+use Rattle.line_source.proofs.Pieces.{new_headers-append}
+use Rattle.line_source.proofs.Joins.{two_parts, both_parts, Ends-later}
+use Rattle.line_source.proofs.line_scan.LineScan.take_other.Goals as goal
+
+pub returns-in_err-taken-clause-ends : goal.returns-in_err-taken-clause-ends
+returns-in_err-taken-clause-ends g c =
+    let p = err_from_is_err_and c.from_residual.result c.from_residual.ensures.1 in
+    let sink = g.H.HeaderSink in
+    let scan = c.args.self.now in
+    let passed = c.pass-passed.ensures in
+    let some = c.in_err-taken.ensures in
+    let rest = c.args.rest.now in
+    let n = c.pass-passed.result in
+    let left = take (length rest - n) (drop n rest) in
+    let before = sink.heard c.args.into.now in
+    let after = sink.heard c.take_line.new.into in
+    let stop = sink.stop c.take_line.new.into in
+    let fault = c.in_err-taken.field-0.0 in
+    rw (p.1, p.2) (λ stream stands.
+    let mid = passed.stands stream stands in
+    subst (λ bytes. Ends scan.limit stream bytes before after stop fault) (both_parts rest n)
+    (Ends-later scan.limit stream (take n rest) left before before after stop fault
+    (ap (λ k. too_long k (stream ++ take n rest)) (sym passed.limit) ∙ mid.short)
+    (sym (append-nil before) ∙ ap (λ hs. before ++ hs) (sym (passed.silent stream stands)))
+    (subst (λ k. Ends k (stream ++ take n rest) left before after stop fault) passed.limit (some.ends (stream ++ take n rest) mid))))
+
+pub returns-clause-stands : goal.returns-clause-stands
+returns-clause-stands g c stream stands =
+    let rest = c.args.rest.now in
+    let n = c.pass-passed.result in
+    let m = c.in_ok-taken.taken in
+    let part = take m (take (length rest - n) (drop n rest)) in
+    subst (λ bytes. StandsFor c.take_line.new.self (stream ++ bytes)) (two_parts rest n m)
+    (subst (λ bytes. StandsFor c.take_line.new.self bytes) (append_assoc stream (take n rest) part)
+    (c.in_ok-taken.ensures.stands (stream ++ take n rest) (c.pass-passed.ensures.stands stream stands)))
+
+pub returns-clause-heard : goal.returns-clause-heard
+returns-clause-heard g c stream stands =
+    let rest = c.args.rest.now in
+    let n = c.pass-passed.result in
+    let m = c.in_ok-taken.taken in
+    let part = take m (take (length rest - n) (drop n rest)) in
+    let before = g.H.HeaderSink.heard c.args.into.now in
+    c.in_ok-taken.ensures.heard (stream ++ take n rest) (c.pass-passed.ensures.stands stream stands)
+    ∙ ap (λ hs. before ++ hs)
+    (sym (ap (new_headers stream) (sym (two_parts rest n m)) ∙ new_headers-append stream (take n rest) part
+    ∙ ap (λ hs. hs ++ new_headers (stream ++ take n rest) part) (c.pass-passed.ensures.silent stream stands)))
+
+pub take_line-requires-clause-line : goal.take_line-requires-clause-line
+take_line-requires-clause-line g c = (c.pass-passed.ensures.header (omega (arith, c.pass-passed.ensures.within, c.if-passed-rest.false))).0
+
+pub take_line-requires-clause-sign : goal.take_line-requires-clause-sign
+take_line-requires-clause-sign g c =
+    let rest = c.args.rest.now in
+    let n = c.pass-passed.result in
+    let none : n + 0 ≡ n = omega arith in
+    ap (λ l. get_or l 0 0) (take_rest rest n) ∙ get_or-drop n rest 0 0 ∙ ap (λ k. get_or rest k 0) none ∙ (c.pass-passed.ensures.header (omega (arith, c.pass-passed.ensures.within, c.if-passed-rest.false))).1
