@@ -1,6 +1,6 @@
 -- The bodies of an audit are judged in a row, and then read one after another.
 use Rattle.std.proofs.Common.{◌≡◌, ℕ, Bool, true, false, List, [], ◌∷◌, ◌++◌, length, map, Option, None, Some, refl, sym, ◌∙◌, ap, subst, inl, inr, if◌then◌else◌}
-use Rattle.std.specs.Prelude.{Err, IfSome, Ok, OnOk, Result, cond, is_some, nat_lt}
+use Rattle.std.specs.Prelude.{Err, IfSome, Ok, OnOk, Result, is_some}
 use Rattle.std.specs.Bool.{then_some}
 use Rattle.std.specs.Global.{Vec}
 use Rattle.std.specs.Option.{option_map, option_or}
@@ -11,6 +11,7 @@ use Rattle.section_index.specs.Index.{Contents, sections_in}
 use Rattle.section_index.specs.Sections.{Section}
 use Rattle.section_index.specs.declared.bodies.BodyFault.{BodyFault}
 use Rattle.section_index.specs.declared.bodies.BodyFault.TheVariants.{SectionTooLarge, Read, Memory}
+use Rattle.section_rows.specs.Laws.{large-append}
 use Rattle.section_rows.specs.Loading.{first_large, large_fault, AreRefused}
 use Rattle.process_table.specs.Processes.{IsOver, Process, ProcessTable}
 use Rattle.process_table.specs.Records.{Placed, ProcPlaces, named_place, pid_of, proc_places, record_sections, records}
@@ -25,26 +26,11 @@ on-ok (Err fault) p = tt
 abbrev fault_of : Section → BodyFault
 fault_of s = SectionTooLarge s.at (body_length s)
 
--- the first of two lists that is too large is one of the first list, or one of the second
-pub large-append : (limit : ℕ) (xs ys : List Section) → large_fault limit (xs ++ ys) ≡ option_or (large_fault limit xs) (large_fault limit ys)
-large-append limit [] ys = refl
-large-append limit (s ∷ xs) ys =
-    elim (nat_lt limit (body_length s)) as (λ b. option_map fault_of (cond b (Some s) (first_large limit (xs ++ ys)))
-    ≡ option_or (option_map fault_of (cond b (Some s) (first_large limit xs))) (large_fault limit ys)) [ true ↦ refl | false ↦ large-append limit xs ys ]
-
 pub large-first : (limit : ℕ) (xs ys : List Section) → is_some (large_fault limit xs) ≡ true → large_fault limit xs ≡ large_fault limit (xs ++ ys)
 large-first limit xs ys some = sym (large-append limit xs ys ∙ or-some (large_fault limit xs) (large_fault limit ys) some)
 
 pub large-second : (limit : ℕ) (xs ys : List Section) → is_some (large_fault limit xs) ≡ false → large_fault limit ys ≡ large_fault limit (xs ++ ys)
 large-second limit xs ys none = sym (large-append limit xs ys ∙ ap (λ o. option_or o (large_fault limit ys)) (none-where (large_fault limit xs) none))
-
--- where none of both lists is too large, none of either is
-pub small-both : (limit : ℕ) (xs ys : List Section) → large_fault limit (xs ++ ys) ≡ None → (large_fault limit xs ≡ None) × (large_fault limit ys ≡ None)
-small-both limit xs ys none = by (large_fault limit xs) (large_fault limit ys) (sym (large-append limit xs ys) ∙ none)
-  where
-    by : (o p : Option BodyFault) → option_or o p ≡ None → (o ≡ None) × (p ≡ None)
-    by None p is = (refl, is)
-    by (Some fault) p is = absurd (let no : ⊥ = cc (is) in no)
 
 -- where nothing is refused nothing is too large
 pub none-large : (limit : ℕ) (ss : List Section) → large_fault limit ss ≡ None → first_large limit ss ≡ None

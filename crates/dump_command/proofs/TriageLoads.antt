@@ -1,6 +1,5 @@
 -- What a command has read that tells what stands out in a dump.
-use Rattle.std.proofs.Common.{◌≡◌, ℕ, ◌+◌, true, false, if◌then◌else◌, List, [], ◌∷◌, ◌++◌, Option, None, Some, refl, sym, ◌∙◌, ap, subst, inl, inr, arith}
-use Rattle.std.specs.Prelude.{nat_lt}
+use Rattle.std.proofs.Common.{◌≡◌, ℕ, ◌+◌, List, [], ◌∷◌, ◌++◌, Option, None, Some, refl, sym, ◌∙◌, ap, subst, inl, inr, arith}
 use Rattle.std.specs.Option.{option_map, option_or}
 use Rattle.std.proofs.lemmas.List.Sums.{sum_by-append, sum_by-cons}
 use Rattle.dump_io.specs.Dumps.{DeviceState, DeviceFailed, ReadsAtMost}
@@ -11,6 +10,7 @@ use Rattle.section_index.specs.Laws.{index-is}
 use Rattle.section_index.specs.Sections.{Section}
 use Rattle.section_index.specs.declared.bodies.BodyFault.{BodyFault}
 use Rattle.section_index.specs.declared.bodies.BodyFault.TheVariants as body_faults
+use Rattle.section_rows.specs.Laws.{large-append, small-both}
 use Rattle.section_rows.specs.Loading.{bodies_length, first_large, large_fault, AreRefused}
 use Rattle.process_table.specs.Records.{record_sections}
 use Rattle.table_sections.specs.declared.kinds.TableKind.TheVariants.{Ets}
@@ -30,23 +30,6 @@ use Rattle.dump_command.specs.declared.commands.triage.Loaded.{Loaded}
 use Rattle.dump_command.proofs.FoundLoads.{bytes-one}
 use Rattle.dump_command.proofs.Reading.{body_fault, refused, HasRead-listed, StopsFor-large, Takes-listed, Takes-none}
 use Rattle.dump_command.proofs.Runs.{sections-index}
-
--- ---- bodies in a row
-
--- the first of two lists that is too large is one of the first list, or one of the second
-large-append : (limit : ℕ) (xs ys : List Section) → large_fault limit (xs ++ ys) ≡ option_or (large_fault limit xs) (large_fault limit ys)
-large-append limit [] ys = refl
-large-append limit (s ∷ xs) ys =
-    elim (nat_lt limit (body_length s)) as (λ b. option_map body_fault (if b then Some s else first_large limit (xs ++ ys))
-    ≡ option_or (option_map body_fault (if b then Some s else first_large limit xs)) (large_fault limit ys)) [ true ↦ refl | false ↦ large-append limit xs ys ]
-
--- where none of both lists is too large, none of either is
-small-both : (limit : ℕ) (xs ys : List Section) → large_fault limit (xs ++ ys) ≡ None → (large_fault limit xs ≡ None) × (large_fault limit ys ≡ None)
-small-both limit xs ys none = by (large_fault limit xs) (large_fault limit ys) (sym (large-append limit xs ys) ∙ none)
-  where
-    by : (o p : Option BodyFault) → option_or o p ≡ None → (o ≡ None) × (p ≡ None)
-    by None p is = (refl, is)
-    by (Some fault) p is = absurd (let no : ⊥ = cc (is) in no)
 
 -- bodies of which none is too large aren't read where the device fails or memory lacks
 pub IsUnread-small : (limit : ℕ) (ss : List Section) (before after step step' : DeviceState) (fault : BodyFault) → large_fault limit ss ≡ None → (DeviceFailed step step' → DeviceFailed before after)

@@ -1,4 +1,5 @@
 pub mod Inner
+pub mod Laws
 pub mod Loading
 pub mod Rows
 pub mod Shown

@@ -6,11 +6,12 @@ use Rattle.std.proofs.lemmas.List.Sums.{sum_by-append}
 use Rattle.dump_io.specs.Laws.Reads.{ReadsAtMost-both, ReadsAtMost-within}
 use Rattle.section_index.specs.Bodies.{body_length}
 use Rattle.section_index.specs.Index.{sections_in, state_of}
+use Rattle.section_rows.specs.Laws.{small-both}
 use Rattle.section_rows.specs.Loading.{bodies_length}
 use Rattle.process_table.specs.Records.{record_sections}
 use Rattle.audit_bodies.specs.Mailboxes.{mail_in, mailboxes_at}
 use Rattle.audit_bodies.specs.Inner.Mailboxes.{IsSmall}
-use Rattle.audit_bodies.proofs.Loads.{IsUncounted-later, IsUncounted-small, counts-all, counts-found, none-large, small-both}
+use Rattle.audit_bodies.proofs.Loads.{IsUncounted-later, IsUncounted-small, counts-all, counts-found, none-large}
 use Rattle.audit_bodies.proofs.MailPlaces.{All-small}
 use Rattle.audit_bodies.proofs.loading.read_bodies.Goals as goal
 
