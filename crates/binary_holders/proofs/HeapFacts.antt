@@ -1,11 +1,10 @@
 -- The heaps of processes are found one section after another.
-use Rattle.std.proofs.Common.{◌≡◌, ◌≢◌, ℕ, zero, suc, ◌+◌, ◌<◌, ⊎_elim, Bool, true, false, ◌&&◌, not, List, [], ◌∷◌, ◌++◌, length, map, filter, take, get_or, set, slice_get, Option, None, Some, if◌then◌else◌, refl, sym, ◌∙◌, ap, arith, codes}
+use Rattle.std.proofs.Common.{◌≡◌, ◌≢◌, ℕ, zero, suc, ◌+◌, ◌<◌, ⊎_elim, Bool, true, false, not, List, [], ◌∷◌, ◌++◌, length, map, filter, take, get_or, set, slice_get, Option, None, Some, if◌then◌else◌, refl, sym, ◌∙◌, ap, arith, codes}
 use Rattle.std.specs.Prelude.{All, cond, is_some, nat_lt, position, unwrap_or}
-use Rattle.std.specs.List.{position_from, position_or_len}
-use Rattle.std.specs.Option.{option_eq, option_or}
+use Rattle.std.specs.List.{position_or_len}
+use Rattle.std.specs.Option.{option_or}
 use Rattle.std.specs.Str.{bytes_eq}
 use Rattle.std.proofs.lemmas.Bool.{cases_eq, false≢true, false_from_ne_true, lt-ltb, ltb-false}
-use Rattle.std.proofs.lemmas.Iterator.Adapters.{position_from-zero}
 use Rattle.std.proofs.lemmas.List.{take_more, same_lists, get_or-map, get_or-set_same, get_or-set_other, length-map, length-set, length-take-le}
 use Rattle.std.proofs.lemmas.List.Elements.{All-filter, All-weaker, filter_passes}
 use Rattle.std.proofs.lemmas.List.Quantifiers.{position-Some}
@@ -13,8 +12,8 @@ use Rattle.std.proofs.lemmas.List.Sums.{position_or_len_is, fails_before_first}
 use Rattle.std.proofs.lemmas.Option.{get_or_from_slice_get, same_Some, slice_get_within, slice_get-get_or}
 use Rattle.std.proofs.lemmas.Slice.Eq.{bytes_eq-Decides}
 use Rattle.section_index.specs.Index.{Contents, sections_in}
-use Rattle.section_index.specs.Lookups.{has_tag, is_named}
-use Rattle.section_index.specs.Sections.{Section, id_of}
+use Rattle.section_index.specs.Laws.{first-more, first-passed}
+use Rattle.section_index.specs.Sections.{Section}
 use Rattle.process_table.specs.Processes.{Process, ProcessTable, IsOver, nobody, process_at}
 use Rattle.process_table.specs.Records.{Placed, placed, pid_of, process_sections, has_same_pid, first_of_each, records}
 use Rattle.binary_holders.specs.Inner.Heaps.{AreApart, AreHeaps, heap_id}
@@ -85,32 +84,6 @@ apart-records index table over = record {
 
 -- ---- one section more
 
-from-last : {X : Type 0} (p : X → Bool) (n : ℕ) (xs : List X) (y : X)
-    → position_from p n (xs ++ y ∷ []) ≡ option_or (position_from p n xs) (if p y then Some (n + length xs) else None)
-from-last p n [] y = let here : n ≡ n + 0 = omega arith in ap (λ m. if p y then Some m else None) here
-from-last p n (x ∷ xs) y =
-    let rest : position_from p (n + 1) (xs ++ y ∷ []) ≡ option_or (position_from p (n + 1) xs) (if p y then Some (n + length (x ∷ xs)) else None) =
-    from-last p (n + 1) xs y ∙ (let there : n + 1 + length xs ≡ n + length (x ∷ xs) = omega arith in ap (λ m. option_or (position_from p (n + 1) xs) (if p y then Some m else None)) there) in
-    elim (p x) as (λ b. cond b (Some n) (position_from p (n + 1) (xs ++ y ∷ [])) ≡ option_or (cond b (Some n) (position_from p (n + 1) xs)) (if p y then Some (n + length (x ∷ xs)) else None)) [
-      | true ↦ refl
-      | false ↦ rest
-    ]
-
-position-last : {X : Type 0} (p : X → Bool) (xs : List X) (y : X) → position p (xs ++ y ∷ []) ≡ option_or (position p xs) (if p y then Some (length xs) else None)
-position-last p xs y =
-    position_from-zero p (xs ++ y ∷ []) ∙ from-last p 0 xs y
-    ∙ (let same : 0 + length xs ≡ length xs = omega arith in ap (λ m. option_or (position_from p 0 xs) (if p y then Some m else None)) same)
-    ∙ ap (λ o. option_or o (if p y then Some (length xs) else None)) (sym (position_from-zero p xs))
-
-none-named : (b : Bool) (o : Option (List ℕ)) (pid : List ℕ) → (if b then o else None) ≡ None → (b && option_eq bytes_eq o (Some pid)) ≡ false
-none-named true None pid is = refl
-none-named true (Some id) pid is = absurd (let no : ⊥ = cc (is) in no)
-none-named false o pid is = refl
-
-some-named : (b : Bool) (o : Option (List ℕ)) (id pid : List ℕ) → (if b then o else None) ≡ Some id → (b && option_eq bytes_eq o (Some pid)) ≡ bytes_eq id pid
-some-named true o id pid is = ap (λ o. option_eq bytes_eq o (Some pid)) is
-some-named false o id pid is = absurd (let no : ⊥ = cc (is) in no)
-
 or-none : {X : Type 0} (o : Option X) → option_or o None ≡ o
 or-none None = refl
 or-none (Some x) = refl
@@ -122,18 +95,6 @@ or-some (Some x) more is = refl
 or-left : {X : Type 0} (o more : Option X) → is_some o ≡ false → option_or o more ≡ more
 or-left None more is = refl
 or-left (Some x) more is = absurd (let no : ⊥ = cc (is) in no)
-
-place-passed : (before : List Section) (s : Section) (pid : List ℕ) → heap_id s ≡ None → heap_place (before ++ s ∷ []) pid ≡ heap_place before pid
-place-passed before s pid none =
-    position-last (λ (section : Section). is_named (codes "proc_heap") (Some pid) section.text) before s
-    ∙ ap (λ b. option_or (heap_place before pid) (if b then Some (length before) else None)) (none-named (has_tag (codes "proc_heap") s.text) (id_of s.text) pid none)
-    ∙ or-none (heap_place before pid)
-
-place-more : (before : List Section) (s : Section) (id pid : List ℕ) → heap_id s ≡ Some id
-    → heap_place (before ++ s ∷ []) pid ≡ option_or (heap_place before pid) (if bytes_eq id pid then Some (length before) else None)
-place-more before s id pid some =
-    position-last (λ (section : Section). is_named (codes "proc_heap") (Some pid) section.text) before s
-    ∙ ap (λ b. option_or (heap_place before pid) (if b then Some (length before) else None)) (some-named (has_tag (codes "proc_heap") s.text) (id_of s.text) id pid some)
 
 abbrev heap_of : List Section → Process → Option ℕ
 heap_of sections process = heap_place sections process.pid
@@ -158,13 +119,13 @@ module _ (processes : List Process) (sections : List Section) (i : ℕ) (s : Sec
   }
 
   pub heaps-passed : heap_id s ≡ None → AreHeaps processes (take (i + 1) sections) heaps
-  heaps-passed none = by-place heaps count (λ k d inside. at-heap k d inside ∙ sym (place-passed (take i sections) s (get_or processes k nobody).pid none))
+  heaps-passed none = by-place heaps count (λ k d inside. at-heap k d inside ∙ sym (first-passed (codes "proc_heap") (take i sections) s (get_or processes k nobody).pid none))
 
   module _ (id : List ℕ) (some : heap_id s ≡ Some id) where
     stays : (k : ℕ) (d : Option ℕ) → k < length processes → bytes_eq id (get_or processes k nobody).pid ≡ false → get_or heaps k d ≡ heap_of (take i sections ++ s ∷ []) (get_or processes k nobody)
     stays k d inside other =
         at-heap k d inside
-        ∙ sym (place-more (take i sections) s id (get_or processes k nobody).pid some
+        ∙ sym (first-more (codes "proc_heap") (take i sections) s id (get_or processes k nobody).pid some
         ∙ ap (λ b. option_or (heap_of (take i sections) (get_or processes k nobody)) (if b then Some (length (take i sections)) else None)) other
         ∙ or-none (heap_of (take i sections) (get_or processes k nobody)))
 
@@ -194,7 +155,7 @@ module _ (processes : List Process) (sections : List Section) (i : ℕ) (s : Sec
       heaps-again there = by-place heaps count (λ k d inside. ⊎_elim
           (λ same.
           at-heap k d inside
-          ∙ sym (place-more (take i sections) s id (get_or processes k nobody).pid some
+          ∙ sym (first-more (codes "proc_heap") (take i sections) s id (get_or processes k nobody).pid some
           ∙ or-some (heap_of (take i sections) (get_or processes k nobody)) _
           (ap is_some (sym (at-heap k None inside)) ∙ ap (λ m. is_some (get_or heaps m None)) same ∙ there)))
           (λ other. stays k d inside (others k inside other))
@@ -205,7 +166,7 @@ module _ (processes : List Process) (sections : List Section) (i : ℕ) (s : Sec
           (λ same.
           let size : length (take i sections) ≡ i = length-take-le i sections (omega (arith, slice_get_within sections i s at)) in
           ap (λ m. get_or (set heaps p (Some i)) m d) same ∙ get_or-set_same heaps p (Some i) d (omega (arith, known.0, count))
-          ∙ sym (place-more (take i sections) s id (get_or processes k nobody).pid some
+          ∙ sym (first-more (codes "proc_heap") (take i sections) s id (get_or processes k nobody).pid some
           ∙ or-left (heap_of (take i sections) (get_or processes k nobody)) _ (ap is_some (sym (at-heap k None inside)) ∙ ap (λ m. is_some (get_or heaps m None)) same ∙ gone)
           ∙ ap (λ b. if b then Some (length (take i sections)) else None) (ap (λ m. bytes_eq id (get_or processes m nobody).pid) same ∙ known.1)
           ∙ ap Some size))

@@ -1,41 +1,22 @@
 -- The first sections of a tag are found one section after another.
-use Rattle.std.proofs.Common.{◌≡◌, ℕ, ◌+◌, ◌<◌, Bool, true, false, ◌&&◌, List, [], ◌∷◌, ◌++◌, length, take, Option, None, Some, refl, sym, ◌∙◌, ap, subst, arith, if◌then◌else◌}
+use Rattle.std.proofs.Common.{◌≡◌, ℕ, ◌+◌, ◌<◌, Bool, true, false, List, [], ◌∷◌, ◌++◌, length, take, Option, None, Some, refl, sym, ◌∙◌, ap, subst, if◌then◌else◌}
 use Rattle.std.specs.Prelude.{IfSome, cond, is_some, nat_lt, position, slice_get}
-use Rattle.std.specs.List.{position_from, position_or_len}
+use Rattle.std.specs.List.{position_or_len}
 use Rattle.std.specs.Map.{update}
-use Rattle.std.specs.Option.{option_eq, option_or}
+use Rattle.std.specs.Option.{option_or}
 use Rattle.std.specs.Str.{bytes_eq}
 use Rattle.std.proofs.lemmas.Bool.{ltb-true}
-use Rattle.std.proofs.lemmas.Iterator.Adapters.{position_from-zero}
 use Rattle.std.proofs.lemmas.List.{take_more}
 use Rattle.std.proofs.lemmas.Option.{get_or_from_slice_get, slice_get_within}
 use Rattle.std.proofs.lemmas.Slice.Eq.{bytes_eq-Decides}
-use Rattle.section_index.specs.Lookups.{has_tag, is_named}
-use Rattle.section_index.specs.Sections.{Section, id_of}
+use Rattle.section_index.specs.Laws.{first-more, first-passed}
+use Rattle.section_index.specs.Lookups.{is_named}
+use Rattle.section_index.specs.Sections.{Section}
 use Rattle.first_sections.specs.Inner.Places.{AreFirsts, Places, first_place, id_with, place_at}
 
 -- ---- lists
 pub one-more : {X : Type 0} (xs : List X) (i : ℕ) (x : X) → slice_get xs i ≡ Some x → take (i + 1) xs ≡ take i xs ++ x ∷ []
 one-more xs i x at = take_more xs i x (slice_get_within xs i x at) ∙ ap (λ y. take i xs ++ y ∷ []) (get_or_from_slice_get xs i x x at)
-
--- the first place of one element more
-from-last : {X : Type 0} (p : X → Bool) (n : ℕ) (xs : List X) (y : X)
-    → position_from p n (xs ++ y ∷ []) ≡ option_or (position_from p n xs) (if p y then Some (n + length xs) else None)
-from-last p n [] y = let here : n ≡ n + 0 = omega arith in ap (λ m. if p y then Some m else None) here
-from-last p n (x ∷ xs) y =
-    let rest : position_from p (n + 1) (xs ++ y ∷ []) ≡ option_or (position_from p (n + 1) xs) (if p y then Some (n + length (x ∷ xs)) else None) =
-    from-last p (n + 1) xs y ∙ (let there : n + 1 + length xs ≡ n + length (x ∷ xs) = omega arith in ap (λ m. option_or (position_from p (n + 1) xs) (if p y then Some m else None)) there) in
-    elim (p x) as (λ b. cond b (Some n) (position_from p (n + 1) (xs ++ y ∷ [])) ≡ option_or (cond b (Some n) (position_from p (n + 1) xs)) (if p y then Some (n + length (x ∷ xs)) else None)) [
-      | true ↦ refl
-      | false ↦ rest
-    ]
-
-position-last : {X : Type 0} (p : X → Bool) (xs : List X) (y : X)
-    → position p (xs ++ y ∷ []) ≡ option_or (position p xs) (if p y then Some (length xs) else None)
-position-last p xs y =
-    position_from-zero p (xs ++ y ∷ []) ∙ from-last p 0 xs y
-    ∙ (let same : 0 + length xs ≡ length xs = omega arith in ap (λ m. option_or (position_from p 0 xs) (if p y then Some m else None)) same)
-    ∙ ap (λ o. option_or o (if p y then Some (length xs) else None)) (sym (position_from-zero p xs))
 
 within : (n size : ℕ) (b : Bool) → nat_lt n size ≡ b → IfSome (cond b (Some n) None) (λ i. i < size)
 within n size true is = ltb-true n size is
@@ -57,35 +38,16 @@ none-where None is = refl
 none-where (Some x) is = absurd (let no : ⊥ = cc (is) in no)
 
 -- ---- the sections with a tag
-none-named : (b : Bool) (o : Option (List ℕ)) (id : List ℕ) → (if b then o else None) ≡ None → (b && option_eq bytes_eq o (Some id)) ≡ false
-none-named true None id is = refl
-none-named true (Some other) id is = absurd (let no : ⊥ = cc (is) in no)
-none-named false o id is = refl
-
-some-named : (b : Bool) (o : Option (List ℕ)) (id other : List ℕ) → (if b then o else None) ≡ Some id → (b && option_eq bytes_eq o (Some other)) ≡ bytes_eq id other
-some-named true o id other is = ap (λ o. option_eq bytes_eq o (Some other)) is
-some-named false o id other is = absurd (let no : ⊥ = cc (is) in no)
-
--- one more section
-first-last : (tag : List ℕ) (before : List Section) (s : Section) (id : List ℕ)
-    → first_place tag (before ++ s ∷ []) id ≡ option_or (first_place tag before id) (if is_named tag (Some id) s.text then Some (length before) else None)
-first-last tag before s id = position-last (λ section. is_named tag (Some id) section.text) before s
-
 -- one without the tag, or without an id, is passed over
 pub AreFirsts-passed : (tag : List ℕ) (places : Places) (before : List Section) (s : Section) → AreFirsts tag before places → id_with tag s ≡ None
     → AreFirsts tag (before ++ s ∷ []) places
-AreFirsts-passed tag places before s are none id =
-    are id ∙ sym (or-none (first_place tag before id))
-    ∙ ap (λ b. option_or (first_place tag before id) (if b then Some (length before) else None)) (sym (none-named (has_tag tag s.text) (id_of s.text) id none))
-    ∙ sym (first-last tag before s id)
+AreFirsts-passed tag places before s are none id = are id ∙ sym (first-passed tag before s id none)
 
 -- one whose id stood before is passed over too
 pub AreFirsts-repeated : (tag : List ℕ) (places : Places) (before : List Section) (s : Section) (here : List ℕ) → AreFirsts tag before places
     → id_with tag s ≡ Some here → is_some (place_at places here) ≡ true → AreFirsts tag (before ++ s ∷ []) places
 AreFirsts-repeated tag places before s here are is there id =
-    are id ∙ sym (by (bytes_eq here id) refl)
-    ∙ ap (λ b. option_or (first_place tag before id) (if b then Some (length before) else None)) (sym (some-named (has_tag tag s.text) (id_of s.text) here id is))
-    ∙ sym (first-last tag before s id)
+    are id ∙ sym (by (bytes_eq here id) refl) ∙ sym (first-more tag before s here id is)
   where
     by : (b : Bool) → bytes_eq here id ≡ b → option_or (first_place tag before id) (if b then Some (length before) else None) ≡ first_place tag before id
     by true e =
@@ -98,9 +60,7 @@ pub AreFirsts-new : (tag : List ℕ) (places after : Places) (before : List Sect
     → id_with tag s ≡ Some here → place_at places here ≡ None
     → ((id : List ℕ) → place_at after id ≡ update bytes_eq (place_at places) here (Some (length before)) id) → AreFirsts tag (before ++ s ∷ []) after
 AreFirsts-new tag places after before s here are is none grown id =
-    grown id ∙ by (bytes_eq here id) refl
-    ∙ ap (λ b. option_or (first_place tag before id) (if b then Some (length before) else None)) (sym (some-named (has_tag tag s.text) (id_of s.text) here id is))
-    ∙ sym (first-last tag before s id)
+    grown id ∙ by (bytes_eq here id) refl ∙ sym (first-more tag before s here id is)
   where
     by : (b : Bool) → bytes_eq here id ≡ b
         → (if bytes_eq here id then Some (length before) else place_at places id) ≡ option_or (first_place tag before id) (if bytes_eq here id then Some (length before) else None)
