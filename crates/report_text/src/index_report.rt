@@ -7,9 +7,9 @@ ghost use Rattle.section_index.specs.Sections.{section};
 ghost use Rattle.report_text.specs.Reports.{section_line, state_line, index_report};
 
 use dump_io::{Failed, Piece, Sink, put_pieces, write_all};
-use section_index::{Index, Section, State};
+use section_index::{Extent, Index, State};
 
-fn put_section<K: Sink>(sink: &mut K, s: &Section<'_>) -> Result<(), Failed>
+fn put_section<K: Sink>(sink: &mut K, s: &Extent<'_>) -> Result<(), Failed>
     ensures { Puts (K.state sink.old) (K.state sink.new) (section_line (section s.now.at s.now.body s.now.end s.now.text.now)) result }
 {
     let space = Piece::Bytes(b" ");
@@ -37,7 +37,7 @@ pub fn put_state<K: Sink>(sink: &mut K, index: &Index) -> Result<(), Failed>
     match index.state() {
         State::Whole => write_all(sink, b"whole\n"),
         State::TruncatedIn(last) => {
-            let s = index.section(last);
+            let s = index.extent(last);
             put_pieces(
                 sink,
                 &[
@@ -56,7 +56,7 @@ fn put_sections<K: Sink>(sink: &mut K, index: &Index) -> Result<(), Failed>
     ensures { Puts (K.state sink.old) (K.state sink.new) (flat_map section_line (sections_in index.now)) result }
 {
     for i in 0..index.len() {
-        put_section(sink, &index.section(i))?;
+        put_section(sink, &index.extent(i))?;
     }
     Ok(())
 }

@@ -73,7 +73,7 @@ pub fn read_body<D: Dumps>(
         → IsErrOf result (BodyFault.SectionTooLarge section.at (body_length section)) }
     ensures unread { limits.now.section < body_length (section_at index.now i) → dumps.new ≡ dumps.old }
 {
-    let section = index.section(i);
+    let section = index.extent(i);
     let len = section.end - section.body;
     if len > u64::from(limits.section()) {
         return Err(BodyFault::SectionTooLarge {

@@ -12,6 +12,19 @@ use crate::headers::Headers;
 use crate::opening::Version;
 use std::marker::Model;
 
+/// Where a section is, and the text of its header: a [`Section`] whose tag and id weren't looked for.
+#[derive(Clone, Copy, Debug)]
+pub struct Extent<'a> {
+    /// The offset in the file at which the header's line begins.
+    pub at: u64,
+    /// The offset in the file at which the body begins, after the header's line.
+    pub body: u64,
+    /// The offset in the file at which the body ends.
+    pub end: u64,
+    /// The header's line without its LF, and without a CR directly before that.
+    pub text: &'a [u8],
+}
+
 /// A section of a dump: a header and the bytes up to the next header or the end of the dump.
 #[derive(Clone, Copy, Debug)]
 pub struct Section<'a> {
@@ -132,6 +145,27 @@ impl Index {
         self.headers.header(i).text
     }
 
+    /// Where the section at a place, from 0, is, and the text of its header.
+    pub fn extent(&self, i: usize) -> Extent<'_>
+        requires { i < length self.now.headers }
+        ensures place { slice_get (sections_in self.now) i ≡ Some (section result.at result.body result.end result.text.now) }
+        ensures at_place { section_at self.now i ≡ section result.at result.body result.end result.text.now }
+        ensures begins { result.at < result.body }
+        ensures line { result.at + length result.text.now ≤ result.body }
+        ensures short { result.body ≤ result.at + usual.header + 1 }
+        ensures ends { result.body ≤ result.end }
+        ensures within { result.end ≤ self.now.size }
+    {
+        let header = self.headers.header(i);
+        let end = end_of(&self.headers, i, self.size);
+        Extent {
+            at: header.at,
+            body: header.body,
+            end,
+            text: header.text,
+        }
+    }
+
     /// The section at a place, from 0.
     pub fn section(&self, i: usize) -> Section<'_>
         requires { i < length self.now.headers }
@@ -145,14 +179,13 @@ impl Index {
         ensures ends { result.body ≤ result.end }
         ensures within { result.end ≤ self.now.size }
     {
-        let header = self.headers.header(i);
-        let end = end_of(&self.headers, i, self.size);
-        let (tag, id) = tag_and_id(header.text);
+        let extent = self.extent(i);
+        let (tag, id) = tag_and_id(extent.text);
         Section {
-            at: header.at,
-            body: header.body,
-            end,
-            text: header.text,
+            at: extent.at,
+            body: extent.body,
+            end: extent.end,
+            text: extent.text,
             tag,
             id,
         }

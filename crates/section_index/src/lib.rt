@@ -32,7 +32,7 @@ mod tags;
 
 pub use bodies::{BodyFault, read_body};
 pub use builder::build;
-pub use index::{Index, Section, State};
+pub use index::{Extent, Index, Section, State};
 pub use laws::{a_cut_keeps_sections, sections_tile_a_dump};
 pub use opening::{OpenFault, Version};
 pub use tags::Tags;

@@ -9,11 +9,11 @@ loop-i-init g c = HasPut-none
 
 pub loop-i-preserved : goal.loop-i-preserved
 loop-i-preserved g c =
-    HasPut-more section_line (sections_in c.args.index.now) c.loop-i.i _ c.section.ensures.place c.loop-i.invariant c.in_ok-put_section.ensures
+    HasPut-more section_line (sections_in c.args.index.now) c.loop-i.i _ c.extent.ensures.place c.loop-i.invariant c.in_ok-put_section.ensures
 
 pub returns-in_err-put_section : goal.returns-in_err-put_section
 returns-in_err-put_section g c =
-    Puts-broken section_line (sections_in c.args.index.now) c.loop-i.i _ c.section.ensures.place c.loop-i.invariant c.from_residual.ensures.0 c.in_err-put_section.ensures
+    Puts-broken section_line (sections_in c.args.index.now) c.loop-i.i _ c.extent.ensures.place c.loop-i.invariant c.from_residual.ensures.0 c.in_err-put_section.ensures
 
 pub returns : goal.returns
 returns g c =

@@ -7,7 +7,7 @@ use Rattle.section_index.specs.Index.{Contents, HasShortLine, sections_in}
 use Rattle.section_index.proofs.Places.{sections_of-at}
 use Rattle.section_index.proofs.Parts.{Tile-at}
 use Rattle.section_index.proofs.Places.{All-at}
-use Rattle.section_index.proofs.index.Index.section.Goals as goal
+use Rattle.section_index.proofs.index.Index.extent.Goals as goal
 
 place : (c : goal.After-result-1) → slice_get (sections_of c.self.inside.headers c.self.inside.size) c.args.i
     ≡ Some (section c.header-header.result.at c.header-header.result.body c.end_of-end.result c.header-header.result.text.now)
