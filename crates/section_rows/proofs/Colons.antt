@@ -7,7 +7,7 @@ use Rattle.dump_io.specs.Colons.{is_colon, has_colon, after_colon}
 use Rattle.section_index.specs.Sections.{name_of, tag_of, id_of}
 
 -- a byte that is there has a place within the text
-within : (p : ℕ → Bool) (text : List ℕ) → list_any p text ≡ true → position_or_len p text < length text
+pub within : (p : ℕ → Bool) (text : List ℕ) → list_any p text ≡ true → position_or_len p text < length text
 within p [] some = cc
 within p (c ∷ text) some = by (p c) refl (within p text)
   where

@@ -3,3 +3,5 @@ pub mod Colons
 mod Examples
 pub mod Heads
 pub mod Loaded
+pub mod Passing
+pub mod Values

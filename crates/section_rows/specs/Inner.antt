@@ -1,3 +1,4 @@
 pub mod Gains
 pub mod Lent
+pub mod Passing
 pub mod Places

@@ -1,12 +1,15 @@
 // What a column shows of a section.
-ghost use Rattle.std.specs.Prelude.{◌≡◌, ◌+◌, ◌≤◌, length, Some};
+ghost use Rattle.std.specs.Prelude.{◌≡◌, ◌==◌, ◌&&◌, ◌+◌, ◌≤◌, length, nat_lt, slice_index, Some};
+ghost use Rattle.dump_io.specs.Colons.{colon};
 ghost use Rattle.dump_io.specs.Limits.{usual};
-ghost use Rattle.section_rows.specs.Rows.{cell_of, field_kept, id_kept, tag_kept};
+ghost use Rattle.field_lines.specs.Shown.{shown_line};
+ghost use Rattle.section_rows.specs.Rows.{id_kept, tag_kept};
 ghost use Rattle.section_rows.specs.Shown.{shown_cell, shown_column};
 ghost use Rattle.section_rows.specs.Inner.Lent.{IsLent, shown_section};
+ghost use Rattle.section_rows.specs.Inner.Passing.{own_cell, field_cell, line_cell};
 ghost use Rattle.section_rows.specs.Inner.Places.{HasRoom};
 
-use field_lines::find;
+use field_lines::{Line, field};
 use section_index::Section;
 
 /// A text of a section, with its place in the file.
@@ -44,22 +47,6 @@ fn id<'a>(section: &Section<'a>) -> Option<Kept<'a>>
     })
 }
 
-// The first field with a key in the body of a section.
-fn field<'a>(section: &Section<'_>, body: &'a [u8], key: &[u8]) -> Option<Kept<'a>>
-    requires lent { IsLent section.now }
-    requires body { section.now.body + length body.now ≤ section.now.end }
-    requires small { length body.now ≤ usual.section }
-    ensures value { shown_cell result ≡ field_kept section.now.body body.now key.now }
-    ensures room { HasRoom section.now.at (shown_cell result) }
-{
-    let found = find(body, key)?;
-    Some(Kept {
-        at: section.body + found.at as u64,
-        value_at: section.body + found.from as u64,
-        text: &body[found.from..found.upto],
-    })
-}
-
 // The tag, which each section has.
 fn tag<'a>(section: &Section<'a>) -> Option<Kept<'a>>
     requires { IsLent section.now }
@@ -73,21 +60,65 @@ fn tag<'a>(section: &Section<'a>) -> Option<Kept<'a>>
     })
 }
 
-// The cell of a column, for a section with this body.
-pub(crate) fn cell<'a>(
-    section: &Section<'a>,
-    body: &'a [u8],
-    column: &Column<'_>,
-) -> Option<Kept<'a>>
-    requires lent { IsLent section.now }
-    requires body { section.now.body + length body.now ≤ section.now.end }
-    requires small { length body.now ≤ usual.section }
-    ensures value { shown_cell result ≡ cell_of (shown_section section.now) body.now (shown_column column.now) }
+// The cell of a column that shows the header. That of a field is in the body.
+pub(crate) fn own<'a>(section: &Section<'a>, column: &Column<'_>) -> Option<Kept<'a>>
+    requires { IsLent section.now }
+    ensures value { shown_cell result ≡ own_cell (shown_section section.now) (shown_column column.now) }
     ensures room { HasRoom section.now.at (shown_cell result) }
 {
     match column {
         Column::Tag => tag(section),
         Column::Id => id(section),
-        Column::Field(key) => field(section, body, key),
+        Column::Field(_) => None,
+    }
+}
+
+// Whether a `:` stands where a field with this key has its first one. In
+// few other lines it does, so that few are searched for their first `:`.
+fn may_have_key(text: &[u8], key: &[u8]) -> bool
+    ensures { result ≡ (nat_lt (length key.now) (length text.now) && (slice_index text.now (length key.now) == colon)) }
+{
+    key.len() < text.len() && text[key.len()] == b':'
+}
+
+// The field in a line of the body, if it has this key.
+fn field_in<'a>(section: &Section<'_>, line: &Line<'a>, key: &[u8]) -> Option<Kept<'a>>
+    requires lent { IsLent section.now }
+    requires inside { section.now.body + line.now.at + length line.now.text.now ≤ section.now.end }
+    requires small { line.now.at + length line.now.text.now ≤ usual.section }
+    ensures value { shown_cell result ≡ field_cell section.now.body (shown_line line.now) key.now }
+    ensures room { HasRoom section.now.at (shown_cell result) }
+{
+    if !may_have_key(line.text, key) {
+        return None;
+    }
+    let (name, value) = field(line.text)?;
+    if name != key {
+        return None;
+    }
+    let from = line.at + line.text.len() - value.len();
+    Some(Kept {
+        at: section.body + line.at as u64,
+        value_at: section.body + from as u64,
+        text: value,
+    })
+}
+
+// The cell that a line of the body gives to a column.
+pub(crate) fn in_line<'a>(
+    section: &Section<'_>,
+    line: &Line<'a>,
+    column: &Column<'_>,
+) -> Option<Kept<'a>>
+    requires lent { IsLent section.now }
+    requires inside { section.now.body + line.now.at + length line.now.text.now ≤ section.now.end }
+    requires small { line.now.at + length line.now.text.now ≤ usual.section }
+    ensures value { shown_cell result ≡ line_cell section.now.body (shown_line line.now) (shown_column column.now) }
+    ensures room { HasRoom section.now.at (shown_cell result) }
+{
+    match column {
+        Column::Tag => None,
+        Column::Id => None,
+        Column::Field(key) => field_in(section, line, key),
     }
 }

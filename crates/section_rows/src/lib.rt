@@ -7,6 +7,7 @@
 
 mod columns;
 mod loading;
+mod one_pass;
 mod rows;
 mod store;
 

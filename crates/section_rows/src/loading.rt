@@ -22,7 +22,7 @@ pub fn large(index: &Index, sections: &[usize], limits: &Limits) -> Option<BodyF
     ensures { result ≡ large_fault limits.now.section (sections_at index.now sections.now) }
 {
     for i in sections {
-        let section = index.section(*i);
+        let section = index.extent(*i);
         let len = section.end - section.body;
         if len > u64::from(limits.section()) {
             return Some(BodyFault::SectionTooLarge {
@@ -68,7 +68,7 @@ fn load_row<D: Dumps>(
     let section = lent(index, i);
     let body = read_body(alloc, dumps, index, i, limits)?;
     store
-        .push(&section, body.as_slice(), columns)
+        .push(alloc, &section, body.as_slice(), columns)
         .map_err(|_| BodyFault::Memory)
 }
 

@@ -2,11 +2,12 @@
 ghost use Rattle.std.specs.Prelude.{◌≡◌, ◌+◌, ◌<◌, ◌≤◌, [], ◌∷◌, ◌^◌, length, map, All, Some, OnOk, slice_get};
 ghost use Rattle.dump_io.specs.Limits.{usual};
 ghost use Rattle.section_rows.specs.Shown.{shown_kept, shown_cell, shown_column};
-ghost use Rattle.section_rows.specs.Rows.{IsBoundedCell, kept as kept_text, cell_of, row_of, row_at};
+ghost use Rattle.section_rows.specs.Rows.{IsBoundedCell, kept as kept_text, row_of, row_at};
 ghost use Rattle.section_rows.specs.Inner.Lent.{IsLent, shown_section};
 ghost use Rattle.section_rows.specs.Inner.Places.{Gained, HasGained, HasRoom, AreWithin, rows_in, cell_in, cells_in, place_len, text_len};
 
-use crate::columns::{Column, Kept, cell};
+use crate::columns::{Column, Kept};
+use crate::one_pass::cells_of;
 use section_index::Section;
 use std::alloc::{AllocError, Global};
 
@@ -79,22 +80,18 @@ fn push_cell(
     Ok(())
 }
 
-// Appends the cells of a section to the places, one for each column.
-fn push_cells<'a>(
+// Appends cells to the places.
+fn push_cells(
     places: &mut Vec<Option<Place>>,
     pool: &mut Vec<u8>,
-    section: &Section<'a>,
-    body: &'a [u8],
-    columns: &[Column<'_>],
+    base: u64,
+    cells: &[Option<Kept<'_>>],
 ) -> Result<(), AllocError>
-    requires lent { IsLent section.now }
-    requires body { section.now.body + length body.now ≤ section.now.end }
-    requires small { length body.now ≤ usual.section }
-    ensures { OnOk result (Gained section.now.at places.old.items places.new.items pool.old.items pool.new.items
-        (map (cell_of (shown_section section.now) body.now) (map shown_column columns.now))) }
+    requires { All (λ cell. HasRoom base (shown_cell cell)) cells.now }
+    ensures { OnOk result (Gained base places.old.items places.new.items pool.old.items pool.new.items (map shown_cell cells.now)) }
 {
-    for column in columns {
-        push_cell(places, pool, section.at, cell(section, body, column))?;
+    for cell in cells {
+        push_cell(places, pool, base, *cell)?;
     }
     Ok(())
 }
@@ -155,6 +152,7 @@ impl Store {
     // Appends the row of a section to the rows.
     pub fn push(
         &mut self,
+        alloc: Global,
         section: &Section<'_>,
         body: &[u8],
         columns: &[Column<'_>],
@@ -171,7 +169,8 @@ impl Store {
             texts: self.pool.len(),
             places: self.places.len(),
         };
-        push_cells(&mut self.places, &mut self.pool, section, body, columns)?;
+        let cells = cells_of(alloc, section, body, columns)?;
+        push_cells(&mut self.places, &mut self.pool, section.at, &cells)?;
         self.heads.push(head)?;
         Ok(())
     }

@@ -1,0 +1,171 @@
+-- A pass over the lines of a body.
+use Rattle.std.proofs.Common.{◌≡◌, ℕ, suc, ◌+◌, ◌<◌, ◌≤◌, true, false, cond, List, [], ◌∷◌, ◌++◌, length, map, get_or, Option, None, Some, find, option_map, is_some, All, true≢false, refl, sym, ◌∙◌, ap, subst, ⊎_elim, arith, if◌then◌else◌}
+use Rattle.std.specs.Option.{option_or}
+use Rattle.std.proofs.lemmas.Bool.{cases_lt}
+use Rattle.std.proofs.lemmas.List.{get_or_append_left, get_or_push}
+use Rattle.std.proofs.lemmas.List.Elements.{All-from_get_or}
+use Rattle.field_lines.specs.Lines.{TextLine, text_lines}
+use Rattle.field_lines.specs.Fields.{has_key}
+use Rattle.section_index.specs.Sections.{Section}
+use Rattle.section_rows.specs.declared.columns.Kept.{Kept as LentKept}
+use Rattle.section_rows.specs.declared.columns.Column.{Column as LentColumn}
+use Rattle.section_rows.specs.declared.columns.Column.TheVariants.{Tag}
+use Rattle.section_rows.specs.Rows.{Kept, Column, tag, id, field, id_kept, cell_of}
+use Rattle.section_rows.specs.Shown.{shown_cell, shown_column}
+use Rattle.section_rows.specs.Inner.Passing.{own_cell, kept_in, line_cell, later_cell, IsSettled, AreSettled, IsOver, AreOver}
+use Rattle.section_rows.specs.Inner.Places.{HasRoom}
+
+option_or-none : {T : Type 0} (o : Option T) → option_or o None ≡ o
+option_or-none None = refl
+option_or-none (Some x) = refl
+
+-- ---- one column
+-- before the first line
+pub settled-own : (s : Section) (body : List ℕ) (column : Column) → HasRoom s.at (own_cell s column) → IsSettled s body column (text_lines body) (own_cell s column)
+settled-own s body tag room = record { value = refl; room = room }
+settled-own s body id room = record { value = sym (option_or-none (id_kept s)); room = room }
+settled-own s body (field key) room = record { value = refl; room = room }
+
+later-line : (base : ℕ) (line : TextLine) (left : List TextLine) (column : Column)
+    → later_cell base (line ∷ left) column ≡ option_or (line_cell base line column) (later_cell base left column)
+later-line base line left tag = refl
+later-line base line left id = refl
+later-line base line left (field key) =
+    elim (has_key key line) as (λ b. option_map (kept_in base) (cond b (Some line) (find (has_key key) left))
+    ≡ option_or (if b then Some (kept_in base line) else None) (option_map (kept_in base) (find (has_key key) left))) [
+      | true ↦ refl
+      | false ↦ refl
+    ]
+
+later-none : (base : ℕ) (column : Column) → later_cell base [] column ≡ None
+later-none base tag = refl
+later-none base id = refl
+later-none base (field key) = refl
+
+-- a line has been looked at
+pub settled-line : (s : Section) (body : List ℕ) (column : Column) (line : TextLine) (left : List TextLine) (cell new : Option Kept) → cell ≡ None
+    → new ≡ line_cell s.body line column → HasRoom s.at new → IsSettled s body column (line ∷ left) cell → IsSettled s body column left new
+settled-line s body column line left cell new none is room settled = record {
+  value =
+      settled.value ∙ ap (λ o. option_or o (later_cell s.body (line ∷ left) column)) none ∙ later-line s.body line left column
+      ∙ ap (λ o. option_or o (later_cell s.body left column)) (sym is);
+  room = room;
+}
+
+-- a line is passed over
+pub settled-over : (s : Section) (body : List ℕ) (column : Column) (line : TextLine) (left : List TextLine) (cell : Option Kept)
+    → IsOver column cell → IsSettled s body column (line ∷ left) cell → IsSettled s body column left cell
+settled-over s body column line left cell over settled = record {
+  value = settled.value ∙ over.stays s.body (line ∷ left) ∙ sym (over.stays s.body left);
+  room = settled.room;
+}
+
+pub over-tag : (cell : Option Kept) → IsOver tag cell
+over-tag cell = record { stays = λ base left. option_or-none cell }
+
+pub over-id : (cell : Option Kept) → IsOver id cell
+over-id cell = record { stays = λ base left. option_or-none cell }
+
+pub over-found : (column : Column) (k : Kept) → IsOver column (Some k)
+over-found column k = record { stays = λ base left. refl }
+
+pub over-some : (column : Column) (cell : Option LentKept) → is_some cell ≡ true → IsOver column (shown_cell cell)
+over-some column None some = absurd (true≢false (sym some))
+over-some column (Some k) some = over-found column _
+
+pub open-none : (cell : Option LentKept) → is_some cell ≡ false → shown_cell cell ≡ None
+open-none None none = refl
+open-none (Some k) none = absurd (true≢false none)
+
+-- ---- all columns
+-- the first columns have looked at the line, the others haven't
+pub record AreHalfway (s : Section) (body : List ℕ) (columns : List LentColumn) (line : TextLine) (left : List TextLine) (n : ℕ) (cells : List (Option LentKept)) : Type 0 where
+  pub passed : (k : ℕ) → k < n → IsSettled s body (shown_column (get_or columns k Tag)) left (shown_cell (get_or cells k None))
+  pub others : (k : ℕ) → n ≤ k → k < length columns → IsSettled s body (shown_column (get_or columns k Tag)) (line ∷ left) (shown_cell (get_or cells k None))
+
+module _ (s : Section) (body : List ℕ) (columns : List LentColumn) (line : TextLine) (left : List TextLine) where
+  pub halfway-none : (cells : List (Option LentKept)) → AreSettled s body columns (line ∷ left) cells → AreHalfway s body columns line left 0 cells
+  halfway-none cells all = record {
+    passed = λ k below. absurd (omega (arith, below));
+    others = λ k _ inside. all.each k inside;
+  }
+
+  pub halfway-all : (n : ℕ) (cells : List (Option LentKept)) → length columns ≤ n → length cells ≡ length columns → AreHalfway s body columns line left n cells
+      → AreSettled s body columns left cells
+  halfway-all n cells all count half = record {
+    count = count;
+    each = λ k inside. half.passed k (omega (arith, inside, all));
+  }
+
+  pub halfway-more : (n : ℕ) (before after : List (Option LentKept)) → ((k : ℕ) → (k ≡ n → ⊥) → get_or after k None ≡ get_or before k None)
+      → IsSettled s body (shown_column (get_or columns n Tag)) left (shown_cell (get_or after n None))
+      → AreHalfway s body columns line left n before → AreHalfway s body columns line left (n + 1) after
+  halfway-more n before after kept here half = record {
+    passed = λ k below.
+        ⊎_elim
+        (λ less. subst (λ o. IsSettled s body (shown_column (get_or columns k Tag)) left (shown_cell o)) (sym (kept k (λ e. absurd (omega (arith, less, e))))) (half.passed k less))
+        (λ more. let e : n ≡ k = omega (arith, below, more) in
+        subst (λ j. IsSettled s body (shown_column (get_or columns j Tag)) left (shown_cell (get_or after j None))) e here)
+        (cases_lt k n);
+    others = λ k above inside.
+        subst (λ o. IsSettled s body (shown_column (get_or columns k Tag)) (line ∷ left) (shown_cell o)) (sym (kept k (λ e. absurd (omega (arith, above, e)))))
+        (half.others k (omega (arith, above)) inside);
+  }
+
+-- one column more gets no other cell
+pub over-more : (columns : List LentColumn) (n : ℕ) (before after : List (Option LentKept)) → ((k : ℕ) → (k ≡ n → ⊥) → get_or after k None ≡ get_or before k None)
+    → IsOver (shown_column (get_or columns n Tag)) (shown_cell (get_or after n None))
+    → ((k : ℕ) → k < n → IsOver (shown_column (get_or columns k Tag)) (shown_cell (get_or before k None)))
+    → (k : ℕ) → k < n + 1 → IsOver (shown_column (get_or columns k Tag)) (shown_cell (get_or after k None))
+over-more columns n before after kept here all k below =
+    ⊎_elim
+    (λ less. subst (λ o. IsOver (shown_column (get_or columns k Tag)) (shown_cell o)) (sym (kept k (λ e. absurd (omega (arith, less, e))))) (all k less))
+    (λ more. let e : n ≡ k = omega (arith, below, more) in
+    subst (λ j. IsOver (shown_column (get_or columns j Tag)) (shown_cell (get_or after j None))) e here)
+    (cases_lt k n)
+
+-- one cell more before the first line
+pub own-more : (s : Section) (columns : List LentColumn) (n : ℕ) (cells : List (Option LentKept)) (cell : Option LentKept) → length cells ≡ n
+    → shown_cell cell ≡ own_cell s (shown_column (get_or columns n Tag)) → HasRoom s.at (shown_cell cell)
+    → ((body : List ℕ) (k : ℕ) → k < n → IsSettled s body (shown_column (get_or columns k Tag)) (text_lines body) (shown_cell (get_or cells k None)))
+    → (body : List ℕ) (k : ℕ) → k < n + 1 → IsSettled s body (shown_column (get_or columns k Tag)) (text_lines body) (shown_cell (get_or (cells ++ cell ∷ []) k None))
+own-more s columns n cells cell count is room all body k below =
+    ⊎_elim
+    (λ less. subst (λ o. IsSettled s body (shown_column (get_or columns k Tag)) (text_lines body) (shown_cell o))
+    (sym (get_or_append_left cells (cell ∷ []) None k (omega (arith, less, count)))) (all body k less))
+    (λ more. let e : n ≡ k = omega (arith, below, more) in
+    subst (λ j. IsSettled s body (shown_column (get_or columns j Tag)) (text_lines body) (shown_cell (get_or (cells ++ cell ∷ []) j None))) e
+    (subst (λ o. IsSettled s body (shown_column (get_or columns n Tag)) (text_lines body) (shown_cell o)) (sym (get_or_push cells cell None n count))
+    (subst (IsSettled s body (shown_column (get_or columns n Tag)) (text_lines body)) (sym is)
+    (settled-own s body (shown_column (get_or columns n Tag)) (subst (HasRoom s.at) is room)))))
+    (cases_lt k n)
+
+-- ---- the cells at the end
+by-place : (f : Column → Option Kept) (columns : List LentColumn) (cells : List (Option LentKept)) → length cells ≡ length columns
+    → ((k : ℕ) → k < length columns → shown_cell (get_or cells k None) ≡ f (shown_column (get_or columns k Tag)))
+    → map shown_cell cells ≡ map f (map shown_column columns)
+by-place f [] [] count each = refl
+by-place f [] (cell ∷ cells) count each = absurd (omega (arith, count))
+by-place f (column ∷ columns) [] count each = absurd (omega (arith, count))
+by-place f (column ∷ columns) (cell ∷ cells) count each =
+    ap (λ o. o ∷ map shown_cell cells) (each 0 (omega arith))
+    ∙ ap (λ os. f (shown_column column) ∷ os) (by-place f columns cells (omega (arith, count)) (λ k inside. each (suc k) (omega (arith, inside))))
+
+module _ (s : Section) (body : List ℕ) (columns : List LentColumn) (cells : List (Option LentKept)) where
+  -- once no line is left
+  pub cells-whole : (left : List TextLine) → left ≡ [] → AreSettled s body columns left cells → map shown_cell cells ≡ map (cell_of s body) (map shown_column columns)
+  cells-whole left none all =
+      by-place (cell_of s body) columns cells all.count (λ k inside.
+      let column = shown_column (get_or columns k Tag) in
+      let cell = shown_cell (get_or cells k None) in
+      sym ((all.each k inside).value ∙ ap (λ ls. option_or cell (later_cell s.body ls column)) none
+      ∙ ap (option_or cell) (later-none s.body column) ∙ option_or-none cell))
+
+  -- or once no line that is left matters
+  pub cells-over : (left : List TextLine) → AreOver columns cells → AreSettled s body columns left cells → map shown_cell cells ≡ map (cell_of s body) (map shown_column columns)
+  cells-over left over all =
+      by-place (cell_of s body) columns cells all.count (λ k inside. sym ((all.each k inside).value ∙ (over k inside).stays s.body left))
+
+  pub cells-room : (left : List TextLine) → AreSettled s body columns left cells → All (λ (cell : Option LentKept). HasRoom s.at (shown_cell cell)) cells
+  cells-room left all =
+      All-from_get_or (λ (cell : Option LentKept). HasRoom s.at (shown_cell cell)) cells None (λ k inside. (all.each k (omega (arith, inside, all.count))).room)
