@@ -11,7 +11,7 @@ const USUAL_NODES: u32 = 10_000;
 const MOST_NODES: u32 = 1_000_000_000;
 
 /// How much of a term is shown.
-#[derive(Clone, Copy, Debug, PartialEq, Eq)]
+#[derive(Clone, Copy)]
 pub(crate) struct Budget {
     /// The most nodes that are shown.
     pub(crate) nodes: u32,

@@ -18,7 +18,7 @@ const USUAL_ROWS: u32 = 10;
 const MOST_ROWS: u32 = 1_000;
 
 /// A command with its words.
-#[derive(Clone, Copy, Debug, PartialEq, Eq)]
+#[derive(Clone, Copy)]
 pub enum Cmd<'a> {
     /// `index FILE`: the sections of a dump and its state.
     Index {
