@@ -1,6 +1,7 @@
 -- The rows of the places of a list: how one comes behind the others, and that each is of one of its places.
-use Rattle.std.proofs.Common.{◌≡◌, ℕ, zero, suc, ◌+◌, ◌<◌, ◌≤◌, Bool, true, false, List, [], ◌∷◌, ◌++◌, length, take, Option, Some, None, sym, ◌∙◌, ap, arith, if◌then◌else◌}
-use Rattle.std.specs.Prelude.{slice_get, All, nat_lt}
+use Rattle.std.proofs.Common.{◌≡◌, ℕ, zero, suc, ◌+◌, ◌<◌, ◌≤◌, Bool, true, false, List, [], ◌∷◌, ◌++◌, length, take, Option, Some, None, sym, ◌∙◌, ap, subst, arith, if◌then◌else◌}
+use Rattle.std.specs.Prelude.{slice_get, All, IfOk, Result, nat_lt}
+use Rattle.std.specs.Global.{Vec}
 use Rattle.std.specs.List.{enumerate_from, filter_map, cons_option}
 use Rattle.std.specs.Option.{option_to_list}
 use Rattle.std.proofs.lemmas.List.{length-map, take_all}
@@ -11,7 +12,7 @@ use Rattle.section_index.specs.Index.{Contents}
 use Rattle.section_rows.specs.Rows.{Row, row_at}
 use Rattle.process_table.specs.Processes.{Process, nobody, process_at}
 use Rattle.dump_triage.specs.declared.ranked.Ranked.{Ranked}
-use Rattle.dump_triage.specs.Ranking.{AreWithin, first_rows, row_of, rows_by}
+use Rattle.dump_triage.specs.Ranking.{AreWithin, first_rows, largest, row_of, rows_by}
 use Rattle.dump_triage.specs.Triage.{Fits, count_at_first, number_in, state_text, state_texts, triage_of, words_in}
 use Rattle.dump_triage.proofs.Numbered.{told-at}
 
@@ -24,8 +25,11 @@ rows-more number items i x told before after at were is more =
     ∙ ap (λ n. rows_by number (take i items) ++ option_to_list (row_of i n)) is
     ∙ sym (told-at (λ item. row_of item.0 (number item)) items i x at)
 
-pub rows-all : {X : Type 0} (number : ℕ × X → Option ℕ) (items : List X) (i : ℕ) (rows : List Ranked) → length items ≤ i → rows ≡ rows_by number (take i items) → rows ≡ rows_by number items
-rows-all number items i rows all are = are ∙ ap (rows_by number) (take_all i items all)
+-- once each place has its row, the first of the rows are what is largest in the list
+pub largest-all : {X E : Type 0} (number : ℕ × X → Option ℕ) (items : List X) (i most : ℕ) (rows : List Ranked) (result : Result (Vec Ranked) E) → length items ≤ i → rows ≡ rows_by number (take i items)
+    → IfOk result (λ first. first.items ≡ first_rows most rows) → IfOk result (λ first. first.items ≡ largest most number items)
+largest-all number items i most rows result all are first =
+    subst (λ l. IfOk result (λ first. first.items ≡ first_rows most l)) (are ∙ ap (rows_by number) (take_all i items all)) first
 
 -- ---- what stands at a place
 

@@ -2,7 +2,6 @@
 ghost use Rattle.std.specs.Prelude.{◌≡◌, ◌<◌, length, IfOk};
 ghost use Rattle.section_rows.specs.Rows.{row_at};
 ghost use Rattle.section_rows.specs.Shown.{shown_cell};
-ghost use Rattle.dump_triage.specs.Ranking.{rows_by};
 ghost use Rattle.dump_triage.specs.Triage.{largest_processes, largest_tables, longest_queues, number_in, words_in};
 
 use crate::ranked::{Ranked, first_rows, push_row};
@@ -21,27 +20,35 @@ fn number_in(cell: &Option<Kept<'_>>) -> Option<u64>
     dec_u64(kept.text)
 }
 
-// The rows of the processes by their message queues, in dump order.
-fn queue_rows(alloc: Global, procs: &Procs) -> Result<Vec<Ranked>, AllocError>
-    ensures { IfOk result (λ rows. rows.items ≡ rows_by (λ item. number_in item.1.queue) procs.now.processes) }
+// The processes with the longest message queues, at most `most`.
+pub(crate) fn longest_queues(
+    alloc: Global,
+    procs: &Procs,
+    most: u64,
+) -> Result<Vec<Ranked>, AllocError>
+    ensures { IfOk result (λ rows. rows.items ≡ longest_queues most procs.now.processes) }
 {
     let mut rows = Vec::new(alloc);
     for p in 0..procs.len() {
         push_row(&mut rows, p, number_in(&procs.queue(p)))?;
     }
-    Ok(rows)
+    first_rows(rows, most)
 }
 
-// The rows of the processes by their memory, in dump order.
-fn memory_rows(alloc: Global, procs: &Procs) -> Result<Vec<Ranked>, AllocError>
-    ensures { IfOk result (λ rows. rows.items ≡ rows_by (λ item. number_in item.1.memory) procs.now.processes) }
+// The processes with the most memory, at most `most`.
+pub(crate) fn largest_processes(
+    alloc: Global,
+    procs: &Procs,
+    most: u64,
+) -> Result<Vec<Ranked>, AllocError>
+    ensures { IfOk result (λ rows. rows.items ≡ largest_processes most procs.now.processes) }
 {
     let mut rows = Vec::new(alloc);
     for p in 0..procs.len() {
         let process = procs.at(p);
         push_row(&mut rows, p, number_in(&process.memory))?;
     }
-    Ok(rows)
+    first_rows(rows, most)
 }
 
 // The words of the ETS table at a place.
@@ -53,40 +60,6 @@ fn words_at(tables: &Rows, i: usize) -> Option<u64>
     dec_u64(tables.cell(i, 4)?)
 }
 
-// The rows of the ETS tables by their words, in dump order.
-fn table_rows(alloc: Global, tables: &Rows) -> Result<Vec<Ranked>, AllocError>
-    requires { tables.now.width ≡ 5 }
-    ensures { IfOk result (λ rows. rows.items ≡ rows_by (λ item. words_in item.1) tables.now.rows) }
-{
-    let mut rows = Vec::new(alloc);
-    for i in 0..tables.len() {
-        push_row(&mut rows, i, words_at(tables, i))?;
-    }
-    Ok(rows)
-}
-
-// The processes with the longest message queues, at most `most`.
-pub(crate) fn longest_queues(
-    alloc: Global,
-    procs: &Procs,
-    most: u64,
-) -> Result<Vec<Ranked>, AllocError>
-    ensures { IfOk result (λ rows. rows.items ≡ longest_queues most procs.now.processes) }
-{
-    first_rows(queue_rows(alloc, procs)?, most)
-}
-
-// The processes with the most memory, at most `most`.
-pub(crate) fn largest_processes(
-    alloc: Global,
-    procs: &Procs,
-    most: u64,
-) -> Result<Vec<Ranked>, AllocError>
-    ensures { IfOk result (λ rows. rows.items ≡ largest_processes most procs.now.processes) }
-{
-    first_rows(memory_rows(alloc, procs)?, most)
-}
-
 // The ETS tables with the most words, at most `most`.
 pub(crate) fn largest_tables(
     alloc: Global,
@@ -96,5 +69,9 @@ pub(crate) fn largest_tables(
     requires { tables.now.width ≡ 5 }
     ensures { IfOk result (λ rows. rows.items ≡ largest_tables most tables.now.rows) }
 {
-    first_rows(table_rows(alloc, tables)?, most)
+    let mut rows = Vec::new(alloc);
+    for i in 0..tables.len() {
+        push_row(&mut rows, i, words_at(tables, i))?;
+    }
+    first_rows(rows, most)
 }

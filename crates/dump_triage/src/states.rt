@@ -4,7 +4,6 @@ ghost use Rattle.std.specs.Prelude.{◌≡◌, ◌+◌, ◌<◌, ◌^◌, codes,
 ghost use Rattle.section_rows.specs.Rows.{text_in};
 ghost use Rattle.section_rows.specs.Shown.{shown_cell};
 ghost use Rattle.process_table.specs.Processes.{process_at};
-ghost use Rattle.dump_triage.specs.Ranking.{rows_by};
 ghost use Rattle.dump_triage.specs.Triage.{commonest_states, count_at_first, state_text, state_texts};
 ghost use Rattle.dump_triage.specs.Inner.States.{AreCounted, AreLeft, counted};
 
@@ -78,19 +77,6 @@ fn take_count<'a>(counts: &mut BTreeMap<&'a [u8], u64>, procs: &'a Procs, p: usi
     counts.remove(state_at(procs, p))
 }
 
-// The rows of the states, in the order in which they first appear.
-fn state_rows(alloc: Global, procs: &Procs) -> Result<Vec<Ranked>, AllocError>
-    ensures { IfOk result (λ rows. rows.items
-        ≡ rows_by (count_at_first (state_texts procs.now.processes)) (state_texts procs.now.processes)) }
-{
-    let mut counts = count_states(alloc, procs)?;
-    let mut rows = Vec::new(alloc);
-    for p in 0..procs.len() {
-        push_row(&mut rows, p, take_count(&mut counts, procs, p))?;
-    }
-    Ok(rows)
-}
-
 // The states that most processes are in, at most `most`.
 pub(crate) fn commonest_states(
     alloc: Global,
@@ -99,5 +85,10 @@ pub(crate) fn commonest_states(
 ) -> Result<Vec<Ranked>, AllocError>
     ensures { IfOk result (λ rows. rows.items ≡ commonest_states most procs.now.processes) }
 {
-    first_rows(state_rows(alloc, procs)?, most)
+    let mut counts = count_states(alloc, procs)?;
+    let mut rows = Vec::new(alloc);
+    for p in 0..procs.len() {
+        push_row(&mut rows, p, take_count(&mut counts, procs, p))?;
+    }
+    first_rows(rows, most)
 }

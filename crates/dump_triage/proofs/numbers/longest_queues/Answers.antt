@@ -1,8 +1,8 @@
 use Rattle.std.proofs.Common.{◌∙◌, ap, arith}
 use Rattle.process_table.specs.Processes.{process_at}
 use Rattle.dump_triage.specs.Triage.{number_in}
-use Rattle.dump_triage.proofs.RankFacts.{process-there, rows-all, rows-more}
-use Rattle.dump_triage.proofs.numbers.queue_rows.Goals as goal
+use Rattle.dump_triage.proofs.RankFacts.{largest-all, process-there, rows-more}
+use Rattle.dump_triage.proofs.numbers.longest_queues.Goals as goal
 
 pub loop-p-preserved : goal.loop-p-preserved
 loop-p-preserved c =
@@ -12,4 +12,4 @@ loop-p-preserved c =
     (c.number_in.ensures ∙ ap number_in c.queue.ensures) c.in_ok-push_row.ensures
 
 pub returns : goal.returns
-returns c = rows-all (λ item. number_in item.1.queue) c.args.procs.now.processes c.loop-p.p c.loop-p.rows.items (omega arith) c.loop-p.invariant
+returns c = largest-all (λ item. number_in item.1.queue) c.args.procs.now.processes c.loop-p.p c.args.most c.loop-p.rows.items c.first_rows.result (omega arith) c.loop-p.invariant c.first_rows.ensures

@@ -1,7 +1,7 @@
 use Rattle.std.proofs.Common.{◌≡◌, take}
 use Rattle.dump_triage.specs.Ranking.{rows_by}
 use Rattle.dump_triage.specs.Triage.{number_in}
-use Rattle.dump_triage.proofs.numbers.queue_rows.Given as goal
+use Rattle.dump_triage.proofs.numbers.longest_queues.Given as goal
 
 -- the rows of the places so far
 abbrev pub invariant-loop-p : goal.invariant-loop-p

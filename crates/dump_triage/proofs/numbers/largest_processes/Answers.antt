@@ -1,8 +1,8 @@
 use Rattle.std.proofs.Common.{arith}
 use Rattle.process_table.specs.Shown.{shown_process}
 use Rattle.dump_triage.specs.Triage.{number_in}
-use Rattle.dump_triage.proofs.RankFacts.{rows-all, rows-more}
-use Rattle.dump_triage.proofs.numbers.memory_rows.Goals as goal
+use Rattle.dump_triage.proofs.RankFacts.{largest-all, rows-more}
+use Rattle.dump_triage.proofs.numbers.largest_processes.Goals as goal
 
 pub loop-p-preserved : goal.loop-p-preserved
 loop-p-preserved c =
@@ -10,4 +10,4 @@ loop-p-preserved c =
     c.number_in.ensures c.in_ok-push_row.ensures
 
 pub returns : goal.returns
-returns c = rows-all (λ item. number_in item.1.memory) c.args.procs.now.processes c.loop-p.p c.loop-p.rows.items (omega arith) c.loop-p.invariant
+returns c = largest-all (λ item. number_in item.1.memory) c.args.procs.now.processes c.loop-p.p c.args.most c.loop-p.rows.items c.first_rows.result (omega arith) c.loop-p.invariant c.first_rows.ensures

@@ -1,7 +1,7 @@
 use Rattle.std.proofs.Common.{◌≡◌, take}
 use Rattle.dump_triage.specs.Ranking.{rows_by}
 use Rattle.dump_triage.specs.Triage.{words_in}
-use Rattle.dump_triage.proofs.numbers.table_rows.Given as goal
+use Rattle.dump_triage.proofs.numbers.largest_tables.Given as goal
 
 -- the rows of the places so far
 abbrev pub invariant-loop-i : goal.invariant-loop-i

@@ -2,9 +2,9 @@ use Rattle.std.proofs.Common.{arith}
 use Rattle.std.proofs.lemmas.List.{length-map}
 use Rattle.process_table.specs.Processes.{process_at}
 use Rattle.dump_triage.specs.Triage.{count_at_first, state_text, state_texts}
-use Rattle.dump_triage.proofs.RankFacts.{rows-all, rows-more}
+use Rattle.dump_triage.proofs.RankFacts.{largest-all, rows-more}
 use Rattle.dump_triage.proofs.StateFacts.{state-there}
-use Rattle.dump_triage.proofs.states.state_rows.Goals as goal
+use Rattle.dump_triage.proofs.states.commonest_states.Goals as goal
 
 pub loop-p-preserved : goal.loop-p-preserved
 loop-p-preserved c =
@@ -20,4 +20,5 @@ loop-p-preserved c =
 pub returns : goal.returns
 returns c =
     let processes = c.args.procs.now.processes in
-    rows-all (count_at_first (state_texts processes)) (state_texts processes) c.loop-p.p c.loop-p.rows.items (omega (arith, length-map processes state_text)) c.loop-p.invariant.rows
+    largest-all (count_at_first (state_texts processes)) (state_texts processes) c.loop-p.p c.args.most c.loop-p.rows.items c.first_rows.result
+    (omega (arith, length-map processes state_text)) c.loop-p.invariant.rows c.first_rows.ensures
