@@ -11,10 +11,10 @@ use Rattle.size_order.specs.Sorting.{put_row, most_first}
 use Rattle.section_index.specs.Index.{Contents}
 use Rattle.section_rows.specs.Rows.{Row, row_at}
 use Rattle.process_table.specs.Processes.{Process, nobody, process_at}
+use Rattle.dump_audit.specs.Laws.{told-at}
 use Rattle.dump_triage.specs.declared.ranked.Ranked.{Ranked}
 use Rattle.dump_triage.specs.Ranking.{AreWithin, first_rows, largest, row_of, rows_by}
 use Rattle.dump_triage.specs.Triage.{Fits, count_at_first, number_in, state_text, state_texts, triage_of, words_in}
-use Rattle.dump_triage.proofs.Numbered.{told-at}
 
 -- the row of one place more
 pub rows-more : {X : Type 0} (number : ℕ × X → Option ℕ) (items : List X) (i : ℕ) (x : X) (told : Option ℕ) (before after : List Ranked) → slice_get items i ≡ Some x

@@ -3,7 +3,7 @@ use Rattle.std.specs.Option.{option_to_list}
 use Rattle.link_graph.specs.Seen.{shown_entry}
 use Rattle.dump_audit.specs.Findings.{entry_finding, entry_findings}
 use Rattle.dump_audit.specs.Inner.Audited.{entries_in, held}
-use Rattle.dump_audit.proofs.Numbered.{told-at}
+use Rattle.dump_audit.specs.Laws.{told-at}
 use Rattle.dump_audit.proofs.audited.Audited.add_entries.Goals as goal
 
 pub loop-number-preserved : goal.loop-number-preserved

@@ -5,7 +5,7 @@ use Rattle.std.proofs.lemmas.List.{take_all}
 use Rattle.std.proofs.lemmas.Option.{slice_get-get_or, unwrap_or-slice_get}
 use Rattle.process_table.specs.Processes.{nobody, process_at}
 use Rattle.dump_audit.specs.Findings.{process_findings}
-use Rattle.dump_audit.proofs.Numbered.{all-at}
+use Rattle.dump_audit.specs.Laws.{all-at}
 use Rattle.dump_audit.proofs.audited.Audited.findings.Goals as goal
 
 pub loop-p-preserved : goal.loop-p-preserved
