@@ -1,3 +1,4 @@
+pub mod FindingNames
 pub mod Findings
 pub mod Fitting
 pub mod Inner

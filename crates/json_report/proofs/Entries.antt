@@ -5,7 +5,7 @@ use Rattle.std.specs.Option.{option_map}
 use Rattle.std.proofs.lemmas.Option.{slice_get-map}
 use Rattle.process_table.specs.Processes.{Process, nobody, process_at}
 use Rattle.link_graph.specs.Graph.{Links, graph_of, links_at, links_of, no_links}
-use Rattle.json_report.specs.Trees.{kind_in, kind_at}
+use Rattle.dump_audit.specs.FindingNames.{kind_in, kind_at}
 
 links-at : (processes : List Process) (p : ℕ) → links_at (graph_of processes) p ≡ links_of (process_at processes p).links
 links-at processes p =

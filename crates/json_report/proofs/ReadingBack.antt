@@ -17,8 +17,9 @@ use Rattle.section_index.specs.Index.{Contents, state_of}
 use Rattle.process_table.specs.Processes.{Process}
 use Rattle.dump_audit.specs.declared.finding.Finding.{Finding}
 use Rattle.dump_audit.specs.declared.finding.Finding.TheVariants.{LinkOneSided, MonitorTo, MonitorFrom, Mailbox, UnreadLinks, UnreadQueue, LinkGone, ToGone, FromGone, QueueCount}
+use Rattle.dump_audit.specs.FindingNames.{pid_at, partner_at, reference_at}
 use Rattle.json_report.specs.Laws.{Has64Bits, IsReadBack}
-use Rattle.json_report.specs.Trees.{characters, num, text, members, pid_at, kind_at, partner_in, reference_in, process_object, link_object, monitor_object, mailbox_object, count_object, finding_object, state_text, tree_object, finding_tree}
+use Rattle.json_report.specs.Trees.{characters, num, text, members, process_object, link_object, monitor_object, mailbox_object, count_object, finding_object, state_text, tree_object, finding_tree}
 
 -- a value of at most this depth whose parts are read back
 pub record IsPlain (n : ℕ) (d : Data) : Type 0 where
@@ -144,16 +145,16 @@ plain-count p stated found at other a o s f =
 
 plain-finding : (ps : List Process) (f : Finding) → Has64Bits f → IsPlain 1 (finding_object ps f)
 plain-finding ps (LinkOneSided p q entry at other) b = plain-link (codes "link") (pid_at ps p) (pid_at ps q) at other b.0 b.1
-plain-finding ps (MonitorTo p q entry at other) b = plain-monitor (codes "monitor-to") (pid_at ps p) (pid_at ps q) (reference_in (kind_at ps p entry)) at other b.0 b.1
-plain-finding ps (MonitorFrom p q entry at other) b = plain-monitor (codes "monitor-from") (pid_at ps p) (pid_at ps q) (reference_in (kind_at ps p entry)) at other b.0 b.1
+plain-finding ps (MonitorTo p q entry at other) b = plain-monitor (codes "monitor-to") (pid_at ps p) (pid_at ps q) (reference_at ps p entry) at other b.0 b.1
+plain-finding ps (MonitorFrom p q entry at other) b = plain-monitor (codes "monitor-from") (pid_at ps p) (pid_at ps q) (reference_at ps p entry) at other b.0 b.1
 plain-finding ps (Mailbox p count at other) b = plain-mailbox (pid_at ps p) count at other b.0 b.1 b.2
 plain-finding ps (UnreadLinks p at other) b = plain-process (codes "unread-links") (pid_at ps p) at other b.0 b.1
 plain-finding ps (UnreadQueue p at other) b = plain-process (codes "unread-queue") (pid_at ps p) at other b.0 b.1
-plain-finding ps (LinkGone p entry at other) b = plain-link (codes "link-gone") (pid_at ps p) (partner_in (kind_at ps p entry)) at other b.0 b.1
+plain-finding ps (LinkGone p entry at other) b = plain-link (codes "link-gone") (pid_at ps p) (partner_at ps p entry) at other b.0 b.1
 plain-finding ps (ToGone p entry at other) b =
-    plain-monitor (codes "to-gone") (pid_at ps p) (partner_in (kind_at ps p entry)) (reference_in (kind_at ps p entry)) at other b.0 b.1
+    plain-monitor (codes "to-gone") (pid_at ps p) (partner_at ps p entry) (reference_at ps p entry) at other b.0 b.1
 plain-finding ps (FromGone p entry at other) b =
-    plain-monitor (codes "from-gone") (pid_at ps p) (partner_in (kind_at ps p entry)) (reference_in (kind_at ps p entry)) at other b.0 b.1
+    plain-monitor (codes "from-gone") (pid_at ps p) (partner_at ps p entry) (reference_at ps p entry) at other b.0 b.1
 plain-finding ps (QueueCount p stated found at other) b = plain-count (pid_at ps p) stated found at other b.0 b.1 b.2 b.3
 
 plain-findings : (ps : List Process) (found : List Finding) → All Has64Bits found → AllPlain 1 (map (finding_object ps) found)

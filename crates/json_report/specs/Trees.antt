@@ -1,6 +1,6 @@
 -- The findings of an audit as one JSON value. The keys of each
 -- object are in the order of their bytes. Offsets are of the file.
-use Rattle.std.specs.Prelude.{ℕ, List, [], ◌∷◌, ◌++◌, length, map, slice_get, decimal, codes, encode_utf8_all, Option, None, Some, unwrap_or}
+use Rattle.std.specs.Prelude.{ℕ, List, [], ◌∷◌, ◌++◌, length, map, decimal, codes, encode_utf8_all}
 use Rattle.serde_json.specs.Data.{Data, number, unsigned, string, array, object, Items, Members, no_members, member}
 use Rattle.serde_json.specs.View.{items_of}
 use Rattle.serde_json.specs.Written.{compact_text}
@@ -8,38 +8,12 @@ use Rattle.section_index.specs.declared.index.State.{State}
 use Rattle.section_index.specs.declared.index.State.TheVariants.{Whole, TruncatedIn}
 use Rattle.section_index.specs.Bodies.{section_at}
 use Rattle.section_index.specs.Index.{Contents, state_of}
-use Rattle.process_table.specs.Processes.{Process, process_at}
-use Rattle.link_graph.specs.Kinds.{Kind, To, From, Other}
-use Rattle.link_graph.specs.Entries.{LinkEntry}
-use Rattle.link_graph.specs.Graph.{links_of}
-use Rattle.dump_audit.specs.Findings.{Audit, partner_pid, findings}
+use Rattle.process_table.specs.Processes.{Process}
+use Rattle.link_graph.specs.Kinds.{Kind}
+use Rattle.dump_audit.specs.FindingNames.{pid_at, kind_at, partner_in, partner_at, reference_in, reference_at}
+use Rattle.dump_audit.specs.Findings.{Audit, findings}
 use Rattle.dump_audit.specs.declared.finding.Finding.{Finding}
 use Rattle.dump_audit.specs.declared.finding.Finding.TheVariants.{LinkOneSided, MonitorTo, MonitorFrom, Mailbox, UnreadLinks, UnreadQueue, LinkGone, ToGone, FromGone, QueueCount}
-
--- ---- what a finding speaks of
-
--- the pid of the process at a place
-abbrev pub pid_at : List Process → ℕ → List ℕ
-pid_at processes p = (process_at processes p).pid
-
--- what the entry with a number in a link list says
-abbrev pub kind_in : Option LinkEntry → Kind
-kind_in None = Other
-kind_in (Some entry) = entry.kind
-
--- what an entry of a process says, by the places of both
-abbrev pub kind_at : List Process → ℕ → ℕ → Kind
-kind_at processes p entry = kind_in (slice_get (links_of (process_at processes p).links).entries entry)
-
--- the pid that an entry of this kind speaks of
-abbrev pub partner_in : Kind → List ℕ
-partner_in kind = unwrap_or (partner_pid kind) []
-
--- the reference of a monitor
-abbrev pub reference_in : Kind → List ℕ
-reference_in (To pid reference) = reference
-reference_in (From pid reference) = reference
-reference_in kind = []
 
 -- ---- values
 
@@ -97,14 +71,12 @@ gone_object word p kind at other = monitor_object word p (partner_in kind) (refe
 -- the object of a finding
 abbrev pub finding_object : List Process → Finding → Data
 finding_object ps (LinkOneSided p q entry at other) = link_object (codes "link") (pid_at ps p) (pid_at ps q) at other
-finding_object ps (MonitorTo p q entry at other) =
-    monitor_object (codes "monitor-to") (pid_at ps p) (pid_at ps q) (reference_in (kind_at ps p entry)) at other
-finding_object ps (MonitorFrom p q entry at other) =
-    monitor_object (codes "monitor-from") (pid_at ps p) (pid_at ps q) (reference_in (kind_at ps p entry)) at other
+finding_object ps (MonitorTo p q entry at other) = monitor_object (codes "monitor-to") (pid_at ps p) (pid_at ps q) (reference_at ps p entry) at other
+finding_object ps (MonitorFrom p q entry at other) = monitor_object (codes "monitor-from") (pid_at ps p) (pid_at ps q) (reference_at ps p entry) at other
 finding_object ps (Mailbox p count at other) = mailbox_object (pid_at ps p) count at other
 finding_object ps (UnreadLinks p at other) = process_object (codes "unread-links") (pid_at ps p) at other
 finding_object ps (UnreadQueue p at other) = process_object (codes "unread-queue") (pid_at ps p) at other
-finding_object ps (LinkGone p entry at other) = link_object (codes "link-gone") (pid_at ps p) (partner_in (kind_at ps p entry)) at other
+finding_object ps (LinkGone p entry at other) = link_object (codes "link-gone") (pid_at ps p) (partner_at ps p entry) at other
 finding_object ps (ToGone p entry at other) = gone_object (codes "to-gone") (pid_at ps p) (kind_at ps p entry) at other
 finding_object ps (FromGone p entry at other) = gone_object (codes "from-gone") (pid_at ps p) (kind_at ps p entry) at other
 finding_object ps (QueueCount p stated found at other) = count_object (pid_at ps p) stated found at other

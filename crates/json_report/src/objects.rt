@@ -3,9 +3,10 @@ ghost use Rattle.std.specs.Prelude.{◌≡◌, ◌<◌, length, OnOk};
 ghost use Rattle.serde_json.specs.Events.{SendsValue};
 ghost use Rattle.link_graph.specs.Graph.{graph_of, links_at};
 ghost use Rattle.link_graph.specs.Seen.{shown_kind};
+ghost use Rattle.dump_audit.specs.FindingNames.{pid_at, kind_at, partner_in, reference_in};
 ghost use Rattle.dump_audit.specs.Fitting.{Fits};
 ghost use Rattle.json_report.specs.Laws.{Has64Bits};
-ghost use Rattle.json_report.specs.Trees.{pid_at, kind_at, partner_in, reference_in, process_object, link_object, monitor_object, mailbox_object, count_object, gone_object, finding_object};
+ghost use Rattle.json_report.specs.Trees.{process_object, link_object, monitor_object, mailbox_object, count_object, gone_object, finding_object};
 
 use crate::members::{Told, send_object};
 use dump_audit::Finding;

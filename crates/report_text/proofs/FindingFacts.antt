@@ -3,7 +3,8 @@ use Rattle.std.proofs.Common.{◌≡◌, ℕ, List, ◌∙◌, ap}
 use Rattle.std.specs.Prelude.{slice_get}
 use Rattle.process_table.specs.Processes.{Process}
 use Rattle.link_graph.specs.Graph.{Links, graph_of, links_at}
-use Rattle.report_text.specs.Findings.{kind_in, kind_at, one_line, two_line, three_line}
+use Rattle.dump_audit.specs.FindingNames.{kind_in, kind_at}
+use Rattle.report_text.specs.Findings.{one_line, two_line, three_line}
 use Rattle.report_text.proofs.LinkFacts.{links-at}
 
 -- what an entry of the graph says

@@ -5,8 +5,9 @@ ghost use Rattle.dump_io.specs.Pieces.{piece_text};
 ghost use Rattle.dump_io.specs.Sinks.{Puts};
 ghost use Rattle.link_graph.specs.Graph.{graph_of, links_at};
 ghost use Rattle.link_graph.specs.Seen.{shown_kind};
+ghost use Rattle.dump_audit.specs.FindingNames.{pid_at, kind_in, partner_in, reference_in};
 ghost use Rattle.dump_audit.specs.Fitting.{Fits};
-ghost use Rattle.report_text.specs.Findings.{pid_at, kind_in, partner_in, reference_in, one_line, two_line, three_line, finding_line, findings_line, findings_report};
+ghost use Rattle.report_text.specs.Findings.{one_line, two_line, three_line, finding_line, findings_line, findings_report};
 
 use crate::index_report::put_state;
 use dump_audit::Finding;

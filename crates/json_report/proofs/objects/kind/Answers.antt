@@ -1,5 +1,5 @@
 use Rattle.std.proofs.Common.{sym, ap, ◌∙◌}
-use Rattle.json_report.specs.Trees.{kind_in}
+use Rattle.dump_audit.specs.FindingNames.{kind_in}
 use Rattle.json_report.proofs.Entries.{kind-there}
 use Rattle.json_report.proofs.objects.kind.Goals as goal
 

@@ -1,6 +1,7 @@
 use Rattle.std.proofs.Common.{codes, decimal, sym, ◌∙◌, ap}
 use Rattle.dump_io.specs.Laws.Puts.{Puts-as}
-use Rattle.report_text.specs.Findings.{finding_line, three_line, partner_in, reference_in}
+use Rattle.dump_audit.specs.FindingNames.{partner_in, reference_in}
+use Rattle.report_text.specs.Findings.{finding_line, three_line}
 use Rattle.report_text.proofs.FindingFacts.{kind-there, one-same, two-same, three-same}
 use Rattle.report_text.proofs.audit_report.put_finding.Goals as goal
 
