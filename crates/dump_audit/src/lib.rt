@@ -6,6 +6,7 @@ mod audited;
 mod auditing;
 mod finding;
 mod linking;
+pub mod named;
 mod queues;
 
 pub use auditing::{audit, audit_full, audit_with};

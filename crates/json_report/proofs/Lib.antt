@@ -1,6 +1,5 @@
 pub mod Bounds
 pub mod Counts
-pub mod Entries
 pub mod Files
 pub mod Lists
 pub mod ReadingBack

@@ -1,15 +1,16 @@
 // The object of a finding.
 ghost use Rattle.std.specs.Prelude.{◌≡◌, ◌<◌, length, OnOk};
 ghost use Rattle.serde_json.specs.Events.{SendsValue};
-ghost use Rattle.link_graph.specs.Graph.{graph_of, links_at};
+ghost use Rattle.link_graph.specs.Graph.{graph_of};
 ghost use Rattle.link_graph.specs.Seen.{shown_kind};
-ghost use Rattle.dump_audit.specs.FindingNames.{pid_at, kind_at, partner_in, reference_in};
+ghost use Rattle.dump_audit.specs.FindingNames.{pid_at};
 ghost use Rattle.dump_audit.specs.Fitting.{Fits};
 ghost use Rattle.json_report.specs.Laws.{Has64Bits};
 ghost use Rattle.json_report.specs.Trees.{process_object, link_object, monitor_object, mailbox_object, count_object, gone_object, finding_object};
 
 use crate::members::{Told, send_object};
 use dump_audit::Finding;
+use dump_audit::named::{kind, partner, reference};
 use link_graph::{EntryKind, Graph};
 use process_table::Procs;
 use serde::Serializer;
@@ -126,37 +127,6 @@ fn pid(procs: &Procs, p: u32) -> &[u8]
     ensures { result.now ≡ pid_at procs.now.processes p }
 {
     procs.pid(p as usize)
-}
-
-// What the entry with a number says, for the process at a place.
-fn kind<'a>(procs: &Procs, graph: &'a Graph<'a>, p: u32, entry: u32) -> EntryKind<'a>
-    requires graph { graph.now ≡ graph_of procs.now.processes }
-    requires process { p < length graph.now }
-    requires entry { entry < length (links_at graph.now p).entries }
-    ensures { shown_kind result ≡ kind_at procs.now.processes p entry }
-{
-    let entry = graph.entry(p as usize, entry);
-    entry.kind
-}
-
-// The pid that an entry speaks of.
-fn partner<'a>(kind: EntryKind<'a>) -> &'a [u8]
-    ensures { result.now ≡ partner_in (shown_kind kind.entry) }
-{
-    match kind {
-        EntryKind::Link(pid) | EntryKind::To(pid, _) | EntryKind::From(pid, _) => pid,
-        _ => b"",
-    }
-}
-
-// The reference of a monitor.
-fn reference<'a>(kind: EntryKind<'a>) -> &'a [u8]
-    ensures { result.now ≡ reference_in (shown_kind kind.entry) }
-{
-    match kind {
-        EntryKind::To(_, reference) | EntryKind::From(_, reference) => reference,
-        _ => b"",
-    }
 }
 
 // For a monitor of a process that isn't in the dump.

@@ -1,17 +1,6 @@
 -- The texts of a finding's line are those of the processes.
 use Rattle.std.proofs.Common.{◌≡◌, ℕ, List, ◌∙◌, ap}
-use Rattle.std.specs.Prelude.{slice_get}
-use Rattle.process_table.specs.Processes.{Process}
-use Rattle.link_graph.specs.Graph.{Links, graph_of, links_at}
-use Rattle.dump_audit.specs.FindingNames.{kind_in, kind_at}
 use Rattle.report_text.specs.Findings.{one_line, two_line, three_line}
-use Rattle.report_text.proofs.LinkFacts.{links-at}
-
--- what an entry of the graph says
-pub kind-there : (graph : List Links) (processes : List Process) (p entry : ℕ) → graph ≡ graph_of processes
-    → kind_in (slice_get (links_at graph p).entries entry) ≡ kind_at processes p entry
-kind-there graph processes p entry is =
-    ap (λ links. kind_in (slice_get links.entries entry)) (ap (λ g. links_at g p) is ∙ links-at processes p)
 
 pub one-same : (word : List ℕ) (at other : ℕ) {a x : List ℕ} → a ≡ x → one_line word a at other ≡ one_line word x at other
 one-same word at other {a} {x} first = ap (λ t. one_line word t at other) first

@@ -1,18 +1,18 @@
 // The report of `audit`.
-ghost use Rattle.std.specs.Prelude.{◌≡◌, ◌<◌, length, slice_get, All};
+ghost use Rattle.std.specs.Prelude.{◌≡◌, ◌<◌, length, All};
 ghost use Rattle.std.specs.List.{flat_map};
 ghost use Rattle.dump_io.specs.Pieces.{piece_text};
 ghost use Rattle.dump_io.specs.Sinks.{Puts};
-ghost use Rattle.link_graph.specs.Graph.{graph_of, links_at};
-ghost use Rattle.link_graph.specs.Seen.{shown_kind};
-ghost use Rattle.dump_audit.specs.FindingNames.{pid_at, kind_in, partner_in, reference_in};
+ghost use Rattle.link_graph.specs.Graph.{graph_of};
+ghost use Rattle.dump_audit.specs.FindingNames.{pid_at};
 ghost use Rattle.dump_audit.specs.Fitting.{Fits};
 ghost use Rattle.report_text.specs.Findings.{one_line, two_line, three_line, finding_line, findings_line, findings_report};
 
 use crate::index_report::put_state;
 use dump_audit::Finding;
+use dump_audit::named::{kind, partner, reference};
 use dump_io::{Failed, Piece, Sink, put_pieces};
-use link_graph::{EntryKind, Graph};
+use link_graph::Graph;
 use process_table::Procs;
 use section_index::Index;
 
@@ -111,36 +111,6 @@ fn pid(procs: &Procs, p: u32) -> Piece<'_>
     Piece::Bytes(procs.pid(p as usize))
 }
 
-// What the entry with a number says, for the process at a place.
-fn kind<'a>(graph: &'a Graph<'a>, p: u32, entry: u32) -> EntryKind<'a>
-    requires process { p < length graph.now }
-    requires entry { entry < length (links_at graph.now p).entries }
-    ensures { shown_kind result ≡ kind_in (slice_get (links_at graph.now p).entries entry) }
-{
-    let entry = graph.entry(p as usize, entry);
-    entry.kind
-}
-
-// The pid that an entry speaks of.
-fn partner(kind: EntryKind<'_>) -> Piece<'_>
-    ensures { piece_text result ≡ partner_in (shown_kind kind.entry) }
-{
-    match kind {
-        EntryKind::Link(pid) | EntryKind::To(pid, _) | EntryKind::From(pid, _) => Piece::Bytes(pid),
-        _ => Piece::Bytes(b""),
-    }
-}
-
-// The reference of a monitor.
-fn reference(kind: EntryKind<'_>) -> Piece<'_>
-    ensures { piece_text result ≡ reference_in (shown_kind kind.entry) }
-{
-    match kind {
-        EntryKind::To(_, reference) | EntryKind::From(_, reference) => Piece::Bytes(reference),
-        _ => Piece::Bytes(b""),
-    }
-}
-
 // Writes the line of a finding.
 fn put_finding<K: Sink>(
     sink: &mut K,
@@ -167,7 +137,7 @@ fn put_finding<K: Sink>(
             at,
             other,
         } => {
-            let reference = reference(kind(graph, p, entry));
+            let reference = Piece::Bytes(reference(kind(procs, graph, p, entry)));
             put_three(
                 sink,
                 b"monitor-to",
@@ -185,7 +155,7 @@ fn put_finding<K: Sink>(
             at,
             other,
         } => {
-            let reference = reference(kind(graph, p, entry));
+            let reference = Piece::Bytes(reference(kind(procs, graph, p, entry)));
             put_three(
                 sink,
                 b"monitor-from",
@@ -229,7 +199,7 @@ fn put_finding<K: Sink>(
             at,
             other,
         } => {
-            let gone = partner(kind(graph, p, entry));
+            let gone = Piece::Bytes(partner(kind(procs, graph, p, entry)));
             put_two(sink, b"link-gone", pid(procs, p), gone, at, other)
         }
         Finding::ToGone {
@@ -238,13 +208,13 @@ fn put_finding<K: Sink>(
             at,
             other,
         } => {
-            let kind = kind(graph, p, entry);
+            let kind = kind(procs, graph, p, entry);
             put_three(
                 sink,
                 b"to-gone",
                 pid(procs, p),
-                partner(kind),
-                reference(kind),
+                Piece::Bytes(partner(kind)),
+                Piece::Bytes(reference(kind)),
                 at,
                 other,
             )
@@ -255,13 +225,13 @@ fn put_finding<K: Sink>(
             at,
             other,
         } => {
-            let kind = kind(graph, p, entry);
+            let kind = kind(procs, graph, p, entry);
             put_three(
                 sink,
                 b"from-gone",
                 pid(procs, p),
-                partner(kind),
-                reference(kind),
+                Piece::Bytes(partner(kind)),
+                Piece::Bytes(reference(kind)),
                 at,
                 other,
             )

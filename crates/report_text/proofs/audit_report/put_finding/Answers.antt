@@ -2,23 +2,21 @@ use Rattle.std.proofs.Common.{codes, decimal, sym, ◌∙◌, ap}
 use Rattle.dump_io.specs.Laws.Puts.{Puts-as}
 use Rattle.dump_audit.specs.FindingNames.{partner_in, reference_in}
 use Rattle.report_text.specs.Findings.{finding_line, three_line}
-use Rattle.report_text.proofs.FindingFacts.{kind-there, one-same, two-same, three-same}
+use Rattle.report_text.proofs.FindingFacts.{one-same, two-same, three-same}
 use Rattle.report_text.proofs.audit_report.put_finding.Goals as goal
 
 pub returns-in-MonitorTo : goal.returns-in-MonitorTo
 returns-in-MonitorTo g c =
     let ps = c.args.procs.now.processes in
     let f = c.in-MonitorTo in
-    let says = c.kind.ensures ∙ kind-there c.args.graph.now ps f.p f.entry c.requires.graph in
-    Puts-as (three-same (codes "monitor-to") c.in-MonitorTo.at c.in-MonitorTo.other c.pid-in-MonitorTo.ensures c.pid-in-MonitorTo-2.ensures (c.reference-reference.ensures ∙ ap reference_in says) ∙ ap (finding_line ps) (sym f.is))
+    Puts-as (three-same (codes "monitor-to") c.in-MonitorTo.at c.in-MonitorTo.other c.pid-in-MonitorTo.ensures c.pid-in-MonitorTo-2.ensures (c.reference.ensures ∙ ap reference_in c.kind.ensures) ∙ ap (finding_line ps) (sym f.is))
     c.put_three.ensures
 
 pub returns-in-MonitorFrom : goal.returns-in-MonitorFrom
 returns-in-MonitorFrom g c =
     let ps = c.args.procs.now.processes in
     let f = c.in-MonitorFrom in
-    let says = c.kind-in-MonitorFrom.ensures ∙ kind-there c.args.graph.now ps f.p f.entry c.requires.graph in
-    Puts-as (three-same (codes "monitor-from") c.in-MonitorFrom.at c.in-MonitorFrom.other c.pid-in-MonitorFrom.ensures c.pid-in-MonitorFrom-2.ensures (c.reference-reference-in-MonitorFrom.ensures ∙ ap reference_in says) ∙ ap (finding_line ps) (sym f.is))
+    Puts-as (three-same (codes "monitor-from") c.in-MonitorFrom.at c.in-MonitorFrom.other c.pid-in-MonitorFrom.ensures c.pid-in-MonitorFrom-2.ensures (c.reference-in-MonitorFrom.ensures ∙ ap reference_in c.kind-in-MonitorFrom.ensures) ∙ ap (finding_line ps) (sym f.is))
     c.put_three-in-MonitorFrom.ensures
 
 pub returns-in-UnreadLinks : goal.returns-in-UnreadLinks
@@ -33,23 +31,20 @@ pub returns-in-LinkGone : goal.returns-in-LinkGone
 returns-in-LinkGone g c =
     let ps = c.args.procs.now.processes in
     let f = c.in-LinkGone in
-    let says = c.kind-in-LinkGone.ensures ∙ kind-there c.args.graph.now ps f.p f.entry c.requires.graph in
-    Puts-as (two-same (codes "link-gone") c.in-LinkGone.at c.in-LinkGone.other c.pid-in-LinkGone.ensures (c.partner-gone.ensures ∙ ap partner_in says) ∙ ap (finding_line ps) (sym f.is)) c.put_two-in-LinkGone.ensures
+    Puts-as (two-same (codes "link-gone") c.in-LinkGone.at c.in-LinkGone.other c.pid-in-LinkGone.ensures (c.partner.ensures ∙ ap partner_in c.kind-in-LinkGone.ensures) ∙ ap (finding_line ps) (sym f.is)) c.put_two-in-LinkGone.ensures
 
 pub returns-in-ToGone : goal.returns-in-ToGone
 returns-in-ToGone g c =
     let ps = c.args.procs.now.processes in
     let f = c.in-ToGone in
-    let says = c.kind-kind.ensures ∙ kind-there c.args.graph.now ps f.p f.entry c.requires.graph in
-    Puts-as (three-same (codes "to-gone") c.in-ToGone.at c.in-ToGone.other c.pid-in-ToGone.ensures (c.partner.ensures ∙ ap partner_in says) (c.reference.ensures ∙ ap reference_in says) ∙ ap (finding_line ps) (sym f.is))
+    Puts-as (three-same (codes "to-gone") c.in-ToGone.at c.in-ToGone.other c.pid-in-ToGone.ensures (c.partner-in-ToGone.ensures ∙ ap partner_in c.kind-kind.ensures) (c.reference-in-ToGone.ensures ∙ ap reference_in c.kind-kind.ensures) ∙ ap (finding_line ps) (sym f.is))
     c.put_three-in-ToGone.ensures
 
 pub returns-in-FromGone : goal.returns-in-FromGone
 returns-in-FromGone g c =
     let ps = c.args.procs.now.processes in
     let f = c.in-FromGone in
-    let says = c.kind-kind-in-FromGone.ensures ∙ kind-there c.args.graph.now ps f.p f.entry c.requires.graph in
-    Puts-as (three-same (codes "from-gone") c.in-FromGone.at c.in-FromGone.other c.pid-in-FromGone.ensures (c.partner-in-FromGone.ensures ∙ ap partner_in says) (c.reference-in-FromGone.ensures ∙ ap reference_in says) ∙ ap (finding_line ps) (sym f.is))
+    Puts-as (three-same (codes "from-gone") c.in-FromGone.at c.in-FromGone.other c.pid-in-FromGone.ensures (c.partner-in-FromGone.ensures ∙ ap partner_in c.kind-kind-in-FromGone.ensures) (c.reference-in-FromGone.ensures ∙ ap reference_in c.kind-kind-in-FromGone.ensures) ∙ ap (finding_line ps) (sym f.is))
     c.put_three-in-FromGone.ensures
 
 pub returns-in-QueueCount : goal.returns-in-QueueCount
