@@ -1,7 +1,6 @@
 -- A redacted dump has the same processes and messages, since no payload stands in their sections.
-use Rattle.std.proofs.Common.{◌≡◌, ℕ, ◌+◌, Bool, true, false, List, [], ◌∷◌, map, codes, Option, None, Some, if◌then◌else◌, refl, sym, ◌∙◌, ap}
+use Rattle.std.proofs.Common.{◌≡◌, ℕ, Bool, true, false, List, [], ◌∷◌, map, codes, Option, None, Some, if◌then◌else◌, refl, sym, ◌∙◌, ap}
 use Rattle.std.specs.Prelude.{All, ◌&&◌, is_some, get_or}
-use Rattle.std.specs.List.{enumerate_from}
 use Rattle.std.specs.Option.{option_eq}
 use Rattle.std.specs.Str.{bytes_eq}
 use Rattle.std.proofs.lemmas.List.Elements.{All-nil, All-cons, All-head, All-tail, All-filter, filter_passes}
@@ -19,6 +18,7 @@ use Rattle.process_table.specs.Records.{Placed, first_of_each, is_process, place
 use Rattle.audit_bodies.specs.Mailboxes.{mail_in, mailbox_place, mailbox_places, mails, pids_in, section_in}
 use Rattle.root_views.specs.Roots.{message_count}
 use Rattle.dump_audit.specs.Findings.{audit_of, findings, is_cut}
+use Rattle.dump_audit.specs.Laws.{all-numbered}
 use Rattle.term_forms.specs.declared.enc.Enc.{Enc}
 use Rattle.dump_redact.specs.Bodies.{redacted_body}
 use Rattle.dump_redact.specs.Laws.{IsRedacted, KeepsIndex, KeepsOthers, KeepsSections, KeepsState, RedactsSections}
@@ -31,11 +31,6 @@ map-same : {X Y : Type 0} (f g : X → Y) (xs : List X) → All (λ x. f x ≡ g
 map-same f g [] same = refl
 map-same f g (x ∷ xs) same =
     ap (λ y. y ∷ map f xs) (All-head (λ x. f x ≡ g x) x xs same) ∙ ap (λ ys. g x ∷ ys) (map-same f g xs (All-tail (λ x. f x ≡ g x) x xs same))
-
-all-numbered : {X : Type 0} (P : X → Type 0) (n : ℕ) (xs : List X) → All P xs → All (λ p. P p.1) (enumerate_from n xs)
-all-numbered P n [] all = All-nil (λ p. P p.1)
-all-numbered P n (x ∷ xs) all =
-    All-cons (λ p. P p.1) (n, x) (enumerate_from (n + 1) xs) (All-head P x xs all) (all-numbered P (n + 1) xs (All-tail P x xs all))
 
 all-firsts : (P : Placed → Type 0) (ps : List Placed) → All P ps → All P (first_of_each ps)
 all-firsts P [] all = All-nil P

@@ -8,6 +8,7 @@ use Rattle.std.proofs.lemmas.Option.{get_or_from_slice_get, slice_get_within}
 use Rattle.section_index.specs.Sections.{Section, section}
 use Rattle.section_index.specs.Tiling.{Tile}
 use Rattle.process_table.specs.Records.{Placed, first_of_each, has_same_pid, is_process, placed, process_sections, records}
+use Rattle.dump_audit.specs.Laws.{all-numbered}
 use Rattle.json_report.proofs.Stands.{total}
 
 -- how many bytes a section has
@@ -68,11 +69,6 @@ total-firsts w (p ∷ ps) = omega (arith, total-filter w (λ other. not (has_sam
 pub total-records : (w : Section → ℕ) (ss : List Section) → total (λ p. w p.1) (records ss) ≤ total w ss
 total-records w ss =
     omega (arith, total-firsts (λ p. w p.1) (process_sections (placed ss)), total-filter (λ p. w p.1) (λ p. is_process p.1) (placed ss), total-numbered w 0 ss)
-
-all-numbered : {X : Type 0} (P : X → Type 0) (n : ℕ) (xs : List X) → All P xs → All (λ p. P p.1) (enumerate_from n xs)
-all-numbered P n [] all = All-nil (λ p. P p.1)
-all-numbered P n (x ∷ xs) all =
-    All-cons (λ p. P p.1) (n, x) (enumerate_from (n + 1) xs) (All-head P x xs all) (all-numbered P (n + 1) xs (All-tail P x xs all))
 
 all-firsts : (P : Placed → Type 0) (ps : List Placed) → All P ps → All P (first_of_each ps)
 all-firsts P [] all = All-nil P
