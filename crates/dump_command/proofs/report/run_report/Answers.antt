@@ -3,6 +3,15 @@ use Rattle.std.proofs.lemmas.Result.{err_from_is_err_and}
 use Rattle.dump_command.proofs.Runs.{Runs-halted, Runs-told, Runs-unopened}
 use Rattle.dump_command.proofs.report.run_report.Goals as goal
 
+pub read-requires-clause-asked : goal.read-requires-clause-asked
+read-requires-clause-asked g c = c.requires
+
+pub read-requires-clause-over : goal.read-requires-clause-over
+read-requires-clause-over g c = c.in_ok-index.ensures.over
+
+pub put-requires : goal.put-requires
+put-requires g c = record { asked = c.requires; fits = c.in_ok-loaded.ensures.fits }
+
 pub returns-in_err-index : goal.returns-in_err-index
 returns-in_err-index g c =
     let p = err_from_is_err_and c.from_residual.result c.from_residual.ensures.1 in
