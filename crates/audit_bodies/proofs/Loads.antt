@@ -12,11 +12,10 @@ use Rattle.section_index.specs.Sections.{Section}
 use Rattle.section_index.specs.declared.bodies.BodyFault.{BodyFault}
 use Rattle.section_index.specs.declared.bodies.BodyFault.TheVariants.{SectionTooLarge, Read, Memory}
 use Rattle.section_rows.specs.Laws.{large-append}
-use Rattle.section_rows.specs.Loading.{first_large, large_fault, AreRefused}
+use Rattle.section_rows.specs.Loading.{first_large, large_fault, AreRefused, IsUnread}
 use Rattle.process_table.specs.Processes.{IsOver, Process, ProcessTable}
 use Rattle.process_table.specs.Records.{Placed, ProcPlaces, named_place, pid_of, proc_places, record_sections, records}
 use Rattle.audit_bodies.specs.Mailboxes.{audited_sections, mailbox_place, mailbox_places, mailboxes_at, pids_in}
-use Rattle.audit_bodies.specs.Inner.Mailboxes.{IsUncounted}
 use Rattle.audit_bodies.proofs.MailPlaces.{none-where, or-some}
 
 pub on-ok : {T E P : Type 0} (r : Result T E) → P → OnOk r P
@@ -41,10 +40,10 @@ none-large limit ss none = by (first_large limit ss) none
     by (Some s) is = absurd (let no : ⊥ = cc (is) in no)
 
 -- bodies of which none is too large aren't loaded where the device fails or memory lacks
-pub IsUncounted-small : (limit : ℕ) (ss : List Section) (before after : DeviceState) (fault : BodyFault) → first_large limit ss ≡ None → AreRefused ss limit before after fault → IsUncounted before after fault
-IsUncounted-small limit ss before after Read none cause = inl (refl, cause.0)
-IsUncounted-small limit ss before after Memory none cause = inr refl
-IsUncounted-small limit ss before after (SectionTooLarge at len) none cause = absurd (let no : ⊥ = cc (sym (ap (option_map fault_of) none) ∙ cause) in no)
+pub IsUnread-small : (limit : ℕ) (ss : List Section) (before after : DeviceState) (fault : BodyFault) → first_large limit ss ≡ None → AreRefused ss limit before after fault → IsUnread before after fault
+IsUnread-small limit ss before after Read none cause = inl (refl, cause.0)
+IsUnread-small limit ss before after Memory none cause = inr refl
+IsUnread-small limit ss before after (SectionTooLarge at len) none cause = absurd (let no : ⊥ = cc (sym (ap (option_map fault_of) none) ∙ cause) in no)
 
 -- the first of them that is too large is why they aren't loaded
 pub AreRefused-large : (limit : ℕ) (ss : List Section) (before after : DeviceState) (fault : BodyFault) → large_fault limit ss ≡ Some fault → AreRefused ss limit before after fault
@@ -56,13 +55,13 @@ AreRefused-large limit ss before after Read is = absurd (unlike (first_large lim
     unlike None is = let no : ⊥ = cc (is) in no
     unlike (Some s) is = let no : ⊥ = cc (is) in no
 
-pub AreRefused-small : (limit : ℕ) (ss : List Section) (before after : DeviceState) (fault : BodyFault) → first_large limit ss ≡ None → IsUncounted before after fault → AreRefused ss limit before after fault
+pub AreRefused-small : (limit : ℕ) (ss : List Section) (before after : DeviceState) (fault : BodyFault) → first_large limit ss ≡ None → IsUnread before after fault → AreRefused ss limit before after fault
 AreRefused-small limit ss before after fault none (inl cause) = subst (AreRefused ss limit before after) (sym cause.0) (cause.1, none)
 AreRefused-small limit ss before after fault none (inr is) = subst (AreRefused ss limit before after) (sym is) tt
 
-pub IsUncounted-later : (step step' before after : DeviceState) (fault : BodyFault) → (DeviceFailed step step' → DeviceFailed before after) → IsUncounted step step' fault → IsUncounted before after fault
-IsUncounted-later step step' before after fault later (inl cause) = inl (cause.0, later cause.1)
-IsUncounted-later step step' before after fault later (inr is) = inr is
+pub IsUnread-later : (step step' before after : DeviceState) (fault : BodyFault) → (DeviceFailed step step' → DeviceFailed before after) → IsUnread step step' fault → IsUnread before after fault
+IsUnread-later step step' before after fault later (inl cause) = inl (cause.0, later cause.1)
+IsUnread-later step step' before after fault later (inr is) = inr is
 
 -- the pids that were found are those of the process table
 pub pids-found : (found : ProcPlaces) (sections : List Section) → found ≡ proc_places sections → map (λ (p : List ℕ × ℕ). p.0) found.places ≡ pids_in sections

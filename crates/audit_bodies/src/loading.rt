@@ -3,13 +3,13 @@ ghost use Rattle.std.specs.Prelude.{◌≡◌, ℕ, List, [], ◌++◌, length, 
 ghost use Rattle.std.specs.Option.{option_map};
 ghost use Rattle.dump_io.specs.Dumps.{told, ReadsAtMost};
 ghost use Rattle.section_index.specs.Index.{IsBuiltOver, sections_in, state_of};
-ghost use Rattle.section_rows.specs.Loading.{bodies_length, first_large, large_fault, sections_at, AreRefused};
+ghost use Rattle.section_rows.specs.Loading.{bodies_length, first_large, large_fault, sections_at, AreRefused, IsUnread};
 ghost use Rattle.process_table.specs.Processes.{process_table};
 ghost use Rattle.process_table.specs.Records.{proc_places, record_sections};
 ghost use Rattle.audit_bodies.specs.Mailboxes.{audited_sections, mail_in, mailbox_places, mailboxes_at};
 ghost use Rattle.audit_bodies.specs.Bodies.{IsAuditable};
 ghost use Rattle.audit_bodies.specs.Inner.Places.{AreBodyPlaces};
-ghost use Rattle.audit_bodies.specs.Inner.Mailboxes.{IsUncounted, IsWithin};
+ghost use Rattle.audit_bodies.specs.Inner.Mailboxes.{IsWithin};
 
 use crate::mailboxes::{mailboxes, present};
 use crate::messages::count_messages;
@@ -100,7 +100,7 @@ fn read_bodies<D: Dumps>(
     ensures counts { IfOk result (λ read. (bytes : List ℕ) → (D.state dumps.old).now ≡ told bytes → option_map (λ counts. counts.items) read.mails
         ≡ (if full then Some (map (mail_in bytes (state_of index.now.headers) (sections_in index.now)) (mailbox_places (sections_in index.now))) else None)) }
     ensures auditable { IfOk result (IsAuditable index.now) }
-    ensures fault { IfErr result (IsUncounted (D.state dumps.old) (D.state dumps.new)) }
+    ensures fault { IfErr result (IsUnread (D.state dumps.old) (D.state dumps.new)) }
 {
     let procs = Procs::read(alloc, dumps, index, places.found, limits)?;
     let counts = count_messages(alloc, dumps, index, places.mailboxes.as_slice(), limits)?;

@@ -3,10 +3,10 @@ ghost use Rattle.std.specs.Prelude.{◌≡◌, ℕ, List, [], ◌∷◌, ◌<◌
 ghost use Rattle.dump_io.specs.Dumps.{told, ReadsAtMost};
 ghost use Rattle.section_index.specs.Bodies.{section_at, body_length};
 ghost use Rattle.section_index.specs.Index.{IsBuiltOver, sections_in, state_of};
-ghost use Rattle.section_rows.specs.Loading.{bodies_length};
+ghost use Rattle.section_rows.specs.Loading.{bodies_length, IsUnread};
 ghost use Rattle.dump_audit.specs.Findings.{is_cut};
 ghost use Rattle.audit_bodies.specs.Mailboxes.{mail_at, mail_in, mailboxes_at};
-ghost use Rattle.audit_bodies.specs.Inner.Mailboxes.{IsSmall, IsUncounted, IsWithin};
+ghost use Rattle.audit_bodies.specs.Inner.Mailboxes.{IsSmall, IsWithin};
 
 use dump_io::{Dumps, Limits};
 use root_views::messages;
@@ -37,7 +37,7 @@ fn count_at<D: Dumps>(
     requires small { body_length (section_at index.now i) ≤ limits.now.section }
     ensures reads { ReadsAtMost (D.state dumps.old) (D.state dumps.new) (body_length (section_at index.now i)) }
     ensures count { IfOk result (λ count. (bytes : List ℕ) → (D.state dumps.old).now ≡ told bytes → count ≡ mail_at bytes (state_of index.now.headers) (sections_in index.now) i) }
-    ensures fault { IfErr result (IsUncounted (D.state dumps.old) (D.state dumps.new)) }
+    ensures fault { IfErr result (IsUnread (D.state dumps.old) (D.state dumps.new)) }
 {
     if is_cut(index, i) {
         return Ok(None);
@@ -59,7 +59,7 @@ fn count_in<D: Dumps>(
     requires small { IsSmall index.now limits.now.section place }
     ensures reads { ReadsAtMost (D.state dumps.old) (D.state dumps.new) (bodies_length (mailboxes_at (sections_in index.now) (place ∷ []))) }
     ensures count { IfOk result (λ count. (bytes : List ℕ) → (D.state dumps.old).now ≡ told bytes → count ≡ mail_in bytes (state_of index.now.headers) (sections_in index.now) place) }
-    ensures fault { IfErr result (IsUncounted (D.state dumps.old) (D.state dumps.new)) }
+    ensures fault { IfErr result (IsUnread (D.state dumps.old) (D.state dumps.new)) }
 {
     match place {
         None => Ok(None),
@@ -82,7 +82,7 @@ pub(crate) fn count_messages<D: Dumps>(
     ensures reads { ReadsAtMost (D.state dumps.old) (D.state dumps.new) (bodies_length (mailboxes_at (sections_in index.now) places.now)) }
     ensures counts { IfOk result (λ counts. (bytes : List ℕ) → (D.state dumps.old).now ≡ told bytes → counts.items ≡ map (mail_in bytes (state_of index.now.headers) (sections_in index.now)) places.now) }
     ensures all { IfOk result (λ counts. length counts.items ≡ length places.now) }
-    ensures fault { IfErr result (IsUncounted (D.state dumps.old) (D.state dumps.new)) }
+    ensures fault { IfErr result (IsUnread (D.state dumps.old) (D.state dumps.new)) }
 {
     let mut counts = Vec::new(alloc);
     for place in places {

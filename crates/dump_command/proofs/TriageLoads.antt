@@ -11,7 +11,7 @@ use Rattle.section_index.specs.Sections.{Section}
 use Rattle.section_index.specs.declared.bodies.BodyFault.{BodyFault}
 use Rattle.section_index.specs.declared.bodies.BodyFault.TheVariants as body_faults
 use Rattle.section_rows.specs.Laws.{large-append, small-both}
-use Rattle.section_rows.specs.Loading.{bodies_length, first_large, large_fault, AreRefused}
+use Rattle.section_rows.specs.Loading.{bodies_length, first_large, large_fault, AreRefused, IsUnread}
 use Rattle.process_table.specs.Records.{record_sections}
 use Rattle.table_sections.specs.declared.kinds.TableKind.TheVariants.{Ets}
 use Rattle.table_sections.specs.Tables.{listed}
@@ -24,7 +24,7 @@ use Rattle.dump_command.specs.Inner.Opened.{IsIndexed}
 use Rattle.dump_command.specs.Inner.Reading.{HasRead, IsHalted, Takes}
 use Rattle.dump_command.specs.Inner.Stops.{stop_of_body}
 use Rattle.dump_command.specs.declared.stop.Stop.TheVariants.{NoMemory}
-use Rattle.dump_command.specs.Inner.TriageLoads.{shown_bodies, triage_text, AreFound, HoldsBodies, IsUnread}
+use Rattle.dump_command.specs.Inner.TriageLoads.{shown_bodies, triage_text, AreFound, HoldsBodies}
 use Rattle.dump_command.specs.declared.commands.triage.Places.{Places}
 use Rattle.dump_command.specs.declared.commands.triage.Loaded.{Loaded}
 use Rattle.dump_command.proofs.FoundLoads.{bytes-one}

@@ -1,5 +1,5 @@
 -- Loading the bodies of several sections, and why they aren't loaded.
-use Rattle.std.specs.Prelude.{◌≡◌, ℕ, List, map, find, Option, Some, None, nat_lt, option_map}
+use Rattle.std.specs.Prelude.{◌≡◌, ◌⊎◌, ℕ, List, map, find, Option, Some, None, nat_lt, option_map}
 use Rattle.std.specs.List.{sum_by}
 use Rattle.dump_io.specs.Dumps.{DeviceState, DeviceFailed}
 use Rattle.section_index.specs.declared.bodies.BodyFault.{BodyFault}
@@ -30,3 +30,7 @@ abbrev pub AreRefused : List Section → ℕ → DeviceState → DeviceState →
 AreRefused sections limit before after (SectionTooLarge at len) = large_fault limit sections ≡ Some (SectionTooLarge at len)
 AreRefused sections limit before after Read = DeviceFailed before after × (first_large limit sections ≡ None)
 AreRefused sections limit before after Memory = Unit {0}
+
+-- why bodies none of which is too large aren't loaded: the device failed, or memory was lacking
+abbrev pub IsUnread : DeviceState → DeviceState → BodyFault → Type 0
+IsUnread before after fault = ((fault ≡ Read) × DeviceFailed before after) ⊎ (fault ≡ Memory)

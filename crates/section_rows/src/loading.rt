@@ -3,9 +3,9 @@ ghost use Rattle.std.specs.Prelude.{◌≡◌, ◌<◌, ◌≤◌, length, map, 
 ghost use Rattle.dump_io.specs.Dumps.{ReadsAtMost};
 ghost use Rattle.section_index.specs.Bodies.{section_at, body_length};
 ghost use Rattle.section_index.specs.Index.{IsBuiltOver};
-ghost use Rattle.section_rows.specs.Loading.{sections_at, bodies_length, large_fault};
+ghost use Rattle.section_rows.specs.Loading.{sections_at, bodies_length, large_fault, IsUnread};
 ghost use Rattle.section_rows.specs.Shown.{shown_column};
-ghost use Rattle.section_rows.specs.Inner.Gains.{GainsRow, HoldsRows, IsUnread};
+ghost use Rattle.section_rows.specs.Inner.Gains.{GainsRow, HoldsRows};
 ghost use Rattle.section_rows.specs.Inner.Lent.{IsLent, shown_section};
 ghost use Rattle.section_rows.specs.Inner.Places.{AreWithin};
 

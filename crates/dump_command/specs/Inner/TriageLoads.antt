@@ -1,9 +1,7 @@
 -- From what the report of `triage` is written.
-use Rattle.std.specs.Prelude.{◌≡◌, ◌⊎◌, ℕ, ◌<◌, List, length, All, Some, IfSome}
-use Rattle.dump_io.specs.Dumps.{Now, DeviceState, told, DeviceFailed}
+use Rattle.std.specs.Prelude.{◌≡◌, ℕ, ◌<◌, List, length, All, Some, IfSome}
+use Rattle.dump_io.specs.Dumps.{Now, told}
 use Rattle.section_index.specs.Index.{Contents, sections_in}
-use Rattle.section_index.specs.declared.bodies.BodyFault.{BodyFault}
-use Rattle.section_index.specs.declared.bodies.BodyFault.TheVariants.{Read, Memory}
 use Rattle.process_table.specs.Processes.{process_table, IsIn}
 use Rattle.process_table.specs.Records.{proc_places}
 use Rattle.table_sections.specs.declared.kinds.TableKind.TheVariants.{Ets}
@@ -41,7 +39,3 @@ pub record HoldsBodies (index : Contents) (now : Now) (loaded : Loaded) : Type 0
 pub record Fits (index : Contents) (loaded : Loaded) : Type 0 where
   pub sections : All (IsIn index) loaded.procs.processes
   pub tables : IsOver Ets index loaded.tables
-
--- bodies none of which is too large aren't read if the device fails or memory is lacking
-abbrev pub IsUnread : DeviceState → DeviceState → BodyFault → Type 0
-IsUnread before after fault = ((fault ≡ Read) × DeviceFailed before after) ⊎ (fault ≡ Memory)

@@ -2,10 +2,10 @@
 ghost use Rattle.std.specs.Prelude.{◌≡◌, ◌≤◌, length, None, IfOk, IfErr};
 ghost use Rattle.dump_io.specs.Dumps.{ReadsAtMost};
 ghost use Rattle.section_index.specs.Index.{sections_in, IsBuiltOver};
-ghost use Rattle.section_rows.specs.Loading.{bodies_length, large_fault};
+ghost use Rattle.section_rows.specs.Loading.{bodies_length, large_fault, IsUnread};
 ghost use Rattle.command_words.specs.Command.{triage};
 ghost use Rattle.dump_command.specs.Report.{triage_sections};
-ghost use Rattle.dump_command.specs.Inner.TriageLoads.{triage_text, AreFound, Fits, HoldsBodies, IsUnread};
+ghost use Rattle.dump_command.specs.Inner.TriageLoads.{triage_text, AreFound, Fits, HoldsBodies};
 
 use crate::commands::subjects::{Body, large_body, read_found};
 use crate::open::Opened;

@@ -1,8 +1,6 @@
 -- Loading rows one after another.
-use Rattle.std.specs.Prelude.{◌≡◌, ◌⊎◌, ℕ, List, length, map}
-use Rattle.dump_io.specs.Dumps.{Now, told, DeviceState, DeviceFailed}
-use Rattle.section_index.specs.declared.bodies.BodyFault.{BodyFault}
-use Rattle.section_index.specs.declared.bodies.BodyFault.TheVariants.{Read, Memory}
+use Rattle.std.specs.Prelude.{◌≡◌, ℕ, List, length, map}
+use Rattle.dump_io.specs.Dumps.{Now, told}
 use Rattle.section_index.specs.Bodies.{IsBodyOf}
 use Rattle.section_index.specs.Sections.{Section}
 use Rattle.section_rows.specs.declared.store.Store.{Store}
@@ -21,7 +19,3 @@ pub record HoldsRows (now : Now) (columns : List Column) (sections : List Sectio
   pub within : AreWithin store
   pub rows : (bytes : List ℕ) → now ≡ told bytes → rows_in store ≡ rows_of bytes columns sections
   pub places : map (λ row. row.at) (rows_in store) ≡ map (λ s. s.at) sections
-
--- the device failed, or memory was lacking
-abbrev pub IsUnread : DeviceState → DeviceState → BodyFault → Type 0
-IsUnread before after fault = ((fault ≡ Read) × DeviceFailed before after) ⊎ (fault ≡ Memory)

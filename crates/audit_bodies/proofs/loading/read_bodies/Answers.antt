@@ -11,7 +11,7 @@ use Rattle.section_rows.specs.Loading.{bodies_length}
 use Rattle.process_table.specs.Records.{record_sections}
 use Rattle.audit_bodies.specs.Mailboxes.{mail_in, mailboxes_at}
 use Rattle.audit_bodies.specs.Inner.Mailboxes.{IsSmall}
-use Rattle.audit_bodies.proofs.Loads.{IsUncounted-later, IsUncounted-small, counts-all, counts-found, none-large}
+use Rattle.audit_bodies.proofs.Loads.{IsUnread-later, IsUnread-small, counts-all, counts-found, none-large}
 use Rattle.audit_bodies.proofs.MailPlaces.{All-small}
 use Rattle.audit_bodies.proofs.loading.read_bodies.Goals as goal
 
@@ -34,7 +34,7 @@ returns-in_err-procs-clause-fault g c =
     let sections = sections_in c.args.index.now in
     let limit = c.args.limits.now.section in
     let p = err_from_is_err_and c.from_residual.result c.from_residual.ensures.1 in
-    rw (p.1, p.2) (IsUncounted-small limit (record_sections sections) (d.state c.args.dumps.now) (d.state c.read.new.dumps) _
+    rw (p.1, p.2) (IsUnread-small limit (record_sections sections) (d.state c.args.dumps.now) (d.state c.read.new.dumps) _
     (none-large limit (record_sections sections) (small-both limit (record_sections sections) (mailboxes_at sections c.args.places.mailboxes.items) c.requires.small).0) c.in_err-procs.ensures.fault)
 
 pub returns-in_err-counts-clause-reads : goal.returns-in_err-counts-clause-reads
@@ -48,7 +48,7 @@ pub returns-in_err-counts-clause-fault : goal.returns-in_err-counts-clause-fault
 returns-in_err-counts-clause-fault g c =
     let d = g.D.Dumps in
     let p = err_from_is_err_and c.from_residual-in_err-counts.result c.from_residual-in_err-counts.ensures.1 in
-    rw (p.1, p.2) (IsUncounted-later (d.state c.read.new.dumps) (d.state c.count_messages.new.dumps) (d.state c.args.dumps.now) (d.state c.count_messages.new.dumps) _
+    rw (p.1, p.2) (IsUnread-later (d.state c.read.new.dumps) (d.state c.count_messages.new.dumps) (d.state c.args.dumps.now) (d.state c.count_messages.new.dumps) _
     (λ rose. omega (arith, rose, c.in_ok-procs.ensures.reads.later)) c.in_err-counts.ensures.fault)
 
 pub returns-clause-reads : goal.returns-clause-reads
