@@ -13,7 +13,7 @@ ghost use Rattle.dump_io.specs.Limits.{usual};
 
 use crate::faults::{HolderFault, push_row};
 use crate::rows::Holding;
-use crate::scanning::{hear_heap, make_buffer};
+use crate::scanning::hear_heap;
 use crate::sought::Sought;
 use crate::tally::Tally;
 use dump_io::{Dumps, Failed};
@@ -110,8 +110,8 @@ fn hear_process<D: Dumps>(
     Ok(())
 }
 
-// The same for each process, in turn.
-fn hear_each<D: Dumps>(
+/// What each process holds of the binaries, in the order of the processes, for those that hold one.
+pub(crate) fn hear_all<D: Dumps>(
     alloc: Global,
     dumps: &mut D,
     index: &Index,
@@ -150,34 +150,4 @@ fn hear_each<D: Dumps>(
         )?;
     }
     Ok(held)
-}
-
-/// What each process holds of the binaries, in the order of the processes, for those that hold one.
-pub(crate) fn hear_all<D: Dumps>(
-    alloc: Global,
-    dumps: &mut D,
-    index: &Index,
-    heaps: &[Option<usize>],
-    sought: &Sought,
-    tally: &mut Tally,
-) -> Result<Vec<Holding>, HolderFault>
-    requires over { IsBuiltOver (D.state dumps.old).now index.now }
-    requires within { All (IsWithin index.now) heaps.now }
-    requires few { length heaps.now ≤ usual.sections }
-    requires first { tally.old.turn ≡ 1 }
-    requires room { HasRoom (length sought.now) tally.old }
-    requires heard { HasHeard sought.now [] [] tally.old }
-    ensures reads { ReadsAtMost (D.state dumps.old) (D.state dumps.new) (sum_by (size_at index.now) heaps.now) }
-    ensures fault { IfErr result (IsCauseOf (D.state dumps.old) (D.state dumps.new)) }
-    ensures room { OnOk result (HasRoom (length sought.now) tally.new) }
-    ensures held { IfOk result (λ held. (dump : List ℕ) → (D.state dumps.old).now ≡ told dump
-        → held.items ≡ holdings sought.now (map (references_at dump index.now) heaps.now)) }
-    ensures named { IfOk result (λ held. All (NamesProcess (length heaps.now)) held.items) }
-    ensures heard { OnOk result ((dump : List ℕ) → (D.state dumps.old).now ≡ told dump
-        → HasHeard sought.now (map (references_at dump index.now) heaps.now) [] tally.new) }
-{
-    let Ok(mut buffer) = make_buffer(alloc) else {
-        return Err(HolderFault::Memory);
-    };
-    hear_each(alloc, dumps, index, heaps, &mut buffer, sought, tally)
 }

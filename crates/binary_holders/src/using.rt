@@ -16,6 +16,7 @@ use crate::faults::{HolderFault, push_row};
 use crate::heap_places::heap_places;
 use crate::holding::hear_all;
 use crate::rows::{BinaryRow, Holding};
+use crate::scanning::make_buffer;
 use crate::sought::{Binary, Sought};
 use crate::stored::{StoredAt, find_stored, read_sizes};
 use crate::tally::Tally;
@@ -146,7 +147,18 @@ fn hear_binaries<D: Dumps>(
     let Ok(mut tally) = Tally::new(alloc, sought.len()) else {
         return Err(HolderFault::Memory);
     };
-    let held = hear_all(alloc, dumps, index, heaps.as_slice(), sought, &mut tally)?;
+    let Ok(mut buffer) = make_buffer(alloc) else {
+        return Err(HolderFault::Memory);
+    };
+    let held = hear_all(
+        alloc,
+        dumps,
+        index,
+        heaps.as_slice(),
+        &mut buffer,
+        sought,
+        &mut tally,
+    )?;
     Ok((held, tally))
 }
 

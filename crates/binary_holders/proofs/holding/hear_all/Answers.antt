@@ -6,7 +6,7 @@ use Rattle.dump_io.specs.Laws.Reads.{ReadsAtMost-then}
 use Rattle.binary_holders.specs.Held.{holdings}
 use Rattle.binary_holders.specs.Inner.Places.{references_at, size_at}
 use Rattle.binary_holders.specs.Inner.Tallies.{HasHeard}
-use Rattle.binary_holders.proofs.holding.hear_each.Goals as goal
+use Rattle.binary_holders.proofs.holding.hear_all.Goals as goal
 
 pub loop-process-preserved : goal.loop-process-preserved
 loop-process-preserved g c =

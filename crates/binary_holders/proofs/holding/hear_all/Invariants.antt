@@ -6,7 +6,7 @@ use Rattle.binary_holders.specs.Held.{holdings}
 use Rattle.binary_holders.specs.Usage.{NamesProcess}
 use Rattle.binary_holders.specs.Inner.Places.{references_at, size_at}
 use Rattle.binary_holders.specs.Inner.Tallies.{HasHeard, HasRoom}
-use Rattle.binary_holders.proofs.holding.hear_each.Given as goal
+use Rattle.binary_holders.proofs.holding.hear_all.Given as goal
 
 -- the heaps of the processes so far were heard
 abbrev pub invariant-loop-process : goal.invariant-loop-process
