@@ -3,7 +3,6 @@ ghost use Rattle.std.specs.Prelude.{◌≡◌, ℕ, List, [], ◌∷◌, ◌++�
 ghost use Rattle.std.specs.List.{sum_by};
 ghost use Rattle.dump_io.specs.Dumps.{told, DeviceFailed, ReadsAtMost};
 ghost use Rattle.section_index.specs.Index.{IsBuiltOver};
-ghost use Rattle.heap_cells.specs.Loading.{enc_of};
 ghost use Rattle.binary_holders.specs.Held.{holdings};
 ghost use Rattle.binary_holders.specs.Usage.{IsCauseOf, NamesProcess};
 ghost use Rattle.binary_holders.specs.Inner.Places.{IsWithin, references_at, size_at};
@@ -17,19 +16,9 @@ use crate::scanning::hear_heap;
 use crate::sought::Sought;
 use crate::tally::Tally;
 use dump_io::{Dumps, Failed};
-use section_index::{Index, Version};
+use heap_cells::enc_of;
+use section_index::Index;
 use std::alloc::Global;
-use term_forms::Enc;
-
-// How a version writes payloads.
-fn enc_of(version: Version) -> Enc
-    ensures { result ≡ enc_of version }
-{
-    match version {
-        Version::V03 | Version::V04 => Enc::Hex,
-        Version::V05 => Enc::Base64,
-    }
-}
 
 // Hears what the heap at a place refers to. A process without a heap refers to nothing.
 fn hear_section<D: Dumps>(

@@ -12,19 +12,10 @@ ghost use Rattle.binary_refs.specs.Inner.Leads.{body_at, bin_fault};
 use crate::faults::BinFault;
 use dump_io::{Dumps, Limits};
 use field_lines::reading::lines;
-use section_index::{BodyFault, Index, Version, read_body};
+use heap_cells::enc_of;
+use section_index::{BodyFault, Index, read_body};
 use std::alloc::{AllocError, Global};
 use term_forms::{Enc, heap_line, payload, payload_bytes_are_read, payload_is_of_one};
-
-// How a dump of this version writes payloads.
-fn enc_of(version: Version) -> Enc
-    ensures { result ≡ enc_of version }
-{
-    match version {
-        Version::V03 | Version::V04 => Enc::Hex,
-        Version::V05 => Enc::Base64,
-    }
-}
 
 // The text of a body's first line.
 fn first_text(body: &[u8]) -> Option<&[u8]>

@@ -23,3 +23,4 @@ mod texts;
 pub use cells::{CellIx, Kid, Kind, Seat, Slot, Span, Why};
 pub use faults::HeapFault;
 pub use heap::Heap;
+pub use loading::enc_of;

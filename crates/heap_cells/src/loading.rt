@@ -11,8 +11,8 @@ use section_index::{Index, Version, read_body};
 use std::alloc::Global;
 use term_forms::Enc;
 
-// How a version writes payloads.
-fn enc_of(version: Version) -> Enc
+/// How a dump of this version writes payloads: in hex in the versions 0.3 and 0.4, and in base64 in 0.5.
+pub fn enc_of(version: Version) -> Enc
     ensures { result ≡ enc_of version }
 {
     match version {
