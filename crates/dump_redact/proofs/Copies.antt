@@ -5,13 +5,9 @@ use Rattle.dump_io.specs.Dumps.{told, DeviceState, DeviceFailed, ReadsAtMost}
 use Rattle.dump_io.specs.Sinks.{SinkState, grown, WritesAll, Puts}
 use Rattle.dump_io.specs.Laws.Puts.{WritesAll-then, WritesAll-stopped, WritesAll-failed, grown-nil, grown-next}
 use Rattle.dump_io.specs.Laws.Reads.{ReadsAtMost-none, ReadsAtMost-both, ReadsAtMost-within}
-use Rattle.section_index.specs.Bodies.{body_length, IsCauseOf}
-use Rattle.section_index.specs.Sections.{Section}
-use Rattle.section_index.specs.declared.bodies.BodyFault.{BodyFault}
-use Rattle.section_index.specs.declared.bodies.BodyFault.TheVariants as load
 use Rattle.dump_redact.specs.declared.faults.RedactFault.{RedactFault}
 use Rattle.dump_redact.specs.declared.faults.RedactFault.TheVariants.{SectionTooLarge, Read, Write, Memory}
-use Rattle.dump_redact.specs.Inner.Copying.{IsBreak, Copies, HasCopied, redact_fault_of}
+use Rattle.dump_redact.specs.Inner.Copying.{IsBreak, Copies, HasCopied}
 
 -- what breaks off behind what went well
 break-behind : (a b c : DeviceState) (s t u : SinkState) (fault : RedactFault) → a.faults ≤ b.faults → s.faults ≤ t.faults → IsBreak b c t u fault → IsBreak a c s u fault
@@ -129,19 +125,6 @@ Copies-as {T = T} {e = e} copies = record {
   fault = copies.fault;
 }
 
--- a failure of what stands in front of more
-pub Copies-cut : {T U : Type 0} {a b : DeviceState} {s t : SinkState} {few : ℕ} {text : List ℕ → List ℕ} {e : RedactFault}
-    (most : ℕ) (whole rest : List ℕ → List ℕ) → Copies {T = U} a b s t few text (Err e) → few ≤ most
-    → ((dump : List ℕ) → a.now ≡ told dump → text dump ++ rest dump ≡ whole dump) → Copies {T = T} a b s t most whole (Err e)
-Copies-cut {T = T} {s = s} {t = t} {e = e} most whole rest copies fits joins = record {
-  reads = ReadsAtMost-within fits copies.reads;
-  later = copies.later;
-  writes = λ dump is.
-      let failed : IsErr {T = T} {E = RedactFault} (Err e) = refl in
-      subst (λ l. WritesAll {T = T} s.written t.written l (Err e)) (joins dump is) (WritesAll-stopped (rest dump) failed (copies.writes dump is));
-  fault = copies.fault;
-}
-
 -- bytes that were read are written as something else
 pub Copies-piece : {T : Type 0} {a b : DeviceState} {s t : SinkState} {most : ℕ} {bytes : List ℕ} {result : Result T RedactFault} (whole : List ℕ → List ℕ)
     → ReadsAtMost a b most → Puts s t bytes result → IfErr result (λ fault. fault ≡ Write)
@@ -153,12 +136,9 @@ Copies-piece {most = most} whole reads puts is joins =
 pub break-read : (a b : DeviceState) (s t : SinkState) (fault : RedactFault) → (fault ≡ Read) × DeviceFailed a b → IsBreak a b s t fault
 break-read a b s t fault is = subst (IsBreak a b s t) (sym is.0) is.1
 
--- a body that isn't too large wasn't loaded
-pub break-body : (a b : DeviceState) (s t : SinkState) (section : Section) (limit : ℕ) (fault : BodyFault)
-    → IsCauseOf section limit a b fault → body_length section ≤ limit → IsBreak a b s t (redact_fault_of fault)
-break-body a b s t section limit (load.SectionTooLarge at len) cause small = omega (arith, cause.2, small)
-break-body a b s t section limit load.Read cause small = cause
-break-body a b s t section limit load.Memory cause small = tt
+-- memory was lacking
+pub break-memory : (a b : DeviceState) (s t : SinkState) (fault : RedactFault) → fault ≡ Memory → IsBreak a b s t fault
+break-memory a b s t fault is = subst (IsBreak a b s t) (sym is) tt
 
 -- the text in other words, and a bound that is no smaller
 pub Copies-text : {T : Type 0} {a b : DeviceState} {s t : SinkState} {few : ℕ} {text : List ℕ → List ℕ} {result : Result T RedactFault}

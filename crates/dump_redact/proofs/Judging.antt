@@ -1,8 +1,7 @@
 -- The first heap that is too large.
-use Rattle.std.proofs.Common.{◌≡◌, ℕ, zero, suc, ◌+◌, ◌<◌, ◌≤◌, Bool, true, false, cond, ◌&&◌, List, [], ◌∷◌, length, drop, slice_get, get_or, Option, None, Some, if◌then◌else◌, refl, sym, ◌∙◌, ap, ap₂, arith, nat_lt}
+use Rattle.std.proofs.Common.{◌≡◌, ℕ, zero, suc, ◌+◌, ◌<◌, ◌≤◌, Bool, true, false, cond, ◌&&◌, List, [], ◌∷◌, length, drop, slice_get, get_or, Option, None, Some, if◌then◌else◌, refl, sym, ◌∙◌, ap, arith, nat_lt}
 use Rattle.std.specs.Prelude.{option_map, unwrap_or}
 use Rattle.std.specs.Option.{option_or}
-use Rattle.std.proofs.lemmas.Bool.{ltb-false}
 use Rattle.std.proofs.lemmas.List.{drop_all}
 use Rattle.std.proofs.lemmas.Option.{slice_get-get_or}
 use Rattle.section_index.specs.Bodies.{body_length, section_at}
@@ -32,33 +31,6 @@ one-more limit s sections = by (is_heap s) (nat_lt limit (body_length s)) refl
     by false more h = refl
     by true true h = ap (λ b. option_map fault_of (cond b (Some s) (first_large limit heaps))) h
     by true false h = ap (λ b. option_map fault_of (cond b (Some s) (first_large limit heaps))) h
-
-first-none : (a b : Option RedactFault) → option_or a b ≡ None → a ≡ None
-first-none None b is = refl
-first-none (Some x) b is = cc
-
-second-none : (a b : Option RedactFault) → option_or a b ≡ None → b ≡ None
-second-none None b is = is
-second-none (Some x) b is = cc
-
--- where no section is refused, none of them is
-pub none-at : (limit : ℕ) (sections : List Section) (i : ℕ) (s : Section) → large_fault limit sections ≡ None → slice_get sections i ≡ Some s → fault_at limit s ≡ None
-none-at limit [] i s none is = cc
-none-at limit (first ∷ sections) zero s none is =
-    let same : first ≡ s = cc in
-    sym (ap (fault_at limit) same) ∙ first-none (fault_at limit first) (large_fault limit sections) (sym (one-more limit first sections) ∙ none)
-none-at limit (first ∷ sections) (suc i) s none is =
-    none-at limit sections i s (second-none (fault_at limit first) (large_fault limit sections) (sym (one-more limit first sections) ∙ none)) is
-
--- a heap that isn't refused keeps to the limit
-pub small-heap : (limit : ℕ) (s : Section) → is_heap s ≡ true → fault_at limit s ≡ None → body_length s ≤ limit
-small-heap limit s heap none = by (nat_lt limit (body_length s)) refl
-  where
-    by : (more : Bool) → nat_lt limit (body_length s) ≡ more → body_length s ≤ limit
-    by true h =
-        let some : fault_at limit s ≡ Some (fault_of s) = ap₂ (λ a b. if a && b then Some (fault_of s) else None) heap h in
-        absurd (let no : ⊥ = cc (some, none) in no)
-    by false h = ltb-false limit (body_length s) h
 
 -- the sections from a place on
 pub drop-at : (sections : List Section) (i : ℕ) (s : Section) → slice_get sections i ≡ Some s → drop i sections ≡ s ∷ drop (i + 1) sections

@@ -1,8 +1,7 @@
 -- Where the sections of a dump begin and end, and what is made of a piece with some of them.
-use Rattle.std.proofs.Common.{◌≡◌, ℕ, Bool, true, false, codes, if◌then◌else◌, zero, suc, ◌+◌, ◌-◌, ◌<◌, ◌≤◌, List, [], ◌∷◌, ◌++◌, length, take, drop, slice_get, Some, refl, sym, ◌∙◌, ap, ap₂, subst, arith, append_assoc}
+use Rattle.std.proofs.Common.{◌≡◌, ℕ, zero, suc, ◌+◌, ◌-◌, ◌<◌, ◌≤◌, List, [], ◌∷◌, ◌++◌, length, take, drop, slice_get, Some, refl, sym, ◌∙◌, ap, ap₂, subst, arith, append_assoc}
 use Rattle.std.specs.Prelude.{All, unwrap_or}
 use Rattle.std.specs.List.{between}
-use Rattle.std.specs.Str.{bytes_eq}
 use Rattle.std.proofs.lemmas.List.{take_all, take_at, drop_at, drop-drop}
 use Rattle.std.proofs.lemmas.Option.{get_or_from_slice_get, slice_get_within}
 use borrow.Rule.Slice.PartMut.{put_mid}
@@ -15,11 +14,10 @@ use Rattle.section_index.specs.Tiling.{Tile}
 use Rattle.section_index.specs.declared.opening.Version.TheVariants.{V05}
 use Rattle.term_forms.specs.declared.enc.Enc.{Enc}
 use Rattle.dump_redact.specs.declared.parts.Part.{Part}
-use Rattle.dump_redact.specs.declared.parts.Part.TheVariants.{Heap, Binary, Other}
+use Rattle.dump_redact.specs.declared.parts.Part.TheVariants.{Other}
 use Rattle.dump_redact.specs.Bodies.{redacted_body}
 use Rattle.dump_redact.specs.Laws.{IsRedacted}
 use Rattle.dump_redact.specs.Redacted.{redacted, enc_of, version_of, part_of}
-use Rattle.dump_redact.specs.Refusals.{is_heap}
 use Rattle.dump_redact.specs.Inner.Places.{offset_of, text_between, text_of_section, redacted_between}
 use Rattle.dump_redact.proofs.Heads.{keeps-length}
 use Rattle.dump_redact.proofs.Judging.{place-at}
@@ -157,15 +155,6 @@ section-text index i inside line body part named dump of =
 pub other-text : (enc : Enc) (s : Section) (dump : List ℕ) → s.at < s.body → s.body ≤ s.end → between s.at s.end dump ≡ text_of_section enc Other s dump
 other-text enc s dump line body =
     sym (between-join dump s.at s.body s.end (omega (arith, line)) body) ∙ ap (λ l. between s.at s.body dump ++ l) (sym (keeps-others enc (between s.body s.end dump)))
-
--- a header that begins a heap is one of a section that is loaded
-pub heap-part : (s : Section) → part_of (tag_of s.text) ≡ Heap → is_heap s ≡ true
-heap-part s is = by (is_heap s) (bytes_eq (tag_of s.text) (codes "binary")) refl refl
-  where
-    by : (a b : Bool) → is_heap s ≡ a → bytes_eq (tag_of s.text) (codes "binary") ≡ b → is_heap s ≡ true
-    by true b h e = h
-    by false true h e = absurd (let no : ⊥ = cc (is, ap₂ (λ x y. if x then Heap else (if y then Binary else Other)) h e) in no)
-    by false false h e = absurd (let no : ⊥ = cc (is, ap₂ (λ x y. if x then Heap else (if y then Binary else Other)) h e) in no)
 
 -- from the first section up to the last one is the whole dump
 pub whole-text : (index : Contents) → AreBounded index → (dump : List ℕ) → IsIndexOf dump index → between (offset_of index 0) index.size (redacted dump) ≡ redacted dump

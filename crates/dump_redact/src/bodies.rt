@@ -1,42 +1,16 @@
 // Redacting and writing the bodies with payloads.
 ghost use Rattle.std.specs.Prelude.{◌≡◌, ℕ, ◌+◌, ◌-◌, ◌<◌, ◌≤◌, ◌++◌, ◌⊎◌, List, length, take, drop, IfSome};
 ghost use Rattle.std.specs.List.{between};
-ghost use Rattle.section_index.specs.Bodies.{section_at, body_length};
-ghost use Rattle.section_index.specs.Index.{IsBuiltOver};
 ghost use Rattle.dump_redact.specs.Bodies.{redacted_body};
 ghost use Rattle.dump_redact.specs.Inner.Copying.{copied, HasUpto, Copies};
-ghost use Rattle.dump_redact.specs.Inner.Places.{HasBody, IsLeadOf};
+ghost use Rattle.dump_redact.specs.Inner.Places.{IsLeadOf};
 
 use crate::copying::{Stretch, copy, put_bytes, read_piece, rewrite};
 use crate::faults::RedactFault;
 use crate::heaps::redact_heap;
 use crate::parts::Part;
-use dump_io::{Dumps, Limits, Sink};
-use section_index::{Index, read_body};
-use std::alloc::Global;
+use dump_io::{Dumps, Sink};
 use term_forms::{Enc, heap_line, number_is_read};
-
-// Loads the body of a heap, which is within the limit, and writes it redacted.
-pub(crate) fn put_heap<D: Dumps, K: Sink>(
-    alloc: Global,
-    dumps: &mut D,
-    index: &Index,
-    i: usize,
-    limits: &Limits,
-    enc: Enc,
-    sink: &mut K,
-) -> Result<(), RedactFault>
-    requires over { IsBuiltOver (D.state dumps.old).now index.now }
-    requires place { i < length index.now.headers }
-    requires body { HasBody (D.state dumps.old).now (section_at index.now i) }
-    requires small { body_length (section_at index.now i) ≤ limits.now.section }
-    ensures { Copies (D.state dumps.old) (D.state dumps.new) (K.state sink.old) (K.state sink.new) (body_length (section_at index.now i))
-        (λ dump. redacted_body enc Part.Heap (between (section_at index.now i).body (section_at index.now i).end dump)) result }
-{
-    let mut body = read_body(alloc, dumps, index, i, limits)?;
-    redact_heap(&mut body, enc);
-    put_bytes(sink, &body)
-}
 
 // Where the payload of a binary begins, from the first 17 bytes of its
 // body, or fewer: after a hex number of 1 to 16 digits and its colon.

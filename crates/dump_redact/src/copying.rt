@@ -31,6 +31,22 @@ pub(crate) fn make_buffer(alloc: Global) -> Result<Vec<u8>, AllocError>
     vec![in alloc; 0u8; PIECE]
 }
 
+// Makes a buffer large enough for this many bytes. One that is
+// too small is freed first, so that no two are held at a time.
+pub(crate) fn make_room(alloc: Global, buffer: &mut Vec<u8>, len: usize) -> Result<(), RedactFault>
+    ensures room { OnOk result (len ≤ length buffer.new.items) }
+    ensures fault { IfErr result (λ fault. fault ≡ RedactFault.Memory) }
+{
+    if buffer.len() < len {
+        *buffer = Vec::new(alloc);
+        let Ok(larger) = vec![in alloc; 0u8; len] else {
+            return Err(RedactFault::Memory);
+        };
+        *buffer = larger;
+    }
+    Ok(())
+}
+
 // Makes characters blank up to the first LF, and returns how to copy the bytes after them.
 fn blank_line(chars: &mut [u8], enc: Enc) -> Stretch
     ensures text { chars.new ≡ copied (Stretch.Payload enc) chars.old }

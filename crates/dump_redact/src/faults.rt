@@ -1,7 +1,4 @@
 // Why a dump isn't redacted.
-ghost use Rattle.std.specs.Prelude.{◌≡◌};
-
-use section_index::BodyFault;
 use thiserror::Error;
 
 /// Why a dump isn't redacted, or not to its end.
@@ -17,21 +14,7 @@ pub enum RedactFault {
     /// The sink failed.
     #[error("the redacted dump can't be written")]
     Write,
-    /// There was no memory for a body, or for a piece of the dump.
+    /// There was no memory for a heap, or for a piece of the dump.
     #[error("out of memory")]
     Memory,
-}
-
-impl From<BodyFault> for RedactFault {
-    ghost use Rattle.dump_redact.specs.Inner.Copying.{redact_fault_of};
-
-    ghost from_gives = { λ body fault. fault ≡ redact_fault_of body };
-
-    fn from(fault: BodyFault) -> RedactFault {
-        match fault {
-            BodyFault::SectionTooLarge { at, len } => RedactFault::SectionTooLarge { at, len },
-            BodyFault::Read => RedactFault::Read,
-            BodyFault::Memory => RedactFault::Memory,
-        }
-    }
 }

@@ -11,8 +11,8 @@
 //! ```
 //!
 //! `specs/Redacted.antt` says what a redacted dump is, over the lines of a dump; the laws in `specs/Laws.antt`
-//! say what stays. As many sections are redacted at once as lie whole in a piece of 64 KiB. Of a larger
-//! section the body is loaded if it is a heap or literals, and everything else is copied in pieces.
+//! say what stays. As many sections are redacted at once as lie whole in a piece of 64 KiB. A larger
+//! section is loaded if it is a heap or literals, and copied in pieces if it is anything else.
 #![tactic(auto)]
 
 mod bodies;

@@ -4,14 +4,14 @@ ghost use Rattle.dump_io.specs.Dumps.{told, ReadsAtMost};
 ghost use Rattle.dump_io.specs.Sinks.{WritesAll};
 ghost use Rattle.section_index.specs.Bodies.{section_at};
 ghost use Rattle.section_index.specs.Index.{IsBuiltOver, sections_in};
-ghost use Rattle.dump_redact.specs.Redacted.{enc_of, redacted};
-ghost use Rattle.dump_redact.specs.Refusals.{is_heap, large_fault, IsCauseOf};
+ghost use Rattle.dump_redact.specs.Redacted.{redacted};
+ghost use Rattle.dump_redact.specs.Refusals.{large_fault, IsCauseOf};
 ghost use Rattle.dump_redact.specs.declared.faults.RedactFault.{RedactFault};
 ghost use Rattle.dump_redact.specs.Inner.Copying.{Copies};
-ghost use Rattle.dump_redact.specs.Inner.Places.{length_between, text_between, text_of_section, HasBody, HasRoom, fault_at};
+ghost use Rattle.dump_redact.specs.Inner.Places.{length_between, text_between, HasRoom, fault_at};
 
-use crate::bodies::{put_binary, put_heap};
-use crate::copying::{Stretch, copy, make_buffer, put_bytes, read_piece};
+use crate::bodies::put_binary;
+use crate::copying::{Stretch, copy, make_buffer, make_room, put_bytes, read_piece};
 use crate::faults::RedactFault;
 use crate::parts::{Part, part_of};
 use crate::spans::{enc_of, next_place, offset, redact_sections};
@@ -73,44 +73,25 @@ fn put_sections<D: Dumps, K: Sink>(
     put_bytes(sink, piece)
 }
 
-// Copies the header's line of a heap, and writes its body redacted.
-fn put_heap_from<D: Dumps, K: Sink>(
+// Loads a heap with the line of its header, and writes it redacted. The
+// buffer stays as large as the largest heap so far, and serves the next ones.
+fn put_heap<D: Dumps, K: Sink>(
     alloc: Global,
     dumps: &mut D,
     index: &Index,
     i: usize,
-    limits: &Limits,
-    buffer: &mut [u8],
+    heap: &mut Vec<u8>,
     sink: &mut K,
 ) -> Result<(), RedactFault>
     requires over { IsBuiltOver (D.state dumps.old).now index.now }
     requires place { i < length index.now.headers }
-    requires body { HasBody (D.state dumps.old).now (section_at index.now i) }
-    requires small { fault_at limits.now.section (section_at index.now i) ≡ None }
-    requires heap { is_heap (section_at index.now i) ≡ true }
-    requires room { 0 < length buffer.old }
-    ensures { let section = section_at index.now i in
-        Copies (D.state dumps.old) (D.state dumps.new) (K.state sink.old) (K.state sink.new) (section.end - section.at)
-        (text_of_section (enc_of index.now.version) Part.Heap section) result }
+    ensures { Copies (D.state dumps.old) (D.state dumps.new) (K.state sink.old) (K.state sink.new) (length_between index.now i (i + 1))
+        (λ dump. text_between index.now i (i + 1) (redacted dump)) result }
 {
-    let section = index.section(i);
-    copy(
-        dumps,
-        section.at,
-        section.body,
-        Stretch::Plain,
-        buffer,
-        sink,
-    )?;
-    put_heap(
-        alloc,
-        dumps,
-        index,
-        i,
-        limits,
-        enc_of(index.version()),
-        sink,
-    )
+    let from = offset(index, i);
+    let upto = offset(index, i + 1);
+    make_room(alloc, heap, upto.saturating_sub(from) as usize)?;
+    put_sections(dumps, index, i, i + 1, heap, sink)
 }
 
 // Copies the section at a place, redacted; it doesn't fit into the buffer, so its body isn't empty.
@@ -119,13 +100,12 @@ fn put_large<D: Dumps, K: Sink>(
     dumps: &mut D,
     index: &Index,
     i: usize,
-    limits: &Limits,
     buffer: &mut [u8],
+    heap: &mut Vec<u8>,
     sink: &mut K,
 ) -> Result<(), RedactFault>
     requires over { IsBuiltOver (D.state dumps.old).now index.now }
     requires place { i < length index.now.headers }
-    requires small { fault_at limits.now.section (section_at index.now i) ≡ None }
     requires room { HasRoom buffer.old }
     requires large { length buffer.old < length_between index.now i (i + 1) }
     ensures { Copies (D.state dumps.old) (D.state dumps.new) (K.state sink.old) (K.state sink.new) (length_between index.now i (i + 1))
@@ -133,7 +113,7 @@ fn put_large<D: Dumps, K: Sink>(
 {
     let section = index.section(i);
     match part_of(section.tag) {
-        Part::Heap => put_heap_from(alloc, dumps, index, i, limits, buffer, sink),
+        Part::Heap => put_heap(alloc, dumps, index, i, heap, sink),
         Part::Binary => {
             let enc = enc_of(index.version());
             put_binary(
@@ -158,14 +138,13 @@ fn put_some<D: Dumps, K: Sink>(
     index: &Index,
     i: usize,
     next: usize,
-    limits: &Limits,
     buffer: &mut [u8],
+    heap: &mut Vec<u8>,
     sink: &mut K,
 ) -> Result<(), RedactFault>
     requires over { IsBuiltOver (D.state dumps.old).now index.now }
     requires some { i < next }
     requires within { next ≤ length index.now.headers }
-    requires small { fault_at limits.now.section (section_at index.now i) ≡ None }
     requires room { HasRoom buffer.old }
     requires fits { (next ≡ i + 1) ⊎ (length_between index.now i next ≤ length buffer.old) }
     ensures { Copies (D.state dumps.old) (D.state dumps.new) (K.state sink.old) (K.state sink.new) (length_between index.now i next)
@@ -176,28 +155,27 @@ fn put_some<D: Dumps, K: Sink>(
     if upto.saturating_sub(from) <= buffer.len() as u64 {
         put_sections(dumps, index, i, next, buffer, sink)
     } else {
-        put_large(alloc, dumps, index, i, limits, buffer, sink)
+        put_large(alloc, dumps, index, i, buffer, heap, sink)
     }
 }
 
-// Writes the dump, in which no heap is too large.
+// Writes the dump.
 fn put_dump<D: Dumps, K: Sink>(
     alloc: Global,
     dumps: &mut D,
     index: &Index,
-    limits: &Limits,
     buffer: &mut [u8],
     sink: &mut K,
 ) -> Result<(), RedactFault>
     requires over { IsBuiltOver (D.state dumps.old).now index.now }
-    requires small { large_fault limits.now.section (sections_in index.now) ≡ None }
     requires room { HasRoom buffer.old }
     ensures { Copies (D.state dumps.old) (D.state dumps.new) (K.state sink.old) (K.state sink.new) index.now.size redacted result }
 {
+    let mut heap = Vec::new(alloc);
     let mut i = 0;
     while i < index.len() {
         let next = next_place(index, i, buffer.len());
-        put_some(alloc, dumps, index, i, next, limits, buffer, sink)?;
+        put_some(alloc, dumps, index, i, next, buffer, &mut heap, sink)?;
         i = next;
     }
     Ok(())
@@ -215,7 +193,7 @@ fn put_dump<D: Dumps, K: Sink>(
 /// Returns `SectionTooLarge` exactly when the body of a heap or of literals has more bytes than the limit
 /// on a section's body; it names the first in the dump, and nothing is read or written then. Returns
 /// `Read` only if the device's count of faults rose, and `Write` only if the sink's did; `Memory` may
-/// come from allocating the body of a heap or of literals that doesn't fit into a piece, or the pieces of
+/// come from allocating room for a heap or for literals that don't fit into a piece, or the pieces of
 /// at most 65,536 bytes in which all other bytes are copied. After any of these three a proper prefix of
 /// the redacted dump was written. Whatever it returns, at most as many bytes are read as the file has.
 pub fn redact<D: Dumps, K: Sink>(
@@ -244,5 +222,5 @@ pub fn redact<D: Dumps, K: Sink>(
     let Ok(mut buffer) = make_buffer(alloc) else {
         return Err(RedactFault::Memory);
     };
-    put_dump(alloc, dumps, index, limits, &mut buffer, sink)
+    put_dump(alloc, dumps, index, &mut buffer, sink)
 }

@@ -3,8 +3,6 @@ use Rattle.std.specs.Prelude.{◌≡◌, ℕ, ◌==◌, ◌≤◌, List, [], ◌
 use Rattle.dump_io.specs.Dumps.{Now, IsOpen, size_of, told, DeviceState, DeviceFailed, ReadsAtMost}
 use Rattle.dump_io.specs.Lines.{lf}
 use Rattle.dump_io.specs.Sinks.{SinkState, SinkFailed, Gained, WritesAll}
-use Rattle.section_index.specs.declared.bodies.BodyFault.{BodyFault}
-use Rattle.section_index.specs.declared.bodies.BodyFault.TheVariants as load
 use Rattle.term_forms.specs.declared.enc.Enc.{Enc}
 use Rattle.dump_redact.specs.declared.copying.Stretch.{Stretch}
 use Rattle.dump_redact.specs.declared.copying.Stretch.TheVariants.{Plain, Payload}
@@ -52,9 +50,3 @@ pub record HasCopied (before after : DeviceState) (sink sink' : SinkState) (most
   pub reads : ReadsAtMost before after most
   pub later : sink.faults ≤ sink'.faults
   pub gained : (dump : List ℕ) → before.now ≡ told dump → Gained sink sink' (text dump)
-
--- the fault of a body, as a fault of redacting
-abbrev pub redact_fault_of : BodyFault → RedactFault
-redact_fault_of (load.SectionTooLarge at len) = SectionTooLarge at len
-redact_fault_of load.Read = Read
-redact_fault_of load.Memory = Memory

@@ -1,7 +1,6 @@
 -- Where payloads stand, and what a dump has between two sections.
-use Rattle.std.specs.Prelude.{◌≡◌, ℕ, ◌+◌, ◌-◌, ◌&&◌, ◌<◌, ◌≤◌, List, ◌++◌, length, take, drop, slice_get, nat_lt, Option, None, Some, option_map, if◌then◌else◌}
+use Rattle.std.specs.Prelude.{◌≡◌, ℕ, ◌+◌, ◌-◌, ◌&&◌, ◌≤◌, List, ◌++◌, length, take, drop, slice_get, nat_lt, Option, None, Some, option_map, if◌then◌else◌}
 use Rattle.std.specs.List.{between}
-use Rattle.dump_io.specs.Dumps.{Now, IsOpen, size_of}
 use Rattle.dump_io.specs.Limits.{usual}
 use Rattle.dump_io.specs.Lines.{text_of}
 use Rattle.section_index.specs.Bodies.{body_length}
@@ -49,12 +48,6 @@ redacted_between enc part low high bytes = take low bytes ++ (redacted_body enc 
 -- a piece has room for the line of a header, followed by a number of 16 digits and its colon
 abbrev pub HasRoom : List ℕ → Type 0
 HasRoom piece = usual.header + 18 ≤ length piece
-
--- the body isn't empty, and lies in what is open
-pub record HasBody (now : Now) (section : Section) : Type 0 where
-  pub some : section.body < section.end
-  pub is_open : IsOpen now
-  pub within : section.end ≤ size_of now
 
 -- the refusal of one section
 abbrev pub fault_at : ℕ → Section → Option RedactFault

@@ -1,17 +1,14 @@
-use Rattle.std.proofs.Common.{◌≡◌, ℕ, ◌+◌, ◌^◌, ◌<◌, ◌≤◌, List, ◌++◌, length, sym, ◌∙◌, ap, arith, rules}
+use Rattle.std.proofs.Common.{◌≡◌, ℕ, ◌^◌, ◌<◌, List, ◌++◌, length, sym, ◌∙◌, ap, arith, rules}
 use Rattle.std.specs.List.{between}
 use Rattle.std.proofs.lemmas.List.Edits.{between_none}
 use Rattle.std.proofs.lemmas.Result.{err_from_is_err_and}
 use Rattle.dump_io.specs.Laws.Puts.{grown-nil}
 use Rattle.dump_io.specs.Laws.Reads.{ReadsAtMost-none}
 use Rattle.dump_io.specs.Sinks.{grown}
-use Rattle.section_index.specs.Bodies.{section_at}
-use Rattle.section_index.specs.Index.{sections_in}
 use Rattle.dump_redact.specs.Redacted.{redacted}
 use Rattle.dump_redact.specs.Inner.Places.{offset_of, text_between}
 use Rattle.dump_redact.proofs.Copies.{HasCopied-then, Copies-broken, Copies-done, Copies-text}
-use Rattle.dump_redact.proofs.Judging.{none-at}
-use Rattle.dump_redact.proofs.Offsets.{built-told, place-in, offset-rise, offset-end, offset-within, whole-text}
+use Rattle.dump_redact.proofs.Offsets.{built-told, offset-rise, offset-end, offset-within, whole-text}
 use Rattle.dump_redact.proofs.Stretches.{between-join}
 use Rattle.dump_redact.proofs.redacting.put_dump.Goals as goal
 
@@ -29,13 +26,6 @@ loop-i-init g c =
         gained = λ dump is. sym (ap (grown w) (between_none (redacted dump) (offset_of index 0)) ∙ grown-nil w);
       };
     }
-
-pub put_some-requires-clause-small : goal.put_some-requires-clause-small
-put_some-requires-clause-small g c =
-    let index = c.args.index.now in
-    let i = c.loop-i.i in
-    let inside : i < length index.headers = omega (arith, c.len.ensures.value, c.loop-i-test.true) in
-    none-at c.args.limits.now.section (sections_in index) i (section_at index i) c.requires.small (place-in index i inside)
 
 pub loop-i-preserved : goal.loop-i-preserved
 loop-i-preserved g c =

@@ -1,34 +1,13 @@
-use Rattle.std.proofs.Common.{◌≡◌, ℕ, List, ◌+◌, ◌-◌, ◌<◌, ◌≤◌, ◌++◌, sym, ◌∙◌, ap, ap₂, arith}
+use Rattle.std.proofs.Common.{◌≡◌, ℕ, List, ◌+◌, ◌-◌, ◌<◌, ◌≤◌, sym, ◌∙◌, ap, ap₂, arith}
 use Rattle.std.specs.List.{between}
 use Rattle.section_index.specs.Bodies.{section_at}
 use Rattle.section_index.specs.Sections.{Section, tag_of}
-use Rattle.dump_redact.specs.declared.parts.Part.TheVariants.{Heap, Binary, Other}
-use Rattle.dump_redact.specs.Bodies.{redacted_body}
+use Rattle.dump_redact.specs.declared.parts.Part.TheVariants.{Binary, Other}
 use Rattle.dump_redact.specs.Redacted.{redacted, enc_of, part_of}
 use Rattle.dump_redact.specs.Inner.Places.{length_between, text_between, text_of_section}
 use Rattle.dump_redact.proofs.Copies.{Copies-text}
-use Rattle.dump_redact.proofs.Offsets.{built-size, built-told, at-offset, end-offset, heap-part, section-text, other-text}
+use Rattle.dump_redact.proofs.Offsets.{built-size, built-told, at-offset, end-offset, section-text, other-text}
 use Rattle.dump_redact.proofs.redacting.put_large.Goals as goal
-
-pub put_heap_from-requires-clause-body : goal.put_heap_from-requires-clause-body
-put_heap_from-requires-clause-body g c =
-    let s = section_at c.args.index.now c.args.i in
-    let found = c.section-section.ensures in
-    let at : s.at ≡ c.section-section.result.at = ap (λ (x : Section). x.at) found.at_place in
-    let body : s.body ≡ c.section-section.result.body = ap (λ (x : Section). x.body) found.at_place in
-    let end : s.end ≡ c.section-section.result.end = ap (λ (x : Section). x.end) found.at_place in
-    let size = built-size (g.D.Dumps.state c.args.dumps.now).now c.args.index.now c.requires.over in
-    record {
-      some = omega (arith, at, body, found.short, c.requires.room, c.requires.large, at-offset c.args.index.now c.args.i c.requires.place, end-offset c.args.index.now c.args.i c.requires.place);
-      is_open = size.0;
-      within = omega (arith, end, size.1, found.within);
-    }
-
-pub put_heap_from-requires-clause-heap : goal.put_heap_from-requires-clause-heap
-put_heap_from-requires-clause-heap g c =
-    let s = section_at c.args.index.now c.args.i in
-    let found = c.section-section.ensures in
-    heap-part s (ap (λ (x : Section). part_of (tag_of x.text)) found.at_place ∙ ap part_of (sym found.tag) ∙ sym c.in-Heap.ensures)
 
 pub put_binary-requires-clause-held : goal.put_binary-requires-clause-held
 put_binary-requires-clause-held g c =
@@ -51,24 +30,6 @@ pub copy-requires-clause-held : goal.copy-requires-clause-held
 copy-requires-clause-held g c =
     let size = built-size (g.D.Dumps.state c.args.dumps.now).now c.args.index.now c.requires.over in
     (size.0, omega (arith, size.1, c.section-section.ensures.within))
-
-pub returns-in-Heap : goal.returns-in-Heap
-returns-in-Heap g c =
-    let s = section_at c.args.index.now c.args.i in
-    let found = c.section-section.ensures in
-    let at : s.at ≡ c.section-section.result.at = ap (λ (x : Section). x.at) found.at_place in
-    let body : s.body ≡ c.section-section.result.body = ap (λ (x : Section). x.body) found.at_place in
-    let end : s.end ≡ c.section-section.result.end = ap (λ (x : Section). x.end) found.at_place in
-    let index = c.args.index.now in
-    let i = c.args.i in
-    let inside = c.requires.place in
-    let line : s.at < s.body = omega (arith, at, body, found.begins) in
-    let ends : s.body ≤ s.end = omega (arith, body, end, found.ends) in
-    let named : part_of (tag_of s.text) ≡ Heap = ap (λ (x : Section). part_of (tag_of x.text)) found.at_place ∙ ap part_of (sym found.tag) ∙ sym c.in-Heap.ensures in
-    let whole = λ (dump : List ℕ). text_between index i (i + 1) (redacted dump) in
-    let count : s.end - s.at ≤ length_between index i (i + 1) = omega (arith, at-offset index i inside, end-offset index i inside) in
-    Copies-text (length_between index i (i + 1)) whole c.put_heap_from.ensures count (λ dump is.
-    section-text index i inside line ends Heap named dump (built-told (g.D.Dumps.state c.args.dumps.now).now index dump c.requires.over is))
 
 pub returns-in-Binary : goal.returns-in-Binary
 returns-in-Binary g c =

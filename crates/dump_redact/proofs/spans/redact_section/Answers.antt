@@ -1,4 +1,4 @@
-use Rattle.std.proofs.Common.{◌≡◌, ◌≤◌, ◌-◌, ap, ap₂, sym, ◌∙◌, arith}
+use Rattle.std.proofs.Common.{◌≡◌, ◌-◌, ap, ap₂, sym, ◌∙◌, arith}
 use Rattle.section_index.specs.Bodies.{section_at}
 use Rattle.section_index.specs.Sections.{Section, tag_of}
 use Rattle.dump_redact.specs.Redacted.{enc_of, part_of}
