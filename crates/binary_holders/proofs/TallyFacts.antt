@@ -90,6 +90,21 @@ module _ (binaries : List Binary) (refs : List ℕ) (n : ℕ) where
         ∙ ap (λ t. holders_of heaps (number_at binaries k) + one t) (all k inside)
         ∙ sym (sum_by_push (λ xs. one (is_among xs (number_at binaries k))) heaps refs)
 
+    -- what was known stays, but for how many references are to one of them
+    heard-stays : (heaps : List (List ℕ)) (tally : Tally) (cells : ℕ) → HasHeard binaries heaps refs tally → cells ≡ capped (cells_holding binaries (refs ++ n ∷ []))
+        → HasHeard binaries heaps (refs ++ n ∷ []) (record tally { cells = cells })
+    heard-stays heaps tally cells heard is = record {
+      turn = heard.turn;
+      seen_size = heard.seen_size;
+      holders_size = heard.holders_size;
+      upto = heard.upto;
+      seen = λ k inside. heard.seen k inside ∙ sym (all k inside);
+      holders = λ k inside. heard.holders k inside ∙ sym (holders-stay heaps k inside);
+      count = heard.count ∙ sym count-stays;
+      bytes = heard.bytes ∙ sym bytes-stay;
+      cells = is;
+    }
+
   -- ---- where that of one place changes
 
   module _ (p : ℕ) (inside : p < length binaries) (before : is_among refs (number_at binaries p) ≡ false) (after : is_among (refs ++ n ∷ []) (number_at binaries p) ≡ true)
@@ -129,6 +144,10 @@ module _ (binaries : List Binary) (refs : List ℕ) (n : ℕ) where
 
 -- ---- the three cases of a reference
 
+-- what is added to a capped sum
+capped-sum : (a b : ℕ) → min (min a (2 ^ 64 - 1) + b) (2 ^ 64 - 1) ≡ capped (a + b)
+capped-sum a b = omega arith
+
 pub length-numbers : (binaries : List Binary) → length (numbers_in binaries) ≡ length binaries
 length-numbers binaries = length-map binaries (λ (b : Binary). b.number)
 
@@ -139,17 +158,8 @@ hear-unknown binaries tally n none = record {
       let stays = λ (k : ℕ) (inside : k < length binaries). among-other refs n (number_at binaries k) (λ same. none k (omega (arith, inside, length-numbers binaries)) (sym same)) in
       let gone : is_among (numbers_in binaries) n ≡ false =
       list_any_none (λ m. m == n) (numbers_in binaries) (All-from_get_or (λ m. (m == n) ≡ false) (numbers_in binaries) 0 (λ k inside. ne_eqb (get_or (numbers_in binaries) k 0) n (none k inside))) in
-      record {
-        turn = heard.turn;
-        seen_size = heard.seen_size;
-        holders_size = heard.holders_size;
-        upto = heard.upto;
-        seen = λ k inside. heard.seen k inside ∙ sym (stays k inside);
-        holders = λ k inside. heard.holders k inside ∙ sym (holders-stay binaries refs n stays heaps k inside);
-        count = heard.count ∙ sym (count-stays binaries refs n stays);
-        bytes = heard.bytes ∙ sym (bytes-stay binaries refs n stays);
-        cells = heard.cells ∙ ap capped (sym (cells-as binaries refs n ∙ ap (λ t. cells_holding binaries refs + one t) gone ∙ (let e : cells_holding binaries refs + 0 ≡ cells_holding binaries refs = omega arith in e)));
-      };
+      heard-stays binaries refs n stays heaps tally tally.cells heard
+      (heard.cells ∙ ap capped (sym (cells-as binaries refs n ∙ ap (λ t. cells_holding binaries refs + one t) gone ∙ (let e : cells_holding binaries refs + 0 ≡ cells_holding binaries refs = omega arith in e))));
 }
 
 -- the number is that of the binary at a place, and of no other
@@ -167,10 +177,7 @@ module _ (binaries : List Binary) (n p : ℕ) (only : IsOnlyPlace (numbers_in bi
   one-cell refs old new was is =
       let more = cells-as binaries refs n ∙ ap (λ t. cells_holding binaries refs + one t) known in
       let sum : cells_holding binaries (refs ++ n ∷ []) ≡ cells_holding binaries refs + 1 = more in
-      is ∙ ap (λ m. min (m + 1) (2 ^ 64 - 1)) was ∙ capped-more (cells_holding binaries refs) 1 ∙ ap capped (sym sum)
-    where
-      capped-more : (a b : ℕ) → min (min a (2 ^ 64 - 1) + b) (2 ^ 64 - 1) ≡ capped (a + b)
-      capped-more a b = omega arith
+      is ∙ ap (λ m. min (m + 1) (2 ^ 64 - 1)) was ∙ capped-sum (cells_holding binaries refs) 1 ∙ ap capped (sym sum)
 
   -- the heap holds it already
   pub hear-again : (tally : Tally) (cells : ℕ) → slice_index tally.seen.items p ≡ tally.turn → cells ≡ min (tally.cells + 1) (2 ^ 64 - 1)
@@ -183,17 +190,7 @@ module _ (binaries : List Binary) (n p : ℕ) (only : IsOnlyPlace (numbers_in bi
         (λ same. ap (λ m. is_among (refs ++ n ∷ []) (number_at binaries m)) same ∙ among-here refs n (number_at binaries p) (sym only.1) ∙ sym there ∙ ap (λ m. is_among refs (number_at binaries m)) (sym same))
         (λ other. among-other refs n (number_at binaries k) (apart k inside other))
         (cases_eq k p) in
-        record {
-          turn = heard.turn;
-          seen_size = heard.seen_size;
-          holders_size = heard.holders_size;
-          upto = heard.upto;
-          seen = λ k inside. heard.seen k inside ∙ sym (stays k inside);
-          holders = λ k inside. heard.holders k inside ∙ sym (holders-stay binaries refs n stays heaps k inside);
-          count = heard.count ∙ sym (count-stays binaries refs n stays);
-          bytes = heard.bytes ∙ sym (bytes-stay binaries refs n stays);
-          cells = one-cell refs tally.cells cells heard.cells is;
-        };
+        heard-stays binaries refs n stays heaps tally cells heard (one-cell refs tally.cells cells heard.cells is);
   }
 
   -- the heap didn't hold it before
@@ -258,9 +255,6 @@ module _ (binaries : List Binary) (n p : ℕ) (only : IsOnlyPlace (numbers_in bi
           cells = one-cell refs tally.cells new.cells heard.cells cells;
         };
   }
-    where
-      capped-sum : (a b : ℕ) → min (min a (2 ^ 64 - 1) + b) (2 ^ 64 - 1) ≡ capped (a + b)
-      capped-sum a b = omega arith
 
 -- ---- one heap behind another
 
