@@ -14,16 +14,18 @@ fn owned(alloc: Global, words: &[&str]) -> Result<Vec<String>, AllocError> {
 fn words_are_a_command_or_none(rt: HostRuntime) -> Result<(), Fail> {
     let alloc = rt.alloc();
     let words = owned(alloc, &["term", "F", "<0.1.0>", "7F10", "20", "marked"])?;
-    assert!(rt; matches!(
-        read_words(words.as_slice()),
-        Some(Cmd::Term {
-            file: "F",
-            pid: "<0.1.0>",
-            addr: 0x7f10,
-            nodes: 20,
-            marked: true,
-        }),
-    ));
+    assert!(rt;
+        matches!(
+            read_words(words.as_slice()),
+            Some(Cmd::Term {
+                file: "F",
+                pid: "<0.1.0>",
+                addr: 0x7f10,
+                nodes: 20,
+                marked: true,
+            }),
+        )
+    );
     let words = owned(alloc, &["audit", "F", "18446744073709551616"])?;
     assert!(rt; read_words(words.as_slice()).is_none());
     Ok(())
