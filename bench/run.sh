@@ -107,6 +107,8 @@ for shape in "list 1000000 0" "list 10000000 1" "tuples 1000000"; do
     tell lines "lines" lines "itself"
     tell load "load" lines "the lines"
     awk -v most="$(memory load)" -v size="$size" 'BEGIN { printf "the load had %.2f times the text\n", most * 1000000 / size }'
+    cmp "$folder/out" "$folder/plain" || exit 1
+    tell term "edump term" plain "the C program"
     [ "$2" -gt 1000000 ] && continue
     awk -v walk="$(median walk)" -v load="$(median previews)" -v cells="$2" \
         'BEGIN { printf "judge and print: %.1f million nodes a second\n", 2 * cells / (walk - load) / 1000000 }'
