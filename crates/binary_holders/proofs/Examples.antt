@@ -2,19 +2,12 @@
 use Rattle.std.proofs.Common.{◌≡◌, [], ◌∷◌, map, refl}
 use Rattle.std.specs.Prelude.{codes}
 use Rattle.section_index.specs.Sections.{sections}
-use Rattle.term_forms.specs.Words.{led_of}
 use Rattle.binary_holders.specs.Held.{holders_of, holdings}
-use Rattle.binary_holders.specs.StoredBinaries.{size_stated, stored}
+use Rattle.binary_holders.specs.StoredBinaries.{stored}
 
 -- of the sections with one number the first is stored, and one without a number isn't
 stored_sections : map (λ b. b.section.at) (stored (sections (codes "=erl_crash_dump:0.5\n=binary:a0\n=binary:x\n=binary:00A0\n=binary\n=proc_heap:1\n=binary:1\n"))) ≡ 20 ∷ 75 ∷ []
 stored_sections = refl
-
--- a size is a number of 1 to 16 hex digits in front of the first colon
-sizes : map size_stated (codes "5:aGVsbG8=\n" ∷ codes "fF:" ∷ codes "0000000000000010:" ∷ codes "00000000000000010:" ∷ codes ":5" ∷ codes "5" ∷ codes "5\n6:" ∷ [] ∷ [])
-    ≡ 5 ∷ 255 ∷ 16 ∷ 0 ∷ 0 ∷ 0 ∷ 0 ∷ 0 ∷ []
-unfolding led_of
-sizes = refl
 
 -- the second of three processes holds a binary of 5 bytes, by one cell
 one_holder : holdings (record { number = 1280; size = 5 } ∷ []) ([] ∷ (1280 ∷ 7 ∷ []) ∷ (7 ∷ []) ∷ []) ≡ record { process = 1; bytes = 5; count = 1; cells = 1 } ∷ []

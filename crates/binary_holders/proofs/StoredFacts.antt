@@ -1,4 +1,4 @@
--- The stored binaries are found one section after another, and their sizes are read from the fronts of their bodies.
+-- The stored binaries are found one section after another.
 use Rattle.std.proofs.Common.{◌≡◌, ◌≢◌, ℕ, zero, suc, ◌+◌, ◌-◌, ◌<◌, ◌≤◌, ◌==◌, ◌⊎◌, ⊎_elim, inl, inr, Bool, true, false, ◌||◌, List, [], ◌∷◌, ◌++◌, length, map, take, drop, get_or, slice_get, Option, None, Some, if◌then◌else◌, refl, sym, ◌∙◌, ap, subst, arith, append_assoc, append-nil}
 use Rattle.std.specs.Prelude.{All, min, unwrap_or, is_some}
 use Rattle.std.specs.BTreeMap.{BTreeMap, get}
@@ -11,17 +11,15 @@ use Rattle.std.proofs.lemmas.List.{take_more, take-append-drop, take-take, take_
 use Rattle.std.proofs.lemmas.List.Elements.{All-push, All-from_get_or, filter_map-append}
 use Rattle.std.proofs.lemmas.List.Folds.{list_any_at, list_any_none}
 use Rattle.std.proofs.lemmas.Option.{get_or_from_slice_get, slice_get_within}
-use Rattle.dump_io.specs.Dumps.{Now, told, Gives}
 use Rattle.section_index.specs.Bodies.{section_at}
 use Rattle.section_index.specs.Index.{Contents, sections_in}
 use Rattle.section_index.specs.Sections.{Section}
-use Rattle.term_forms.specs.Words.{colon, led_of, IsLed}
+use Rattle.stored_binaries.specs.StoredBinaries.{number_of}
 use Rattle.binary_holders.specs.declared.stored.Found.{Found}
 use Rattle.binary_holders.specs.declared.stored.StoredAt.{StoredAt}
-use Rattle.binary_holders.specs.StoredBinaries.{Stored, stored, stored_at, number_of, binary_of, firsts, is_among, size_stated}
+use Rattle.binary_holders.specs.StoredBinaries.{Stored, stored, stored_at, binary_of, firsts, is_among}
 use Rattle.binary_holders.specs.Inner.Finding.{AreFound, numbers_of, stored_of}
 use Rattle.binary_holders.specs.Inner.Places.{ArePlaces, IsOnlyPlace}
-use Rattle.binary_holders.proofs.MarkFacts.{AreLed, hex-short, none-of}
 
 -- ---- one binary more
 
@@ -170,40 +168,3 @@ module _ (index : Contents) (i : ℕ) (at : slice_get (sections_in index) i ≡ 
       none-where : {X : Type 0} (o : Option X) → is_some o ≡ false → o ≡ None
       none-where None is = refl
       none-where (Some x) is = absurd (let no : ⊥ = cc (is) in no)
-
--- ---- the size that a body states
-
-take-front : (hex rest : List ℕ) (n k : ℕ) → n ≡ length hex + 1 + k → take n (hex ++ colon ∷ rest) ≡ hex ++ colon ∷ take k rest
-take-front [] rest zero k is = absurd (omega (arith, is))
-take-front [] rest (suc n) k is = let same : n ≡ k = omega (arith, is) in ap (λ m. colon ∷ take m rest) same
-take-front (c ∷ hex) rest zero k is = absurd (omega (arith, is))
-take-front (c ∷ hex) rest (suc n) k is = ap (λ l. c ∷ l) (take-front hex rest n k (omega (arith, is)))
-
-pub size-some : AreLed → (front body rest : List ℕ) (n : ℕ) → IsLed front n rest → front ≡ take 17 body → n ≡ size_stated body
-size-some leds front body rest n led is =
-    let more = drop 17 body in
-    let whole : body ≡ led.0 ++ colon ∷ (rest ++ more) =
-    sym (take-append-drop 17 body) ∙ (ap (λ f. f ++ more) (sym is ∙ led.2) ∙ append_assoc led.0 (colon ∷ rest) more) in
-    sym (ap (λ o. unwrap_or (option_map (λ (p : ℕ × List ℕ). p.0) o) 0) ((leds body n (rest ++ more)).1 (led.0, led.1, whole)))
-
-pub size-none : AreLed → (front body : List ℕ) → ((n : ℕ) (rest : List ℕ) → IsLed front n rest → ⊥) → front ≡ take 17 body → 0 ≡ size_stated body
-size-none leds front body none is =
-    sym (ap (λ o. unwrap_or (option_map (λ (p : ℕ × List ℕ). p.0) o) 0) (none-of (led_of body) (λ p found.
-    let led = (leds body p.0 p.1).0 found in
-    let short = hex-short led.0 p.0 led.1 in
-    none p.0 (take (16 - length led.0) p.1)
-    (led.0, led.1, is ∙ (ap (take 17) led.2 ∙ take-front led.0 p.1 17 (16 - length led.0) (omega (arith, short)))))))
-
--- a front that was read is that of the body
-pub front-read : (now : Now) (dump front : List ℕ) (body end : ℕ) → now ≡ told dump → Gives now body front → length front ≡ min (end - body) 17 → front ≡ take 17 (between body end dump)
-front-read now dump front body end is gives size =
-    let read : front ≡ take (length front) (drop body dump) = subst (λ n. Gives n body front) is gives in
-    read ∙ ap (λ n. take n (drop body dump)) size ∙ by (cases_lt (end - body) 17)
-  where
-    by : (end - body < 17) ⊎ (17 ≤ end - body) → take (min (end - body) 17) (drop body dump) ≡ take 17 (take (end - body) (drop body dump))
-    by (inl less) =
-        let e : min (end - body) 17 ≡ end - body = omega (arith, less) in
-        ap (λ n. take n (drop body dump)) e ∙ sym (take_all 17 (take (end - body) (drop body dump)) (omega (arith, less, length-take (end - body) (drop body dump))))
-    by (inr more) =
-        let e : min (end - body) 17 ≡ 17 = omega (arith, more) in
-        ap (λ n. take n (drop body dump)) e ∙ sym (take-take 17 (end - body) (drop body dump) more)

@@ -1,23 +1,18 @@
 // The binaries outside the heaps, from the sections of a dump.
-ghost use Rattle.std.specs.Prelude.{◌≡◌, ℕ, List, ◌+◌, ◌*◌, ◌<◌, ◌≤◌, length, map, take, All, slice_get, Some, IfOk, OnOk, IfErr, OnErr};
-ghost use Rattle.std.specs.List.{between};
-ghost use Rattle.std.specs.Option.{option_copied, option_and_then};
-ghost use Rattle.dump_io.specs.Dumps.{told, DeviceFailed, ReadsAtMost};
-ghost use Rattle.dump_io.specs.Numbers.{hex_number};
-ghost use Rattle.section_index.specs.Bodies.{section_at};
+ghost use Rattle.std.specs.Prelude.{◌≡◌, ℕ, List, ◌+◌, ◌*◌, ◌<◌, ◌≤◌, length, map, take, All, IfOk, OnOk, IfErr};
+ghost use Rattle.dump_io.specs.Dumps.{told, ReadsAtMost};
 ghost use Rattle.section_index.specs.Index.{IsBuiltOver, sections_in};
-ghost use Rattle.binary_holders.specs.StoredBinaries.{number_of, size_stated};
 ghost use Rattle.binary_holders.specs.Usage.{sized, IsCauseOf};
 ghost use Rattle.binary_holders.specs.Inner.Finding.{AreFound, numbers_of, stored_of};
 ghost use Rattle.binary_holders.specs.Inner.Places.{numbers_in};
 
 use crate::faults::{HolderFault, push_row};
 use crate::sought::Binary;
-use dump_io::{Dumps, Failed, hex_u64, read_full};
+use dump_io::Dumps;
 use section_index::Index;
 use std::alloc::{AllocError, Global};
 use std::collections::BTreeMap;
-use term_forms::{heap_line, number_is_read};
+use stored_binaries::{binary_number, read_size};
 
 /// A stored binary: its number, and the place of its section among those of the index.
 #[derive(Clone, Copy, Drop)]
@@ -33,27 +28,6 @@ pub(crate) struct Found {
     pub places: BTreeMap<u64, u32>,
 }
 
-// The number that an id is in hex.
-fn hex_id(id: Option<&[u8]>) -> Option<u64>
-    ensures { result ≡ option_and_then hex_number (option_copied id.entry) }
-{
-    hex_u64(id?)
-}
-
-// The number of the binary in the section at a place, if it is one.
-fn number_at(index: &Index, i: usize) -> Option<u64>
-    requires { i < length index.now.headers }
-    ensures number { result ≡ number_of (section_at index.now i) }
-    ensures section { slice_get (sections_in index.now) i ≡ Some (section_at index.now i) }
-{
-    let section = index.section(i);
-    if section.tag == b"binary".as_slice() {
-        hex_id(section.id)
-    } else {
-        None
-    }
-}
-
 // Takes the section at a place, after those before it.
 fn find_at(found: &mut Found, index: &Index, i: usize) -> Result<(), AllocError>
     requires place { i < length index.now.headers }
@@ -62,7 +36,7 @@ fn find_at(found: &mut Found, index: &Index, i: usize) -> Result<(), AllocError>
     ensures found { OnOk result (AreFound index.now (take (i + 1) (sections_in index.now)) found.new) }
     ensures grows { OnOk result (length found.new.binaries.items ≤ length found.old.binaries.items + 1) }
 {
-    let Some(number) = number_at(index, i) else {
+    let Some(number) = binary_number(index, i) else {
         return Ok(());
     };
     if found.places.contains_key(&number) {
@@ -86,34 +60,6 @@ pub(crate) fn find_stored(alloc: Global, index: &Index) -> Result<Found, AllocEr
         find_at(&mut found, index, i)?;
     }
     Ok(found)
-}
-
-// The size that a body states, from its first 17 bytes, or fewer.
-fn size_stated(front: &[u8]) -> u64
-    ensures { (body : List ℕ) → front.now ≡ take 17 body → result ≡ size_stated body }
-{
-    number_is_read();
-    match heap_line(front) {
-        Some((size, _)) => size,
-        None => 0,
-    }
-}
-
-// Reads the size that the body of the section at a place states.
-fn read_size<D: Dumps>(dumps: &mut D, index: &Index, i: usize) -> Result<u64, Failed>
-    requires over { IsBuiltOver (D.state dumps.old).now index.now }
-    requires place { i < length index.now.headers }
-    ensures reads { ReadsAtMost (D.state dumps.old) (D.state dumps.new) 17 }
-    ensures failed { OnErr result (DeviceFailed (D.state dumps.old) (D.state dumps.new)) }
-    ensures size { IfOk result (λ size. (dump : List ℕ) → (D.state dumps.old).now ≡ told dump
-        → size ≡ size_stated (between (section_at index.now i).body (section_at index.now i).end dump)) }
-{
-    let section = index.section(i);
-    let len = (section.end - section.body).min(17) as usize;
-    let mut buffer = [0; 17];
-    let front = &mut buffer[..len];
-    read_full(dumps, section.body, front)?;
-    Ok(size_stated(front))
 }
 
 // Reads the size of a stored binary.

@@ -1,4 +1,1 @@
-pub mod BodyFacts
 pub mod EntryFacts
-pub mod FirstPlace
-pub mod PlaceFacts

@@ -1,3 +1,2 @@
+pub mod Faults
 pub mod Kinds
-pub mod Leads
-pub mod Places

@@ -1,6 +1,5 @@
 -- Whole binaries, from the first lines of their sections' bodies.
 use Rattle.std.specs.Prelude.{◌≡◌, ℕ, ◌<◌, List, Option, None, Some, slice_get, nat_lt, if◌then◌else◌}
-use Rattle.std.specs.Global.{Vec}
 use Rattle.std.specs.Option.{option_map, option_and_then}
 use Rattle.std.specs.List.{between}
 use Rattle.dump_io.specs.Dumps.{DeviceState, DeviceFailed}
@@ -13,11 +12,8 @@ use Rattle.term_forms.specs.Words.{led_of}
 use Rattle.binary_refs.specs.declared.faults.BinFault.{BinFault}
 use Rattle.binary_refs.specs.declared.faults.BinFault.TheVariants.{NoBinary, SectionTooLarge, BadBinary, Read, Memory}
 use Rattle.heap_cells.specs.Loading.{enc_of}
-use Rattle.binary_refs.specs.Previews.{payload_of, binary_section}
-
--- the bytes of a vector, if there is one
-abbrev pub bytes_in : Option (Vec ℕ) → Option (List ℕ)
-bytes_in bytes = option_map (λ (v : Vec ℕ). v.items) bytes
+use Rattle.stored_binaries.specs.Payloads.{payload_of}
+use Rattle.stored_binaries.specs.StoredBinaries.{binary_section}
 
 -- the text of a body's first line; an empty body has none
 abbrev pub first_text : List ℕ → Option (List ℕ)

@@ -1,21 +1,23 @@
 //! The binaries to which the cells of a heap refer.
 //!
-//! A `binary` section has a hex address as its id, and its body is a line of the number of
-//! bytes in hex, `:`, and the bytes as characters, in hex or in base64. [`Previews::load`]
-//! reads the first bytes of each range to which a cell of a heap refers, at most 32, from
-//! the few characters that write them. [`whole`] reads all bytes of a binary.
+//! [`Previews::load`] reads, for each cell of a heap that refers to a binary, the first bytes of the
+//! stated range, at most 32: of a binary outside the heaps from its `binary` section, and of a heap
+//! binary from the characters of its cell. [`whole`] reads all bytes of a binary outside the heaps.
+//!
+//! ```text
+//! let previews = Previews::load(alloc, &mut dumps, &index, &heap)?;
+//! if let Preview::Bytes(bytes, size) = previews.get(ix) {
+//!     // the first bytes of the range of `size` bytes to which the cell `ix` refers
+//! }
+//! ```
 #![tactic(auto)]
 
 mod entries;
 mod faults;
-mod few_bytes;
-mod places;
 mod previews;
-mod stored;
 mod wholes;
 
 pub use entries::Preview;
 pub use faults::{BinFault, PreviewFault};
-pub use places::BinaryPlaces;
 pub use previews::Previews;
-pub use wholes::{decode_payload, whole};
+pub use wholes::whole;

@@ -3,7 +3,7 @@ ghost use Rattle.std.specs.Prelude.{◌≡◌, ℕ, ◌+◌, ◌*◌, ◌<◌, �
 ghost use Rattle.std.specs.Option.{option_map, option_and_then, option_to_list};
 ghost use Rattle.std.specs.List.Sorted.{IsNonDecreasingBy, IsPartitionPoint};
 ghost use Rattle.dump_io.specs.Dumps.{told, DeviceFailed, ReadsAtMost};
-ghost use Rattle.section_index.specs.Index.{IsBuiltOver, sections_in};
+ghost use Rattle.section_index.specs.Index.{IsBuiltOver};
 ghost use Rattle.term_forms.specs.Payload.{IsPayloadOf};
 ghost use Rattle.term_forms.specs.Seen.{number_rest};
 ghost use Rattle.term_forms.specs.SeenForms.{heap_form};
@@ -12,18 +12,15 @@ ghost use Rattle.heap_cells.specs.Targets.{number};
 ghost use Rattle.binary_refs.specs.Loading.{IsCauseOf};
 ghost use Rattle.binary_refs.specs.Previews.{own_binary, heap_binary, in_heap, in_part, entry, entry_of, previews_of, stated, stating, binaries, entry_at, AreFor, IsFew, told_entry};
 ghost use Rattle.binary_refs.specs.Inner.Kinds.{is_own, refers};
-ghost use Rattle.binary_refs.specs.Inner.Places.{AreOrdered};
 
 use crate::entries::{Entry, Preview};
 use crate::faults::PreviewFault;
-use crate::few_bytes::FewBytes;
-use crate::places::BinaryPlaces;
-use crate::stored::{Range, is_within, range_of, read_stored};
 use dump_io::{Dumps, Failed};
 use heap_cells::{CellIx, Heap, Kind, Seat};
 use section_index::Index;
 use std::alloc::Global;
 use std::marker::Model;
+use stored_binaries::{BinaryPlaces, FewBytes, Range, read_range};
 use term_forms::shapes::Form;
 use term_forms::{Enc, payload_part};
 
@@ -65,7 +62,7 @@ fn shown_in(chars: &[u8], enc: Enc, size: u64, range: &Range) -> Option<FewBytes
     requires { IsPayloadOf enc chars.now size }
     ensures { result ≡ in_heap enc range.now.offset range.now.size (size, chars.now) }
 {
-    if !is_within(range, size) {
+    if !range.is_within(size) {
         return None;
     }
     let mut buffer = [0; 32];
@@ -77,21 +74,19 @@ fn shown_in(chars: &[u8], enc: Enc, size: u64, range: &Range) -> Option<FewBytes
 // What is shown of a sub binary: from the heap binary if there is one, and otherwise from the dump.
 fn read_shown_part<D: Dumps>(
     dumps: &mut D,
-    index: &Index,
-    places: &[(u64, u32)],
+    places: &BinaryPlaces<'_>,
     heap: &Heap,
     range: &Range,
 ) -> Result<Option<FewBytes>, Failed>
-    requires over { IsBuiltOver (D.state dumps.old).now index.now }
-    requires places { AreOrdered (sections_in index.now) places.now }
+    requires over { IsBuiltOver (D.state dumps.old).now places.now }
     ensures reads { ReadsAtMost (D.state dumps.old) (D.state dumps.new) 128 }
     ensures failed { OnErr result (DeviceFailed (D.state dumps.old) (D.state dumps.new)) }
     ensures bytes { IfOk result (λ bytes. (dump : List ℕ) → (D.state dumps.old).now ≡ told dump
-        → bytes ≡ in_part (heap_binary heap.now.cells range.now.address) dump index.now heap.now.enc range.now.address range.now.offset range.now.size) }
+        → bytes ≡ in_part (heap_binary heap.now.cells range.now.address) dump places.now heap.now.enc range.now.address range.now.offset range.now.size) }
 {
     match heap_binary(heap, range.address) {
         Some((size, chars)) => Ok(shown_in(chars, heap.enc(), size, range)),
-        None => read_stored(dumps, index, places, heap.enc(), range),
+        None => read_range(dumps, places, heap.enc(), range),
     }
 }
 
@@ -104,28 +99,26 @@ fn new_entry(cell: u32, size: u64, bytes: Option<FewBytes>) -> Entry
 // The entry of the cell with this number and form, if it refers to a binary.
 fn read_form<D: Dumps>(
     dumps: &mut D,
-    index: &Index,
-    places: &[(u64, u32)],
+    places: &BinaryPlaces<'_>,
     heap: &Heap,
     n: u32,
     form: &Form<'_>,
 ) -> Result<Option<Entry>, Failed>
-    requires over { IsBuiltOver (D.state dumps.old).now index.now }
-    requires places { AreOrdered (sections_in index.now) places.now }
+    requires over { IsBuiltOver (D.state dumps.old).now places.now }
     ensures reads { ReadsAtMost (D.state dumps.old) (D.state dumps.new) (128 * length (option_to_list (stated n (heap_form form.now)))) }
     ensures failed { OnErr result (DeviceFailed (D.state dumps.old) (D.state dumps.new)) }
     ensures stated { IfOk result (λ entry. option_map stating entry ≡ stated n (heap_form form.now)) }
-    ensures entry { IfOk result (λ entry. (dump : List ℕ) → (D.state dumps.old).now ≡ told dump → entry ≡ entry_of dump index.now heap.now.enc heap.now.cells n (heap_form form.now)) }
+    ensures entry { IfOk result (λ entry. (dump : List ℕ) → (D.state dumps.old).now ≡ told dump → entry ≡ entry_of dump places.now heap.now.enc heap.now.cells n (heap_form form.now)) }
 {
     match form {
         Form::RefBin(address, offset, size) => {
-            let range = range_of(*address, *offset, *size);
-            let bytes = read_stored(dumps, index, places, heap.enc(), &range)?;
+            let range = Range::new(*address, *offset, *size);
+            let bytes = read_range(dumps, places, heap.enc(), &range)?;
             Ok(Some(new_entry(n, *size, bytes)))
         }
         Form::SubBin(address, offset, size) => {
-            let range = range_of(*address, *offset, *size);
-            let bytes = read_shown_part(dumps, index, places, heap, &range)?;
+            let range = Range::new(*address, *offset, *size);
+            let bytes = read_shown_part(dumps, places, heap, &range)?;
             Ok(Some(new_entry(n, *size, bytes)))
         }
         _ => Ok(None),
@@ -142,26 +135,24 @@ fn refers(kind: Option<Kind>) -> bool
 // The entry of the cell with a number, if it refers to a binary.
 fn read_entry<D: Dumps>(
     dumps: &mut D,
-    index: &Index,
-    places: &[(u64, u32)],
+    places: &BinaryPlaces<'_>,
     heap: &Heap,
     n: u32,
 ) -> Result<Option<Entry>, Failed>
-    requires over { IsBuiltOver (D.state dumps.old).now index.now }
-    requires places { AreOrdered (sections_in index.now) places.now }
+    requires over { IsBuiltOver (D.state dumps.old).now places.now }
     requires cell { n < length heap.now.cells }
     ensures reads { ReadsAtMost (D.state dumps.old) (D.state dumps.new) (128 * length (option_to_list (option_and_then (stated n) (form_at heap.now.cells n)))) }
     ensures failed { OnErr result (DeviceFailed (D.state dumps.old) (D.state dumps.new)) }
     ensures stated { IfOk result (λ entry. option_map stating entry ≡ option_and_then (stated n) (form_at heap.now.cells n)) }
     ensures entry { IfOk result (λ entry. (dump : List ℕ) → (D.state dumps.old).now ≡ told dump
-        → entry ≡ option_and_then (entry_of dump index.now heap.now.enc heap.now.cells n) (form_at heap.now.cells n)) }
+        → entry ≡ option_and_then (entry_of dump places.now heap.now.enc heap.now.cells n) (form_at heap.now.cells n)) }
 {
     let ix = heap.cell(n);
     if !refers(heap.kind(ix)) {
         return Ok(None);
     }
     match heap.form(ix) {
-        Some(form) => read_form(dumps, index, places, heap, n, &form),
+        Some(form) => read_form(dumps, places, heap, n, &form),
         None => Ok(None),
     }
 }
@@ -170,21 +161,19 @@ fn read_entry<D: Dumps>(
 fn push_entry<D: Dumps>(
     entries: &mut Vec<Entry>,
     dumps: &mut D,
-    index: &Index,
-    places: &[(u64, u32)],
+    places: &BinaryPlaces<'_>,
     heap: &Heap,
     n: u32,
 ) -> Result<(), PreviewFault>
-    requires over { IsBuiltOver (D.state dumps.old).now index.now }
-    requires places { AreOrdered (sections_in index.now) places.now }
+    requires over { IsBuiltOver (D.state dumps.old).now places.now }
     requires cell { n < length heap.now.cells }
     ensures reads { ReadsAtMost (D.state dumps.old) (D.state dumps.new) (128 * length (option_to_list (option_and_then (stated n) (form_at heap.now.cells n)))) }
     ensures fault { IfErr result (IsCauseOf (D.state dumps.old) (D.state dumps.new)) }
     ensures stated { OnOk result (map stating entries.new.items ≡ map stating entries.old.items ++ option_to_list (option_and_then (stated n) (form_at heap.now.cells n))) }
     ensures entry { OnOk result ((dump : List ℕ) → (D.state dumps.old).now ≡ told dump
-        → entries.new.items ≡ entries.old.items ++ option_to_list (option_and_then (entry_of dump index.now heap.now.enc heap.now.cells n) (form_at heap.now.cells n))) }
+        → entries.new.items ≡ entries.old.items ++ option_to_list (option_and_then (entry_of dump places.now heap.now.enc heap.now.cells n) (form_at heap.now.cells n))) }
 {
-    let Ok(entry) = read_entry(dumps, index, places, heap, n) else {
+    let Ok(entry) = read_entry(dumps, places, heap, n) else {
         return Err(PreviewFault::Read);
     };
     if let Some(entry) = entry {
@@ -199,20 +188,18 @@ fn push_entry<D: Dumps>(
 fn read_entries<D: Dumps>(
     alloc: Global,
     dumps: &mut D,
-    index: &Index,
-    places: &[(u64, u32)],
+    places: &BinaryPlaces<'_>,
     heap: &Heap,
 ) -> Result<Vec<Entry>, PreviewFault>
-    requires over { IsBuiltOver (D.state dumps.old).now index.now }
-    requires places { AreOrdered (sections_in index.now) places.now }
+    requires over { IsBuiltOver (D.state dumps.old).now places.now }
     ensures reads { ReadsAtMost (D.state dumps.old) (D.state dumps.new) (128 * length (binaries heap.now.cells)) }
     ensures fault { IfErr result (IsCauseOf (D.state dumps.old) (D.state dumps.new)) }
     ensures stated { IfOk result (λ entries. map stating entries.items ≡ binaries heap.now.cells) }
-    ensures entries { IfOk result (λ entries. (dump : List ℕ) → (D.state dumps.old).now ≡ told dump → entries.items ≡ previews_of dump index.now heap.now.enc heap.now.cells) }
+    ensures entries { IfOk result (λ entries. (dump : List ℕ) → (D.state dumps.old).now ≡ told dump → entries.items ≡ previews_of dump places.now heap.now.enc heap.now.cells) }
 {
     let mut entries = Vec::new(alloc);
     for n in 0..heap.cells() {
-        push_entry(&mut entries, dumps, index, places, heap, n)?;
+        push_entry(&mut entries, dumps, places, heap, n)?;
     }
     Ok(entries)
 }
@@ -326,7 +313,7 @@ impl Previews {
         ensures each { IfOk result (AreFor heap.now.cells) }
         ensures fault { IfErr result (IsCauseOf (D.state dumps.old) (D.state dumps.new)) }
     {
-        let entries = read_entries(alloc, dumps, places.index(), places.pairs(), heap)?;
+        let entries = read_entries(alloc, dumps, places, heap)?;
         Ok(Previews { entries })
     }
 

@@ -1,13 +1,14 @@
 // The bytes of whole binaries.
 ghost use Rattle.std.specs.Prelude.{◌≡◌, ℕ, ◌<◌, List, length, Some, None, IfSome, IfOk, IfErr, OnOk, IsErrOf};
-ghost use Rattle.std.specs.Option.{option_map, option_copied};
+ghost use Rattle.std.specs.Option.{option_copied};
 ghost use Rattle.dump_io.specs.Dumps.{told, ReadsAtMost};
 ghost use Rattle.section_index.specs.Bodies.{section_at, body_length};
 ghost use Rattle.section_index.specs.Index.{IsBuiltOver};
-ghost use Rattle.heap_cells.specs.Loading.{enc_of};
-ghost use Rattle.binary_refs.specs.Previews.{payload_of, binary_section};
-ghost use Rattle.binary_refs.specs.Wholes.{bytes_in, first_text, bytes_of_body, whole_bytes, IsBadFor, IsBinCauseOf, found_length, refused};
-ghost use Rattle.binary_refs.specs.Inner.Leads.{body_at, bin_fault};
+ghost use Rattle.heap_cells.specs.Loading.{body_in, enc_of};
+ghost use Rattle.stored_binaries.specs.StoredBinaries.{binary_section};
+ghost use Rattle.stored_binaries.specs.Payloads.{bytes_in};
+ghost use Rattle.binary_refs.specs.Wholes.{first_text, bytes_of_body, whole_bytes, IsBadFor, IsBinCauseOf, found_length, refused};
+ghost use Rattle.binary_refs.specs.Inner.Faults.{bin_fault};
 
 use crate::faults::BinFault;
 use dump_io::{Dumps, Limits};
@@ -15,7 +16,8 @@ use field_lines::reading::lines;
 use heap_cells::enc_of;
 use section_index::{BodyFault, Index, read_body};
 use std::alloc::{AllocError, Global};
-use term_forms::{Enc, heap_line, payload, payload_bytes_are_read, payload_is_of_one};
+use stored_binaries::{decode_payload, first_binary};
+use term_forms::{Enc, heap_line};
 
 // The text of a body's first line.
 fn first_text(body: &[u8]) -> Option<&[u8]>
@@ -23,30 +25,6 @@ fn first_text(body: &[u8]) -> Option<&[u8]>
 {
     let line = lines(body).next()?;
     Some(line.text)
-}
-
-/// Decodes `chars`, if they are the payload of exactly `count` bytes.
-/// Returns `AllocError` if there is no memory for these bytes.
-pub fn decode_payload(
-    alloc: Global,
-    enc: Enc,
-    count: u64,
-    chars: &[u8],
-) -> Result<Option<Vec<u8>>, AllocError>
-    ensures { IfOk result (λ bytes. bytes_in bytes ≡ payload_of enc count chars.now) }
-{
-    payload_bytes_are_read(enc);
-    payload_is_of_one(enc);
-    // Each byte is written by at least one character.
-    if count > chars.len() as u64 {
-        return Ok(None);
-    }
-    let mut bytes = vec![in alloc; 0u8; count as usize]?;
-    if payload(chars, enc, &mut bytes) {
-        Ok(Some(bytes))
-    } else {
-        Ok(None)
-    }
 }
 
 // The bytes of a body, if its first line is a length, `:`, and the payload of that many bytes.
@@ -83,8 +61,8 @@ fn whole_at<D: Dumps>(
     requires over { IsBuiltOver (D.state dumps.old).now index.now }
     requires place { i < length index.now.headers }
     ensures reads { ReadsAtMost (D.state dumps.old) (D.state dumps.new) (body_length (section_at index.now i)) }
-    ensures bytes { IfOk result (λ bytes. (dump : List ℕ) → (D.state dumps.old).now ≡ told dump → bytes_of_body (enc_of index.now.version) (body_at dump index.now i) ≡ Some bytes.items) }
-    ensures bad { IfErr result (λ fault. (dump : List ℕ) → (D.state dumps.old).now ≡ told dump → IsBadFor (bytes_of_body (enc_of index.now.version) (body_at dump index.now i)) fault) }
+    ensures bytes { IfOk result (λ bytes. (dump : List ℕ) → (D.state dumps.old).now ≡ told dump → bytes_of_body (enc_of index.now.version) (body_in dump (Some (section_at index.now i))) ≡ Some bytes.items) }
+    ensures bad { IfErr result (λ fault. (dump : List ℕ) → (D.state dumps.old).now ≡ told dump → IsBadFor (bytes_of_body (enc_of index.now.version) (body_in dump (Some (section_at index.now i)))) fault) }
     ensures loaded { OnOk result (refused limits.now.section (Some (section_at index.now i)) ≡ None) }
     ensures fault { IfErr result (IsBinCauseOf (Some (section_at index.now i)) limits.now.section (D.state dumps.old) (D.state dumps.new)) }
     ensures refused { IfSome (refused limits.now.section (Some (section_at index.now i))) (IsErrOf result) }
@@ -101,15 +79,6 @@ fn whole_at<D: Dumps>(
         }),
         Err(_) => Err(BinFault::Memory),
     }
-}
-
-// The place of the first `binary` section whose id is the address in hex.
-fn place_of(index: &Index, addr: u64) -> Option<usize>
-    ensures section { option_map (section_at index.now) result ≡ binary_section index.now addr }
-    ensures within { IfSome result (λ i. i < length index.now.headers) }
-{
-    let _count = index.len();
-    index.first_hex(b"binary", addr)
 }
 
 /// Reads all bytes of the first `binary` section whose id is an address
@@ -138,7 +107,7 @@ pub fn whole<D: Dumps>(
     ensures refused { IfSome (refused limits.now.section (binary_section index.now addr)) (IsErrOf result) }
     ensures unread { IfSome (refused limits.now.section (binary_section index.now addr)) (λ _. dumps.new ≡ dumps.old) }
 {
-    let Some(i) = place_of(index, addr) else {
+    let Some(i) = first_binary(index, addr) else {
         return Err(BinFault::NoBinary);
     };
     whole_at(alloc, dumps, index, i, limits)

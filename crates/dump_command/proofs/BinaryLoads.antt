@@ -15,7 +15,7 @@ use Rattle.section_index.specs.Index.{Contents, IsIndexOf, index_of, sections_in
 use Rattle.section_index.specs.Laws.{index-is}
 use Rattle.section_index.specs.Lookups.{has_hex}
 use Rattle.section_index.specs.Sections.{Section, section, sections}
-use Rattle.binary_refs.specs.Previews.{binary_section}
+use Rattle.stored_binaries.specs.StoredBinaries.{binary_section}
 use Rattle.binary_refs.specs.Wholes.{found_length, refused, whole_bytes, IsBadFor, IsBinCauseOf}
 use Rattle.binary_refs.specs.declared.faults.BinFault.{BinFault}
 use Rattle.binary_refs.specs.declared.faults.BinFault.TheVariants as faults

@@ -22,7 +22,8 @@ use Rattle.dump_audit.specs.Laws.{all-numbered}
 use Rattle.term_forms.specs.declared.enc.Enc.{Enc}
 use Rattle.dump_redact.specs.Bodies.{redacted_body}
 use Rattle.dump_redact.specs.Laws.{IsRedacted, KeepsIndex, KeepsOthers, KeepsSections, KeepsState, RedactsSections}
-use Rattle.dump_redact.specs.Redacted.{enc_of, part_of, redacted, version_of}
+use Rattle.heap_cells.specs.Loading.{enc_of}
+use Rattle.dump_redact.specs.Redacted.{part_of, redacted, version_of}
 use Rattle.dump_command.specs.Laws.{KeepsFindings, KeepsProcesses}
 
 -- ---- lists

@@ -10,8 +10,6 @@ use Rattle.std.proofs.lemmas.Slice.Eq.{bytes_eq-Decides}
 use Rattle.dump_io.specs.Lines.{Line, lines_from, raw_lines, text_of}
 use Rattle.section_index.specs.Lookups.{has_tag, is_named}
 use Rattle.section_index.specs.Sections.{Section, sections, id_of, tag_of}
-use Rattle.section_index.specs.declared.opening.Version.{Version}
-use Rattle.section_index.specs.declared.opening.Version.TheVariants.{V03, V04, V05}
 use Rattle.term_forms.specs.declared.enc.Enc.{Enc}
 use Rattle.term_forms.specs.Forms.{HeapForm, Cons, Tuple, Float, Long, Pid, Port, Ext, HeapBin, RefBin, SubBin, Flat, Hash, Node}
 use Rattle.term_forms.specs.ReadingForms.{form_of}
@@ -22,8 +20,7 @@ use Rattle.heap_cells.specs.Loading.{body_in, enc_of}
 use Rattle.dump_redact.specs.Bodies.{heap_line, redacted_body}
 use Rattle.dump_redact.specs.Laws.{IsRedacted, KeepsIndex, KeepsLength, KeepsSections, RedactsLines, RedactsSections}
 use Rattle.dump_redact.specs.Payloads.{KeepsBinaries}
-use Rattle.dump_redact.specs.Redacted.{bin_chars, part_of, redacted, version_of, without}
-use Rattle.dump_redact.specs.Redacted as redaction
+use Rattle.dump_redact.specs.Redacted.{bin_chars, part_of, redacted, without}
 use Rattle.dump_command.proofs.SameFindings.{left-holds}
 use Rattle.dump_command.specs.Laws.{KeepsAddresses, KeepsHeaps, blank_cell, blank_form, blank_heap}
 use Rattle.dump_command.specs.Terms.{heap_body, heap_map, heap_of, heap_with, literals_body, literals_of, payloads_of}
@@ -195,11 +192,6 @@ module _ (enc : Enc) where
 
 -- ---- the dump
 
-pub same-enc : (version : Version) → redaction.enc_of version ≡ enc_of version
-same-enc V03 = refl
-same-enc V04 = refl
-same-enc V05 = refl
-
 same-addresses : (enc : Enc) (cs : List Cell) → addresses (map (blank_cell enc) cs) ≡ addresses cs
 same-addresses enc [] = refl
 same-addresses enc (c ∷ cs) = ap (λ l. c.address ∷ l) (same-addresses enc cs)
@@ -211,7 +203,7 @@ module _ (sized : KeepsLength) (same : KeepsSections) (index : KeepsIndex) (reda
       ap (λ i. heap_with (enc_of i.version) (heap_body pid (redacted bytes)) (literals_body (redacted bytes))) (index bytes)
       ∙ ap (λ ss. heap_with enc (body_in (redacted bytes) (heap_of pid ss)) (body_in (redacted bytes) (literals_of ss))) (same bytes)
       ∙ same-heap enc (binaries enc) lines bytes (redacted bytes) (sized bytes) (sections bytes)
-      (subst (λ e. All (IsRedacted e bytes (redacted bytes)) (sections bytes)) (same-enc (version_of bytes)) (redacts bytes)) pid
+      (redacts bytes) pid
 
   pub keeps-addresses : KeepsAddresses
   keeps-addresses bytes pid = ap (λ h. addresses h.cells) (keeps-heaps bytes pid) ∙ same-addresses (payloads_of bytes) (heap_map pid bytes).cells

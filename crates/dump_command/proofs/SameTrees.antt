@@ -13,7 +13,7 @@ use Rattle.term_forms.specs.Elements.{Element, Nil, Small, Atom, Pid, Port, Ref}
 use Rattle.term_forms.specs.Forms.{HeapForm, Cons, Tuple, Float, Long, Pid as PidForm, Port as PortForm, Ext, HeapBin, RefBin, SubBin, Flat, Hash, Node}
 use Rattle.heap_cells.specs.Cells.{Cell}
 use Rattle.heap_cells.specs.HeapMap.{HeapMap, form_at, number_at}
-use Rattle.heap_cells.specs.Loading.{body_in}
+use Rattle.heap_cells.specs.Loading.{body_in, enc_of}
 use Rattle.heap_cells.specs.declared.cells.Why.TheVariants.{Missing, Malformed, OnPath}
 use Rattle.binary_refs.specs.declared.entries.Entry.{Entry}
 use Rattle.term_unfold.specs.Leaves.{leaf_text}
@@ -25,7 +25,7 @@ use Rattle.root_views.specs.declared.kinds.RootKind.{RootKind}
 use Rattle.root_views.specs.declared.kinds.RootKind.TheVariants.{Stack, Dict, Mail}
 use Rattle.root_views.specs.Kinds.{roots_in, roots_tag}
 use Rattle.dump_redact.specs.Laws.{IsRedacted, KeepsOthers, KeepsSections, RedactsSections}
-use Rattle.dump_redact.specs.Redacted.{blank, enc_of, part_of, redacted, version_of}
+use Rattle.dump_redact.specs.Redacted.{blank, part_of, redacted, version_of}
 use Rattle.dump_command.specs.Laws.{KeepsHeaps, KeepsLeaves, KeepsRoots, KeepsTrees, KeepsVerdicts, blank_cell, blank_form, blank_tree, blank_trees, blank_value, is_binary}
 use Rattle.dump_command.specs.Terms.{heap_map, payloads_of, previews_in, roots_section}
 use Rattle.dump_command.proofs.SameFindings.{left-holds, same-body, tag-other}

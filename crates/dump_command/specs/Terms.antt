@@ -13,8 +13,9 @@ use Rattle.heap_cells.specs.HeapMap.{HeapMap, form_at, number_at}
 use Rattle.heap_cells.specs.Loading.{body_in, enc_of}
 use Rattle.heap_reach.specs.Rounds.{reached_by}
 use Rattle.binary_refs.specs.declared.entries.Entry.{Entry}
-use Rattle.binary_refs.specs.Previews.{binaries, payload_of, previews_of}
+use Rattle.binary_refs.specs.Previews.{binaries, previews_of}
 use Rattle.binary_refs.specs.Wholes.{whole_bytes}
+use Rattle.stored_binaries.specs.Payloads.{payload_of}
 use Rattle.term_unfold.specs.Walks.{Walk, walk}
 use Rattle.report_text.specs.declared.refusals.Refusal.{Refusal}
 use Rattle.report_text.specs.declared.refusals.Refusal.TheVariants.{TooDense, NoAddress, NotExt, BadExt, NoBinary, BadBinary}

@@ -13,7 +13,8 @@ use Rattle.section_index.specs.declared.opening.Version.TheVariants.{V05}
 use Rattle.term_forms.specs.declared.enc.Enc.{Enc}
 use Rattle.dump_redact.specs.declared.parts.Part.{Part}
 use Rattle.dump_redact.specs.declared.parts.Part.TheVariants.{Other}
-use Rattle.dump_redact.specs.Redacted.{payload_in, without, redacted_line, redacted_lines, next_part, redacted_in, redacted, enc_of, version_of}
+use Rattle.heap_cells.specs.Loading.{enc_of}
+use Rattle.dump_redact.specs.Redacted.{payload_in, without, redacted_line, redacted_lines, next_part, redacted_in, redacted, version_of}
 use Rattle.dump_redact.proofs.Alike.{begins, Alike, AllAlike, Alike-refl, Alike-length, concat-alike, raw_lines-of, blank_from-alike}
 
 -- ---- a header is a line that begins with an equals sign

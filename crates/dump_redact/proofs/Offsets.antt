@@ -17,7 +17,8 @@ use Rattle.dump_redact.specs.declared.parts.Part.{Part}
 use Rattle.dump_redact.specs.declared.parts.Part.TheVariants.{Other}
 use Rattle.dump_redact.specs.Bodies.{redacted_body}
 use Rattle.dump_redact.specs.Laws.{IsRedacted}
-use Rattle.dump_redact.specs.Redacted.{redacted, enc_of, version_of, part_of}
+use Rattle.heap_cells.specs.Loading.{enc_of}
+use Rattle.dump_redact.specs.Redacted.{redacted, version_of, part_of}
 use Rattle.dump_redact.specs.Inner.Places.{offset_of, text_between, text_of_section, redacted_between}
 use Rattle.dump_redact.proofs.Heads.{keeps-length}
 use Rattle.dump_redact.proofs.Judging.{place-at}

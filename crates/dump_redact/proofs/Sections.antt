@@ -13,7 +13,8 @@ use Rattle.dump_redact.specs.declared.parts.Part.{Part}
 use Rattle.dump_redact.specs.declared.parts.Part.TheVariants.{Heap, Binary, Other}
 use Rattle.dump_redact.specs.Bodies.{body_lines, redacted_body}
 use Rattle.dump_redact.specs.Laws.{IsRedacted}
-use Rattle.dump_redact.specs.Redacted.{later, part_of, next_part, payload_in, redacted_line, redacted_lines, redacted, enc_of, version_of}
+use Rattle.heap_cells.specs.Loading.{enc_of}
+use Rattle.dump_redact.specs.Redacted.{later, part_of, next_part, payload_in, redacted_line, redacted_lines, redacted, version_of}
 use Rattle.dump_redact.proofs.Alike.{AllAlike, Alike-length, Alike-refl, concat-alike, raw_lines-of}
 use Rattle.dump_redact.proofs.Heads.{headers_in, heads-cons, without-alike, line-alike, lines-alike, line-header}
 use Rattle.dump_redact.proofs.InTurn.{AreInBody, bodies, in_turn, part_behind}

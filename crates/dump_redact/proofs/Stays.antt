@@ -9,7 +9,8 @@ use Rattle.term_forms.specs.declared.enc.Enc.{Enc}
 use Rattle.term_forms.specs.declared.enc.Enc.TheVariants.{Hex, Base64}
 use Rattle.dump_redact.specs.declared.parts.Part.{Part}
 use Rattle.dump_redact.specs.declared.parts.Part.TheVariants.{Other}
-use Rattle.dump_redact.specs.Redacted.{later, blank, blank_from, payload_in, without, redacted_line, redacted_lines, next_part, redacted_in, redacted, enc_of, version_of}
+use Rattle.heap_cells.specs.Loading.{enc_of}
+use Rattle.dump_redact.specs.Redacted.{later, blank, blank_from, payload_in, without, redacted_line, redacted_lines, next_part, redacted_in, redacted, version_of}
 use Rattle.dump_redact.proofs.Heads.{line-is_header, line-header, raw_lines-redacted, version-redacted}
 use Rattle.dump_redact.proofs.Places.{LedIsRead, FormIsRead, placed}
 use Rattle.dump_redact.proofs.Texts.{blanked}

@@ -8,7 +8,8 @@ use Rattle.term_forms.specs.declared.enc.Enc.{Enc}
 use Rattle.dump_redact.specs.declared.parts.Part.{Part}
 use Rattle.dump_redact.specs.declared.parts.Part.TheVariants.{Other}
 use Rattle.dump_redact.specs.Bodies.{body_lines, redacted_body}
-use Rattle.dump_redact.specs.Redacted.{redacted, part_of, enc_of, version_of}
+use Rattle.heap_cells.specs.Loading.{enc_of}
+use Rattle.dump_redact.specs.Redacted.{redacted, part_of, version_of}
 
 -- it has as many bytes
 abbrev pub KeepsLength : Type 0

@@ -6,7 +6,7 @@ use Rattle.std.specs.Char.{is_ascii_alphanumeric}
 use Rattle.std.specs.Str.{bytes_eq}
 use Rattle.dump_io.specs.Lines.{raw_lines, text_of, is_header}
 use Rattle.section_index.specs.declared.opening.Version.{Version}
-use Rattle.section_index.specs.declared.opening.Version.TheVariants.{V03, V04, V05}
+use Rattle.section_index.specs.declared.opening.Version.TheVariants.{V05}
 use Rattle.section_index.specs.Opening.{first_id, version_named}
 use Rattle.section_index.specs.Sections.{tag_of}
 use Rattle.term_forms.specs.declared.enc.Enc.{Enc}
@@ -14,6 +14,7 @@ use Rattle.term_forms.specs.declared.enc.Enc.TheVariants.{Hex, Base64}
 use Rattle.term_forms.specs.Forms.{HeapForm, HeapBin}
 use Rattle.term_forms.specs.ReadingForms.{form_of}
 use Rattle.term_forms.specs.Words.{is_hex_digit, led_of}
+use Rattle.heap_cells.specs.Loading.{enc_of}
 use Rattle.dump_redact.specs.declared.parts.Part.{Part}
 use Rattle.dump_redact.specs.declared.parts.Part.TheVariants.{Heap, Binary, Other}
 
@@ -81,12 +82,6 @@ redacted_lines enc part (raw ∷ raws) = redacted_line enc part raw ∷ redacted
 -- bytes that begin a line, in this part
 abbrev pub redacted_in : Enc → Part → List ℕ → List ℕ
 redacted_in enc part bytes = concat (redacted_lines enc part (raw_lines bytes))
-
--- payloads are written in hex in the versions 0.3 and 0.4, and in base64 in 0.5
-abbrev pub enc_of : Version → Enc
-enc_of V03 = Hex
-enc_of V04 = Hex
-enc_of V05 = Base64
 
 -- the version that the first line names
 abbrev pub version_of : List ℕ → Version

@@ -1,5 +1,5 @@
 // Writing a dump with its payloads made zero.
-ghost use Rattle.std.specs.Prelude.{◌≡◌, ℕ, ◌+◌, ◌-◌, ◌<◌, ◌≤◌, ◌⊎◌, List, length, true, None, Some, IfErr, IsErrOf, IsSome, OnOk};
+ghost use Rattle.std.specs.Prelude.{◌≡◌, ℕ, ◌+◌, ◌-◌, ◌<◌, ◌≤◌, ◌⊎◌, List, length, None, Some, IfErr, IsErrOf, IsSome, OnOk};
 ghost use Rattle.dump_io.specs.Dumps.{told, ReadsAtMost};
 ghost use Rattle.dump_io.specs.Sinks.{WritesAll};
 ghost use Rattle.section_index.specs.Bodies.{section_at};
@@ -14,8 +14,9 @@ use crate::bodies::put_binary;
 use crate::copying::{Stretch, copy, make_buffer, make_room, put_bytes, read_piece};
 use crate::faults::RedactFault;
 use crate::parts::{Part, part_of};
-use crate::spans::{enc_of, next_place, offset, redact_sections};
+use crate::spans::{next_place, offset, redact_sections};
 use dump_io::{Dumps, Limits, Sink};
+use heap_cells::enc_of;
 use section_index::Index;
 use std::alloc::Global;
 

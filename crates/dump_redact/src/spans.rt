@@ -3,23 +3,14 @@ ghost use Rattle.std.specs.Prelude.{◌≡◌, ℕ, ◌+◌, ◌-◌, ◌<◌, �
 ghost use Rattle.section_index.specs.Bodies.{section_at};
 ghost use Rattle.section_index.specs.Index.{AreBounded, IsIndexOf};
 ghost use Rattle.section_index.specs.Sections.{tag_of};
-ghost use Rattle.dump_redact.specs.Redacted.{enc_of, part_of, redacted};
+ghost use Rattle.heap_cells.specs.Loading.{enc_of};
+ghost use Rattle.dump_redact.specs.Redacted.{part_of, redacted};
 ghost use Rattle.dump_redact.specs.Inner.Places.{offset_of, length_between, text_between, redacted_between};
 
 use crate::bodies::redact_body;
 use crate::parts::part_of;
-use section_index::{Index, Version};
-use term_forms::Enc;
-
-// How a version writes payloads.
-pub(crate) fn enc_of(version: Version) -> Enc
-    ensures { result ≡ enc_of version }
-{
-    match version {
-        Version::V03 | Version::V04 => Enc::Hex,
-        Version::V05 => Enc::Base64,
-    }
-}
+use heap_cells::enc_of;
+use section_index::Index;
 
 // The offset at which the section at a place begins; past the last one, the size of the dump.
 pub(crate) fn offset(index: &Index, i: usize) -> u64

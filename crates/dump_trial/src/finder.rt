@@ -5,12 +5,12 @@ ghost use Rattle.root_views.specs.Kinds.{roots_tag};
 ghost use Rattle.dump_trial.specs.Trial.{root_section};
 ghost use Rattle.dump_trial.specs.Inner.Finding.{firsts};
 
-use binary_refs::BinaryPlaces;
 use first_sections::FirstSections;
 use root_views::RootKind;
 use section_index::Index;
 use std::alloc::{AllocError, Global};
 use std::marker::Model;
+use stored_binaries::BinaryPlaces;
 
 // The first sections with heaps.
 fn find_heaps(alloc: Global, index: &Index) -> Result<FirstSections<'_>, AllocError>

@@ -1,6 +1,6 @@
 // `ext`: an external term of a process.
 ghost use Rattle.std.specs.Prelude.{◌≡◌, None, Some, IfOk};
-ghost use Rattle.binary_refs.specs.Wholes.{bytes_in};
+ghost use Rattle.stored_binaries.specs.Payloads.{bytes_in};
 ghost use Rattle.etf_terms.specs.Walks.{bad_place};
 ghost use Rattle.command_words.specs.Command.{ext};
 ghost use Rattle.dump_command.specs.Terms.{external_at, no_external};
@@ -12,12 +12,12 @@ use crate::open::Opened;
 use crate::report::Report;
 use crate::status::DONE;
 use crate::stop::Stop;
-use binary_refs::decode_payload;
 use dump_io::{Dumps, Sink};
 use etf_terms::judge;
 use heap_cells::{Heap, Seat};
 use report_text::Refusal;
 use std::alloc::{AllocError, Global};
+use stored_binaries::decode_payload;
 use term_forms::shapes::Form;
 use term_text::put_ext;
 

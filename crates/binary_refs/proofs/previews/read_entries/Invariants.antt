@@ -10,5 +10,5 @@ invariant-loop-n g l =
     record {
       reads : ReadsAtMost (d.state l.initial.dumps) (d.state l.dumps) (128 * length (by_number stated l.heap.cells l.n));
       stated : map stating l.entries.items ≡ by_number stated l.heap.cells l.n;
-      entries : (dump : List ℕ) → (d.state l.initial.dumps).now ≡ told dump → l.entries.items ≡ by_number (entry_of dump l.index l.heap.enc l.heap.cells) l.heap.cells l.n;
+      entries : (dump : List ℕ) → (d.state l.initial.dumps).now ≡ told dump → l.entries.items ≡ by_number (entry_of dump l.places l.heap.enc l.heap.cells) l.heap.cells l.n;
     }

@@ -15,4 +15,4 @@ pub returns-then-not-refers-clause-stated : goal.returns-then-not-refers-clause-
 returns-then-not-refers-clause-stated g c = sym (not-stated c.args.n (form_at c.args.heap.now.cells c.args.n) (other g c))
 
 pub returns-then-not-refers-clause-entry : goal.returns-then-not-refers-clause-entry
-returns-then-not-refers-clause-entry g c = λ dump is. sym (no-entry dump c.args.index.now c.args.heap.now.enc c.args.heap.now.cells c.args.n (form_at c.args.heap.now.cells c.args.n) (other g c))
+returns-then-not-refers-clause-entry g c = λ dump is. sym (no-entry dump c.args.places.now c.args.heap.now.enc c.args.heap.now.cells c.args.n (form_at c.args.heap.now.cells c.args.n) (other g c))

@@ -3,7 +3,8 @@ use Rattle.std.specs.List.{between}
 use Rattle.section_index.specs.Bodies.{section_at}
 use Rattle.section_index.specs.Sections.{Section, tag_of}
 use Rattle.dump_redact.specs.declared.parts.Part.TheVariants.{Binary, Other}
-use Rattle.dump_redact.specs.Redacted.{redacted, enc_of, part_of}
+use Rattle.heap_cells.specs.Loading.{enc_of}
+use Rattle.dump_redact.specs.Redacted.{redacted, part_of}
 use Rattle.dump_redact.specs.Inner.Places.{length_between, text_between, text_of_section}
 use Rattle.dump_redact.proofs.Copies.{Copies-text}
 use Rattle.dump_redact.proofs.Offsets.{built-size, built-told, at-offset, end-offset, section-text, other-text}

@@ -1,7 +1,8 @@
 use Rattle.std.proofs.Common.{◌≡◌, ◌-◌, ap, ap₂, sym, ◌∙◌, arith}
 use Rattle.section_index.specs.Bodies.{section_at}
 use Rattle.section_index.specs.Sections.{Section, tag_of}
-use Rattle.dump_redact.specs.Redacted.{enc_of, part_of}
+use Rattle.heap_cells.specs.Loading.{enc_of}
+use Rattle.dump_redact.specs.Redacted.{part_of}
 use Rattle.dump_redact.specs.Inner.Places.{redacted_between}
 use Rattle.dump_redact.proofs.Offsets.{redacted-part}
 use Rattle.dump_redact.proofs.spans.redact_section.Goals as goal

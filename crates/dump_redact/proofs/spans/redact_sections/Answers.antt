@@ -2,7 +2,8 @@ use Rattle.std.proofs.Common.{◌≡◌, ◌+◌, ◌-◌, ◌<◌, ◌++◌, le
 use Rattle.std.proofs.lemmas.List.Edits.{between_none}
 use Rattle.section_index.specs.Bodies.{section_at}
 use Rattle.section_index.specs.Sections.{tag_of}
-use Rattle.dump_redact.specs.Redacted.{enc_of, part_of, redacted}
+use Rattle.heap_cells.specs.Loading.{enc_of}
+use Rattle.dump_redact.specs.Redacted.{part_of, redacted}
 use Rattle.dump_redact.specs.Inner.Places.{offset_of, text_between, redacted_between}
 use Rattle.dump_redact.proofs.Offsets.{at-offset, end-offset, offset-rise, one-more-section}
 use Rattle.dump_redact.proofs.spans.redact_sections.Goals as goal

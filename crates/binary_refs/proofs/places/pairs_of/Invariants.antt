@@ -1,7 +1,0 @@
-use Rattle.section_index.specs.Index.{sections_in}
-use Rattle.binary_refs.specs.Inner.Places.{ArePairs}
-use Rattle.binary_refs.proofs.places.pairs_of.Given as goal
-
--- the pairs of the sections so far
-abbrev pub invariant-loop-i : goal.invariant-loop-i
-invariant-loop-i l = ArePairs (sections_in l.index) l.i l.pairs.items

@@ -1,0 +1,4 @@
+pub mod BodyFacts
+pub mod Examples
+pub mod FirstPlace
+pub mod PlaceFacts

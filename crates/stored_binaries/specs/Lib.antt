@@ -1,0 +1,4 @@
+pub mod Inner
+pub mod Payloads
+pub mod Ranges
+pub mod StoredBinaries

@@ -1,0 +1,49 @@
+// The numbers of binaries.
+ghost use Rattle.std.specs.Prelude.{◌≡◌, ◌<◌, length, codes, slice_get, None, Some, IfSome, if◌then◌else◌};
+ghost use Rattle.std.specs.Option.{option_and_then, option_copied, option_map};
+ghost use Rattle.std.specs.Str.{bytes_eq};
+ghost use Rattle.dump_io.specs.Numbers.{hex_number};
+ghost use Rattle.section_index.specs.Bodies.{section_at};
+ghost use Rattle.section_index.specs.Index.{sections_in};
+ghost use Rattle.stored_binaries.specs.StoredBinaries.{binary_section, number_of};
+
+use dump_io::hex_u64;
+use section_index::Index;
+
+// The number that an id is in hex.
+fn hex_id(id: Option<&[u8]>) -> Option<u64>
+    ensures { result ≡ option_and_then hex_number (option_copied id.entry) }
+{
+    hex_u64(id?)
+}
+
+// The number that an id writes, if the tag is that of binaries.
+fn number_with(tag: &[u8], id: Option<&[u8]>) -> Option<u64>
+    ensures { result ≡ (if bytes_eq tag.now (codes "binary") then option_and_then hex_number (option_copied id.entry) else None) }
+{
+    if tag == b"binary".as_slice() {
+        hex_id(id)
+    } else {
+        None
+    }
+}
+
+/// The number of the binary in the section at a place of the index: its id
+/// in hex. `None` if its tag isn't `binary`, or if its id isn't hex.
+pub fn binary_number(index: &Index, i: usize) -> Option<u64>
+    requires { i < length index.now.headers }
+    ensures number { result ≡ number_of (section_at index.now i) }
+    ensures section { slice_get (sections_in index.now) i ≡ Some (section_at index.now i) }
+{
+    let section = index.section(i);
+    number_with(section.tag, section.id)
+}
+
+/// The place in the index of the first `binary` section whose id is an address in hex.
+pub fn first_binary(index: &Index, addr: u64) -> Option<usize>
+    ensures section { option_map (section_at index.now) result ≡ binary_section index.now addr }
+    ensures within { IfSome result (λ i. i < length index.now.headers) }
+{
+    let _count = index.len();
+    index.first_hex(b"binary", addr)
+}
