@@ -97,10 +97,6 @@ whole texts are =
 
 -- sections
 
-pub length-sections_of : (hs : List Header) (size : ℕ) → length (sections_of hs size) ≡ length hs
-length-sections_of [] size = refl
-length-sections_of (h ∷ hs) size = ap suc (length-sections_of hs size)
-
 next_at-le : (size : ℕ) (hs : List Header) → AllByRecursion (λ (h : Header). h.at ≤ size) hs → next_at (slice_get hs 0) size ≤ size
 next_at-le size [] within = omega arith
 next_at-le size (h ∷ hs) within = within.0

@@ -11,7 +11,8 @@ use Rattle.section_index.specs.Opening.{IsAccepted}
 use Rattle.section_index.specs.Sections.{sections}
 use Rattle.dump_write.specs.Made.{made, made_texts, first_sections, process_sections, last_sections}
 use Rattle.dump_write.specs.Written.{is_line_text, lines_of}
-use Rattle.dump_write.proofs.Accepting.{accepted, whole, length-sections_of, bodies_are_short}
+use Rattle.section_index.specs.Laws.{length-sections_of}
+use Rattle.dump_write.proofs.Accepting.{accepted, whole, bodies_are_short}
 use Rattle.dump_write.proofs.Divided.{are_line_texts, header_count}
 use Rattle.dump_write.proofs.MadeTexts.{made_are_texts}
 

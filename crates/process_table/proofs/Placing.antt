@@ -1,13 +1,13 @@
 -- The records are sections of the index, each with its place.
-use Rattle.std.proofs.Common.{◌≡◌, ℕ, suc, ◌+◌, ◌<◌, not, List, [], ◌∷◌, length, filter, get_or, All, refl, sym, ◌∙◌, ap, arith}
+use Rattle.std.proofs.Common.{◌≡◌, ℕ, ◌+◌, ◌<◌, not, List, [], ◌∷◌, length, filter, get_or, All, refl, sym, ◌∙◌, ap, arith}
 use Rattle.std.proofs.lemmas.List.{get_or_default}
 use Rattle.std.proofs.lemmas.List.FromFn.{get_or-enumerate_from, length-enumerate_from}
 use Rattle.std.proofs.lemmas.List.Elements.{All-nil, All-cons, All-head, All-tail, All-filter, filter_passes}
 use Rattle.std.proofs.lemmas.Option.{unwrap_or-slice_get}
-use Rattle.dump_io.specs.Lines.{Header}
 use Rattle.section_index.specs.Bodies.{section_at}
 use Rattle.section_index.specs.Index.{Contents, sections_in}
-use Rattle.section_index.specs.Sections.{section, sections_of}
+use Rattle.section_index.specs.Laws.{length-sections_of}
+use Rattle.section_index.specs.Sections.{section}
 use Rattle.process_table.specs.Records.{Placed, placed, is_process, process_sections, has_same_pid, first_of_each, records}
 use Rattle.process_table.specs.Inner.Finding.{IsRecordOf}
 
@@ -21,11 +21,6 @@ All-first_of_each P (p ∷ rest) all =
 -- a section of an index, at its place
 IsPlaced : Contents → Placed → Type 0
 IsPlaced index p = (p.0 < length index.headers) × (section_at index p.0 ≡ p.1)
-
--- there are as many sections as headers
-length-sections_of : (headers : List Header) (size : ℕ) → length (sections_of headers size) ≡ length headers
-length-sections_of [] size = refl
-length-sections_of (header ∷ headers) size = ap suc (length-sections_of headers size)
 
 All-placed : (index : Contents) → All (IsPlaced index) (placed (sections_in index))
 unfolding IsPlaced

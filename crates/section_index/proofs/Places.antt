@@ -18,10 +18,6 @@ sections_of-at (first ∷ rest) size (suc i) header is =
     sections_of-at rest size i header is
     ∙ ap (λ n. Some (section header.at header.body (next_at (slice_get (first ∷ rest) n) size) header.text)) place
 
-pub length-sections_of : (headers : List Header) (size : ℕ) → length (sections_of headers size) ≡ length headers
-length-sections_of [] size = refl
-length-sections_of (first ∷ rest) size = ap suc (length-sections_of rest size)
-
 pub last_text-at : (headers : List Header) (i : ℕ) (header : Header) → i + 1 ≡ length headers → slice_get headers i ≡ Some header → last_text headers ≡ header.text
 last_text-at [] i header last is = cc
 last_text-at (first ∷ []) zero header last is = let same : first ≡ header = cc in ap (λ (h : Header). h.text) same

@@ -1,5 +1,5 @@
 -- Laws of the definitions, each with its proof, for the proofs of callers.
-use Rattle.std.proofs.Common.{◌≡◌, ℕ, ◌+◌, Bool, true, false, ◌&&◌, List, [], ◌∷◌, ◌++◌, length, Option, None, Some, refl, sym, ◌∙◌, ap, arith, if◌then◌else◌}
+use Rattle.std.proofs.Common.{◌≡◌, ℕ, suc, ◌+◌, Bool, true, false, ◌&&◌, List, [], ◌∷◌, ◌++◌, length, Option, None, Some, refl, sym, ◌∙◌, ap, arith, if◌then◌else◌}
 use Rattle.std.specs.Prelude.{cond, position, unwrap_or}
 use Rattle.std.specs.List.{position_from}
 use Rattle.std.specs.Option.{option_eq, option_or}
@@ -8,12 +8,17 @@ use Rattle.std.proofs.lemmas.Iterator.Adapters.{position_from-zero}
 use Rattle.dump_io.specs.Lines.{Header, headers}
 use Rattle.section_index.specs.Index.{Contents, IsIndexOf, index_of}
 use Rattle.section_index.specs.Lookups.{has_tag, is_named}
-use Rattle.section_index.specs.Sections.{Section, id_of}
+use Rattle.section_index.specs.Sections.{Section, id_of, sections_of}
 use Rattle.section_index.specs.declared.opening.Version.{Version}
 use Rattle.section_index.specs.declared.opening.Version.TheVariants.{V05}
 
 abbrev contents : List Header → ℕ → Version → Contents
 contents headers size version = record { headers = headers; size = size; version = version }
+
+-- there are as many sections as headers
+pub length-sections_of : (headers : List Header) (size : ℕ) → length (sections_of headers size) ≡ length headers
+length-sections_of [] size = refl
+length-sections_of (header ∷ rest) size = ap suc (length-sections_of rest size)
 
 -- an index of accepted bytes is the one that they have
 pub index-is : (bytes : List ℕ) (index : Contents) → IsIndexOf bytes index → index ≡ index_of bytes

@@ -9,6 +9,7 @@ use Rattle.std.proofs.lemmas.List.{take_all, take-append-drop, length-take, leng
 use Rattle.dump_io.specs.Numbers.{hex_number}
 use Rattle.section_index.specs.Bodies.{section_at, body_length}
 use Rattle.section_index.specs.Index.{Contents, IsIndexOf, sections_in}
+use Rattle.section_index.specs.Laws.{length-sections_of}
 use Rattle.section_index.specs.Sections.{Section, section}
 use Rattle.term_forms.specs.declared.enc.Enc.{Enc}
 use Rattle.term_forms.specs.declared.enc.Enc.TheVariants.{Hex, Base64}
@@ -129,9 +130,9 @@ take-upto m n body size = ⊎_elim (λ less. ap (λ k. take k body) (omega (arit
 
 -- the section that is found by its place
 pub first-section : (index : Contents) (address : ℕ) (place : Option ℕ) → place ≡ binary_place (sections_in index) address → IfSome place (λ i. i < length index.headers)
-    → (count : ℕ) → count ≡ length index.headers → count ≡ length (sections_in index) → option_map (section_at index) place ≡ binary_section index address
-first-section index address None is within count same all = sym (section-none index address (sym is))
-first-section index address (Some i) is within count same all = sym (section-found index address i (omega (arith, within, same, all)) (sym is))
+    → option_map (section_at index) place ≡ binary_section index address
+first-section index address None is within = sym (section-none index address (sym is))
+first-section index address (Some i) is within = sym (section-found index address i (omega (arith, within, length-sections_of index.headers index.size)) (sym is))
 
 -- the room for the front of a body, and for the bytes of a cover
 abbrev pub zeros : ℕ → List ℕ

@@ -99,9 +99,9 @@ found-there ss pairs a at p is point inside read same =
         let there = is.are.complete m a (omega (arith, here.0, less)) equal in
         not_before m there.0 less there.1 there.2 (cases_lt there.0 at)
 
-pub other-there : (ss : List Section) (pairs : List (ℕ × ℕ)) (a at : ℕ) (p : ℕ × ℕ) → length ss < 4294967296 → AreOrdered ss pairs → IsPointOf pairs a at → at < length pairs
+pub other-there : (ss : List Section) (pairs : List (ℕ × ℕ)) (a at : ℕ) (p : ℕ × ℕ) → AreOrdered ss pairs → IsPointOf pairs a at → at < length pairs
     → p ≡ get_or pairs at p → (p.0 ≡ a → ⊥) → binary_place ss a ≡ None
-other-there ss pairs a at p few is point inside read other =
+other-there ss pairs a at p is point inside read other =
     place-none ss a (λ m within same. let there = is.are.complete m a within same in nowhere m there.0 within there.1 there.2 (cases_lt there.0 at))
   where
     nowhere : (m k : ℕ) → m < length ss → k < length pairs → get_or pairs k (a, m) ≡ (a, m) → (k < at) ⊎ (at ≤ k) → ⊥
@@ -109,17 +109,17 @@ other-there ss pairs a at p few is point inside read other =
     nowhere m k within listed there (inr later) =
         let here = subst (IsPairOf ss) (sym read) (is.are.each at p inside) in
         let ranks = behind ss pairs a at k m p is later listed read there in
-        let up : p.0 ≤ a = lesser p.0 a p.1 m (omega (arith, here.0, few)) (omega (arith, within, few)) ranks in
+        let up : p.0 ≤ a = lesser p.0 a p.1 m (omega (arith, here.0, is.few)) (omega (arith, within, is.few)) ranks in
         let from : a ≤ p.0 = ltb-false _ _ (subst (λ (q : ℕ × ℕ). ltb q.0 a ≡ false) (sym read) (point.1 at p (omega arith) inside)) in
         other (omega (arith, up, from))
 
 -- what the pair at the point says of the address
-pub looked-up : (ss : List Section) (pairs : List (ℕ × ℕ)) (a at : ℕ) (p : ℕ × ℕ) → length ss < 4294967296 → AreOrdered ss pairs → IsPointOf pairs a at → at < length pairs
+pub looked-up : (ss : List Section) (pairs : List (ℕ × ℕ)) (a at : ℕ) (p : ℕ × ℕ) → AreOrdered ss pairs → IsPointOf pairs a at → at < length pairs
     → p ≡ get_or pairs at p → binary_place ss a ≡ (if p.0 == a then Some p.1 else None)
-looked-up ss pairs a at p few is point inside read =
+looked-up ss pairs a at p is point inside read =
     ⊎_elim
     (λ same. found-there ss pairs a at p is point inside read same.1 ∙ sym (ap (λ b. if b then Some p.1 else None) same.0))
-    (λ other. other-there ss pairs a at p few is point inside read other.1 ∙ sym (ap (λ b. if b then Some p.1 else None) other.0))
+    (λ other. other-there ss pairs a at p is point inside read other.1 ∙ sym (ap (λ b. if b then Some p.1 else None) other.0))
     (eqb_tells p.0 a)
 
 pub looked-within : (ss : List Section) (pairs : List (ℕ × ℕ)) (a at : ℕ) (p : ℕ × ℕ) → AreOrdered ss pairs → at < length pairs → p ≡ get_or pairs at p
@@ -158,6 +158,7 @@ not-less a m b n one other stands = by-order (cases_order a b)
 pub pairs-ordered : (ss : List Section) (pairs : List (ℕ × ℕ)) → length ss < 4294967296 → ArePairs ss (length ss) pairs
     → IsSorted (λ x y. ordering_then (nat_cmp x.0 y.0) (nat_cmp x.1 y.1)) pairs → AreOrdered ss pairs
 pairs-ordered ss pairs few are sorted = record {
+  few = few;
   are = are;
   sorted = IsNonDecreasingBy-from_all_adjacent rank pairs
       (λ k d inside.

@@ -44,6 +44,5 @@ pub fn first_binary(index: &Index, addr: u64) -> Option<usize>
     ensures section { option_map (section_at index.now) result ≡ binary_section index.now addr }
     ensures within { IfSome result (λ i. i < length index.now.headers) }
 {
-    let _count = index.len();
     index.first_hex(b"binary", addr)
 }

@@ -35,7 +35,8 @@ fn push_pair(pairs: &mut Vec<(u64, u32)>, index: &Index, i: usize) -> Result<(),
 
 // The address of each `binary` section, with the place of the section.
 fn pairs_of(alloc: Global, index: &Index) -> Result<Vec<(u64, u32)>, AllocError>
-    ensures { IfOk result (λ pairs. ArePairs (sections_in index.now) (length (sections_in index.now)) pairs.items) }
+    ensures few { IfOk result (λ _. length (sections_in index.now) < 4294967296) }
+    ensures pairs { IfOk result (λ pairs. ArePairs (sections_in index.now) (length (sections_in index.now)) pairs.items) }
 {
     let mut pairs = Vec::new(alloc);
     for i in 0..index.len() {
@@ -48,7 +49,6 @@ fn pairs_of(alloc: Global, index: &Index) -> Result<Vec<(u64, u32)>, AllocError>
 fn places_of(alloc: Global, index: &Index) -> Result<Vec<(u64, u32)>, AllocError>
     ensures { IfOk result (λ pairs. AreOrdered (sections_in index.now) pairs.items) }
 {
-    let _count = index.len();
     let mut pairs = pairs_of(alloc, index)?;
     pairs.sort_unstable();
     Ok(pairs)
@@ -72,19 +72,6 @@ fn place_with(pair: &(u64, u32), address: u64) -> Option<usize>
     } else {
         None
     }
-}
-
-// The place of the first `binary` section with the address.
-fn place_of(index: &Index, pairs: &[(u64, u32)], address: u64) -> Option<usize>
-    requires { AreOrdered (sections_in index.now) pairs.now }
-    ensures place { result ≡ binary_place (sections_in index.now) address }
-    ensures within { IfSome result (λ i. i < length index.now.headers) }
-    ensures listed { IfSome result (λ i. i < length (sections_in index.now)) }
-{
-    let _count = index.len();
-    let at = count_below(pairs, address);
-    let pair = pairs.get(at)?;
-    place_with(pair, address)
 }
 
 /// The `binary` sections of an index in the order of their addresses. Contracts see the index.
@@ -127,6 +114,8 @@ impl<'a> BinaryPlaces<'a> {
         ensures within { IfSome result (λ i. i < length self.now.headers) }
         ensures listed { IfSome result (λ i. i < length (sections_in self.now)) }
     {
-        place_of(self.index, &self.pairs, address)
+        let at = count_below(&self.pairs, address);
+        let pair = self.pairs.get(at)?;
+        place_with(pair, address)
     }
 }

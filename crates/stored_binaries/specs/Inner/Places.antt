@@ -22,7 +22,8 @@ pub record ArePairs (sections : List Section) (n : ℕ) (pairs : List (ℕ × �
   pub each : All (IsPairOf sections) pairs
   pub complete : (place : ℕ) (address : ℕ) → place < n → number_at sections place ≡ Some address → Contains pairs (address, place)
 
--- the pairs of all `binary` sections, sorted by address and then by place
+-- the pairs of all `binary` sections, sorted by address and then by place; there are fewer sections than 2^32
 pub record AreOrdered (sections : List Section) (pairs : List (ℕ × ℕ)) : Type 0 where
+  pub few : length sections < 4294967296
   pub are : ArePairs sections (length sections) pairs
   pub sorted : IsNonDecreasingBy rank pairs

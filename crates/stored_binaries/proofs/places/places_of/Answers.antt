@@ -1,4 +1,4 @@
-use Rattle.std.proofs.Common.{◌<◌, length, arith}
+use Rattle.std.proofs.Common.{length}
 use Rattle.section_index.specs.Index.{sections_in}
 use Rattle.stored_binaries.proofs.PlaceFacts.{pairs-moved, pairs-ordered}
 use Rattle.stored_binaries.proofs.places.places_of.Goals as goal
@@ -7,6 +7,5 @@ pub returns : goal.returns
 returns c =
     let sections = sections_in c.args.index.now in
     let pairs = c.sort_unstable.new.self.items in
-    let few : length sections < 4294967296 = omega (arith, c.len-count.ensures.sections, c.len-count.ensures.value, c.len-count.ensures.bounded.sections) in
-    let are = pairs-moved sections (length sections) c.in_ok-pairs.pairs.items pairs c.in_ok-pairs.ensures c.sort_unstable.ensures.permutation in
-    pairs-ordered sections pairs few are c.sort_unstable.ensures.sorted
+    let are = pairs-moved sections (length sections) c.in_ok-pairs.pairs.items pairs c.in_ok-pairs.ensures.pairs c.sort_unstable.ensures.permutation in
+    pairs-ordered sections pairs c.in_ok-pairs.ensures.few are c.sort_unstable.ensures.sorted

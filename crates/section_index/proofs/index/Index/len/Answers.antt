@@ -1,6 +1,6 @@
 use Rattle.std.proofs.Common.{length, sym, ◌∙◌, ap}
 use Rattle.section_index.specs.Index.{sections_in}
-use Rattle.section_index.proofs.Places.{length-sections_of}
+use Rattle.section_index.specs.Laws.{length-sections_of}
 use Rattle.section_index.proofs.index.Index.len.Goals as goal
 
 pub returns-clause-sections : goal.returns-clause-sections
