@@ -3,3 +3,4 @@ pub mod Ends
 pub mod LastLine
 pub mod Starts
 pub mod State
+pub mod Takes

@@ -16,7 +16,7 @@ pub enum HeaderStop {
 }
 
 /// A header that was refused.
-#[derive(Clone, Copy, Debug, PartialEq, Eq)]
+#[derive(Clone, Copy)]
 pub struct RefusedHeader {
     /// Why it was refused.
     pub value: HeaderStop,

@@ -1,5 +1,5 @@
 // Headers from a stream that comes in pieces.
-ghost use Rattle.std.specs.Prelude.{◌≡◌, ◌+◌, ◌-◌, ◌<◌, ◌≤◌, ◌^◌, ◌++◌, ◌∷◌, [], ℕ, true, false, is_err, length, take, List, None, Some, Ok, Err, OnOk, OnErr, IfOk, IfErr, IfSome, IsErrOf, All, ◌↔◌, slice_index, ◌==◌, if◌then◌else◌};
+ghost use Rattle.std.specs.Prelude.{◌≡◌, ◌+◌, ◌-◌, ◌<◌, ◌≤◌, ◌^◌, ◌++◌, ◌∷◌, [], ℕ, true, false, is_err, length, take, List, None, Some, Ok, Err, OnOk, OnErr, IfErr, IfSome, IsErrOf, All, ◌↔◌, slice_index, ◌==◌, if◌then◌else◌};
 ghost use Rattle.memchr.specs.Find.{Nowhere, Passes, is_byte};
 ghost use Rattle.dump_io.specs.Lines.{Header, lf, equals_sign, text_of};
 ghost use Rattle.line_source.specs.Streams.{ended, plain, header, too_long, new_headers, open_headers, headers_before};
@@ -9,6 +9,7 @@ ghost use Rattle.line_source.specs.Receiver.{Hears};
 ghost use Rattle.line_source.specs.Feeding.{first_too_long, stop_of, IsStop, StopsAmong};
 ghost use Rattle.line_source.specs.Inner.Ends.{Ends};
 ghost use Rattle.line_source.specs.Inner.LastLine.{header_bytes, is_header_line};
+ghost use Rattle.line_source.specs.Inner.Takes.{Takes};
 ghost use Rattle.line_source.specs.Receiver.{stop_value};
 
 use crate::header_sink::{HeaderSink, HeaderStop};
@@ -320,17 +321,7 @@ impl LineScan {
         requires some { 0 < length rest.now }
         requires fits { self.old.offset + length rest.now < 2 ^ 64 }
         requires open { H.stop into.old ≡ None }
-        ensures within { IfOk result (λ n. (1 ≤ n) × (n ≤ length rest.now)) }
-        ensures offset { IfOk result (λ n. self.new.offset ≡ self.old.offset + n) }
-        ensures limit { self.new.limit ≡ self.old.limit }
-        ensures stop { stop_value (H.stop into.new) ≡ stop_of result }
-        ensures stands { IfOk result (λ n. (stream : List ℕ) → StandsFor self.old stream
-            → StandsFor self.new (stream ++ take n rest.now)) }
-        ensures heard { IfOk result (λ n. (stream : List ℕ) → StandsFor self.old stream
-            → H.heard into.new ≡ H.heard into.old ++ new_headers stream (take n rest.now)) }
-        ensures ends { IfErr result (λ fault. (stream : List ℕ) → StandsFor self.old stream
-            → Ends self.old.limit stream rest.now (H.heard into.old) (H.heard into.new)
-            (H.stop into.new) fault) }
+        ensures { Takes self.old self.new rest.now (H.heard into.old) (H.heard into.new) (H.stop into.new) result }
     {
         match memchr(b'\n', rest) {
             Some(end) => {
@@ -389,17 +380,7 @@ impl LineScan {
         requires sign { slice_index rest.now 0 ≡ equals_sign }
         requires fits { self.old.offset + length rest.now < 2 ^ 64 }
         requires open { H.stop into.old ≡ None }
-        ensures within { IfOk result (λ n. (1 ≤ n) × (n ≤ length rest.now)) }
-        ensures offset { IfOk result (λ n. self.new.offset ≡ self.old.offset + n) }
-        ensures limit { self.new.limit ≡ self.old.limit }
-        ensures stop { stop_value (H.stop into.new) ≡ stop_of result }
-        ensures stands { IfOk result (λ n. (stream : List ℕ) → StandsFor self.old stream
-            → StandsFor self.new (stream ++ take n rest.now)) }
-        ensures heard { IfOk result (λ n. (stream : List ℕ) → StandsFor self.old stream
-            → H.heard into.new ≡ H.heard into.old ++ new_headers stream (take n rest.now)) }
-        ensures ends { IfErr result (λ fault. (stream : List ℕ) → StandsFor self.old stream
-            → Ends self.old.limit stream rest.now (H.heard into.old) (H.heard into.new)
-            (H.stop into.new) fault) }
+        ensures { Takes self.old self.new rest.now (H.heard into.old) (H.heard into.new) (H.stop into.new) result }
     {
         match self.line_end(rest) {
             Some(end) => {
@@ -419,17 +400,7 @@ impl LineScan {
         requires some { 0 < length rest.now }
         requires fits { self.old.offset + length rest.now < 2 ^ 64 }
         requires open { H.stop into.old ≡ None }
-        ensures within { IfOk result (λ n. (1 ≤ n) × (n ≤ length rest.now)) }
-        ensures offset { IfOk result (λ n. self.new.offset ≡ self.old.offset + n) }
-        ensures limit { self.new.limit ≡ self.old.limit }
-        ensures stop { stop_value (H.stop into.new) ≡ stop_of result }
-        ensures stands { IfOk result (λ n. (stream : List ℕ) → StandsFor self.old stream
-            → StandsFor self.new (stream ++ take n rest.now)) }
-        ensures heard { IfOk result (λ n. (stream : List ℕ) → StandsFor self.old stream
-            → H.heard into.new ≡ H.heard into.old ++ new_headers stream (take n rest.now)) }
-        ensures ends { IfErr result (λ fault. (stream : List ℕ) → StandsFor self.old stream
-            → Ends self.old.limit stream rest.now (H.heard into.old) (H.heard into.new)
-            (H.stop into.new) fault) }
+        ensures { Takes self.old self.new rest.now (H.heard into.old) (H.heard into.new) (H.stop into.new) result }
     {
         let passed = self.pass(rest);
         if passed == rest.len() {
@@ -451,17 +422,7 @@ impl LineScan {
         requires some { 0 < length rest.now }
         requires fits { self.old.offset + length rest.now < 2 ^ 64 }
         requires open { H.stop into.old ≡ None }
-        ensures within { IfOk result (λ n. (1 ≤ n) × (n ≤ length rest.now)) }
-        ensures offset { IfOk result (λ n. self.new.offset ≡ self.old.offset + n) }
-        ensures limit { self.new.limit ≡ self.old.limit }
-        ensures stop { stop_value (H.stop into.new) ≡ stop_of result }
-        ensures stands { IfOk result (λ n. (stream : List ℕ) → StandsFor self.old stream
-            → StandsFor self.new (stream ++ take n rest.now)) }
-        ensures heard { IfOk result (λ n. (stream : List ℕ) → StandsFor self.old stream
-            → H.heard into.new ≡ H.heard into.old ++ new_headers stream (take n rest.now)) }
-        ensures ends { IfErr result (λ fault. (stream : List ℕ) → StandsFor self.old stream
-            → Ends self.old.limit stream rest.now (H.heard into.old) (H.heard into.new)
-            (H.stop into.new) fault) }
+        ensures { Takes self.old self.new rest.now (H.heard into.old) (H.heard into.new) (H.stop into.new) result }
     {
         if self.in_header() {
             self.take_header(rest, into)

@@ -1,7 +1,7 @@
 // The characters that cover a range of a payload's bytes.
 
 /// Which characters of a payload are read for a range of its bytes. They are themselves a payload.
-#[derive(Clone, Copy, Debug, PartialEq, Eq)]
+#[derive(Clone, Copy)]
 pub struct Cover {
     /// The place of the first of these characters, from 0.
     pub first: u64,

@@ -90,7 +90,7 @@ fn are_joined(count: u64, text: &[u8], spelled: bool) -> bool
 
 /// An iterator over the elements that a text spells, joined by commas.
 /// Contracts see it as the list of the elements that are left.
-#[derive(Debug, Drop)]
+#[derive(Drop)]
 pub struct Elems<'a> {
     text: &'a [u8],
     left: u64,

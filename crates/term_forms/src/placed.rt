@@ -18,7 +18,7 @@ use std::marker::Model;
 
 /// An iterator over the elements of a form, each with its
 /// place. Contracts see it as the list of those that are left.
-#[derive(Debug, Drop)]
+#[derive(Drop)]
 pub struct PlacedElems<'a> {
     size: usize,
     rest: &'a [u8],

@@ -21,7 +21,7 @@ pub enum Elem<'a> {
 }
 
 /// The form of a heap cell. The slices are parts of the text that was read, and lengths are in bytes.
-#[derive(Debug, Drop)]
+#[derive(Drop)]
 pub enum Form<'a> {
     /// A cons cell: its head and its tail.
     List(Elem<'a>, Elem<'a>),
