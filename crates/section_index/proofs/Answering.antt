@@ -2,7 +2,7 @@
 use Rattle.std.proofs.Common.{◌≡◌, ℕ, ◌-◌, ◌≤◌, true, List, [], ◌∷◌, ◌++◌, length, take, drop, min, Option, None, Some, Ok, Err, Result, refl, sym, ◌∙◌, ap, subst, arith, if◌then◌else◌, ◌⊎◌, ⊎_elim, inl, inr}
 use Rattle.std.specs.List.{starts_with}
 use Rattle.std.specs.Option.{option_or}
-use Rattle.std.specs.Prelude.{nat_eq, IfErr}
+use Rattle.std.specs.Prelude.{nat_eq, IfErr, IsErrOf}
 use Rattle.std.proofs.lemmas.Bool.{le-ltb}
 use Rattle.std.proofs.lemmas.List.{take_all, length-drop, append-nil, length-take-le}
 use Rattle.dump_io.specs.Limits.{Numbers}
@@ -14,7 +14,7 @@ use Rattle.section_index.specs.declared.opening.Version.{Version}
 use Rattle.section_index.specs.Opening.{signature, header_fault, opening}
 use Rattle.section_index.specs.Inner.Beginning.{IsAllOrLong, BeginsAs, IsJudged, IsOfTheBeginning}
 use Rattle.section_index.specs.Opening.{fault_of}
-use Rattle.section_index.specs.Inner.Scanning.{IsHeaderFault}
+use Rattle.section_index.specs.Inner.Scanning.{IsHeaderFault, IsOfAHeader}
 use Rattle.section_index.specs.Index.{Contents, IsIndexOf, IsAnswerFor, IsBuiltOver, IsClosedOrNamed, IsHeld, IsTooLargeFor}
 use Rattle.section_index.specs.Inner.Reading.{IsNotTooLarge}
 use Rattle.section_index.specs.Inner.Reading.{IsHeaderRefusal}
@@ -118,6 +118,37 @@ small-by-bytes (TooManySections at) of = tt
 small-by-bytes (HeadersTooLarge at) of = tt
 small-by-bytes Read of = tt
 small-by-bytes Memory of = tt
+
+-- nor is it that reading failed
+pub beginning-isnt-read : {A : Type 0} (fault : OpenFault) → IsOfTheBeginning fault → IsErrOf {T = A} (Err fault) Read → ⊥
+beginning-isnt-read fault of is = let same : fault ≡ Read = cc in subst IsOfTheBeginning same of
+
+-- a header's refusal is neither of the two
+pub small-by-header : (fault : OpenFault) → IsOfAHeader fault → IsNotTooLarge fault
+small-by-header Compressed of = tt
+small-by-header NotADump of = tt
+small-by-header (UnknownVersion text) of = tt
+small-by-header (TooLarge size) of = of
+small-by-header (HeaderTooLong at) of = tt
+small-by-header (TooManySections at) of = tt
+small-by-header (HeadersTooLarge at) of = tt
+small-by-header Read of = tt
+small-by-header Memory of = tt
+
+pub header-isnt-read : {A : Type 0} (fault : OpenFault) → IsOfAHeader fault → IsErrOf {T = A} (Err fault) Read → ⊥
+header-isnt-read fault of is = let same : fault ≡ Read = cc in subst IsOfAHeader same of
+
+-- nor is a fault of the rest of the file that the dump is too large, though reading may have failed
+pub small-by-rest : (bounds : Numbers) (now : Now) (fault : OpenFault) → (fault ≡ Read) ⊎ IsHeaderRefusal bounds now fault → IsNotTooLarge fault
+small-by-rest bounds now fault why = ⊎_elim (λ read. subst IsNotTooLarge (sym read) tt) (λ refused. small-by-header fault refused.kind) why
+
+-- a value is no fault
+pub ok-isnt-read : {A : Type 0} (value : A) → IsErrOf (Ok value) Read → ⊥
+ok-isnt-read value is = let never : ⊥ = cc in never
+
+-- the same fault in the result of another call
+pub read-too : {A B : Type 0} (fault : OpenFault) → IsErrOf {T = A} (Err fault) Read → IsErrOf {T = B} (Err fault) Read
+read-too fault is = let same : fault ≡ Read = cc in ap Err same
 
 -- a fault of the rest of the file
 pub answer-rest : (bytes : List ℕ) (limits bounds : Numbers) (version : Version) (now : Now) (fault : OpenFault) → length bytes ≤ limits.dump → BeginsAs limits bytes version
