@@ -1,4 +1,5 @@
 pub mod Contained
+pub mod Looked
 pub mod Memory
 pub mod Opened
 pub mod Sums

@@ -6,6 +6,7 @@ pub mod FirstNodes
 pub mod Levels
 pub mod Lines
 pub mod Opens
+pub mod Placed
 pub mod Previewed
 pub mod Sized
 pub mod Stepping
