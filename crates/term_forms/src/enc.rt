@@ -2,7 +2,7 @@
 
 /// How a dump writes the bytes of a binary, which its version
 /// determines: in hex in 0.3 and 0.4, in base64 in 0.5.
-#[derive(Clone, Copy)]
+#[derive(Clone, Copy, Debug, PartialEq, Eq)]
 pub enum Enc {
     /// Two hex digits of either case for each byte, the high one first.
     Hex,
