@@ -11,5 +11,6 @@ pub mod Numbers
 pub mod Opening
 pub mod Searching
 pub mod Sets
+pub mod Spanned
 pub mod Spans
 pub mod Taken
