@@ -24,7 +24,7 @@ impl CellIx {
 }
 
 /// Why a reference leads to no term.
-#[derive(Clone, Copy, Debug, PartialEq, Eq)]
+#[derive(Clone, Copy)]
 pub enum Why {
     /// No cell has the address.
     Missing,
@@ -64,7 +64,7 @@ pub enum Kind {
 }
 
 /// An element of a cell's form, with its reference resolved.
-#[derive(Clone, Copy, Debug, PartialEq, Eq)]
+#[derive(Clone, Copy)]
 pub enum Kid<'a> {
     /// An immediate: the element itself, which is no reference.
     Imm(Elem<'a>),
@@ -94,7 +94,7 @@ pub enum Slot {
 
 // A cell: its address, where the text of its form stands, and the number of its first slot. Its
 // slots end where those of the next cell begin. If the text spells no form, there is no kind.
-#[derive(Clone, Copy, Debug)]
+#[derive(Clone, Copy)]
 pub(crate) struct CellRecord {
     pub address: u64,
     pub at: u32,
