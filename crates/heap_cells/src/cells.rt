@@ -24,7 +24,7 @@ impl CellIx {
 }
 
 /// Why a reference leads to no term.
-#[derive(Clone, Copy)]
+#[derive(Clone, Copy, Debug, PartialEq, Eq)]
 pub enum Why {
     /// No cell has the address.
     Missing,
