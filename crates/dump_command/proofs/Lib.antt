@@ -2,6 +2,7 @@ pub mod Audits
 pub mod BinaryLoads
 pub mod CellLoads
 pub mod Endings
+pub mod Exits
 pub mod Externals
 pub mod FoundLoads
 pub mod HeapLoads
@@ -18,4 +19,6 @@ pub mod Runs
 pub mod SameFindings
 pub mod SameHeaps
 pub mod SameTrees
+pub mod Showing
 pub mod TriageLoads
+pub mod Words

@@ -1,5 +1,5 @@
 -- What a command has read that tells what the roots of a heap reach.
-use Rattle.std.proofs.Common.{◌≡◌, ℕ, ◌-◌, Bool, List, ◌++◌, Option, None, Some, length, refl, sym, ◌∙◌, ap, arith}
+use Rattle.std.proofs.Common.{◌≡◌, ℕ, ◌-◌, Bool, List, [], ◌++◌, Option, None, Some, length, refl, sym, ◌∙◌, ap, subst, arith}
 use Rattle.std.specs.Prelude.{IsSome}
 use Rattle.std.specs.Option.{option_map}
 use Rattle.std.specs.List.{flat_map}
@@ -64,6 +64,15 @@ IsHalted-roots cmd pid before limits index now heap old new last last' body_faul
 IsHalted-roots cmd pid before limits index now heap old new last last' body_faults.Memory takes holds cause later = record { takes = takes; cause = tt }
 IsHalted-roots cmd pid before limits index now heap old new last last' (body_faults.SectionTooLarge at len) takes holds cause later =
     absurd (no-large (first_large limits.section before) (small-before pid before limits index now heap holds) cause)
+
+-- three calls add what three bodies hold, each behind what came before
+pub added-three : {R B X : Type 0} (Is : R → List X → Type 0) (f g h : B → List X) (a b c d : R) (first second third x y z : B)
+    → first ≡ x → second ≡ y → third ≡ z → Is a []
+    → ((xs : List X) → Is a xs → Is b (xs ++ f first)) → ((xs : List X) → Is b xs → Is c (xs ++ g second)) → ((xs : List X) → Is c xs → Is d (xs ++ h third))
+    → Is d ((f x ++ g y) ++ h z)
+added-three Is f g h a b c d first second third x y z one two three none add_first add_second add_third =
+    subst (Is d) (ap (λ v. (f v ++ g second) ++ h third) one ∙ ap (λ v. (f x ++ g v) ++ h third) two ∙ ap (λ v. (f x ++ g y) ++ h v) three)
+    (add_third (f first ++ g second) (add_second (f first) (add_first [] none)))
 
 -- ---- what is told
 

@@ -3,6 +3,7 @@ use Rattle.std.proofs.Common.{◌≡◌, ℕ, ◌+◌, List, [], ◌∷◌, ◌+
 use Rattle.std.specs.Option.{option_map, option_or}
 use Rattle.std.proofs.lemmas.List.Sums.{sum_by-append, sum_by-cons}
 use Rattle.dump_io.specs.Dumps.{DeviceState, DeviceFailed, ReadsAtMost}
+use Rattle.dump_io.specs.Laws.Reads.{ReadsAtMost-then, ReadsAtMost-within}
 use Rattle.dump_io.specs.Limits.{Numbers}
 use Rattle.section_index.specs.Bodies.{body_length}
 use Rattle.section_index.specs.Index.{Contents, index_of, sections_in}
@@ -98,6 +99,26 @@ triage-length index places found =
       ap (λ s. bodies_length (one_of s)) found.memory,
       ap (λ k. bodies_length (listed k ss)) found.kind,
     )
+
+-- what was read of them up to one takes no more than all of them
+module _ {index : Contents} {places : Places} (found : AreFound index places) where
+  pub reads-first : {a b : DeviceState} → ReadsAtMost a b (body_size (section_in index (Some 0))) → ReadsAtMost a b (bodies_length (triage_sections (sections_in index)))
+  reads-first first = ReadsAtMost-within (omega (arith, triage-length index places found)) first
+
+  pub reads-memory : {a b c : DeviceState} → ReadsAtMost a b (body_size (section_in index (Some 0))) → ReadsAtMost b c (body_size (section_in index places.memory))
+      → ReadsAtMost a c (bodies_length (triage_sections (sections_in index)))
+  reads-memory first memory = ReadsAtMost-within (omega (arith, triage-length index places found)) (ReadsAtMost-then first memory)
+
+  pub reads-procs : {a b c d : DeviceState} → ReadsAtMost a b (body_size (section_in index (Some 0))) → ReadsAtMost b c (body_size (section_in index places.memory))
+      → ReadsAtMost c d (bodies_length (record_sections (sections_in index))) → ReadsAtMost a d (bodies_length (triage_sections (sections_in index)))
+  reads-procs first memory procs =
+      ReadsAtMost-within (omega (arith, triage-length index places found)) (ReadsAtMost-then (ReadsAtMost-then first memory) procs)
+
+  pub reads-tables : {a b c d e : DeviceState} → ReadsAtMost a b (body_size (section_in index (Some 0))) → ReadsAtMost b c (body_size (section_in index places.memory))
+      → ReadsAtMost c d (bodies_length (record_sections (sections_in index))) → ReadsAtMost d e (bodies_length (listed places.tables.kind (sections_in index)))
+      → ReadsAtMost a e (bodies_length (triage_sections (sections_in index)))
+  reads-tables first memory procs tables =
+      ReadsAtMost-within (omega (arith, triage-length index places found)) (ReadsAtMost-then (ReadsAtMost-then (ReadsAtMost-then first memory) procs) tables)
 
 -- ---- the command
 
