@@ -1,5 +1,5 @@
 // Writing a dump with its payloads made zero.
-ghost use Rattle.std.specs.Prelude.{◌≡◌, ℕ, ◌+◌, ◌-◌, ◌<◌, ◌≤◌, ◌⊎◌, List, length, true, None, Some, IfErr, IsErrOf, IsSome, OnOk};
+ghost use Rattle.std.specs.Prelude.{◌≡◌, ℕ, ◌+◌, ◌-◌, ◌<◌, ◌≤◌, ◌⊎◌, List, length, None, Some, IfErr, IsErrOf, IsSome, OnOk};
 ghost use Rattle.dump_io.specs.Dumps.{told, ReadsAtMost};
 ghost use Rattle.dump_io.specs.Sinks.{WritesAll};
 ghost use Rattle.section_index.specs.Bodies.{section_at};
