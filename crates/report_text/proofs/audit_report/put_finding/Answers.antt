@@ -1,9 +1,13 @@
 use Rattle.std.proofs.Common.{codes, decimal, sym, ◌∙◌, ap}
 use Rattle.dump_io.specs.Laws.Puts.{Puts-as}
 use Rattle.dump_audit.specs.FindingNames.{partner_in, reference_in}
-use Rattle.report_text.specs.Findings.{finding_line, three_line}
+use Rattle.report_text.specs.Findings.{finding_line, two_line, three_line}
 use Rattle.report_text.proofs.FindingFacts.{one-same, two-same, three-same}
 use Rattle.report_text.proofs.audit_report.put_finding.Goals as goal
+
+pub returns-in-LinkOneSided : goal.returns-in-LinkOneSided
+returns-in-LinkOneSided g c =
+    Puts-as (two-same (codes "link") c.in-LinkOneSided.at c.in-LinkOneSided.other c.pid.ensures c.pid-in-LinkOneSided.ensures ∙ ap (finding_line c.args.procs.now.processes) (sym c.in-LinkOneSided.is)) c.put_two.ensures
 
 pub returns-in-MonitorTo : goal.returns-in-MonitorTo
 returns-in-MonitorTo g c =
@@ -18,6 +22,10 @@ returns-in-MonitorFrom g c =
     let f = c.in-MonitorFrom in
     Puts-as (three-same (codes "monitor-from") c.in-MonitorFrom.at c.in-MonitorFrom.other c.pid-in-MonitorFrom.ensures c.pid-in-MonitorFrom-2.ensures (c.reference-in-MonitorFrom.ensures ∙ ap reference_in c.kind-in-MonitorFrom.ensures) ∙ ap (finding_line ps) (sym f.is))
     c.put_three-in-MonitorFrom.ensures
+
+pub returns-in-Mailbox : goal.returns-in-Mailbox
+returns-in-Mailbox g c =
+    Puts-as (ap (λ t. two_line (codes "mailbox") t (decimal c.in-Mailbox.count) c.in-Mailbox.at c.in-Mailbox.other) c.pid-in-Mailbox.ensures ∙ ap (finding_line c.args.procs.now.processes) (sym c.in-Mailbox.is)) c.put_two-in-Mailbox.ensures
 
 pub returns-in-UnreadLinks : goal.returns-in-UnreadLinks
 returns-in-UnreadLinks g c =
