@@ -22,6 +22,8 @@
 //                                     on the heap, and half sections of binaries of that size, a multiple of 3
 //   bench copy FILE                   reads the file twice and writes it once, in pieces of 64 KiB
 //   bench scan FILE                   counts the headers: reads of 64 KiB, memchr for `=`, the byte before
+//   bench reread FILE                 does so, and then reads each process, each heap and the beginning of each binary, as
+//                                     `edump binaries` does, and counts the references to binaries in the heaps
 //   bench measure OUT COMMAND WORDS.. runs a command, its output into the file OUT, and prints the seconds that it
 //                                     took and the most memory that it had, in KiB
 #define _GNU_SOURCE
@@ -271,6 +273,38 @@ static int scan(const char *name) {
     return 0;
 }
 
+static int reread(const char *name) {
+    static const char *tags[] = {"proc:", "proc_heap:", "binary:"};
+    static char piece[65536];
+    static struct { long at; int kind; } sections[4000000];
+    int f = open(name, O_RDONLY);
+    long count = 0, found = 0, offset = 0;
+    char before = '\n';
+    for (ssize_t n; (n = read(f, piece, sizeof piece)) > 0; before = piece[n - 1], offset += n)
+        for (char *p = piece; (p = memchr(p, '=', piece + n - p)); p++)
+            if ((p == piece ? before : p[-1]) == '\n' && count < 4000000 - 1) {
+                int kind = 0;
+                while (kind < 3 && (piece + n - p < 12 || memcmp(p + 1, tags[kind], strlen(tags[kind])))) kind++;
+                sections[count].at = offset + (p - piece);
+                sections[count++].kind = kind;
+            }
+    sections[count].at = offset;
+    for (int kind = 0; kind < 3; kind++)
+        for (long i = 0; i < count; i++) {
+            if (sections[i].kind != kind) continue;
+            long upto = kind == 2 ? sections[i].at + 17 : sections[i + 1].at;
+            for (long at = sections[i].at; at < upto;) {
+                ssize_t n = pread(f, piece, upto - at < 65536 ? upto - at : 65536, at);
+                if (n <= 0) return 1;
+                at += n;
+                if (kind != 1) continue;
+                for (char *p = piece; (p = memmem(p, piece + n - p, ":Yc", 3)); p++) found++;
+            }
+        }
+    printf("%ld sections, %ld references\n", count, found);
+    return 0;
+}
+
 static int measure(const char *out, char **command) {
     struct timespec from, upto;
     clock_gettime(CLOCK_MONOTONIC, &from);
@@ -305,6 +339,7 @@ int main(int count, char **words) {
     if (count == 5 && !strcmp(words[1], "payloads")) return write_payloads(words[2], atol(words[3]), atol(words[4]));
     if (count == 3 && !strcmp(words[1], "copy")) return copy(words[2]);
     if (count == 3 && !strcmp(words[1], "scan")) return scan(words[2]);
+    if (count == 3 && !strcmp(words[1], "reread")) return reread(words[2]);
     if (count > 3 && !strcmp(words[1], "measure")) return measure(words[2], words + 3);
     return 2;
 }

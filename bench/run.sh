@@ -1,12 +1,12 @@
 #!/bin/sh
-# Times `edump index` and `edump info` on a dump of 1 GiB, once with 500,000 and once with 900,000 sections, warm,
-# beside a C loop and grep; then `edump procs` and `edump triage` on a dump of 1 GiB with 200,000 processes, beside `edump
-# index`; then the load of heaps, beside the reading of their lines through `heap_line` and `form`, `edump term` beside a program
-# in C that writes the same, and the walk of a term; then the previews of binaries, and `edump binaries` beside `edump index`;
-# then an external term, read and written; then `edump audit` beside `edump procs`, and `edump audit-json` beside `edump audit`;
-# and then `edump redact` of a dump of 1 GiB beside `cat`, each into a file that isn't there before. Each command runs in turn for
-# a number of rounds; the script prints its median in seconds, how many times that of another this is, and the most memory that it
-# had.
+# Times `edump index` and `edump info` on a dump of 1 GiB, once with 500,000 and once with 900,000 sections, warm, beside a C
+# loop and grep; then `edump procs` and `edump triage` on a dump of 1 GiB with 200,000 processes, beside `edump index`; then
+# the load of heaps, beside the reading of their lines through `heap_line` and `form`, `edump term` beside a program in C that
+# writes the same, and the walk of a term; then the previews of binaries, and `edump binaries` beside `edump index` and a
+# program in C that reads the same; then an external term, read and written; then `edump audit` beside `edump procs`, and
+# `edump audit-json` beside `edump audit`; and then `edump redact` of a dump of 1 GiB beside `cat`, each into a file that isn't
+# there before. Each command runs in turn for a number of rounds; the script prints its median in seconds, how many times that
+# of another this is, and the most memory that it had.
 #
 #   bench/run.sh [ROUNDS]
 #
@@ -141,10 +141,13 @@ for shape in "holders 1073741824 200000 100000" "repeated 4294967296"; do
         round procs /dev/null "$edump" procs "$dump"
         round triage /dev/null "$edump" triage "$dump"
         round binaries /dev/null "$edump" binaries "$dump"
+        round reread /dev/null "$bench" reread "$dump"
     done
     echo "a dump of $(wc -c <"$dump") bytes, $shape:"
     tell index "edump index" index "itself"
     tell binaries "edump binaries" index "edump index"
+    tell binaries "edump binaries" reread "a program in C that reads the same"
+    tell reread "that program" index "edump index"
     tell triage "edump triage" procs "edump procs"
 done
 
