@@ -22,8 +22,8 @@
 //                                     on the heap, and half sections of binaries of that size, a multiple of 3
 //   bench copy FILE                   reads the file twice and writes it once, in pieces of 64 KiB
 //   bench scan FILE                   counts the headers: reads of 64 KiB, memchr for `=`, the byte before
-//   bench reread FILE                 does so, and then reads each process, each heap and the beginning of each binary, as
-//                                     `edump binaries` does, and counts the references to binaries in the heaps
+//   bench reread FILE LOOK            does so, and then reads the sections of processes and heaps and 17 bytes of each binary's, as
+//                                     `edump binaries` does; with LOOK 1 it also counts what in the heaps looks like a reference
 //   bench measure OUT COMMAND WORDS.. runs a command, its output into the file OUT, and prints the seconds that it
 //                                     took and the most memory that it had, in KiB
 #define _GNU_SOURCE
@@ -273,7 +273,7 @@ static int scan(const char *name) {
     return 0;
 }
 
-static int reread(const char *name) {
+static int reread(const char *name, int look) {
     static const char *tags[] = {"proc:", "proc_heap:", "binary:"};
     static char piece[65536];
     static struct { long at; int kind; } sections[4000000];
@@ -297,7 +297,7 @@ static int reread(const char *name) {
                 ssize_t n = pread(f, piece, upto - at < 65536 ? upto - at : 65536, at);
                 if (n <= 0) return 1;
                 at += n;
-                if (kind != 1) continue;
+                if (kind != 1 || !look) continue;
                 for (char *p = piece; (p = memmem(p, piece + n - p, ":Yc", 3)); p++) found++;
             }
         }
@@ -339,7 +339,7 @@ int main(int count, char **words) {
     if (count == 5 && !strcmp(words[1], "payloads")) return write_payloads(words[2], atol(words[3]), atol(words[4]));
     if (count == 3 && !strcmp(words[1], "copy")) return copy(words[2]);
     if (count == 3 && !strcmp(words[1], "scan")) return scan(words[2]);
-    if (count == 3 && !strcmp(words[1], "reread")) return reread(words[2]);
+    if (count == 4 && !strcmp(words[1], "reread")) return reread(words[2], atoi(words[3]));
     if (count > 3 && !strcmp(words[1], "measure")) return measure(words[2], words + 3);
     return 2;
 }

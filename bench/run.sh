@@ -141,13 +141,15 @@ for shape in "holders 1073741824 200000 100000" "repeated 4294967296"; do
         round procs /dev/null "$edump" procs "$dump"
         round triage /dev/null "$edump" triage "$dump"
         round binaries /dev/null "$edump" binaries "$dump"
-        round reread /dev/null "$bench" reread "$dump"
+        round reread /dev/null "$bench" reread "$dump" 1
+        round only /dev/null "$bench" reread "$dump" 0
     done
     echo "a dump of $(wc -c <"$dump") bytes, $shape:"
     tell index "edump index" index "itself"
     tell binaries "edump binaries" index "edump index"
     tell binaries "edump binaries" reread "a program in C that reads the same"
     tell reread "that program" index "edump index"
+    tell only "without looking" index "edump index"
     tell triage "edump triage" procs "edump procs"
 done
 
