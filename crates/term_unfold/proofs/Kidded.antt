@@ -1,5 +1,5 @@
 -- The children of an open cell by their places.
-use Rattle.std.proofs.Common.{◌≡◌, ℕ, zero, suc, ◌+◌, ◌<◌, ◌≤◌, ◌/◌, ◌%◌, List, [], ◌∷◌, length, map, take, drop, get_or, Option, Some, None, refl, sym, ◌∙◌, ap, inl, inr, arith}
+use Rattle.std.proofs.Common.{◌≡◌, ℕ, zero, suc, ◌+◌, ◌<◌, ◌≤◌, ◌/◌, ◌%◌, List, [], ◌∷◌, length, map, take, drop, get_or, Option, Some, None, refl, sym, ◌∙◌, ap, inl, inr, arith, Bor}
 use Rattle.std.specs.Prelude.{slice_get, IfSome}
 use Rattle.std.specs.Option.{option_map}
 use Rattle.std.proofs.lemmas.Bool.{cases_lt}
@@ -45,16 +45,17 @@ items-past a elements next past = slice_get_past (items a elements) next (omega 
 
 -- the child at a place
 
-pub term-kid : (heap : HeapMap) (ix : CellIx) (place : ℕ) (slots : List Slot) → IsBounded heap → number ix < length heap.cells → place < length (elements_at heap.cells (number ix))
-    → map slot_target slots ≡ map (target heap.cells) (elements_at heap.cells (number ix)) → IsWithin (length heap.cells) (slot_target (get_or slots place no_slot))
-    → IsKidAt heap.cells (terms (elements_at heap.cells (number ix))) place 100000000 (Some (kid.Term (get_or slots place no_slot) ix place))
-term-kid heap ix place slots bounded cell within same inside =
+pub term-kid : (heap : HeapMap) (ix : CellIx) (place : ℕ) (slots : List Slot) (slot : Bor Slot) → IsBounded heap → number ix < length heap.cells
+    → place < length (elements_at heap.cells (number ix)) → map slot_target slots ≡ map (target heap.cells) (elements_at heap.cells (number ix))
+    → get_or slots place no_slot ≡ slot.now → IsWithin (length heap.cells) (slot_target slot.now)
+    → IsKidAt heap.cells (terms (elements_at heap.cells (number ix))) place 100000000 (Some (kid.Term slot ix place))
+term-kid heap ix place slots slot bounded cell within same is inside =
     let elements = elements_at heap.cells (number ix) in
     record {
       child = sym (slice_get-map Term elements place ∙ ap (option_map Term) (slice_get-get_or elements place Nil within));
       kid = record {
         at = record { cell = cell; within = within };
-        leads = slot-leads heap.cells slots elements place (get_or slots place no_slot) same refl;
+        leads = slot-leads heap.cells slots elements place slot.now same is;
         within = inside;
       };
       few = omega (arith, within, elements-few heap (number ix) bounded);

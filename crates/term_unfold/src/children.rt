@@ -11,27 +11,27 @@ use heap_cells::{CellIx, Heap, Kind, Slot};
 
 /// A child of an open cell, given by the place, from 0, at which its element stands in a cell.
 #[derive(Clone, Copy)]
-pub(crate) enum Child {
+pub(crate) enum Child<'h> {
     /// A term, with its slot.
-    Term(Slot, CellIx, u32),
+    Term(&'h Slot, CellIx, u32),
     /// An item of a hash map: the cell is the map or an inner node.
     Item(CellIx, u32),
 }
 
 // The element at a place of a cell, as a term.
 #[inline(always)]
-fn term_at(heap: &Heap, ix: CellIx, place: u32) -> Option<Child>
+fn term_at(heap: &Heap, ix: CellIx, place: u32) -> Option<Child<'_>>
     requires cell { number ix < length heap.now.cells }
     requires bounded { IsBounded heap.now }
     ensures { IsKidAt heap.now.cells (terms (elements_at heap.now.cells (number ix))) place 100000000 result }
 {
-    let slot = *heap.slots(ix).get(place as usize)?;
+    let slot = heap.slots(ix).get(place as usize)?;
     Some(Child::Term(slot, ix, place))
 }
 
 // The head or the tail of a cons cell, as a term.
 #[inline(always)]
-fn head_or_tail(heap: &Heap, ix: CellIx, place: u32) -> Option<Child>
+fn head_or_tail(heap: &Heap, ix: CellIx, place: u32) -> Option<Child<'_>>
     requires cell { number ix < length heap.now.cells }
     requires bounded { IsBounded heap.now }
     ensures { IsKidAt heap.now.cells (terms (take 2 (elements_at heap.now.cells (number ix)))) place 2 result }
@@ -45,7 +45,7 @@ fn head_or_tail(heap: &Heap, ix: CellIx, place: u32) -> Option<Child>
 
 // A key or the value after it, when the keys are in one cell,
 // and the values are in another, after its first element.
-fn key_or_value(heap: &Heap, ix: CellIx, keys: CellIx, place: u32) -> Option<Child>
+fn key_or_value(heap: &Heap, ix: CellIx, keys: CellIx, place: u32) -> Option<Child<'_>>
     requires map { number ix < length heap.now.cells }
     requires keys { number keys < length heap.now.cells }
     requires bounded { IsBounded heap.now }
@@ -62,7 +62,7 @@ fn key_or_value(heap: &Heap, ix: CellIx, keys: CellIx, place: u32) -> Option<Chi
 
 // A child of a flat map.
 #[inline(never)]
-fn pair_part(heap: &Heap, ix: CellIx, place: u32) -> Option<Child>
+fn pair_part(heap: &Heap, ix: CellIx, place: u32) -> Option<Child<'_>>
     requires cell { number ix < length heap.now.cells }
     requires bounded { IsBounded heap.now }
     ensures { IsKidAt heap.now.cells (flat_kids heap.now.cells (elements_at heap.now.cells (number ix))) place 200000000 result }
@@ -78,7 +78,7 @@ fn pair_part(heap: &Heap, ix: CellIx, place: u32) -> Option<Child>
 }
 
 // An item of a hash map or of an inner node.
-fn item_at(heap: &Heap, ix: CellIx, place: u32) -> Option<Child>
+fn item_at(heap: &Heap, ix: CellIx, place: u32) -> Option<Child<'_>>
     requires cell { number ix < length heap.now.cells }
     requires bounded { IsBounded heap.now }
     requires kind { HasMembers (form_at heap.now.cells (number ix)) }
@@ -92,7 +92,7 @@ fn item_at(heap: &Heap, ix: CellIx, place: u32) -> Option<Child>
 
 // A child of a hash map or of an inner node.
 #[inline(never)]
-fn member_at(heap: &Heap, ix: CellIx, place: u32) -> Option<Child>
+fn member_at(heap: &Heap, ix: CellIx, place: u32) -> Option<Child<'_>>
     requires cell { number ix < length heap.now.cells }
     requires bounded { IsBounded heap.now }
     ensures { IsKidAt heap.now.cells (items (address_of heap.now.cells (number ix)) (members_in (form_at heap.now.cells (number ix)))) place 100000000 result }
@@ -107,7 +107,7 @@ fn member_at(heap: &Heap, ix: CellIx, place: u32) -> Option<Child>
 
 /// The child at a place, from 0, of a cell, by what the cell is in the walk.
 #[inline(always)]
-pub(crate) fn child_at(heap: &Heap, ix: CellIx, kind: NodeKind, place: u32) -> Option<Child>
+pub(crate) fn child_at(heap: &Heap, ix: CellIx, kind: NodeKind, place: u32) -> Option<Child<'_>>
     requires cell { number ix < length heap.now.cells }
     requires bounded { IsBounded heap.now }
     ensures { IsKidAt heap.now.cells (kids_of heap.now.cells kind (number ix)) place 200000000 result }

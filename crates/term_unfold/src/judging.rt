@@ -17,7 +17,7 @@ use heap_cells::Heap;
 use term_forms::shapes::Elem;
 
 // The child that comes next. Leaves the innermost cells that have none left.
-fn next_child(heap: &Heap, path: &mut Path) -> Option<Child>
+fn next_child<'h>(heap: &'h Heap, path: &mut Path) -> Option<Child<'h>>
     requires serves { Serves heap.now path.old.cells }
     ensures cells { path.new.cells ≡ path.old.cells }
     ensures few { IfSome result (λ _. length path.new.entries ≤ length heap.now.cells) }
@@ -60,12 +60,12 @@ fn judge_opened(opened: Opened) -> Verdict
 }
 
 // Visits a child of the innermost cell, and returns the verdict on it.
-fn visit(heap: &Heap, path: &mut Path, child: Child) -> Verdict
+fn visit(heap: &Heap, path: &mut Path, child: Child<'_>) -> Verdict
     requires serves { Serves heap.now path.old.cells }
     requires few { length path.old.entries ≤ length heap.now.cells }
     requires kid { IsKid heap.now.cells child }
     ensures cells { path.new.cells ≡ path.old.cells }
-    ensures visits { Visits heap.now.cells path.old.entries path.new.entries (child_shown heap.now.cells child) result }
+    ensures visits { Visits heap.now.cells path.old.entries path.new.entries (child_shown heap.now.cells child.entry) result }
 {
     let opened = open_child(heap, path, child);
     enter(path, opened, false);

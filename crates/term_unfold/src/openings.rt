@@ -123,15 +123,15 @@ fn open_cell(heap: &Heap, path: &Path, ix: CellIx) -> Opened
 
 // A term, by its slot.
 #[inline(always)]
-fn open_slot(heap: &Heap, path: &Path, slot: Slot) -> Opened
-    requires slot { IsWithin (length heap.now.cells) (slot_target slot) }
+fn open_slot(heap: &Heap, path: &Path, slot: &Slot) -> Opened
+    requires slot { IsWithin (length heap.now.cells) (slot_target slot.now) }
     requires serves { Serves heap.now path.now.cells }
-    ensures { OpensEach heap.now path.now (slot_target slot) result }
+    ensures { OpensEach heap.now path.now (slot_target slot.now) result }
 {
     match slot {
         Slot::Imm(_) => Opened::Immediate,
-        Slot::Gone(addr) => missing(path, addr),
-        Slot::Cell(ix) => open_cell(heap, path, ix),
+        Slot::Gone(addr) => missing(path, *addr),
+        Slot::Cell(ix) => open_cell(heap, path, *ix),
     }
 }
 
@@ -169,10 +169,10 @@ fn open_item(heap: &Heap, path: &Path, parent: CellIx, place: u32) -> Opened
 
 /// A child of an open cell.
 #[inline(always)]
-pub(crate) fn open_child(heap: &Heap, path: &Path, child: Child) -> Opened
+pub(crate) fn open_child(heap: &Heap, path: &Path, child: Child<'_>) -> Opened
     requires kid { IsKid heap.now.cells child }
     requires serves { Serves heap.now path.now.cells }
-    ensures { Opens heap.now path.now (child_shown heap.now.cells child) result }
+    ensures { Opens heap.now path.now (child_shown heap.now.cells child.entry) result }
 {
     match child {
         Child::Term(slot, _, _) => open_slot(heap, path, slot),

@@ -53,9 +53,9 @@ fn put_place<K: Sink>(sink: &mut K, heap: &Heap, ix: CellIx, place: u32) -> Resu
 }
 
 // Writes a child that is an immediate.
-fn put_immediate<K: Sink>(sink: &mut K, heap: &Heap, child: Child) -> Result<(), Failed>
+fn put_immediate<K: Sink>(sink: &mut K, heap: &Heap, child: Child<'_>) -> Result<(), Failed>
     requires { IsKid heap.now.cells child }
-    ensures { Puts (K.state sink.old) (K.state sink.new) (element_text (element_of (child_shown heap.now.cells child))) result }
+    ensures { Puts (K.state sink.old) (K.state sink.new) (element_text (element_of (child_shown heap.now.cells child.entry))) result }
 {
     match child {
         Child::Term(_, ix, place) => put_place(sink, heap, ix, place),
@@ -68,14 +68,14 @@ fn put_own<K: Sink>(
     sink: &mut K,
     heap: &Heap,
     previews: &Previews,
-    child: Child,
+    child: Child<'_>,
     opened: Opened,
 ) -> Result<(), Failed>
     requires previews { AreFor heap.now.cells previews.now }
     requires kid { IsKid heap.now.cells child }
     requires cell { LeafWithin heap.now.cells opened }
     ensures { Puts (K.state sink.old) (K.state sink.new)
-        (own_text (leaf_text heap.now.enc heap.now.cells previews.now) heap.now.cells (child_shown heap.now.cells child) opened) result }
+        (own_text (leaf_text heap.now.enc heap.now.cells previews.now) heap.now.cells (child_shown heap.now.cells child.entry) opened) result }
 {
     match opened {
         Opened::Immediate => put_immediate(sink, heap, child),
@@ -89,14 +89,14 @@ fn put_own_if<K: Sink>(
     sink: &mut K,
     heap: &Heap,
     previews: &Previews,
-    child: Child,
+    child: Child<'_>,
     turn: &Turn,
 ) -> Result<(), Failed>
     requires previews { AreFor heap.now.cells previews.now }
     requires kid { IsKid heap.now.cells child }
     requires cell { LeafWithin heap.now.cells turn.now.opened }
     ensures { Puts (K.state sink.old) (K.state sink.new)
-        (if turn.now.own then own_text (leaf_text heap.now.enc heap.now.cells previews.now) heap.now.cells (child_shown heap.now.cells child) turn.now.opened else []) result }
+        (if turn.now.own then own_text (leaf_text heap.now.enc heap.now.cells previews.now) heap.now.cells (child_shown heap.now.cells child.entry) turn.now.opened else []) result }
 {
     if turn.own {
         put_own(sink, heap, previews, child, turn.opened)
@@ -110,14 +110,14 @@ fn put_turn<K: Sink>(
     sink: &mut K,
     heap: &Heap,
     previews: &Previews,
-    child: Child,
+    child: Child<'_>,
     turn: &Turn,
 ) -> Result<(), Failed>
     requires previews { AreFor heap.now.cells previews.now }
     requires kid { IsKid heap.now.cells child }
     requires cell { LeafWithin heap.now.cells turn.now.opened }
     ensures { Puts (K.state sink.old) (K.state sink.new)
-        (turn_text (leaf_text heap.now.enc heap.now.cells previews.now) heap.now.cells (child_shown heap.now.cells child) turn.now) result }
+        (turn_text (leaf_text heap.now.enc heap.now.cells previews.now) heap.now.cells (child_shown heap.now.cells child.entry) turn.now) result }
 {
     write_all(sink, turn.front)?;
     put_own_if(sink, heap, previews, child, turn)

@@ -134,9 +134,9 @@ fn advance(path: &mut Path, opened: Opened, came: bool, inside: bool)
 }
 
 // Whether a child is the leaf that ends a list.
-fn is_nil_child(heap: &Heap, child: Child) -> bool
+fn is_nil_child(heap: &Heap, child: Child<'_>) -> bool
     requires { IsKid heap.now.cells child }
-    ensures { result ≡ is_nil_term (child_shown heap.now.cells child) }
+    ensures { result ≡ is_nil_term (child_shown heap.now.cells child.entry) }
 {
     match child {
         Child::Term(Slot::Imm(_), cell, place) => {
@@ -173,12 +173,12 @@ fn is_list(opened: Opened) -> bool
 }
 
 // Goes on with a list after its head.
-fn turn_tail(heap: &Heap, path: &mut Path, entry: Entry, child: Child, opened: Opened) -> Turn
+fn turn_tail(heap: &Heap, path: &mut Path, entry: Entry, child: Child<'_>, opened: Opened) -> Turn
     requires at { AtChild heap.now path.old entry child opened }
     requires kind { entry.kind ≡ NodeKind.Cons }
     requires next { 0 < entry.next }
     ensures cells { path.new.cells ≡ path.old.cells }
-    ensures turn { IsTurn heap.now.cells path.old.entries path.new.entries (child_shown heap.now.cells child) result }
+    ensures turn { IsTurn heap.now.cells path.old.entries path.new.entries (child_shown heap.now.cells child.entry) result }
 {
     if is_nil_child(heap, child) {
         path.pop();
@@ -205,11 +205,11 @@ fn turn_tail(heap: &Heap, path: &mut Path, entry: Entry, child: Child, opened: O
 }
 
 // Goes on with a list.
-fn turn_list(heap: &Heap, path: &mut Path, entry: Entry, child: Child, opened: Opened) -> Turn
+fn turn_list(heap: &Heap, path: &mut Path, entry: Entry, child: Child<'_>, opened: Opened) -> Turn
     requires at { AtChild heap.now path.old entry child opened }
     requires kind { entry.kind ≡ NodeKind.Cons }
     ensures cells { path.new.cells ≡ path.old.cells }
-    ensures turn { IsTurn heap.now.cells path.old.entries path.new.entries (child_shown heap.now.cells child) result }
+    ensures turn { IsTurn heap.now.cells path.old.entries path.new.entries (child_shown heap.now.cells child.entry) result }
 {
     if entry.next > 0 {
         return turn_tail(heap, path, entry, child, opened);
@@ -223,11 +223,11 @@ fn turn_list(heap: &Heap, path: &mut Path, entry: Entry, child: Child, opened: O
 }
 
 // Goes on with a tuple.
-fn turn_tuple(heap: &Heap, path: &mut Path, entry: Entry, child: Child, opened: Opened) -> Turn
+fn turn_tuple(heap: &Heap, path: &mut Path, entry: Entry, child: Child<'_>, opened: Opened) -> Turn
     requires at { AtChild heap.now path.old entry child opened }
     requires kind { entry.kind ≡ NodeKind.Tuple }
     ensures cells { path.new.cells ≡ path.old.cells }
-    ensures turn { IsTurn heap.now.cells path.old.entries path.new.entries (child_shown heap.now.cells child) result }
+    ensures turn { IsTurn heap.now.cells path.old.entries path.new.entries (child_shown heap.now.cells child.entry) result }
 {
     advance(path, opened, true, false);
     Turn {
@@ -238,11 +238,11 @@ fn turn_tuple(heap: &Heap, path: &mut Path, entry: Entry, child: Child, opened: 
 }
 
 // Goes on with a flat map.
-fn turn_flat(heap: &Heap, path: &mut Path, entry: Entry, child: Child, opened: Opened) -> Turn
+fn turn_flat(heap: &Heap, path: &mut Path, entry: Entry, child: Child<'_>, opened: Opened) -> Turn
     requires at { AtChild heap.now path.old entry child opened }
     requires kind { entry.kind ≡ NodeKind.Flat }
     ensures cells { path.new.cells ≡ path.old.cells }
-    ensures turn { IsTurn heap.now.cells path.old.entries path.new.entries (child_shown heap.now.cells child) result }
+    ensures turn { IsTurn heap.now.cells path.old.entries path.new.entries (child_shown heap.now.cells child.entry) result }
 {
     advance(path, opened, true, false);
     if entry.next % 2 == 0 {
@@ -260,11 +260,11 @@ fn turn_flat(heap: &Heap, path: &mut Path, entry: Entry, child: Child, opened: O
 }
 
 // Goes on with a pair of a hash map.
-fn turn_pair(heap: &Heap, path: &mut Path, entry: Entry, child: Child, opened: Opened) -> Turn
+fn turn_pair(heap: &Heap, path: &mut Path, entry: Entry, child: Child<'_>, opened: Opened) -> Turn
     requires at { AtChild heap.now path.old entry child opened }
     requires kind { entry.kind ≡ NodeKind.Pair }
     ensures cells { path.new.cells ≡ path.old.cells }
-    ensures turn { IsTurn heap.now.cells path.old.entries path.new.entries (child_shown heap.now.cells child) result }
+    ensures turn { IsTurn heap.now.cells path.old.entries path.new.entries (child_shown heap.now.cells child.entry) result }
 {
     advance(path, opened, true, false);
     if entry.next == 0 {
@@ -282,11 +282,11 @@ fn turn_pair(heap: &Heap, path: &mut Path, entry: Entry, child: Child, opened: O
 }
 
 // Goes on with the items of a hash map or of an inner node.
-fn turn_item(heap: &Heap, path: &mut Path, entry: Entry, child: Child, opened: Opened) -> Turn
+fn turn_item(heap: &Heap, path: &mut Path, entry: Entry, child: Child<'_>, opened: Opened) -> Turn
     requires at { AtChild heap.now path.old entry child opened }
     requires kind { HasItems entry.kind }
     ensures cells { path.new.cells ≡ path.old.cells }
-    ensures turn { IsTurn heap.now.cells path.old.entries path.new.entries (child_shown heap.now.cells child) result }
+    ensures turn { IsTurn heap.now.cells path.old.entries path.new.entries (child_shown heap.now.cells child.entry) result }
 {
     if let Opened::Bad(_, _) = opened {
         advance(path, opened, true, false);
@@ -305,10 +305,10 @@ fn turn_item(heap: &Heap, path: &mut Path, entry: Entry, child: Child, opened: O
 }
 
 // Goes on with the innermost cell, given what was found for its next child.
-fn turn_by(heap: &Heap, path: &mut Path, entry: Entry, child: Child, opened: Opened) -> Turn
+fn turn_by(heap: &Heap, path: &mut Path, entry: Entry, child: Child<'_>, opened: Opened) -> Turn
     requires at { AtChild heap.now path.old entry child opened }
     ensures cells { path.new.cells ≡ path.old.cells }
-    ensures turn { IsTurn heap.now.cells path.old.entries path.new.entries (child_shown heap.now.cells child) result }
+    ensures turn { IsTurn heap.now.cells path.old.entries path.new.entries (child_shown heap.now.cells child.entry) result }
 {
     match entry.kind {
         NodeKind::Cons => turn_list(heap, path, entry, child, opened),
@@ -321,7 +321,7 @@ fn turn_by(heap: &Heap, path: &mut Path, entry: Entry, child: Child, opened: Ope
 }
 
 /// Visits the next child of the innermost cell.
-pub(crate) fn visit_next(heap: &Heap, path: &mut Path, entry: Entry, child: Child) -> Turn
+pub(crate) fn visit_next(heap: &Heap, path: &mut Path, entry: Entry, child: Child<'_>) -> Turn
     requires serves { Serves heap.now path.old.cells }
     requires top { path.old.entries ≡ entry ∷ drop 1 path.old.entries }
     requires few { length path.old.entries ≤ length heap.now.cells }
@@ -329,7 +329,7 @@ pub(crate) fn visit_next(heap: &Heap, path: &mut Path, entry: Entry, child: Chil
     requires at { slice_get (kids_of heap.now.cells entry.kind (number entry.cell)) entry.next ≡ Some (child_shown heap.now.cells child) }
     requires kid { IsKid heap.now.cells child }
     ensures cells { path.new.cells ≡ path.old.cells }
-    ensures turn { IsTurn heap.now.cells path.old.entries path.new.entries (child_shown heap.now.cells child) result }
+    ensures turn { IsTurn heap.now.cells path.old.entries path.new.entries (child_shown heap.now.cells child.entry) result }
 {
     let opened = open_child(heap, path, child);
     turn_by(heap, path, entry, child, opened)

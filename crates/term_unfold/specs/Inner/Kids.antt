@@ -67,7 +67,7 @@ pub record IsItemAt (heap : List Cell) (n place : ℕ) : Type 0 where
   pub kind : HasMembers (form_at heap n)
 
 abbrev pub IsKid : List Cell → Kid → Type 0
-IsKid heap (kid.Term slot ix place) = IsTermAt heap slot (number ix) place
+IsKid heap (kid.Term slot ix place) = IsTermAt heap slot.now (number ix) place
 IsKid heap (kid.Item ix place) = IsItemAt heap (number ix) place
 
 -- a child that was asked for by its place is that one of the children, and the place is small
