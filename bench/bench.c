@@ -22,8 +22,9 @@
 //                                     on the heap, and half sections of binaries of that size, a multiple of 3
 //   bench copy FILE                   reads the file twice and writes it once, in pieces of 64 KiB
 //   bench scan FILE                   counts the headers: reads of 64 KiB, memchr for `=`, the byte before
-//   bench reread FILE LOOK            does so, and then reads the sections of processes and heaps and 17 bytes of each binary's, as
-//                                     `edump binaries` does; with LOOK 1 it also counts what in the heaps looks like a reference
+//   bench reread FILE KINDS LOOK      does so, and then reads the sections of processes, with KINDS 2 those of heaps too, and with
+//                                     KINDS 3 also 17 bytes of each binary's, as `edump procs` and `edump binaries` do; with
+//                                     LOOK 1 it also counts what in the heaps looks like a reference
 //   bench measure OUT COMMAND WORDS.. runs a command, its output into the file OUT, and prints the seconds that it
 //                                     took and the most memory that it had, in KiB
 #define _GNU_SOURCE
@@ -273,7 +274,7 @@ static int scan(const char *name) {
     return 0;
 }
 
-static int reread(const char *name, int look) {
+static int reread(const char *name, int kinds, int look) {
     static const char *tags[] = {"proc:", "proc_heap:", "binary:"};
     static char piece[65536];
     static struct { long at; int kind; } sections[4000000];
@@ -289,7 +290,7 @@ static int reread(const char *name, int look) {
                 sections[count++].kind = kind;
             }
     sections[count].at = offset;
-    for (int kind = 0; kind < 3; kind++)
+    for (int kind = 0; kind < kinds; kind++)
         for (long i = 0; i < count; i++) {
             if (sections[i].kind != kind) continue;
             long upto = kind == 2 ? sections[i].at + 17 : sections[i + 1].at;
@@ -339,7 +340,7 @@ int main(int count, char **words) {
     if (count == 5 && !strcmp(words[1], "payloads")) return write_payloads(words[2], atol(words[3]), atol(words[4]));
     if (count == 3 && !strcmp(words[1], "copy")) return copy(words[2]);
     if (count == 3 && !strcmp(words[1], "scan")) return scan(words[2]);
-    if (count == 4 && !strcmp(words[1], "reread")) return reread(words[2], atoi(words[3]));
+    if (count == 5 && !strcmp(words[1], "reread")) return reread(words[2], atoi(words[3]), atoi(words[4]));
     if (count > 3 && !strcmp(words[1], "measure")) return measure(words[2], words + 3);
     return 2;
 }

@@ -1,12 +1,12 @@
 #!/bin/sh
-# Times `edump index` and `edump info` on a dump of 1 GiB, once with 500,000 and once with 900,000 sections, warm, beside a C
-# loop and grep; then `edump procs` and `edump triage` on a dump of 1 GiB with 200,000 processes, beside `edump index`; then
-# the load of heaps, beside the reading of their lines through `heap_line` and `form`, `edump term` beside a program in C that
-# writes the same, and the walk of a term; then the previews of binaries, and `edump binaries` beside `edump index` and a
-# program in C that reads the same; then an external term, read and written; then `edump audit` beside `edump procs`, and
-# `edump audit-json` beside `edump audit`; and then `edump redact` of a dump of 1 GiB beside `cat`, each into a file that isn't
-# there before. Each command runs in turn for a number of rounds; the script prints its median in seconds, how many times that
-# of another this is, and the most memory that it had.
+# Times `edump index` and `edump info` on a dump of 1 GiB, once with 500,000 and once with 900,000 sections, warm, beside a
+# C loop and grep; then `edump procs` and `edump triage` on a dump of 1 GiB with 200,000 processes, beside `edump index` and
+# a program in C that only reads the same; then the load of heaps, beside the reading of their lines through `heap_line` and
+# `form`, `edump term` beside a program in C that writes the same, and the walk of a term; then the previews of binaries,
+# and `edump binaries` beside `edump index` and a program in C that reads the same; then an external term, read and written;
+# then `edump audit` beside `edump procs`, and `edump audit-json` beside `edump audit`; and then `edump redact` of a dump of
+# 1 GiB beside `cat`, each into a file that isn't there before. Each command runs in turn for a number of rounds; the script
+# prints its median in seconds, how many times that of another this is, and the most memory that it had.
 #
 #   bench/run.sh [ROUNDS]
 #
@@ -74,10 +74,12 @@ echo "a dump of 1 GiB with $processes processes, $rounds rounds, $(tail -n 1 "$f
 for _ in $(seq "$rounds"); do
     round index /dev/null "$edump" index "$dump"
     round procs /dev/null "$edump" procs "$dump"
+    round reread /dev/null "$bench" reread "$dump" 1 0
     round triage /dev/null "$edump" triage "$dump"
 done
 tell index "edump index" index "edump index"
 tell procs "edump procs" index "edump index"
+tell reread "reads alone" index "edump index"
 tell triage "edump triage" procs "edump procs"
 # What the process table takes beside the index and the texts that it keeps.
 for name in index procs; do sort -n -k 2 "$folder/$name.times" | tail -n 1; done |
@@ -141,8 +143,8 @@ for shape in "holders 1073741824 200000 100000" "repeated 4294967296"; do
         round procs /dev/null "$edump" procs "$dump"
         round triage /dev/null "$edump" triage "$dump"
         round binaries /dev/null "$edump" binaries "$dump"
-        round reread /dev/null "$bench" reread "$dump" 1
-        round only /dev/null "$bench" reread "$dump" 0
+        round reread /dev/null "$bench" reread "$dump" 3 1
+        round only /dev/null "$bench" reread "$dump" 3 0
     done
     echo "a dump of $(wc -c <"$dump") bytes, $shape:"
     tell index "edump index" index "itself"

@@ -58,16 +58,16 @@ use trial::run_trial;
 /// Runs a command from a device to the sink of its report, and returns its status.
 pub(crate) fn run_command<D: Dumps, K: Sink>(
     alloc: Global,
-    cmd: &Cmd<'_>,
+    cmd: Cmd<'_>,
     limits: &Limits,
     dumps: &mut D,
     out: &mut K,
 ) -> Result<u8, Stop>
-    requires { IsInRange (shown cmd.now) }
-    ensures runs { Runs (shown cmd.now) limits.now (D.state dumps.old) (D.state dumps.new) (K.state out.old) (K.state out.new) result }
+    requires { IsInRange (shown cmd) }
+    ensures runs { Runs (shown cmd.entry) limits.now (D.state dumps.old) (D.state dumps.new) (K.state out.old) (K.state out.new) result }
 
     // A command without a file leaves the device as it is.
-    ensures idle { file_of (shown cmd.now) ≡ None → dumps.new ≡ dumps.old }
+    ensures idle { file_of (shown cmd.entry) ≡ None → dumps.new ≡ dumps.old }
 {
     match cmd {
         Cmd::Index { file } => run_report(alloc, &Index { file }, limits, dumps, out),
@@ -100,7 +100,7 @@ pub(crate) fn run_command<D: Dumps, K: Sink>(
             nodes,
             marked,
         } => {
-            let roots = Roots::new(RootKind::Stack, file, pid, *nodes, *marked);
+            let roots = Roots::new(RootKind::Stack, file, pid, nodes, marked);
             run_report(alloc, &roots, limits, dumps, out)
         }
         Cmd::Dict {
@@ -109,7 +109,7 @@ pub(crate) fn run_command<D: Dumps, K: Sink>(
             nodes,
             marked,
         } => {
-            let roots = Roots::new(RootKind::Dict, file, pid, *nodes, *marked);
+            let roots = Roots::new(RootKind::Dict, file, pid, nodes, marked);
             run_report(alloc, &roots, limits, dumps, out)
         }
         Cmd::Mail {
@@ -118,7 +118,7 @@ pub(crate) fn run_command<D: Dumps, K: Sink>(
             nodes,
             marked,
         } => {
-            let roots = Roots::new(RootKind::Mail, file, pid, *nodes, *marked);
+            let roots = Roots::new(RootKind::Mail, file, pid, nodes, marked);
             run_report(alloc, &roots, limits, dumps, out)
         }
         Cmd::Term {
@@ -131,9 +131,9 @@ pub(crate) fn run_command<D: Dumps, K: Sink>(
             let term = Term {
                 file,
                 pid: pid.as_bytes(),
-                addr: *addr,
-                nodes: *nodes,
-                marked: *marked,
+                addr,
+                nodes,
+                marked,
             };
             run_report(alloc, &term, limits, dumps, out)
         }
@@ -141,7 +141,7 @@ pub(crate) fn run_command<D: Dumps, K: Sink>(
             let ext = Ext {
                 file,
                 pid: pid.as_bytes(),
-                addr: *addr,
+                addr,
             };
             run_report(alloc, &ext, limits, dumps, out)
         }
@@ -154,37 +154,26 @@ pub(crate) fn run_command<D: Dumps, K: Sink>(
             run_report(alloc, &Cells { file, pid }, limits, dumps, out)
         }
         Cmd::Binary { file, addr } => {
-            let addr = *addr;
             run_report(alloc, &Binary { file, addr }, limits, dumps, out)
         }
         Cmd::Binaries { file } => run_report(alloc, &Binaries { file }, limits, dumps, out),
         Cmd::Holders { file, addr } => {
-            let addr = *addr;
             run_report(alloc, &Holders { file, addr }, limits, dumps, out)
         }
         Cmd::Triage { file, count } => {
-            let count = *count;
             run_report(alloc, &Triage { file, count }, limits, dumps, out)
         }
         Cmd::Links { file } => run_report(alloc, &Links { file }, limits, dumps, out),
         Cmd::Redact { file } => run_redact(alloc, file, limits, dumps, out),
         Cmd::Audit { file, limit, full } => {
-            let audit = Audit {
-                file,
-                limit: *limit,
-                full: *full,
-            };
+            let audit = Audit { file, limit, full };
             run_report(alloc, &audit, limits, dumps, out)
         }
         Cmd::AuditJson { file, limit, full } => {
-            let audit = AuditJson {
-                file,
-                limit: *limit,
-                full: *full,
-            };
+            let audit = AuditJson { file, limit, full };
             run_report(alloc, &audit, limits, dumps, out)
         }
-        Cmd::Make { seed, count } => run_make(alloc, *seed, *count, out),
-        Cmd::Trial { seed, count } => run_trial(alloc, *seed, *count, out),
+        Cmd::Make { seed, count } => run_make(alloc, seed, count, out),
+        Cmd::Trial { seed, count } => run_trial(alloc, seed, count, out),
     }
 }

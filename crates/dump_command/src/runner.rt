@@ -64,7 +64,7 @@ pub fn run<D: Dumps, K: Sink, E: Sink>(
     match read_words(words) {
         None => put_usage(err),
         Some(cmd) => {
-            let ended = run_command(alloc, &cmd, limits, dumps, out);
+            let ended = run_command(alloc, cmd, limits, dumps, out);
             end(ended, err)
         }
     }
