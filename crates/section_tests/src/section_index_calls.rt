@@ -1,6 +1,6 @@
 use dump_io::{Dumps, Limits, MemDumps};
-use section_index::{BodyFault, State, Tags, Version, build, read_body};
-use std::alloc::Global;
+use section_index::{BodyFault, Index, State, Tags, Version, build, read_body};
+use std::alloc::{AllocError, Global};
 use std::test::Fail;
 
 // The answer about these bytes under these limits.
@@ -71,22 +71,31 @@ fn a_dump_is_refused_by_its_first_cause(rt: HostRuntime) -> Result<(), Fail> {
     Ok(())
 }
 
-#[test]
-fn a_header_at_a_seam_is_found(rt: HostRuntime) -> Result<(), Fail> {
-    // The LF is the last byte of the first piece.
-    let mut bytes = Vec::from_slice(rt.alloc(), b"=erl_crash_dump:0.4\r\n".as_slice())?;
+// The index of a dump, and how many bytes its device gave.
+fn index_in(alloc: Global, bytes: &[u8]) -> Result<(Index, u64), Fail> {
+    let mut dumps = MemDumps::holding(alloc, "V", bytes, &[7], &[])?;
+    let index = build(alloc, &mut dumps, "V", &Limits::usual())?;
+    Ok((index, dumps.taken()))
+}
+
+// A dump with an LF as the last byte of the first piece.
+fn long_dump(alloc: Global) -> Result<Vec<u8>, AllocError> {
+    let mut bytes = Vec::from_slice(alloc, b"=erl_crash_dump:0.4\r\n".as_slice())?;
     bytes.resize(65_535, b'x')?;
     bytes.extend_from_slice(b"\n=end".as_slice())?;
-    let mut dumps = MemDumps::holding(rt.alloc(), "V", bytes.as_slice(), &[7], &[])?;
-    let index = build(rt.alloc(), &mut dumps, "V", &Limits::usual())?;
-    if index.len() != 2 {
-        return Err("another number of sections".into());
-    }
+    Ok(bytes)
+}
+
+#[test]
+fn a_header_at_a_seam_is_found(rt: HostRuntime) -> Result<(), Fail> {
+    let bytes = long_dump(rt.alloc())?;
+    let (index, taken) = index_in(rt.alloc(), &bytes)?;
+    assert!(rt; index.len() == 2);
     let end = index.section(1);
     assert_eq!(rt; (end.at, end.body, end.end), (65_536, 65_540, 65_540));
     assert_eq!(rt; index.version(), Version::V04);
     assert_eq!(rt; index.state(), State::Whole);
-    assert_eq!(rt; dumps.taken(), 65_540);
+    assert_eq!(rt; taken, 65_540);
     Ok(())
 }
 
@@ -106,11 +115,14 @@ fn body_of<D: Dumps>(
     Ok(read_body(alloc, dumps, &index, i, limits))
 }
 
+fn tags_in(alloc: Global, bytes: &[u8]) -> Result<Tags, Fail> {
+    let (index, _) = index_in(alloc, bytes)?;
+    Ok(Tags::count(alloc, &index)?)
+}
+
 #[test]
 fn tags_are_counted(rt: HostRuntime) -> Result<(), Fail> {
-    let mut dumps = MemDumps::holding(rt.alloc(), "V", DUMP, &[3], &[])?;
-    let index = build(rt.alloc(), &mut dumps, "V", &Limits::usual())?;
-    let tags = Tags::count(rt.alloc(), &index)?;
+    let tags = tags_in(rt.alloc(), DUMP)?;
     assert_eq!(rt; tags.len(), 4);
     for (i, tag, count) in [
         (0, "erl_crash_dump", 1),
@@ -118,9 +130,7 @@ fn tags_are_counted(rt: HostRuntime) -> Result<(), Fail> {
         (2, "node", 2),
         (3, "end", 1),
     ] {
-        if tags.len() <= i {
-            return Err("no tag".into());
-        }
+        assert!(rt; i < tags.len());
         let (found, number) = tags.at(i);
         assert_eq!(rt; found, tag.as_bytes());
         assert_eq!(rt; number, count);
