@@ -1,6 +1,6 @@
 use crate::printing::put_kept;
 use dump_io::{Dumps, Failed, Limits, MemDumps, MemSink, Sink, put_dec, write_all};
-use process_table::{Kept, Procs};
+use process_table::{Kept, Proc, Procs};
 use section_index::build;
 use std::alloc::Global;
 use std::process::Abort;
@@ -16,19 +16,23 @@ fn print_field<K: Sink>(sink: &mut K, field: Option<Kept<'_>>) -> Result<(), Fai
     }
 }
 
+// Writes a process as a line.
+fn print_process<K: Sink>(sink: &mut K, process: &Proc<'_>) -> Result<(), Failed> {
+    put_dec(sink, process.section as u64)?;
+    write_all(sink, b" ")?;
+    write_all(sink, process.pid)?;
+    print_field(sink, process.state)?;
+    print_field(sink, process.name)?;
+    print_field(sink, process.queue)?;
+    print_field(sink, process.memory)?;
+    print_field(sink, process.links)?;
+    write_all(sink, b"\n")
+}
+
 // Writes a line for each process.
 fn print<K: Sink>(sink: &mut K, procs: &Procs) -> Result<(), Failed> {
     for i in 0..procs.len() {
-        let process = procs.at(i);
-        put_dec(sink, process.section as u64)?;
-        write_all(sink, b" ")?;
-        write_all(sink, process.pid)?;
-        print_field(sink, process.state)?;
-        print_field(sink, process.name)?;
-        print_field(sink, process.queue)?;
-        print_field(sink, process.memory)?;
-        print_field(sink, process.links)?;
-        write_all(sink, b"\n")?;
+        print_process(sink, &procs.at(i))?;
     }
     put_dec(sink, procs.repeated())
 }
@@ -61,8 +65,8 @@ fn processes_are_loaded(rt: HostRuntime) -> Result<(), Fail> {
         &procs,
         b"1 <0.1.0> 42:49:b 34:40:a - - 51:62:[]\n4 <0.2.0> - - 117:138: 107:115:9 -\n1",
     );
-    assert_eq!(rt; procs.get(b"<0.2.0>".as_slice()), Some(1));
-    assert_eq!(rt; procs.get(b"<0.2".as_slice()), None);
+    let places = [procs.get(b"<0.2.0>"), procs.get(b"<0.2")];
+    assert_eq!(rt; places, [Some(1), None]);
     Ok(())
 }
 
