@@ -1,6 +1,7 @@
 use audit_bodies::AuditBodies;
-use dump_io::{Limits, MemDumps};
+use dump_io::{Dumps, Limits, MemDumps};
 use section_index::build;
+use std::alloc::Global;
 use std::test::Fail;
 
 // Three processes: of the two mailboxes of the first one the first counts, the
@@ -18,15 +19,22 @@ H30:N
 H40:N
 ";
 
+fn bodies_of<D: Dumps>(alloc: Global, dumps: &mut D) -> Result<AuditBodies, Fail> {
+    let limits = Limits::usual();
+    let index = build(alloc, dumps, "F", &limits)?;
+    Ok(AuditBodies::load(alloc, dumps, &index, true, &limits)?)
+}
+
+fn bodies_in(alloc: Global, dump: &[u8]) -> Result<AuditBodies, Fail> {
+    let mut dumps = MemDumps::holding(alloc, "F", dump, &[], &[])?;
+    bodies_of(alloc, &mut dumps)
+}
+
 #[test]
 fn a_full_audit_counts_the_first_mailbox_of_each_process(rt: HostRuntime) -> Result<(), Fail> {
-    let alloc = rt.alloc();
-    let limits = Limits::usual();
-    let mut dumps = MemDumps::holding(alloc, "F", DUMP, &[], &[])?;
-    let index = build(alloc, &mut dumps, "F", &limits)?;
-    let bodies = AuditBodies::load(alloc, &mut dumps, &index, true, &limits)?;
+    let bodies = bodies_in(rt.alloc(), DUMP)?;
     assert_eq!(rt; bodies.procs.len(), 3);
-    let mails = bodies.mails.ok_or("not counted")?;
-    assert_eq!(rt; mails.as_slice(), [Some(2), None, None].as_slice());
+    let mails = bodies.mails.as_deref();
+    assert_eq!(rt; mails, Some([Some(2), None, None].as_slice()));
     Ok(())
 }

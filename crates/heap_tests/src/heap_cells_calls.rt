@@ -2,10 +2,11 @@
 ghost use Rattle.std.specs.Prelude.{◌<◌, length};
 ghost use Rattle.heap_cells.specs.Targets.{number};
 
-use dump_io::{Limits, MemDumps};
+use dump_io::{Dumps, Limits, MemDumps};
 use heap_cells::{CellIx, Heap, HeapFault, Kid, Kind, Seat, Slot};
 use section_index::build;
 use std::alloc::{AllocError, Global};
+use std::process::Abort;
 use std::test::Fail;
 use term_forms::{put_elem, put_form};
 
@@ -23,13 +24,24 @@ fn device(
     MemDumps::holding(alloc, "V", text.as_bytes(), &[], fails)
 }
 
-fn load(
+// The heap that a device has, or why it isn't loaded.
+fn load<D: Dumps>(
     alloc: Global,
-    dumps: &mut MemDumps,
+    dumps: &mut D,
     limits: &Limits,
 ) -> Result<Result<Heap, HeapFault>, Fail> {
     let index = build(alloc, dumps, "V", &Limits::usual())?;
     Ok(Heap::load(alloc, dumps, &index, b"<0.1.0>", limits))
+}
+
+fn heap_of<D: Dumps>(alloc: Global, dumps: &mut D) -> Result<Heap, Fail> {
+    Ok(load(alloc, dumps, &Limits::usual())??)
+}
+
+// The heap in the dump of a process with these lines.
+fn heap_in(alloc: Global, version: &str, heap: &str, literals: &str) -> Result<Heap, Fail> {
+    let mut dumps = device(alloc, version, heap, literals, &[])?;
+    heap_of(alloc, &mut dumps)
 }
 
 // An element: the number of a cell after `#`, an address that no cell has after `?`, or its plain spelling.
@@ -71,61 +83,78 @@ fn drawn(alloc: Global, heap: &Heap) -> Result<Vec<u8>, AllocError> {
     Ok(out)
 }
 
-#[test]
-fn lines_are_cells(rt: HostRuntime) -> Result<(), Fail> {
-    let alloc = rt.alloc();
-    for (version, heap, literals, cells) in [
-        (
-            "0.5",
-            "10:t3:H20,H30,N\n20:t0:\n",
-            "",
-            "10 t3:H20,H30,N #1 ?30 N; 20 t0:; ",
-        ),
-        ("0.5", "00000000000000010:lI1|N\n", "", ""),
-        ("0.5", "0000000000000010:lI1|N\n", "", "10 lI1|N I1 N; "),
-        ("0.5", ":lI1|N\nG:lI1|N\n10\n", "", ""),
-        (
-            "0.5",
-            "10:lI1|N\n10:lI2|N\n8:t0:\n",
-            "",
-            "10 lI1|N I1 N; 8 t0:; ",
-        ),
-        ("0.5", "10:x\n10:lI2|N\n", "", "10 malformed; "),
-        (
-            "0.5",
-            "20:N\n10:lH20|H10\r\n",
-            "20:t0:\n8:lH10|N\n",
-            "20 malformed; 10 lH20|H10 #0 #1; + 8 lH10|N #1 N; ",
-        ),
-        (
-            "0.5",
-            "10:Mf1:H20:A1:a\n",
-            "20:t1:H10\n",
-            "10 Mf1:H20:A1:a #1 A1:a; + 20 t1:H10 #0; ",
-        ),
-        (
-            "0.5",
-            "",
-            "10:Mh2:1:H20\n20:Mn1:H10\n",
-            "+ 10 Mh2:1:H20 #1; 20 Mn1:H10 #0; ",
-        ),
-        (
-            "0.4",
-            "10:Yh2:6869\n20:Yh2:aGk=\n",
-            "",
-            "10 Yh2:6869; 20 malformed; ",
-        ),
-    ] {
-        let mut dumps = device(alloc, version, heap, literals, &[])?;
-        let loaded = load(alloc, &mut dumps, &Limits::usual())??;
-        let text = drawn(alloc, &loaded)?;
+fn drawn_in(alloc: Global, version: &str, heap: &str, literals: &str) -> Result<Vec<u8>, Fail> {
+    let loaded = heap_in(alloc, version, heap, literals)?;
+    Ok(drawn(alloc, &loaded)?)
+}
+
+// Each row has the version of a dump, the lines of its heap and of its literals, and the cells.
+fn have(rt: &impl Abort, alloc: Global, rows: &[(&str, &str, &str, &str)]) -> Result<(), Fail> {
+    for (version, heap, literals, cells) in rows {
+        let text = drawn_in(alloc, version, heap, literals)?;
         assert_eq!(rt; text.as_slice(), cells.as_bytes());
     }
     Ok(())
 }
 
+#[test]
+fn lines_are_cells(rt: HostRuntime) -> Result<(), Fail> {
+    have(
+        &rt,
+        rt.alloc(),
+        &[
+            (
+                "0.5",
+                "10:t3:H20,H30,N\n20:t0:\n",
+                "",
+                "10 t3:H20,H30,N #1 ?30 N; 20 t0:; ",
+            ),
+            ("0.5", "00000000000000010:lI1|N\n", "", ""),
+            ("0.5", "0000000000000010:lI1|N\n", "", "10 lI1|N I1 N; "),
+            ("0.5", ":lI1|N\nG:lI1|N\n10\n", "", ""),
+            (
+                "0.5",
+                "10:lI1|N\n10:lI2|N\n8:t0:\n",
+                "",
+                "10 lI1|N I1 N; 8 t0:; ",
+            ),
+            ("0.5", "10:x\n10:lI2|N\n", "", "10 malformed; "),
+            (
+                "0.5",
+                "20:N\n10:lH20|H10\r\n",
+                "20:t0:\n8:lH10|N\n",
+                "20 malformed; 10 lH20|H10 #0 #1; + 8 lH10|N #1 N; ",
+            ),
+            (
+                "0.5",
+                "10:Mf1:H20:A1:a\n",
+                "20:t1:H10\n",
+                "10 Mf1:H20:A1:a #1 A1:a; + 20 t1:H10 #0; ",
+            ),
+            (
+                "0.5",
+                "",
+                "10:Mh2:1:H20\n20:Mn1:H10\n",
+                "+ 10 Mh2:1:H20 #1; 20 Mn1:H10 #0; ",
+            ),
+            (
+                "0.4",
+                "10:Yh2:6869\n20:Yh2:aGk=\n",
+                "",
+                "10 Yh2:6869; 20 malformed; ",
+            ),
+        ],
+    )
+}
+
 // The heap is one malformed cell.
 const MALFORMED: &str = "10 malformed; ";
+
+// The heap with this text as the form of its only line.
+fn heap_of_line(alloc: Global, text: &str) -> Result<Heap, Fail> {
+    let line = format!(in alloc; "10:{text}\n")?;
+    heap_in(alloc, "0.5", line.as_str(), "")
+}
 
 #[test]
 fn texts_that_are_no_form_are_malformed(rt: HostRuntime) -> Result<(), Fail> {
@@ -147,46 +176,65 @@ fn texts_that_are_no_form_are_malformed(rt: HostRuntime) -> Result<(), Fail> {
         "Mf1:H20:",
         "q",
     ] {
-        let line = format!(in alloc; "10:{text}\n")?;
-        let mut dumps = device(alloc, "0.5", line.as_str(), "", &[])?;
-        let loaded = load(alloc, &mut dumps, &Limits::usual())??;
-        let text = drawn(alloc, &loaded)?;
+        let heap = heap_of_line(alloc, text)?;
+        assert!(rt; matches!(heap.at(16), Seat::Malformed(_)));
+        let text = drawn(alloc, &heap)?;
         assert_eq!(rt; text.as_slice(), MALFORMED.as_bytes());
-        assert!(rt; matches!(loaded.at(16), Seat::Malformed(_)));
     }
     Ok(())
 }
 
-#[test]
-fn addresses_and_references_are_resolved(rt: HostRuntime) -> Result<(), Fail> {
-    let alloc = rt.alloc();
-    let mut dumps = device(alloc, "0.5", "30:t3:H20,H40,N\n20:t0:\n", "8:N\n", &[])?;
-    let heap = load(alloc, &mut dumps, &Limits::usual())??;
-    assert_eq!(rt; heap.cells(), 3);
-    if heap.cells() < 3 {
-        return Err("cells".into());
-    }
+// A heap with a tuple, an empty one and a malformed cell, at these addresses.
+fn have_seats(rt: &impl Abort, heap: &Heap) {
+    assert!(rt; heap.cells() == 3);
+    let found = [heap.at(48), heap.at(32), heap.at(8), heap.at(64)];
+    let expected = [
+        Seat::Cell(heap.cell(0)),
+        Seat::Cell(heap.cell(1)),
+        Seat::Malformed(heap.cell(2)),
+        Seat::Missing,
+    ];
+    assert_eq!(rt; found, expected);
+}
+
+fn have_slots(rt: &impl Abort, heap: &Heap) {
+    assert!(rt; heap.cells() == 3);
     let tuple = heap.cell(0);
     let empty = heap.cell(1);
-    assert_eq!(rt; heap.at(48), Seat::Cell(tuple));
-    assert_eq!(rt; heap.at(32), Seat::Cell(empty));
-    assert_eq!(rt; heap.at(8), Seat::Malformed(heap.cell(2)));
-    assert_eq!(rt; heap.at(64), Seat::Missing);
-    assert_eq!(rt; heap.kind(tuple), Some(Kind::Tuple));
-    match heap.slots(tuple) {
-        [first, second, Slot::Imm(_)] => {
-            assert_eq!(rt; *first, Slot::Cell(empty));
-            assert_eq!(rt; *second, Slot::Gone(64));
-        }
-        _ => return Err("slots".into()),
-    }
+    assert!(rt; matches!(heap.kind(tuple), Some(Kind::Tuple)));
+    let slots = heap.slots(tuple);
+    assert!(rt; slots.len() == 3);
+    assert_eq!(rt; [slots[0], slots[1]], [Slot::Cell(empty), Slot::Gone(64)]);
+    assert!(rt; matches!(slots[2], Slot::Imm(_)));
     assert!(rt; heap.slots(empty).is_empty());
+}
+
+#[test]
+fn addresses_and_references_are_resolved(rt: HostRuntime) -> Result<(), Fail> {
+    let heap = heap_in(rt.alloc(), "0.5", "30:t3:H20,H40,N\n20:t0:\n", "8:N\n")?;
+    have_seats(&rt, &heap);
+    have_slots(&rt, &heap);
     Ok(())
 }
 
 const HEAP: &str = "10:lI1|H18\n18:lH20|N\n20:t2:A2:ok,H30\n30:Mf1:H100:H40\n40:Yc500:1:3\n";
 
 const LITERALS: &str = "100:t1:A3:key\n";
+
+// Whether the heap that a device has is loaded with these limits, or why not.
+fn load_within<D: Dumps>(
+    alloc: Global,
+    dumps: &mut D,
+    section: u32,
+    dense: u32,
+) -> Result<String, Fail> {
+    let dump = Limits::usual().dump();
+    let limits = Limits::new(dump, 100, 100, 100, section, dense).ok_or("limits")?;
+    match load(alloc, dumps, &limits)? {
+        Ok(_) => Ok(String::from_str(alloc, "loaded")?),
+        Err(fault) => Ok(format!(in alloc; "{fault:?}")?),
+    }
+}
 
 #[test]
 fn heaps_above_a_limit_are_refused(rt: HostRuntime) -> Result<(), Fail> {
@@ -201,12 +249,7 @@ fn heaps_above_a_limit_are_refused(rt: HostRuntime) -> Result<(), Fail> {
         (66, 14, 4, "Read", 66),
     ] {
         let mut dumps = device(alloc, "0.5", HEAP, LITERALS, &[fails])?;
-        let usual = Limits::usual();
-        let limits = Limits::new(usual.dump(), 100, 100, 100, section, dense).ok_or("limits")?;
-        let answered = match load(alloc, &mut dumps, &limits)? {
-            Ok(_) => String::from_str(alloc, "loaded")?,
-            Err(fault) => format!(in alloc; "{fault:?}")?,
-        };
+        let answered = load_within(alloc, &mut dumps, section, dense)?;
         assert_eq!(rt; answered.as_str(), answer);
         assert_eq!(rt; dumps.taken(), size + taken);
     }

@@ -1,4 +1,3 @@
-ghost use Rattle.std.specs.Prelude.{IfOk};
 ghost use Rattle.section_index.specs.Index.{IsBuiltOver};
 ghost use Rattle.process_table.specs.Processes.{IsOver};
 
@@ -44,10 +43,6 @@ no size
 20:
 =end
 ";
-
-fn device(alloc: Global, cuts: &[usize]) -> Result<MemDumps, AllocError> {
-    MemDumps::holding(alloc, "S", SAMPLE, cuts, &[])
-}
 
 // Holdings as rows: the place, the bytes, how many binaries, and how many cells.
 fn draw_holdings(out: &mut Vec<u8>, held: &[Holding]) -> Result<(), AllocError> {
@@ -99,35 +94,58 @@ fn with_heap(
     MemDumps::holding(alloc, "S", &text, cuts, &[])
 }
 
-// The index and the processes of what the device holds.
-fn load<D: Dumps>(alloc: Global, dumps: &mut D) -> Result<(Index, Procs), Fail>
-    ensures over { IfOk result (λ found. IsBuiltOver (D.state dumps.new).now found.0) }
-    ensures procs { IfOk result (λ found. IsOver found.0 found.1) }
-{
-    let limits = Limits::usual();
-    let index = build(alloc, dumps, "S", &limits)?;
-    let procs = Procs::load(alloc, dumps, &index, &limits)?;
-    Ok((index, procs))
-}
+// Each of the functions that draw keeps one large value, since a proof
+// that follows several of them to each exit takes much longer.
 
-// What is found on the device, as rows.
-fn draw_use<D: Dumps>(alloc: Global, dumps: &mut D) -> Result<Vec<u8>, Fail> {
-    let (index, procs) = load(alloc, dumps)?;
-    let found = binary_use(alloc, dumps, &index, &procs)?;
+fn draw_use<D: Dumps>(
+    alloc: Global,
+    dumps: &mut D,
+    index: &Index,
+    procs: &Procs,
+) -> Result<Vec<u8>, Fail>
+    requires over { IsBuiltOver (D.state dumps.old).now index.now }
+    requires procs { IsOver index.now procs.now }
+{
+    let found = binary_use(alloc, dumps, index, procs)?;
     Ok(drawn(alloc, &found)?)
 }
 
-// Appends, as rows, which processes hold the binary with a number on the device.
 fn draw_holders<D: Dumps>(
     alloc: Global,
     dumps: &mut D,
+    index: &Index,
+    procs: &Procs,
     number: u64,
-    out: &mut Vec<u8>,
-) -> Result<(), Fail> {
-    let (index, procs) = load(alloc, dumps)?;
-    let held = holders(alloc, dumps, &index, &procs, number)?;
-    draw_holdings(out, &held)?;
-    Ok(())
+) -> Result<Vec<u8>, Fail>
+    requires over { IsBuiltOver (D.state dumps.old).now index.now }
+    requires procs { IsOver index.now procs.now }
+{
+    let held = holders(alloc, dumps, index, procs, number)?;
+    let mut out = Vec::new(alloc);
+    draw_holdings(&mut out, &held)?;
+    Ok(out)
+}
+
+fn draw_over<D: Dumps>(
+    alloc: Global,
+    dumps: &mut D,
+    index: &Index,
+    asked: Option<u64>,
+) -> Result<Vec<u8>, Fail>
+    requires { IsBuiltOver (D.state dumps.old).now index.now }
+{
+    let procs = Procs::load(alloc, dumps, index, &Limits::usual())?;
+    match asked {
+        Some(number) => draw_holders(alloc, dumps, index, &procs, number),
+        None => draw_use(alloc, dumps, index, &procs),
+    }
+}
+
+// Draws, for the device's dump, which processes hold the binary
+// with a number, or, without a number, all that is found.
+fn draw<D: Dumps>(alloc: Global, dumps: &mut D, asked: Option<u64>) -> Result<Vec<u8>, Fail> {
+    let index = build(alloc, dumps, "S", &Limits::usual())?;
+    draw_over(alloc, dumps, &index, asked)
 }
 
 // Which processes hold the binary 500 in a dump of one process with this heap.
@@ -138,17 +156,20 @@ fn drawn_holders(
     cuts: &[usize],
 ) -> Result<Vec<u8>, Fail> {
     let mut dumps = with_heap(alloc, version, heap, cuts)?;
-    let mut out = Vec::new(alloc);
-    draw_holders(alloc, &mut dumps, 0x500, &mut out)?;
-    Ok(out)
+    draw(alloc, &mut dumps, Some(0x500))
+}
+
+// All that is found in the sample.
+fn sample_use(alloc: Global, cuts: &[usize]) -> Result<Vec<u8>, Fail> {
+    let mut dumps = MemDumps::holding(alloc, "S", SAMPLE, cuts, &[])?;
+    draw(alloc, &mut dumps, None)
 }
 
 #[test]
 fn the_most_stands_first(rt: HostRuntime) -> Result<(), Fail> {
     let alloc = rt.alloc();
     for cuts in [&[][..], &[1], &[7, 3]] {
-        let mut dumps = device(alloc, cuts)?;
-        let text = draw_use(alloc, &mut dumps)?;
+        let text = sample_use(alloc, cuts)?;
         let expected: &[u8] = b"1 47 3 4
 0 32 1 2
 32 2 AF0 267
@@ -163,21 +184,41 @@ fn the_most_stands_first(rt: HostRuntime) -> Result<(), Fail> {
     Ok(())
 }
 
+// A heap with this line, and one before it that has this many
+// bytes, which are none of a reference, and one after it.
+fn heap_with(alloc: Global, before: usize, line: &[u8]) -> Result<Vec<u8>, AllocError> {
+    let mut heap = vec![in alloc; b'x'; before]?;
+    heap.extend_from_slice(b"\n")?;
+    heap.extend_from_slice(line)?;
+    heap.extend_from_slice(b"18:Yc500:0:1\n")?;
+    Ok(heap)
+}
+
 #[test]
 fn a_line_counts_wherever_pieces_end_in_it(rt: HostRuntime) -> Result<(), Fail> {
     let alloc = rt.alloc();
     let line: &[u8] = b"0000000000000010:Yc0000000000000500:0000000000000000:0000000000000005\r\n";
     for before in 65_464..65_540 {
-        // The line before it has bytes that are none of a reference, and is long enough to end here.
-        let mut heap = vec![in alloc; b'x'; before]?;
-        heap.extend_from_slice(b"\n")?;
-        heap.extend_from_slice(line)?;
-        heap.extend_from_slice(b"18:Yc500:0:1")?;
-        heap.extend_from_slice(b"\n")?;
+        let heap = heap_with(alloc, before, line)?;
         let text = drawn_holders(alloc, "0.4", &heap, &[])?;
         assert_eq!(rt; text.as_slice(), b"0 0 1 2\n".as_slice());
     }
     Ok(())
+}
+
+// A heap that begins and ends like this, with this many zeros between them.
+fn heap_between(
+    alloc: Global,
+    begin: &str,
+    length: usize,
+    end: &str,
+) -> Result<Vec<u8>, AllocError> {
+    let mut heap = Vec::from_slice(alloc, begin.as_bytes())?;
+    for _ in 0..length {
+        heap.push(b'0')?;
+    }
+    heap.extend_from_slice(end.as_bytes())?;
+    Ok(heap)
 }
 
 #[test]
@@ -190,11 +231,7 @@ fn the_rest_of_a_long_line_is_no_line(rt: HostRuntime) -> Result<(), Fail> {
         ("0", 17, ":Yc500:0:1\n", ""),
         ("10:Yc500:0:1:Yc500:0:1\n", 0, "20:Yc500:0:1\n", "0 0 1 1\n"),
     ] {
-        let mut heap = Vec::from_slice(alloc, begin.as_bytes())?;
-        for _ in 0..length {
-            heap.push(b'0')?;
-        }
-        heap.extend_from_slice(end.as_bytes())?;
+        let heap = heap_between(alloc, begin, length, end)?;
         let text = drawn_holders(alloc, "0.5", &heap, &[])?;
         assert_eq!(rt; text.as_slice(), answer.as_bytes());
     }

@@ -3,7 +3,6 @@ ghost use Rattle.dump_io.specs.Lines.{Header};
 
 use line_source::{HeaderSink, HeaderStop, LineScan, RefusedHeader, ScanFault};
 use std::alloc::Global;
-use std::test::Fail;
 
 #[derive(Drop)]
 struct Heard {
@@ -98,7 +97,7 @@ fn is_heard(headers: &[Heard], want: &[(u64, u64, &str)]) -> bool {
 }
 
 #[test]
-fn headers_are_heard_in_pieces(rt: HostRuntime) -> Result<(), Fail> {
+fn headers_are_heard_in_pieces(rt: HostRuntime) {
     let too_long = |at: u64| Err(ScanFault::HeaderTooLong { at });
     for (limit, first, second, result, want) in [
         // an LF at the end of a piece, and an equals sign at the beginning of the next
@@ -130,26 +129,22 @@ fn headers_are_heard_in_pieces(rt: HostRuntime) -> Result<(), Fail> {
         (3, "\n=ab\r", "\n", too_long(1), [].as_slice()),
         (3, "=ab", "", Ok(()), [(0, 3, "=ab")].as_slice()),
     ] {
-        let mut listener = Listener::new(rt.alloc(), 9);
         let mut scan = LineScan::new(limit);
-        assert_eq!(rt;
-            feed_both(
-                &mut scan,
-                first.as_bytes(),
-                second.as_bytes(),
-                &mut listener
-            ),
-            result,
-            "{first}"
+        let mut listener = Listener::new(rt.alloc(), 9);
+        let found = feed_both(
+            &mut scan,
+            first.as_bytes(),
+            second.as_bytes(),
+            &mut listener,
         );
+        assert_eq!(rt; found, result, "{first}");
         assert!(rt; is_heard(&listener.headers, want), "{first}");
         assert!(rt; scan.spent());
     }
-    Ok(())
 }
 
 #[test]
-fn a_refusal_ends_the_scan(rt: HostRuntime) -> Result<(), Fail> {
+fn a_refusal_ends_the_scan(rt: HostRuntime) {
     let mut listener = Listener::new(rt.alloc(), 1);
     let mut scan = LineScan::new(4_096);
     let stop = HeaderStop::TooMany { at: 7 };
@@ -159,5 +154,4 @@ fn a_refusal_ends_the_scan(rt: HostRuntime) -> Result<(), Fail> {
     );
     assert!(rt; is_heard(&listener.headers, &[(0, 3, "=a")]));
     assert!(rt; scan.spent());
-    Ok(())
 }

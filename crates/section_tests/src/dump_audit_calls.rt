@@ -1,28 +1,58 @@
+ghost use Rattle.std.specs.Prelude.{All};
+ghost use Rattle.section_index.specs.Index.{IsBuiltOver};
+ghost use Rattle.process_table.specs.Processes.{IsIn};
+
 use dump_audit::{Finding, audit, audit_full};
 use dump_io::{Dumps, Limits, MemDumps};
 use link_graph::Graph;
 use process_table::Procs;
-use section_index::build;
-use std::alloc::Global;
+use section_index::{Index, build};
+use std::alloc::{AllocError, Global};
 use std::test::Fail;
 
-// The findings in the dump of a device, with a limit, and, in a full audit, with the numbers of messages.
+// Each of the next three functions keeps one large value, since a proof
+// that follows several of them to each exit takes much longer.
+
+// The findings among processes, with a limit, and, in a full audit, with the numbers of messages.
+fn findings_among(
+    alloc: Global,
+    index: &Index,
+    procs: &Procs,
+    limit: u64,
+    mails: Option<&[Option<u64>]>,
+) -> Result<Vec<Finding>, AllocError>
+    requires { All (IsIn index.now) procs.now.processes }
+{
+    let graph = Graph::build(alloc, procs)?;
+    match mails {
+        Some(mails) if mails.len() == procs.len() => {
+            audit_full(alloc, index, procs, &graph, limit, mails)
+        }
+        _ => audit(alloc, index, procs, &graph, limit),
+    }
+}
+
+fn findings_over<D: Dumps>(
+    alloc: Global,
+    dumps: &mut D,
+    index: &Index,
+    limit: u64,
+    mails: Option<&[Option<u64>]>,
+) -> Result<Vec<Finding>, Fail>
+    requires { IsBuiltOver (D.state dumps.old).now index.now }
+{
+    let procs = Procs::load(alloc, dumps, index, &Limits::usual())?;
+    Ok(findings_among(alloc, index, &procs, limit, mails)?)
+}
+
 fn findings_of<D: Dumps>(
     alloc: Global,
     dumps: &mut D,
     limit: u64,
     mails: Option<&[Option<u64>]>,
 ) -> Result<Vec<Finding>, Fail> {
-    let limits = Limits::usual();
-    let index = build(alloc, dumps, "F", &limits)?;
-    let procs = Procs::load(alloc, dumps, &index, &limits)?;
-    let graph = Graph::build(alloc, &procs)?;
-    match mails {
-        Some(mails) if mails.len() == procs.len() => {
-            Ok(audit_full(alloc, &index, &procs, &graph, limit, mails)?)
-        }
-        _ => Ok(audit(alloc, &index, &procs, &graph, limit)?),
-    }
+    let index = build(alloc, dumps, "F", &Limits::usual())?;
+    findings_over(alloc, dumps, &index, limit, mails)
 }
 
 fn findings(

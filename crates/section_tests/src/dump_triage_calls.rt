@@ -1,8 +1,13 @@
+ghost use Rattle.std.specs.Prelude.{All};
+ghost use Rattle.section_index.specs.Index.{IsBuiltOver};
+ghost use Rattle.process_table.specs.Processes.{IsIn};
+
 use dump_io::{Dumps, Failed, Limits, MemDumps, MemSink, Sink, put_dec, write_all};
 use dump_triage::{FindingCounts, Ranked, Triage};
 use process_table::Procs;
-use section_index::build;
+use section_index::{Index, build};
 use std::alloc::Global;
+use std::process::Abort;
 use std::test::Fail;
 use table_sections::{Rows, TableKind};
 
@@ -58,12 +63,44 @@ const PRINTED: &str = "1 2
 -
 ";
 
+// Each of the next three functions keeps one large value, since a proof
+// that follows several of them to each exit takes much longer.
+
+fn triage_with<D: Dumps>(
+    alloc: Global,
+    dumps: &mut D,
+    index: &Index,
+    procs: &Procs,
+    most: u64,
+) -> Result<Triage, Fail>
+    requires over { IsBuiltOver (D.state dumps.old).now index.now }
+    requires sections { All (IsIn index.now) procs.now.processes }
+{
+    let tables = Rows::load(alloc, dumps, index, TableKind::Ets, &Limits::usual())?;
+    Ok(Triage::of(alloc, index, procs, &tables, most)?)
+}
+
+fn triage_over<D: Dumps>(
+    alloc: Global,
+    dumps: &mut D,
+    index: &Index,
+    most: u64,
+) -> Result<Triage, Fail>
+    requires { IsBuiltOver (D.state dumps.old).now index.now }
+{
+    let procs = Procs::load(alloc, dumps, index, &Limits::usual())?;
+    triage_with(alloc, dumps, index, &procs, most)
+}
+
 fn triage_of<D: Dumps>(alloc: Global, dumps: &mut D, most: u64) -> Result<Triage, Fail> {
-    let limits = Limits::usual();
-    let index = build(alloc, dumps, "F", &limits)?;
-    let procs = Procs::load(alloc, dumps, &index, &limits)?;
-    let tables = Rows::load(alloc, dumps, &index, TableKind::Ets, &limits)?;
-    Ok(Triage::of(alloc, &index, &procs, &tables, most)?)
+    let index = build(alloc, dumps, "F", &Limits::usual())?;
+    triage_over(alloc, dumps, &index, most)
+}
+
+fn triage(alloc: Global, most: u64) -> Result<Triage, Fail> {
+    let text = format!(in alloc; "=erl_crash_dump:0.5\n{DUMP}")?;
+    let mut dumps = MemDumps::holding(alloc, "F", text.as_bytes(), &[], &[])?;
+    triage_of(alloc, &mut dumps, most)
 }
 
 // Writes each row as its place and its number.
@@ -84,18 +121,18 @@ fn print_all<K: Sink>(sink: &mut K, triage: &Triage) -> Result<(), Failed> {
     print(sink, triage.tables())
 }
 
+// Checks what is printed with all rows and with one of each.
+fn has(rt: &impl Abort, alloc: Global, all: &Triage, one: &Triage) {
+    let mut sink = MemSink::new(alloc, 0, Vec::new(alloc));
+    assert!(rt; print_all(&mut sink, all).is_ok() && print_all(&mut sink, one).is_ok());
+    assert_eq!(rt; sink.written(), PRINTED.as_bytes());
+}
+
 #[test]
 fn what_stands_out_is_told(rt: HostRuntime) -> Result<(), Fail> {
-    let alloc = rt.alloc();
-    let text = format!(in alloc; "=erl_crash_dump:0.5\n{DUMP}")?;
-    let mut dumps = MemDumps::holding(alloc, "F", text.as_bytes(), &[], &[])?;
-    let mut sink = MemSink::new(alloc, 0, Vec::new(alloc));
-    let all = triage_of(alloc, &mut dumps, 10)?;
-    let one = triage_of(alloc, &mut dumps, 1)?;
-    if print_all(&mut sink, &all).is_err() || print_all(&mut sink, &one).is_err() {
-        return Err("a write failed".into());
-    }
-    assert_eq!(rt; sink.written(), PRINTED.as_bytes());
+    let all = triage(rt.alloc(), 10)?;
+    let one = triage(rt.alloc(), 1)?;
+    has(&rt, rt.alloc(), &all, &one);
     let counts = FindingCounts {
         links: 3,
         monitors_to: 0,

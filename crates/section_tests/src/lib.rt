@@ -10,6 +10,8 @@ mod dump_triage_calls;
 #[cfg(test)]
 mod link_graph_calls;
 #[cfg(test)]
+mod printing;
+#[cfg(test)]
 mod process_table_calls;
 #[cfg(test)]
 mod section_index_calls;

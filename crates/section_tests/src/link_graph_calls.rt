@@ -1,6 +1,6 @@
 // Link lists.
-use link_graph::EntryKind;
 use link_graph::reading::entries;
+use link_graph::{Entry, EntryKind};
 use std::process::Abort;
 use std::test::Fail;
 
@@ -12,12 +12,14 @@ fn has(
 ) -> Result<(), Fail> {
     let mut left = entries(list).ok_or("not read")?;
     for (at, text, kind) in expected {
-        let entry = left.next().ok_or("no entry")?;
-        assert_eq!(rt; entry.at, *at);
-        assert_eq!(rt; entry.text, *text);
-        assert_eq!(rt; entry.kind, *kind);
+        let entry = Entry {
+            at: *at,
+            text,
+            kind: *kind,
+        };
+        assert_eq!(rt; left.next(), Some(entry));
     }
-    assert!(rt; left.next().is_none());
+    assert_eq!(rt; left.next(), None);
     Ok(())
 }
 

@@ -1,6 +1,7 @@
 use dump_io::{Dumps, Limits, MemDumps};
-use section_index::{BodyFault, State, Tags, Version, build, read_body};
-use std::alloc::Global;
+use section_index::{BodyFault, Index, State, Tags, Version, build, read_body};
+use std::alloc::{AllocError, Global};
+use std::process::Abort;
 use std::test::Fail;
 
 // The answer about these bytes under these limits.
@@ -12,81 +13,104 @@ fn answer(alloc: Global, bytes: &[u8], limits: &Limits) -> Result<String, Fail> 
     }
 }
 
-#[test]
-fn a_dump_is_refused_by_its_first_cause(rt: HostRuntime) -> Result<(), Fail> {
-    let two = b"=erl_crash_dump:0.5\n=abc\n".as_slice();
-    for (bytes, dump, header, sections, pool, want) in [
-        (two, 24, 1, 0, 0, "a dump of 25 bytes is too large"),
-        (b"\x1F\x8B".as_slice(), 99, 1, 0, 0, "compressed"),
-        (b"=erl_crash_dump".as_slice(), 99, 1, 0, 0, "not a dump"),
-        (
-            b"=erl_crash_dump:0.55".as_slice(),
-            99,
-            20,
-            0,
-            0,
-            "a version that isn't read",
-        ),
-        (
-            b"=erl_crash_dump:0.5\r".as_slice(),
-            99,
-            20,
-            0,
-            0,
-            "a version that isn't read",
-        ),
-        // a first line that is too long names no version
-        (
-            b"=erl_crash_dump:0.55".as_slice(),
-            99,
-            19,
-            0,
-            0,
-            "the header at 0 is too long",
-        ),
-        // of three causes at one header, the first that is listed
-        (
-            b"=erl_crash_dump:0.5\n=bcdefghijklmnopqrstuvw".as_slice(),
-            99,
-            19,
-            1,
-            19,
-            "the header at 20 is too long",
-        ),
-        (two, 25, 19, 1, 19, "the section at 20 is one too many"),
-        (
-            two,
-            25,
-            19,
-            2,
-            22,
-            "the headers up to 20 are too large together",
-        ),
-        (two, 25, 19, 2, 23, "accepted"),
-    ] {
-        let limits = Limits::new(dump, header, sections, pool, 0, 0).ok_or("refused")?;
-        let found = answer(rt.alloc(), bytes, &limits)?;
-        assert_eq!(rt; found.as_str(), want);
+// Each row has the bytes, four limits, and the answer.
+fn answers(
+    rt: &impl Abort,
+    alloc: Global,
+    rows: &[(&[u8], u64, u16, u32, u32, &str)],
+) -> Result<(), Fail> {
+    for (bytes, dump, header, sections, pool, want) in rows {
+        let limits = Limits::new(*dump, *header, *sections, *pool, 0, 0).ok_or("refused")?;
+        let found = answer(alloc, bytes, &limits)?;
+        assert_eq!(rt; found.as_str(), *want);
     }
     Ok(())
 }
 
+const TWO: &[u8] = b"=erl_crash_dump:0.5\n=abc\n";
+
 #[test]
-fn a_header_at_a_seam_is_found(rt: HostRuntime) -> Result<(), Fail> {
-    // The LF is the last byte of the first piece.
-    let mut bytes = Vec::from_slice(rt.alloc(), b"=erl_crash_dump:0.4\r\n".as_slice())?;
+fn a_dump_is_refused_by_its_first_cause(rt: HostRuntime) -> Result<(), Fail> {
+    answers(
+        &rt,
+        rt.alloc(),
+        &[
+            (TWO, 24, 1, 0, 0, "a dump of 25 bytes is too large"),
+            (b"\x1F\x8B", 99, 1, 0, 0, "compressed"),
+            (b"=erl_crash_dump", 99, 1, 0, 0, "not a dump"),
+            (
+                b"=erl_crash_dump:0.55",
+                99,
+                20,
+                0,
+                0,
+                "a version that isn't read",
+            ),
+            (
+                b"=erl_crash_dump:0.5\r",
+                99,
+                20,
+                0,
+                0,
+                "a version that isn't read",
+            ),
+            // a first line that is too long names no version
+            (
+                b"=erl_crash_dump:0.55",
+                99,
+                19,
+                0,
+                0,
+                "the header at 0 is too long",
+            ),
+            // of three causes at one header, the first that is listed
+            (
+                b"=erl_crash_dump:0.5\n=bcdefghijklmnopqrstuvw",
+                99,
+                19,
+                1,
+                19,
+                "the header at 20 is too long",
+            ),
+            (TWO, 25, 19, 1, 19, "the section at 20 is one too many"),
+            (
+                TWO,
+                25,
+                19,
+                2,
+                22,
+                "the headers up to 20 are too large together",
+            ),
+            (TWO, 25, 19, 2, 23, "accepted"),
+        ],
+    )
+}
+
+// The index of a dump, and how many bytes its device gave.
+fn index_in(alloc: Global, bytes: &[u8]) -> Result<(Index, u64), Fail> {
+    let mut dumps = MemDumps::holding(alloc, "V", bytes, &[7], &[])?;
+    let index = build(alloc, &mut dumps, "V", &Limits::usual())?;
+    Ok((index, dumps.taken()))
+}
+
+// A dump with an LF as the last byte of the first piece.
+fn long_dump(alloc: Global) -> Result<Vec<u8>, AllocError> {
+    let mut bytes = Vec::from_slice(alloc, b"=erl_crash_dump:0.4\r\n".as_slice())?;
     bytes.resize(65_535, b'x')?;
     bytes.extend_from_slice(b"\n=end".as_slice())?;
-    let mut dumps = MemDumps::holding(rt.alloc(), "V", bytes.as_slice(), &[7], &[])?;
-    let index = build(rt.alloc(), &mut dumps, "V", &Limits::usual())?;
-    if index.len() != 2 {
-        return Err("another number of sections".into());
-    }
+    Ok(bytes)
+}
+
+#[test]
+fn a_header_at_a_seam_is_found(rt: HostRuntime) -> Result<(), Fail> {
+    let bytes = long_dump(rt.alloc())?;
+    let (index, taken) = index_in(rt.alloc(), &bytes)?;
+    assert!(rt; index.len() == 2);
     let end = index.section(1);
-    assert_eq!(rt; (end.at, end.body, end.end), (65_536, 65_540, 65_540));
-    assert_eq!(rt; index.version(), Version::V04);
-    assert_eq!(rt; index.state(), State::Whole);
-    assert_eq!(rt; dumps.taken(), 65_540);
+    let numbers = [end.at, end.body, end.end, taken];
+    assert_eq!(rt; numbers, [65_536, 65_540, 65_540, 65_540]);
+    assert!(rt; matches!(index.version(), Version::V04));
+    assert!(rt; matches!(index.state(), State::Whole));
     Ok(())
 }
 
@@ -106,11 +130,14 @@ fn body_of<D: Dumps>(
     Ok(read_body(alloc, dumps, &index, i, limits))
 }
 
+fn tags_in(alloc: Global, bytes: &[u8]) -> Result<Tags, Fail> {
+    let (index, _) = index_in(alloc, bytes)?;
+    Ok(Tags::count(alloc, &index)?)
+}
+
 #[test]
 fn tags_are_counted(rt: HostRuntime) -> Result<(), Fail> {
-    let mut dumps = MemDumps::holding(rt.alloc(), "V", DUMP, &[3], &[])?;
-    let index = build(rt.alloc(), &mut dumps, "V", &Limits::usual())?;
-    let tags = Tags::count(rt.alloc(), &index)?;
+    let tags = tags_in(rt.alloc(), DUMP)?;
     assert_eq!(rt; tags.len(), 4);
     for (i, tag, count) in [
         (0, "erl_crash_dump", 1),
@@ -118,9 +145,7 @@ fn tags_are_counted(rt: HostRuntime) -> Result<(), Fail> {
         (2, "node", 2),
         (3, "end", 1),
     ] {
-        if tags.len() <= i {
-            return Err("no tag".into());
-        }
+        assert!(rt; i < tags.len());
         let (found, number) = tags.at(i);
         assert_eq!(rt; found, tag.as_bytes());
         assert_eq!(rt; number, count);
@@ -128,14 +153,23 @@ fn tags_are_counted(rt: HostRuntime) -> Result<(), Fail> {
     Ok(())
 }
 
+// What is loaded of a section of a dump under these limits, and how many bytes its device gave.
+fn body_in(
+    alloc: Global,
+    bytes: &[u8],
+    i: usize,
+    limits: &Limits,
+) -> Result<(Result<Vec<u8>, BodyFault>, u64), Fail> {
+    let mut dumps = MemDumps::holding(alloc, "V", bytes, &[3], &[])?;
+    let body = body_of(alloc, &mut dumps, i, limits)?;
+    Ok((body, dumps.taken()))
+}
+
 #[test]
 fn a_body_above_the_limit_is_not_read(rt: HostRuntime) -> Result<(), Fail> {
-    let mut dumps = MemDumps::holding(rt.alloc(), "V", DUMP, &[3], &[])?;
     let small = Limits::new(100, 100, 100, 100, 4, 100).ok_or("refused")?;
-    match body_of(rt.alloc(), &mut dumps, 1, &small)? {
-        Err(BodyFault::SectionTooLarge { at, len }) => assert_eq!(rt; (at, len), (31, 5)),
-        _ => return Err("loaded".into()),
-    }
-    assert_eq!(rt; dumps.taken(), DUMP.len() as u64);
+    let (body, taken) = body_in(rt.alloc(), DUMP, 1, &small)?;
+    assert!(rt; matches!(body, Err(BodyFault::SectionTooLarge { at: 31, len: 5 })));
+    assert_eq!(rt; taken, DUMP.len() as u64);
     Ok(())
 }

@@ -1,6 +1,7 @@
+use crate::printing::put_kept;
 use dump_io::{Dumps, Failed, Limits, MemDumps, MemSink, Sink, put_dec, write_all};
-use section_index::{BodyFault, build};
-use section_rows::{Column, Kept, SectionRows};
+use section_index::build;
+use section_rows::{Column, SectionRows};
 use std::alloc::Global;
 use std::test::Fail;
 
@@ -8,11 +9,7 @@ const DUMP: &[u8] =
     b"=erl_crash_dump:0.5\nA: 0\n=node:b:1\nA:  x\nB: 2\n=ets\nB:\nA\n=node:c\nA: y\nA: z";
 
 // The rows of the sections after the first one.
-fn rows_of<D: Dumps>(
-    alloc: Global,
-    dumps: &mut D,
-    limits: &Limits,
-) -> Result<Result<SectionRows, BodyFault>, Fail> {
+fn rows_of<D: Dumps>(alloc: Global, dumps: &mut D, limits: &Limits) -> Result<SectionRows, Fail> {
     let index = build(alloc, dumps, "V", &Limits::usual())?;
     if index.len() < 4 {
         return Err("no section".into());
@@ -23,7 +20,7 @@ fn rows_of<D: Dumps>(
         Column::Field(b"A"),
         Column::Field(b"B"),
     ];
-    Ok(SectionRows::load(alloc, dumps, &index, &[1, 2, 3], &columns, limits))
+    Ok(SectionRows::load(alloc, dumps, &index, &[1, 2, 3], &columns, limits)?)
 }
 
 // Writes a line for each row, with the offsets and the text of each cell.
@@ -32,7 +29,7 @@ fn print<K: Sink>(sink: &mut K, rows: &SectionRows) -> Result<(), Failed> {
         put_dec(sink, rows.at(i))?;
         for c in 0..rows.columns() {
             match rows.cell(i, c) {
-                Some(kept) => print_cell(sink, &kept)?,
+                Some(kept) => put_kept(sink, &kept)?,
                 None => write_all(sink, b" -")?,
             }
         }
@@ -41,21 +38,16 @@ fn print<K: Sink>(sink: &mut K, rows: &SectionRows) -> Result<(), Failed> {
     Ok(())
 }
 
-fn print_cell<K: Sink>(sink: &mut K, kept: &Kept<'_>) -> Result<(), Failed> {
-    write_all(sink, b" ")?;
-    put_dec(sink, kept.at)?;
-    write_all(sink, b":")?;
-    put_dec(sink, kept.value_at)?;
-    write_all(sink, b":")?;
-    write_all(sink, kept.text)
+fn rows_in(alloc: Global, dump: &[u8]) -> Result<SectionRows, Fail> {
+    let mut dumps = MemDumps::holding(alloc, "V", dump, &[3], &[])?;
+    rows_of(alloc, &mut dumps, &Limits::usual())
 }
 
 #[test]
 fn rows_are_loaded(rt: HostRuntime) -> Result<(), Fail> {
-    let mut dumps = MemDumps::holding(rt.alloc(), "V", DUMP, &[3], &[])?;
-    let rows = rows_of(rt.alloc(), &mut dumps, &Limits::usual())??;
+    let rows = rows_in(rt.alloc(), DUMP)?;
     let mut sink = MemSink::new(rt.alloc(), 0, Vec::new(rt.alloc()));
-    print(&mut sink, &rows).map_err(|_| "a write failed")?;
+    assert!(rt; print(&mut sink, &rows).is_ok());
     assert_eq!(rt;
         sink.written(),
         b"25 25:26:node 25:31:b:1 35:38: x 41:44:2\n46 46:47:ets - - 51:53:\n56 56:57:node 56:62:c 64:67:y -\n".as_slice()
