@@ -21,7 +21,8 @@ bench="$folder/bench"
 dump="$folder/dump"
 edump="$here/../crates/edump/out/edump"
 heap_bench="$here/../crates/heap_bench/out/heap_bench"
-(cd "$here/../crates/heap_bench" && rt run -- lines data/small.heap) >"$folder/build.log" 2>&1 || exit 1
+# The gate builds heap_bench too; where it hasn't, the crates below it are proved first.
+[ -x "$heap_bench" ] || (cd "$here/../crates/heap_bench" && rt run -- lines data/small.heap) >"$folder/build.log" 2>&1 || exit 1
 
 # One round of a command: the name of its times, the file for its output, and the command.
 round() {
