@@ -38,12 +38,12 @@ tally-append cells xs ys =
     ap (λ n. tally n (bad_roots cells judged_nodes (xs ++ ys))) (length-append xs ys)
     ∙ ap (tally (length xs + length ys)) (sum_by-append (λ (root : BodyRoot). bad_content cells judged_nodes root.content) xs ys)
 
--- those of three, which are counted over the cells of the heap that was read
-pub tally-three : (cells read : List Cell) (xs ys zs : List BodyRoot) (x y z : Tally) → read ≡ cells → x ≡ tally_in read xs → y ≡ tally_in read ys → z ≡ tally_in read zs
+-- those of three
+pub tally-three : (cells : List Cell) (xs ys zs : List BodyRoot) (x y z : Tally) → x ≡ tally_in cells xs → y ≡ tally_in cells ys → z ≡ tally_in cells zs
     → plus x (plus y z) ≡ tally_in cells (xs ++ (ys ++ zs))
-tally-three cells read xs ys zs x y z is first second third =
-    ap (λ t. plus t (plus y z)) first ∙ ap (λ t. plus (tally_in read xs) (plus t z)) second ∙ ap (λ t. plus (tally_in read xs) (plus (tally_in read ys) t)) third
-    ∙ ap (plus (tally_in read xs)) (sym (tally-append read ys zs)) ∙ sym (tally-append read xs (ys ++ zs)) ∙ ap (λ c. tally_in c (xs ++ (ys ++ zs))) is
+tally-three cells xs ys zs x y z first second third =
+    ap (λ t. plus t (plus y z)) first ∙ ap (λ t. plus (tally_in cells xs) (plus t z)) second ∙ ap (λ t. plus (tally_in cells xs) (plus (tally_in cells ys) t)) third
+    ∙ ap (plus (tally_in cells xs)) (sym (tally-append cells ys zs)) ∙ sym (tally-append cells xs (ys ++ zs))
 
 -- a count over a walk and a dump, and the same over those that they are equal to
 pub tally-read : (before after : Walk) (held bytes pid : List ℕ) (kind : RootKind) (x : Tally) → after ≡ before → held ≡ bytes → x ≡ tally_in after.heap.cells (roots_in kind (root_body held kind pid))

@@ -2,7 +2,7 @@
 ghost use Rattle.std.specs.Prelude.{◌≡◌, ◌+◌, ◌<◌, ◌^◌, IfOk};
 ghost use Rattle.section_index.specs.Index.{IsIndexOf};
 ghost use Rattle.root_views.specs.Kinds.{roots_in};
-ghost use Rattle.dump_trial.specs.Trial.{root_body, tally_in, process_tally, tally_of};
+ghost use Rattle.dump_trial.specs.Trial.{root_body, process_roots, tally_in, process_tally, tally_of};
 ghost use Rattle.dump_trial.specs.Inner.Tallies.{plus, AreAtMost};
 
 use crate::finder::Finder;
@@ -46,6 +46,25 @@ fn count_kind(
     Ok(count_roots(walker, kind, body.as_slice(), JUDGED_NODES))
 }
 
+// Counts the roots of one process over its heap, which the walker judges.
+fn count_bodies(
+    alloc: Global,
+    held: &mut Held,
+    finder: &Finder<'_>,
+    pid: &[u8],
+    walker: &mut Walker<'_>,
+) -> Result<Tally, AllocError>
+    requires { IsIndexOf held.old finder.now }
+    ensures tally { IfOk result (λ tally. tally ≡ tally_in walker.old.heap.cells (process_roots held.old pid.now)) }
+    ensures few { IfOk result (AreAtMost 3221225472) }
+    ensures held { held.new ≡ held.old }
+{
+    let stack = count_kind(alloc, held, finder, pid, RootKind::Stack, walker)?;
+    let dict = count_kind(alloc, held, finder, pid, RootKind::Dict, walker)?;
+    let mail = count_kind(alloc, held, finder, pid, RootKind::Mail, walker)?;
+    Ok(plus(stack, plus(dict, mail)))
+}
+
 // Counts the roots of one process.
 fn count_process(
     alloc: Global,
@@ -61,10 +80,7 @@ fn count_process(
     let heap = held.heap(alloc, finder, pid)?;
     let previews = held.previews(alloc, finder, &heap)?;
     let mut walker = Walker::new(alloc, &heap, &previews)?;
-    let stack = count_kind(alloc, held, finder, pid, RootKind::Stack, &mut walker)?;
-    let dict = count_kind(alloc, held, finder, pid, RootKind::Dict, &mut walker)?;
-    let mail = count_kind(alloc, held, finder, pid, RootKind::Mail, &mut walker)?;
-    Ok(plus(stack, plus(dict, mail)))
+    count_bodies(alloc, held, finder, pid, &mut walker)
 }
 
 /// Counts the roots of all processes.
