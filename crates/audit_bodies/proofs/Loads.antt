@@ -6,11 +6,11 @@ use Rattle.std.specs.Global.{Vec}
 use Rattle.std.specs.Option.{option_map, option_or}
 use Rattle.std.proofs.lemmas.List.{length-map}
 use Rattle.dump_io.specs.Dumps.{DeviceState, DeviceFailed}
-use Rattle.section_index.specs.Bodies.{body_length}
-use Rattle.section_index.specs.Index.{Contents, sections_in}
-use Rattle.section_index.specs.Sections.{Section}
-use Rattle.section_index.specs.declared.bodies.BodyFault.{BodyFault}
-use Rattle.section_index.specs.declared.bodies.BodyFault.TheVariants.{SectionTooLarge, Read, Memory}
+use Rattle.dump_sections.specs.Bodies.{body_length}
+use Rattle.dump_sections.specs.Index.{Contents, sections_in}
+use Rattle.dump_sections.specs.Sections.{Section}
+use Rattle.dump_sections.specs.declared.bodies.BodyFault.{BodyFault}
+use Rattle.dump_sections.specs.declared.bodies.BodyFault.TheVariants.{SectionTooLarge, Read, Memory}
 use Rattle.section_rows.specs.Laws.{large-append}
 use Rattle.section_rows.specs.Loading.{first_large, large_fault, AreRefused, IsUnread}
 use Rattle.process_table.specs.Processes.{IsOver, Process, ProcessTable}

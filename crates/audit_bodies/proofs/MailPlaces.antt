@@ -7,11 +7,11 @@ use Rattle.std.proofs.lemmas.List.{map-append, take_more, take-append-drop}
 use Rattle.std.proofs.lemmas.List.Sums.{sum_by-append}
 use Rattle.std.proofs.lemmas.List.Elements.{All-nil, All-cons, filter_map-append}
 use Rattle.std.proofs.lemmas.Option.{get_or_from_slice_get, slice_get_within}
-use Rattle.section_index.specs.Bodies.{body_length, section_at}
-use Rattle.section_index.specs.Index.{Contents, sections_in}
-use Rattle.section_index.specs.declared.bodies.BodyFault.{BodyFault}
-use Rattle.section_index.specs.declared.bodies.BodyFault.TheVariants.{SectionTooLarge}
-use Rattle.section_index.specs.Sections.{Section}
+use Rattle.dump_sections.specs.Bodies.{body_length, section_at}
+use Rattle.dump_sections.specs.Index.{Contents, sections_in}
+use Rattle.dump_sections.specs.declared.bodies.BodyFault.{BodyFault}
+use Rattle.dump_sections.specs.declared.bodies.BodyFault.TheVariants.{SectionTooLarge}
+use Rattle.dump_sections.specs.Sections.{Section}
 use Rattle.section_rows.specs.Loading.{bodies_length, first_large, large_fault, sections_at}
 use Rattle.audit_bodies.specs.Mailboxes.{mailboxes_at, section_in}
 use Rattle.audit_bodies.specs.Inner.Mailboxes.{IsSmall}

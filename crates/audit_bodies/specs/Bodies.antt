@@ -1,6 +1,6 @@
 -- What an audit has read of its bodies.
 use Rattle.std.specs.Prelude.{◌≡◌, length, All, IfSome}
-use Rattle.section_index.specs.Index.{Contents}
+use Rattle.dump_sections.specs.Index.{Contents}
 use Rattle.process_table.specs.Processes.{IsIn}
 use Rattle.audit_bodies.specs.declared.loading.AuditBodies.{AuditBodies}
 

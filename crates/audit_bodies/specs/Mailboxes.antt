@@ -3,10 +3,10 @@ use Rattle.std.specs.Prelude.{ℕ, Bool, List, [], ◌++◌, map, position, slic
 use Rattle.std.specs.List.{between, filter_map}
 use Rattle.std.specs.Option.{option_and_then, option_map}
 use Rattle.dump_io.specs.Lines.{headers}
-use Rattle.section_index.specs.Index.{state_of}
-use Rattle.section_index.specs.Lookups.{is_named}
-use Rattle.section_index.specs.Sections.{Section, section, sections}
-use Rattle.section_index.specs.declared.index.State.{State}
+use Rattle.dump_sections.specs.Index.{state_of}
+use Rattle.dump_sections.specs.Lookups.{is_named}
+use Rattle.dump_sections.specs.Sections.{Section, section, sections}
+use Rattle.dump_sections.specs.declared.index.State.{State}
 use Rattle.process_table.specs.Records.{record_sections, records, pid_of}
 use Rattle.root_views.specs.Roots.{message_count}
 use Rattle.dump_audit.specs.Findings.{is_cut}

@@ -2,7 +2,7 @@
 ghost use Rattle.std.specs.Prelude.{◌≡◌, ℕ, List, [], ◌++◌, length, map, All, Some, None, ◌<◌, IfOk, IfErr, IsSome, OnOk, if◌then◌else◌};
 ghost use Rattle.std.specs.Option.{option_map};
 ghost use Rattle.dump_io.specs.Dumps.{told, ReadsAtMost};
-ghost use Rattle.section_index.specs.Index.{IsBuiltOver, sections_in, state_of};
+ghost use Rattle.dump_sections.specs.Index.{IsBuiltOver, sections_in, state_of};
 ghost use Rattle.section_rows.specs.Loading.{bodies_length, first_large, large_fault, sections_at, AreRefused, IsUnread};
 ghost use Rattle.process_table.specs.Processes.{process_table};
 ghost use Rattle.process_table.specs.Records.{proc_places, record_sections};
@@ -15,7 +15,7 @@ use crate::mailboxes::{mailboxes, present};
 use crate::messages::count_messages;
 use dump_io::{Dumps, Limits};
 use process_table::{ProcSections, Procs};
-use section_index::{BodyFault, Index};
+use dump_sections::{BodyFault, Index};
 use section_rows::large;
 use std::alloc::{AllocError, Global};
 

@@ -1,13 +1,13 @@
 // The mailboxes of processes: the first of the sections with messages of each pid.
 ghost use Rattle.std.specs.Prelude.{◌≡◌, ◌<◌, length, map, All, IfOk};
-ghost use Rattle.section_index.specs.Index.{sections_in};
+ghost use Rattle.dump_sections.specs.Index.{sections_in};
 ghost use Rattle.section_rows.specs.Loading.{sections_at};
 ghost use Rattle.audit_bodies.specs.Mailboxes.{mailbox_place, mailboxes_at};
 ghost use Rattle.audit_bodies.specs.Inner.Mailboxes.{IsWithin};
 
 use first_sections::FirstSections;
 use process_table::ProcSections;
-use section_index::Index;
+use dump_sections::Index;
 use std::alloc::{AllocError, Global};
 
 /// The place of the mailbox of each process, in the order of the processes.

@@ -1,8 +1,8 @@
 // Counting the messages of processes, one mailbox after another.
 ghost use Rattle.std.specs.Prelude.{◌≡◌, ℕ, List, [], ◌∷◌, ◌<◌, ◌≤◌, length, map, All, IfOk, IfErr};
 ghost use Rattle.dump_io.specs.Dumps.{told, ReadsAtMost};
-ghost use Rattle.section_index.specs.Bodies.{section_at, body_length};
-ghost use Rattle.section_index.specs.Index.{IsBuiltOver, sections_in, state_of};
+ghost use Rattle.dump_sections.specs.Bodies.{section_at, body_length};
+ghost use Rattle.dump_sections.specs.Index.{IsBuiltOver, sections_in, state_of};
 ghost use Rattle.section_rows.specs.Loading.{bodies_length, IsUnread};
 ghost use Rattle.dump_audit.specs.Findings.{is_cut};
 ghost use Rattle.audit_bodies.specs.Mailboxes.{mail_at, mail_in, mailboxes_at};
@@ -10,7 +10,7 @@ ghost use Rattle.audit_bodies.specs.Inner.Mailboxes.{IsSmall, IsWithin};
 
 use dump_io::{Dumps, Limits};
 use root_views::messages;
-use section_index::{BodyFault, Index, State, read_body};
+use dump_sections::{BodyFault, Index, State, read_body};
 use std::alloc::Global;
 
 // Whether the dump is truncated in the section at a place.

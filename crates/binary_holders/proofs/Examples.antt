@@ -1,7 +1,7 @@
 -- The definitions at worked examples, which the checker computes.
 use Rattle.std.proofs.Common.{◌≡◌, [], ◌∷◌, map, refl}
 use Rattle.std.specs.Prelude.{codes}
-use Rattle.section_index.specs.Sections.{sections}
+use Rattle.dump_sections.specs.Sections.{sections}
 use Rattle.binary_holders.specs.Held.{holders_of, holdings}
 use Rattle.binary_holders.specs.StoredBinaries.{stored}
 

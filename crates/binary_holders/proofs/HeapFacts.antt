@@ -11,9 +11,9 @@ use Rattle.std.proofs.lemmas.List.Quantifiers.{position-Some}
 use Rattle.std.proofs.lemmas.List.Sums.{position_or_len_is, fails_before_first}
 use Rattle.std.proofs.lemmas.Option.{get_or_from_slice_get, same_Some, slice_get_within, slice_get-get_or}
 use Rattle.std.proofs.lemmas.Slice.Eq.{bytes_eq-Decides}
-use Rattle.section_index.specs.Index.{Contents, sections_in}
-use Rattle.section_index.specs.Laws.{first-more, first-passed}
-use Rattle.section_index.specs.Sections.{Section}
+use Rattle.dump_sections.specs.Index.{Contents, sections_in}
+use Rattle.dump_sections.specs.Laws.{first-more, first-passed}
+use Rattle.dump_sections.specs.Sections.{Section}
 use Rattle.process_table.specs.Processes.{Process, ProcessTable, IsOver, nobody, process_at}
 use Rattle.process_table.specs.Records.{Placed, placed, pid_of, process_sections, has_same_pid, first_of_each, records}
 use Rattle.binary_holders.specs.Inner.Heaps.{AreApart, AreHeaps, heap_id}

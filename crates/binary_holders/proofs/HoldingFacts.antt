@@ -4,8 +4,8 @@ use Rattle.std.specs.Prelude.{All, nat_lt}
 use Rattle.std.specs.List.{between, enumerate_from}
 use Rattle.std.proofs.lemmas.List.{map_push, length-take, length-drop}
 use Rattle.std.proofs.lemmas.List.Elements.{All-push, filter-append}
-use Rattle.section_index.specs.Bodies.{section_at}
-use Rattle.section_index.specs.Index.{Contents}
+use Rattle.dump_sections.specs.Bodies.{section_at}
+use Rattle.dump_sections.specs.Index.{Contents}
 use Rattle.heap_cells.specs.Loading.{enc_of}
 use Rattle.binary_holders.specs.declared.rows.Holding.{Holding}
 use Rattle.binary_holders.specs.declared.sought.Binary.{Binary}

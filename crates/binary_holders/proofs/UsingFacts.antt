@@ -6,9 +6,9 @@ use Rattle.std.specs.Option.{option_map, option_and_then}
 use Rattle.std.proofs.lemmas.List.{get_or-map, length-map, same_lists}
 use Rattle.std.proofs.lemmas.List.Sums.{sum_by-cons, sum_by_push}
 use Rattle.dump_io.specs.Numbers.{hex_number}
-use Rattle.section_index.specs.Index.{Contents, sections_in}
-use Rattle.section_index.specs.Lookups.{has_tag}
-use Rattle.section_index.specs.Sections.{Section, id_of}
+use Rattle.dump_sections.specs.Index.{Contents, sections_in}
+use Rattle.dump_sections.specs.Lookups.{has_tag}
+use Rattle.dump_sections.specs.Sections.{Section, id_of}
 use Rattle.process_table.specs.Processes.{Process}
 use Rattle.binary_holders.specs.declared.rows.BinaryRow.{BinaryRow}
 use Rattle.binary_holders.specs.declared.rows.Holding.{Holding}

@@ -1,7 +1,7 @@
 -- To which of the binaries outside the heaps a heap refers.
 use Rattle.std.specs.Prelude.{ℕ, List, Option, None, Some}
 use Rattle.std.specs.List.{filter_map}
-use Rattle.section_index.specs.Index.{Contents}
+use Rattle.dump_sections.specs.Index.{Contents}
 use Rattle.term_forms.specs.declared.enc.Enc.{Enc}
 use Rattle.term_forms.specs.Forms.{HeapForm, RefBin}
 use Rattle.heap_cells.specs.Cells.{line_cells}

@@ -1,7 +1,7 @@
 -- The binaries outside the heaps, which are in `binary` sections.
 use Rattle.std.specs.Prelude.{ℕ, Bool, ◌==◌, List, [], ◌∷◌, Option, option_map, if◌then◌else◌}
 use Rattle.std.specs.List.{filter_map, list_any, between}
-use Rattle.section_index.specs.Sections.{Section}
+use Rattle.dump_sections.specs.Sections.{Section}
 use Rattle.stored_binaries.specs.StoredBinaries.{number_of, size_stated}
 
 -- a binary: its number, and its section

@@ -2,8 +2,8 @@
 use Rattle.std.specs.Prelude.{ℕ, ◌*◌, ◌<◌, List, [], ◌∷◌, map, nat_lt, codes}
 use Rattle.std.specs.List.{count_by, sum_by}
 use Rattle.dump_io.specs.Dumps.{DeviceState, DeviceFailed}
-use Rattle.section_index.specs.Index.{Contents, sections_in}
-use Rattle.section_index.specs.Lookups.{has_tag}
+use Rattle.dump_sections.specs.Index.{Contents, sections_in}
+use Rattle.dump_sections.specs.Lookups.{has_tag}
 use Rattle.heap_cells.specs.Loading.{heap_section, body_size}
 use Rattle.binary_holders.specs.declared.faults.HolderFault.{HolderFault}
 use Rattle.binary_holders.specs.declared.faults.HolderFault.TheVariants.{Read, Memory}

@@ -2,14 +2,14 @@
 ghost use Rattle.std.specs.Prelude.{◌≡◌, ◌+◌, ◌<◌, ◌≤◌, length, map, take, slice_get, slice_index_or, is_some, None, Some, All, IfOk};
 ghost use Rattle.std.specs.Option.{option_copied};
 ghost use Rattle.dump_io.specs.Limits.{usual};
-ghost use Rattle.section_index.specs.Bodies.{section_at};
-ghost use Rattle.section_index.specs.Index.{sections_in};
+ghost use Rattle.dump_sections.specs.Bodies.{section_at};
+ghost use Rattle.dump_sections.specs.Index.{sections_in};
 ghost use Rattle.process_table.specs.Processes.{IsOver};
 ghost use Rattle.binary_holders.specs.Inner.Heaps.{AreHeaps, AreApart, heap_id};
 ghost use Rattle.binary_holders.specs.Inner.Places.{IsWithin, heap_place};
 
 use process_table::Procs;
-use section_index::Index;
+use dump_sections::Index;
 use std::alloc::{AllocError, Global};
 
 // The id, if the section at a place is a heap.

@@ -2,7 +2,7 @@
 ghost use Rattle.std.specs.Prelude.{◌≡◌, ℕ, List, [], ◌∷◌, ◌++◌, ◌+◌, ◌^◌, ◌<◌, ◌≤◌, length, map, All, nat_lt, OnOk, IfOk, IfErr, OnErr, if◌then◌else◌};
 ghost use Rattle.std.specs.List.{sum_by};
 ghost use Rattle.dump_io.specs.Dumps.{told, DeviceFailed, ReadsAtMost};
-ghost use Rattle.section_index.specs.Index.{IsBuiltOver};
+ghost use Rattle.dump_sections.specs.Index.{IsBuiltOver};
 ghost use Rattle.binary_holders.specs.Held.{holdings};
 ghost use Rattle.binary_holders.specs.Usage.{IsCauseOf, NamesProcess};
 ghost use Rattle.binary_holders.specs.Inner.Places.{IsWithin, references_at, size_at};
@@ -17,7 +17,7 @@ use crate::sought::Sought;
 use crate::tally::Tally;
 use dump_io::{Dumps, Failed};
 use heap_cells::enc_of;
-use section_index::Index;
+use dump_sections::Index;
 use std::alloc::Global;
 
 // Hears what the heap at a place refers to. A process without a heap refers to nothing.

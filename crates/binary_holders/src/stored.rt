@@ -1,7 +1,7 @@
 // The binaries outside the heaps, from the sections of a dump.
 ghost use Rattle.std.specs.Prelude.{◌≡◌, ℕ, List, ◌+◌, ◌*◌, ◌<◌, ◌≤◌, length, map, take, All, IfOk, OnOk, IfErr};
 ghost use Rattle.dump_io.specs.Dumps.{told, ReadsAtMost};
-ghost use Rattle.section_index.specs.Index.{IsBuiltOver, sections_in};
+ghost use Rattle.dump_sections.specs.Index.{IsBuiltOver, sections_in};
 ghost use Rattle.binary_holders.specs.Usage.{sized, IsCauseOf};
 ghost use Rattle.binary_holders.specs.Inner.Finding.{AreFound, numbers_of, stored_of};
 ghost use Rattle.binary_holders.specs.Inner.Places.{numbers_in};
@@ -9,7 +9,7 @@ ghost use Rattle.binary_holders.specs.Inner.Places.{numbers_in};
 use crate::faults::{HolderFault, push_row};
 use crate::sought::Binary;
 use dump_io::Dumps;
-use section_index::Index;
+use dump_sections::Index;
 use std::alloc::{AllocError, Global};
 use std::collections::BTreeMap;
 use stored_binaries::{binary_number, read_size};

@@ -2,7 +2,7 @@
 ghost use Rattle.std.specs.Prelude.{◌≡◌, ℕ, List, [], ◌∷◌, ◌+◌, ◌<◌, length, map, nat_lt, All, IfOk, IfErr};
 ghost use Rattle.std.specs.List.{sum_by, count_by};
 ghost use Rattle.dump_io.specs.Dumps.{told, ReadsAtMost};
-ghost use Rattle.section_index.specs.Index.{IsBuiltOver};
+ghost use Rattle.dump_sections.specs.Index.{IsBuiltOver};
 ghost use Rattle.process_table.specs.Processes.{IsOver};
 ghost use Rattle.binary_holders.specs.Held.{capped, holdings};
 ghost use Rattle.size_order.specs.Sorting.{most_first};
@@ -22,7 +22,7 @@ use crate::stored::{StoredAt, find_stored, read_sizes};
 use crate::tally::Tally;
 use dump_io::Dumps;
 use process_table::Procs;
-use section_index::Index;
+use dump_sections::Index;
 use size_order::sort_most_first;
 use std::alloc::{AllocError, Global};
 use std::collections::BTreeMap;

@@ -3,7 +3,7 @@ ghost use Rattle.std.specs.Prelude.{◌≡◌, ℕ, ◌+◌, ◌*◌, ◌<◌, �
 ghost use Rattle.std.specs.Option.{option_map, option_and_then, option_to_list};
 ghost use Rattle.std.specs.List.Sorted.{IsNonDecreasingBy, IsPartitionPoint};
 ghost use Rattle.dump_io.specs.Dumps.{told, DeviceFailed, ReadsAtMost};
-ghost use Rattle.section_index.specs.Index.{IsBuiltOver};
+ghost use Rattle.dump_sections.specs.Index.{IsBuiltOver};
 ghost use Rattle.term_forms.specs.Payload.{IsPayloadOf};
 ghost use Rattle.term_forms.specs.Seen.{number_rest};
 ghost use Rattle.term_forms.specs.SeenForms.{heap_form};
@@ -17,7 +17,7 @@ use crate::entries::{Entry, Preview};
 use crate::faults::PreviewFault;
 use dump_io::{Dumps, Failed};
 use heap_cells::{CellIx, Heap, Kind, Seat};
-use section_index::Index;
+use dump_sections::Index;
 use std::alloc::Global;
 use std::marker::Model;
 use stored_binaries::{BinaryPlaces, FewBytes, Range, read_range};

@@ -1,5 +1,5 @@
 ghost use Rattle.std.specs.Prelude.{◌≡◌, All};
-ghost use Rattle.section_index.specs.Index.{IsBuiltOver};
+ghost use Rattle.dump_sections.specs.Index.{IsBuiltOver};
 ghost use Rattle.process_table.specs.Processes.{IsIn};
 ghost use Rattle.link_graph.specs.Graph.{graph_of};
 ghost use Rattle.dump_audit.specs.Fitting.{Fits};
@@ -9,7 +9,8 @@ use dump_io::{Dumps, Limits, MemDumps, MemSink, Sink};
 use json_report::{put_findings, put_json, tree};
 use link_graph::Graph;
 use process_table::Procs;
-use section_index::{Index, build};
+use dump_sections::Index;
+use section_index::build;
 use std::alloc::Global;
 use std::test::Fail;
 

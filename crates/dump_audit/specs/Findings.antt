@@ -4,10 +4,10 @@ use Rattle.std.specs.List.{enumerate_from, filter_map, list_any}
 use Rattle.std.specs.Option.{option_and_then, option_flatten, option_map, option_to_list}
 use Rattle.std.specs.Str.{bytes_eq}
 use Rattle.dump_io.specs.Numbers.{dec_number}
-use Rattle.section_index.specs.declared.index.State.{State}
-use Rattle.section_index.specs.declared.index.State.TheVariants.{Whole, TruncatedIn}
-use Rattle.section_index.specs.Index.{Contents, state_of}
-use Rattle.section_index.specs.Bodies.{section_at}
+use Rattle.dump_sections.specs.declared.index.State.{State}
+use Rattle.dump_sections.specs.declared.index.State.TheVariants.{Whole, TruncatedIn}
+use Rattle.dump_sections.specs.Index.{Contents, state_of}
+use Rattle.dump_sections.specs.Bodies.{section_at}
 use Rattle.section_rows.specs.Rows.{Kept}
 use Rattle.process_table.specs.Processes.{Process, process_at}
 use Rattle.link_graph.specs.Texts.{is_local}

@@ -6,7 +6,7 @@ ghost use Rattle.dump_audit.specs.Inner.Audited.{IsHolder, IsPartner};
 
 use link_graph::{Graph, is_local};
 use process_table::Procs;
-use section_index::{Index, State};
+use dump_sections::{Index, State};
 use std::marker::Model;
 
 // A process whose link list and message queue are judged: its place among the processes, and its pid.

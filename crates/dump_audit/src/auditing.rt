@@ -14,7 +14,7 @@ use crate::finding::Finding;
 use crate::linking::push_found;
 use link_graph::{Graph, is_local};
 use process_table::Procs;
-use section_index::{Index, State};
+use dump_sections::{Index, State};
 use std::alloc::{AllocError, Global};
 
 // Whether the dump is truncated in the section at this place.

@@ -5,9 +5,9 @@ use Rattle.std.specs.Option.{option_map}
 use Rattle.dump_io.specs.Dumps.{DeviceState, told}
 use Rattle.dump_io.specs.Limits.{Numbers}
 use Rattle.dump_io.specs.Lines.{headers}
-use Rattle.section_index.specs.Index.{Contents, IsIndexOf, index_of, sections_in, state_of}
-use Rattle.section_index.specs.Laws.{index-is}
-use Rattle.section_index.specs.declared.bodies.BodyFault.{BodyFault}
+use Rattle.dump_sections.specs.Index.{Contents, IsIndexOf, index_of, sections_in, state_of}
+use Rattle.dump_sections.specs.Laws.{index-is}
+use Rattle.dump_sections.specs.declared.bodies.BodyFault.{BodyFault}
 use Rattle.process_table.specs.Processes.{Process, process_table}
 use Rattle.dump_audit.specs.Findings.{Audit, audit_of, findings}
 use Rattle.json_report.specs.Trees.{audit_tree, json_text}

@@ -10,11 +10,11 @@ use Rattle.std.proofs.lemmas.Option.{slice_get-get_or, unwrap_or-slice_get}
 use Rattle.std.proofs.lemmas.List.Quantifiers.{position-Some}
 use Rattle.dump_io.specs.Dumps.{Now, DeviceState, told}
 use Rattle.dump_io.specs.Limits.{Numbers}
-use Rattle.section_index.specs.Bodies.{body_length}
-use Rattle.section_index.specs.Index.{Contents, IsIndexOf, index_of, sections_in}
-use Rattle.section_index.specs.Laws.{index-is}
-use Rattle.section_index.specs.Lookups.{has_hex}
-use Rattle.section_index.specs.Sections.{Section, section, sections}
+use Rattle.dump_sections.specs.Bodies.{body_length}
+use Rattle.dump_sections.specs.Index.{Contents, IsIndexOf, index_of, sections_in}
+use Rattle.dump_sections.specs.Laws.{index-is}
+use Rattle.dump_sections.specs.Lookups.{has_hex}
+use Rattle.dump_sections.specs.Sections.{Section, section, sections}
 use Rattle.stored_binaries.specs.StoredBinaries.{binary_section}
 use Rattle.binary_refs.specs.Wholes.{found_length, refused, whole_bytes, IsBadFor, IsBinCauseOf}
 use Rattle.binary_refs.specs.declared.faults.BinFault.{BinFault}

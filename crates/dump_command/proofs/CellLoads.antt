@@ -3,7 +3,7 @@ use Rattle.std.proofs.Common.{ℕ, ◌+◌, List, [], take, Result, Ok, Err, ref
 use Rattle.std.specs.Prelude.{IsSome, MatchResult}
 use Rattle.dump_io.specs.Dumps.{DeviceState, ReadsAtMost}
 use Rattle.dump_io.specs.Limits.{Numbers}
-use Rattle.section_index.specs.Index.{Contents, sections_in}
+use Rattle.dump_sections.specs.Index.{Contents, sections_in}
 use Rattle.heap_cells.specs.HeapMap.{HeapMap}
 use Rattle.heap_cells.specs.Loading.{body_size, heap_section, literals_section}
 use Rattle.term_text.specs.Cells.{cells_report, cells_text}

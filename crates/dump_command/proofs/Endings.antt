@@ -6,7 +6,7 @@ use Rattle.dump_io.specs.Limits.{Numbers}
 use Rattle.dump_io.specs.Sinks.{SinkState, SinkFailed, IsKept, Gained}
 use Rattle.report_text.specs.declared.refusals.Refusal.{Refusal}
 use Rattle.report_text.specs.Refusals.{refusal_line}
-use Rattle.section_index.specs.Index.{IsHeld}
+use Rattle.section_index.specs.Answers.{IsHeld}
 use Rattle.command_words.specs.Command.{Command, file_of}
 use Rattle.dump_command.specs.Report.{report_status, refusal}
 use Rattle.dump_command.specs.Run.{Ends, EndsTold, IsDumpOf, IsFrontOf, IsInputOf, IsMissingFrom, IsRunOf, IsUnreadFrom, Reports}

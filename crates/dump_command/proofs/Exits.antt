@@ -3,7 +3,7 @@ use Rattle.std.proofs.Common.{◌≡◌, ℕ, List, Result, Ok, Err, refl, sym, 
 use Rattle.std.specs.Prelude.{IfErr, IfOk, IsErr, IsErrAnd}
 use Rattle.dump_io.specs.Dumps.{DeviceState, DeviceFailed, ReadsAtMost}
 use Rattle.dump_io.specs.Sinks.{SinkState, Puts}
-use Rattle.section_index.specs.Index.{Contents, IsBuiltOver}
+use Rattle.dump_sections.specs.Index.{Contents, IsBuiltOver}
 use Rattle.dump_command.specs.Inner.Reading.{Tells}
 use Rattle.dump_command.specs.declared.stop.Stop.{Stop}
 use Rattle.dump_command.specs.declared.stop.Stop.TheVariants.{NotWritten, NoMemory}

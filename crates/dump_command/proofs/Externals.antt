@@ -5,7 +5,7 @@ use Rattle.std.specs.Global.{Vec}
 use Rattle.std.specs.Option.{option_and_then, option_or}
 use Rattle.dump_io.specs.Dumps.{Now, DeviceState, ReadsAtMost}
 use Rattle.dump_io.specs.Limits.{Numbers}
-use Rattle.section_index.specs.Index.{Contents}
+use Rattle.dump_sections.specs.Index.{Contents}
 use Rattle.heap_cells.specs.HeapMap.{HeapMap, form_at, number_at}
 use Rattle.heap_cells.specs.Loading.{body_size, heap_section, literals_section}
 use Rattle.term_text.specs.Roots.{ext_report}

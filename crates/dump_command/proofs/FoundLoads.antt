@@ -6,10 +6,10 @@ use Rattle.dump_io.specs.Dumps.{DeviceState, ReadsAtMost}
 use Rattle.dump_io.specs.Laws.Reads.{ReadsAtMost-within}
 use Rattle.dump_io.specs.Limits.{Numbers}
 use Rattle.heap_cells.specs.Loading.{body_in, body_size, IsBodyIn}
-use Rattle.section_index.specs.Bodies.{body_length}
-use Rattle.section_index.specs.Index.{Contents, sections_in}
-use Rattle.section_index.specs.Sections.{Section, sections}
-use Rattle.section_index.specs.declared.bodies.BodyFault.{BodyFault}
+use Rattle.dump_sections.specs.Bodies.{body_length}
+use Rattle.dump_sections.specs.Index.{Contents, sections_in}
+use Rattle.dump_sections.specs.Sections.{Section, sections}
+use Rattle.dump_sections.specs.declared.bodies.BodyFault.{BodyFault}
 use Rattle.section_rows.specs.Loading.{bodies_length, first_large, AreRefused}
 use Rattle.report_text.specs.Tables.{fields_report}
 use Rattle.command_words.specs.Command.{Command}

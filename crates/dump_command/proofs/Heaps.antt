@@ -3,11 +3,11 @@ use Rattle.std.proofs.Common.{◌≡◌, ℕ, ◌+◌, true, false, if◌then◌
 use Rattle.std.specs.Prelude.{nat_lt, IsErrOf}
 use Rattle.std.specs.Option.{option_map, option_or}
 use Rattle.std.proofs.lemmas.List.Sums.{sum_by-append}
-use Rattle.section_index.specs.Bodies.{body_length}
-use Rattle.section_index.specs.Index.{Contents, IsIndexOf, sections_in}
-use Rattle.section_index.specs.Laws.{index-is}
-use Rattle.section_index.specs.Lookups.{has_tag, is_named}
-use Rattle.section_index.specs.Sections.{Section}
+use Rattle.dump_sections.specs.Bodies.{body_length}
+use Rattle.dump_sections.specs.Index.{Contents, IsIndexOf, sections_in}
+use Rattle.dump_sections.specs.Laws.{index-is}
+use Rattle.dump_sections.specs.Lookups.{has_tag, is_named}
+use Rattle.dump_sections.specs.Sections.{Section}
 use Rattle.heap_cells.specs.Cells.{cells_of, own_count, weight}
 use Rattle.heap_cells.specs.HeapMap.{HeapMap}
 use Rattle.heap_cells.specs.Loading.{body_in, body_size, enc_of, heap_section, literals_section, section_fault, IsMapOf, too_large as heap_too_large}

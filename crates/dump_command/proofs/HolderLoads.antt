@@ -4,10 +4,10 @@ use Rattle.std.specs.Prelude.{IsSome, is_some}
 use Rattle.std.specs.Option.{option_map, option_or}
 use Rattle.dump_io.specs.Dumps.{DeviceState, DeviceFailed, ReadsAtMost}
 use Rattle.dump_io.specs.Limits.{Numbers}
-use Rattle.section_index.specs.Index.{Contents, IsIndexOf, index_of, sections_in}
-use Rattle.section_index.specs.Laws.{index-is}
-use Rattle.section_index.specs.Sections.{Section, sections}
-use Rattle.section_index.specs.declared.bodies.BodyFault.{BodyFault}
+use Rattle.dump_sections.specs.Index.{Contents, IsIndexOf, index_of, sections_in}
+use Rattle.dump_sections.specs.Laws.{index-is}
+use Rattle.dump_sections.specs.Sections.{Section, sections}
+use Rattle.dump_sections.specs.declared.bodies.BodyFault.{BodyFault}
 use Rattle.section_rows.specs.Loading.{bodies_length, first_large, AreRefused}
 use Rattle.process_table.specs.Processes.{Process, ProcessTable, process_table}
 use Rattle.process_table.specs.Records.{record_sections}

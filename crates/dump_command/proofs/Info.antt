@@ -4,12 +4,12 @@ use Rattle.std.specs.Str.{bytes_eq}
 use Rattle.std.proofs.lemmas.Slice.Eq.{bytes_eq-Decides}
 use Rattle.dump_io.specs.Lines.{headers}
 use Rattle.heap_cells.specs.Loading.{body_in, section_in}
-use Rattle.section_index.specs.Index.{Contents, IsIndexOf}
-use Rattle.section_index.specs.Opening.{first_id, version_named}
-use Rattle.section_index.specs.Sections.{sections}
-use Rattle.section_index.specs.Tags.{tag_counts, tags_in}
-use Rattle.section_index.specs.declared.opening.Version.{Version}
-use Rattle.section_index.specs.declared.opening.Version.TheVariants.{V03, V04, V05}
+use Rattle.dump_sections.specs.Index.{Contents, IsIndexOf}
+use Rattle.dump_sections.specs.Versions.{first_id, version_named}
+use Rattle.dump_sections.specs.Sections.{sections}
+use Rattle.dump_sections.specs.Tags.{tag_counts, tags_in}
+use Rattle.dump_sections.specs.declared.version.Version.{Version}
+use Rattle.dump_sections.specs.declared.version.Version.TheVariants.{V03, V04, V05}
 use Rattle.report_text.specs.Reports.{info_report, version_text}
 use Rattle.command_words.specs.Command.{info}
 use Rattle.dump_command.specs.Report.{report, first_section, tags_of, body_of}

@@ -10,9 +10,9 @@ use Rattle.std.proofs.lemmas.Option.{IfSome_then}
 use Rattle.dump_io.specs.Colons.{has_colon, is_colon}
 use Rattle.dump_io.specs.Lines.{headers, lf, lines_after, lines_from, raw_lines}
 use Rattle.field_lines.specs.Lines.{TextLine, text_line, text_lines}
-use Rattle.section_index.specs.Index.{state_of}
-use Rattle.section_index.specs.Sections.{Section, sections}
-use Rattle.section_index.specs.declared.index.State.{State}
+use Rattle.dump_sections.specs.Index.{state_of}
+use Rattle.dump_sections.specs.Sections.{Section, sections}
+use Rattle.dump_sections.specs.declared.index.State.{State}
 use Rattle.term_forms.specs.Elements.{Element}
 use Rattle.term_forms.specs.Reading.{front, whole_of}
 use Rattle.root_views.specs.Roots.{BodyRoot, Content, Dist, Term, Unread, behind_colon, dist_roots, has_text, is_message, mail_line, message, message_count, pair_roots, root_lines, token}

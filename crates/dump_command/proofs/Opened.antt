@@ -3,7 +3,8 @@ use Rattle.std.proofs.Common.{◌≡◌, ◌⊎◌, ℕ, ◌≤◌, List, length
 use Rattle.std.specs.Prelude.{IsErrOf}
 use Rattle.dump_io.specs.Dumps.{Files, Now, closed, told, sized, size_of, IsAbsent, DeviceState, DeviceFailed}
 use Rattle.dump_io.specs.Limits.{Numbers}
-use Rattle.section_index.specs.Index.{Contents, IsAnswerFor, IsBuiltOver, IsClosedOrNamed, IsFileOf, IsHeld, ReadsFile}
+use Rattle.dump_sections.specs.Index.{Contents, IsBuiltOver}
+use Rattle.section_index.specs.Answers.{IsAnswerFor, IsClosedOrNamed, IsFileOf, IsHeld, ReadsFile}
 use Rattle.section_index.specs.declared.opening.OpenFault.{OpenFault}
 use Rattle.section_index.specs.declared.opening.OpenFault.TheVariants.{Read, Memory}
 use Rattle.dump_command.specs.Inner.Opened.{HasOpened, IsUnopened}

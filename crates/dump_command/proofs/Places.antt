@@ -1,7 +1,7 @@
 -- The first section that passes a test, by its place.
 use Rattle.std.proofs.Common.{◌≡◌, ℕ, Bool, true, false, List, [], length, Option, None, Some, sym, ◌∙◌, ap, inl, inr}
-use Rattle.section_index.specs.Index.{Contents, sections_in}
-use Rattle.section_index.specs.Sections.{Section, section}
+use Rattle.dump_sections.specs.Index.{Contents, sections_in}
+use Rattle.dump_sections.specs.Sections.{Section, section}
 use Rattle.heap_cells.specs.Loading.{section_in}
 use Rattle.std.specs.Prelude.{cond, find, nat_lt, position}
 use Rattle.std.specs.List.{slice_get, position_or_len}

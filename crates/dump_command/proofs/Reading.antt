@@ -6,11 +6,11 @@ use Rattle.std.proofs.lemmas.Result.{IfOk-weaker}
 use Rattle.dump_io.specs.Dumps.{DeviceState, told, ReadsAtMost}
 use Rattle.dump_io.specs.Laws.Reads.{ReadsAtMost-none}
 use Rattle.dump_io.specs.Limits.{Numbers}
-use Rattle.section_index.specs.Bodies.{body_length}
-use Rattle.section_index.specs.Index.{Contents, sections_in}
-use Rattle.section_index.specs.Sections.{Section, sections}
-use Rattle.section_index.specs.declared.bodies.BodyFault.{BodyFault}
-use Rattle.section_index.specs.declared.bodies.BodyFault.TheVariants as body_faults
+use Rattle.dump_sections.specs.Bodies.{body_length}
+use Rattle.dump_sections.specs.Index.{Contents, sections_in}
+use Rattle.dump_sections.specs.Sections.{Section, sections}
+use Rattle.dump_sections.specs.declared.bodies.BodyFault.{BodyFault}
+use Rattle.dump_sections.specs.declared.bodies.BodyFault.TheVariants as body_faults
 use Rattle.section_rows.specs.Loading.{bodies_length, first_large, AreRefused}
 use Rattle.report_text.specs.declared.refusals.Refusal.{Refusal}
 use Rattle.report_text.specs.declared.refusals.Refusal.TheVariants.{SectionTooLarge}

@@ -7,8 +7,9 @@ use Rattle.dump_io.specs.Dumps.{Files, Now, told, DeviceState, ReadsAtMost}
 use Rattle.dump_io.specs.Limits.{Numbers}
 use Rattle.dump_io.specs.Lines.{headers}
 use Rattle.dump_io.specs.Sinks.{SinkState, GainsFront, IsKept, Puts, grown}
-use Rattle.section_index.specs.Index.{Contents, IsFileOf, IsHeld, IsIndexOf, sections_in}
-use Rattle.section_index.specs.Sections.{sections, sections_of}
+use Rattle.dump_sections.specs.Index.{Contents, IsIndexOf, sections_in}
+use Rattle.section_index.specs.Answers.{IsFileOf, IsHeld}
+use Rattle.dump_sections.specs.Sections.{sections, sections_of}
 use Rattle.report_text.specs.declared.refusals.Refusal.{Refusal}
 use Rattle.report_text.specs.declared.refusals.Refusal.TheVariants.{Open}
 use Rattle.command_words.specs.Command.{Command, redact, file_of}

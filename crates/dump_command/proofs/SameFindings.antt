@@ -8,10 +8,10 @@ use Rattle.std.proofs.lemmas.List.Quantifiers.{position-Some}
 use Rattle.std.proofs.lemmas.Option.{unwrap_or-slice_get}
 use Rattle.std.proofs.lemmas.Slice.Eq.{bytes_eq-Decides}
 use Rattle.dump_io.specs.Lines.{headers}
-use Rattle.section_index.specs.Index.{index_of, state_of}
-use Rattle.section_index.specs.Lookups.{has_tag, is_named}
-use Rattle.section_index.specs.Sections.{Section, section, sections, id_of, tag_of}
-use Rattle.section_index.specs.declared.index.State.{State}
+use Rattle.dump_sections.specs.Index.{index_of, state_of}
+use Rattle.dump_sections.specs.Lookups.{has_tag, is_named}
+use Rattle.dump_sections.specs.Sections.{Section, section, sections, id_of, tag_of}
+use Rattle.dump_sections.specs.declared.index.State.{State}
 use Rattle.section_rows.specs.Rows.{body_of}
 use Rattle.process_table.specs.Processes.{Process, ProcessTable, process_in, process_table}
 use Rattle.process_table.specs.Records.{Placed, first_of_each, is_process, placed, process_sections, records, repeated}

@@ -5,12 +5,12 @@ use Rattle.std.proofs.lemmas.List.Sums.{sum_by-append, sum_by-cons}
 use Rattle.dump_io.specs.Dumps.{DeviceState, DeviceFailed, ReadsAtMost}
 use Rattle.dump_io.specs.Laws.Reads.{ReadsAtMost-then, ReadsAtMost-within}
 use Rattle.dump_io.specs.Limits.{Numbers}
-use Rattle.section_index.specs.Bodies.{body_length}
-use Rattle.section_index.specs.Index.{Contents, index_of, sections_in}
-use Rattle.section_index.specs.Laws.{index-is}
-use Rattle.section_index.specs.Sections.{Section}
-use Rattle.section_index.specs.declared.bodies.BodyFault.{BodyFault}
-use Rattle.section_index.specs.declared.bodies.BodyFault.TheVariants as body_faults
+use Rattle.dump_sections.specs.Bodies.{body_length}
+use Rattle.dump_sections.specs.Index.{Contents, index_of, sections_in}
+use Rattle.dump_sections.specs.Laws.{index-is}
+use Rattle.dump_sections.specs.Sections.{Section}
+use Rattle.dump_sections.specs.declared.bodies.BodyFault.{BodyFault}
+use Rattle.dump_sections.specs.declared.bodies.BodyFault.TheVariants as body_faults
 use Rattle.section_rows.specs.Laws.{large-append, small-both}
 use Rattle.section_rows.specs.Loading.{bodies_length, first_large, large_fault, AreRefused, IsUnread}
 use Rattle.process_table.specs.Records.{record_sections}

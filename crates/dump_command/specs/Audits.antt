@@ -1,6 +1,6 @@
 -- What an audit finds in the bytes of an accepted dump.
 use Rattle.std.specs.Prelude.{ℕ, Bool, List, [], ◌∷◌, None, Some, if◌then◌else◌}
-use Rattle.section_index.specs.Index.{index_of}
+use Rattle.dump_sections.specs.Index.{index_of}
 use Rattle.process_table.specs.Processes.{process_table}
 use Rattle.audit_bodies.specs.Mailboxes.{mails}
 use Rattle.dump_audit.specs.Findings.{Audit, audit_of}

@@ -1,6 +1,6 @@
 -- What the commands on the holders of binaries report on the bytes of an accepted dump.
 use Rattle.std.specs.Prelude.{ℕ, List, map}
-use Rattle.section_index.specs.Index.{Contents, index_of}
+use Rattle.dump_sections.specs.Index.{Contents, index_of}
 use Rattle.process_table.specs.Processes.{Process, process_table}
 use Rattle.binary_holders.specs.Usage.{fronts_length, heaps_length, holders_in, usage_of}
 use Rattle.glance_text.specs.Holders.{binaries_report, holders_report}

@@ -5,11 +5,12 @@ use Rattle.std.specs.List.{between}
 use Rattle.std.specs.Option.{option_map, option_or, option_and}
 use Rattle.dump_io.specs.Limits.{Numbers}
 use Rattle.dump_io.specs.Lines.{headers}
-use Rattle.section_index.specs.Bodies.{body_length}
-use Rattle.section_index.specs.Index.{index_of}
-use Rattle.section_index.specs.Opening.{opening, first_id}
-use Rattle.section_index.specs.Sections.{Section, section, sections, tag_of}
-use Rattle.section_index.specs.Tags.{tag_counts}
+use Rattle.dump_sections.specs.Bodies.{body_length}
+use Rattle.dump_sections.specs.Index.{index_of}
+use Rattle.dump_sections.specs.Versions.{first_id}
+use Rattle.section_index.specs.Opening.{opening}
+use Rattle.dump_sections.specs.Sections.{Section, section, sections, tag_of}
+use Rattle.dump_sections.specs.Tags.{tag_counts}
 use Rattle.report_text.specs.declared.refusals.Refusal.{Refusal}
 use Rattle.report_text.specs.declared.refusals.Refusal.TheVariants.{Open, NoProcess, SectionTooLarge}
 use Rattle.root_views.specs.declared.kinds.RootKind.TheVariants.{Stack, Dict, Mail}
@@ -22,7 +23,7 @@ use Rattle.dump_audit.specs.Findings.{findings}
 use Rattle.json_report.specs.Trees.{audit_tree, json_text}
 use Rattle.process_table.specs.Processes.{process_table}
 use Rattle.process_table.specs.Records.{record_sections}
-use Rattle.section_index.specs.Lookups.{has_tag, is_named}
+use Rattle.dump_sections.specs.Lookups.{has_tag, is_named}
 use Rattle.section_rows.specs.Loading.{bodies_length, first_large}
 use Rattle.table_sections.specs.declared.kinds.TableKind.TheVariants.{Ets}
 use Rattle.table_sections.specs.Tables.{listed, table_of}

@@ -5,7 +5,7 @@ use Rattle.dump_io.specs.Counts.{plus_capped}
 use Rattle.dump_io.specs.Dumps.{closed, IsAbsent, DeviceState, DeviceFailed}
 use Rattle.dump_io.specs.Limits.{Numbers}
 use Rattle.dump_io.specs.Sinks.{SinkState, SinkFailed, IsKept, Gained, GainedFront}
-use Rattle.section_index.specs.Index.{IsFileOf}
+use Rattle.section_index.specs.Answers.{IsFileOf}
 use Rattle.report_text.specs.declared.refusals.Refusal.{Refusal}
 use Rattle.report_text.specs.Refusals.{refusal_line}
 use Rattle.command_words.specs.Command.{Command, redact, file_of}

@@ -1,9 +1,9 @@
 -- What the commands on the terms of a process, and on a binary, report on the bytes of an accepted dump.
 use Rattle.std.specs.Prelude.{ℕ, Bool, List, [], ◌++◌, length, Option, None, Some, codes, find, is_some, nat_lt, unwrap_or, if◌then◌else◌}
 use Rattle.std.specs.Option.{option_and_then, option_map, option_or}
-use Rattle.section_index.specs.Index.{index_of}
-use Rattle.section_index.specs.Lookups.{has_hex, has_tag, is_named}
-use Rattle.section_index.specs.Sections.{Section, sections}
+use Rattle.dump_sections.specs.Index.{index_of}
+use Rattle.dump_sections.specs.Lookups.{has_hex, has_tag, is_named}
+use Rattle.dump_sections.specs.Sections.{Section, sections}
 use Rattle.term_forms.specs.declared.enc.Enc.{Enc}
 use Rattle.term_forms.specs.Elements.{Element}
 use Rattle.term_forms.specs.Forms.{HeapForm, Ext}

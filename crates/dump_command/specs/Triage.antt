@@ -1,6 +1,6 @@
 -- What `triage` reports, from an index, two bodies and what was read from the others.
 use Rattle.std.specs.Prelude.{ℕ, List}
-use Rattle.section_index.specs.Index.{Contents}
+use Rattle.dump_sections.specs.Index.{Contents}
 use Rattle.section_rows.specs.Rows.{Table}
 use Rattle.process_table.specs.Processes.{ProcessTable}
 use Rattle.dump_triage.specs.Triage.{triage_of}

@@ -4,7 +4,8 @@ ghost use Rattle.dump_command.specs.Inner.Opened.{HasOpened, IsUnopened};
 
 use crate::stop::Stop;
 use dump_io::{Dumps, Limits};
-use section_index::{Index, build};
+use dump_sections::Index;
+use section_index::build;
 use std::alloc::Global;
 
 /// Opens the dump with this name and returns its index.

@@ -1,6 +1,6 @@
 // A command that opens a dump: what it reads, what it writes, and its run.
 ghost use Rattle.std.specs.Prelude.{◌≡◌, ◌≤◌, ℕ, List, length, Some, IfOk};
-ghost use Rattle.section_index.specs.Index.{Contents, IsBuiltOver};
+ghost use Rattle.dump_sections.specs.Index.{Contents, IsBuiltOver};
 ghost use Rattle.command_words.specs.Command.{Command, file_of};
 ghost use Rattle.dump_command.specs.Inner.Runs.{Runs};
 ghost use Rattle.dump_command.specs.Inner.Reading.{ReadsFor, Tells};

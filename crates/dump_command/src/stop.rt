@@ -9,7 +9,8 @@ use dump_redact::RedactFault;
 use heap_cells::HeapFault;
 use json_report::JsonFault;
 use report_text::Refusal;
-use section_index::{BodyFault, OpenFault};
+use dump_sections::BodyFault;
+use section_index::OpenFault;
 use std::alloc::AllocError;
 
 /// Why a command ended without its whole report; the faults of all layers are converted to this.

@@ -5,11 +5,11 @@ use Rattle.std.specs.List.{starts_with, ends_with}
 use Rattle.std.proofs.lemmas.Bool.{eqb-true, and_parts, cond-true}
 use Rattle.dump_io.specs.Lines.{lf, cr, equals_sign, raw_lines, lines_from, text_of, is_header, Line, Header, header_of, headers}
 use Rattle.dump_io.specs.Laws.Lines.{AreLines-raw}
-use Rattle.section_index.specs.Index.{Contents, index_of}
-use Rattle.section_index.specs.Opening.{first_in, version_named}
-use Rattle.section_index.specs.Sections.{sections, sections_of, id_of}
-use Rattle.section_index.specs.declared.opening.Version.{Version}
-use Rattle.section_index.specs.declared.opening.Version.TheVariants.{V05}
+use Rattle.dump_sections.specs.Index.{Contents, index_of}
+use Rattle.dump_sections.specs.Versions.{first_in, version_named}
+use Rattle.dump_sections.specs.Sections.{sections, sections_of, id_of}
+use Rattle.dump_sections.specs.declared.version.Version.{Version}
+use Rattle.dump_sections.specs.declared.version.Version.TheVariants.{V05}
 use Rattle.term_forms.specs.declared.enc.Enc.{Enc}
 use Rattle.dump_redact.specs.declared.parts.Part.{Part}
 use Rattle.dump_redact.specs.declared.parts.Part.TheVariants.{Other}

@@ -4,7 +4,7 @@ use Rattle.std.specs.Prelude.{All}
 use Rattle.std.proofs.lemmas.Bool.{cond-false}
 use Rattle.std.proofs.lemmas.List.Elements.{All-head, All-tail}
 use Rattle.dump_io.specs.Lines.{text_of, is_header}
-use Rattle.section_index.specs.Sections.{tag_of}
+use Rattle.dump_sections.specs.Sections.{tag_of}
 use Rattle.term_forms.specs.declared.enc.Enc.{Enc}
 use Rattle.dump_redact.specs.declared.parts.Part.{Part}
 use Rattle.dump_redact.specs.declared.parts.Part.TheVariants.{Heap, Binary, Other}

@@ -4,9 +4,9 @@ use Rattle.std.specs.Prelude.{option_map, unwrap_or}
 use Rattle.std.specs.Option.{option_or}
 use Rattle.std.proofs.lemmas.List.{drop_all}
 use Rattle.std.proofs.lemmas.Option.{slice_get-get_or}
-use Rattle.section_index.specs.Bodies.{body_length, section_at}
-use Rattle.section_index.specs.Index.{Contents, sections_in}
-use Rattle.section_index.specs.Sections.{Section, section}
+use Rattle.dump_sections.specs.Bodies.{body_length, section_at}
+use Rattle.dump_sections.specs.Index.{Contents, sections_in}
+use Rattle.dump_sections.specs.Sections.{Section, section}
 use Rattle.dump_redact.specs.declared.faults.RedactFault.{RedactFault}
 use Rattle.dump_redact.specs.declared.faults.RedactFault.TheVariants.{SectionTooLarge}
 use Rattle.dump_redact.specs.Refusals.{is_heap, heap_sections, first_large, large_fault}

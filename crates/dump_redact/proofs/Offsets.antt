@@ -7,11 +7,11 @@ use Rattle.std.proofs.lemmas.Option.{get_or_from_slice_get, slice_get_within}
 use borrow.Rule.Slice.PartMut.{put_mid}
 use Rattle.dump_io.specs.Dumps.{Now, closed, told, sized, IsOpen, size_of}
 use Rattle.dump_io.specs.Lines.{Header, headers}
-use Rattle.section_index.specs.Bodies.{section_at}
-use Rattle.section_index.specs.Index.{Contents, AreBounded, IsIndexOf, IsBuiltOver, sections_in}
-use Rattle.section_index.specs.Sections.{Section, section, sections, sections_of, next_at, tag_of}
-use Rattle.section_index.specs.Tiling.{Tile}
-use Rattle.section_index.specs.declared.opening.Version.TheVariants.{V05}
+use Rattle.dump_sections.specs.Bodies.{section_at}
+use Rattle.dump_sections.specs.Index.{Contents, AreBounded, IsIndexOf, IsBuiltOver, sections_in}
+use Rattle.dump_sections.specs.Sections.{Section, section, sections, sections_of, next_at, tag_of}
+use Rattle.dump_sections.specs.Tiling.{Tile}
+use Rattle.dump_sections.specs.declared.version.Version.TheVariants.{V05}
 use Rattle.term_forms.specs.declared.enc.Enc.{Enc}
 use Rattle.dump_redact.specs.declared.parts.Part.{Part}
 use Rattle.dump_redact.specs.declared.parts.Part.TheVariants.{Other}

@@ -3,8 +3,8 @@ use Rattle.std.proofs.Common.{◌≡◌, ℕ, ◌-◌, Bool, true, false, List, 
 use Rattle.std.specs.List.{concat}
 use Rattle.std.proofs.lemmas.Bool.{cond-false}
 use Rattle.dump_io.specs.Lines.{raw_lines, text_of, is_header}
-use Rattle.section_index.specs.declared.opening.Version.{Version}
-use Rattle.section_index.specs.declared.opening.Version.TheVariants.{V03, V04, V05}
+use Rattle.dump_sections.specs.declared.version.Version.{Version}
+use Rattle.dump_sections.specs.declared.version.Version.TheVariants.{V03, V04, V05}
 use Rattle.term_forms.specs.declared.enc.Enc.{Enc}
 use Rattle.term_forms.specs.declared.enc.Enc.TheVariants.{Hex, Base64}
 use Rattle.dump_redact.specs.declared.parts.Part.{Part}

@@ -2,8 +2,8 @@
 use Rattle.std.specs.Prelude.{◌≡◌, ℕ, List, length, All}
 use Rattle.std.specs.List.{between}
 use Rattle.dump_io.specs.Lines.{headers, raw_lines}
-use Rattle.section_index.specs.Index.{state_of, index_of}
-use Rattle.section_index.specs.Sections.{Section, sections, tag_of}
+use Rattle.dump_sections.specs.Index.{state_of, index_of}
+use Rattle.dump_sections.specs.Sections.{Section, sections, tag_of}
 use Rattle.term_forms.specs.declared.enc.Enc.{Enc}
 use Rattle.dump_redact.specs.declared.parts.Part.{Part}
 use Rattle.dump_redact.specs.declared.parts.Part.TheVariants.{Other}

@@ -5,10 +5,10 @@ use Rattle.std.specs.List.{concat}
 use Rattle.std.specs.Char.{is_ascii_alphanumeric}
 use Rattle.std.specs.Str.{bytes_eq}
 use Rattle.dump_io.specs.Lines.{raw_lines, text_of, is_header}
-use Rattle.section_index.specs.declared.opening.Version.{Version}
-use Rattle.section_index.specs.declared.opening.Version.TheVariants.{V05}
-use Rattle.section_index.specs.Opening.{first_id, version_named}
-use Rattle.section_index.specs.Sections.{tag_of}
+use Rattle.dump_sections.specs.declared.version.Version.{Version}
+use Rattle.dump_sections.specs.declared.version.Version.TheVariants.{V05}
+use Rattle.dump_sections.specs.Versions.{first_id, version_named}
+use Rattle.dump_sections.specs.Sections.{tag_of}
 use Rattle.term_forms.specs.declared.enc.Enc.{Enc}
 use Rattle.term_forms.specs.declared.enc.Enc.TheVariants.{Hex, Base64}
 use Rattle.term_forms.specs.Forms.{HeapForm, HeapBin}

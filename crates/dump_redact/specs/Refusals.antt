@@ -2,9 +2,9 @@
 use Rattle.std.specs.Prelude.{◌≡◌, ℕ, ◌||◌, Bool, List, Option, Some, filter, find, codes, nat_lt, option_map}
 use Rattle.dump_io.specs.Dumps.{DeviceState, DeviceFailed}
 use Rattle.dump_io.specs.Sinks.{SinkState, SinkFailed}
-use Rattle.section_index.specs.Bodies.{body_length}
-use Rattle.section_index.specs.Lookups.{has_tag}
-use Rattle.section_index.specs.Sections.{Section}
+use Rattle.dump_sections.specs.Bodies.{body_length}
+use Rattle.dump_sections.specs.Lookups.{has_tag}
+use Rattle.dump_sections.specs.Sections.{Section}
 use Rattle.dump_redact.specs.declared.faults.RedactFault.{RedactFault}
 use Rattle.dump_redact.specs.declared.faults.RedactFault.TheVariants.{SectionTooLarge, Read, Write, Memory}
 

@@ -2,8 +2,8 @@
 ghost use Rattle.std.specs.Prelude.{◌≡◌, ℕ, ◌+◌, ◌-◌, ◌<◌, ◌≤◌, ◌⊎◌, List, length, None, Some, IfErr, IsErrOf, IsSome, OnOk};
 ghost use Rattle.dump_io.specs.Dumps.{told, ReadsAtMost};
 ghost use Rattle.dump_io.specs.Sinks.{WritesAll};
-ghost use Rattle.section_index.specs.Bodies.{section_at};
-ghost use Rattle.section_index.specs.Index.{IsBuiltOver, sections_in};
+ghost use Rattle.dump_sections.specs.Bodies.{section_at};
+ghost use Rattle.dump_sections.specs.Index.{IsBuiltOver, sections_in};
 ghost use Rattle.dump_redact.specs.Redacted.{redacted};
 ghost use Rattle.dump_redact.specs.Refusals.{large_fault, IsCauseOf};
 ghost use Rattle.dump_redact.specs.declared.faults.RedactFault.{RedactFault};
@@ -17,7 +17,7 @@ use crate::parts::{Part, part_of};
 use crate::spans::{next_place, offset, redact_sections};
 use dump_io::{Dumps, Limits, Sink};
 use heap_cells::enc_of;
-use section_index::Index;
+use dump_sections::Index;
 use std::alloc::Global;
 
 // The refusal of the section at a place, if it is a heap or literals with more bytes than the limit.

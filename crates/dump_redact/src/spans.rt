@@ -1,8 +1,8 @@
 // Redacting spans of sections in place.
 ghost use Rattle.std.specs.Prelude.{◌≡◌, ℕ, ◌+◌, ◌-◌, ◌<◌, ◌≤◌, ◌⊎◌, List, length};
-ghost use Rattle.section_index.specs.Bodies.{section_at};
-ghost use Rattle.section_index.specs.Index.{AreBounded, IsIndexOf};
-ghost use Rattle.section_index.specs.Sections.{tag_of};
+ghost use Rattle.dump_sections.specs.Bodies.{section_at};
+ghost use Rattle.dump_sections.specs.Index.{AreBounded, IsIndexOf};
+ghost use Rattle.dump_sections.specs.Sections.{tag_of};
 ghost use Rattle.heap_cells.specs.Loading.{enc_of};
 ghost use Rattle.dump_redact.specs.Redacted.{part_of, redacted};
 ghost use Rattle.dump_redact.specs.Inner.Places.{offset_of, length_between, text_between, redacted_between};
@@ -10,7 +10,7 @@ ghost use Rattle.dump_redact.specs.Inner.Places.{offset_of, length_between, text
 use crate::bodies::redact_body;
 use crate::parts::part_of;
 use heap_cells::enc_of;
-use section_index::Index;
+use dump_sections::Index;
 
 // The offset at which the section at a place begins; past the last one, the size of the dump.
 pub(crate) fn offset(index: &Index, i: usize) -> u64

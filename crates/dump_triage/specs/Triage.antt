@@ -3,7 +3,7 @@ use Rattle.std.specs.Prelude.{ℕ, ◌-◌, ◌^◌, List, map, take, length, co
 use Rattle.std.specs.Option.{option_and_then}
 use Rattle.std.specs.Str.{bytes_eq}
 use Rattle.dump_io.specs.Numbers.{dec_number}
-use Rattle.section_index.specs.Index.{Contents}
+use Rattle.dump_sections.specs.Index.{Contents}
 use Rattle.section_rows.specs.Rows.{Kept, Row, cell_at, text_in}
 use Rattle.process_table.specs.Processes.{Process}
 use Rattle.dump_audit.specs.Findings.{audit_of, findings}

@@ -14,7 +14,7 @@ use crate::states::commonest_states;
 use dump_audit::audit;
 use link_graph::Graph;
 use process_table::Procs;
-use section_index::Index;
+use dump_sections::Index;
 use std::alloc::{AllocError, Global};
 use std::marker::Model;
 use table_sections::Rows;

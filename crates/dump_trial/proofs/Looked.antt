@@ -1,9 +1,9 @@
 -- What is looked up among the first sections of a tag.
 use Rattle.std.proofs.Common.{◌≡◌, ℕ, ◌<◌, List, length, Option, Some, ◌∙◌, ap, subst}
 use Rattle.std.specs.Prelude.{position, IfSome}
-use Rattle.section_index.specs.Index.{Contents, sections_in}
-use Rattle.section_index.specs.Lookups.{is_named}
-use Rattle.section_index.specs.Sections.{Section}
+use Rattle.dump_sections.specs.Index.{Contents, sections_in}
+use Rattle.dump_sections.specs.Lookups.{is_named}
+use Rattle.dump_sections.specs.Sections.{Section}
 use Rattle.first_sections.specs.Firsts.{Firsts}
 use Rattle.heap_cells.specs.Loading.{section_in}
 use Rattle.dump_trial.specs.Inner.Finding.{firsts}

@@ -7,12 +7,13 @@ use Rattle.dump_io.specs.Dumps.{DeviceState, DeviceFailed}
 use Rattle.dump_io.specs.Limits.{usual}
 use Rattle.section_index.specs.declared.opening.OpenFault.{OpenFault}
 use Rattle.section_index.specs.declared.opening.OpenFault.TheVariants as opening_faults
-use Rattle.section_index.specs.declared.bodies.BodyFault.{BodyFault}
-use Rattle.section_index.specs.declared.bodies.BodyFault.TheVariants as body_faults
-use Rattle.section_index.specs.Bodies.{body_length, section_at, IsCauseOf}
-use Rattle.section_index.specs.Index.{Contents, IsAnswerFor, sections_in}
+use Rattle.dump_sections.specs.declared.bodies.BodyFault.{BodyFault}
+use Rattle.dump_sections.specs.declared.bodies.BodyFault.TheVariants as body_faults
+use Rattle.dump_sections.specs.Bodies.{body_length, section_at, IsCauseOf}
+use Rattle.dump_sections.specs.Index.{Contents, sections_in}
+use Rattle.section_index.specs.Answers.{IsAnswerFor}
 use Rattle.section_index.specs.Opening.{IsAccepted, IsRefusedFor}
-use Rattle.section_index.specs.Sections.{Section}
+use Rattle.dump_sections.specs.Sections.{Section}
 use Rattle.section_rows.specs.Loading.{AreRefused}
 use Rattle.process_table.specs.Records.{record_sections}
 use Rattle.heap_cells.specs.Cells.{weight}

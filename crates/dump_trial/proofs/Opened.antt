@@ -11,12 +11,12 @@ use Rattle.dump_io.specs.declared.held_dump.HeldDump.{HeldDump}
 use Rattle.dump_io.specs.File.{name_of, bytes_of}
 use Rattle.dump_io.specs.declared.file.DumpFile.{DumpFile}
 use Rattle.dump_io.specs.Limits.{Numbers}
-use Rattle.section_index.specs.declared.bodies.BodyFault.{BodyFault}
-use Rattle.section_index.specs.declared.bodies.BodyFault.TheVariants as body_faults
-use Rattle.section_index.specs.Bodies.{section_at, IsBodyOf, IsCauseOf}
-use Rattle.section_index.specs.Index.{Contents, IsIndexOf, sections_in}
-use Rattle.section_index.specs.Laws.{index-is}
-use Rattle.section_index.specs.Sections.{Section}
+use Rattle.dump_sections.specs.declared.bodies.BodyFault.{BodyFault}
+use Rattle.dump_sections.specs.declared.bodies.BodyFault.TheVariants as body_faults
+use Rattle.dump_sections.specs.Bodies.{section_at, IsBodyOf, IsCauseOf}
+use Rattle.dump_sections.specs.Index.{Contents, IsIndexOf, sections_in}
+use Rattle.dump_sections.specs.Laws.{index-is}
+use Rattle.dump_sections.specs.Sections.{Section}
 use Rattle.section_rows.specs.Loading.{AreRefused}
 use Rattle.process_table.specs.Records.{record_sections}
 use Rattle.heap_cells.specs.declared.faults.HeapFault.{HeapFault}

@@ -1,9 +1,9 @@
 -- What a trial reports on a made dump: how much there is in it, and what is bad or one-sided.
 use Rattle.std.specs.Prelude.{ℕ, ◌++◌, List, length, Option, None, Some, position}
 use Rattle.std.specs.List.{sum_by}
-use Rattle.section_index.specs.Index.{Contents, index_of, sections_in}
-use Rattle.section_index.specs.Lookups.{is_named}
-use Rattle.section_index.specs.Sections.{Section, sections}
+use Rattle.dump_sections.specs.Index.{Contents, index_of, sections_in}
+use Rattle.dump_sections.specs.Lookups.{is_named}
+use Rattle.dump_sections.specs.Sections.{Section, sections}
 use Rattle.process_table.specs.Processes.{Process, process_table}
 use Rattle.heap_cells.specs.Cells.{Cell, cells_of}
 use Rattle.heap_cells.specs.Loading.{enc_of, section_in, heap_section, literals_section, body_in}

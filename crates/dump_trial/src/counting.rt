@@ -1,6 +1,6 @@
 // Counting the roots of processes, and those that are bad.
 ghost use Rattle.std.specs.Prelude.{◌≡◌, ◌+◌, ◌<◌, ◌^◌, IfOk};
-ghost use Rattle.section_index.specs.Index.{IsIndexOf};
+ghost use Rattle.dump_sections.specs.Index.{IsIndexOf};
 ghost use Rattle.root_views.specs.Kinds.{roots_in};
 ghost use Rattle.dump_trial.specs.Trial.{root_body, process_roots, tally_in, process_tally, tally_of};
 ghost use Rattle.dump_trial.specs.Inner.Tallies.{plus, AreAtMost};

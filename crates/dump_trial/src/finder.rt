@@ -7,7 +7,7 @@ ghost use Rattle.dump_trial.specs.Inner.Finding.{firsts};
 
 use first_sections::FirstSections;
 use root_views::RootKind;
-use section_index::Index;
+use dump_sections::Index;
 use std::alloc::{AllocError, Global};
 use std::marker::Model;
 use stored_binaries::BinaryPlaces;
@@ -39,7 +39,7 @@ pub(crate) struct Finder<'a> {
 }
 
 impl<'a> Model for Finder<'a> {
-    ghost use Rattle.section_index.specs.Index.{Contents};
+    ghost use Rattle.dump_sections.specs.Index.{Contents};
     ghost use Rattle.dump_trial.specs.Inner.Finding.{AreFound};
 
     ghost Value = { Contents };

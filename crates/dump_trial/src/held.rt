@@ -3,7 +3,7 @@ ghost use Rattle.std.specs.Prelude.{◌≡◌, ◌≤◌, length, All, IfOk};
 ghost use Rattle.dump_io.specs.Limits.{usual};
 ghost use Rattle.process_table.specs.Processes.{IsIn, process_table};
 ghost use Rattle.binary_refs.specs.Previews.{AreFor};
-ghost use Rattle.section_index.specs.Index.{IsIndexOf};
+ghost use Rattle.dump_sections.specs.Index.{IsIndexOf};
 ghost use Rattle.dump_trial.specs.Trial.{cells_in, root_body};
 ghost use Rattle.dump_trial.specs.Inner.Held.{IsGood};
 
@@ -14,7 +14,8 @@ use dump_io::{DumpFile, HeldDump, Limits};
 use heap_cells::Heap;
 use process_table::Procs;
 use root_views::RootKind;
-use section_index::{Index, build, read_body};
+use dump_sections::{Index, read_body};
+use section_index::build;
 use std::alloc::{AllocError, Global};
 use std::marker::Model;
 

@@ -3,7 +3,8 @@ ghost use Rattle.std.specs.Prelude.{◌≡◌};
 
 use binary_refs::PreviewFault;
 use heap_cells::HeapFault;
-use section_index::{BodyFault, OpenFault};
+use dump_sections::BodyFault;
+use section_index::OpenFault;
 use std::alloc::AllocError;
 
 pub(crate) fn of_opening(fault: OpenFault) -> AllocError

@@ -1,6 +1,6 @@
 // Holding a made dump in memory and reading it.
 ghost use Rattle.std.specs.Prelude.{◌≡◌, ◌≤◌, length, All, None, IfOk};
-ghost use Rattle.section_index.specs.Index.{IsIndexOf};
+ghost use Rattle.dump_sections.specs.Index.{IsIndexOf};
 ghost use Rattle.process_table.specs.Processes.{IsIn};
 ghost use Rattle.dump_audit.specs.Findings.{audit_of, findings};
 ghost use Rattle.dump_trial.specs.Trial.{queue_limit, summary_of, trial_of};
@@ -13,7 +13,7 @@ use dump_audit::audit;
 use dump_write::{made_dump_is_accepted, make};
 use link_graph::Graph;
 use process_table::Procs;
-use section_index::Index;
+use dump_sections::Index;
 use std::alloc::{AllocError, Global};
 
 // A message queue is reported if its length is above this.

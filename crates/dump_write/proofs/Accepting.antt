@@ -11,12 +11,13 @@ use Rattle.std.proofs.lemmas.List.Filters.{sum_by-filter_both}
 use Rattle.dump_io.specs.Limits.{usual}
 use Rattle.dump_io.specs.Lines.{Header, headers, text_of}
 use Rattle.line_source.specs.Streams.{begins_with_equals, length_before_lf}
-use Rattle.section_index.specs.declared.index.State.TheVariants.{Whole, TruncatedIn}
+use Rattle.dump_sections.specs.declared.index.State.TheVariants.{Whole, TruncatedIn}
 use Rattle.section_index.specs.declared.opening.OpenFault.TheVariants.{TooLarge, TooManySections, HeadersTooLarge, HeaderTooLong}
-use Rattle.section_index.specs.Bodies.{body_length}
-use Rattle.section_index.specs.Index.{last_text, state_of}
-use Rattle.section_index.specs.Opening.{first_in, version_named, version_fault, text_bytes, headers_upto, IsAccepted, fault_of, header_fault, earlier, surplus_header, large_headers, other_version}
-use Rattle.section_index.specs.Sections.{tag_of, id_of, next_at, sections_of, sections}
+use Rattle.dump_sections.specs.Bodies.{body_length}
+use Rattle.dump_sections.specs.Index.{last_text, state_of}
+use Rattle.dump_sections.specs.Versions.{first_in, version_named}
+use Rattle.section_index.specs.Opening.{version_fault, text_bytes, headers_upto, IsAccepted, fault_of, header_fault, earlier, surplus_header, large_headers, other_version}
+use Rattle.dump_sections.specs.Sections.{tag_of, id_of, next_at, sections_of, sections}
 use Rattle.dump_write.specs.Written.{is_line_text, lines_of}
 use Rattle.dump_write.proofs.Divided.{are_line_texts, raw_lines-lines_of, header_texts, header_count, none_too_long, text_bytes-le, headers_are_within}
 use Rattle.dump_write.proofs.TextLists.{AreTexts}

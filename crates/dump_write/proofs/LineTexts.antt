@@ -10,7 +10,7 @@ use Rattle.dump_io.specs.Colons.{colon, is_colon, has_colon, after_colon}
 use Rattle.dump_io.specs.Lines.{lf, cr, equals_sign}
 use Rattle.dump_io.specs.Numbers.{hexadecimal}
 use Rattle.line_source.specs.Streams.{begins_with_equals}
-use Rattle.section_index.specs.Sections.{tag_of, id_of}
+use Rattle.dump_sections.specs.Sections.{tag_of, id_of}
 use Rattle.dump_write.specs.Written.{lacks, is_line_text, line, header_text, IsHeaderOf}
 use Rattle.dump_write.proofs.Numerals.{is_plain, IsPlain, list_all-weaker, hexadecimal_is_plain, plain_is_no_header}
 use Rattle.dump_write.proofs.OneLine.{drop-cons, IsOneLine-line, is_header-line}

@@ -4,14 +4,14 @@ use Rattle.std.specs.Prelude.{codes, All}
 use Rattle.std.specs.List.{list_all, flat_map, range_with_len}
 use Rattle.dump_io.specs.Limits.{usual}
 use Rattle.dump_io.specs.Lines.{headers}
-use Rattle.section_index.specs.declared.index.State.TheVariants.{Whole}
-use Rattle.section_index.specs.Bodies.{body_length}
-use Rattle.section_index.specs.Index.{state_of}
+use Rattle.dump_sections.specs.declared.index.State.TheVariants.{Whole}
+use Rattle.dump_sections.specs.Bodies.{body_length}
+use Rattle.dump_sections.specs.Index.{state_of}
 use Rattle.section_index.specs.Opening.{IsAccepted}
-use Rattle.section_index.specs.Sections.{sections}
+use Rattle.dump_sections.specs.Sections.{sections}
 use Rattle.dump_write.specs.Made.{made, made_texts, first_sections, process_sections, last_sections}
 use Rattle.dump_write.specs.Written.{is_line_text, lines_of}
-use Rattle.section_index.specs.Laws.{length-sections_of}
+use Rattle.dump_sections.specs.Laws.{length-sections_of}
 use Rattle.dump_write.proofs.Accepting.{accepted, whole, bodies_are_short}
 use Rattle.dump_write.proofs.Divided.{are_line_texts, header_count}
 use Rattle.dump_write.proofs.MadeTexts.{made_are_texts}

@@ -2,7 +2,7 @@
 use Rattle.std.specs.Prelude.{ℕ, List}
 use Rattle.heap_cells.specs.Cells.{weight}
 use Rattle.heap_cells.specs.Loading.{enc_of, heap_section, literals_section, body_in}
-use Rattle.section_index.specs.Index.{Contents}
+use Rattle.dump_sections.specs.Index.{Contents}
 
 -- how many heap lines and elements the heap of a pid has in a dump, from its index:
 -- those of the first `proc_heap` section of the pid and of the first `literals` section

@@ -4,7 +4,7 @@ use Rattle.std.specs.List.{list_all, ends_with, flat_map}
 use Rattle.dump_io.specs.Colons.{colon}
 use Rattle.dump_io.specs.Lines.{lf, cr, equals_sign, IsEnded, raw_lines, text_of, is_header}
 use Rattle.dump_io.specs.Numbers.{hexadecimal}
-use Rattle.section_index.specs.Sections.{tag_of, id_of}
+use Rattle.dump_sections.specs.Sections.{tag_of, id_of}
 use Rattle.term_forms.specs.Forms.{HeapForm, plain_form}
 
 -- whether the byte doesn't occur in the text

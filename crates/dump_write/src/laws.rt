@@ -2,11 +2,11 @@
 ghost use Rattle.std.specs.Prelude.{◌≡◌, ◌+◌, ◌*◌, ◌≤◌, ℕ, List, All, length};
 ghost use Rattle.dump_io.specs.Limits.{usual};
 ghost use Rattle.dump_io.specs.Lines.{headers};
-ghost use Rattle.section_index.specs.Bodies.{body_length};
-ghost use Rattle.section_index.specs.Index.{Contents, state_of};
+ghost use Rattle.dump_sections.specs.Bodies.{body_length};
+ghost use Rattle.dump_sections.specs.Index.{Contents, state_of};
 ghost use Rattle.section_index.specs.Opening.{IsAccepted};
-ghost use Rattle.section_index.specs.Sections.{sections};
-ghost use Rattle.section_index.specs.declared.index.State.TheVariants.{Whole};
+ghost use Rattle.dump_sections.specs.Sections.{sections};
+ghost use Rattle.dump_sections.specs.declared.index.State.TheVariants.{Whole};
 ghost use Rattle.dump_write.specs.Heaps.{heap_weight};
 ghost use Rattle.dump_write.specs.Made.{made};
 

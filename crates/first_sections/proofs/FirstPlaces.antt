@@ -9,9 +9,9 @@ use Rattle.std.proofs.lemmas.Bool.{ltb-true}
 use Rattle.std.proofs.lemmas.List.{take_more}
 use Rattle.std.proofs.lemmas.Option.{get_or_from_slice_get, slice_get_within}
 use Rattle.std.proofs.lemmas.Slice.Eq.{bytes_eq-Decides}
-use Rattle.section_index.specs.Laws.{first-more, first-passed}
-use Rattle.section_index.specs.Lookups.{is_named}
-use Rattle.section_index.specs.Sections.{Section}
+use Rattle.dump_sections.specs.Laws.{first-more, first-passed}
+use Rattle.dump_sections.specs.Lookups.{is_named}
+use Rattle.dump_sections.specs.Sections.{Section}
 use Rattle.first_sections.specs.Inner.Places.{AreFirsts, Places, first_place, id_with, place_at}
 
 -- ---- lists

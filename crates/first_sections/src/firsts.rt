@@ -1,12 +1,12 @@
 // The first section with a tag and each id.
 ghost use Rattle.std.specs.Prelude.{◌≡◌, ◌+◌, ◌<◌, length, position, take, slice_get, Some, IfOk, IfSome, OnOk};
 ghost use Rattle.std.specs.Option.{option_copied};
-ghost use Rattle.section_index.specs.Bodies.{section_at};
-ghost use Rattle.section_index.specs.Index.{sections_in};
-ghost use Rattle.section_index.specs.Lookups.{is_named};
+ghost use Rattle.dump_sections.specs.Bodies.{section_at};
+ghost use Rattle.dump_sections.specs.Index.{sections_in};
+ghost use Rattle.dump_sections.specs.Lookups.{is_named};
 ghost use Rattle.first_sections.specs.Inner.Places.{AreFirsts, IsFound, id_with};
 
-use section_index::Index;
+use dump_sections::Index;
 use std::alloc::{AllocError, Global};
 use std::collections::BTreeMap;
 use std::marker::Model;

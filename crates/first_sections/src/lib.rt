@@ -1,6 +1,6 @@
 //! Sections by their ids, for a caller that asks for many with the same tag.
 //!
-//! [`Index::first`](section_index::Index::first) goes through all headers. [`FirstSections`]
+//! [`Index::first`](dump_sections::Index::first) goes through all headers. [`FirstSections`]
 //! goes through them once, and then finds, for any id, the first section of a tag that has it.
 //!
 //! ```

@@ -4,7 +4,7 @@ use Rattle.std.specs.List.{concat, flat_map}
 use Rattle.dump_io.specs.Colons.{has_colon}
 use Rattle.field_lines.specs.Fields.{find_value, key_of, value_of}
 use Rattle.field_lines.specs.Lines.{TextLine, text_lines}
-use Rattle.section_index.specs.Index.{Contents, sections_in, state_of}
+use Rattle.dump_sections.specs.Index.{Contents, sections_in, state_of}
 use Rattle.section_rows.specs.Rows.{Row, cell_at, row_at}
 use Rattle.process_table.specs.Processes.{Process, ProcessTable, process_at}
 use Rattle.dump_triage.specs.Triage.{Triaged}

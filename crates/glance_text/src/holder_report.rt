@@ -10,7 +10,7 @@ use binary_holders::{BinaryRow, BinaryUse, Holding};
 use dump_io::{Failed, Piece, Sink, put_pieces};
 use process_table::Procs;
 use report_text::put_process_end;
-use section_index::Index;
+use dump_sections::Index;
 
 // Writes the line of a process that holds binaries.
 fn put_held<K: Sink>(

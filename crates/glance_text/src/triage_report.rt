@@ -19,7 +19,7 @@ use field_lines::reading::{field, lines};
 use process_table::Procs;
 use report_lines::put_count_line;
 use report_text::{put_heading, put_process_end, put_processes_line, put_state, text_at, text_of};
-use section_index::Index;
+use dump_sections::Index;
 use table_sections::Rows;
 
 // Writes the line of a field of the `memory` section.

@@ -1,7 +1,7 @@
 // Why a heap isn't loaded.
 ghost use Rattle.std.specs.Prelude.{◌≡◌};
 
-use section_index::BodyFault;
+use dump_sections::BodyFault;
 use std::alloc::AllocError;
 use thiserror::Error;
 

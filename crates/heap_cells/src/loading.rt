@@ -1,13 +1,13 @@
 // Judging and reading the bodies of a heap.
 ghost use Rattle.std.specs.Prelude.{◌≡◌, ◌+◌, ◌<◌, ◌≤◌, length, IfOk, IfErr, IfSome};
 ghost use Rattle.dump_io.specs.Dumps.{ReadsAtMost};
-ghost use Rattle.section_index.specs.Index.{IsBuiltOver};
+ghost use Rattle.dump_sections.specs.Index.{IsBuiltOver};
 ghost use Rattle.heap_cells.specs.Loading.{enc_of, section_in, body_size, too_large, refused, IsBodyIn, IsReadFault};
 
 use crate::faults::HeapFault;
 use crate::texts::Texts;
 use dump_io::{Dumps, Limits};
-use section_index::{Index, Version, read_body};
+use dump_sections::{Index, Version, read_body};
 use std::alloc::Global;
 use term_forms::Enc;
 

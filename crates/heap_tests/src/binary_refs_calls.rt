@@ -1,10 +1,11 @@
-ghost use Rattle.section_index.specs.Index.{IsBuiltOver};
+ghost use Rattle.dump_sections.specs.Index.{IsBuiltOver};
 ghost use Rattle.binary_refs.specs.Previews.{AreFor};
 
 use binary_refs::{Preview, Previews, whole};
 use dump_io::{Dumps, Limits, MemDumps};
 use heap_cells::{Heap, Kind};
-use section_index::{Index, build};
+use dump_sections::Index;
+use section_index::build;
 use std::alloc::{AllocError, Global};
 use std::process::Abort;
 use std::test::Fail;

@@ -1,10 +1,11 @@
-ghost use Rattle.section_index.specs.Index.{IsBuiltOver};
+ghost use Rattle.dump_sections.specs.Index.{IsBuiltOver};
 ghost use Rattle.process_table.specs.Processes.{IsOver};
 
 use binary_holders::{BinaryUse, Holding, binary_use, holders};
 use dump_io::{Dumps, Limits, MemDumps};
 use process_table::Procs;
-use section_index::{Index, build};
+use dump_sections::Index;
+use section_index::build;
 use std::alloc::{AllocError, Global};
 use std::test::Fail;
 

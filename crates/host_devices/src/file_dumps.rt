@@ -102,6 +102,3 @@ impl<'a> Dumps for FileDumps<'a> {
         }
     }
 }
-
-#[cfg(test)]
-mod tests;

@@ -101,6 +101,3 @@ impl<W: Write + Drop> Sink for StdSink<W> {
         Ok(n)
     }
 }
-
-#[cfg(test)]
-mod tests;

@@ -10,7 +10,7 @@ use Rattle.std.proofs.lemmas.List.{length-append}
 use Rattle.std.proofs.lemmas.List.Elements.{All-nil, All-cons, All-append, All-head, All-tail}
 use Rattle.std.proofs.lemmas.Option.{get_or_from_slice_get, slice_get_within}
 use Rattle.dump_io.specs.Numbers.{dec_number}
-use Rattle.section_index.specs.Bodies.{section_at}
+use Rattle.dump_sections.specs.Bodies.{section_at}
 use Rattle.section_rows.specs.Rows.{Kept}
 use Rattle.process_table.specs.Processes.{Process, process_at}
 use Rattle.process_table.specs.Records.{Placed}

@@ -2,11 +2,11 @@
 use Rattle.std.proofs.Common.{◌≡◌, ℕ, ◌<◌, ◌^◌, true, List, length, Option, arith}
 use Rattle.std.specs.Prelude.{codes, nat_eq, slice_index_or}
 use Rattle.std.specs.List.{starts_with}
-use Rattle.section_index.specs.Bodies.{section_at}
-use Rattle.section_index.specs.Index.{index_of}
-use Rattle.section_index.specs.Opening.{signature}
-use Rattle.section_index.specs.Sections.{sections}
-use Rattle.section_index.specs.Tiling.{Tile}
+use Rattle.dump_sections.specs.Bodies.{section_at}
+use Rattle.dump_sections.specs.Index.{index_of}
+use Rattle.dump_sections.specs.Versions.{signature}
+use Rattle.dump_sections.specs.Sections.{sections}
+use Rattle.dump_sections.specs.Tiling.{Tile}
 use Rattle.section_rows.specs.Rows.{body_of}
 use Rattle.process_table.specs.Processes.{process_in, process_table}
 use Rattle.process_table.specs.Records.{records}

@@ -5,8 +5,8 @@ use Rattle.std.specs.List.{between, enumerate_from}
 use Rattle.std.proofs.lemmas.List.{length-drop, length-take}
 use Rattle.std.proofs.lemmas.List.Elements.{All-nil, All-cons, All-filter, All-head, All-tail}
 use Rattle.std.proofs.lemmas.Option.{get_or_from_slice_get, slice_get_within}
-use Rattle.section_index.specs.Sections.{Section, section}
-use Rattle.section_index.specs.Tiling.{Tile}
+use Rattle.dump_sections.specs.Sections.{Section, section}
+use Rattle.dump_sections.specs.Tiling.{Tile}
 use Rattle.process_table.specs.Records.{Placed, first_of_each, has_same_pid, is_process, placed, process_sections, records}
 use Rattle.dump_audit.specs.Laws.{all-numbered}
 use Rattle.json_report.proofs.Stands.{total}

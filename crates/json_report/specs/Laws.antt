@@ -4,8 +4,8 @@ use Rattle.std.specs.List.{starts_with}
 use Rattle.serde_json.specs.Data.{Data}
 use Rattle.serde_json.specs.Read.{read}
 use Rattle.serde_json.specs.Written.{compact_text}
-use Rattle.section_index.specs.Index.{index_of}
-use Rattle.section_index.specs.Opening.{signature}
+use Rattle.dump_sections.specs.Index.{index_of}
+use Rattle.dump_sections.specs.Versions.{signature}
 use Rattle.process_table.specs.Processes.{process_table}
 use Rattle.dump_audit.specs.Findings.{audit_of}
 use Rattle.dump_audit.specs.declared.finding.Finding.{Finding}

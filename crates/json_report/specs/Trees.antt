@@ -4,10 +4,10 @@ use Rattle.std.specs.Prelude.{ℕ, List, [], ◌∷◌, ◌++◌, length, map, d
 use Rattle.serde_json.specs.Data.{Data, number, unsigned, string, array, object, Items, Members, no_members, member}
 use Rattle.serde_json.specs.View.{items_of}
 use Rattle.serde_json.specs.Written.{compact_text}
-use Rattle.section_index.specs.declared.index.State.{State}
-use Rattle.section_index.specs.declared.index.State.TheVariants.{Whole, TruncatedIn}
-use Rattle.section_index.specs.Bodies.{section_at}
-use Rattle.section_index.specs.Index.{Contents, state_of}
+use Rattle.dump_sections.specs.declared.index.State.{State}
+use Rattle.dump_sections.specs.declared.index.State.TheVariants.{Whole, TruncatedIn}
+use Rattle.dump_sections.specs.Bodies.{section_at}
+use Rattle.dump_sections.specs.Index.{Contents, state_of}
 use Rattle.process_table.specs.Processes.{Process}
 use Rattle.link_graph.specs.Kinds.{Kind}
 use Rattle.dump_audit.specs.FindingNames.{pid_at, kind_at, partner_in, partner_at, reference_in, reference_at}

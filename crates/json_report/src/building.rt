@@ -3,7 +3,7 @@ ghost use Rattle.std.specs.Prelude.{◌≡◌, Some, false, string_bytes, All, I
 ghost use Rattle.serde_json.specs.Read.{read};
 ghost use Rattle.serde_json.specs.View.{view};
 ghost use Rattle.serde_json.specs.Written.{compact_text, has_float};
-ghost use Rattle.section_index.specs.Index.{state_of};
+ghost use Rattle.dump_sections.specs.Index.{state_of};
 ghost use Rattle.link_graph.specs.Graph.{graph_of};
 ghost use Rattle.dump_audit.specs.Fitting.{Fits};
 ghost use Rattle.json_report.specs.Inner.Parts.{tree_of};
@@ -15,7 +15,7 @@ use crate::members::characters;
 use dump_audit::Finding;
 use link_graph::Graph;
 use process_table::Procs;
-use section_index::{Index, State};
+use dump_sections::{Index, State};
 use serde_json::{Value, to_vec};
 use std::alloc::{AllocError, Global};
 

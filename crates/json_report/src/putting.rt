@@ -13,7 +13,7 @@ use dump_audit::Finding;
 use dump_io::{Failed, Sink, write_all};
 use link_graph::Graph;
 use process_table::Procs;
-use section_index::Index;
+use dump_sections::Index;
 use serde_json::Value;
 use std::alloc::{AllocError, Global};
 

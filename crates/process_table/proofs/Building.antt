@@ -8,9 +8,9 @@ use Rattle.std.proofs.lemmas.List.Elements.{All-nil, All-cons, All-head, All-tai
 use Rattle.std.proofs.lemmas.Slice.Eq.{bytes_eq-Decides}
 use Rattle.dump_io.specs.Dumps.{Now, told}
 use Rattle.dump_io.specs.Lines.{headers}
-use Rattle.section_index.specs.Index.{Contents, sections_in, IsBuiltOver, IsIndexOf}
-use Rattle.section_index.specs.Lookups.{has_tag, is_named}
-use Rattle.section_index.specs.Sections.{Section, id_of, sections, sections_of}
+use Rattle.dump_sections.specs.Index.{Contents, sections_in, IsBuiltOver, IsIndexOf}
+use Rattle.dump_sections.specs.Lookups.{has_tag, is_named}
+use Rattle.dump_sections.specs.Sections.{Section, id_of, sections, sections_of}
 use Rattle.section_rows.specs.Loading.{sections_at}
 use Rattle.section_rows.specs.Rows.{Row, rows_of, body_of}
 use Rattle.process_table.specs.declared.pids.PidPlace.{PidPlace}

@@ -8,7 +8,7 @@ use Rattle.std.proofs.lemmas.List.Elements.{filter-append}
 use Rattle.std.proofs.lemmas.List.Sums.{length-filter, count_by-le-length}
 use Rattle.std.proofs.lemmas.Option.{get_or_from_slice_get, slice_get_within}
 use Rattle.std.proofs.lemmas.Slice.Eq.{bytes_eq-Decides}
-use Rattle.section_index.specs.Sections.{Section}
+use Rattle.dump_sections.specs.Sections.{Section}
 use Rattle.process_table.specs.Records.{Placed, placed, is_process, pid_of, process_sections, has_same_pid, first_of_each}
 
 bytes_eq-same : (x y : List ℕ) → bytes_eq x y ≡ true → x ≡ y

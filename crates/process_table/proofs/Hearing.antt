@@ -5,8 +5,8 @@ use Rattle.std.specs.List.{list_any}
 use Rattle.std.specs.Str.{bytes_eq}
 use Rattle.std.proofs.lemmas.List.{append-nil, map-append}
 use Rattle.std.proofs.lemmas.List.Sums.{length-filter, count_by-le-length}
-use Rattle.section_index.specs.Lookups.{has_tag}
-use Rattle.section_index.specs.Sections.{Section, id_of}
+use Rattle.dump_sections.specs.Lookups.{has_tag}
+use Rattle.dump_sections.specs.Sections.{Section, id_of}
 use Rattle.process_table.specs.declared.pids.PidPlace.{PidPlace}
 use Rattle.process_table.specs.declared.finding.Found.{Found}
 use Rattle.process_table.specs.Records.{Placed, is_process, named_place, pid_of, process_sections, first_of_each}

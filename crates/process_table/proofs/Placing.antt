@@ -4,10 +4,10 @@ use Rattle.std.proofs.lemmas.List.{get_or_default}
 use Rattle.std.proofs.lemmas.List.FromFn.{get_or-enumerate_from, length-enumerate_from}
 use Rattle.std.proofs.lemmas.List.Elements.{All-nil, All-cons, All-head, All-tail, All-filter, filter_passes}
 use Rattle.std.proofs.lemmas.Option.{unwrap_or-slice_get}
-use Rattle.section_index.specs.Bodies.{section_at}
-use Rattle.section_index.specs.Index.{Contents, sections_in}
-use Rattle.section_index.specs.Laws.{length-sections_of}
-use Rattle.section_index.specs.Sections.{section}
+use Rattle.dump_sections.specs.Bodies.{section_at}
+use Rattle.dump_sections.specs.Index.{Contents, sections_in}
+use Rattle.dump_sections.specs.Laws.{length-sections_of}
+use Rattle.dump_sections.specs.Sections.{section}
 use Rattle.process_table.specs.Records.{Placed, placed, is_process, process_sections, has_same_pid, first_of_each, records}
 use Rattle.process_table.specs.Inner.Finding.{IsRecordOf}
 

@@ -1,10 +1,10 @@
 -- The process table of a dump.
 use Rattle.std.specs.Prelude.{◌≡◌, ℕ, ◌<◌, ◌≤◌, true, List, [], length, map, slice_get, Option, Some, None, All, codes, unwrap_or}
 use Rattle.dump_io.specs.Limits.{usual}
-use Rattle.section_index.specs.Bodies.{section_at}
-use Rattle.section_index.specs.Index.{Contents, sections_in}
-use Rattle.section_index.specs.Lookups.{is_named}
-use Rattle.section_index.specs.Sections.{sections}
+use Rattle.dump_sections.specs.Bodies.{section_at}
+use Rattle.dump_sections.specs.Index.{Contents, sections_in}
+use Rattle.dump_sections.specs.Lookups.{is_named}
+use Rattle.dump_sections.specs.Sections.{sections}
 use Rattle.section_rows.specs.Rows.{Kept, IsBoundedCell, body_of, field_kept}
 use Rattle.process_table.specs.Records.{Placed, records, repeated, pid_of}
 

@@ -2,8 +2,8 @@
 use Rattle.std.specs.Prelude.{ℕ, ◌-◌, Bool, ◌&&◌, not, List, [], ◌∷◌, length, map, filter, is_some, unwrap_or, codes}
 use Rattle.std.specs.List.{enumerate_from}
 use Rattle.std.specs.Str.{bytes_eq}
-use Rattle.section_index.specs.Lookups.{has_tag}
-use Rattle.section_index.specs.Sections.{Section, id_of}
+use Rattle.dump_sections.specs.Lookups.{has_tag}
+use Rattle.dump_sections.specs.Sections.{Section, id_of}
 
 -- a section and its place among the sections of the dump, from 0
 abbrev pub Placed : Type 0

@@ -2,13 +2,13 @@
 ghost use Rattle.std.specs.Prelude.{◌≡◌, ◌+◌, ◌<◌, ◌≤◌, ◌^◌, true, length, take, slice_get, Some, OnOk, IfOk, IfSome};
 ghost use Rattle.std.specs.Option.{option_copied};
 ghost use Rattle.dump_io.specs.Limits.{usual};
-ghost use Rattle.section_index.specs.Index.{sections_in};
-ghost use Rattle.section_index.specs.Bodies.{section_at};
+ghost use Rattle.dump_sections.specs.Index.{sections_in};
+ghost use Rattle.dump_sections.specs.Bodies.{section_at};
 ghost use Rattle.process_table.specs.Records.{placed};
 ghost use Rattle.process_table.specs.Inner.Finding.{AreFound, AreFoundRising, AreNumbered, AreOrdered, AreOwn, AreRanked, pid_in};
 
 use crate::pids::{PidOrder, PidPlace, comes_behind, order_of, push_place};
-use section_index::Index;
+use dump_sections::Index;
 use std::alloc::{AllocError, Global};
 use std::collections::BTreeMap;
 

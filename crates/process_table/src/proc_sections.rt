@@ -1,7 +1,7 @@
 // The sections of processes, from an index.
 ghost use Rattle.std.specs.Prelude.{◌≡◌, ◌<◌, ◌≤◌, length, slice_get, Some, IfOk};
 ghost use Rattle.dump_io.specs.Limits.{usual};
-ghost use Rattle.section_index.specs.Index.{sections_in};
+ghost use Rattle.dump_sections.specs.Index.{sections_in};
 ghost use Rattle.section_rows.specs.Loading.{large_fault};
 ghost use Rattle.process_table.specs.Records.{proc_places, record_sections};
 ghost use Rattle.process_table.specs.Inner.Finding.{named_places, sections_of, AreOrdered};
@@ -9,7 +9,7 @@ ghost use Rattle.process_table.specs.Inner.Finding.{named_places, sections_of, A
 use crate::finding::find;
 use crate::pids::{PidOrder, PidPlace};
 use dump_io::Limits;
-use section_index::{BodyFault, Index};
+use dump_sections::{BodyFault, Index};
 use section_rows::large;
 use std::alloc::{AllocError, Global};
 use std::marker::Model;

@@ -2,7 +2,7 @@
 ghost use Rattle.std.specs.Prelude.{◌≡◌, ℕ, List, ◌<◌, length, map, slice_get, None, Some, IfSome, IsSome, IfOk, OnOk, IfErr, All, position};
 ghost use Rattle.std.specs.Str.{bytes_eq};
 ghost use Rattle.dump_io.specs.Dumps.{told, ReadsAtMost};
-ghost use Rattle.section_index.specs.Index.{IsBuiltOver, sections_in};
+ghost use Rattle.dump_sections.specs.Index.{IsBuiltOver, sections_in};
 ghost use Rattle.section_rows.specs.Loading.{bodies_length, first_large, AreRefused};
 ghost use Rattle.section_rows.specs.Rows.{rows_of};
 ghost use Rattle.section_rows.specs.Shown.{shown_cell};
@@ -16,7 +16,7 @@ use crate::hints::Hints;
 use crate::pids::{PidOrder, PidPlace, number_of};
 use crate::proc_sections::{ProcSections, place_at};
 use dump_io::{Dumps, Limits};
-use section_index::{BodyFault, Index};
+use dump_sections::{BodyFault, Index};
 use section_rows::{Column, Kept, SectionRows};
 use std::alloc::Global;
 use std::marker::Model;

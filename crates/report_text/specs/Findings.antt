@@ -1,7 +1,7 @@
 -- The text of the report of an audit. Offsets are of the file.
 use Rattle.std.specs.Prelude.{ℕ, List, [], ◌∷◌, ◌++◌, length, decimal, codes}
 use Rattle.std.specs.List.{concat, flat_map}
-use Rattle.section_index.specs.Index.{Contents, sections_in, state_of}
+use Rattle.dump_sections.specs.Index.{Contents, sections_in, state_of}
 use Rattle.process_table.specs.Processes.{Process}
 use Rattle.dump_audit.specs.FindingNames.{pid_at, partner_at, reference_at}
 use Rattle.dump_audit.specs.Findings.{Audit, findings}

@@ -1,14 +1,14 @@
 -- The texts of the reports, line by line. Offsets are of the file.
 use Rattle.std.specs.Prelude.{ℕ, List, [], ◌∷◌, ◌++◌, decimal, codes, length, unwrap_or, slice_get, Option, None, Some}
 use Rattle.std.specs.List.{concat, flat_map}
-use Rattle.section_index.specs.declared.index.State.{State}
-use Rattle.section_index.specs.declared.index.State.TheVariants.{Whole, TruncatedIn}
+use Rattle.dump_sections.specs.declared.index.State.{State}
+use Rattle.dump_sections.specs.declared.index.State.TheVariants.{Whole, TruncatedIn}
 use Rattle.dump_io.specs.Lines.{Header}
 use Rattle.field_lines.specs.Fields.{find_value}
-use Rattle.section_index.specs.declared.opening.Version.{Version}
-use Rattle.section_index.specs.declared.opening.Version.TheVariants.{V03, V04, V05}
-use Rattle.section_index.specs.Sections.{Section, sections_of}
-use Rattle.section_index.specs.Index.{state_of}
+use Rattle.dump_sections.specs.declared.version.Version.{Version}
+use Rattle.dump_sections.specs.declared.version.Version.TheVariants.{V03, V04, V05}
+use Rattle.dump_sections.specs.Sections.{Section, sections_of}
+use Rattle.dump_sections.specs.Index.{state_of}
 use Rattle.report_lines.specs.Lines.{newline, space}
 
 -- the line of a section: where its header begins, where its body begins and ends, and its header's text

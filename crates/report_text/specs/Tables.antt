@@ -5,8 +5,8 @@ use Rattle.std.specs.List.{concat, flat_map}
 use Rattle.dump_io.specs.Colons.{has_colon}
 use Rattle.field_lines.specs.Fields.{key_of, value_of}
 use Rattle.field_lines.specs.Lines.{TextLine, text_lines}
-use Rattle.section_index.specs.Bodies.{section_at}
-use Rattle.section_index.specs.Index.{Contents}
+use Rattle.dump_sections.specs.Bodies.{section_at}
+use Rattle.dump_sections.specs.Index.{Contents}
 use Rattle.process_table.specs.Processes.{Process, ProcessTable}
 use Rattle.section_rows.specs.Rows.{Kept, Row, Table, text_in}
 use Rattle.report_lines.specs.Lines.{newline, tab}

@@ -14,7 +14,7 @@ use dump_audit::named::{kind, partner, reference};
 use dump_io::{Failed, Piece, Sink, put_pieces};
 use link_graph::Graph;
 use process_table::Procs;
-use section_index::Index;
+use dump_sections::Index;
 
 // Writes the line of a finding with one text between its word and its offsets.
 fn put_one<'x, K: Sink>(

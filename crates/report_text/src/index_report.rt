@@ -2,12 +2,12 @@
 ghost use Rattle.std.specs.Prelude.{◌<◌};
 ghost use Rattle.std.specs.List.{flat_map};
 ghost use Rattle.dump_io.specs.Sinks.{Puts};
-ghost use Rattle.section_index.specs.Index.{sections_in, state_of};
-ghost use Rattle.section_index.specs.Sections.{section};
+ghost use Rattle.dump_sections.specs.Index.{sections_in, state_of};
+ghost use Rattle.dump_sections.specs.Sections.{section};
 ghost use Rattle.report_text.specs.Reports.{section_line, state_line, index_report};
 
 use dump_io::{Failed, Piece, Sink, put_pieces, write_all};
-use section_index::{Extent, Index, State};
+use dump_sections::{Extent, Index, State};
 
 fn put_section<K: Sink>(sink: &mut K, s: &Extent<'_>) -> Result<(), Failed>
     ensures { Puts (K.state sink.old) (K.state sink.new) (section_line (section s.now.at s.now.body s.now.end s.now.text.now)) result }

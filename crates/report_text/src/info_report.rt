@@ -8,7 +8,7 @@ ghost use Rattle.report_text.specs.Reports.{version_text, text_or_dash, tag_line
 use crate::index_report::put_state;
 use dump_io::{Failed, Piece, Sink, put_pieces};
 use field_lines::find;
-use section_index::{Index, Tags, Version};
+use dump_sections::{Index, Tags, Version};
 
 fn version_text(version: Version) -> &'static [u8]
     ensures { result.now ≡ version_text version }

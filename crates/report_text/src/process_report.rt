@@ -9,7 +9,7 @@ ghost use Rattle.report_text.specs.Tables.{cell_text, process_end, process_line,
 
 use dump_io::{Failed, Piece, Sink, put_pieces};
 use process_table::{Kept, Proc, Procs};
-use section_index::Index;
+use dump_sections::Index;
 
 /// The text of a field, or `-`.
 pub fn text_of<'a>(cell: &Option<Kept<'a>>) -> &'a [u8]

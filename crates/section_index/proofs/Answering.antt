@@ -10,12 +10,14 @@ use Rattle.dump_io.specs.Lines.{Header, headers}
 use Rattle.dump_io.specs.Dumps.{Files, Now, closed, told, sized, size_of, IsOpen, IsNamed, IsAbsent, Gives}
 use Rattle.section_index.specs.declared.opening.OpenFault.{OpenFault}
 use Rattle.section_index.specs.declared.opening.OpenFault.TheVariants.{Compressed, NotADump, Version as UnknownVersion, TooLarge, HeaderTooLong, TooManySections, HeadersTooLarge, Read, Memory}
-use Rattle.section_index.specs.declared.opening.Version.{Version}
-use Rattle.section_index.specs.Opening.{signature, header_fault, opening}
+use Rattle.dump_sections.specs.declared.version.Version.{Version}
+use Rattle.dump_sections.specs.Versions.{signature}
+use Rattle.section_index.specs.Opening.{header_fault, opening}
 use Rattle.section_index.specs.Inner.Beginning.{IsAllOrLong, BeginsAs, IsJudged, IsOfTheBeginning}
 use Rattle.section_index.specs.Opening.{fault_of}
 use Rattle.section_index.specs.Inner.Scanning.{IsHeaderFault, IsOfAHeader}
-use Rattle.section_index.specs.Index.{Contents, IsIndexOf, IsAnswerFor, IsBuiltOver, IsClosedOrNamed, IsHeld, IsTooLargeFor}
+use Rattle.dump_sections.specs.Index.{Contents, IsIndexOf, IsBuiltOver}
+use Rattle.section_index.specs.Answers.{IsAnswerFor, IsClosedOrNamed, IsHeld, IsTooLargeFor}
 use Rattle.section_index.specs.Inner.Reading.{IsNotTooLarge}
 use Rattle.section_index.specs.Inner.Reading.{IsHeaderRefusal}
 use Rattle.section_index.proofs.Grown.{Gives-whole}

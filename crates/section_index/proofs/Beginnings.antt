@@ -12,12 +12,13 @@ use Rattle.line_source.specs.Streams.{is_too_long, length_before_lf}
 use Rattle.line_source.specs.Feeding.{first_too_long}
 use Rattle.section_index.specs.declared.opening.OpenFault.{OpenFault}
 use Rattle.section_index.specs.declared.opening.OpenFault.TheVariants.{Compressed, NotADump, Version as UnknownVersion, TooLarge, HeaderTooLong, TooManySections, HeadersTooLarge, Read, Memory}
-use Rattle.section_index.specs.declared.opening.Version.{Version}
-use Rattle.section_index.specs.Opening.{signature, gzip_mark, first_in, first_line, first_id, version_fault, version_named, unsigned, other_version, header_fault}
+use Rattle.dump_sections.specs.declared.version.Version.{Version}
+use Rattle.dump_sections.specs.Versions.{signature, first_in, first_line, first_id, version_named}
+use Rattle.section_index.specs.Opening.{gzip_mark, version_fault, unsigned, other_version, header_fault}
 use Rattle.section_index.specs.Inner.Beginning.{IsAllOrLong, id_in, IsVersionOf, IsJudged}
 use Rattle.section_index.specs.Opening.{fault_of}
 use Rattle.section_index.proofs.Causes.{fault-long}
-use Rattle.section_index.proofs.Tiling.{is_header-first}
+use Rattle.dump_sections.specs.TilingLaws.{is_header-first}
 
 -- the first bytes tell whether all begin so
 starts-if : (q : Bool) (first more start : List ℕ) → nat_lt (length first) 65536 ≡ q → length start ≤ 65536 → IsAllOrLong first more

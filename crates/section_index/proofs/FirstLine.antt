@@ -8,7 +8,7 @@ use Rattle.std.proofs.lemmas.List.Sums.{passes_at_first}
 use Rattle.std.proofs.lemmas.List.{length-drop}
 use Rattle.dump_io.specs.Lines.{lf, cr, raw_lines, lines_after, text_of}
 use Rattle.line_source.specs.Streams.{has_lf, length_before_lf}
-use Rattle.section_index.specs.Opening.{first_in, first_line}
+use Rattle.dump_sections.specs.Versions.{first_in, first_line}
 use Rattle.section_index.specs.Inner.Beginning.{is_lf}
 
 -- bytes without an LF

@@ -8,8 +8,8 @@ use Rattle.std.proofs.lemmas.List.Elements.{All-nil, All-cons}
 use Rattle.dump_io.specs.Limits.{usual}
 use Rattle.dump_io.specs.Lines.{lf, cr, raw_lines, is_header, headers, lines_from, header_of, Line, text_of}
 use Rattle.line_source.specs.Streams.{has_lf, begins_with_equals, length_before_lf, is_too_long, too_long}
-use Rattle.section_index.specs.Index.{HasShortLine}
-use Rattle.section_index.proofs.Tiling.{is_header-first, line_at, headers_in}
+use Rattle.dump_sections.specs.Index.{HasShortLine}
+use Rattle.dump_sections.specs.TilingLaws.{is_header-first, line_at, headers_in}
 
 -- a text is a front of its line
 chosen-short : (a b : Bool) (m n : ℕ) (raw : List ℕ) → length (if a then take m raw else (if b then take n raw else raw)) ≤ length raw

@@ -1,10 +1,3 @@
-pub mod Bodies
-pub mod Cuts
-pub mod Index
+pub mod Answers
 pub mod Inner
-pub mod Laws
-pub mod Lookups
 pub mod Opening
-pub mod Sections
-pub mod Tags
-pub mod Tiling

@@ -1,44 +1,19 @@
 -- Which dumps are accepted, and why the others are refused.
-use Rattle.std.specs.Prelude.{◌≡◌, ℕ, List, [], ◌∷◌, length, filter, slice_get, Option, None, Some, unwrap_or, codes, nat_lt, nat_le, nat_eq, if◌then◌else◌}
+use Rattle.std.specs.Prelude.{◌≡◌, ℕ, List, [], ◌∷◌, length, filter, slice_get, Option, None, Some, nat_lt, nat_le, nat_eq, if◌then◌else◌}
 use Rattle.std.specs.List.{starts_with, sum_by}
 use Rattle.std.specs.Option.{option_map, option_or}
-use Rattle.std.specs.Str.{bytes_eq}
 use Rattle.dump_io.specs.Limits.{Numbers}
-use Rattle.dump_io.specs.Lines.{Header, raw_lines, text_of, headers}
+use Rattle.dump_io.specs.Lines.{Header, headers}
+use Rattle.dump_sections.specs.declared.version.Version.{Version}
+use Rattle.dump_sections.specs.Versions.{signature, version_named, first_line, first_id}
 use Rattle.line_source.specs.Streams.{length_before_lf}
 use Rattle.line_source.specs.Feeding.{first_too_long}
 use Rattle.section_index.specs.declared.opening.OpenFault.{OpenFault}
 use Rattle.section_index.specs.declared.opening.OpenFault.TheVariants.{Compressed, NotADump, Version as UnknownVersion, TooLarge, HeaderTooLong, TooManySections, HeadersTooLarge}
-use Rattle.section_index.specs.declared.opening.Version.{Version}
-use Rattle.section_index.specs.declared.opening.Version.TheVariants.{V03, V04, V05}
-use Rattle.section_index.specs.Sections.{id_of}
-
--- the bytes with which a dump begins
-abbrev pub signature : List ℕ
-signature = codes "=erl_crash_dump:"
 
 -- the bytes with which a file that gzip wrote begins
 abbrev pub gzip_mark : List ℕ
 gzip_mark = 0x1F ∷ 0x8B ∷ []
-
--- the version with this name
-abbrev pub version_named : List ℕ → Option Version
-version_named id =
-    if bytes_eq id (codes "0.3") then Some V03
-    else (if bytes_eq id (codes "0.4") then Some V04 else (if bytes_eq id (codes "0.5") then Some V05 else None))
-
--- the first of a list of lines
-abbrev pub first_in : List (List ℕ) → List ℕ
-first_in [] = []
-first_in (raw ∷ raws) = raw
-
--- the first raw line
-abbrev pub first_line : List ℕ → List ℕ
-first_line bytes = first_in (raw_lines bytes)
-
--- the id of the first line
-abbrev pub first_id : List ℕ → List ℕ
-first_id bytes = unwrap_or (id_of (text_of (first_line bytes))) []
 
 -- the refusal of an id that names no version
 abbrev pub version_fault : List ℕ → Option Version → Option OpenFault

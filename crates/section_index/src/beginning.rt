@@ -4,12 +4,12 @@ ghost use Rattle.std.specs.List.{position};
 ghost use Rattle.dump_io.specs.Limits.{usual};
 ghost use Rattle.dump_io.specs.Lines.{text_of};
 ghost use Rattle.line_source.specs.Streams.{length_before_lf};
-ghost use Rattle.section_index.specs.Opening.{first_line};
+ghost use Rattle.dump_sections.specs.Versions.{first_line};
 ghost use Rattle.section_index.specs.Inner.Beginning.{is_lf, IsVersionOf, IsJudged, IsAllOrLong, IsOfTheBeginning};
 
-use crate::header_text::tag_and_id;
-use crate::opening::{OpenFault, Version, version_of};
+use crate::opening::OpenFault;
 use dump_io::{Limits, Text, text_before_lf};
+use dump_sections::{Version, tag_and_id, version_of};
 use std::alloc::Global;
 
 const SIGNATURE: &[u8] = b"=erl_crash_dump:";

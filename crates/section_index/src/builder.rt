@@ -2,16 +2,17 @@
 ghost use Rattle.std.specs.Prelude.{◌≡◌, ◌⊎◌, ◌-◌, ◌<◌, ◌≤◌, ℕ, List, length, take, min, false, None, OnOk, OnErr, IfOk, IfErr, IsErrOf};
 ghost use Rattle.dump_io.specs.Counts.{plus_capped};
 ghost use Rattle.dump_io.specs.Dumps.{told, IsOpen, size_of, IsAbsent, Gives, DeviceFailed, ReadsAtMost};
-ghost use Rattle.section_index.specs.Index.{IsAnswerFor, IsBuiltOver, IsFileOf, IsTooLargeFor, ReadsFile};
+ghost use Rattle.dump_sections.specs.Index.{IsBuiltOver};
+ghost use Rattle.section_index.specs.Answers.{IsAnswerFor, IsFileOf, IsTooLargeFor, ReadsFile};
 ghost use Rattle.section_index.specs.Inner.Reading.{IsNotTooLarge};
 ghost use Rattle.section_index.specs.Inner.Reading.{HasBegun, IsHeaderRefusal};
 
 use crate::beginning::judge_beginning;
-use crate::index::Index;
 use crate::opening::OpenFault;
 use crate::receiver::{Bounds, Receiver};
 use crate::scanning::{feed_piece, finish_scan};
 use dump_io::{Dumps, Failed, Limits, read_full};
+use dump_sections::Index;
 use line_source::LineScan;
 use std::alloc::{AllocError, Global};
 use std::marker::Brand;

@@ -1,21 +1,9 @@
 // Which dumps are accepted.
 ghost use Rattle.std.specs.Prelude.{◌≡◌};
-ghost use Rattle.section_index.specs.Opening.{version_named};
 
 use dump_io::Text;
 use line_source::{HeaderStop, ScanFault};
 use thiserror::Error;
-
-/// A version of the dump format that is read.
-#[derive(Clone, Copy, Debug, PartialEq, Eq)]
-pub enum Version {
-    /// `0.3`.
-    V03,
-    /// `0.4`.
-    V04,
-    /// `0.5`.
-    V05,
-}
 
 /// Why a dump wasn't opened. Offsets count bytes from the beginning of the file.
 ///
@@ -67,20 +55,4 @@ impl From<ScanFault> for OpenFault {
             ScanFault::Stop(HeaderStop::Memory) => OpenFault::Memory,
         }
     }
-}
-
-// The version that an id names.
-pub(crate) fn version_of(id: &[u8]) -> Option<Version>
-    ensures { result ≡ version_named id.now }
-{
-    if id == b"0.3".as_slice() {
-        return Some(Version::V03);
-    }
-    if id == b"0.4".as_slice() {
-        return Some(Version::V04);
-    }
-    if id == b"0.5".as_slice() {
-        return Some(Version::V05);
-    }
-    None
 }

@@ -2,8 +2,8 @@
 ghost use Rattle.std.specs.Prelude.{◌≡◌, [], None};
 ghost use Rattle.section_index.specs.Inner.Receiver.{IsStopCause, KeepsTo};
 
-use crate::headers::Headers;
 use dump_io::Limits;
+use dump_sections::Headers;
 use line_source::{HeaderSink, HeaderStop, RefusedHeader};
 use std::alloc::Global;
 use std::marker::{Brand, Model, PhantomData};

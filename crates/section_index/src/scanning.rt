@@ -4,9 +4,9 @@ ghost use Rattle.dump_io.specs.Lines.{headers};
 ghost use Rattle.section_index.specs.Opening.{header_fault};
 ghost use Rattle.section_index.specs.Inner.Scanning.{HasHeard, IsHeaderFault, IsOfAHeader};
 
-use crate::headers::Headers;
 use crate::opening::OpenFault;
 use crate::receiver::{Bounds, Receiver};
+use dump_sections::Headers;
 use line_source::{LineScan, streams_grow};
 
 // Takes the next piece of a dump. A refusal is that of the whole dump, whatever follows.

@@ -4,7 +4,7 @@ use Rattle.std.specs.List.{list_any, position_or_len}
 use Rattle.std.proofs.lemmas.List.{length-take, length-drop}
 use Rattle.std.proofs.lemmas.Option.{same_Some}
 use Rattle.dump_io.specs.Colons.{is_colon, has_colon, after_colon}
-use Rattle.section_index.specs.Sections.{name_of, tag_of, id_of}
+use Rattle.dump_sections.specs.Sections.{name_of, tag_of, id_of}
 
 -- a byte that is there has a place within the text
 pub within : (p : ℕ → Bool) (text : List ℕ) → list_any p text ≡ true → position_or_len p text < length text

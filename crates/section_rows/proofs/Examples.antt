@@ -1,7 +1,7 @@
 -- The definitions of cells at a worked section, which the checker computes.
 use Rattle.std.proofs.Common.{◌≡◌, [], ◌∷◌, None, Some, map, refl}
 use Rattle.std.specs.Prelude.{codes}
-use Rattle.section_index.specs.Sections.{section}
+use Rattle.dump_sections.specs.Sections.{section}
 use Rattle.section_rows.specs.Loading.{first_large}
 use Rattle.section_rows.specs.Rows.{kept, tag, id, field, cell_of}
 

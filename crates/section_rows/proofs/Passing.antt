@@ -6,7 +6,7 @@ use Rattle.std.proofs.lemmas.List.{get_or_append_left, get_or_push}
 use Rattle.std.proofs.lemmas.List.Elements.{All-from_get_or}
 use Rattle.field_lines.specs.Lines.{TextLine, text_lines}
 use Rattle.field_lines.specs.Fields.{has_key}
-use Rattle.section_index.specs.Sections.{Section}
+use Rattle.dump_sections.specs.Sections.{Section}
 use Rattle.section_rows.specs.declared.columns.Kept.{Kept as LentKept}
 use Rattle.section_rows.specs.declared.columns.Column.{Column as LentColumn}
 use Rattle.section_rows.specs.declared.columns.Column.TheVariants.{Tag}

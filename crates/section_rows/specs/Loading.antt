@@ -2,11 +2,11 @@
 use Rattle.std.specs.Prelude.{◌≡◌, ◌⊎◌, ℕ, List, map, find, Option, Some, None, nat_lt, option_map}
 use Rattle.std.specs.List.{sum_by}
 use Rattle.dump_io.specs.Dumps.{DeviceState, DeviceFailed}
-use Rattle.section_index.specs.declared.bodies.BodyFault.{BodyFault}
-use Rattle.section_index.specs.declared.bodies.BodyFault.TheVariants.{SectionTooLarge, Read, Memory}
-use Rattle.section_index.specs.Bodies.{section_at, body_length}
-use Rattle.section_index.specs.Index.{Contents}
-use Rattle.section_index.specs.Sections.{Section}
+use Rattle.dump_sections.specs.declared.bodies.BodyFault.{BodyFault}
+use Rattle.dump_sections.specs.declared.bodies.BodyFault.TheVariants.{SectionTooLarge, Read, Memory}
+use Rattle.dump_sections.specs.Bodies.{section_at, body_length}
+use Rattle.dump_sections.specs.Index.{Contents}
+use Rattle.dump_sections.specs.Sections.{Section}
 
 -- the sections at these places
 abbrev pub sections_at : Contents → List ℕ → List Section

@@ -3,7 +3,7 @@ use Rattle.std.specs.Prelude.{◌≡◌, ℕ, ◌+◌, ◌≤◌, List, [], leng
 use Rattle.std.specs.List.{between}
 use Rattle.dump_io.specs.Limits.{usual}
 use Rattle.field_lines.specs.Fields.{find_line, place_of, value_of}
-use Rattle.section_index.specs.Sections.{Section, tag_of, id_of}
+use Rattle.dump_sections.specs.Sections.{Section, tag_of, id_of}
 
 -- a text of a section: the offsets in the file of its line and of the text itself, and the text
 pub record Kept : Type 0 where

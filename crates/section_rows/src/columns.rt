@@ -10,7 +10,7 @@ ghost use Rattle.section_rows.specs.Inner.Passing.{own_cell, field_cell, line_ce
 ghost use Rattle.section_rows.specs.Inner.Places.{HasRoom};
 
 use field_lines::{Line, field};
-use section_index::Section;
+use dump_sections::Section;
 
 /// A text of a section, with its place in the file.
 #[derive(Clone, Copy, Debug)]

@@ -1,8 +1,8 @@
 // Loading the bodies of sections one after another, and keeping what the columns ask for.
 ghost use Rattle.std.specs.Prelude.{◌≡◌, ◌<◌, ◌≤◌, length, map, All, IfOk, OnOk, IfErr, None};
 ghost use Rattle.dump_io.specs.Dumps.{ReadsAtMost};
-ghost use Rattle.section_index.specs.Bodies.{section_at, body_length};
-ghost use Rattle.section_index.specs.Index.{IsBuiltOver};
+ghost use Rattle.dump_sections.specs.Bodies.{section_at, body_length};
+ghost use Rattle.dump_sections.specs.Index.{IsBuiltOver};
 ghost use Rattle.section_rows.specs.Loading.{sections_at, bodies_length, large_fault, IsUnread};
 ghost use Rattle.section_rows.specs.Shown.{shown_column};
 ghost use Rattle.section_rows.specs.Inner.Gains.{GainsRow, HoldsRows};
@@ -12,7 +12,7 @@ ghost use Rattle.section_rows.specs.Inner.Places.{AreWithin};
 use crate::columns::Column;
 use crate::store::Store;
 use dump_io::{Dumps, Limits};
-use section_index::{BodyFault, Index, Section, read_body};
+use dump_sections::{BodyFault, Index, Section, read_body};
 use std::alloc::Global;
 
 /// The refusal of the first of the sections at these places whose body has more bytes than the limit

@@ -12,7 +12,7 @@ ghost use Rattle.section_rows.specs.Inner.Places.{HasRoom};
 use crate::columns::{Column, Kept, in_line, own};
 use field_lines::Line;
 use field_lines::reading::lines;
-use section_index::Section;
+use dump_sections::Section;
 use std::alloc::{AllocError, Global};
 
 // The cells of the columns that show the header; those of fields are still to come.

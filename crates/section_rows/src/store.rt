@@ -8,7 +8,7 @@ ghost use Rattle.section_rows.specs.Inner.Places.{Gained, HasGained, HasRoom, Ar
 
 use crate::columns::{Column, Kept};
 use crate::one_pass::cells_of;
-use section_index::Section;
+use dump_sections::Section;
 use std::alloc::{AllocError, Global};
 
 // Where the text of a cell stands: the offsets of its line and of the text itself, relative

@@ -1,12 +1,13 @@
 ghost use Rattle.std.specs.Prelude.{All};
-ghost use Rattle.section_index.specs.Index.{IsBuiltOver};
+ghost use Rattle.dump_sections.specs.Index.{IsBuiltOver};
 ghost use Rattle.process_table.specs.Processes.{IsIn};
 
 use dump_audit::{Finding, audit, audit_full};
 use dump_io::{Dumps, Limits, MemDumps};
 use link_graph::Graph;
 use process_table::Procs;
-use section_index::{Index, build};
+use dump_sections::Index;
+use section_index::build;
 use std::alloc::{AllocError, Global};
 use std::test::Fail;
 

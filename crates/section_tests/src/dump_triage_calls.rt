@@ -1,11 +1,12 @@
 ghost use Rattle.std.specs.Prelude.{All};
-ghost use Rattle.section_index.specs.Index.{IsBuiltOver};
+ghost use Rattle.dump_sections.specs.Index.{IsBuiltOver};
 ghost use Rattle.process_table.specs.Processes.{IsIn};
 
 use dump_io::{Dumps, Failed, Limits, MemDumps, MemSink, Sink, put_dec, write_all};
 use dump_triage::{FindingCounts, Ranked, Triage};
 use process_table::Procs;
-use section_index::{Index, build};
+use dump_sections::Index;
+use section_index::build;
 use std::alloc::Global;
 use std::process::Abort;
 use std::test::Fail;

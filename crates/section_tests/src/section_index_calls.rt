@@ -1,5 +1,6 @@
 use dump_io::{Dumps, Limits, MemDumps};
-use section_index::{BodyFault, Index, State, Tags, Version, build, read_body};
+use dump_sections::{BodyFault, Index, State, Tags, Version, read_body};
+use section_index::build;
 use std::alloc::{AllocError, Global};
 use std::process::Abort;
 use std::test::Fail;

@@ -7,10 +7,10 @@ use Rattle.std.proofs.lemmas.Bool.{cases_lt, and_parts, leb-true, eqb-true, fals
 use Rattle.std.proofs.lemmas.Option.{cond_some, slice_get-get_or}
 use Rattle.std.proofs.lemmas.List.{take_all, take-append-drop, length-take, length-take-le, length-drop}
 use Rattle.dump_io.specs.Numbers.{hex_number}
-use Rattle.section_index.specs.Bodies.{section_at, body_length}
-use Rattle.section_index.specs.Index.{Contents, IsIndexOf, sections_in}
-use Rattle.section_index.specs.Laws.{length-sections_of}
-use Rattle.section_index.specs.Sections.{Section, section}
+use Rattle.dump_sections.specs.Bodies.{section_at, body_length}
+use Rattle.dump_sections.specs.Index.{Contents, IsIndexOf, sections_in}
+use Rattle.dump_sections.specs.Laws.{length-sections_of}
+use Rattle.dump_sections.specs.Sections.{Section, section}
 use Rattle.term_forms.specs.declared.enc.Enc.{Enc}
 use Rattle.term_forms.specs.declared.enc.Enc.TheVariants.{Hex, Base64}
 use Rattle.term_forms.specs.Payload.{IsPayload, IsPayloadOf, chars_of}

@@ -14,8 +14,8 @@ use Rattle.std.proofs.lemmas.List.Sorted.{All-permutation, Contains-permutation,
 use Rattle.std.proofs.lemmas.List.{get_or_default}
 use Rattle.std.proofs.lemmas.Option.{slice_get-get_or, none-some, same_Some}
 use Rattle.dump_io.specs.Numbers.{hex_number}
-use Rattle.section_index.specs.Lookups.{has_hex, has_tag}
-use Rattle.section_index.specs.Sections.{Section, section, id_of}
+use Rattle.dump_sections.specs.Lookups.{has_hex, has_tag}
+use Rattle.dump_sections.specs.Sections.{Section, section, id_of}
 use Rattle.stored_binaries.specs.StoredBinaries.{binary_place, number_of}
 use Rattle.stored_binaries.specs.Inner.Places.{number_at, rank, IsPairOf, ArePairs, AreOrdered}
 use Rattle.stored_binaries.proofs.FirstPlace.{position-at, position-none}

@@ -2,9 +2,9 @@
 use Rattle.std.specs.Prelude.{ℕ, List, Option, None, codes, position, slice_get, unwrap_or, if◌then◌else◌}
 use Rattle.std.specs.Option.{option_map, option_and_then}
 use Rattle.dump_io.specs.Numbers.{hex_number}
-use Rattle.section_index.specs.Index.{Contents, sections_in}
-use Rattle.section_index.specs.Lookups.{has_hex, has_tag}
-use Rattle.section_index.specs.Sections.{Section, id_of}
+use Rattle.dump_sections.specs.Index.{Contents, sections_in}
+use Rattle.dump_sections.specs.Lookups.{has_hex, has_tag}
+use Rattle.dump_sections.specs.Sections.{Section, id_of}
 use Rattle.term_forms.specs.Words.{led_of}
 
 -- the number of a section whose tag is `binary` and whose id is that number in hex

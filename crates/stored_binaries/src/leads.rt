@@ -2,13 +2,13 @@
 ghost use Rattle.std.specs.Prelude.{◌≡◌, ℕ, ◌+◌, ◌≤◌, ◌<◌, List, length, take, drop, IfSome, OnOk, OnErr, IfOk};
 ghost use Rattle.std.specs.List.{between};
 ghost use Rattle.dump_io.specs.Dumps.{told, DeviceFailed, ReadsAtMost};
-ghost use Rattle.section_index.specs.Bodies.{section_at, body_length};
-ghost use Rattle.section_index.specs.Index.{IsBuiltOver};
+ghost use Rattle.dump_sections.specs.Bodies.{section_at, body_length};
+ghost use Rattle.dump_sections.specs.Index.{IsBuiltOver};
 ghost use Rattle.stored_binaries.specs.StoredBinaries.{size_stated};
 ghost use Rattle.stored_binaries.specs.Inner.Leads.{body_at, IsLeadOf};
 
 use dump_io::{Dumps, Failed, read_full};
-use section_index::Index;
+use dump_sections::Index;
 use term_forms::{heap_line, number_is_read};
 
 /// The number of bytes with which a body begins, and the place in the body at which the characters begin.

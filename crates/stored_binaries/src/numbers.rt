@@ -3,12 +3,12 @@ ghost use Rattle.std.specs.Prelude.{◌≡◌, ◌<◌, length, codes, slice_get
 ghost use Rattle.std.specs.Option.{option_and_then, option_copied, option_map};
 ghost use Rattle.std.specs.Str.{bytes_eq};
 ghost use Rattle.dump_io.specs.Numbers.{hex_number};
-ghost use Rattle.section_index.specs.Bodies.{section_at};
-ghost use Rattle.section_index.specs.Index.{sections_in};
+ghost use Rattle.dump_sections.specs.Bodies.{section_at};
+ghost use Rattle.dump_sections.specs.Index.{sections_in};
 ghost use Rattle.stored_binaries.specs.StoredBinaries.{binary_section, number_of};
 
 use dump_io::hex_u64;
-use section_index::Index;
+use dump_sections::Index;
 
 // The number that an id is in hex.
 fn hex_id(id: Option<&[u8]>) -> Option<u64>

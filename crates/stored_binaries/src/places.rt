@@ -1,12 +1,12 @@
 // The first `binary` section of each address.
 ghost use Rattle.std.specs.Prelude.{◌≡◌, ◌+◌, ◌<◌, ◌≤◌, ◌==◌, length, nat_lt, true, false, None, Some, IfOk, OnOk, IfSome, if◌then◌else◌};
 ghost use Rattle.std.specs.List.Sorted.{IsNonDecreasingBy, IsPartitionPoint};
-ghost use Rattle.section_index.specs.Index.{sections_in};
+ghost use Rattle.dump_sections.specs.Index.{sections_in};
 ghost use Rattle.stored_binaries.specs.StoredBinaries.{binary_place};
 ghost use Rattle.stored_binaries.specs.Inner.Places.{number_at, ArePairs, AreOrdered};
 
 use crate::numbers::binary_number;
-use section_index::Index;
+use dump_sections::Index;
 use std::alloc::{AllocError, Global};
 use std::marker::Model;
 
@@ -82,7 +82,7 @@ pub struct BinaryPlaces<'a> {
 }
 
 impl<'a> Model for BinaryPlaces<'a> {
-    ghost use Rattle.section_index.specs.Index.{Contents, sections_in};
+    ghost use Rattle.dump_sections.specs.Index.{Contents, sections_in};
     ghost use Rattle.stored_binaries.specs.Inner.Places.{AreOrdered};
 
     ghost Value = { Contents };

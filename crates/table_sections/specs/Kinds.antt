@@ -1,8 +1,8 @@
 -- The kinds of tables: which sections each lists, and with which columns.
 use Rattle.std.specs.Prelude.{ℕ, Bool, List, [], ◌∷◌, codes}
 use Rattle.std.specs.List.{list_any}
-use Rattle.section_index.specs.Lookups.{has_tag}
-use Rattle.section_index.specs.Sections.{Section}
+use Rattle.dump_sections.specs.Lookups.{has_tag}
+use Rattle.dump_sections.specs.Sections.{Section}
 use Rattle.section_rows.specs.Rows.{Column, tag, id, field}
 use Rattle.table_sections.specs.declared.kinds.TableKind.{TableKind}
 use Rattle.table_sections.specs.declared.kinds.TableKind.TheVariants.{Ets, Ports, Nodes, Mods}

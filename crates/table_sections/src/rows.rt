@@ -2,7 +2,7 @@
 ghost use Rattle.std.specs.Prelude.{◌≡◌, ℕ, List, ◌<◌, length, None, IfOk, OnOk, IfErr, IsSome};
 ghost use Rattle.std.specs.Option.{option_copied};
 ghost use Rattle.dump_io.specs.Dumps.{told, ReadsAtMost};
-ghost use Rattle.section_index.specs.Index.{IsBuiltOver, sections_in};
+ghost use Rattle.dump_sections.specs.Index.{IsBuiltOver, sections_in};
 ghost use Rattle.section_rows.specs.Loading.{bodies_length, first_large, AreRefused};
 ghost use Rattle.section_rows.specs.Rows.{row_at, cell_at, text_in, AreEven};
 ghost use Rattle.table_sections.specs.Tables.{listed, table_of, AreListed, IsOver};
@@ -10,7 +10,7 @@ ghost use Rattle.table_sections.specs.Tables.{listed, table_of, AreListed, IsOve
 use crate::kinds::{TableKind, columns};
 use crate::places::TableSections;
 use dump_io::{Dumps, Limits};
-use section_index::{BodyFault, Index};
+use dump_sections::{BodyFault, Index};
 use section_rows::SectionRows;
 use std::alloc::Global;
 use std::marker::Model;

@@ -1,7 +1,7 @@
 -- The mailboxes of processes.
 use Rattle.std.specs.Prelude.{ℕ, ◌<◌, ◌≤◌, length, Option, IfSome}
-use Rattle.section_index.specs.Bodies.{body_length, section_at}
-use Rattle.section_index.specs.Index.{Contents}
+use Rattle.dump_sections.specs.Bodies.{body_length, section_at}
+use Rattle.dump_sections.specs.Index.{Contents}
 
 -- the place is that of a section of the index whose body isn't too large
 abbrev pub IsWithin : Contents → Option ℕ → Type 0

@@ -1,8 +1,8 @@
 -- Finding the stored binaries, one section after another.
 use Rattle.std.specs.Prelude.{◌≡◌, ℕ, ◌<◌, List, length, map, All}
-use Rattle.section_index.specs.Bodies.{section_at}
-use Rattle.section_index.specs.Index.{Contents}
-use Rattle.section_index.specs.Sections.{Section}
+use Rattle.dump_sections.specs.Bodies.{section_at}
+use Rattle.dump_sections.specs.Index.{Contents}
+use Rattle.dump_sections.specs.Sections.{Section}
 use Rattle.binary_holders.specs.declared.stored.StoredAt.{StoredAt}
 use Rattle.binary_holders.specs.declared.stored.Found.{Found}
 use Rattle.binary_holders.specs.Inner.Places.{ArePlaces}

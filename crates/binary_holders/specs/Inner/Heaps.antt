@@ -1,8 +1,8 @@
 -- Finding the heaps of processes, one section after another.
 use Rattle.std.specs.Prelude.{◌≡◌, ℕ, ◌<◌, List, length, map, position, Option, None, Some, codes, if◌then◌else◌}
 use Rattle.std.specs.Str.{bytes_eq}
-use Rattle.section_index.specs.Lookups.{has_tag}
-use Rattle.section_index.specs.Sections.{Section, id_of}
+use Rattle.dump_sections.specs.Lookups.{has_tag}
+use Rattle.dump_sections.specs.Sections.{Section, id_of}
 use Rattle.process_table.specs.Processes.{Process, process_at}
 use Rattle.binary_holders.specs.Inner.Places.{heap_place}
 

@@ -2,9 +2,9 @@
 use Rattle.std.specs.Prelude.{◌≡◌, ◌≢◌, ℕ, ◌<◌, List, length, map, position, slice_index, Option, None, Some, IfSome, codes}
 use Rattle.std.specs.BTreeMap.{BTreeMap, get}
 use Rattle.std.specs.Ordering.{nat_cmp}
-use Rattle.section_index.specs.Index.{Contents}
-use Rattle.section_index.specs.Lookups.{is_named}
-use Rattle.section_index.specs.Sections.{Section}
+use Rattle.dump_sections.specs.Index.{Contents}
+use Rattle.dump_sections.specs.Lookups.{is_named}
+use Rattle.dump_sections.specs.Sections.{Section}
 use Rattle.heap_cells.specs.Loading.{enc_of, section_in, body_in, body_size}
 use Rattle.binary_holders.specs.declared.sought.Binary.{Binary}
 use Rattle.binary_holders.specs.HeapReferences.{references}

@@ -1,7 +1,7 @@
 -- The rows of binaries, one after another.
 use Rattle.std.specs.Prelude.{◌≡◌, ℕ, ◌<◌, List, length, slice_index, slice_index_or}
-use Rattle.section_index.specs.Bodies.{section_at}
-use Rattle.section_index.specs.Index.{Contents}
+use Rattle.dump_sections.specs.Bodies.{section_at}
+use Rattle.dump_sections.specs.Index.{Contents}
 use Rattle.binary_holders.specs.declared.rows.BinaryRow.{BinaryRow}
 use Rattle.binary_holders.specs.declared.sought.Binary.{Binary}
 use Rattle.binary_holders.specs.declared.stored.StoredAt.{StoredAt}

@@ -1,7 +1,7 @@
 -- What the code keeps for an audit.
 use Rattle.std.specs.Prelude.{◌≡◌, ℕ, ◌<◌, ◌^◌, Bool, true, false, ◌&&◌, ◌⊎◌, List, length, map, None, Some, All}
-use Rattle.section_index.specs.Index.{state_of}
-use Rattle.section_index.specs.declared.index.State.{State}
+use Rattle.dump_sections.specs.Index.{state_of}
+use Rattle.dump_sections.specs.declared.index.State.{State}
 use Rattle.process_table.specs.Processes.{Process, IsIn, process_at}
 use Rattle.link_graph.specs.Texts.{is_local}
 use Rattle.link_graph.specs.Graph.{Links, links_of, graph_of}

@@ -1,7 +1,7 @@
 -- From what the reports of links and of an audit are written.
 use Rattle.std.specs.Prelude.{ℕ, List}
 use Rattle.std.specs.Option.{option_map}
-use Rattle.section_index.specs.Index.{Contents}
+use Rattle.dump_sections.specs.Index.{Contents}
 use Rattle.process_table.specs.Processes.{ProcessTable}
 use Rattle.dump_audit.specs.Findings.{Audit, audit_of, findings}
 use Rattle.report_text.specs.Findings.{audit_report}

@@ -3,8 +3,8 @@ use Rattle.std.specs.Prelude.{◌≡◌, List, ◌++◌, ℕ, Option, None, Some
 use Rattle.std.specs.Option.{option_or}
 use Rattle.dump_io.specs.Dumps.{Now, DeviceState}
 use Rattle.dump_io.specs.Limits.{Numbers}
-use Rattle.section_index.specs.Index.{Contents, sections_in}
-use Rattle.section_index.specs.Sections.{Section}
+use Rattle.dump_sections.specs.Index.{Contents, sections_in}
+use Rattle.dump_sections.specs.Sections.{Section}
 use Rattle.heap_cells.specs.HeapMap.{HeapMap}
 use Rattle.report_text.specs.declared.refusals.Refusal.{Refusal}
 use Rattle.dump_command.specs.Report.{heap_bodies, no_process, too_large}

@@ -1,6 +1,6 @@
 -- From what the reports on the holders of binaries are written.
 use Rattle.std.specs.Prelude.{ℕ, List, length, All}
-use Rattle.section_index.specs.Index.{Contents}
+use Rattle.dump_sections.specs.Index.{Contents}
 use Rattle.process_table.specs.Processes.{ProcessTable, IsIn}
 use Rattle.binary_holders.specs.Usage.{NamesProcess, shown_use}
 use Rattle.binary_holders.specs.declared.rows.Holding.{Holding}

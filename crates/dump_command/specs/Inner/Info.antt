@@ -1,7 +1,7 @@
 -- From what the report of `info` is written.
 use Rattle.std.specs.Prelude.{ℕ, List}
-use Rattle.section_index.specs.Index.{Contents}
-use Rattle.section_index.specs.Tags.{tag_counts, tags_in}
+use Rattle.dump_sections.specs.Index.{Contents}
+use Rattle.dump_sections.specs.Tags.{tag_counts, tags_in}
 use Rattle.report_text.specs.Reports.{info_report, version_text}
 use Rattle.dump_command.specs.declared.commands.subjects.Body.{Body}
 

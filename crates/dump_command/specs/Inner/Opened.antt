@@ -3,7 +3,8 @@ use Rattle.std.specs.Prelude.{◌≡◌, ◌⊎◌, ℕ, ◌≤◌, List, length
 use Rattle.dump_io.specs.Counts.{plus_capped}
 use Rattle.dump_io.specs.Dumps.{Now, closed, told, IsAbsent, DeviceState, DeviceFailed}
 use Rattle.dump_io.specs.Limits.{Numbers}
-use Rattle.section_index.specs.Index.{Contents, IsBuiltOver, IsFileOf, IsIndexOf}
+use Rattle.dump_sections.specs.Index.{Contents, IsBuiltOver, IsIndexOf}
+use Rattle.section_index.specs.Answers.{IsFileOf}
 use Rattle.section_index.specs.Opening.{IsAccepted, IsRefusedFor}
 use Rattle.section_index.specs.declared.opening.OpenFault.{OpenFault}
 use Rattle.report_text.specs.declared.refusals.Refusal.{Refusal}

@@ -1,10 +1,10 @@
 -- From what the report on what roots reach is written.
 use Rattle.std.specs.Prelude.{◌≡◌, ℕ, ◌<◌, List, ◌++◌, length, Option, IfSome, IsSome}
 use Rattle.dump_io.specs.Dumps.{Now, DeviceState, DeviceFailed}
-use Rattle.section_index.specs.Index.{Contents, sections_in}
-use Rattle.section_index.specs.Sections.{Section}
-use Rattle.section_index.specs.declared.bodies.BodyFault.{BodyFault}
-use Rattle.section_index.specs.declared.bodies.BodyFault.TheVariants.{SectionTooLarge, Read, Memory}
+use Rattle.dump_sections.specs.Index.{Contents, sections_in}
+use Rattle.dump_sections.specs.Sections.{Section}
+use Rattle.dump_sections.specs.declared.bodies.BodyFault.{BodyFault}
+use Rattle.dump_sections.specs.declared.bodies.BodyFault.TheVariants.{SectionTooLarge, Read, Memory}
 use Rattle.term_forms.specs.Elements.{Element}
 use Rattle.heap_cells.specs.Loading.{section_in, IsBodyIn}
 use Rattle.heap_reach.specs.Rounds.{reached_by}

@@ -4,7 +4,7 @@ use Rattle.std.specs.Option.{option_or}
 use Rattle.dump_io.specs.Dumps.{DeviceState, DeviceFailed, ReadsAtMost}
 use Rattle.dump_io.specs.Limits.{Numbers}
 use Rattle.dump_io.specs.Sinks.{SinkState, SinkFailed, IsKept, Gained, GainedFront}
-use Rattle.section_index.specs.Index.{Contents, sections_in}
+use Rattle.dump_sections.specs.Index.{Contents, sections_in}
 use Rattle.report_text.specs.declared.refusals.Refusal.{Refusal}
 use Rattle.report_text.specs.Refusals.{IsRefusal}
 use Rattle.command_words.specs.Command.{Command}

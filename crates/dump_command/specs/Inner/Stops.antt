@@ -1,7 +1,7 @@
 -- Why a command ended without its whole report, and how its run ends.
 use Rattle.std.specs.Prelude.{◌≡◌, ℕ, Result, Ok, Err}
-use Rattle.section_index.specs.declared.bodies.BodyFault.{BodyFault}
-use Rattle.section_index.specs.declared.bodies.BodyFault.TheVariants as body_faults
+use Rattle.dump_sections.specs.declared.bodies.BodyFault.{BodyFault}
+use Rattle.dump_sections.specs.declared.bodies.BodyFault.TheVariants as body_faults
 use Rattle.section_index.specs.declared.opening.OpenFault.{OpenFault}
 use Rattle.section_index.specs.declared.opening.OpenFault.TheVariants as open_faults
 use Rattle.binary_holders.specs.declared.faults.HolderFault.{HolderFault}

@@ -1,7 +1,7 @@
 -- From what the report of `triage` is written.
 use Rattle.std.specs.Prelude.{◌≡◌, ℕ, ◌<◌, List, length, All, Some, IfSome}
 use Rattle.dump_io.specs.Dumps.{Now, told}
-use Rattle.section_index.specs.Index.{Contents, sections_in}
+use Rattle.dump_sections.specs.Index.{Contents, sections_in}
 use Rattle.process_table.specs.Processes.{process_table, IsIn}
 use Rattle.process_table.specs.Records.{proc_places}
 use Rattle.table_sections.specs.declared.kinds.TableKind.TheVariants.{Ets}

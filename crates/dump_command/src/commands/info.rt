@@ -9,7 +9,7 @@ use crate::status::DONE;
 use crate::stop::{Stop, or_stop};
 use dump_io::{Dumps, Sink};
 use report_text::put_info;
-use section_index::Tags;
+use dump_sections::Tags;
 
 #[derive(Clone, Copy)]
 pub(crate) struct Info<'a> {

@@ -1,7 +1,7 @@
 // `reach`: which cells of a process's heap its roots reach.
 ghost use Rattle.std.specs.Prelude.{◌≡◌, ◌<◌, [], length, IfOk, IfErr, IfSome};
 ghost use Rattle.dump_io.specs.Dumps.{ReadsAtMost};
-ghost use Rattle.section_index.specs.Index.{sections_in, IsBuiltOver};
+ghost use Rattle.dump_sections.specs.Index.{sections_in, IsBuiltOver};
 ghost use Rattle.section_rows.specs.Loading.{bodies_length, first_large, large_fault};
 ghost use Rattle.heap_cells.specs.Loading.{section_in};
 ghost use Rattle.heap_reach.specs.Rounds.{IsReachOf};
@@ -17,7 +17,7 @@ use crate::stop::Stop;
 use dump_io::{Dumps, Sink};
 use heap_cells::Heap;
 use root_views::RootKind;
-use section_index::BodyFault;
+use dump_sections::BodyFault;
 use term_text::{add_roots, put_reach};
 
 #[derive(Clone, Copy)]

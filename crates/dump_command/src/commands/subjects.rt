@@ -4,9 +4,9 @@ ghost use Rattle.std.specs.Prelude.{◌≡◌, ◌+◌, ◌<◌, List, length, N
 ghost use Rattle.dump_io.specs.Dumps.{ReadsAtMost};
 ghost use Rattle.heap_cells.specs.HeapMap.{number_at};
 ghost use Rattle.heap_cells.specs.Loading.{body_size, heap_section, literals_section, section_in, IsBodyIn};
-ghost use Rattle.section_index.specs.Bodies.{section_at};
-ghost use Rattle.section_index.specs.Index.{IsBuiltOver, sections_in};
-ghost use Rattle.section_index.specs.Sections.{Section};
+ghost use Rattle.dump_sections.specs.Bodies.{section_at};
+ghost use Rattle.dump_sections.specs.Index.{IsBuiltOver, sections_in};
+ghost use Rattle.dump_sections.specs.Sections.{Section};
 ghost use Rattle.section_rows.specs.Loading.{first_large, large_fault, AreRefused};
 ghost use Rattle.dump_command.specs.Report.{no_process, one_of, process_section};
 ghost use Rattle.dump_command.specs.Terms.{address_cause, base_of, binary_at, binary_cause};
@@ -19,7 +19,7 @@ use crate::stop::Stop;
 use dump_io::{Dumps, Text};
 use heap_cells::{Heap, Seat};
 use report_text::Refusal;
-use section_index::{BodyFault, read_body};
+use dump_sections::{BodyFault, read_body};
 use section_rows::large;
 
 /// The place of the section of a process. A pid without such a section is refused.

@@ -1,7 +1,7 @@
 // `triage`: what to read first of a dump.
 ghost use Rattle.std.specs.Prelude.{◌≡◌, ◌≤◌, length, None, IfOk, IfErr};
 ghost use Rattle.dump_io.specs.Dumps.{ReadsAtMost};
-ghost use Rattle.section_index.specs.Index.{sections_in, IsBuiltOver};
+ghost use Rattle.dump_sections.specs.Index.{sections_in, IsBuiltOver};
 ghost use Rattle.section_rows.specs.Loading.{bodies_length, large_fault, IsUnread};
 ghost use Rattle.command_words.specs.Command.{triage};
 ghost use Rattle.dump_command.specs.Report.{triage_sections};
@@ -16,7 +16,7 @@ use dump_io::{Dumps, Sink};
 use dump_triage::Triage as Found;
 use glance_text::put_triage;
 use process_table::{ProcSections, Procs};
-use section_index::BodyFault;
+use dump_sections::BodyFault;
 use std::alloc::AllocError;
 use table_sections::{Rows, TableKind, TableSections};
 

@@ -3,9 +3,9 @@ use Rattle.std.specs.Prelude.{◌≡◌, ℕ, ◌+◌, ◌-◌, ◌&&◌, ◌≤
 use Rattle.std.specs.List.{between}
 use Rattle.dump_io.specs.Limits.{usual}
 use Rattle.dump_io.specs.Lines.{text_of}
-use Rattle.section_index.specs.Bodies.{body_length}
-use Rattle.section_index.specs.Index.{Contents}
-use Rattle.section_index.specs.Sections.{Section, next_at}
+use Rattle.dump_sections.specs.Bodies.{body_length}
+use Rattle.dump_sections.specs.Index.{Contents}
+use Rattle.dump_sections.specs.Sections.{Section, next_at}
 use Rattle.term_forms.specs.declared.enc.Enc.{Enc}
 use Rattle.term_forms.specs.Words.{led_of, IsLed}
 use Rattle.dump_redact.specs.declared.faults.RedactFault.{RedactFault}

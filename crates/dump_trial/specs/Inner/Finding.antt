@@ -1,7 +1,7 @@
 -- What is looked up for each process.
 use Rattle.std.specs.Prelude.{◌≡◌, ℕ, ◌<◌, List, length, position, Option, codes, IfSome}
-use Rattle.section_index.specs.Index.{Contents, sections_in}
-use Rattle.section_index.specs.Lookups.{has_tag}
+use Rattle.dump_sections.specs.Index.{Contents, sections_in}
+use Rattle.dump_sections.specs.Lookups.{has_tag}
 use Rattle.first_sections.specs.Firsts.{Firsts}
 use Rattle.root_views.specs.Kinds.{roots_tag}
 use Rattle.root_views.specs.declared.kinds.RootKind.TheVariants.{Stack, Dict, Mail}

@@ -2,10 +2,10 @@
 use Rattle.std.specs.Prelude.{◌≡◌, ℕ, ◌≤◌, List, [], All}
 use Rattle.dump_io.specs.Dumps.{Now, closed, told, sized}
 use Rattle.dump_io.specs.Limits.{Numbers, usual}
-use Rattle.section_index.specs.Bodies.{body_length}
-use Rattle.section_index.specs.Index.{Contents}
+use Rattle.dump_sections.specs.Bodies.{body_length}
+use Rattle.dump_sections.specs.Index.{Contents}
 use Rattle.section_index.specs.Opening.{IsAccepted}
-use Rattle.section_index.specs.Sections.{sections}
+use Rattle.dump_sections.specs.Sections.{sections}
 use Rattle.dump_write.specs.Heaps.{heap_weight}
 
 -- the bytes of a dump are accepted under the usual limits, and no body and no heap of it exceeds one

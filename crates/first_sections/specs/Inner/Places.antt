@@ -4,9 +4,9 @@ use Rattle.std.specs.BTreeMap.{BTreeMap, get_by}
 use Rattle.std.specs.Cmp.Lexicographic.{slice_cmp}
 use Rattle.std.specs.Ordering.{nat_cmp}
 use denote.Ref.{Bor}
-use Rattle.section_index.specs.Index.{Contents, sections_in}
-use Rattle.section_index.specs.Lookups.{has_tag, is_named}
-use Rattle.section_index.specs.Sections.{Section, id_of}
+use Rattle.dump_sections.specs.Index.{Contents, sections_in}
+use Rattle.dump_sections.specs.Lookups.{has_tag, is_named}
+use Rattle.dump_sections.specs.Sections.{Section, id_of}
 
 -- the id, if the section has the tag
 abbrev pub id_with : List ℕ → Section → Option (List ℕ)

@@ -5,10 +5,11 @@ use Rattle.dump_io.specs.Limits.{Numbers}
 use Rattle.dump_io.specs.Lines.{lf}
 use Rattle.section_index.specs.declared.opening.OpenFault.{OpenFault}
 use Rattle.section_index.specs.declared.opening.OpenFault.TheVariants.{Version as UnknownVersion, TooLarge, Read, Memory}
-use Rattle.section_index.specs.declared.opening.Version.{Version}
+use Rattle.dump_sections.specs.declared.version.Version.{Version}
 use Rattle.section_index.specs.declared.builder.TheConstants.{PIECE}
-use Rattle.section_index.specs.Opening.{signature, first_id, version_named, fault_of, header_fault}
-use Rattle.section_index.specs.Sections.{id_of}
+use Rattle.dump_sections.specs.Versions.{signature, first_id, version_named}
+use Rattle.section_index.specs.Opening.{fault_of, header_fault}
+use Rattle.dump_sections.specs.Sections.{id_of}
 
 -- whether a byte is LF
 abbrev pub is_lf : ℕ → Bool

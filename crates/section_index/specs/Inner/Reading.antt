@@ -6,7 +6,7 @@ use Rattle.dump_io.specs.Limits.{Numbers}
 use Rattle.line_source.specs.Scan.{Scan}
 use Rattle.section_index.specs.declared.opening.OpenFault.{OpenFault}
 use Rattle.section_index.specs.declared.opening.OpenFault.TheVariants.{TooLarge}
-use Rattle.section_index.specs.Opening.{signature}
+use Rattle.dump_sections.specs.Versions.{signature}
 use Rattle.section_index.specs.Inner.Receiver.{Hearing}
 use Rattle.section_index.specs.Inner.Scanning.{HasHeard, IsHeaderFault, IsOfAHeader}
 

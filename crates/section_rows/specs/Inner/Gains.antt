@@ -1,8 +1,8 @@
 -- Loading rows one after another.
 use Rattle.std.specs.Prelude.{◌≡◌, ℕ, List, length, map}
 use Rattle.dump_io.specs.Dumps.{Now, told}
-use Rattle.section_index.specs.Bodies.{IsBodyOf}
-use Rattle.section_index.specs.Sections.{Section}
+use Rattle.dump_sections.specs.Bodies.{IsBodyOf}
+use Rattle.dump_sections.specs.Sections.{Section}
 use Rattle.section_rows.specs.declared.store.Store.{Store}
 use Rattle.section_rows.specs.Rows.{Column, row_of, rows_of}
 use Rattle.section_rows.specs.Inner.Places.{HasGained, AreWithin, rows_in}

@@ -2,8 +2,8 @@
 use Rattle.std.specs.Prelude.{◌≡◌, ◌+◌, ◌<◌, ◌≤◌, length}
 use Rattle.std.specs.Option.{option_copied}
 use Rattle.dump_io.specs.Limits.{usual}
-use Rattle.section_index.specs.declared.index.Section.{Section as LentSection}
-use Rattle.section_index.specs.Sections.{Section, section, tag_of, id_of}
+use Rattle.dump_sections.specs.declared.index.Section.{Section as LentSection}
+use Rattle.dump_sections.specs.Sections.{Section, section, tag_of, id_of}
 
 abbrev pub shown_section : LentSection → Section
 shown_section s = section s.at s.body s.end s.text.now

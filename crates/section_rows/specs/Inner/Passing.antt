@@ -3,7 +3,7 @@ use Rattle.std.specs.Prelude.{◌≡◌, ℕ, ◌+◌, ◌<◌, List, length, ge
 use Rattle.std.specs.Option.{option_or}
 use Rattle.field_lines.specs.Lines.{TextLine}
 use Rattle.field_lines.specs.Fields.{has_key, place_of, value_of}
-use Rattle.section_index.specs.Sections.{Section}
+use Rattle.dump_sections.specs.Sections.{Section}
 use Rattle.section_rows.specs.declared.columns.Kept.{Kept as LentKept}
 use Rattle.section_rows.specs.declared.columns.Column.{Column as LentColumn}
 use Rattle.section_rows.specs.declared.columns.Column.TheVariants.{Tag}

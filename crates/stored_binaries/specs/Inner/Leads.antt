@@ -2,8 +2,8 @@
 use Rattle.std.specs.Prelude.{◌≡◌, ℕ, List, drop, Option}
 use Rattle.std.specs.Option.{option_map}
 use Rattle.std.specs.List.{between}
-use Rattle.section_index.specs.Index.{Contents}
-use Rattle.section_index.specs.Bodies.{section_at}
+use Rattle.dump_sections.specs.Index.{Contents}
+use Rattle.dump_sections.specs.Bodies.{section_at}
 use Rattle.term_forms.specs.Words.{led_of}
 use Rattle.stored_binaries.specs.declared.leads.Lead.{Lead}
 

@@ -1,6 +1,6 @@
 use Rattle.std.proofs.Common.{◌≡◌, [], sym, ◌∙◌, ap, map, subst, if◌then◌else◌}
 use Rattle.std.specs.Prelude.{IfOk}
-use Rattle.section_index.specs.Index.{sections_in}
+use Rattle.dump_sections.specs.Index.{sections_in}
 use Rattle.audit_bodies.specs.Mailboxes.{mailbox_place, mailbox_places}
 use Rattle.audit_bodies.proofs.Loads.{pids-found}
 use Rattle.audit_bodies.proofs.loading.find_mailboxes.Goals as goal

@@ -1,6 +1,6 @@
 use Rattle.std.proofs.Common.{sym, ◌∙◌, ap}
 use Rattle.std.specs.Prelude.{is_some}
-use Rattle.section_index.specs.Index.{sections_in}
+use Rattle.dump_sections.specs.Index.{sections_in}
 use Rattle.section_rows.specs.Loading.{large_fault, sections_at}
 use Rattle.process_table.specs.Records.{record_sections}
 use Rattle.audit_bodies.specs.Mailboxes.{mailboxes_at}

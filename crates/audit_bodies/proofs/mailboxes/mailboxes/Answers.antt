@@ -2,8 +2,8 @@ use Rattle.std.proofs.Common.{◌≡◌, ℕ, ◌<◌, List, [], ◌∷◌, ◌+
 use Rattle.std.specs.Prelude.{All, IfSome, Some, position}
 use Rattle.std.proofs.lemmas.List.{map-append}
 use Rattle.std.proofs.lemmas.List.Elements.{All-append, All-cons, All-nil}
-use Rattle.section_index.specs.Index.{sections_in}
-use Rattle.section_index.specs.Lookups.{is_named}
+use Rattle.dump_sections.specs.Index.{sections_in}
+use Rattle.dump_sections.specs.Lookups.{is_named}
 use Rattle.audit_bodies.specs.Mailboxes.{mailbox_place}
 use Rattle.audit_bodies.specs.Inner.Mailboxes.{IsWithin}
 use Rattle.audit_bodies.proofs.MailPlaces.{one-more}

@@ -1,5 +1,5 @@
 use Rattle.std.proofs.Common.{◌≡◌, map, take, All}
-use Rattle.section_index.specs.Index.{sections_in}
+use Rattle.dump_sections.specs.Index.{sections_in}
 use Rattle.audit_bodies.specs.Mailboxes.{mailbox_place}
 use Rattle.audit_bodies.specs.Inner.Mailboxes.{IsWithin}
 use Rattle.audit_bodies.proofs.mailboxes.mailboxes.Given as goal

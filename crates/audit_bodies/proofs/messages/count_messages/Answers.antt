@@ -3,7 +3,7 @@ use Rattle.std.specs.Prelude.{is_ok}
 use Rattle.std.proofs.lemmas.List.{length-append, map-append, take_more}
 use Rattle.dump_io.specs.Dumps.{ReadsAtMost}
 use Rattle.dump_io.specs.Laws.Reads.{ReadsAtMost-then, ReadsAtMost-both}
-use Rattle.section_index.specs.Index.{sections_in, state_of}
+use Rattle.dump_sections.specs.Index.{sections_in, state_of}
 use Rattle.audit_bodies.specs.Mailboxes.{mail_in}
 use Rattle.audit_bodies.proofs.MailPlaces.{bodies-more, bodies-upto}
 use Rattle.audit_bodies.proofs.messages.count_messages.Goals as goal

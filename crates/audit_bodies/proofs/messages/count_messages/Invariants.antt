@@ -1,6 +1,6 @@
 use Rattle.std.proofs.Common.{◌≡◌, ℕ, List, length, map, take}
 use Rattle.dump_io.specs.Dumps.{told, ReadsAtMost}
-use Rattle.section_index.specs.Index.{sections_in, state_of}
+use Rattle.dump_sections.specs.Index.{sections_in, state_of}
 use Rattle.section_rows.specs.Loading.{bodies_length}
 use Rattle.audit_bodies.specs.Mailboxes.{mail_in, mailboxes_at}
 use Rattle.audit_bodies.proofs.messages.count_messages.Given as goal

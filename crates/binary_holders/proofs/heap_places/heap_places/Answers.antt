@@ -1,6 +1,6 @@
 use Rattle.std.proofs.Common.{◌≡◌, None, sym, ◌∙◌, subst}
 use Rattle.std.proofs.lemmas.List.Elements.{All-weaker}
-use Rattle.section_index.specs.Index.{sections_in}
+use Rattle.dump_sections.specs.Index.{sections_in}
 use Rattle.binary_holders.specs.Inner.Places.{IsWithin}
 use Rattle.binary_holders.proofs.HeapFacts.{apart-records, heaps-none}
 use Rattle.binary_holders.proofs.heap_places.heap_places.Goals as goal

@@ -1,6 +1,6 @@
 use Rattle.std.proofs.Common.{take}
 use Rattle.std.specs.Prelude.{All}
-use Rattle.section_index.specs.Index.{sections_in}
+use Rattle.dump_sections.specs.Index.{sections_in}
 use Rattle.binary_holders.specs.Inner.Heaps.{AreApart, AreHeaps}
 use Rattle.binary_holders.specs.Inner.Places.{IsWithin}
 use Rattle.binary_holders.proofs.heap_places.heap_places.Given as goal

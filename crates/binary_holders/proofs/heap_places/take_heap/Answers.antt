@@ -1,6 +1,6 @@
 use Rattle.std.proofs.Common.{sym, ◌∙◌}
-use Rattle.section_index.specs.Bodies.{section_at}
-use Rattle.section_index.specs.Index.{sections_in}
+use Rattle.dump_sections.specs.Bodies.{section_at}
+use Rattle.dump_sections.specs.Index.{sections_in}
 use Rattle.binary_holders.proofs.HeapFacts.{heaps-passed, heaps-unknown, heaps-again, heaps-new}
 use Rattle.binary_holders.proofs.heap_places.take_heap.Goals as goal
 

@@ -1,5 +1,5 @@
 use Rattle.std.proofs.Common.{◌≤◌, length, take}
-use Rattle.section_index.specs.Index.{sections_in}
+use Rattle.dump_sections.specs.Index.{sections_in}
 use Rattle.binary_holders.specs.Inner.Finding.{AreFound}
 use Rattle.binary_holders.proofs.stored.find_stored.Given as goal
 

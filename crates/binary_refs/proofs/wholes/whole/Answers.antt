@@ -4,7 +4,7 @@ use Rattle.std.specs.Option.{option_and_then}
 use Rattle.std.specs.List.{between}
 use Rattle.dump_io.specs.Dumps.{told}
 use Rattle.heap_cells.specs.Loading.{enc_of}
-use Rattle.section_index.specs.Sections.{Section}
+use Rattle.dump_sections.specs.Sections.{Section}
 use Rattle.binary_refs.specs.Wholes.{bytes_of_body, IsBinCauseOf, refused}
 use Rattle.binary_refs.proofs.wholes.whole.Goals as goal
 

@@ -3,7 +3,7 @@ use Rattle.std.specs.Prelude.{map, slice_get, unwrap_or, Some}
 use Rattle.std.specs.Option.{option_map}
 use Rattle.std.proofs.lemmas.List.{take_more, map-append}
 use Rattle.std.proofs.lemmas.Option.{slice_get-map, slice_get-get_or, unwrap_or-slice_get, get_or_from_slice_get}
-use Rattle.section_index.specs.Index.{state_of}
+use Rattle.dump_sections.specs.Index.{state_of}
 use Rattle.process_table.specs.Processes.{nobody, process_at}
 use Rattle.link_graph.specs.Texts.{is_local}
 use Rattle.link_graph.specs.Graph.{links_of, links_at, no_links}

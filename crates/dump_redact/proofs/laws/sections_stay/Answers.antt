@@ -1,5 +1,5 @@
 use Rattle.std.proofs.Common.{ap}
-use Rattle.section_index.specs.Index.{state_of}
+use Rattle.dump_sections.specs.Index.{state_of}
 use Rattle.dump_redact.proofs.Heads.{keeps-length, keeps-headers, keeps-sections, keeps-index}
 use Rattle.dump_redact.proofs.laws.sections_stay.Goals as goal
 

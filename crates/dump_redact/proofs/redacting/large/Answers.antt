@@ -1,6 +1,6 @@
 use Rattle.std.proofs.Common.{◌<◌, length, sym, ◌∙◌, arith}
-use Rattle.section_index.specs.Bodies.{section_at}
-use Rattle.section_index.specs.Index.{sections_in}
+use Rattle.dump_sections.specs.Bodies.{section_at}
+use Rattle.dump_sections.specs.Index.{sections_in}
 use Rattle.dump_redact.proofs.Judging.{found-here, passed-here, place-at}
 use Rattle.dump_redact.proofs.Offsets.{size-some}
 use Rattle.dump_redact.proofs.redacting.large.Goals as goal

@@ -1,5 +1,5 @@
 use Rattle.std.proofs.Common.{◌≡◌, drop}
-use Rattle.section_index.specs.Index.{sections_in}
+use Rattle.dump_sections.specs.Index.{sections_in}
 use Rattle.dump_redact.specs.Refusals.{large_fault}
 use Rattle.dump_redact.proofs.redacting.large.Given as goal
 

@@ -1,7 +1,7 @@
 use Rattle.std.proofs.Common.{◌≡◌, ℕ, List, ◌+◌, ◌-◌, ◌<◌, ◌≤◌, sym, ◌∙◌, ap, ap₂, arith}
 use Rattle.std.specs.List.{between}
-use Rattle.section_index.specs.Bodies.{section_at}
-use Rattle.section_index.specs.Sections.{Section, tag_of}
+use Rattle.dump_sections.specs.Bodies.{section_at}
+use Rattle.dump_sections.specs.Sections.{Section, tag_of}
 use Rattle.dump_redact.specs.declared.parts.Part.TheVariants.{Binary, Other}
 use Rattle.heap_cells.specs.Loading.{enc_of}
 use Rattle.dump_redact.specs.Redacted.{redacted, part_of}

@@ -1,5 +1,5 @@
 use Rattle.std.proofs.Common.{◌≡◌, ◌<◌, length, sym, ◌∙◌, ap, arith}
-use Rattle.section_index.specs.Sections.{Section}
+use Rattle.dump_sections.specs.Sections.{Section}
 use Rattle.dump_redact.proofs.Offsets.{at-offset, offset-end}
 use Rattle.dump_redact.proofs.spans.offset.Goals as goal
 

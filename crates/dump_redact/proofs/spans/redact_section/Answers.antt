@@ -1,6 +1,6 @@
 use Rattle.std.proofs.Common.{◌≡◌, ◌-◌, ap, ap₂, sym, ◌∙◌, arith}
-use Rattle.section_index.specs.Bodies.{section_at}
-use Rattle.section_index.specs.Sections.{Section, tag_of}
+use Rattle.dump_sections.specs.Bodies.{section_at}
+use Rattle.dump_sections.specs.Sections.{Section, tag_of}
 use Rattle.heap_cells.specs.Loading.{enc_of}
 use Rattle.dump_redact.specs.Redacted.{part_of}
 use Rattle.dump_redact.specs.Inner.Places.{redacted_between}

@@ -1,7 +1,7 @@
 use Rattle.std.proofs.Common.{◌≡◌, ◌+◌, ◌-◌, ◌<◌, ◌++◌, length, append-nil, refl, sym, ◌∙◌, ap, arith}
 use Rattle.std.proofs.lemmas.List.Edits.{between_none}
-use Rattle.section_index.specs.Bodies.{section_at}
-use Rattle.section_index.specs.Sections.{tag_of}
+use Rattle.dump_sections.specs.Bodies.{section_at}
+use Rattle.dump_sections.specs.Sections.{tag_of}
 use Rattle.heap_cells.specs.Loading.{enc_of}
 use Rattle.dump_redact.specs.Redacted.{part_of, redacted}
 use Rattle.dump_redact.specs.Inner.Places.{offset_of, text_between, redacted_between}

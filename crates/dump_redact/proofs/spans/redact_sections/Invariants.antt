@@ -1,5 +1,5 @@
 use Rattle.std.proofs.Common.{◌≡◌, ◌≤◌, List, ℕ, length}
-use Rattle.section_index.specs.Index.{IsIndexOf}
+use Rattle.dump_sections.specs.Index.{IsIndexOf}
 use Rattle.dump_redact.specs.Inner.Places.{text_between}
 use Rattle.dump_redact.proofs.Offsets.{redacted_upto}
 use Rattle.dump_redact.proofs.spans.redact_sections.Given as goal

@@ -1,5 +1,5 @@
 use Rattle.std.proofs.Common.{take}
-use Rattle.section_index.specs.Index.{sections_in}
+use Rattle.dump_sections.specs.Index.{sections_in}
 use Rattle.first_sections.specs.Inner.Places.{AreFirsts}
 use Rattle.first_sections.proofs.firsts.find_places.Given as goal
 

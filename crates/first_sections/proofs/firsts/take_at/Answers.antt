@@ -4,8 +4,8 @@ use Rattle.std.proofs.lemmas.List.{length-take-le}
 use Rattle.std.proofs.lemmas.Option.{slice_get_within}
 use Rattle.std.specs.Map.{update}
 use Rattle.std.proofs.lemmas.Map.Text.{btree_map_updates_str}
-use Rattle.section_index.specs.Bodies.{section_at}
-use Rattle.section_index.specs.Index.{sections_in}
+use Rattle.dump_sections.specs.Bodies.{section_at}
+use Rattle.dump_sections.specs.Index.{sections_in}
 use Rattle.first_sections.specs.Inner.Places.{AreFirsts, place_at}
 use Rattle.first_sections.proofs.FirstPlaces.{one-more, none-where, AreFirsts-passed, AreFirsts-repeated, AreFirsts-new}
 use Rattle.first_sections.proofs.firsts.take_at.Goals as goal

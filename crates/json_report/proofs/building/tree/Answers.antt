@@ -1,6 +1,6 @@
 use Rattle.std.proofs.Common.{◌≡◌, Some, sym, ap, ◌∙◌, subst, arith}
 use Rattle.std.proofs.lemmas.Result.{IfOk-weaker}
-use Rattle.section_index.specs.Index.{state_of}
+use Rattle.dump_sections.specs.Index.{state_of}
 use Rattle.serde_json.specs.Read.{read}
 use Rattle.serde_json.specs.Written.{compact_text, has_float}
 use Rattle.json_report.specs.Trees.{finding_tree, state_text}

@@ -7,8 +7,8 @@ use Rattle.std.specs.Ordering.{nat_cmp}
 use Rattle.std.specs.Str.{bytes_eq}
 use Rattle.std.proofs.lemmas.List.{length-take}
 use Rattle.std.proofs.lemmas.Map.Text.{btree_map_updates_str}
-use Rattle.section_index.specs.Bodies.{section_at}
-use Rattle.section_index.specs.Index.{sections_in}
+use Rattle.dump_sections.specs.Bodies.{section_at}
+use Rattle.dump_sections.specs.Index.{sections_in}
 use Rattle.process_table.specs.Records.{placed}
 use Rattle.process_table.specs.Inner.Finding.{AreFound, AreNumbered, has_pid}
 use Rattle.process_table.proofs.Firsts.{take-placed}

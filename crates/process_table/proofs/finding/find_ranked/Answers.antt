@@ -1,7 +1,7 @@
 use Rattle.std.proofs.Common.{take, subst, arith}
 use Rattle.std.proofs.lemmas.List.{take_all, length-take}
 use Rattle.std.proofs.lemmas.List.FromFn.{length-enumerate_from}
-use Rattle.section_index.specs.Index.{sections_in}
+use Rattle.dump_sections.specs.Index.{sections_in}
 use Rattle.process_table.specs.Records.{placed}
 use Rattle.process_table.specs.Inner.Finding.{AreFound}
 use Rattle.process_table.proofs.Hearing.{entries-few}

@@ -1,5 +1,5 @@
 use Rattle.std.proofs.Common.{take}
-use Rattle.section_index.specs.Index.{sections_in}
+use Rattle.dump_sections.specs.Index.{sections_in}
 use Rattle.process_table.specs.Records.{placed}
 use Rattle.process_table.specs.Inner.Finding.{AreFoundRising}
 use Rattle.process_table.proofs.finding.find_rising.Given as goal

@@ -1,7 +1,7 @@
 use Rattle.std.proofs.Common.{◌≡◌, true, false, is_some, take, sym, ◌∙◌, ap, subst, refl}
 use Rattle.std.specs.Prelude.{position}
-use Rattle.section_index.specs.Bodies.{section_at}
-use Rattle.section_index.specs.Index.{sections_in}
+use Rattle.dump_sections.specs.Bodies.{section_at}
+use Rattle.dump_sections.specs.Index.{sections_in}
 use Rattle.process_table.specs.Records.{placed, pid_of}
 use Rattle.process_table.specs.Inner.Finding.{found_rising, has_pid, is_behind, AreFoundRising, AreRising}
 use Rattle.process_table.proofs.Firsts.{take-placed}

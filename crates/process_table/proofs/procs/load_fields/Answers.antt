@@ -1,8 +1,8 @@
 use Rattle.std.proofs.Common.{◌≡◌, ℕ, ◌<◌, List, length, map, All, IfOk, OnOk, IfErr, None, sym, ◌∙◌, ap, subst}
 use Rattle.std.specs.Prelude.{IsSome}
 use Rattle.dump_io.specs.Dumps.{told, ReadsAtMost}
-use Rattle.section_index.specs.Index.{sections_in}
-use Rattle.section_index.specs.Sections.{Section}
+use Rattle.dump_sections.specs.Index.{sections_in}
+use Rattle.dump_sections.specs.Sections.{Section}
 use Rattle.section_rows.specs.Loading.{sections_at, bodies_length, first_large, AreRefused}
 use Rattle.section_rows.specs.Rows.{Row, Table, rows_of}
 use Rattle.process_table.specs.Records.{records, record_sections}

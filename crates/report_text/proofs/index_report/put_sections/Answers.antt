@@ -1,4 +1,4 @@
-use Rattle.section_index.specs.Index.{sections_in}
+use Rattle.dump_sections.specs.Index.{sections_in}
 use Rattle.dump_io.specs.Laws.Puts.{HasPut-none, HasPut-more, Puts-broken, Puts-all}
 use Rattle.std.proofs.Common.{arith}
 use Rattle.report_text.specs.Reports.{section_line}

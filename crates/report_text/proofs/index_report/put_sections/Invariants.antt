@@ -1,7 +1,7 @@
 use Rattle.std.proofs.Common.{take}
 use Rattle.std.specs.List.{flat_map}
 use Rattle.dump_io.specs.Sinks.{HasPut}
-use Rattle.section_index.specs.Index.{sections_in}
+use Rattle.dump_sections.specs.Index.{sections_in}
 use Rattle.report_text.specs.Reports.{section_line}
 use Rattle.report_text.proofs.index_report.put_sections.Given as goal
 

@@ -2,7 +2,7 @@ use Rattle.std.proofs.Common.{◌≡◌, ◌++◌, ◌∷◌, [], length, take, 
 use Rattle.std.proofs.lemmas.List.{length-take-le}
 use Rattle.dump_io.specs.Lines.{lf, text_of}
 use Rattle.line_source.specs.Streams.{length_before_lf}
-use Rattle.section_index.specs.Opening.{first_line}
+use Rattle.dump_sections.specs.Versions.{first_line}
 use Rattle.section_index.proofs.FirstLine.{IsFirstLf, IsFirstLf-position, first_line-ended, before-ended, first_line-open, before-open, text-open, long-ended, long-open}
 use Rattle.section_index.proofs.beginning.first_text.Goals.{in_default-via-in-Some+else-end-limit, in_default-via-in-None+else-first-limit}
 use Rattle.section_index.proofs.beginning.first_text.Goals as goal

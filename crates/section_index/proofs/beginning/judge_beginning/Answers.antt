@@ -1,6 +1,7 @@
 use Rattle.std.proofs.Common.{◌<◌, ◌≤◌, ◌++◌, sym, ◌∙◌, subst, lit≤}
 use Rattle.line_source.specs.Streams.{length_before_lf}
-use Rattle.section_index.specs.Opening.{first_line, signature, gzip_mark}
+use Rattle.dump_sections.specs.Versions.{first_line, signature}
+use Rattle.section_index.specs.Opening.{gzip_mark}
 use Rattle.section_index.proofs.Beginnings.{starts-front, judge-unsigned, judge-long, judge-version}
 use Rattle.section_index.proofs.beginning.judge_beginning.Goals as goal
 

@@ -1,7 +1,7 @@
 use Rattle.std.proofs.Common.{refl, sym, ◌∙◌, ap, subst, inl, inr, ⊎_elim, arith}
 use Rattle.dump_io.specs.Dumps.{size_of}
 use Rattle.section_index.proofs.Answering.{none-too_large, told-file, IsClosedOrNamed-named, present-named}
-use Rattle.section_index.specs.Index.{IsClosedOrNamed}
+use Rattle.section_index.specs.Answers.{IsClosedOrNamed}
 use Rattle.section_index.proofs.builder.build.Goals as goal
 
 pub index_of-requires-clause-limits : goal.index_of-requires-clause-limits

@@ -3,7 +3,7 @@ use Rattle.std.proofs.lemmas.Result.{err_from_is_err_and}
 use Rattle.std.proofs.lemmas.List.{length-take-le}
 use Rattle.dump_io.specs.Dumps.{Gives}
 use Rattle.dump_io.specs.Laws.Reads.{ReadsAtMost-both}
-use Rattle.section_index.specs.Opening.{signature}
+use Rattle.dump_sections.specs.Versions.{signature}
 use Rattle.section_index.proofs.Grown.{Gives-next, starts_with-append, IsHeaderRefusal-first}
 use Rattle.section_index.proofs.builder.feed_rest.Goals as goal
 

@@ -8,11 +8,11 @@ use Rattle.dump_io.specs.Lines.{headers}
 use Rattle.section_index.specs.Opening.{header_fault}
 use Rattle.section_index.proofs.Beginnings.{headers-some}
 use Rattle.section_index.proofs.Answering.{IsFirstPiece, IsFirstPiece-read, judged-whole, signed-first, answer-judged, answer-header, answer-index, answer-rest, small-by-bytes, small-by-header, small-by-rest, beginning-isnt-read, header-isnt-read, read-too, ok-isnt-read, Gives-all, built-over}
-use Rattle.section_index.specs.Index.{IsAnswerFor}
-use Rattle.section_index.specs.Sections.{sections_of}
-use Rattle.section_index.specs.Tiling.{Tile}
+use Rattle.section_index.specs.Answers.{IsAnswerFor}
+use Rattle.dump_sections.specs.Sections.{sections_of}
+use Rattle.dump_sections.specs.Tiling.{Tile}
 use Rattle.section_index.proofs.ShortLines.{headers-short}
-use Rattle.section_index.proofs.Tiling.{sections_tile}
+use Rattle.dump_sections.specs.TilingLaws.{sections_tile}
 use Rattle.section_index.proofs.builder.index_of.Goals as goal
 
 pub returns-in_default : goal.returns-in_default

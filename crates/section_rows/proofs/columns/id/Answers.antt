@@ -1,6 +1,6 @@
 use Rattle.std.proofs.Common.{◌≡◌, length, Some, sym, ◌∙◌, ap, arith}
 use Rattle.std.specs.Option.{option_copied}
-use Rattle.section_index.specs.Sections.{id_of}
+use Rattle.dump_sections.specs.Sections.{id_of}
 use Rattle.section_rows.proofs.Colons.{id-within}
 use Rattle.section_rows.proofs.columns.id.Goals as goal
 

@@ -1,7 +1,7 @@
 use Rattle.std.proofs.Common.{◌≤◌, subst, arith}
 use Rattle.dump_io.specs.Dumps.{Now}
-use Rattle.section_index.specs.Index.{IsBuiltOver}
-use Rattle.section_index.specs.Bodies.{section_at, body_length}
+use Rattle.dump_sections.specs.Index.{IsBuiltOver}
+use Rattle.dump_sections.specs.Bodies.{section_at, body_length}
 use Rattle.stored_binaries.specs.Inner.Leads.{body_at}
 use Rattle.stored_binaries.proofs.BodyFacts.{body-length, read-front}
 use Rattle.stored_binaries.proofs.leads.read_lead.Goals as goal

@@ -1,5 +1,5 @@
 use Rattle.std.proofs.Common.{◌≡◌, length, sym, subst, arith}
-use Rattle.section_index.specs.Index.{sections_in}
+use Rattle.dump_sections.specs.Index.{sections_in}
 use Rattle.stored_binaries.specs.Inner.Places.{ArePairs}
 use Rattle.stored_binaries.proofs.PlaceFacts.{pairs-none}
 use Rattle.stored_binaries.proofs.places.pairs_of.Goals as goal

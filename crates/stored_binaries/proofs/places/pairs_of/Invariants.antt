@@ -1,4 +1,4 @@
-use Rattle.section_index.specs.Index.{sections_in}
+use Rattle.dump_sections.specs.Index.{sections_in}
 use Rattle.stored_binaries.specs.Inner.Places.{ArePairs}
 use Rattle.stored_binaries.proofs.places.pairs_of.Given as goal
 

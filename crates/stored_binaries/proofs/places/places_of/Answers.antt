@@ -1,5 +1,5 @@
 use Rattle.std.proofs.Common.{length}
-use Rattle.section_index.specs.Index.{sections_in}
+use Rattle.dump_sections.specs.Index.{sections_in}
 use Rattle.stored_binaries.proofs.PlaceFacts.{pairs-moved, pairs-ordered}
 use Rattle.stored_binaries.proofs.places.places_of.Goals as goal
 

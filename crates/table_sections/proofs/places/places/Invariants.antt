@@ -1,6 +1,6 @@
 use Rattle.std.proofs.Common.{◌≡◌, ◌<◌, length, map, filter, take, All}
-use Rattle.section_index.specs.Bodies.{section_at}
-use Rattle.section_index.specs.Index.{sections_in}
+use Rattle.dump_sections.specs.Bodies.{section_at}
+use Rattle.dump_sections.specs.Index.{sections_in}
 use Rattle.table_sections.specs.Kinds.{lists}
 use Rattle.table_sections.proofs.places.places.Given as goal
 

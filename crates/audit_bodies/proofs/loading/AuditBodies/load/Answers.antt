@@ -2,7 +2,7 @@ use Rattle.std.proofs.Common.{◌≡◌, None, sym, ◌∙◌, ap, subst}
 use Rattle.std.specs.Prelude.{is_some}
 use Rattle.std.proofs.lemmas.Result.{IfErr-weaker}
 use Rattle.dump_io.specs.Dumps.{ReadsAtMost}
-use Rattle.section_index.specs.Index.{sections_in}
+use Rattle.dump_sections.specs.Index.{sections_in}
 use Rattle.section_rows.specs.Loading.{bodies_length, first_large, large_fault}
 use Rattle.audit_bodies.specs.Mailboxes.{audited_sections}
 use Rattle.audit_bodies.proofs.Loads.{AreRefused-large, AreRefused-small, bodies-found, none-large, on-ok}

@@ -1,7 +1,7 @@
 use Rattle.std.proofs.Common.{[], codes, sym, ap}
-use Rattle.section_index.specs.Index.{sections_in}
-use Rattle.section_index.specs.Lookups.{has_hex}
-use Rattle.section_index.specs.Sections.{section}
+use Rattle.dump_sections.specs.Index.{sections_in}
+use Rattle.dump_sections.specs.Lookups.{has_hex}
+use Rattle.dump_sections.specs.Sections.{section}
 use Rattle.dump_command.specs.Terms.{binary_cause}
 use Rattle.dump_command.proofs.Places.{found-at, not-found}
 use Rattle.dump_command.proofs.commands.subjects.find_binary.Goals as goal

@@ -1,8 +1,8 @@
 use Rattle.std.proofs.Common.{◌≡◌, ℕ, Bool, List, [], Option, None, Some, if◌then◌else◌, codes, sym, ◌∙◌, ap}
 use Rattle.std.specs.Prelude.{is_some}
-use Rattle.section_index.specs.Index.{sections_in}
-use Rattle.section_index.specs.Lookups.{is_named}
-use Rattle.section_index.specs.Sections.{Section, section}
+use Rattle.dump_sections.specs.Index.{sections_in}
+use Rattle.dump_sections.specs.Lookups.{is_named}
+use Rattle.dump_sections.specs.Sections.{Section, section}
 use Rattle.report_text.specs.declared.refusals.Refusal.{Refusal}
 use Rattle.report_text.specs.declared.refusals.Refusal.TheVariants.{NoProcess}
 use Rattle.dump_command.specs.Report.{process_section}

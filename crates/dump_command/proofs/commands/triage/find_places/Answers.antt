@@ -1,5 +1,5 @@
 use Rattle.std.proofs.Common.{codes, sym}
-use Rattle.section_index.specs.Lookups.{has_tag}
+use Rattle.dump_sections.specs.Lookups.{has_tag}
 use Rattle.dump_command.proofs.Places.{section-found}
 use Rattle.dump_command.proofs.commands.triage.find_places.Goals as goal
 

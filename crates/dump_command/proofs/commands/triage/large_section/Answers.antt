@@ -1,6 +1,6 @@
 use Rattle.std.proofs.Common.{Some, ◌∙◌, ap}
 use Rattle.std.specs.Option.{option_or}
-use Rattle.section_index.specs.Index.{sections_in}
+use Rattle.dump_sections.specs.Index.{sections_in}
 use Rattle.section_rows.specs.Loading.{large_fault}
 use Rattle.process_table.specs.Records.{record_sections}
 use Rattle.heap_cells.specs.Loading.{section_in}

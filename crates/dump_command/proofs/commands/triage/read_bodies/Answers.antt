@@ -1,5 +1,5 @@
 use Rattle.std.proofs.Common.{Some, ◌∙◌, ap, subst}
-use Rattle.section_index.specs.Index.{sections_in}
+use Rattle.dump_sections.specs.Index.{sections_in}
 use Rattle.process_table.specs.Records.{record_sections}
 use Rattle.heap_cells.specs.Loading.{section_in, IsBodyIn}
 use Rattle.section_rows.specs.Loading.{IsUnread}

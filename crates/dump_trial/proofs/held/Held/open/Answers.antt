@@ -2,7 +2,7 @@ use Rattle.std.proofs.Common.{sym, ◌∙◌, ap, subst, inl, inr, arith}
 use Rattle.std.specs.Prelude.{Err}
 use Rattle.std.proofs.lemmas.Option.{none-some}
 use Rattle.dump_io.specs.HeldDump.{files_of}
-use Rattle.section_index.specs.Index.{IsAnswerFor}
+use Rattle.section_index.specs.Answers.{IsAnswerFor}
 use Rattle.dump_trial.proofs.Memory.{memory-opening}
 use Rattle.dump_trial.proofs.Opened.{file-held}
 use Rattle.dump_trial.proofs.held.Held.open.Goals as goal

@@ -1,5 +1,5 @@
 use Rattle.std.proofs.Common.{sym, subst}
-use Rattle.section_index.specs.Index.{IsIndexOf}
+use Rattle.dump_sections.specs.Index.{IsIndexOf}
 use Rattle.dump_trial.proofs.Opened.{records-opened}
 use Rattle.dump_trial.proofs.held.Held.procs.Goals as goal
 

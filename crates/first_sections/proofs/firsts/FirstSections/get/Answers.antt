@@ -1,6 +1,6 @@
 use Rattle.std.proofs.Common.{◌<◌, length, sym, ◌∙◌, subst}
 use Rattle.std.specs.Prelude.{IfSome}
-use Rattle.section_index.specs.Index.{sections_in}
+use Rattle.dump_sections.specs.Index.{sections_in}
 use Rattle.first_sections.proofs.FirstPlaces.{first-within}
 use Rattle.first_sections.proofs.firsts.FirstSections.get.Goals as goal
 

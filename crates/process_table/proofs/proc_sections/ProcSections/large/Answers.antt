@@ -1,5 +1,5 @@
 use Rattle.std.proofs.Common.{◌<◌, length, All, sym, ◌∙◌, ap, subst}
-use Rattle.section_index.specs.Index.{sections_in}
+use Rattle.dump_sections.specs.Index.{sections_in}
 use Rattle.section_rows.specs.Loading.{sections_at, large_fault}
 use Rattle.process_table.specs.Records.{ProcPlaces, records}
 use Rattle.process_table.proofs.Building.{places-records, places-within, sections_at-records}

@@ -1,5 +1,5 @@
 use Rattle.std.proofs.Common.{◌∙◌, ap}
-use Rattle.section_index.specs.Index.{sections_in}
+use Rattle.dump_sections.specs.Index.{sections_in}
 use Rattle.process_table.specs.Records.{ProcPlaces, records}
 use Rattle.process_table.proofs.Building.{IsOver-built, All-named-built, built_told, count_of_places, places-records, sections_told}
 use Rattle.process_table.proofs.Placing.{All-records}

@@ -1,7 +1,7 @@
 use Rattle.std.proofs.Common.{◌≡◌, ◌<◌, ◌==◌, None, Some, if◌then◌else◌, length, get_or, sym, ◌∙◌, ap, subst, arith}
 use Rattle.std.specs.Prelude.{IfSome}
-use Rattle.section_index.specs.Index.{sections_in}
-use Rattle.section_index.specs.Laws.{length-sections_of}
+use Rattle.dump_sections.specs.Index.{sections_in}
+use Rattle.dump_sections.specs.Laws.{length-sections_of}
 use Rattle.stored_binaries.proofs.PlaceFacts.{IsPointOf, past-the-end, looked-up, looked-within}
 use Rattle.stored_binaries.proofs.places.BinaryPlaces.first.Goals as goal
 

@@ -1,7 +1,7 @@
 use Rattle.std.proofs.Common.{[], refl, sym, ◌∙◌, ap}
 use Rattle.std.specs.Option.{unwrap_or}
 use Rattle.term_text.specs.Roots.{binary_report}
-use Rattle.section_index.specs.Sections.{sections}
+use Rattle.dump_sections.specs.Sections.{sections}
 use Rattle.command_words.specs.Command.{binary}
 use Rattle.dump_command.specs.Terms.{bad_cause, binary_at}
 use Rattle.dump_command.proofs.BinaryLoads.{IsHalted-binary, bytes-index, few-binary, listed-binary, unread-binary}

@@ -1,5 +1,5 @@
 use Rattle.std.proofs.Common.{codes, refl, sym}
-use Rattle.section_index.specs.Lookups.{has_tag}
+use Rattle.dump_sections.specs.Lookups.{has_tag}
 use Rattle.command_words.specs.Command.{memory}
 use Rattle.dump_command.specs.Report.{memory_section}
 use Rattle.dump_command.proofs.FoundLoads.{Loads-found, ReadsFor-fields}

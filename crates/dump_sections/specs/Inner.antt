@@ -1,0 +1,5 @@
+-- What only private functions cite.
+pub mod Counting
+pub mod Headers
+pub mod Marks
+pub mod Wanted

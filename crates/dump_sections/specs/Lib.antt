@@ -1,0 +1,11 @@
+pub mod Bodies
+pub mod Cuts
+pub mod Index
+pub mod Inner
+pub mod Laws
+pub mod Lookups
+pub mod Sections
+pub mod Tags
+pub mod Tiling
+pub mod TilingLaws
+pub mod Versions

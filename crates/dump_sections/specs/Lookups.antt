@@ -1,0 +1,18 @@
+-- What sections are looked up by.
+use Rattle.std.specs.Prelude.{ℕ, Bool, ◌&&◌, nat_eq, List, Option, Some}
+use Rattle.std.specs.Option.{option_eq, option_and_then}
+use Rattle.std.specs.Str.{bytes_eq}
+use Rattle.dump_io.specs.Numbers.{hex_number}
+use Rattle.dump_sections.specs.Sections.{tag_of, id_of}
+
+-- whether a header's text has this tag, with or without an id
+abbrev pub has_tag : List ℕ → List ℕ → Bool
+has_tag tag text = bytes_eq (tag_of text) tag
+
+-- whether it has exactly this tag and id, where having no id matches only having none
+abbrev pub is_named : List ℕ → Option (List ℕ) → List ℕ → Bool
+is_named tag id text = has_tag tag text && option_eq bytes_eq (id_of text) id
+
+-- whether it has this tag and an id that is this number in hex
+abbrev pub has_hex : List ℕ → ℕ → List ℕ → Bool
+has_hex tag n text = has_tag tag text && option_eq nat_eq (option_and_then hex_number (id_of text)) (Some n)

@@ -1,0 +1,85 @@
+// Reading the body of a section.
+ghost use Rattle.std.specs.Prelude.{◌≡◌, ◌+◌, ◌<◌, ◌≤◌, ◌⊎◌, length, IfOk, OnOk, IfErr, IsErrOf};
+ghost use Rattle.dump_io.specs.Dumps.{IsOpen, size_of, Gives, DeviceFailed, ReadsAtMost};
+ghost use Rattle.dump_sections.specs.Bodies.{section_at, body_length, IsBodyOf, IsCauseOf};
+ghost use Rattle.dump_sections.specs.Index.{IsBuiltOver};
+
+use crate::index::Index;
+use dump_io::{Dumps, Limits, read_full};
+use std::alloc::Global;
+use thiserror::Error;
+
+/// Why a body wasn't loaded.
+#[derive(Debug, Drop, Error)]
+pub enum BodyFault {
+    /// The body has more bytes than the limit on a section's body; `at` is the
+    /// offset of the section in the file, and `len` the number of bytes of the body.
+    #[error("the section at {at} is too large: {len} bytes")]
+    SectionTooLarge { at: u64, len: u64 },
+    /// The device failed.
+    #[error("the dump can't be read")]
+    Read,
+    /// There was no memory for the body.
+    #[error("out of memory")]
+    Memory,
+}
+
+// Reads `len` bytes of the open file from an offset on.
+fn read_part<D: Dumps>(
+    alloc: Global,
+    dumps: &mut D,
+    at: u64,
+    len: usize,
+) -> Result<Vec<u8>, BodyFault>
+    requires open { IsOpen (D.state dumps.old).now }
+    requires inside { at + len ≤ size_of (D.state dumps.old).now }
+    ensures reads { ReadsAtMost (D.state dumps.old) (D.state dumps.new) len }
+    ensures bytes { IfOk result (λ bytes. Gives (D.state dumps.old).now at bytes.items) }
+    ensures length { IfOk result (λ bytes. length bytes.items ≡ len) }
+    ensures fault { IfErr result (λ fault. (fault ≡ BodyFault.Memory) ⊎ ((fault ≡ BodyFault.Read) × DeviceFailed (D.state dumps.old) (D.state dumps.new))) }
+{
+    let Ok(mut bytes) = vec![in alloc; 0u8; len] else {
+        return Err(BodyFault::Memory);
+    };
+    if read_full(dumps, at, &mut bytes).is_err() {
+        return Err(BodyFault::Read);
+    }
+    Ok(bytes)
+}
+
+/// Reads the body of the section at place `i`, from 0. The index
+/// is one that was built over the open file, which stays open.
+///
+/// Returns `SectionTooLarge` exactly when the body has more bytes than the limit on a section's body;
+/// nothing is read then. Returns `Read` only if the device's count of faults rose, and `Memory` may come
+/// from allocating the body. At most as many bytes are read as the body has, even if it isn't loaded.
+pub fn read_body<D: Dumps>(
+    alloc: Global,
+    dumps: &mut D,
+    index: &Index,
+    i: usize,
+    limits: &Limits,
+) -> Result<Vec<u8>, BodyFault>
+    requires over { IsBuiltOver (D.state dumps.old).now index.now }
+    requires place { i < length index.now.headers }
+    ensures reads { ReadsAtMost (D.state dumps.old) (D.state dumps.new) (body_length (section_at index.now i)) }
+    ensures body { IfOk result (λ body. IsBodyOf (D.state dumps.old).now (section_at index.now i) body.items) }
+    ensures length { IfOk result (λ body. length body.items ≡ body_length (section_at index.now i)) }
+    ensures loaded { OnOk result (body_length (section_at index.now i) ≤ limits.now.section) }
+    ensures fault { IfErr result (IsCauseOf (section_at index.now i) limits.now.section (D.state dumps.old) (D.state dumps.new)) }
+
+    // A body that is too large is always refused as such, whatever the device does.
+    ensures too_large { let section = section_at index.now i in limits.now.section < body_length section
+        → IsErrOf result (BodyFault.SectionTooLarge section.at (body_length section)) }
+    ensures unread { limits.now.section < body_length (section_at index.now i) → dumps.new ≡ dumps.old }
+{
+    let section = index.extent(i);
+    let len = section.end - section.body;
+    if len > u64::from(limits.section()) {
+        return Err(BodyFault::SectionTooLarge {
+            at: section.at,
+            len,
+        });
+    }
+    read_part(alloc, dumps, section.body, len as usize)
+}
