@@ -11,7 +11,7 @@ use Rattle.dump_sections.specs.declared.bodies.BodyFault.{BodyFault}
 use Rattle.process_table.specs.Processes.{Process, process_table}
 use Rattle.dump_audit.specs.Findings.{Audit, audit_of, findings}
 use Rattle.json_report.specs.Trees.{audit_tree, json_text}
-use Rattle.report_text.specs.Findings.{audit_report}
+use Rattle.audit_text.specs.Findings.{audit_report}
 use Rattle.audit_bodies.specs.declared.loading.AuditBodies.{AuditBodies}
 use Rattle.audit_bodies.specs.Mailboxes.{audited_sections, mail_in, mailbox_places, mails}
 use Rattle.dump_command.specs.Audits.{audit_in, status_of}

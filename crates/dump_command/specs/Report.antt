@@ -18,7 +18,7 @@ use Rattle.report_text.specs.Reports.{index_report, info_report}
 use Rattle.report_text.specs.Tables.{fields_report, procs_report, rows_report}
 use Rattle.dump_trial.specs.Tallies.{trial_report}
 use Rattle.report_text.specs.Links.{links_report}
-use Rattle.report_text.specs.Findings.{audit_report}
+use Rattle.audit_text.specs.Findings.{audit_report}
 use Rattle.dump_audit.specs.Findings.{findings}
 use Rattle.json_report.specs.Trees.{audit_tree, json_text}
 use Rattle.process_table.specs.Processes.{process_table}

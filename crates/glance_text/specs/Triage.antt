@@ -11,7 +11,8 @@ use Rattle.dump_triage.specs.Triage.{Triaged}
 use Rattle.dump_triage.specs.declared.finding_counts.FindingCounts.{FindingCounts}
 use Rattle.dump_triage.specs.declared.ranked.Ranked.{Ranked}
 use Rattle.report_lines.specs.Lines.{count_line, newline, tab}
-use Rattle.report_text.specs.Reports.{info_heading, state_line, version_text}
+use Rattle.report_text.specs.Reports.{info_heading, version_text}
+use Rattle.report_lines.specs.States.{state_line}
 use Rattle.report_text.specs.Tables.{cell_text, process_end, processes_line}
 
 -- the line of a field of the `memory` section; a line without a colon has none

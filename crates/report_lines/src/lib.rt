@@ -2,5 +2,7 @@
 #![tactic(auto)]
 
 mod count_lines;
+mod state_lines;
 
 pub use count_lines::put_count_line;
+pub use state_lines::put_state;

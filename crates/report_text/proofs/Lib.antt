@@ -1,3 +1,2 @@
-pub mod FindingFacts
 pub mod LinkFacts
 pub mod TableFacts

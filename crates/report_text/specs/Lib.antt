@@ -1,4 +1,3 @@
-pub mod Findings
 pub mod Links
 pub mod Refusals
 pub mod Reports

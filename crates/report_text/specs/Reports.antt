@@ -1,8 +1,6 @@
 -- The texts of the reports, line by line. Offsets are of the file.
-use Rattle.std.specs.Prelude.{ℕ, List, [], ◌∷◌, ◌++◌, decimal, codes, length, unwrap_or, slice_get, Option, None, Some}
+use Rattle.std.specs.Prelude.{ℕ, List, [], ◌∷◌, ◌++◌, decimal, codes, length, unwrap_or, Option}
 use Rattle.std.specs.List.{concat, flat_map}
-use Rattle.dump_sections.specs.declared.index.State.{State}
-use Rattle.dump_sections.specs.declared.index.State.TheVariants.{Whole, TruncatedIn}
 use Rattle.dump_io.specs.Lines.{Header}
 use Rattle.field_lines.specs.Fields.{find_value}
 use Rattle.dump_sections.specs.declared.version.Version.{Version}
@@ -10,20 +8,11 @@ use Rattle.dump_sections.specs.declared.version.Version.TheVariants.{V03, V04, V
 use Rattle.dump_sections.specs.Sections.{Section, sections_of}
 use Rattle.dump_sections.specs.Index.{state_of}
 use Rattle.report_lines.specs.Lines.{newline, space}
+use Rattle.report_lines.specs.States.{state_line}
 
 -- the line of a section: where its header begins, where its body begins and ends, and its header's text
 abbrev pub section_line : Section → List ℕ
 section_line s = concat (decimal s.at ∷ space ∷ decimal s.body ∷ space ∷ decimal s.end ∷ space ∷ s.text ∷ newline ∷ [])
-
--- the line of a section in which the dump is truncated
-abbrev pub truncated_line : Option Section → List ℕ
-truncated_line None = []
-truncated_line (Some s) = concat (codes "truncated " ∷ decimal s.at ∷ space ∷ s.text ∷ newline ∷ [])
-
--- the line that says whether the dump is whole
-abbrev pub state_line : List Section → State → List ℕ
-state_line sections Whole = codes "whole\n"
-state_line sections (TruncatedIn i) = truncated_line (slice_get sections i)
 
 -- the report of `index` on a dump with these headers and
 -- this size: a line for each section, then the state line

@@ -2,12 +2,13 @@
 ghost use Rattle.std.specs.Prelude.{◌<◌};
 ghost use Rattle.std.specs.List.{flat_map};
 ghost use Rattle.dump_io.specs.Sinks.{Puts};
-ghost use Rattle.dump_sections.specs.Index.{sections_in, state_of};
+ghost use Rattle.dump_sections.specs.Index.{sections_in};
 ghost use Rattle.dump_sections.specs.Sections.{section};
-ghost use Rattle.report_text.specs.Reports.{section_line, state_line, index_report};
+ghost use Rattle.report_text.specs.Reports.{section_line, index_report};
 
-use dump_io::{Failed, Piece, Sink, put_pieces, write_all};
-use dump_sections::{Extent, Index, State};
+use dump_io::{Failed, Piece, Sink, put_pieces};
+use report_lines::put_state;
+use dump_sections::{Extent, Index};
 
 fn put_section<K: Sink>(sink: &mut K, s: &Extent<'_>) -> Result<(), Failed>
     ensures { Puts (K.state sink.old) (K.state sink.new) (section_line (section s.now.at s.now.body s.now.end s.now.text.now)) result }
@@ -26,30 +27,6 @@ fn put_section<K: Sink>(sink: &mut K, s: &Extent<'_>) -> Result<(), Failed>
             Piece::Bytes(b"\n"),
         ],
     )
-}
-
-/// Writes the state line: that the dump is whole, or in which section it is truncated.
-///
-/// Returns `Failed` only if the sink failed; a proper prefix of the line was written then.
-pub fn put_state<K: Sink>(sink: &mut K, index: &Index) -> Result<(), Failed>
-    ensures { Puts (K.state sink.old) (K.state sink.new) (state_line (sections_in index.now) (state_of index.now.headers)) result }
-{
-    match index.state() {
-        State::Whole => write_all(sink, b"whole\n"),
-        State::TruncatedIn(last) => {
-            let s = index.extent(last);
-            put_pieces(
-                sink,
-                &[
-                    Piece::Bytes(b"truncated "),
-                    Piece::Dec(s.at),
-                    Piece::Bytes(b" "),
-                    Piece::Bytes(s.text),
-                    Piece::Bytes(b"\n"),
-                ],
-            )
-        }
-    }
 }
 
 fn put_sections<K: Sink>(sink: &mut K, index: &Index) -> Result<(), Failed>

@@ -9,7 +9,6 @@
 //! `Failed` only if the sink's count of faults rose; a proper prefix of the text was written then.
 #![tactic(auto)]
 
-mod audit_report;
 mod field_report;
 mod index_report;
 mod info_report;
@@ -18,11 +17,11 @@ mod process_report;
 mod refusals;
 mod table_report;
 
-pub use audit_report::put_findings;
 pub use field_report::put_fields;
-pub use index_report::{put_index, put_state};
+pub use index_report::put_index;
 pub use info_report::{put_heading, put_info};
 pub use link_report::put_links;
 pub use process_report::{put_process_end, put_processes_line, put_procs, text_of};
 pub use refusals::{Refusal, put_refusal};
+pub use report_lines::put_state;
 pub use table_report::{put_rows, text_at};

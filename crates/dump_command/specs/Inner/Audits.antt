@@ -4,7 +4,7 @@ use Rattle.std.specs.Option.{option_map}
 use Rattle.dump_sections.specs.Index.{Contents}
 use Rattle.process_table.specs.Processes.{ProcessTable}
 use Rattle.dump_audit.specs.Findings.{Audit, audit_of, findings}
-use Rattle.report_text.specs.Findings.{audit_report}
+use Rattle.audit_text.specs.Findings.{audit_report}
 use Rattle.report_text.specs.Links.{links_report}
 use Rattle.json_report.specs.Trees.{audit_tree, json_text}
 use Rattle.dump_command.specs.Audits.{status_of}

@@ -13,10 +13,10 @@ use crate::report::Report;
 use crate::status::{DONE, FOUND};
 use crate::stop::{Stop, or_stop};
 use audit_bodies::AuditBodies;
+use audit_text::put_findings;
 use dump_audit::{Finding, audit_with};
 use dump_io::{Dumps, Sink};
 use link_graph::Graph;
-use report_text::put_findings;
 use std::alloc::AllocError;
 
 #[derive(Clone, Copy)]

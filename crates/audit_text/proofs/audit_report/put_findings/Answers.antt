@@ -1,5 +1,5 @@
 use Rattle.dump_io.specs.Laws.Puts.{Puts-then, Puts-stopped}
-use Rattle.report_text.proofs.audit_report.put_findings.Goals as goal
+use Rattle.audit_text.proofs.audit_report.put_findings.Goals as goal
 
 pub returns-in_err-put_all : goal.returns-in_err-put_all
 returns-in_err-put_all g c = Puts-stopped _ c.from_residual.ensures.0 c.in_err-put_all.ensures

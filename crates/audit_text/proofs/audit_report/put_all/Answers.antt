@@ -1,7 +1,7 @@
 use Rattle.std.proofs.lemmas.Option.{slice_get-get_or}
 use Rattle.dump_io.specs.Laws.Puts.{HasPut-none, HasPut-more, Puts-broken, Puts-all}
-use Rattle.report_text.specs.Findings.{finding_line}
-use Rattle.report_text.proofs.audit_report.put_all.Goals as goal
+use Rattle.audit_text.specs.Findings.{finding_line}
+use Rattle.audit_text.proofs.audit_report.put_all.Goals as goal
 
 pub loop-finding-init : goal.loop-finding-init
 loop-finding-init g c = HasPut-none

@@ -6,14 +6,14 @@ ghost use Rattle.dump_io.specs.Sinks.{Puts};
 ghost use Rattle.link_graph.specs.Graph.{graph_of};
 ghost use Rattle.dump_audit.specs.FindingNames.{pid_at};
 ghost use Rattle.dump_audit.specs.Fitting.{Fits};
-ghost use Rattle.report_text.specs.Findings.{one_line, two_line, three_line, finding_line, findings_line, findings_report};
+ghost use Rattle.audit_text.specs.Findings.{one_line, two_line, three_line, finding_line, findings_line, findings_report};
 
-use crate::index_report::put_state;
 use dump_audit::Finding;
 use dump_audit::named::{kind, partner, reference};
 use dump_io::{Failed, Piece, Sink, put_pieces};
 use link_graph::Graph;
 use process_table::Procs;
+use report_lines::put_state;
 use dump_sections::Index;
 
 // Writes the line of a finding with one text between its word and its offsets.
@@ -284,8 +284,8 @@ fn put_count<K: Sink>(sink: &mut K, count: usize) -> Result<(), Failed>
 }
 
 /// Writes a line for each finding: its word, the pid of the process, what else it names, and its two
-/// offsets. Then come `findings N` and the state line, as in [`put_index`](crate::put_index). The graph
-/// is that of the processes, and the findings fit them, as those of [`audit`](dump_audit::audit) do.
+/// offsets. Then come `findings N` and the state line, as by [`put_state`](report_lines::put_state). The
+/// graph is that of the processes, and the findings fit them, as those of [`audit`](dump_audit::audit) do.
 pub fn put_findings<K: Sink>(
     sink: &mut K,
     index: &Index,

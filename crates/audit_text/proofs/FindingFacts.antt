@@ -1,6 +1,6 @@
 -- The texts of a finding's line are those of the processes.
 use Rattle.std.proofs.Common.{◌≡◌, ℕ, List, ◌∙◌, ap}
-use Rattle.report_text.specs.Findings.{one_line, two_line, three_line}
+use Rattle.audit_text.specs.Findings.{one_line, two_line, three_line}
 
 pub one-same : (word : List ℕ) (at other : ℕ) {a x : List ℕ} → a ≡ x → one_line word a at other ≡ one_line word x at other
 one-same word at other {a} {x} first = ap (λ t. one_line word t at other) first

@@ -1,8 +1,8 @@
 use Rattle.std.proofs.Common.{take}
 use Rattle.std.specs.List.{flat_map}
 use Rattle.dump_io.specs.Sinks.{HasPut}
-use Rattle.report_text.specs.Findings.{finding_line}
-use Rattle.report_text.proofs.audit_report.put_all.Given as goal
+use Rattle.audit_text.specs.Findings.{finding_line}
+use Rattle.audit_text.proofs.audit_report.put_all.Given as goal
 
 -- the lines of the findings so far are written
 abbrev pub invariant-loop-finding : goal.invariant-loop-finding

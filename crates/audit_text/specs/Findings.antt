@@ -8,7 +8,7 @@ use Rattle.dump_audit.specs.Findings.{Audit, findings}
 use Rattle.dump_audit.specs.declared.finding.Finding.{Finding}
 use Rattle.dump_audit.specs.declared.finding.Finding.TheVariants.{LinkOneSided, MonitorTo, MonitorFrom, Mailbox, UnreadLinks, UnreadQueue, LinkGone, ToGone, FromGone, QueueCount}
 use Rattle.report_lines.specs.Lines.{newline, space}
-use Rattle.report_text.specs.Reports.{state_line}
+use Rattle.report_lines.specs.States.{state_line}
 
 -- the line of a finding with one text between its word and its offsets
 abbrev pub one_line : List ℕ → List ℕ → ℕ → ℕ → List ℕ

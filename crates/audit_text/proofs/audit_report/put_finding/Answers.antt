@@ -1,9 +1,9 @@
 use Rattle.std.proofs.Common.{codes, decimal, sym, ◌∙◌, ap}
 use Rattle.dump_io.specs.Laws.Puts.{Puts-as}
 use Rattle.dump_audit.specs.FindingNames.{partner_in, reference_in}
-use Rattle.report_text.specs.Findings.{finding_line, two_line, three_line}
-use Rattle.report_text.proofs.FindingFacts.{one-same, two-same, three-same}
-use Rattle.report_text.proofs.audit_report.put_finding.Goals as goal
+use Rattle.audit_text.specs.Findings.{finding_line, two_line, three_line}
+use Rattle.audit_text.proofs.FindingFacts.{one-same, two-same, three-same}
+use Rattle.audit_text.proofs.audit_report.put_finding.Goals as goal
 
 pub returns-in-LinkOneSided : goal.returns-in-LinkOneSided
 returns-in-LinkOneSided g c =
