@@ -9,7 +9,8 @@ use Rattle.std.proofs.lemmas.List.Elements.{All-nil, All-cons, All-head, All-tai
 use Rattle.std.proofs.lemmas.Grind.{flat_map-append}
 use Rattle.std.proofs.lemmas.Option.{slice_get-map, slice_get_within, get_or_from_slice_get}
 use Rattle.process_table.specs.Processes.{Process, nobody, process_at}
-use Rattle.link_graph.specs.Graph.{graph_of, links_at, links_of, no_links}
+use Rattle.link_entries.specs.Lists.{links_at, no_links}
+use Rattle.link_graph.specs.Graph.{graph_of, links_of}
 
 -- what the graph has at a place is what the process there has
 pub links-at : (processes : List Process) (p : ℕ) → links_at (graph_of processes) p ≡ links_of (process_at processes p).links

@@ -1,8 +1,8 @@
 // The findings on links and monitors.
 ghost use Rattle.std.specs.Prelude.{◌≡◌, ◌<◌, ◌++◌, length, slice_get, Some, OnOk};
 ghost use Rattle.std.specs.Option.{option_to_list};
-ghost use Rattle.link_graph.specs.Kinds.{Link, To, From};
-ghost use Rattle.link_graph.specs.Seen.{shown_kind, shown_entry};
+ghost use Rattle.link_entries.specs.Kinds.{Link, To, From};
+ghost use Rattle.link_entries.specs.Seen.{shown_kind, shown_entry};
 ghost use Rattle.dump_audit.specs.Findings.{entry_finding, entry_findings};
 ghost use Rattle.dump_audit.specs.Inner.Audited.{IsHolder, entries_in, held};
 

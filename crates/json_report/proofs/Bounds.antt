@@ -14,10 +14,10 @@ use Rattle.dump_sections.specs.Bodies.{section_at}
 use Rattle.section_rows.specs.Rows.{Kept}
 use Rattle.process_table.specs.Processes.{Process, process_at}
 use Rattle.process_table.specs.Records.{Placed}
-use Rattle.link_graph.specs.Kinds.{Kind, Link, LinkPort, To, ToPort, ToName, From, FromPort, Other}
-use Rattle.link_graph.specs.Entries.{LinkEntry}
+use Rattle.link_entries.specs.Kinds.{Kind, Link, LinkPort, To, ToPort, ToName, From, FromPort, Other}
+use Rattle.link_entries.specs.Entries.{LinkEntry}
+use Rattle.link_entries.specs.Texts.{is_local}
 use Rattle.link_graph.specs.Graph.{links_of}
-use Rattle.link_graph.specs.Texts.{is_local}
 use Rattle.dump_audit.specs.Findings.{Audit, count_findings, entry_finding, entry_findings, gone, is_dumped, mail_of, one_sided, partner_finding, place_of, process_findings, queue_findings, section_offset, stated_findings}
 use Rattle.dump_audit.specs.declared.finding.Finding.{Finding}
 use Rattle.dump_audit.specs.declared.finding.Finding.TheVariants.{UnreadLinks, UnreadQueue, Mailbox, QueueCount}

@@ -12,9 +12,10 @@ use Rattle.dump_io.specs.Lines.{cr, lf, lines_after, lines_from, raw_lines, text
 use Rattle.field_lines.specs.Fields.{find_line, has_key, key_of, place_of, value_of, without_space}
 use Rattle.field_lines.specs.Lines.{TextLine, text_line, text_lines}
 use Rattle.section_rows.specs.Rows.{Kept, field_kept, kept}
-use Rattle.link_graph.specs.Entries.{LinkEntry, cut, entries_at, entry_of, is_gap, led_by, parts_from, parts_of}
-use Rattle.link_graph.specs.Graph.{links_in, links_of}
-use Rattle.link_graph.specs.Texts.{before, behind, inside}
+use Rattle.link_entries.specs.Entries.{LinkEntry, cut, entries_at, entry_of, is_gap, led_by, parts_from, parts_of}
+use Rattle.link_entries.specs.Lists.{links_in}
+use Rattle.link_entries.specs.Texts.{before, behind, inside}
+use Rattle.link_graph.specs.Graph.{links_of}
 
 -- ---- lists
 

@@ -9,7 +9,7 @@ use Rattle.dump_sections.specs.declared.index.State.TheVariants.{Whole, Truncate
 use Rattle.dump_sections.specs.Bodies.{section_at}
 use Rattle.dump_sections.specs.Index.{Contents, state_of}
 use Rattle.process_table.specs.Processes.{Process}
-use Rattle.link_graph.specs.Kinds.{Kind}
+use Rattle.link_entries.specs.Kinds.{Kind}
 use Rattle.dump_audit.specs.FindingNames.{pid_at, kind_at, partner_in, partner_at, reference_in, reference_at}
 use Rattle.dump_audit.specs.Findings.{Audit, findings}
 use Rattle.dump_audit.specs.declared.finding.Finding.{Finding}

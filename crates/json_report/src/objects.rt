@@ -1,8 +1,8 @@
 // The object of a finding.
 ghost use Rattle.std.specs.Prelude.{◌≡◌, ◌<◌, length, OnOk};
 ghost use Rattle.serde_json.specs.Events.{SendsValue};
+ghost use Rattle.link_entries.specs.Seen.{shown_kind};
 ghost use Rattle.link_graph.specs.Graph.{graph_of};
-ghost use Rattle.link_graph.specs.Seen.{shown_kind};
 ghost use Rattle.dump_audit.specs.FindingNames.{pid_at};
 ghost use Rattle.dump_audit.specs.Fitting.{Fits};
 ghost use Rattle.json_report.specs.Laws.{Has64Bits};

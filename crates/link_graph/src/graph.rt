@@ -1,12 +1,14 @@
 // The link lists of all processes of a dump.
-ghost use Rattle.std.specs.Prelude.{◌≡◌, ◌<◌, length, slice_get, Some, IfOk};
-ghost use Rattle.link_graph.specs.Kinds.{Link, To, ToName, From};
-ghost use Rattle.link_graph.specs.Graph.{graph_of, links_at, has_kind};
-ghost use Rattle.link_graph.specs.Seen.{shown_kind, shown_entry};
+ghost use Rattle.std.specs.Prelude.{◌≡◌, ◌<◌, ◌++◌, [], ◌∷◌, length, slice_get, Some, IfOk};
+ghost use Rattle.section_rows.specs.Rows.{IsBoundedCell};
+ghost use Rattle.section_rows.specs.Shown.{shown_cell};
+ghost use Rattle.link_entries.specs.Kinds.{Link, To, ToName, From};
+ghost use Rattle.link_entries.specs.Lists.{links_at, has_kind};
+ghost use Rattle.link_entries.specs.Seen.{shown_kind, shown_entry};
+ghost use Rattle.link_graph.specs.Graph.{links_of, graph_of};
 
-use crate::lists::Lists;
-use crate::shapes::{Entry, EntryKind};
-use process_table::Procs;
+use link_entries::{Entry, EntryKind, EntryLists};
+use process_table::{Kept, Procs};
 use std::alloc::{AllocError, Global};
 use std::marker::Model;
 
@@ -14,19 +16,31 @@ use std::marker::Model;
 /// them. A process is identified by its place in the process table, from 0.
 #[derive(Drop)]
 pub struct Graph<'a> {
-    lists: Lists<'a>,
+    lists: EntryLists<'a>,
 }
 
 impl<'a> Model for Graph<'a> {
     ghost use Rattle.std.specs.Prelude.{List};
-    ghost use Rattle.link_graph.specs.Graph.{Links};
-    ghost use Rattle.link_graph.specs.Inner.Spans.{lists_in, AreSpans};
+    ghost use Rattle.link_entries.specs.Lists.{Links};
 
     ghost Value = { List Links };
 
-    ghost view = { λ graph. lists_in graph.lists };
+    ghost view = { λ graph. graph.lists };
+}
 
-    ghost invariant = { λ graph. AreSpans graph.lists };
+// The lists and one more, that of a process that has this link list, or none.
+fn with_links<'a>(
+    lists: EntryLists<'a>,
+    alloc: Global,
+    list: Option<Kept<'a>>,
+) -> Result<EntryLists<'a>, AllocError>
+    requires { IsBoundedCell (shown_cell list) }
+    ensures { IfOk result (λ more. more ≡ lists.entry ++ links_of (shown_cell list.entry) ∷ []) }
+{
+    match list {
+        None => lists.with_none(),
+        Some(list) => lists.with_list(alloc, list.value_at, list.text),
+    }
 }
 
 impl<'a> Graph<'a> {
@@ -34,9 +48,9 @@ impl<'a> Graph<'a> {
     pub fn build(alloc: Global, procs: &'a Procs) -> Result<Graph<'a>, AllocError>
         ensures { IfOk result (λ graph. graph ≡ graph_of procs.now.processes) }
     {
-        let mut lists = Lists::new(alloc, procs.len())?;
+        let mut lists = EntryLists::new(alloc, procs.len())?;
         for p in 0..procs.len() {
-            lists.push(alloc, procs.links(p))?;
+            lists = with_links(lists, alloc, procs.links(p))?;
         }
         Ok(Graph { lists })
     }
@@ -66,7 +80,7 @@ impl<'a> Graph<'a> {
         requires { p < length self.now }
         ensures { result ≡ (links_at self.now p).unread }
     {
-        self.lists.is_unread(p)
+        self.lists.unread(p)
     }
 
     fn has(&self, p: usize, kind: &EntryKind<'_>) -> bool

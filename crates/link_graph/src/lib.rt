@@ -1,18 +1,19 @@
 //! The links and monitors of a dump's processes.
+//!
+//! ```text
+//! let graph = Graph::build(alloc, &procs)?;
+//! for n in 0..graph.count(p) {
+//!     let entry = graph.entry(p, n);
+//! }
+//! let linked = graph.has_link(p, b"<0.7.0>");
+//! ```
+//!
+//! What an entry says, and how a list is cut into entries, is that of `link_entries`.
 #![tactic(auto)]
 
-mod cutting;
 mod graph;
-mod kind_set;
-mod kinds;
-mod laws;
-mod listed;
-mod lists;
-pub mod reading;
-pub mod shapes;
-mod texts;
 
 pub use graph::Graph;
-pub use laws::{a_list_is_cut_at_gaps, an_entry_has_one_kind};
-pub use shapes::{Entry, EntryKind};
-pub use texts::is_local;
+pub use link_entries::{
+    Entry, EntryKind, a_list_is_cut_at_gaps, an_entry_has_one_kind, is_local, reading, shapes,
+};

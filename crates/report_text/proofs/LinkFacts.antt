@@ -5,7 +5,8 @@ use Rattle.std.specs.Option.{option_map}
 use Rattle.std.proofs.lemmas.List.{take_more}
 use Rattle.std.proofs.lemmas.Option.{slice_get-map, unwrap_or-slice_get}
 use Rattle.process_table.specs.Processes.{Process, nobody, process_at}
-use Rattle.link_graph.specs.Graph.{graph_of, links_at, links_of, no_links}
+use Rattle.link_entries.specs.Lists.{links_at, no_links}
+use Rattle.link_graph.specs.Graph.{graph_of, links_of}
 
 -- one process more
 pub take-process : (processes : List Process) (p : ℕ) → p < length processes → take (p + 1) processes ≡ take p processes ++ process_at processes p ∷ []

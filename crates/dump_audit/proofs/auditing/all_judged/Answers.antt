@@ -5,8 +5,9 @@ use Rattle.std.proofs.lemmas.List.{take_more, map-append}
 use Rattle.std.proofs.lemmas.Option.{slice_get-map, slice_get-get_or, unwrap_or-slice_get, get_or_from_slice_get}
 use Rattle.dump_sections.specs.Index.{state_of}
 use Rattle.process_table.specs.Processes.{nobody, process_at}
-use Rattle.link_graph.specs.Texts.{is_local}
-use Rattle.link_graph.specs.Graph.{links_of, links_at, no_links}
+use Rattle.link_entries.specs.Texts.{is_local}
+use Rattle.link_entries.specs.Lists.{links_at, no_links}
+use Rattle.link_graph.specs.Graph.{links_of}
 use Rattle.dump_audit.specs.Findings.{is_cut, is_judged}
 use Rattle.dump_audit.proofs.auditing.all_judged.Goals as goal
 

@@ -2,7 +2,7 @@ use Rattle.std.proofs.Common.{◌≡◌, ℕ, List, sym, ◌∙◌, ap, subst}
 use Rattle.std.specs.Prelude.{codes, OnOk}
 use Rattle.serde_json.specs.Data.{Data}
 use Rattle.serde_json.specs.Events.{SendsValue}
-use Rattle.link_graph.specs.Kinds.{Kind}
+use Rattle.link_entries.specs.Kinds.{Kind}
 use Rattle.dump_audit.specs.FindingNames.{partner_in, reference_in}
 use Rattle.json_report.specs.Trees.{process_object, link_object, monitor_object, mailbox_object, count_object, gone_object, finding_object}
 use Rattle.json_report.proofs.objects.send_finding.Goals as goal

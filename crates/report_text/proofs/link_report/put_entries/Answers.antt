@@ -1,6 +1,6 @@
 use Rattle.std.proofs.Common.{arith}
 use Rattle.dump_io.specs.Laws.Puts.{HasPut-none, HasPut-more, Puts-broken, Puts-all}
-use Rattle.link_graph.specs.Graph.{links_at}
+use Rattle.link_entries.specs.Lists.{links_at}
 use Rattle.report_text.specs.Links.{entry_line}
 use Rattle.report_text.proofs.link_report.put_entries.Goals as goal
 

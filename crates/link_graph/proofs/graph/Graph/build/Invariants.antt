@@ -1,7 +1,6 @@
 use Rattle.std.proofs.Common.{◌≡◌, take}
 use Rattle.link_graph.specs.Graph.{graph_of}
-use Rattle.link_graph.specs.Inner.Spans.{lists_in, AreSpans}
 use Rattle.link_graph.proofs.graph.Graph.build.Given as goal
 
 abbrev pub invariant-loop-p : goal.invariant-loop-p
-invariant-loop-p l = (lists_in l.lists ≡ graph_of (take l.p l.procs.processes)) × AreSpans l.lists
+invariant-loop-p l = l.lists ≡ graph_of (take l.p l.procs.processes)
