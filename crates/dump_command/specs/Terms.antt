@@ -4,7 +4,7 @@ use Rattle.std.specs.Option.{option_and_then, option_map, option_or}
 use Rattle.section_index.specs.Index.{index_of}
 use Rattle.section_index.specs.Lookups.{has_hex, has_tag, is_named}
 use Rattle.section_index.specs.Sections.{Section, sections}
-use Rattle.term_forms.specs.declared.enc.Enc.{Enc}
+use Rattle.binary_payloads.specs.declared.enc.Enc.{Enc}
 use Rattle.term_forms.specs.Elements.{Element}
 use Rattle.term_forms.specs.Forms.{HeapForm, Ext}
 use Rattle.heap_cells.specs.Cells.{cells_of, own_count, weight}

@@ -10,7 +10,7 @@ use Rattle.section_index.specs.Opening.{first_in, version_named}
 use Rattle.section_index.specs.Sections.{sections, sections_of, id_of}
 use Rattle.section_index.specs.declared.opening.Version.{Version}
 use Rattle.section_index.specs.declared.opening.Version.TheVariants.{V05}
-use Rattle.term_forms.specs.declared.enc.Enc.{Enc}
+use Rattle.binary_payloads.specs.declared.enc.Enc.{Enc}
 use Rattle.dump_redact.specs.declared.parts.Part.{Part}
 use Rattle.dump_redact.specs.declared.parts.Part.TheVariants.{Other}
 use Rattle.heap_cells.specs.Loading.{enc_of}

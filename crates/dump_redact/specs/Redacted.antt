@@ -9,8 +9,8 @@ use Rattle.section_index.specs.declared.opening.Version.{Version}
 use Rattle.section_index.specs.declared.opening.Version.TheVariants.{V05}
 use Rattle.section_index.specs.Opening.{first_id, version_named}
 use Rattle.section_index.specs.Sections.{tag_of}
-use Rattle.term_forms.specs.declared.enc.Enc.{Enc}
-use Rattle.term_forms.specs.declared.enc.Enc.TheVariants.{Hex, Base64}
+use Rattle.binary_payloads.specs.declared.enc.Enc.{Enc}
+use Rattle.binary_payloads.specs.declared.enc.Enc.TheVariants.{Hex, Base64}
 use Rattle.term_forms.specs.Forms.{HeapForm, HeapBin}
 use Rattle.term_forms.specs.ReadingForms.{form_of}
 use Rattle.term_forms.specs.Words.{is_hex_digit, led_of}
