@@ -11,7 +11,7 @@ use Rattle.dump_io.specs.Laws.Lines.{AreLines-raw}
 use Rattle.dump_io.specs.Laws.Reads.{take-two}
 use Rattle.dump_io.specs.Lines.{lf, cr, raw_lines, text_of}
 use Rattle.dump_io.specs.Numbers.{hex_number}
-use Rattle.term_forms.specs.declared.enc.Enc.{Enc}
+use Rattle.binary_payloads.specs.declared.enc.Enc.{Enc}
 use Rattle.term_forms.specs.Forms.{HeapForm, Cons, Tuple, Float, Long, Pid, Port, Ext, HeapBin, RefBin, SubBin, Flat, Hash, Node, IsForm, IsRange}
 use Rattle.term_forms.specs.ReadingForms.{form_of}
 use Rattle.term_forms.specs.Words.{colon, led_of, IsLed}

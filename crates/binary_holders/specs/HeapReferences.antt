@@ -2,7 +2,7 @@
 use Rattle.std.specs.Prelude.{ℕ, List, Option, None, Some}
 use Rattle.std.specs.List.{filter_map}
 use Rattle.dump_sections.specs.Index.{Contents}
-use Rattle.term_forms.specs.declared.enc.Enc.{Enc}
+use Rattle.binary_payloads.specs.declared.enc.Enc.{Enc}
 use Rattle.term_forms.specs.Forms.{HeapForm, RefBin}
 use Rattle.heap_cells.specs.Cells.{line_cells}
 use Rattle.heap_cells.specs.Loading.{enc_of, heap_section, body_in}

@@ -3,9 +3,9 @@
 use Rattle.std.specs.Prelude.{◌≡◌, ℕ, zero, suc, ◌+◌, ◌==◌, ◌≤◌, List, [], ◌∷◌, ◌++◌, length, take, drop, nat_le, is_some, Option, None, Some, if◌then◌else◌}
 use Rattle.std.specs.Option.{option_map, option_and_then, option_to_list}
 use Rattle.dump_sections.specs.Index.{Contents}
-use Rattle.term_forms.specs.declared.enc.Enc.{Enc}
+use Rattle.binary_payloads.specs.declared.enc.Enc.{Enc}
 use Rattle.term_forms.specs.Forms.{HeapForm, HeapBin, RefBin, SubBin}
-use Rattle.term_forms.specs.ReadingPayloads.{payload_bytes}
+use Rattle.binary_payloads.specs.ReadingPayloads.{payload_bytes}
 use Rattle.heap_cells.specs.Cells.{Cell}
 use Rattle.heap_cells.specs.HeapMap.{number_at, form_at}
 use Rattle.stored_binaries.specs.Ranges.{count_shown, in_dump}

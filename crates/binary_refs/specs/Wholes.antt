@@ -7,7 +7,7 @@ use Rattle.field_lines.specs.Lines.{text_lines}
 use Rattle.dump_sections.specs.Bodies.{body_length}
 use Rattle.dump_sections.specs.Index.{Contents}
 use Rattle.dump_sections.specs.Sections.{Section}
-use Rattle.term_forms.specs.declared.enc.Enc.{Enc}
+use Rattle.binary_payloads.specs.declared.enc.Enc.{Enc}
 use Rattle.term_forms.specs.Words.{led_of}
 use Rattle.binary_refs.specs.declared.faults.BinFault.{BinFault}
 use Rattle.binary_refs.specs.declared.faults.BinFault.TheVariants.{NoBinary, SectionTooLarge, BadBinary, Read, Memory}

@@ -19,7 +19,7 @@ use Rattle.audit_bodies.specs.Mailboxes.{mail_in, mailbox_place, mailbox_places,
 use Rattle.root_views.specs.Roots.{message_count}
 use Rattle.dump_audit.specs.Findings.{audit_of, findings, is_cut}
 use Rattle.dump_audit.specs.Laws.{all-numbered}
-use Rattle.term_forms.specs.declared.enc.Enc.{Enc}
+use Rattle.binary_payloads.specs.declared.enc.Enc.{Enc}
 use Rattle.dump_redact.specs.Bodies.{redacted_body}
 use Rattle.dump_redact.specs.Laws.{IsRedacted, KeepsIndex, KeepsOthers, KeepsSections, KeepsState, RedactsSections}
 use Rattle.heap_cells.specs.Loading.{enc_of}

@@ -8,7 +8,7 @@ use Rattle.std.proofs.lemmas.List.{length-map, map-append}
 use Rattle.std.proofs.lemmas.Option.{slice_get-map}
 use Rattle.dump_sections.specs.Lookups.{has_tag, is_named}
 use Rattle.dump_sections.specs.Sections.{Section, sections, id_of}
-use Rattle.term_forms.specs.declared.enc.Enc.{Enc}
+use Rattle.binary_payloads.specs.declared.enc.Enc.{Enc}
 use Rattle.term_forms.specs.Elements.{Element, Nil, Small, Atom, Pid, Port, Ref}
 use Rattle.term_forms.specs.Forms.{HeapForm, Cons, Tuple, Float, Long, Pid as PidForm, Port as PortForm, Ext, HeapBin, RefBin, SubBin, Flat, Hash, Node}
 use Rattle.heap_cells.specs.Cells.{Cell}

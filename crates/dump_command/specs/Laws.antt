@@ -1,7 +1,7 @@
 -- What is the same in a redacted dump.
 use Rattle.std.specs.Prelude.{◌≡◌, ℕ, Bool, true, false, List, map, option_map}
 use Rattle.dump_sections.specs.Sections.{sections}
-use Rattle.term_forms.specs.declared.enc.Enc.{Enc}
+use Rattle.binary_payloads.specs.declared.enc.Enc.{Enc}
 use Rattle.term_forms.specs.Elements.{Element}
 use Rattle.term_forms.specs.Forms.{HeapForm, HeapBin, RefBin, SubBin}
 use Rattle.root_views.specs.Roots.{BodyRoot}

@@ -4,7 +4,7 @@ use Rattle.std.specs.Option.{option_and_then, option_map, option_or}
 use Rattle.dump_sections.specs.Index.{index_of}
 use Rattle.dump_sections.specs.Lookups.{has_hex, has_tag, is_named}
 use Rattle.dump_sections.specs.Sections.{Section, sections}
-use Rattle.term_forms.specs.declared.enc.Enc.{Enc}
+use Rattle.binary_payloads.specs.declared.enc.Enc.{Enc}
 use Rattle.term_forms.specs.Elements.{Element}
 use Rattle.term_forms.specs.Forms.{HeapForm, Ext}
 use Rattle.heap_cells.specs.Cells.{cells_of, own_count, weight}

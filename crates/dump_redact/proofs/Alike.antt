@@ -5,8 +5,8 @@ use Rattle.std.specs.List.{concat, starts_with}
 use Rattle.std.proofs.lemmas.Bool.{eqb-true, false≢true, false_from_ne_true}
 use Rattle.dump_io.specs.Lines.{lf, cr, equals_sign, raw_lines, lines_after}
 use Rattle.dump_io.specs.Laws.Lines.{AreLines-raw}
-use Rattle.term_forms.specs.declared.enc.Enc.{Enc}
-use Rattle.term_forms.specs.declared.enc.Enc.TheVariants.{Hex, Base64}
+use Rattle.binary_payloads.specs.declared.enc.Enc.{Enc}
+use Rattle.binary_payloads.specs.declared.enc.Enc.TheVariants.{Hex, Base64}
 use Rattle.dump_redact.specs.Redacted.{is_digit_of, blank, blank_from}
 
 -- whether a byte begins a header

@@ -7,8 +7,8 @@ use Rattle.base64.specs.Engines.{standard}
 use Rattle.base64.specs.Rfc4648.{encode_symbols, padding_len}
 use Rattle.base64.specs.Tables.{all_below}
 use Rattle.base64.proofs.Tables.{all_below_at}
-use Rattle.term_forms.specs.declared.enc.Enc.TheVariants.{Base64}
-use Rattle.term_forms.specs.Payload.{base64_of}
+use Rattle.binary_payloads.specs.declared.enc.Enc.TheVariants.{Base64}
+use Rattle.binary_payloads.specs.Payload.{base64_of}
 use Rattle.dump_redact.specs.Redacted.{blank}
 use Rattle.dump_redact.specs.Payloads.{KeepsPayloads}
 use Rattle.dump_redact.proofs.HexZeros.{zeros, zeros-bytes}

@@ -1,7 +1,7 @@
 -- A redacted heap line is read again.
 use Rattle.std.proofs.Common.{◌≡◌, ℕ, List, [], ◌∷◌, ◌++◌, map, codes, Some, option_and_then, refl, sym, ◌∙◌, ap, append_assoc}
 use Rattle.dump_io.specs.Lines.{text_of}
-use Rattle.term_forms.specs.declared.enc.Enc.{Enc}
+use Rattle.binary_payloads.specs.declared.enc.Enc.{Enc}
 use Rattle.term_forms.specs.Words.{colon, led_of, IsLed}
 use Rattle.term_forms.specs.Forms.{HeapBin}
 use Rattle.term_forms.specs.ReadingForms.{form_of}

@@ -6,7 +6,7 @@ use Rattle.std.proofs.lemmas.List.{drop_more, take-append-drop}
 use Rattle.std.proofs.Math.Seq.{take-length}
 use Rattle.memchr.specs.Find.{Passes, is_byte, Nowhere}
 use Rattle.dump_io.specs.Lines.{lf}
-use Rattle.term_forms.specs.declared.enc.Enc.{Enc}
+use Rattle.binary_payloads.specs.declared.enc.Enc.{Enc}
 use Rattle.dump_redact.specs.declared.copying.Stretch.TheVariants.{Plain, Payload}
 use Rattle.dump_redact.specs.Redacted.{blank}
 use Rattle.dump_redact.specs.Inner.Copying.{blank_line, stretch_behind}

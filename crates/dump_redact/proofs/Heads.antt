@@ -10,7 +10,7 @@ use Rattle.dump_sections.specs.Versions.{first_in, version_named}
 use Rattle.dump_sections.specs.Sections.{sections, sections_of, id_of}
 use Rattle.dump_sections.specs.declared.version.Version.{Version}
 use Rattle.dump_sections.specs.declared.version.Version.TheVariants.{V05}
-use Rattle.term_forms.specs.declared.enc.Enc.{Enc}
+use Rattle.binary_payloads.specs.declared.enc.Enc.{Enc}
 use Rattle.dump_redact.specs.declared.parts.Part.{Part}
 use Rattle.dump_redact.specs.declared.parts.Part.TheVariants.{Other}
 use Rattle.heap_cells.specs.Loading.{enc_of}

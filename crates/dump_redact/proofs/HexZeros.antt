@@ -8,7 +8,7 @@ use Rattle.hex.specs.Hex.{encode_with, encode_upper, upper_digits}
 use Rattle.base64.specs.GeneralPurpose.{IsBytes}
 use Rattle.base64.specs.Tables.{all_below}
 use Rattle.base64.proofs.Tables.{all_below_at}
-use Rattle.term_forms.specs.declared.enc.Enc.TheVariants.{Hex}
+use Rattle.binary_payloads.specs.declared.enc.Enc.TheVariants.{Hex}
 use Rattle.term_forms.specs.Words.{is_hex_digit}
 use Rattle.dump_redact.specs.Redacted.{blank}
 use Rattle.dump_redact.specs.Payloads.{KeepsPayloads}

@@ -5,7 +5,7 @@ use Rattle.std.proofs.lemmas.Bool.{cond-false}
 use Rattle.std.proofs.lemmas.List.Elements.{All-head, All-tail}
 use Rattle.dump_io.specs.Lines.{text_of, is_header}
 use Rattle.dump_sections.specs.Sections.{tag_of}
-use Rattle.term_forms.specs.declared.enc.Enc.{Enc}
+use Rattle.binary_payloads.specs.declared.enc.Enc.{Enc}
 use Rattle.dump_redact.specs.declared.parts.Part.{Part}
 use Rattle.dump_redact.specs.declared.parts.Part.TheVariants.{Heap, Binary, Other}
 use Rattle.dump_redact.specs.Redacted.{later, part_of, next_part, payload_in, without, redacted_line, redacted_lines}

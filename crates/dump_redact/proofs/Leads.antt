@@ -12,8 +12,8 @@ use Rattle.dump_io.specs.Lines.{lf, cr, raw_lines, lines_after, text_of}
 use Rattle.dump_io.specs.Laws.Lines.{AreLines-raw}
 use Rattle.dump_io.specs.Numbers.{hex_number}
 use Rattle.dump_sections.specs.Versions.{first_in}
-use Rattle.term_forms.specs.declared.enc.Enc.{Enc}
-use Rattle.term_forms.specs.declared.enc.Enc.TheVariants.{Hex, Base64}
+use Rattle.binary_payloads.specs.declared.enc.Enc.{Enc}
+use Rattle.binary_payloads.specs.declared.enc.Enc.TheVariants.{Hex, Base64}
 use Rattle.term_forms.specs.Words.{colon, led_of, is_hex_digit, IsLed}
 use Rattle.dump_redact.specs.declared.copying.Stretch.TheVariants.{Payload}
 use Rattle.dump_redact.specs.declared.copying.Stretch.{Stretch}

@@ -12,7 +12,7 @@ use Rattle.dump_sections.specs.Index.{Contents, AreBounded, IsIndexOf, IsBuiltOv
 use Rattle.dump_sections.specs.Sections.{Section, section, sections, sections_of, next_at, tag_of}
 use Rattle.dump_sections.specs.Tiling.{Tile}
 use Rattle.dump_sections.specs.declared.version.Version.TheVariants.{V05}
-use Rattle.term_forms.specs.declared.enc.Enc.{Enc}
+use Rattle.binary_payloads.specs.declared.enc.Enc.{Enc}
 use Rattle.dump_redact.specs.declared.parts.Part.{Part}
 use Rattle.dump_redact.specs.declared.parts.Part.TheVariants.{Other}
 use Rattle.dump_redact.specs.Bodies.{redacted_body}

@@ -1,7 +1,7 @@
 -- Where a payload stands in a line's text depends on what stands before it alone.
 use Rattle.std.proofs.Common.{◌≡◌, ℕ, List, [], ◌∷◌, ◌++◌, drop, codes, Option, Some, None, ◌⊎◌, inl, inr, ◌↔◌, option_and_then, option_map, refl, sym, ◌∙◌, ap, subst, append_assoc}
 use Rattle.std.proofs.lemmas.Option.{some_pair_parts}
-use Rattle.term_forms.specs.declared.enc.Enc.{Enc}
+use Rattle.binary_payloads.specs.declared.enc.Enc.{Enc}
 use Rattle.term_forms.specs.Words.{colon, led_of, IsLed}
 use Rattle.term_forms.specs.Forms.{HeapForm, Cons, Tuple, Float, Long, Pid, Port, Ext, HeapBin, RefBin, SubBin, Flat, Hash, Node, IsForm}
 use Rattle.term_forms.specs.ReadingForms.{form_of}

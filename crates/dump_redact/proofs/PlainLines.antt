@@ -8,7 +8,7 @@ use Rattle.std.proofs.lemmas.List.Folds.{concat-append}
 use Rattle.dump_io.specs.Laws.Lines.{AreLines-raw}
 use Rattle.dump_io.specs.Laws.Reads.{take-two}
 use Rattle.dump_io.specs.Lines.{lf, raw_lines, lines_after, text_of, IsEnded}
-use Rattle.term_forms.specs.declared.enc.Enc.{Enc}
+use Rattle.binary_payloads.specs.declared.enc.Enc.{Enc}
 use Rattle.dump_redact.specs.declared.parts.Part.TheVariants.{Heap}
 use Rattle.dump_redact.specs.Bodies.{heap_line, redacted_body}
 use Rattle.dump_redact.specs.Redacted.{payload_in, without}

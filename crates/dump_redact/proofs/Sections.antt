@@ -8,7 +8,7 @@ use Rattle.std.proofs.lemmas.List.Elements.{All-nil, All-cons, All-head, All-tai
 use Rattle.dump_io.specs.Lines.{AreLines, HasLfLast, IsEnded, raw_lines, lines_from, text_of, is_header, Header, Line}
 use Rattle.dump_io.specs.Laws.Lines.{AreLines-raw, front-cons, raw_lines-ended, raw_lines-one}
 use Rattle.dump_sections.specs.Sections.{section, sections, sections_of, next_at, tag_of}
-use Rattle.term_forms.specs.declared.enc.Enc.{Enc}
+use Rattle.binary_payloads.specs.declared.enc.Enc.{Enc}
 use Rattle.dump_redact.specs.declared.parts.Part.{Part}
 use Rattle.dump_redact.specs.declared.parts.Part.TheVariants.{Heap, Binary, Other}
 use Rattle.dump_redact.specs.Bodies.{body_lines, redacted_body}

@@ -4,7 +4,7 @@ use Rattle.std.specs.List.{between}
 use Rattle.dump_io.specs.Lines.{headers, raw_lines}
 use Rattle.dump_sections.specs.Index.{state_of, index_of}
 use Rattle.dump_sections.specs.Sections.{Section, sections, tag_of}
-use Rattle.term_forms.specs.declared.enc.Enc.{Enc}
+use Rattle.binary_payloads.specs.declared.enc.Enc.{Enc}
 use Rattle.dump_redact.specs.declared.parts.Part.{Part}
 use Rattle.dump_redact.specs.declared.parts.Part.TheVariants.{Other}
 use Rattle.dump_redact.specs.Bodies.{body_lines, redacted_body}

@@ -1,9 +1,9 @@
 -- A payload made blank is a payload of the same number of bytes, and its line a heap line with a heap binary.
 use Rattle.std.specs.Prelude.{◌≡◌, ℕ, List, map, Some}
 use Rattle.dump_io.specs.Lines.{text_of}
-use Rattle.term_forms.specs.declared.enc.Enc.{Enc}
+use Rattle.binary_payloads.specs.declared.enc.Enc.{Enc}
 use Rattle.term_forms.specs.Forms.{HeapBin}
-use Rattle.term_forms.specs.Payload.{IsPayloadOf}
+use Rattle.binary_payloads.specs.Payload.{IsPayloadOf}
 use Rattle.term_forms.specs.ReadingForms.{form_of}
 use Rattle.term_forms.specs.Words.{led_of}
 use Rattle.dump_redact.specs.Bodies.{heap_line}

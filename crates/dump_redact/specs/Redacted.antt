@@ -9,8 +9,8 @@ use Rattle.dump_sections.specs.declared.version.Version.{Version}
 use Rattle.dump_sections.specs.declared.version.Version.TheVariants.{V05}
 use Rattle.dump_sections.specs.Versions.{first_id, version_named}
 use Rattle.dump_sections.specs.Sections.{tag_of}
-use Rattle.term_forms.specs.declared.enc.Enc.{Enc}
-use Rattle.term_forms.specs.declared.enc.Enc.TheVariants.{Hex, Base64}
+use Rattle.binary_payloads.specs.declared.enc.Enc.{Enc}
+use Rattle.binary_payloads.specs.declared.enc.Enc.TheVariants.{Hex, Base64}
 use Rattle.term_forms.specs.Forms.{HeapForm, HeapBin}
 use Rattle.term_forms.specs.ReadingForms.{form_of}
 use Rattle.term_forms.specs.Words.{is_hex_digit, led_of}

@@ -10,8 +10,8 @@ use Rattle.field_lines.specs.Lines.{TextLine, text_line, text_lines}
 use Rattle.heap_cells.specs.Cells.{Cell, spelled_cell, cell_of, line_cells, elements_in, cell_weight, weight_of, weight}
 use Rattle.heap_cells.specs.Loading.{body_in}
 use Rattle.dump_sections.specs.Sections.{Section}
-use Rattle.term_forms.specs.declared.enc.Enc.{Enc}
-use Rattle.term_forms.specs.declared.enc.Enc.TheVariants.{Hex, Base64}
+use Rattle.binary_payloads.specs.declared.enc.Enc.{Enc}
+use Rattle.binary_payloads.specs.declared.enc.Enc.TheVariants.{Hex, Base64}
 use Rattle.term_forms.specs.Forms.{HeapForm, IsForm}
 use Rattle.term_forms.specs.ReadingForms.{form_of}
 use Rattle.term_forms.specs.Words.{led_of, IsLed}

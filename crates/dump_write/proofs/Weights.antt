@@ -2,7 +2,7 @@
 use Rattle.std.proofs.Common.{◌≡◌, ℕ, ◌+◌, ◌*◌, ◌≤◌, List, [], ◌∷◌, ◌++◌, length, Some, ap, arith, length-append, inl, inr}
 use Rattle.dump_io.specs.Colons.{colon}
 use Rattle.dump_io.specs.Numbers.{hex_number}
-use Rattle.term_forms.specs.declared.enc.Enc.{Enc}
+use Rattle.binary_payloads.specs.declared.enc.Enc.{Enc}
 use Rattle.term_forms.specs.Elements.{Element, Nil, Small, Atom, Pid, Port, Ref, IsElem}
 use Rattle.term_forms.specs.Forms.{HeapForm, Cons, Tuple, Float, Long, Pid as PidForm, Port as PortForm, Ext, HeapBin, RefBin, SubBin, Flat, Hash, Node, IsForm}
 use Rattle.term_forms.specs.Joined.{IsJoined}

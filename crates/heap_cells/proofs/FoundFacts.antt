@@ -4,7 +4,7 @@ use Rattle.std.specs.Prelude.{codes, ◌↔◌, slice_range, All}
 use Rattle.std.proofs.lemmas.List.{length-take, length-drop}
 use Rattle.std.proofs.lemmas.List.Elements.{All-map, All-weaker}
 use Rattle.std.proofs.Math.Seq.{drop-append_seam, take-append_seam, take-length}
-use Rattle.term_forms.specs.declared.enc.Enc.{Enc}
+use Rattle.binary_payloads.specs.declared.enc.Enc.{Enc}
 use Rattle.term_forms.specs.declared.shapes.Elem.{Elem}
 use Rattle.term_forms.specs.Elements.{Element, Small, IsElem, IsFront}
 use Rattle.term_forms.specs.Forms.{IsForm, Cons}

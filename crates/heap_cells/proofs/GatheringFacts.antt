@@ -8,7 +8,7 @@ use Rattle.field_lines.specs.Lines.{TextLine, IsPart as IsLinePart}
 use Rattle.std.proofs.lemmas.List.{drop-drop, drop-take, length-take, length-map, map-append, take-take}
 use Rattle.std.proofs.lemmas.List.Sums.{sum_by-cons}
 use Rattle.std.proofs.lemmas.Option.{slice_get-map, slice_get_within, get_or_from_slice_get}
-use Rattle.term_forms.specs.declared.enc.Enc.{Enc}
+use Rattle.binary_payloads.specs.declared.enc.Enc.{Enc}
 use Rattle.term_forms.specs.Elements.{Element, IsElem, Nil, Small, Atom, Pid, Port, Ref}
 use Rattle.term_forms.specs.Forms as forms
 use Rattle.term_forms.specs.Forms.{HeapForm, IsForm}

@@ -7,7 +7,7 @@ use Rattle.std.proofs.lemmas.Option.{slice_get-map, slice_get_read, slice_get-ge
 use Rattle.std.proofs.lemmas.List.{length-map, length-take, drop-drop, take-map, drop-map}
 use Rattle.std.proofs.Math.Seq.{drop-append_seam}
 use Rattle.std.proofs.lemmas.List.Sums.{sum_by-cons}
-use Rattle.term_forms.specs.declared.enc.Enc.{Enc}
+use Rattle.binary_payloads.specs.declared.enc.Enc.{Enc}
 use Rattle.term_forms.specs.Elements.{Element}
 use Rattle.term_forms.specs.Forms.{HeapForm}
 use Rattle.heap_cells.specs.declared.cells.CellRecord.{CellRecord}

@@ -2,7 +2,7 @@
 use Rattle.std.specs.Prelude.{ℕ, ◌≤◌, ◌==◌, nat_eq, List, length, position, slice_get, Option}
 use Rattle.std.specs.Option.{option_map, option_and_then}
 use Rattle.std.specs.List.{IsDistinct}
-use Rattle.term_forms.specs.declared.enc.Enc.{Enc}
+use Rattle.binary_payloads.specs.declared.enc.Enc.{Enc}
 use Rattle.term_forms.specs.Elements.{Element}
 use Rattle.term_forms.specs.Forms.{HeapForm, IsForm}
 use Rattle.heap_cells.specs.Cells.{Cell, elements_in, addresses, weight_of}

@@ -11,8 +11,8 @@ use Rattle.dump_sections.specs.Sections.{Section}
 use Rattle.dump_sections.specs.Lookups.{is_named, has_tag}
 use Rattle.dump_sections.specs.declared.version.Version.{Version}
 use Rattle.dump_sections.specs.declared.version.Version.TheVariants.{V03, V04, V05}
-use Rattle.term_forms.specs.declared.enc.Enc.{Enc}
-use Rattle.term_forms.specs.declared.enc.Enc.TheVariants.{Hex, Base64}
+use Rattle.binary_payloads.specs.declared.enc.Enc.{Enc}
+use Rattle.binary_payloads.specs.declared.enc.Enc.TheVariants.{Hex, Base64}
 use Rattle.heap_cells.specs.declared.faults.HeapFault.{HeapFault}
 use Rattle.heap_cells.specs.declared.faults.HeapFault.TheVariants.{SectionTooLarge, TooDense, Read, Memory}
 use Rattle.heap_cells.specs.Cells.{cells_of, own_count, weight}

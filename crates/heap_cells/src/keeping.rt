@@ -1,6 +1,6 @@
 // Keeping the first of the cells with each address.
 ghost use Rattle.std.specs.Prelude.{◌≡◌, ◌+◌, ◌<◌, ◌≤◌, ◌++◌, [], ℕ, List, length, take, OnOk, IfOk};
-ghost use Rattle.term_forms.specs.declared.enc.Enc.{Enc};
+ghost use Rattle.binary_payloads.specs.declared.enc.Enc.{Enc};
 ghost use Rattle.heap_cells.specs.Cells.{first_cells};
 ghost use Rattle.heap_cells.specs.Inner.Keeping.{moved_record, AreOrdered, IsKept, IsIndexed};
 ghost use Rattle.heap_cells.specs.Inner.Order.{AreFirsts, AreRanked};

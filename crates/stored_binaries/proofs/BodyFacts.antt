@@ -11,10 +11,10 @@ use Rattle.dump_sections.specs.Bodies.{section_at, body_length}
 use Rattle.dump_sections.specs.Index.{Contents, IsIndexOf, sections_in}
 use Rattle.dump_sections.specs.Laws.{length-sections_of}
 use Rattle.dump_sections.specs.Sections.{Section, section}
-use Rattle.term_forms.specs.declared.enc.Enc.{Enc}
-use Rattle.term_forms.specs.declared.enc.Enc.TheVariants.{Hex, Base64}
-use Rattle.term_forms.specs.Payload.{IsPayload, IsPayloadOf, chars_of}
-use Rattle.term_forms.specs.ReadingPayloads.{payload_bytes}
+use Rattle.binary_payloads.specs.declared.enc.Enc.{Enc}
+use Rattle.binary_payloads.specs.declared.enc.Enc.TheVariants.{Hex, Base64}
+use Rattle.binary_payloads.specs.Payload.{IsPayload, IsPayloadOf, chars_of}
+use Rattle.binary_payloads.specs.ReadingPayloads.{payload_bytes}
 use Rattle.term_forms.specs.Words.{colon, led_of, IsLed}
 use Rattle.stored_binaries.specs.declared.leads.Lead.{Lead}
 use Rattle.stored_binaries.specs.Payloads.{payload_of}

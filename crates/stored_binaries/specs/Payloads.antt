@@ -2,8 +2,8 @@
 use Rattle.std.specs.Prelude.{ℕ, ◌==◌, List, length, Option, None, Some, if◌then◌else◌}
 use Rattle.std.specs.Global.{Vec}
 use Rattle.std.specs.Option.{option_map, option_and_then}
-use Rattle.term_forms.specs.declared.enc.Enc.{Enc}
-use Rattle.term_forms.specs.ReadingPayloads.{payload_bytes}
+use Rattle.binary_payloads.specs.declared.enc.Enc.{Enc}
+use Rattle.binary_payloads.specs.ReadingPayloads.{payload_bytes}
 
 -- the bytes whose payload the characters are, if there are exactly this many
 abbrev pub payload_of : Enc → ℕ → List ℕ → Option (List ℕ)

@@ -3,9 +3,9 @@ use Rattle.std.specs.Prelude.{ℕ, ◌+◌, ◌==◌, List, [], length, take, dr
 use Rattle.std.specs.Option.{option_map, option_and_then}
 use Rattle.std.specs.List.{between}
 use Rattle.dump_sections.specs.Index.{Contents}
-use Rattle.term_forms.specs.declared.covers.Cover.{Cover}
-use Rattle.term_forms.specs.declared.enc.Enc.{Enc}
-use Rattle.term_forms.specs.Cover.{cover_of}
+use Rattle.binary_payloads.specs.declared.covers.Cover.{Cover}
+use Rattle.binary_payloads.specs.declared.enc.Enc.{Enc}
+use Rattle.binary_payloads.specs.Cover.{cover_of}
 use Rattle.term_forms.specs.Words.{led_of}
 use Rattle.stored_binaries.specs.Payloads.{payload_of}
 use Rattle.stored_binaries.specs.StoredBinaries.{binary_section}

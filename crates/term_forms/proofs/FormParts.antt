@@ -5,9 +5,9 @@ use Rattle.std.proofs.lemmas.List.{take_all, append-nil, take-append-drop}
 use Rattle.std.proofs.lemmas.Option.{same_Some, some_pair_parts}
 use Rattle.std.proofs.lemmas.List.{drop_at}
 use Rattle.dump_io.specs.Numbers.{hex_number}
-use Rattle.term_forms.specs.declared.enc.Enc.{Enc}
+use Rattle.binary_payloads.specs.declared.enc.Enc.{Enc}
 use Rattle.term_forms.specs.Words.{comma, IsBracketed, IsLed, led_of}
-use Rattle.term_forms.specs.Payload.{IsPayloadOf}
+use Rattle.binary_payloads.specs.Payload.{IsPayloadOf}
 use Rattle.term_forms.specs.Reading.{front, whole_of}
 use Rattle.term_forms.specs.Inner.Chain.{◌>>=◌}
 use Rattle.term_forms.specs.Inner.Fronts.{bracketed_len}
@@ -22,7 +22,7 @@ use Rattle.term_forms.proofs.Hexes.{led_full, led_sound}
 use Rattle.term_forms.proofs.WordTexts.{bracketed_full, bracketed_sound}
 use Rattle.term_forms.proofs.FrontsTaken.{front_sound}
 use Rattle.term_forms.proofs.OfElements.{front_before, front_whole}
-use Rattle.term_forms.proofs.PayloadBytes.{payload_test-decides}
+use Rattle.term_forms.proofs.PayloadTests.{PayloadIsRead, payload_test-decides}
 
 same_length : (n : ℕ) → (n == n) ≡ true
 same_length n = eq-eqb n n refl
@@ -146,19 +146,19 @@ bracketed_is text port h =
 
 -- ---- a length and so many payload characters
 
-pub payload_full : (enc : Enc) (text : List ℕ) (size : ℕ) (chars : List ℕ) → IsLed text size chars → IsPayloadOf enc chars size → payload_of enc text ≡ Some (size, chars)
+pub payload_full : (enc : Enc) → PayloadIsRead enc → (text : List ℕ) (size : ℕ) (chars : List ℕ) → IsLed text size chars → IsPayloadOf enc chars size → payload_of enc text ≡ Some (size, chars)
 unfolding payload_of
-payload_full enc text size chars led is =
+payload_full enc law text size chars led is =
     bind_from (led_of text) (λ led. if payload_test enc led.0 led.1 then Some led else None) (size, chars) (size, chars) (led_full text size chars led)
-    (guard_from (payload_test enc size chars) (Some (size, chars)) ((payload_test-decides enc size chars).1 is))
+    (guard_from (payload_test enc size chars) (Some (size, chars)) ((payload_test-decides enc law size chars).1 is))
 
-pub payload_sound : (enc : Enc) (text : List ℕ) (found : ℕ × List ℕ) → payload_of enc text ≡ Some found → IsLed text found.0 found.1 × IsPayloadOf enc found.1 found.0
+pub payload_sound : (enc : Enc) → PayloadIsRead enc → (text : List ℕ) (found : ℕ × List ℕ) → payload_of enc text ≡ Some found → IsLed text found.0 found.1 × IsPayloadOf enc found.1 found.0
 unfolding payload_of
-payload_sound enc text found h =
+payload_sound enc law text found h =
     let step = bind_some (led_of text) (λ led. if payload_test enc led.0 led.1 then Some led else None) found h in
     let guard = guard_some (payload_test enc step.0.0 step.0.1) step.0 found step.2 in
     subst (λ found. IsLed text found.0 found.1 × IsPayloadOf enc found.1 found.0) guard.1
-    (led_sound text step.0.0 step.0.1 step.1, (payload_test-decides enc step.0.0 step.0.1).0 guard.0)
+    (led_sound text step.0.0 step.0.1 step.1, (payload_test-decides enc law step.0.0 step.0.1).0 guard.0)
 
 -- ---- an address, an offset and a size
 

@@ -3,7 +3,7 @@ use Rattle.std.proofs.Common.{◌≡◌, ℕ, ◌==◌, List, ◌∷◌, ◌++�
 use Rattle.std.specs.Prelude.{nat_eq, IsTrue}
 use Rattle.std.specs.List.{starts_with}
 use Rattle.std.proofs.lemmas.Bool.{eq-eqb}
-use Rattle.term_forms.specs.declared.enc.Enc.{Enc}
+use Rattle.binary_payloads.specs.declared.enc.Enc.{Enc}
 use Rattle.term_forms.specs.Words.{colon, bar, is_long, IsBracketed, IsLed, led_of}
 use Rattle.term_forms.specs.Reading.{whole_of}
 use Rattle.term_forms.specs.ReadingForms.{form_of}
@@ -16,6 +16,7 @@ use Rattle.term_forms.specs.Joined.{IsJoined}
 use Rattle.term_forms.proofs.Steps.{bind_from, guard_from}
 use Rattle.term_forms.proofs.Hexes.{led_full}
 use Rattle.term_forms.proofs.WordTexts.{starts_from}
+use Rattle.term_forms.proofs.PayloadTests.{PayloadIsRead}
 use Rattle.term_forms.proofs.FormParts.{whole_full, until_full, joined_full, counted_full, bracketed_whole, payload_full, range_full}
 
 cons_full : (text first rest : List ℕ) (head tail : Element) → text ≡ first ++ bar ∷ rest → IsElem first head → IsElem rest tail → cons_of text ≡ Some (Cons head tail)
@@ -64,25 +65,25 @@ long_full : (enc : Enc) (number : List ℕ) → IsTrue (is_long number) → form
 unfolding form_of
 long_full enc number is = guard_from (is_long number) (Some (Long number)) is
 
-pub form_full : (enc : Enc) (text : List ℕ) (f : HeapForm) → IsForm enc text f → form_of enc text ≡ Some f
+pub form_full : (enc : Enc) → PayloadIsRead enc → (text : List ℕ) (f : HeapForm) → IsForm enc text f → form_of enc text ≡ Some f
 unfolding form_of binary_of map_of
-form_full enc text (Cons head tail) (first, rest, e, h, t) = ap (form_of enc) e ∙ cons_full (first ++ bar ∷ rest) first rest head tail refl h t
-form_full enc text (Tuple es) (led, rest, e, l, is) =
+form_full enc law text (Cons head tail) (first, rest, e, h, t) = ap (form_of enc) e ∙ cons_full (first ++ bar ∷ rest) first rest head tail refl h t
+form_full enc law text (Tuple es) (led, rest, e, l, is) =
     ap (form_of enc) e ∙ bind_from (counted_of led) (λ elements. Some (Tuple elements)) es (Tuple es) (counted_full led rest es l is) refl
-form_full enc text (Float bytes) (led, e, l) = ap (form_of enc) e ∙ float_full led bytes l
-form_full enc text (Long number) (e, is) = ap (form_of enc) e ∙ long_full enc number is
-form_full enc text (Pid pid) (e, is) = ap (form_of enc) e ∙ bind_from (bracketed_of pid) (λ pid. Some (Pid pid)) pid (Pid pid) (bracketed_whole pid is) refl
-form_full enc text (Port port) (inl e, is) = ap (form_of enc) e ∙ port_plain port is
-form_full enc text (Port port) (inr e, is) = ap (form_of enc) e ∙ port_worded port is
-form_full enc text (Ext size chars) (led, e, l, is) =
-    ap (form_of enc) e ∙ bind_from (payload_of enc led) (λ ext. Some (Ext ext.0 ext.1)) (size, chars) (Ext size chars) (payload_full enc led size chars l is) refl
-form_full enc text (HeapBin size chars) (led, e, l, is) =
-    ap (form_of enc) e ∙ bind_from (payload_of enc led) (λ bin. Some (HeapBin bin.0 bin.1)) (size, chars) (HeapBin size chars) (payload_full enc led size chars l is) refl
-form_full enc text (RefBin address offset size) (range, e, is) =
+form_full enc law text (Float bytes) (led, e, l) = ap (form_of enc) e ∙ float_full led bytes l
+form_full enc law text (Long number) (e, is) = ap (form_of enc) e ∙ long_full enc number is
+form_full enc law text (Pid pid) (e, is) = ap (form_of enc) e ∙ bind_from (bracketed_of pid) (λ pid. Some (Pid pid)) pid (Pid pid) (bracketed_whole pid is) refl
+form_full enc law text (Port port) (inl e, is) = ap (form_of enc) e ∙ port_plain port is
+form_full enc law text (Port port) (inr e, is) = ap (form_of enc) e ∙ port_worded port is
+form_full enc law text (Ext size chars) (led, e, l, is) =
+    ap (form_of enc) e ∙ bind_from (payload_of enc led) (λ ext. Some (Ext ext.0 ext.1)) (size, chars) (Ext size chars) (payload_full enc law led size chars l is) refl
+form_full enc law text (HeapBin size chars) (led, e, l, is) =
+    ap (form_of enc) e ∙ bind_from (payload_of enc led) (λ bin. Some (HeapBin bin.0 bin.1)) (size, chars) (HeapBin size chars) (payload_full enc law led size chars l is) refl
+form_full enc law text (RefBin address offset size) (range, e, is) =
     ap (form_of enc) e ∙ bind_from (range_of range) (λ range. Some (RefBin range.0 range.1 range.2)) (address, offset, size) (RefBin address offset size) (range_full range address offset size is) refl
-form_full enc text (SubBin address offset size) (range, e, is) =
+form_full enc law text (SubBin address offset size) (range, e, is) =
     ap (form_of enc) e ∙ bind_from (range_of range) (λ range. Some (SubBin range.0 range.1 range.2)) (address, offset, size) (SubBin address offset size) (range_full range address offset size is) refl
-form_full enc text (Flat keys values) (led, first, rest, e, l, k, vs) = ap (form_of enc) e ∙ flat_full led first rest keys values l k vs
-form_full enc text (Hash size children) (led, counted, rest, e, l, c, is) = ap (form_of enc) e ∙ hash_full led counted rest size children l c is
-form_full enc text (Node children) (led, rest, e, l, is) =
+form_full enc law text (Flat keys values) (led, first, rest, e, l, k, vs) = ap (form_of enc) e ∙ flat_full led first rest keys values l k vs
+form_full enc law text (Hash size children) (led, counted, rest, e, l, c, is) = ap (form_of enc) e ∙ hash_full led counted rest size children l c is
+form_full enc law text (Node children) (led, rest, e, l, is) =
     ap (form_of enc) e ∙ bind_from (counted_of led) (λ children. Some (Node children)) children (Node children) (counted_full led rest children l is) refl

@@ -4,7 +4,7 @@ use Rattle.std.specs.Prelude.{nat_eq}
 use Rattle.std.specs.List.{starts_with}
 use Rattle.std.proofs.lemmas.Bool.{eqb-true}
 use Rattle.std.proofs.lemmas.Option.{same_Some}
-use Rattle.term_forms.specs.declared.enc.Enc.{Enc}
+use Rattle.binary_payloads.specs.declared.enc.Enc.{Enc}
 use Rattle.term_forms.specs.Words.{colon, bar, is_long, IsLed, led_of}
 use Rattle.term_forms.specs.Reading.{whole_of}
 use Rattle.term_forms.specs.ReadingForms.{form_of}
@@ -16,6 +16,7 @@ use Rattle.term_forms.specs.Forms.{HeapForm, Cons, Tuple, Float, Long, Pid, Port
 use Rattle.term_forms.proofs.Steps.{bind_some, chosen, guard_some}
 use Rattle.term_forms.proofs.Hexes.{led_sound}
 use Rattle.term_forms.proofs.WordTexts.{starts_parts}
+use Rattle.term_forms.proofs.PayloadTests.{PayloadIsRead}
 use Rattle.term_forms.proofs.FormParts.{whole_sound, until_sound, joined_sound, counted_sound, bracketed_is, payload_sound, range_sound}
 
 -- the text that begins with these bytes spells the form
@@ -72,16 +73,16 @@ port_takes : (enc : Enc) (text : List ℕ) (f : HeapForm) → port_of text ≡ S
 unfolding port_of
 port_takes enc text f h = port_takes_by enc text f (starts_with nat_eq text port_word) refl h
 
-ext_takes : (enc : Enc) (text : List ℕ) (f : HeapForm) → (payload_of enc text >>= λ ext. Some (Ext ext.0 ext.1)) ≡ Some f → Spells enc (69 ∷ text) f
-ext_takes enc text f h =
+ext_takes : (enc : Enc) → PayloadIsRead enc → (text : List ℕ) (f : HeapForm) → (payload_of enc text >>= λ ext. Some (Ext ext.0 ext.1)) ≡ Some f → Spells enc (69 ∷ text) f
+ext_takes enc law text f h =
     let step = bind_some (payload_of enc text) (λ ext. Some (Ext ext.0 ext.1)) f h in
-    let is = payload_sound enc text step.0 step.1 in
+    let is = payload_sound enc law text step.0 step.1 in
     subst (Spells enc (69 ∷ text)) (same_Some (Ext step.0.0 step.0.1) f step.2) (text, refl, is.0, is.1)
 
-bin_takes : (enc : Enc) (text : List ℕ) (f : HeapForm) → (payload_of enc text >>= λ bin. Some (HeapBin bin.0 bin.1)) ≡ Some f → Spells enc (89 ∷ 104 ∷ text) f
-bin_takes enc text f h =
+bin_takes : (enc : Enc) → PayloadIsRead enc → (text : List ℕ) (f : HeapForm) → (payload_of enc text >>= λ bin. Some (HeapBin bin.0 bin.1)) ≡ Some f → Spells enc (89 ∷ 104 ∷ text) f
+bin_takes enc law text f h =
     let step = bind_some (payload_of enc text) (λ bin. Some (HeapBin bin.0 bin.1)) f h in
-    let is = payload_sound enc text step.0 step.1 in
+    let is = payload_sound enc law text step.0 step.1 in
     subst (Spells enc (89 ∷ 104 ∷ text)) (same_Some (HeapBin step.0.0 step.0.1) f step.2) (text, refl, is.0, is.1)
 
 ref_takes : (enc : Enc) (text : List ℕ) (f : HeapForm) → (range_of text >>= λ range. Some (RefBin range.0 range.1 range.2)) ≡ Some f → Spells enc (89 ∷ 99 ∷ text) f
@@ -127,12 +128,12 @@ tagged enc c tag text f e h = subst (λ c. Spells enc (c ∷ text) f) (sym (eqb-
 tagged_second : (enc : Enc) (first c tag : ℕ) (text : List ℕ) (f : HeapForm) → (c == tag) ≡ true → Spells enc (first ∷ tag ∷ text) f → Spells enc (first ∷ c ∷ text) f
 tagged_second enc first c tag text f e h = subst (λ c. Spells enc (first ∷ c ∷ text) f) (sym (eqb-true c tag e)) h
 
-binary_takes : (enc : Enc) (text : List ℕ) (f : HeapForm) → binary_of enc text ≡ Some f → Spells enc (89 ∷ text) f
+binary_takes : (enc : Enc) → PayloadIsRead enc → (text : List ℕ) (f : HeapForm) → binary_of enc text ≡ Some f → Spells enc (89 ∷ text) f
 unfolding binary_of
-binary_takes enc [] f h = absurd (let e : None ≡ Some f = h in cc)
-binary_takes enc (c ∷ text) f h =
+binary_takes enc law [] f h = absurd (let e : None ≡ Some f = h in cc)
+binary_takes enc law (c ∷ text) f h =
     elim (chosen (c == 104) (payload_of enc text >>= λ bin. Some (HeapBin bin.0 bin.1)) _ (Some f) h) as (λ _. Spells enc (89 ∷ c ∷ text) f) [
-      | inl p ↦ tagged_second enc 89 c 104 text f p.0 (bin_takes enc text f p.1)
+      | inl p ↦ tagged_second enc 89 c 104 text f p.0 (bin_takes enc law text f p.1)
       | inr p ↦ elim (chosen (c == 99) (range_of text >>= λ range. Some (RefBin range.0 range.1 range.2)) _ (Some f) p.1) as (λ _. Spells enc (89 ∷ c ∷ text) f) [
         | inl q ↦ tagged_second enc 89 c 99 text f q.0 (ref_takes enc text f q.1)
         | inr q ↦ elim (chosen (c == 115) (range_of text >>= λ range. Some (SubBin range.0 range.1 range.2)) None (Some f) q.1) as (λ _. Spells enc (89 ∷ c ∷ text) f) [
@@ -157,10 +158,10 @@ map_takes enc (c ∷ text) f h =
       ]
     ]
 
-pub form_sound : (enc : Enc) (text : List ℕ) (f : HeapForm) → form_of enc text ≡ Some f → IsForm enc text f
+pub form_sound : (enc : Enc) → PayloadIsRead enc → (text : List ℕ) (f : HeapForm) → form_of enc text ≡ Some f → IsForm enc text f
 unfolding form_of
-form_sound enc [] f h = absurd (let e : None ≡ Some f = h in cc)
-form_sound enc (c ∷ text) f h =
+form_sound enc law [] f h = absurd (let e : None ≡ Some f = h in cc)
+form_sound enc law (c ∷ text) f h =
     elim (chosen (c == 108) (cons_of text) _ (Some f) h) as (λ _. Spells enc (c ∷ text) f) [
       | inl p ↦ tagged enc c 108 text f p.0 (cons_takes enc text f p.1)
       | inr p ↦ elim (chosen (c == 116) (counted_of text >>= λ elements. Some (Tuple elements)) _ (Some f) p.1) as (λ _. Spells enc (c ∷ text) f) [
@@ -174,9 +175,9 @@ form_sound enc (c ∷ text) f h =
               | inr t ↦ elim (chosen (c == 112) (port_of text) _ (Some f) t.1) as (λ _. Spells enc (c ∷ text) f) [
                 | inl u ↦ tagged enc c 112 text f u.0 (port_takes enc text f u.1)
                 | inr u ↦ elim (chosen (c == 69) (payload_of enc text >>= λ ext. Some (Ext ext.0 ext.1)) _ (Some f) u.1) as (λ _. Spells enc (c ∷ text) f) [
-                  | inl v ↦ tagged enc c 69 text f v.0 (ext_takes enc text f v.1)
+                  | inl v ↦ tagged enc c 69 text f v.0 (ext_takes enc law text f v.1)
                   | inr v ↦ elim (chosen (c == 89) (binary_of enc text) _ (Some f) v.1) as (λ _. Spells enc (c ∷ text) f) [
-                    | inl w ↦ tagged enc c 89 text f w.0 (binary_takes enc text f w.1)
+                    | inl w ↦ tagged enc c 89 text f w.0 (binary_takes enc law text f w.1)
                     | inr w ↦ elim (chosen (c == 77) (map_of text) None (Some f) w.1) as (λ _. Spells enc (c ∷ text) f) [
                       | inl x ↦ tagged enc c 77 text f x.0 (map_takes enc text f x.1)
                       | inr x ↦ absurd (let e : None ≡ Some f = x.1 in cc)

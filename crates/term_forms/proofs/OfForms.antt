@@ -4,7 +4,7 @@ use Rattle.std.specs.Prelude.{IfSome, IfNone}
 use Rattle.std.specs.Option.{option_map}
 use Rattle.std.proofs.lemmas.Option.{same_Some}
 use Rattle.dump_io.specs.Numbers.{hexadecimal as hex}
-use Rattle.term_forms.specs.declared.enc.Enc.{Enc}
+use Rattle.binary_payloads.specs.declared.enc.Enc.{Enc}
 use Rattle.term_forms.specs.declared.shapes.Elem.{Elem}
 use Rattle.term_forms.specs.declared.shapes.Form.{Form}
 use Rattle.term_forms.specs.Words.{colon, IsLed}
@@ -19,21 +19,22 @@ use Rattle.term_forms.proofs.Hexes.{hex_parts}
 use Rattle.term_forms.proofs.PlainHex.{hex_plain}
 use Rattle.term_forms.proofs.OfElements.{plain_is}
 use Rattle.term_forms.proofs.FormParts.{whole_full, whole_sound}
+use Rattle.term_forms.proofs.PayloadTests.{PayloadIsRead}
 use Rattle.term_forms.proofs.FormsRead.{form_full}
 use Rattle.term_forms.proofs.FormsTaken.{form_sound}
 
-pub one_form : (enc : Enc) (text : List ℕ) (one other : HeapForm) → IsForm enc text one → IsForm enc text other → one ≡ other
-one_form enc text one other is also = same_Some one other (sym (form_full enc text one is) ∙ form_full enc text other also)
+pub one_form : (enc : Enc) → PayloadIsRead enc → (text : List ℕ) (one other : HeapForm) → IsForm enc text one → IsForm enc text other → one ≡ other
+one_form enc law text one other is also = same_Some one other (sym (form_full enc law text one is) ∙ form_full enc law text other also)
 
-pub form_none : (enc : Enc) (text : List ℕ) → form_of enc text ≡ None → (f : HeapForm) → IsForm enc text f → ⊥
-form_none enc text h f is = let found : form_of enc text ≡ Some f = form_full enc text f is in cc
+pub form_none : (enc : Enc) → PayloadIsRead enc → (text : List ℕ) → form_of enc text ≡ None → (f : HeapForm) → IsForm enc text f → ⊥
+form_none enc law text h f is = let found : form_of enc text ≡ Some f = form_full enc law text f is in cc
 
-pub form_none_from : (enc : Enc) (text : List ℕ) → ((f : HeapForm) → IsForm enc text f → ⊥) → form_of enc text ≡ None
-form_none_from enc text none = of (form_of enc text) refl
+pub form_none_from : (enc : Enc) → PayloadIsRead enc → (text : List ℕ) → ((f : HeapForm) → IsForm enc text f → ⊥) → form_of enc text ≡ None
+form_none_from enc law text none = of (form_of enc text) refl
   where
     of : (o : Option HeapForm) → form_of enc text ≡ o → form_of enc text ≡ None
     of None e = e
-    of (Some f) e = absurd (none f (form_sound enc text f e))
+    of (Some f) e = absurd (none f (form_sound enc law text f e))
 
 joined_plain : (text : List ℕ) (es : List Element) → IsJoined text es → IsJoined (plain_joined es) es
 joined_plain text [] is = refl
@@ -84,13 +85,13 @@ plain_form_is enc text (Node children) (led, rest, e, l, is) =
     (hex (length children) ++ colon ∷ plain_joined children, plain_joined children, refl, led_again led (length children) rest (plain_joined children) l, joined_plain rest children is)
 
 -- what a reader that answers as `form_of` does says of the text
-pub found_form : (enc : Enc) (text : List ℕ) (result : Option Form) → option_map heap_form result ≡ form_of enc text → IfSome result (λ f. IsForm enc text (heap_form f))
-found_form enc text None h = tt
-found_form enc text (Some f) h = form_sound enc text (heap_form f) (sym h)
+pub found_form : (enc : Enc) → PayloadIsRead enc → (text : List ℕ) (result : Option Form) → option_map heap_form result ≡ form_of enc text → IfSome result (λ f. IsForm enc text (heap_form f))
+found_form enc law text None h = tt
+found_form enc law text (Some f) h = form_sound enc law text (heap_form f) (sym h)
 
-pub no_form : (enc : Enc) (text : List ℕ) (result : Option Form) → option_map heap_form result ≡ form_of enc text → IfNone result ((f : HeapForm) → IsForm enc text f → ⊥)
-no_form enc text None h = form_none enc text (sym h)
-no_form enc text (Some f) h = tt
+pub no_form : (enc : Enc) → PayloadIsRead enc → (text : List ℕ) (result : Option Form) → option_map heap_form result ≡ form_of enc text → IfNone result ((f : HeapForm) → IsForm enc text f → ⊥)
+no_form enc law text None h = form_none enc law text (sym h)
+no_form enc law text (Some f) h = tt
 
 -- ---- the element that is the whole text
 

@@ -1,11 +1,11 @@
 -- The forms of heap cells.
 use Rattle.std.specs.Prelude.{◌≡◌, ◌⊎◌, ℕ, List, ◌∷◌, ◌++◌, length, Some, IsTrue, codes}
 use Rattle.dump_io.specs.Numbers.{hex_number, hexadecimal}
-use Rattle.term_forms.specs.declared.enc.Enc.{Enc}
+use Rattle.binary_payloads.specs.declared.enc.Enc.{Enc}
 use Rattle.term_forms.specs.Words.{colon, bar, is_long, IsBracketed, IsLed}
 use Rattle.term_forms.specs.Elements.{Element, IsElem, plain_elem}
 use Rattle.term_forms.specs.Joined.{IsJoined, plain_joined}
-use Rattle.term_forms.specs.Payload.{IsPayloadOf}
+use Rattle.binary_payloads.specs.Payload.{IsPayloadOf}
 
 -- a form, regardless of where it lies in memory
 pub data HeapForm : Type 0 where

@@ -1,13 +1,10 @@
-pub mod Cover
 pub mod Elements
 pub mod Forms
 pub mod Inner
 pub mod Joined
-pub mod Payload
 pub mod Places
 pub mod Reading
 pub mod ReadingForms
-pub mod ReadingPayloads
 pub mod Seen
 pub mod SeenForms
 pub mod SeenPlaces

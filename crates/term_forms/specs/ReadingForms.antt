@@ -1,7 +1,7 @@
 -- The form that a text spells, as a function with which the definitions of the crates above
 -- compute. It says no more than `Forms` does: the law `form_is_read` connects the two.
 use Rattle.std.specs.Prelude.{ℕ, ◌==◌, List, [], ◌∷◌, codes, Option, None, Some, if◌then◌else◌}
-use Rattle.term_forms.specs.declared.enc.Enc.{Enc}
+use Rattle.binary_payloads.specs.declared.enc.Enc.{Enc}
 use Rattle.term_forms.specs.Words.{is_long, letter}
 use Rattle.term_forms.specs.Forms.{HeapForm, Tuple, Long, Pid, Ext}
 use Rattle.term_forms.specs.Inner.Chain.{◌>>=◌}

@@ -9,10 +9,9 @@ ghost use Rattle.term_forms.specs.Seen.{number_rest};
 ghost use Rattle.term_forms.specs.SeenForms.{heap_form};
 
 use crate::elems::{Elems, elem_until, read_whole};
-use crate::enc::Enc;
-use crate::payloads::judge_payload;
 use crate::shapes::Form;
 use crate::words::{bracketed_prefix, is_long, split_number};
+use binary_payloads::{Enc, is_payload, payload_bytes_are_read};
 use dump_io::hex_u64;
 
 #[tactic(auto, unfolding(crate::specs::Inner::FormParts::cons_of))]
@@ -70,7 +69,8 @@ fn has_payload(chars: &[u8], enc: Enc, size: u64, spelled: bool) -> bool
     requires { spelled ≡ true → payload_test enc size chars.now ≡ true }
     ensures { result ≡ payload_test enc size chars.now }
 {
-    spelled || judge_payload(chars, enc, size)
+    payload_bytes_are_read(enc);
+    spelled || is_payload(chars, enc, size)
 }
 
 // A length, and the characters of that many bytes.
@@ -198,6 +198,7 @@ pub fn form(text: &[u8], enc: Enc) -> Option<Form<'_>>
     // The same, by the function with which definitions compute.
     ensures exact { option_map heap_form result ≡ form_of enc text.now }
 {
+    payload_bytes_are_read(enc);
     read_form(text, enc, false)
 }
 
@@ -208,6 +209,7 @@ pub fn spelled_form(text: &[u8], enc: Enc) -> Form<'_>
     ensures form { Some (heap_form result) ≡ form_of enc text.now }
     ensures spelled { IsForm enc text.now (heap_form result) }
 {
+    payload_bytes_are_read(enc);
     let Some(found) = read_form(text, enc, true) else {
         unreachable!()
     };

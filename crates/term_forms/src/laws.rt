@@ -6,7 +6,7 @@ ghost use Rattle.term_forms.specs.Words.{led_of, IsLed};
 ghost use Rattle.term_forms.specs.Reading.{front, whole_of};
 ghost use Rattle.term_forms.specs.ReadingForms.{form_of};
 
-use crate::enc::Enc;
+use binary_payloads::{Enc, payload_bytes_are_read};
 
 /// A text spells at most one element.
 pub fn unique_reading_of_elements()
@@ -41,20 +41,26 @@ pub fn whole_is_read()
 /// Under one encoding a text spells at most one form.
 pub fn unique_reading_of_forms(enc: Enc)
     ensures { (text : List ℕ) (one other : HeapForm) → IsForm enc text one → IsForm enc text other → one ≡ other }
-{}
+{
+    payload_bytes_are_read(enc);
+}
 
 /// If a text spells a form under an encoding, the plain spelling of that
 /// form spells it too under that encoding, and is read as that form again.
 pub fn plain_spelling_of_forms(enc: Enc)
     ensures spells { (text : List ℕ) (f : HeapForm) → IsForm enc text f → IsForm enc (plain_form f) f }
     ensures again { (text : List ℕ) (f : HeapForm) → IsForm enc text f → form_of enc (plain_form f) ≡ Some f }
-{}
+{
+    payload_bytes_are_read(enc);
+}
 
 /// What `form_of` computes is the form that the text spells.
 pub fn form_is_read(enc: Enc)
     ensures found { (text : List ℕ) (f : HeapForm) → (form_of enc text ≡ Some f) ↔ IsForm enc text f }
     ensures none { (text : List ℕ) → (form_of enc text ≡ None) ↔ ((f : HeapForm) → IsForm enc text f → ⊥) }
-{}
+{
+    payload_bytes_are_read(enc);
+}
 
 /// What `led_of` computes is the number that leads the text and what stands after its colon.
 pub fn number_is_read()

@@ -1,5 +1,5 @@
 //! The elements and heap forms of a crash dump's text, read and
-//! written, and the payloads of binaries, in both encodings.
+//! written, and the payloads of binaries (binary_payloads), in both encodings.
 //!
 //! ```
 //! let (address, text) = heap_line(b"7F10:t2:A2:ok,H20")?; // 0x7F10, and the text of a form
@@ -17,30 +17,25 @@
 //! which share their names, in [`reading`]. The grammar is in `specs/Elements.antt` and `specs/Forms.antt`.
 #![tactic(auto)]
 
-mod covering;
-mod covers;
 mod elements;
 mod elems;
-mod enc;
 mod forms;
 mod laws;
-mod payloads;
 mod placed;
 pub mod reading;
 pub mod shapes;
 mod words;
 mod writing;
 
-pub use covering::{cover_holds_range, payload_part};
+pub use binary_payloads::{
+    Enc, cover_holds_range, encoding_in_pieces, is_payload, payload, payload_bytes_are_read,
+    payload_is_of_one, payload_part,
+};
 pub use elems::{Elems, whole_elem};
-pub use enc::Enc;
 pub use forms::spelled_form;
 pub use laws::{
     form_is_read, front_is_longest, front_of_element, number_is_read, plain_spelling_of_elements,
     plain_spelling_of_forms, unique_reading_of_elements, unique_reading_of_forms, whole_is_read,
-};
-pub use payloads::{
-    encoding_in_pieces, is_payload, payload, payload_bytes_are_read, payload_is_of_one,
 };
 pub use placed::{PlacedElems, placed_form};
 pub use shapes::PlacedElem;

@@ -10,10 +10,10 @@ ghost use Rattle.term_forms.specs.SeenForms.{heap_form};
 ghost use Rattle.term_forms.specs.SeenPlaces.{placed};
 
 use crate::elements::elem;
-use crate::enc::Enc;
 use crate::forms::form;
 use crate::shapes::{Form, PlacedElem};
 use crate::words::split_number;
+use binary_payloads::Enc;
 use std::marker::Model;
 
 /// An iterator over the elements of a form, each with its

@@ -1,7 +1,7 @@
 //! The types that share their names with the functions of [`reading`](crate::reading).
 
-pub use crate::covers::Cover;
 use crate::elems::Elems;
+pub use binary_payloads::covers::Cover;
 
 /// An element of a dump's text. The slices are parts of the text that was read.
 #[derive(Clone, Copy, Debug, PartialEq, Eq)]

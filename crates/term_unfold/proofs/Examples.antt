@@ -9,7 +9,7 @@ use Rattle.heap_cells.specs.declared.cells.Why.TheVariants.{Missing, Malformed, 
 use Rattle.term_unfold.specs.declared.verdict.Verdict.{Verdict}
 use Rattle.term_unfold.specs.declared.verdict.Verdict.TheVariants.{Clean, Bad}
 use Rattle.term_unfold.specs.Trees.{Value, Immediate, verdict}
-use Rattle.term_forms.specs.declared.enc.Enc.TheVariants.{Hex}
+use Rattle.binary_payloads.specs.declared.enc.Enc.TheVariants.{Hex}
 use Rattle.binary_refs.specs.Previews.{entry}
 use Rattle.term_unfold.specs.Leaves.{leaf_text}
 use Rattle.term_unfold.specs.Text.{show}

@@ -1,7 +1,7 @@
 -- What a walker goes over, and the answer to a root.
 use Rattle.std.specs.Prelude.{ℕ, ◌+◌, Bool, true, false, List, ◌++◌, length, codes}
 use Rattle.dump_io.specs.Numbers.{hexadecimal}
-use Rattle.term_forms.specs.declared.enc.Enc.{Enc}
+use Rattle.binary_payloads.specs.declared.enc.Enc.{Enc}
 use Rattle.term_forms.specs.Elements.{Element}
 use Rattle.heap_cells.specs.Cells.{Cell}
 use Rattle.heap_cells.specs.HeapMap.{HeapMap}

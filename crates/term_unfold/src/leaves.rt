@@ -7,7 +7,7 @@ ghost use Rattle.dump_io.specs.Numbers.{hex_byte};
 ghost use Rattle.heap_cells.specs.HeapMap.{IsSpelled, form_at};
 ghost use Rattle.heap_cells.specs.Targets.{number};
 ghost use Rattle.map_nodes.specs.Rules.{address_of};
-ghost use Rattle.term_forms.specs.Payload.{IsPayloadOf};
+ghost use Rattle.binary_payloads.specs.Payload.{IsPayloadOf};
 ghost use Rattle.term_forms.specs.Seen.{element};
 ghost use Rattle.term_forms.specs.SeenForms.{heap_form};
 ghost use Rattle.binary_refs.specs.Previews.{entry_at, stated, AreFor};

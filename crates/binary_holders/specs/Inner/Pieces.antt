@@ -1,6 +1,6 @@
 -- Hearing a piece of a heap.
 use Rattle.std.specs.Prelude.{◌≡◌, ℕ, Bool, true, List, [], ◌++◌}
-use Rattle.term_forms.specs.declared.enc.Enc.{Enc}
+use Rattle.binary_payloads.specs.declared.enc.Enc.{Enc}
 use Rattle.binary_holders.specs.declared.sought.Binary.{Binary}
 use Rattle.binary_holders.specs.declared.tally.Tally.{Tally}
 use Rattle.binary_holders.specs.Inner.Lines.{line_references}

@@ -3,7 +3,7 @@ use Rattle.std.specs.Prelude.{◌≡◌, ℕ, ◌==◌, ◌≤◌, List, [], ◌
 use Rattle.dump_io.specs.Dumps.{Now, IsOpen, size_of, told, DeviceState, DeviceFailed, ReadsAtMost}
 use Rattle.dump_io.specs.Lines.{lf}
 use Rattle.dump_io.specs.Sinks.{SinkState, SinkFailed, Gained, WritesAll}
-use Rattle.term_forms.specs.declared.enc.Enc.{Enc}
+use Rattle.binary_payloads.specs.declared.enc.Enc.{Enc}
 use Rattle.dump_redact.specs.declared.copying.Stretch.{Stretch}
 use Rattle.dump_redact.specs.declared.copying.Stretch.TheVariants.{Plain, Payload}
 use Rattle.dump_redact.specs.declared.faults.RedactFault.{RedactFault}

@@ -1,6 +1,6 @@
 -- What the text of a cell's form spells, as it is read.
 use Rattle.std.specs.Prelude.{◌≡◌, ℕ, ◌+◌, ◌-◌, List, [], ◌∷◌, ◌++◌, length, drop, map, codes, Option, None, Some, All, IfSome}
-use Rattle.term_forms.specs.declared.enc.Enc.{Enc}
+use Rattle.binary_payloads.specs.declared.enc.Enc.{Enc}
 use Rattle.term_forms.specs.declared.shapes.Elem.{Elem}
 use Rattle.term_forms.specs.declared.shapes.Form.{Form}
 use Rattle.term_forms.specs.declared.shapes.Form.TheVariants as form

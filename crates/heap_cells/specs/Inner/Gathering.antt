@@ -2,7 +2,7 @@
 use Rattle.std.specs.Prelude.{◌≡◌, ℕ, ◌+◌, ◌-◌, ◌≤◌, List, [], ◌++◌, map, length, slice_range, Option, None, Some}
 use Rattle.std.specs.Option.{option_map}
 use Rattle.field_lines.specs.Lines.{TextLine}
-use Rattle.term_forms.specs.declared.enc.Enc.{Enc}
+use Rattle.binary_payloads.specs.declared.enc.Enc.{Enc}
 use Rattle.term_forms.specs.Elements.{Element, Nil, Small, Atom, Pid, Port, Ref}
 use Rattle.term_forms.specs.Forms.{HeapForm}
 use Rattle.term_forms.specs.SeenForms.{heap_form}

@@ -3,7 +3,7 @@
 use Rattle.std.specs.Prelude.{ℕ, ◌==◌, List, [], ◌∷◌, length, drop, codes, Option, None, Some, nat_eq, if◌then◌else◌}
 use Rattle.std.specs.List.{starts_with}
 use Rattle.dump_io.specs.Numbers.{hex_number}
-use Rattle.term_forms.specs.declared.enc.Enc.{Enc}
+use Rattle.binary_payloads.specs.declared.enc.Enc.{Enc}
 use Rattle.term_forms.specs.Words.{colon, bar, letter, led_of}
 use Rattle.term_forms.specs.Elements.{Element, port_word}
 use Rattle.term_forms.specs.Forms.{HeapForm, Cons, Float, Port, HeapBin, RefBin, SubBin, Flat, Hash, Node}

@@ -1,5 +1,5 @@
-use Rattle.term_forms.specs.declared.enc.Enc.{Enc}
-use Rattle.term_forms.specs.declared.enc.Enc.TheVariants.{Hex, Base64}
+use Rattle.binary_payloads.specs.declared.enc.Enc.{Enc}
+use Rattle.binary_payloads.specs.declared.enc.Enc.TheVariants.{Hex, Base64}
 use Rattle.dump_redact.specs.Payloads.{KeepsBinaries}
 use Rattle.dump_command.proofs.SameHeaps.{keeps-heaps, keeps-addresses}
 use Rattle.dump_command.proofs.laws.heaps_stay.Goals as goal

@@ -1,4 +1,4 @@
-use Rattle.term_forms.specs.declared.enc.Enc.TheVariants.{Hex, Base64}
+use Rattle.binary_payloads.specs.declared.enc.Enc.TheVariants.{Hex, Base64}
 use Rattle.dump_redact.proofs.HexZeros.{hex-stays}
 use Rattle.dump_redact.proofs.Base64Zeros.{base64-stays}
 use Rattle.dump_redact.proofs.Binaries.{binaries}

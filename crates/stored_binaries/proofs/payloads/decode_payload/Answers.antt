@@ -1,6 +1,6 @@
 use Rattle.std.proofs.Common.{◌≡◌, length, sym, subst, arith}
 use Rattle.std.proofs.lemmas.Bool.{true≢false}
-use Rattle.term_forms.specs.Payload.{IsPayloadOf}
+use Rattle.binary_payloads.specs.Payload.{IsPayloadOf}
 use Rattle.stored_binaries.proofs.BodyFacts.{payload-false, payload-count}
 use Rattle.stored_binaries.proofs.payloads.decode_payload.Goals as goal
 

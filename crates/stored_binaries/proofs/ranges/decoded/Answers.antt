@@ -1,7 +1,7 @@
 use Rattle.std.proofs.Common.{take, drop, sym, ap, subst}
 use Rattle.std.proofs.lemmas.Bool.{true≢false}
 use Rattle.std.specs.Option.{option_map}
-use Rattle.term_forms.specs.Payload.{IsPayloadOf}
+use Rattle.binary_payloads.specs.Payload.{IsPayloadOf}
 use Rattle.stored_binaries.proofs.BodyFacts.{payload-false, room-size}
 use Rattle.stored_binaries.proofs.ranges.decoded.Goals as goal
 

@@ -7,4 +7,4 @@ pub returns-clause-spells : goal.returns-clause-spells
 returns-clause-spells c = plain_form_is c.args.enc
 
 pub returns-clause-again : goal.returns-clause-again
-returns-clause-again c = λ text f is. form_full c.args.enc (plain_form f) f (plain_form_is c.args.enc text f is)
+returns-clause-again c = λ text f is. form_full c.args.enc c.payload_bytes_are_read.ensures (plain_form f) f (plain_form_is c.args.enc text f is)

@@ -1,0 +1,8 @@
+pub mod Base64Payload
+pub mod Encodings
+pub mod HexDigits
+pub mod HexPayload
+pub mod Parts
+pub mod PayloadBytes
+pub mod Pieces
+pub mod Ranges

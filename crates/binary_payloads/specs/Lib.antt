@@ -1,0 +1,4 @@
+pub mod Cover
+pub mod Inner
+pub mod Payload
+pub mod ReadingPayloads
