@@ -14,8 +14,8 @@ ghost use Rattle.audit_bodies.specs.Inner.Mailboxes.{IsWithin};
 use crate::mailboxes::{mailboxes, present};
 use crate::messages::count_messages;
 use dump_io::{Dumps, Limits};
-use process_table::{ProcSections, Procs};
 use dump_sections::{BodyFault, Index};
+use process_table::{ProcSections, Procs};
 use section_rows::large;
 use std::alloc::{AllocError, Global};
 

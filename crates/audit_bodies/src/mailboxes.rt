@@ -5,9 +5,9 @@ ghost use Rattle.section_rows.specs.Loading.{sections_at};
 ghost use Rattle.audit_bodies.specs.Mailboxes.{mailbox_place, mailboxes_at};
 ghost use Rattle.audit_bodies.specs.Inner.Mailboxes.{IsWithin};
 
+use dump_sections::Index;
 use first_sections::FirstSections;
 use process_table::ProcSections;
-use dump_sections::Index;
 use std::alloc::{AllocError, Global};
 
 /// The place of the mailbox of each process, in the order of the processes.

@@ -9,8 +9,8 @@ ghost use Rattle.audit_bodies.specs.Mailboxes.{mail_at, mail_in, mailboxes_at};
 ghost use Rattle.audit_bodies.specs.Inner.Mailboxes.{IsSmall, IsWithin};
 
 use dump_io::{Dumps, Limits};
-use root_views::messages;
 use dump_sections::{BodyFault, Index, State, read_body};
+use root_views::messages;
 use std::alloc::Global;
 
 // Whether the dump is truncated in the section at a place.

@@ -11,10 +11,10 @@ ghost use Rattle.audit_text.specs.Findings.{one_line, two_line, three_line, find
 use dump_audit::Finding;
 use dump_audit::named::{kind, partner, reference};
 use dump_io::{Failed, Piece, Sink, put_pieces};
+use dump_sections::Index;
 use link_graph::Graph;
 use process_table::Procs;
 use report_lines::put_state;
-use dump_sections::Index;
 
 // Writes the line of a finding with one text between its word and its offsets.
 fn put_one<'x, K: Sink>(

@@ -8,8 +8,8 @@ ghost use Rattle.process_table.specs.Processes.{IsOver};
 ghost use Rattle.binary_holders.specs.Inner.Heaps.{AreHeaps, AreApart, heap_id};
 ghost use Rattle.binary_holders.specs.Inner.Places.{IsWithin, heap_place};
 
-use process_table::Procs;
 use dump_sections::Index;
+use process_table::Procs;
 use std::alloc::{AllocError, Global};
 
 // The id, if the section at a place is a heap.

@@ -16,8 +16,8 @@ use crate::scanning::hear_heap;
 use crate::sought::Sought;
 use crate::tally::Tally;
 use dump_io::{Dumps, Failed};
-use heap_cells::enc_of;
 use dump_sections::Index;
+use heap_cells::enc_of;
 use std::alloc::Global;
 
 // Hears what the heap at a place refers to. A process without a heap refers to nothing.

@@ -12,9 +12,9 @@ ghost use Rattle.binary_refs.specs.Inner.Faults.{bin_fault};
 
 use crate::faults::BinFault;
 use dump_io::{Dumps, Limits};
+use dump_sections::{BodyFault, Index, read_body};
 use field_lines::reading::lines;
 use heap_cells::enc_of;
-use dump_sections::{BodyFault, Index, read_body};
 use std::alloc::{AllocError, Global};
 use stored_binaries::{decode_payload, first_binary};
 use term_forms::{Enc, heap_line};

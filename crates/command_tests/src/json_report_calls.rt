@@ -6,10 +6,10 @@ ghost use Rattle.dump_audit.specs.Fitting.{Fits};
 
 use dump_audit::{Finding, audit_with};
 use dump_io::{Dumps, Limits, MemDumps, MemSink, Sink};
+use dump_sections::Index;
 use json_report::{put_findings, put_json, tree};
 use link_graph::Graph;
 use process_table::Procs;
-use dump_sections::Index;
 use section_index::build;
 use std::alloc::Global;
 use std::test::Fail;

@@ -4,9 +4,9 @@ ghost use Rattle.process_table.specs.Processes.{process_at};
 ghost use Rattle.dump_audit.specs.Findings.{section_offset};
 ghost use Rattle.dump_audit.specs.Inner.Audited.{IsHolder, IsPartner};
 
+use dump_sections::{Index, State};
 use link_graph::{Graph, is_local};
 use process_table::Procs;
-use dump_sections::{Index, State};
 use std::marker::Model;
 
 // A process whose link list and message queue are judged: its place among the processes, and its pid.

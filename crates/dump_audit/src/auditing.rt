@@ -12,9 +12,9 @@ ghost use Rattle.dump_audit.specs.Inner.Audited.{IsHolder, held};
 use crate::audited::{Audited, Holder};
 use crate::finding::Finding;
 use crate::linking::push_found;
+use dump_sections::{Index, State};
 use link_graph::{Graph, is_local};
 use process_table::Procs;
-use dump_sections::{Index, State};
 use std::alloc::{AllocError, Global};
 
 // Whether the dump is truncated in the section at this place.

@@ -6,10 +6,10 @@ use binary_holders::HolderFault;
 use binary_refs::PreviewFault;
 use dump_io::Failed;
 use dump_redact::RedactFault;
+use dump_sections::BodyFault;
 use heap_cells::HeapFault;
 use json_report::JsonFault;
 use report_text::Refusal;
-use dump_sections::BodyFault;
 use section_index::OpenFault;
 use std::alloc::AllocError;
 

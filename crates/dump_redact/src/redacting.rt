@@ -16,8 +16,8 @@ use crate::faults::RedactFault;
 use crate::parts::{Part, part_of};
 use crate::spans::{next_place, offset, redact_sections};
 use dump_io::{Dumps, Limits, Sink};
-use heap_cells::enc_of;
 use dump_sections::Index;
+use heap_cells::enc_of;
 use std::alloc::Global;
 
 // The refusal of the section at a place, if it is a heap or literals with more bytes than the limit.

@@ -9,8 +9,8 @@ ghost use Rattle.dump_redact.specs.Inner.Places.{offset_of, length_between, text
 
 use crate::bodies::redact_body;
 use crate::parts::part_of;
-use heap_cells::enc_of;
 use dump_sections::Index;
+use heap_cells::enc_of;
 
 // The offset at which the section at a place begins; past the last one, the size of the dump.
 pub(crate) fn offset(index: &Index, i: usize) -> u64

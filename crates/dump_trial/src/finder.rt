@@ -5,9 +5,9 @@ ghost use Rattle.root_views.specs.Kinds.{roots_tag};
 ghost use Rattle.dump_trial.specs.Trial.{root_section};
 ghost use Rattle.dump_trial.specs.Inner.Finding.{firsts};
 
+use dump_sections::Index;
 use first_sections::FirstSections;
 use root_views::RootKind;
-use dump_sections::Index;
 use std::alloc::{AllocError, Global};
 use std::marker::Model;
 use stored_binaries::BinaryPlaces;

@@ -2,8 +2,8 @@
 ghost use Rattle.std.specs.Prelude.{◌≡◌};
 
 use binary_refs::PreviewFault;
-use heap_cells::HeapFault;
 use dump_sections::BodyFault;
+use heap_cells::HeapFault;
 use section_index::OpenFault;
 use std::alloc::AllocError;
 

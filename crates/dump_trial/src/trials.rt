@@ -10,10 +10,10 @@ use crate::finder::Finder;
 use crate::held::Held;
 use crate::summary::Summary;
 use dump_audit::audit;
+use dump_sections::Index;
 use dump_write::{made_dump_is_accepted, make};
 use link_graph::Graph;
 use process_table::Procs;
-use dump_sections::Index;
 use std::alloc::{AllocError, Global};
 
 // A message queue is reported if its length is above this.

@@ -8,9 +8,9 @@ ghost use Rattle.glance_text.specs.Holders.{binaries_line, binaries_report, held
 
 use binary_holders::{BinaryRow, BinaryUse, Holding};
 use dump_io::{Failed, Piece, Sink, put_pieces};
+use dump_sections::Index;
 use process_table::Procs;
 use report_text::put_process_end;
-use dump_sections::Index;
 
 // Writes the line of a process that holds binaries.
 fn put_held<K: Sink>(

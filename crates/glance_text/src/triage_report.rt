@@ -13,13 +13,13 @@ ghost use Rattle.report_lines.specs.Lines.{count_line};
 ghost use Rattle.glance_text.specs.Triage.{finding_counts, memory_line, process_number_line, state_count_line, table_words_line, triage_heading, triage_report, triage_rows};
 
 use dump_io::{Failed, Piece, Sink, put_pieces};
+use dump_sections::Index;
 use dump_triage::{FindingCounts, Ranked, Triage};
 use field_lines::Line;
 use field_lines::reading::{field, lines};
 use process_table::Procs;
 use report_lines::put_count_line;
 use report_text::{put_heading, put_process_end, put_processes_line, put_state, text_at, text_of};
-use dump_sections::Index;
 use table_sections::Rows;
 
 // Writes the line of a field of the `memory` section.

@@ -3,8 +3,8 @@ ghost use Rattle.binary_refs.specs.Previews.{AreFor};
 
 use binary_refs::{Preview, Previews, whole};
 use dump_io::{Dumps, Limits, MemDumps};
-use heap_cells::{Heap, Kind};
 use dump_sections::Index;
+use heap_cells::{Heap, Kind};
 use section_index::build;
 use std::alloc::{AllocError, Global};
 use std::process::Abort;

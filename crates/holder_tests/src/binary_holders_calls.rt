@@ -3,8 +3,8 @@ ghost use Rattle.process_table.specs.Processes.{IsOver};
 
 use binary_holders::{BinaryUse, Holding, binary_use, holders};
 use dump_io::{Dumps, Limits, MemDumps};
-use process_table::Procs;
 use dump_sections::Index;
+use process_table::Procs;
 use section_index::build;
 use std::alloc::{AllocError, Global};
 use std::test::Fail;

@@ -13,9 +13,9 @@ ghost use Rattle.json_report.specs.Trees.{state_text, finding_tree};
 use crate::found::Found;
 use crate::members::characters;
 use dump_audit::Finding;
+use dump_sections::{Index, State};
 use link_graph::Graph;
 use process_table::Procs;
-use dump_sections::{Index, State};
 use serde_json::{Value, to_vec};
 use std::alloc::{AllocError, Global};
 

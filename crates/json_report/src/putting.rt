@@ -11,9 +11,9 @@ ghost use Rattle.json_report.specs.Trees.{finding_tree, json_text};
 use crate::building::tree_text;
 use dump_audit::Finding;
 use dump_io::{Failed, Sink, write_all};
+use dump_sections::Index;
 use link_graph::Graph;
 use process_table::Procs;
-use dump_sections::Index;
 use serde_json::Value;
 use std::alloc::{AllocError, Global};
 

@@ -6,9 +6,9 @@ ghost use Rattle.field_lines.specs.Fields.{find_value};
 ghost use Rattle.report_text.specs.Reports.{version_text, text_or_dash, tag_line, info_heading, info_report};
 
 use dump_io::{Failed, Piece, Sink, put_pieces};
+use dump_sections::{Index, Tags, Version};
 use field_lines::find;
 use report_lines::put_state;
-use dump_sections::{Index, Tags, Version};
 
 fn version_text(version: Version) -> &'static [u8]
     ensures { result.now ≡ version_text version }

@@ -8,8 +8,8 @@ ghost use Rattle.section_rows.specs.Shown.{shown_cell};
 ghost use Rattle.report_text.specs.Tables.{cell_text, process_end, process_line, processes_line, procs_report};
 
 use dump_io::{Failed, Piece, Sink, put_pieces};
-use process_table::{Kept, Proc, Procs};
 use dump_sections::Index;
+use process_table::{Kept, Proc, Procs};
 
 /// The text of a field, or `-`.
 pub fn text_of<'a>(cell: &Option<Kept<'a>>) -> &'a [u8]

@@ -9,8 +9,8 @@ ghost use Rattle.section_rows.specs.Inner.Lent.{IsLent, shown_section};
 ghost use Rattle.section_rows.specs.Inner.Passing.{own_cell, field_cell, line_cell};
 ghost use Rattle.section_rows.specs.Inner.Places.{HasRoom};
 
-use field_lines::{Line, field};
 use dump_sections::Section;
+use field_lines::{Line, field};
 
 /// A text of a section, with its place in the file.
 #[derive(Clone, Copy, Debug)]

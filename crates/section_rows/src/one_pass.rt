@@ -10,9 +10,9 @@ ghost use Rattle.section_rows.specs.Inner.Passing.{IsSettled, AreSettled, IsOver
 ghost use Rattle.section_rows.specs.Inner.Places.{HasRoom};
 
 use crate::columns::{Column, Kept, in_line, own};
+use dump_sections::Section;
 use field_lines::Line;
 use field_lines::reading::lines;
-use dump_sections::Section;
 use std::alloc::{AllocError, Global};
 
 // The cells of the columns that show the header; those of fields are still to come.

@@ -4,9 +4,9 @@ ghost use Rattle.process_table.specs.Processes.{IsIn};
 
 use dump_audit::{Finding, audit, audit_full};
 use dump_io::{Dumps, Limits, MemDumps};
+use dump_sections::Index;
 use link_graph::Graph;
 use process_table::Procs;
-use dump_sections::Index;
 use section_index::build;
 use std::alloc::{AllocError, Global};
 use std::test::Fail;

@@ -3,9 +3,9 @@ ghost use Rattle.dump_sections.specs.Index.{IsBuiltOver};
 ghost use Rattle.process_table.specs.Processes.{IsIn};
 
 use dump_io::{Dumps, Failed, Limits, MemDumps, MemSink, Sink, put_dec, write_all};
+use dump_sections::Index;
 use dump_triage::{FindingCounts, Ranked, Triage};
 use process_table::Procs;
-use dump_sections::Index;
 use section_index::build;
 use std::alloc::Global;
 use std::process::Abort;

@@ -8,8 +8,8 @@ use crate::report::Report;
 use crate::status::DONE;
 use crate::stop::{Stop, or_stop};
 use dump_io::{Dumps, Sink};
-use report_text::put_info;
 use dump_sections::Tags;
+use report_text::put_info;
 
 #[derive(Clone, Copy)]
 pub(crate) struct Info<'a> {

@@ -15,9 +15,9 @@ use crate::report::Report;
 use crate::status::DONE;
 use crate::stop::Stop;
 use dump_io::{Dumps, Sink};
+use dump_sections::BodyFault;
 use heap_cells::Heap;
 use root_views::RootKind;
-use dump_sections::BodyFault;
 use term_text::{add_roots, put_reach};
 
 #[derive(Clone, Copy)]

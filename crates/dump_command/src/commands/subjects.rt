@@ -17,9 +17,9 @@ ghost use Rattle.dump_command.specs.Inner.TermStops.{Judges};
 use crate::open::Opened;
 use crate::stop::Stop;
 use dump_io::{Dumps, Text};
+use dump_sections::{BodyFault, read_body};
 use heap_cells::{Heap, Seat};
 use report_text::Refusal;
-use dump_sections::{BodyFault, read_body};
 use section_rows::large;
 
 /// The place of the section of a process. A pid without such a section is refused.

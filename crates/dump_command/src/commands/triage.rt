@@ -13,10 +13,10 @@ use crate::report::Report;
 use crate::status::DONE;
 use crate::stop::Stop;
 use dump_io::{Dumps, Sink};
+use dump_sections::BodyFault;
 use dump_triage::Triage as Found;
 use glance_text::put_triage;
 use process_table::{ProcSections, Procs};
-use dump_sections::BodyFault;
 use std::alloc::AllocError;
 use table_sections::{Rows, TableKind, TableSections};
 
