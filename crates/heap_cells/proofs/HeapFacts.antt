@@ -11,9 +11,9 @@ use Rattle.std.proofs.lemmas.List.Sums.{sum_by-cons}
 use Rattle.std.proofs.lemmas.Option.{slice_get-map}
 use Rattle.term_forms.specs.declared.enc.Enc.{Enc}
 use Rattle.term_forms.specs.Elements.{Element, Nil, Small, Atom, Pid, Port, Ref}
-use Rattle.heap_cells.specs.declared.cells.CellRecord.{CellRecord}
-use Rattle.heap_cells.specs.declared.cells.Slot.{Slot}
-use Rattle.heap_cells.specs.declared.cells.Slot.TheVariants as slot
+use Rattle.cell_records.specs.declared.cells.CellRecord.{CellRecord}
+use Rattle.cell_records.specs.declared.cells.Slot.{Slot}
+use Rattle.cell_records.specs.declared.cells.Slot.TheVariants as slot
 use Rattle.heap_cells.specs.declared.gathering.Gathering.{Gathering}
 use Rattle.heap_cells.specs.declared.keeping.Indexed.{Indexed}
 use Rattle.heap_cells.specs.declared.texts.Texts.{Texts}
@@ -23,11 +23,10 @@ use Rattle.heap_cells.specs.Targets.{Target, Plain, At, Missing, target, target_
 use Rattle.heap_cells.specs.Inner.Gathering.{AreAll}
 use Rattle.heap_cells.specs.Inner.Keeping.{AreOrdered, IsIndexed}
 use Rattle.heap_cells.specs.Inner.Texts.{text_of, seam_of}
-use Rattle.heap_cells.specs.Inner.Order.{record_with, IsOrder}
+use Rattle.cell_records.specs.Order.{record_with, IsOrder}
 use Rattle.heap_cells.specs.Inner.Records.{cell_in, cells_in, elements_by, AreLaid, AreSlots, Spells, AllSpell, start_at, slots_at, IsArena}
-use Rattle.heap_cells.specs.Inner.Resolving.{settled, cell_or_gone}
+use Rattle.cell_records.specs.Resolving.{settled, cell_or_gone}
 use Rattle.heap_cells.proofs.KeepingFacts.{is_seen}
-use Rattle.heap_cells.proofs.OrderFacts.{numbers_of, order-of}
 use Rattle.heap_cells.proofs.RecordFacts.{append-none, has-at, piece-of, number-at, weight-slots}
 
 pub ordered-slots : (text : List ℕ) (seam : ℕ) (enc : Enc) (known : List Cell) (rs : List CellRecord) (slots : List Slot) → AreSlots text seam enc known rs slots
@@ -222,7 +221,7 @@ few-indexed texts g own found whole is =
 
 pub arena-indexed : (texts : Texts) (g : Gathering) (own : ℕ) (found : Indexed) (slots : List Slot) (order : List ℕ) → length texts.heap.items ≤ 536870912 → length texts.literals.items ≤ 536870912
     → IsWhole texts g own → is-indexed texts g own found → slots ≡ map (settled found.arena.cells.items) found.arena.slots.items
-    → order ≡ numbers_of found.ranks → IsArena (text_of texts) (seam_of texts) texts.enc found.arena.cells.items slots order found.own
+    → IsOrder found.arena.cells.items order → IsArena (text_of texts) (seam_of texts) texts.enc found.arena.cells.items slots order found.own
 arena-indexed texts g own found slots order heap literals whole is settled_is order_is =
     let text = text_of texts in
     let cells = cells-indexed texts g own found whole is in
@@ -236,5 +235,5 @@ arena-indexed texts g own found slots order heap literals whole is settled_is or
       distinct = subst (λ l. IsDistinct nat_eq (addresses l)) (sym cells) (first-distinct [] (all_lines texts));
       slots_are = subst (AreSlots text (seam_of texts) texts.enc (cells_in text texts.enc found.arena.cells.items) found.arena.cells.items) (sym settled_is)
           (AreSlots-settled text (seam_of texts) texts.enc found.arena.cells.items found.arena.slots.items is.kept.slots_are);
-      order_is = subst (IsOrder found.arena.cells.items) (sym order_is) (order-of found.arena.cells.items found.ranks is.ranks_are);
+      order_is = order_is;
     }

@@ -7,14 +7,12 @@ use Rattle.std.proofs.lemmas.List.{take_more, length-map, map-append, take-map, 
 use Rattle.std.proofs.lemmas.Option.{get_or_from_slice_get, slice_get_within}
 use Rattle.term_forms.specs.declared.enc.Enc.{Enc}
 use Rattle.heap_cells.specs.declared.arena.Arena.{Arena}
-use Rattle.heap_cells.specs.declared.cells.CellRecord.{CellRecord}
+use Rattle.cell_records.specs.declared.cells.CellRecord.{CellRecord}
 use Rattle.heap_cells.specs.declared.keeping.Indexed.{Indexed}
 use Rattle.heap_cells.specs.Cells.{Cell, first_cells, addresses}
 use Rattle.heap_cells.specs.Inner.Keeping.{moved, moved_record, AreOrdered, IsKept, IsIndexed}
-use Rattle.heap_cells.specs.Inner.Order.{address_or, address_in, is_first, AreRanked}
-use Rattle.heap_cells.specs.Inner.Ranks.{AreApart}
+use Rattle.cell_records.specs.Order.{address_or, address_in, is_first, AreRanked}
 use Rattle.heap_cells.specs.Inner.Records.{cell_in, cells_in, AreSlots, start_at, slots_at}
-use Rattle.heap_cells.proofs.FirstFacts.{apart-first}
 use Rattle.heap_cells.proofs.PushingFacts.{AreSlots-push}
 use Rattle.heap_cells.proofs.RecordFacts.{append-none, has-at, cell-at, record-at, piece-of}
 
@@ -174,12 +172,11 @@ all-first text enc rs (suc i) each inside =
     ∙ ap (λ l. l ++ cell ∷ []) (all-first text enc rs i each (omega arith))
     ∙ sym more ∙ ap (λ n. take n cells) (sym next)
 
-pub all-indexed : (text : List ℕ) (seam : ℕ) (enc : Enc) (arena : Arena) (own : ℕ) (found : Indexed) → length arena.cells.items ≤ 100000000
-    → AreRanked arena.cells.items found.ranks → AreApart found.ranks → own ≤ length arena.cells.items → found.arena ≡ arena → found.own ≡ own
+pub all-indexed : (text : List ℕ) (seam : ℕ) (enc : Enc) (arena : Arena) (own : ℕ) (found : Indexed) → AreRanked arena.cells.items found.ranks
+    → ((n : ℕ) → n < length arena.cells.items → is_first arena.cells.items n ≡ true) → own ≤ length arena.cells.items → found.arena ≡ arena → found.own ≡ own
     → AreSlots text seam enc [] arena.cells.items arena.slots.items → IsIndexed text seam enc (cells_in text enc arena.cells.items) own found
-all-indexed text seam enc arena own found count are apart few same own_is slots =
+all-indexed text seam enc arena own found are each few same own_is slots =
     let cells = cells_in text enc arena.cells.items in
-    let each : (n : ℕ) → n < length arena.cells.items → is_first arena.cells.items n ≡ true = λ n inside. apart-first arena.cells.items found.ranks n count are apart inside in
     let whole : take (length arena.cells.items) cells ≡ cells =
     ap (λ n. take n cells) (sym (length-map arena.cells.items (cell_in text enc))) ∙ take-length cells in
     record {

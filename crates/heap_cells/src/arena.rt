@@ -5,9 +5,10 @@ ghost use Rattle.heap_cells.specs.Inner.Records.{start_at, slots_at, element_at,
 ghost use Rattle.heap_cells.specs.Inner.Texts.{text_of, seam_of};
 ghost use Rattle.term_forms.specs.Seen.{element};
 
-use crate::cells::{CellRecord, Kid, Slot, Span};
+use crate::cells::Kid;
 use crate::spelled::spelled_elem;
 use crate::texts::{Texts, part};
+use cell_records::{CellRecord, Slot, Span};
 use std::alloc::Global;
 use term_forms::shapes::Elem;
 

@@ -11,14 +11,13 @@ ghost use Rattle.heap_cells.specs.Loading.{enc_of, heap_section, literals_sectio
 ghost use Rattle.heap_cells.specs.Targets.{number, target, slot_target, kid_target, KeepsElement, IsSeatOf, IsSeatWithin, IsWithin};
 
 use crate::arena::{Arena, kid_of, slots_of};
-use crate::cells::{CellIx, Kid, Kind, Seat, Slot};
+use crate::cells::{Kid, Seat};
 use crate::faults::HeapFault;
 use crate::gathering::gather_all;
 use crate::keeping::{Indexed, index_cells};
 use crate::loading::{judge_size, read_texts};
-use crate::order::number_of;
-use crate::resolving::resolve;
 use crate::texts::{Texts, part};
+use cell_records::{CellIx, Kind, Slot, number_of, resolve};
 use dump_io::{Dumps, Limits};
 use section_index::Index;
 use std::alloc::Global;

@@ -3,13 +3,11 @@ ghost use Rattle.std.specs.Prelude.{◌≡◌, ◌+◌, ◌<◌, ◌≤◌, ◌+
 ghost use Rattle.term_forms.specs.declared.enc.Enc.{Enc};
 ghost use Rattle.heap_cells.specs.Cells.{first_cells};
 ghost use Rattle.heap_cells.specs.Inner.Keeping.{moved_record, AreOrdered, IsKept, IsIndexed};
-ghost use Rattle.heap_cells.specs.Inner.Order.{AreFirsts, AreRanked};
+ghost use Rattle.cell_records.specs.Order.{AreFirsts};
 ghost use Rattle.heap_cells.specs.Inner.Records.{AreSlots, cells_in, slots_at, start_at};
 
 use crate::arena::{Arena, slots_of};
-use crate::cells::CellRecord;
-use crate::order::{firsts_of, ranks_of};
-use crate::ranks::{Ranks, are_apart};
+use cell_records::{CellRecord, Ranks, are_apart, mark_firsts, ranks_of};
 use std::alloc::{AllocError, Global};
 
 // Cells with their addresses, and their numbers by address,
@@ -19,16 +17,6 @@ pub(crate) struct Indexed {
     pub arena: Arena,
     pub ranks: Ranks,
     pub own: u32,
-}
-
-// Which of the cells come before all others with their address.
-fn mark_firsts(alloc: Global, ranks: Ranks, cells: &[CellRecord]) -> Result<Vec<bool>, AllocError>
-    requires few { length cells.now ≤ 100000000 }
-    requires ranked { AreRanked cells.now ranks }
-    ensures { IfOk result (λ firsts. AreFirsts cells.now firsts.items) }
-{
-    let order = ranks.numbers(alloc)?;
-    firsts_of(alloc, &order, cells)
 }
 
 // Keeps one more cell, which has number `i` in another arena.

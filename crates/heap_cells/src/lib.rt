@@ -14,13 +14,11 @@ mod gathering;
 mod heap;
 mod keeping;
 mod loading;
-mod order;
-mod ranks;
-mod resolving;
 mod spelled;
 mod texts;
 
-pub use cells::{CellIx, Kid, Kind, Seat, Slot, Span, Why};
+pub use cell_records::{CellIx, Kind, Slot, Span, Why};
+pub use cells::{Kid, Seat};
 pub use faults::HeapFault;
 pub use heap::Heap;
 pub use loading::enc_of;

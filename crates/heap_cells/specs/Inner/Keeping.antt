@@ -2,10 +2,10 @@
 use Rattle.std.specs.Prelude.{◌≡◌, ℕ, ◌+◌, ◌<◌, ◌≤◌, List, [], ◌∷◌, length, take, slice_get, Option, None, Some}
 use Rattle.term_forms.specs.declared.enc.Enc.{Enc}
 use Rattle.heap_cells.specs.declared.arena.Arena.{Arena}
-use Rattle.heap_cells.specs.declared.cells.CellRecord.{CellRecord}
+use Rattle.cell_records.specs.declared.cells.CellRecord.{CellRecord}
 use Rattle.heap_cells.specs.declared.keeping.Indexed.{Indexed}
 use Rattle.heap_cells.specs.Cells.{Cell, first_cells}
-use Rattle.heap_cells.specs.Inner.Order.{AreRanked}
+use Rattle.cell_records.specs.Order.{AreRanked}
 use Rattle.heap_cells.specs.Inner.Records.{cells_in, AreSlots, start_at}
 
 -- the slots of each record come after those of the one before it, and within this many

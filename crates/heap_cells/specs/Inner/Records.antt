@@ -6,13 +6,13 @@ use Rattle.term_forms.specs.declared.enc.Enc.{Enc}
 use Rattle.term_forms.specs.Elements.{Element}
 use Rattle.term_forms.specs.Reading.{whole_of}
 use Rattle.term_forms.specs.ReadingForms.{form_of}
-use Rattle.heap_cells.specs.declared.cells.CellRecord.{CellRecord}
-use Rattle.heap_cells.specs.declared.cells.Slot.{Slot}
-use Rattle.heap_cells.specs.declared.cells.Slot.TheVariants as slot
-use Rattle.heap_cells.specs.declared.cells.Span.{Span}
+use Rattle.cell_records.specs.declared.cells.CellRecord.{CellRecord}
+use Rattle.cell_records.specs.declared.cells.Slot.{Slot}
+use Rattle.cell_records.specs.declared.cells.Slot.TheVariants as slot
+use Rattle.cell_records.specs.declared.cells.Span.{Span}
 use Rattle.heap_cells.specs.Cells.{Cell, elements_in, kind_of, addresses}
 use Rattle.heap_cells.specs.Targets.{target, slot_target}
-use Rattle.heap_cells.specs.Inner.Order.{IsOrder}
+use Rattle.cell_records.specs.Order.{IsOrder}
 use Rattle.heap_cells.specs.Inner.Parts.{IsPart}
 
 abbrev pub cell_in : List ℕ → Enc → CellRecord → Cell

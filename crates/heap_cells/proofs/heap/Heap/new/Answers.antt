@@ -36,7 +36,7 @@ invariant_of-result c =
     let indexed = c.in_ok-arena.ensures (text_of texts) (seam_of texts) texts.enc c.in_ok-gathering.ensures.all.gathered.slots_are in
     let few = few-indexed texts g own found is_whole indexed in
     arena-indexed texts g own found c.resolve.new.slots.items c.in_ok-order.order.items c.requires.heap c.requires.literals is_whole indexed
-    (c.in_ok-resolve.ensures found.arena.cells.items (omega (arith, few)) indexed.ranks_are) c.in_ok-order.ensures
+    (c.in_ok-resolve.ensures found.arena.cells.items (omega (arith, few)) indexed.ranks_are) (c.in_ok-order.ensures.order found.arena.cells.items indexed.ranks_are)
 
 pub returns-clause-answer : goal.returns-clause-answer
 returns-clause-answer c =

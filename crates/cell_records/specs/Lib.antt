@@ -1,0 +1,4 @@
+pub mod Inner
+pub mod Numbers
+pub mod Order
+pub mod Resolving
