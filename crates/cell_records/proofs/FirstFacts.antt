@@ -7,7 +7,8 @@ use Rattle.std.proofs.lemmas.List.{get_or_default, get_or-set_other, get_or-set_
 use Rattle.std.proofs.lemmas.List.Folds.{list_any_none, list_any_at}
 use Rattle.std.proofs.lemmas.Option.{slice_get-get_or}
 use Rattle.cell_records.specs.declared.cells.CellRecord.{CellRecord}
-use Rattle.cell_records.specs.Order.{address_or, address_in, rank, IsOrder, is_first, AreFirsts, AreRanked, AreApart}
+use Rattle.cell_records.specs.Inner.Firsts.{AreFirsts, AreApart}
+use Rattle.cell_records.specs.Order.{address_or, address_in, rank, IsOrder, is_first, AreRanked}
 use Rattle.cell_records.proofs.OrderFacts.{ranked, lesser, numbers_of, order-of, address-at}
 
 -- no record before this one has its address

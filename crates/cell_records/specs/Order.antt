@@ -1,5 +1,5 @@
 -- The records of a heap in the order of their addresses.
-use Rattle.std.specs.Prelude.{◌≡◌, ℕ, ◌+◌, ◌*◌, ◌<◌, ◌==◌, Bool, false, not, List, length, take, slice_get, slice_index_or, Option, None, Some, All, Contains, position}
+use Rattle.std.specs.Prelude.{◌≡◌, ℕ, ◌+◌, ◌*◌, ◌<◌, ◌==◌, Bool, not, List, length, take, slice_get, Option, None, Some, All, Contains, position}
 use Rattle.std.specs.List.{list_any}
 use Rattle.std.specs.List.Sorted.{IsNonDecreasingBy}
 use Rattle.cell_records.specs.declared.cells.CellRecord.{CellRecord}
@@ -31,11 +31,6 @@ record_with records address = position (λ r. r.address == address) records
 abbrev pub is_first : List CellRecord → ℕ → Bool
 is_first records n = not (list_any (λ r. r.address == address_in records n) (take n records))
 
--- which of the records do
-pub record AreFirsts (records : List CellRecord) (firsts : List Bool) : Type 0 where
-  pub count : length firsts ≡ length records
-  pub each : (n : ℕ) → n < length records → slice_index_or firsts n false ≡ is_first records n
-
 -- a record's address and its number
 pub record IsPairOf (records : List CellRecord) (pair : ℕ × ℕ) : Type 0 where
   pub within : pair.1 < length records
@@ -50,7 +45,3 @@ pub record ArePairs (records : List CellRecord) (pairs : List (ℕ × ℕ)) : Ty
 pub record AreRanked (records : List CellRecord) (pairs : List (ℕ × ℕ)) : Type 0 where
   pub pairs_are : ArePairs records pairs
   pub sorted : IsNonDecreasingBy (λ pair. rank pair.0 pair.1) pairs
-
--- no two adjacent pairs have the same address
-abbrev pub AreApart : List (ℕ × ℕ) → Type 0
-AreApart pairs = (i : ℕ) → i + 1 < length pairs → (slice_index_or pairs i (0, 0)).0 ≡ (slice_index_or pairs (i + 1) (0, 0)).0 → ⊥

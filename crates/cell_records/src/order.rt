@@ -1,7 +1,8 @@
 // The numbers of cells by address.
 ghost use Rattle.std.specs.Prelude.{◌≡◌, ◌<◌, ◌≤◌, ◌||◌, ◌-◌, ◌==◌, length, nat_lt, not, true, false, IfOk, slice_index_or};
 ghost use Rattle.std.specs.List.Sorted.{IsNonDecreasingBy, IsPartitionPoint};
-ghost use Rattle.cell_records.specs.Order.{address_in, IsOrder, record_with, ArePairs, AreRanked, AreFirsts};
+ghost use Rattle.cell_records.specs.Order.{address_in, IsOrder, record_with, ArePairs, AreRanked};
+ghost use Rattle.cell_records.specs.Inner.Firsts.{AreFirsts};
 
 use crate::cells::CellRecord;
 use crate::ranks::Ranks;
@@ -25,7 +26,8 @@ fn count_below(order: &[u32], cells: &[CellRecord], address: u64) -> usize
     order.partition_point(|n| address_of(cells, *n) < address)
 }
 
-/// The number of the first cell with an address, given the numbers of all cells in the order of [`ranks_of`].
+/// The number of the first cell with an address, given the numbers of all
+/// cells in the order of their addresses, as [`Ranks::numbers`] returns them.
 pub fn number_of(order: &[u32], cells: &[CellRecord], address: u64) -> Option<u32>
     requires few { length cells.now < 4294967296 }
     requires order { IsOrder cells.now order.now }
@@ -53,9 +55,8 @@ fn pairs_of(alloc: Global, cells: &[CellRecord]) -> Result<Ranks, AllocError>
     Ok(pairs)
 }
 
-/// The address of each cell with the cell's number, in the order of
-/// the addresses; cells with the same address are ordered by number.
-pub fn ranks_of(alloc: Global, cells: &[CellRecord]) -> Result<Ranks, AllocError>
+// The same in the order of the addresses; cells with the same address are ordered by number.
+pub(crate) fn ranks_of(alloc: Global, cells: &[CellRecord]) -> Result<Ranks, AllocError>
     requires { length cells.now ≤ 100000000 }
     ensures { IfOk result (AreRanked cells.now) }
 {
@@ -87,8 +88,8 @@ fn firsts_of(alloc: Global, order: &[u32], cells: &[CellRecord]) -> Result<Vec<b
     Ok(firsts)
 }
 
-/// Which of the cells come before all others with their address, given what [`ranks_of`] returns of them.
-pub fn mark_firsts(
+// Which of the cells come before all others with their address, given their pairs, sorted.
+pub(crate) fn mark_firsts(
     alloc: Global,
     ranks: Ranks,
     cells: &[CellRecord],

@@ -2,7 +2,8 @@
 ghost use Rattle.std.specs.Prelude.{◌≡◌, ◌<◌, ◌≤◌, ◌++◌, ◌∷◌, [], ℕ, List, length, map, slice_index_or, IfOk, OnOk, IfSome, true, false};
 ghost use Rattle.std.specs.List.Sorted.{IsNonDecreasingBy, IsPermutation};
 ghost use Rattle.cell_records.specs.declared.cells.CellRecord.{CellRecord};
-ghost use Rattle.cell_records.specs.Order.{rank, is_first, IsOrder, AreRanked, AreApart};
+ghost use Rattle.cell_records.specs.Order.{rank, is_first, IsOrder, AreRanked};
+ghost use Rattle.cell_records.specs.Inner.Firsts.{AreApart};
 ghost use Rattle.cell_records.specs.Inner.Ranks.{pair_at};
 
 use std::alloc::{AllocError, Global};
@@ -157,9 +158,9 @@ impl Ranks {
     }
 }
 
-/// Whether no two adjacent pairs have the same address. If
-/// they are those of cells, each cell is then the first with its address.
-pub fn are_apart(ranks: &Ranks) -> bool
+// Whether no two adjacent pairs have the same address. If they are
+// those of cells, each cell is then the first with its address.
+pub(crate) fn are_apart(ranks: &Ranks) -> bool
     ensures apart { result ≡ true → AreApart ranks.now }
     ensures beside { result ≡ false → AreApart ranks.now → ⊥ }
     ensures first { result ≡ true → (cells : List CellRecord) → length cells ≤ 100000000 → AreRanked cells ranks.now

@@ -124,7 +124,7 @@ fn resolve_parts(
 }
 
 /// Each reference to the address of a cell becomes that cell, if there is
-/// memory. The pairs are what [`ranks_of`](crate::ranks_of) returns of the cells.
+/// memory. The pairs are the addresses of the cells with their numbers, sorted.
 pub fn resolve(alloc: Global, slots: &mut Vec<Slot>, ranks: &Ranks) -> Result<(), AllocError>
     requires { length slots.old.items ≤ 100000000 }
     ensures { OnOk result ((cells : List CellRecord) → length cells ≤ 100000000 → AreRanked cells ranks.now → slots.new.items ≡ map (settled cells) slots.old.items) }

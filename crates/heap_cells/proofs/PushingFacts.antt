@@ -12,7 +12,8 @@ use Rattle.cell_records.specs.declared.cells.CellRecord.{CellRecord}
 use Rattle.cell_records.specs.declared.cells.Slot.{Slot}
 use Rattle.heap_cells.specs.Cells.{Cell}
 use Rattle.heap_cells.specs.Targets.{target, slot_target}
-use Rattle.heap_cells.specs.Inner.Records.{elements_by, IsRecord, AreLaid, AreSlots, AllSpell, first_or, start_at, slots_at}
+use Rattle.heap_cells.specs.Inner.Records.{elements_by, IsRecord, AreLaid, AreSlots, AllSpell}
+use Rattle.cell_records.specs.Slots.{first_or, start_at, slots_at}
 use Rattle.heap_cells.proofs.RecordFacts.{append-none, piece-of}
 
 -- ---- a record behind others

@@ -20,7 +20,8 @@ use Rattle.heap_cells.specs.Cells.{Cell, elements_in, kind_of, cell_weight, weig
 use Rattle.heap_cells.specs.HeapMap.{number_at, form_at, elements_at}
 use Rattle.heap_cells.specs.Targets.{target, slot_target, kid_target, KeepsElement}
 use Rattle.cell_records.specs.Order.{record_with}
-use Rattle.heap_cells.specs.Inner.Records.{cell_in, cells_in, elements_by, IsRecord, AreLaid, AreSlots, start_at, slots_at, element_at, spelled_by, IsReadable, Spells}
+use Rattle.cell_records.specs.Slots.{start_at, slots_at}
+use Rattle.heap_cells.specs.Inner.Records.{cell_in, cells_in, elements_by, IsRecord, AreLaid, AreSlots, element_at, spelled_by, IsReadable, Spells}
 
 -- ---- a record by its number
 

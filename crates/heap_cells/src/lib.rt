@@ -6,13 +6,12 @@
 //! in the order of their lines, and a reference to another cell is kept as that cell's number.
 #![tactic(auto)]
 
-mod arena;
 mod cells;
 mod faults;
 mod found;
 mod gathering;
 mod heap;
-mod keeping;
+mod kids;
 mod loading;
 mod spelled;
 mod texts;

@@ -1,5 +1,5 @@
 use Rattle.std.proofs.Common.{arith}
-use Rattle.cell_records.specs.Order.{AreApart}
+use Rattle.cell_records.specs.Inner.Firsts.{AreApart}
 use Rattle.cell_records.proofs.FirstFacts.{apart-first}
 use Rattle.cell_records.proofs.ranks.are_apart.Goals as goal
 

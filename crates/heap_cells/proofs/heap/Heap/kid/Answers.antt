@@ -7,7 +7,7 @@ use Rattle.heap_cells.specs.contracts.heap.Heap.{the_invariant, the_view}
 use Rattle.heap_cells.specs.HeapMap.{HeapMap, elements_at}
 use Rattle.heap_cells.specs.Targets.{number, target}
 use Rattle.heap_cells.specs.Inner.Texts.{text_of, seam_of}
-use Rattle.heap_cells.specs.Inner.Records.{slots_at}
+use Rattle.cell_records.specs.Slots.{slots_at}
 use Rattle.heap_cells.proofs.RecordFacts.{IsSlotsOf, slots-of, slots-length, IsKidOf, kid-of, spells-readable, keeps-element}
 use Rattle.heap_cells.proofs.TargetFacts.{target-within}
 use Rattle.heap_cells.proofs.heap.Heap.kid.Goals as goal

@@ -1,21 +1,24 @@
 // Keeping the first of the cells with each address.
-ghost use Rattle.std.specs.Prelude.{◌≡◌, ◌+◌, ◌<◌, ◌≤◌, ◌++◌, [], ℕ, List, length, take, OnOk, IfOk};
-ghost use Rattle.term_forms.specs.declared.enc.Enc.{Enc};
-ghost use Rattle.heap_cells.specs.Cells.{first_cells};
-ghost use Rattle.heap_cells.specs.Inner.Keeping.{moved_record, AreOrdered, IsKept, IsIndexed};
-ghost use Rattle.cell_records.specs.Order.{AreFirsts};
-ghost use Rattle.heap_cells.specs.Inner.Records.{AreSlots, cells_in, slots_at, start_at};
+ghost use Rattle.std.specs.Prelude.{◌≡◌, ◌+◌, ◌<◌, ◌≤◌, ◌++◌, length, OnOk, IfOk};
+ghost use Rattle.cell_records.specs.Keeping.{moved_record, kept_records, kept_slots, IsIndexOf};
+ghost use Rattle.cell_records.specs.Inner.Firsts.{AreFirsts};
+ghost use Rattle.cell_records.specs.Slots.{slots_at, start_at, AreOrdered};
 
 use crate::arena::{Arena, slots_of};
-use cell_records::{CellRecord, Ranks, are_apart, mark_firsts, ranks_of};
+use crate::cells::CellRecord;
+use crate::order::{mark_firsts, ranks_of};
+use crate::ranks::{Ranks, are_apart};
 use std::alloc::{AllocError, Global};
 
-// Cells with their addresses, and their numbers by address,
-// and how many of them come from the process's own heap.
+/// Cells with their addresses, and their numbers by address,
+/// and how many of them come from the process's own heap.
 #[derive(Drop)]
-pub(crate) struct Indexed {
+pub struct Indexed {
+    /// The cells.
     pub arena: Arena,
+    /// Their addresses with their numbers, sorted.
     pub ranks: Ranks,
+    /// How many of the cells are the process's own. They come first.
     pub own: u32,
 }
 
@@ -48,12 +51,12 @@ fn keep_part(
     requires within { upto ≤ length all.now.cells.items }
     requires few { length all.now.slots.items < 4294967296 }
     requires ordered { AreOrdered all.now.cells.items (length all.now.slots.items) }
-    requires room { length kept.old.slots.items ≤ start_at all.now.cells.items from (length all.now.slots.items) }
-    ensures room { OnOk result (length kept.new.slots.items ≤ start_at all.now.cells.items upto (length all.now.slots.items)) }
-    ensures few { OnOk result (length kept.new.cells.items + from ≤ length kept.old.cells.items + upto) }
-    ensures kept { OnOk result ((text : List ℕ) (seam : ℕ) (enc : Enc) → AreSlots text seam enc [] all.now.cells.items all.now.slots.items
-        → IsKept text seam enc (first_cells [] (take from (cells_in text enc all.now.cells.items))) kept.old
-        → IsKept text seam enc (first_cells [] (take upto (cells_in text enc all.now.cells.items))) kept.new) }
+    requires cells { kept.old.cells.items ≡ kept_records all.now.cells.items all.now.slots.items from }
+    requires slots { kept.old.slots.items ≡ kept_slots all.now.cells.items all.now.slots.items from }
+    requires room { length kept.old.cells.items ≤ from }
+    ensures cells { OnOk result (kept.new.cells.items ≡ kept_records all.now.cells.items all.now.slots.items upto) }
+    ensures slots { OnOk result (kept.new.slots.items ≡ kept_slots all.now.cells.items all.now.slots.items upto) }
+    ensures room { OnOk result (length kept.new.cells.items ≤ upto) }
 {
     for i in from..upto {
         if firsts[i] {
@@ -76,9 +79,9 @@ fn keep_firsts(
     requires few { length all.slots.items < 4294967296 }
     requires ordered { AreOrdered all.cells.items (length all.slots.items) }
     ensures few { IfOk result (λ found. (length found.0.cells.items ≤ length all.cells.items) × (found.1 ≤ length all.cells.items)) }
-    ensures kept { IfOk result (λ found. (text : List ℕ) (seam : ℕ) (enc : Enc) → AreSlots text seam enc [] all.cells.items all.slots.items
-        → IsKept text seam enc (first_cells [] (cells_in text enc all.cells.items)) found.0
-        × (found.1 ≡ length (first_cells [] (take own (cells_in text enc all.cells.items))))) }
+    ensures cells { IfOk result (λ found. found.0.cells.items ≡ kept_records all.cells.items all.slots.items (length all.cells.items)) }
+    ensures slots { IfOk result (λ found. found.0.slots.items ≡ kept_slots all.cells.items all.slots.items (length all.cells.items)) }
+    ensures own { IfOk result (λ found. found.1 ≡ length (kept_records all.cells.items all.slots.items own)) }
 {
     let mut kept = Arena::new(alloc);
     keep_part(&all, firsts, 0, own, &mut kept)?;
@@ -87,15 +90,14 @@ fn keep_firsts(
     Ok((kept, kept_own))
 }
 
-// The cells that are the first with their address, with their order by
-// address. The first `own` of all cells are those of the process's own heap.
-pub(crate) fn index_cells(alloc: Global, all: Arena, own: usize) -> Result<Indexed, AllocError>
+/// The cells that are the first with their address, with their order by
+/// address. The first `own` of all cells are those of the process's own heap.
+pub fn index_cells(alloc: Global, all: Arena, own: usize) -> Result<Indexed, AllocError>
     requires own { own ≤ length all.cells.items }
     requires cells { length all.cells.items ≤ 100000000 }
     requires slots { length all.slots.items < 4294967296 }
     requires ordered { AreOrdered all.cells.items (length all.slots.items) }
-    ensures { IfOk result (λ found. (text : List ℕ) (seam : ℕ) (enc : Enc) → AreSlots text seam enc [] all.cells.items all.slots.items
-        → IsIndexed text seam enc (cells_in text enc all.cells.items) own found) }
+    ensures { IfOk result (IsIndexOf all own) }
 {
     let ranks = ranks_of(alloc, &all.cells)?;
     if are_apart(&ranks) {
