@@ -14,7 +14,7 @@ use Rattle.term_forms.specs.Forms.{HeapForm, Cons, Tuple, Float, Long, Pid as Pi
 use Rattle.heap_cells.specs.Cells.{Cell}
 use Rattle.heap_cells.specs.HeapMap.{HeapMap, form_at, number_at}
 use Rattle.heap_cells.specs.Loading.{body_in, enc_of}
-use Rattle.heap_cells.specs.declared.cells.Why.TheVariants.{Missing, Malformed, OnPath}
+use Rattle.cell_records.specs.declared.cells.Why.TheVariants.{Missing, Malformed, OnPath}
 use Rattle.binary_refs.specs.declared.entries.Entry.{Entry}
 use Rattle.term_unfold.specs.Leaves.{leaf_text}
 use Rattle.term_unfold.specs.declared.node.NodeKind.TheVariants as kinds

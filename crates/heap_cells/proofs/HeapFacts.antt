@@ -11,23 +11,24 @@ use Rattle.std.proofs.lemmas.List.Sums.{sum_by-cons}
 use Rattle.std.proofs.lemmas.Option.{slice_get-map}
 use Rattle.binary_payloads.specs.declared.enc.Enc.{Enc}
 use Rattle.term_forms.specs.Elements.{Element, Nil, Small, Atom, Pid, Port, Ref}
-use Rattle.heap_cells.specs.declared.cells.CellRecord.{CellRecord}
-use Rattle.heap_cells.specs.declared.cells.Slot.{Slot}
-use Rattle.heap_cells.specs.declared.cells.Slot.TheVariants as slot
+use Rattle.cell_records.specs.declared.cells.CellRecord.{CellRecord}
+use Rattle.cell_records.specs.declared.cells.Slot.{Slot}
+use Rattle.cell_records.specs.declared.cells.Slot.TheVariants as slot
 use Rattle.heap_cells.specs.declared.gathering.Gathering.{Gathering}
-use Rattle.heap_cells.specs.declared.keeping.Indexed.{Indexed}
+use Rattle.cell_records.specs.declared.keeping.Indexed.{Indexed}
 use Rattle.heap_cells.specs.declared.texts.Texts.{Texts}
 use Rattle.heap_cells.specs.Cells.{Cell, first_cells, line_cells, cells_of, own_count, addresses, cell_weight, weight_of}
 use Rattle.heap_cells.specs.HeapMap.{number_at}
 use Rattle.heap_cells.specs.Targets.{Target, Plain, At, Missing, target, target_at, slot_target}
 use Rattle.heap_cells.specs.Inner.Gathering.{AreAll}
-use Rattle.heap_cells.specs.Inner.Keeping.{AreOrdered, IsIndexed}
+use Rattle.heap_cells.specs.Inner.Keeping.{IsIndexed}
 use Rattle.heap_cells.specs.Inner.Texts.{text_of, seam_of}
-use Rattle.heap_cells.specs.Inner.Order.{record_with, IsOrder}
-use Rattle.heap_cells.specs.Inner.Records.{cell_in, cells_in, elements_by, AreLaid, AreSlots, Spells, AllSpell, start_at, slots_at, IsArena}
-use Rattle.heap_cells.specs.Inner.Resolving.{settled, cell_or_gone}
-use Rattle.heap_cells.proofs.KeepingFacts.{is_seen}
-use Rattle.heap_cells.proofs.OrderFacts.{numbers_of, order-of}
+use Rattle.cell_records.specs.Keeping.{IsIndexOf}
+use Rattle.cell_records.specs.Order.{record_with, IsOrder}
+use Rattle.cell_records.specs.Slots.{start_at, slots_at, AreOrdered}
+use Rattle.heap_cells.specs.Inner.Records.{cell_in, cells_in, elements_by, AreLaid, AreSlots, Spells, AllSpell, IsArena}
+use Rattle.cell_records.specs.Resolving.{settled, cell_or_gone}
+use Rattle.heap_cells.proofs.KeepingFacts.{is_seen, indexed}
 use Rattle.heap_cells.proofs.RecordFacts.{append-none, has-at, piece-of, number-at, weight-slots}
 
 pub ordered-slots : (text : List ℕ) (seam : ℕ) (enc : Enc) (known : List Cell) (rs : List CellRecord) (slots : List Slot) → AreSlots text seam enc known rs slots
@@ -198,6 +199,22 @@ pub record IsWhole (texts : Texts) (g : Gathering) (own : ℕ) : Type 0 where
 abbrev pub is-indexed : Texts → Gathering → ℕ → Indexed → Type 0
 is-indexed texts g own found = IsIndexed (text_of texts) (seam_of texts) texts.enc (cells_in (text_of texts) texts.enc g.arena.cells.items) own found
 
+own-within : (texts : Texts) (g : Gathering) (own : ℕ) → IsWhole texts g own → own ≤ length g.arena.cells.items
+own-within texts g own whole =
+    let count = ap length (whole.all.cells_are whole.kept) in
+    let own_is = whole.all.own_is whole.kept in
+    omega (
+      arith,
+      count,
+      own_is,
+      length-append (line_cells texts.enc texts.heap.items) (line_cells texts.enc texts.literals.items),
+      length-map g.arena.cells.items (cell_in (text_of texts) texts.enc),
+    )
+
+pub whole-indexed : (texts : Texts) (g : Gathering) (own : ℕ) (found : Indexed) → IsWhole texts g own → IsIndexOf g.arena own found → is-indexed texts g own found
+whole-indexed texts g own found whole is =
+    indexed (text_of texts) (seam_of texts) texts.enc g.arena own found (own-within texts g own whole) whole.all.gathered.slots_are is
+
 -- the cells are those of the map
 pub cells-indexed : (texts : Texts) (g : Gathering) (own : ℕ) (found : Indexed) → IsWhole texts g own → is-indexed texts g own found
     → cells_in (text_of texts) texts.enc found.arena.cells.items ≡ cells_of texts.enc texts.heap.items texts.literals.items
@@ -222,7 +239,7 @@ few-indexed texts g own found whole is =
 
 pub arena-indexed : (texts : Texts) (g : Gathering) (own : ℕ) (found : Indexed) (slots : List Slot) (order : List ℕ) → length texts.heap.items ≤ 536870912 → length texts.literals.items ≤ 536870912
     → IsWhole texts g own → is-indexed texts g own found → slots ≡ map (settled found.arena.cells.items) found.arena.slots.items
-    → order ≡ numbers_of found.ranks → IsArena (text_of texts) (seam_of texts) texts.enc found.arena.cells.items slots order found.own
+    → IsOrder found.arena.cells.items order → IsArena (text_of texts) (seam_of texts) texts.enc found.arena.cells.items slots order found.own
 arena-indexed texts g own found slots order heap literals whole is settled_is order_is =
     let text = text_of texts in
     let cells = cells-indexed texts g own found whole is in
@@ -236,5 +253,5 @@ arena-indexed texts g own found slots order heap literals whole is settled_is or
       distinct = subst (λ l. IsDistinct nat_eq (addresses l)) (sym cells) (first-distinct [] (all_lines texts));
       slots_are = subst (AreSlots text (seam_of texts) texts.enc (cells_in text texts.enc found.arena.cells.items) found.arena.cells.items) (sym settled_is)
           (AreSlots-settled text (seam_of texts) texts.enc found.arena.cells.items found.arena.slots.items is.kept.slots_are);
-      order_is = subst (IsOrder found.arena.cells.items) (sym order_is) (order-of found.arena.cells.items found.ranks is.ranks_are);
+      order_is = order_is;
     }

@@ -1,20 +1,21 @@
 -- Of the cells with one address the first is kept.
-use Rattle.std.proofs.Common.{◌≡◌, ℕ, zero, suc, ◌+◌, ◌-◌, ◌<◌, ◌≤◌, ◌==◌, ◌||◌, Bool, true, false, not, cond, List, [], ◌∷◌, ◌++◌, length, take, drop, map, get_or, Some, refl, sym, ◌∙◌, ap, subst, arith, append_assoc, length-append}
+use Rattle.std.proofs.Common.{◌≡◌, ℕ, zero, suc, ◌+◌, ◌<◌, ◌≤◌, ◌==◌, ◌||◌, ◌⊎◌, inl, inr, Bool, true, false, not, cond, List, [], ◌∷◌, ◌++◌, length, take, map, get_or, Some, refl, sym, ◌∙◌, ap, subst, arith, append_assoc}
 use Rattle.std.specs.Prelude.{slice_get}
 use Rattle.std.specs.List.{list_any}
 use Rattle.std.proofs.Math.Seq.{take-length}
 use Rattle.std.proofs.lemmas.List.{take_more, length-map, map-append, take-map, length-take}
 use Rattle.std.proofs.lemmas.Option.{get_or_from_slice_get, slice_get_within}
 use Rattle.binary_payloads.specs.declared.enc.Enc.{Enc}
-use Rattle.heap_cells.specs.declared.arena.Arena.{Arena}
-use Rattle.heap_cells.specs.declared.cells.CellRecord.{CellRecord}
-use Rattle.heap_cells.specs.declared.keeping.Indexed.{Indexed}
+use Rattle.cell_records.specs.declared.arena.Arena.{Arena}
+use Rattle.cell_records.specs.declared.cells.CellRecord.{CellRecord}
+use Rattle.cell_records.specs.declared.cells.Slot.{Slot}
+use Rattle.cell_records.specs.declared.keeping.Indexed.{Indexed}
+use Rattle.cell_records.specs.Keeping.{moved, moved_record, kept_records, kept_slots, AreAllKept, AreFirstKept, IsIndexOf}
 use Rattle.heap_cells.specs.Cells.{Cell, first_cells, addresses}
-use Rattle.heap_cells.specs.Inner.Keeping.{moved, moved_record, AreOrdered, IsKept, IsIndexed}
-use Rattle.heap_cells.specs.Inner.Order.{address_or, address_in, is_first, AreRanked}
-use Rattle.heap_cells.specs.Inner.Ranks.{AreApart}
-use Rattle.heap_cells.specs.Inner.Records.{cell_in, cells_in, AreSlots, start_at, slots_at}
-use Rattle.heap_cells.proofs.FirstFacts.{apart-first}
+use Rattle.heap_cells.specs.Inner.Keeping.{IsKept, IsIndexed}
+use Rattle.cell_records.specs.Order.{address_or, address_in, is_first, AreRanked}
+use Rattle.heap_cells.specs.Inner.Records.{cell_in, cells_in, AreSlots}
+use Rattle.cell_records.specs.Slots.{slots_at}
 use Rattle.heap_cells.proofs.PushingFacts.{AreSlots-push}
 use Rattle.heap_cells.proofs.RecordFacts.{append-none, has-at, cell-at, record-at, piece-of}
 
@@ -74,87 +75,39 @@ first_cells-more text enc rs i r is =
     ∙ ap (λ b. first_cells [] (take i cells) ++ cond b [] (cell ∷ [])) (seen-first text enc rs i r is)
     ∙ ap (λ l. first_cells [] (take i cells) ++ l) (cond-not (is_first rs i) cell)
 
--- ---- one more record
+-- ---- what is kept of the first records
 
-pub kept-more : (text : List ℕ) (seam : ℕ) (enc : Enc) (all old new : Arena) (i : ℕ) (cells : List Cell) (r : CellRecord) → slice_get all.cells.items i ≡ Some r
-    → AreSlots text seam enc [] all.cells.items all.slots.items → IsKept text seam enc cells old
-    → new.cells.items ≡ old.cells.items ++ moved_record all.cells.items i (length old.slots.items) → new.slots.items ≡ old.slots.items ++ slots_at all.cells.items all.slots.items i
-    → IsKept text seam enc (cells ++ cell_in text enc r ∷ []) new
-kept-more text seam enc all old new i cells r is are kept cells_are slots_are =
-    let known = record-at text seam enc 0 all.cells.items (length all.slots.items) i r are.laid is in
-    let piece = piece-of text seam enc [] all.cells.items all.slots.items i r are is in
-    let more : new.cells.items ≡ old.cells.items ++ record r { first = length old.slots.items } ∷ [] =
-    cells_are ∙ ap (λ o. old.cells.items ++ moved (length old.slots.items) o) is in
-    record {
-      slots_are = rw (more, slots_are) (AreSlots-push text seam enc [] old.cells.items old.slots.items (slots_at all.cells.items all.slots.items i) (record r { first = length old.slots.items })
-          kept.slots_are (record { first = refl; part = known.1.part; kind = known.1.kind }) piece.targets (are.spelled i r is));
-      cells_are = ap (cells_in text enc) more ∙ map-append (cell_in text enc) old.cells.items (record r { first = length old.slots.items } ∷ [])
-          ∙ ap (λ l. l ++ cell_in text enc r ∷ []) kept.cells_are;
-    }
+kept-more : (text : List ℕ) (seam : ℕ) (enc : Enc) (rs records : List CellRecord) (ss slots : List Slot) (i : ℕ) (cells : List Cell) (r : CellRecord)
+    → slice_get rs i ≡ Some r → AreSlots text seam enc [] rs ss → IsKept text seam enc cells records slots
+    → IsKept text seam enc (cells ++ cell_in text enc r ∷ []) (records ++ moved_record rs i (length slots)) (slots ++ slots_at rs ss i)
+kept-more text seam enc rs records ss slots i cells r is are kept =
+    let known = record-at text seam enc 0 rs (length ss) i r are.laid is in
+    let piece = piece-of text seam enc [] rs ss i r are is in
+    let last : CellRecord = record r { first = length slots } in
+    let more : moved_record rs i (length slots) ≡ last ∷ [] = ap (moved (length slots)) is in
+    subst (λ (l : List CellRecord). IsKept text seam enc (cells ++ cell_in text enc r ∷ []) (records ++ l) (slots ++ slots_at rs ss i)) (sym more) (record {
+      slots_are = AreSlots-push text seam enc [] records slots (slots_at rs ss i) last
+          kept.slots_are (record { first = refl; part = known.1.part; kind = known.1.kind }) piece.targets (are.spelled i r is);
+      cells_are = map-append (cell_in text enc) records (last ∷ []) ∙ ap (λ l. l ++ cell_in text enc r ∷ []) kept.cells_are;
+    })
 
 -- a record that is the first with its address is kept, and no other one
-pub kept-first : (text : List ℕ) (seam : ℕ) (enc : Enc) (all old new : Arena) (i : ℕ) → i < length all.cells.items → is_first all.cells.items i ≡ true
-    → AreSlots text seam enc [] all.cells.items all.slots.items → IsKept text seam enc (first_cells [] (take i (cells_in text enc all.cells.items))) old
-    → new.cells.items ≡ old.cells.items ++ moved_record all.cells.items i (length old.slots.items) → new.slots.items ≡ old.slots.items ++ slots_at all.cells.items all.slots.items i
-    → IsKept text seam enc (first_cells [] (take (i + 1) (cells_in text enc all.cells.items))) new
-kept-first text seam enc all old new i inside first are kept cells slots =
-    let there = has-at all.cells.items i inside in
-    let more = first_cells-more text enc all.cells.items i there.0 there.1
-    ∙ ap (λ b. first_cells [] (take i (cells_in text enc all.cells.items)) ++ cond b (cell_in text enc there.0 ∷ []) []) first in
-    subst (λ l. IsKept text seam enc l new) (sym more) (kept-more text seam enc all old new i (first_cells [] (take i (cells_in text enc all.cells.items))) there.0 there.1 are kept cells slots)
+kept-unless : (text : List ℕ) (seam : ℕ) (enc : Enc) (rs records : List CellRecord) (ss slots : List Slot) (i : ℕ) (cells : List Cell) (r : CellRecord) (b : Bool)
+    → slice_get rs i ≡ Some r → AreSlots text seam enc [] rs ss → IsKept text seam enc cells records slots
+    → IsKept text seam enc (cells ++ cond b (cell_in text enc r ∷ []) []) (cond b (records ++ moved_record rs i (length slots)) records) (cond b (slots ++ slots_at rs ss i) slots)
+kept-unless text seam enc rs records ss slots i cells r true is are kept = kept-more text seam enc rs records ss slots i cells r is are kept
+kept-unless text seam enc rs records ss slots i cells r false is are kept = subst (λ l. IsKept text seam enc l records slots) (sym (append-none cells)) kept
 
-pub kept-other : (text : List ℕ) (seam : ℕ) (enc : Enc) (all kept : Arena) (i : ℕ) → i < length all.cells.items → is_first all.cells.items i ≡ false
-    → IsKept text seam enc (first_cells [] (take i (cells_in text enc all.cells.items))) kept
-    → IsKept text seam enc (first_cells [] (take (i + 1) (cells_in text enc all.cells.items))) kept
-kept-other text seam enc all kept i inside other is =
-    let there = has-at all.cells.items i inside in
-    let more = first_cells-more text enc all.cells.items i there.0 there.1
-    ∙ ap (λ b. first_cells [] (take i (cells_in text enc all.cells.items)) ++ cond b (cell_in text enc there.0 ∷ []) []) other
-    ∙ append-none (first_cells [] (take i (cells_in text enc all.cells.items))) in
-    subst (λ l. IsKept text seam enc l kept) (sym more) is
-
--- the slots that are kept are no more than those up to the record
-pub room-more : (all old new : Arena) (i : ℕ) → i < length all.cells.items → AreOrdered all.cells.items (length all.slots.items)
-    → length old.slots.items ≤ start_at all.cells.items i (length all.slots.items) → new.slots.items ≡ old.slots.items ++ slots_at all.cells.items all.slots.items i
-    → length new.slots.items ≤ start_at all.cells.items (i + 1) (length all.slots.items)
-room-more all old new i inside ordered room slots =
-    let up = ordered.ordered i inside in
-    let few = length-take (start_at all.cells.items (i + 1) (length all.slots.items) - start_at all.cells.items i (length all.slots.items)) (drop (start_at all.cells.items i (length all.slots.items)) all.slots.items) in
-    omega (arith, up, room, few, ap length slots, length-append old.slots.items (slots_at all.cells.items all.slots.items i))
-
-pub room-same : (all kept : Arena) (i : ℕ) → i < length all.cells.items → AreOrdered all.cells.items (length all.slots.items)
-    → length kept.slots.items ≤ start_at all.cells.items i (length all.slots.items) → length kept.slots.items ≤ start_at all.cells.items (i + 1) (length all.slots.items)
-room-same all kept i inside ordered room = let up = ordered.ordered i inside in omega (arith, up, room)
-
--- ---- the records up to one are judged
-
--- what is kept of the records from one number on and before another one
-pub record IsKeeping (all : Arena) (from : ℕ) (old kept : Arena) (i : ℕ) : Type 0 where
-  pub room : length kept.slots.items ≤ start_at all.cells.items i (length all.slots.items)
-  pub few : length kept.cells.items + from ≤ length old.cells.items + i
-  pub is_kept : (text : List ℕ) (seam : ℕ) (enc : Enc) → AreSlots text seam enc [] all.cells.items all.slots.items
-      → IsKept text seam enc (first_cells [] (take from (cells_in text enc all.cells.items))) old
-      → IsKept text seam enc (first_cells [] (take i (cells_in text enc all.cells.items))) kept
-
-pub keeping-first : (all : Arena) (from : ℕ) (first old new : Arena) (i : ℕ) → i < length all.cells.items → AreOrdered all.cells.items (length all.slots.items)
-    → is_first all.cells.items i ≡ true → IsKeeping all from first old i → new.cells.items ≡ old.cells.items ++ moved_record all.cells.items i (length old.slots.items)
-    → new.slots.items ≡ old.slots.items ++ slots_at all.cells.items all.slots.items i → IsKeeping all from first new (i + 1)
-keeping-first all from first old new i inside ordered is before cells slots = record {
-  room = room-more all old new i inside ordered before.room slots;
-  few = let there = has-at all.cells.items i inside in
-      let count = ap length (cells ∙ ap (λ o. old.cells.items ++ moved (length old.slots.items) o) there.1) in
-      let few = before.few in
-      omega (arith, count, few, length-append old.cells.items (moved (length old.slots.items) (Some there.0)));
-  is_kept = λ text seam enc are start. kept-first text seam enc all old new i inside is are (before.is_kept text seam enc are start) cells slots;
-}
-
-pub keeping-other : (all : Arena) (from : ℕ) (first kept : Arena) (i : ℕ) → i < length all.cells.items → AreOrdered all.cells.items (length all.slots.items)
-    → is_first all.cells.items i ≡ false → IsKeeping all from first kept i → IsKeeping all from first kept (i + 1)
-keeping-other all from first kept i inside ordered is before = record {
-  room = room-same all kept i inside ordered before.room;
-  few = let few = before.few in omega (arith, few);
-  is_kept = λ text seam enc are start. kept-other text seam enc all kept i inside is (before.is_kept text seam enc are start);
-}
+kept-upto : (text : List ℕ) (seam : ℕ) (enc : Enc) (rs : List CellRecord) (ss : List Slot) (n : ℕ) → n ≤ length rs → AreSlots text seam enc [] rs ss
+    → IsKept text seam enc (first_cells [] (take n (cells_in text enc rs))) (kept_records rs ss n) (kept_slots rs ss n)
+kept-upto text seam enc rs ss zero inside are = record { slots_are = record { laid = refl; targets = refl; spelled = λ i r is. cc }; cells_are = refl }
+kept-upto text seam enc rs ss (suc n) inside are =
+    let there = has-at rs n (omega arith) in
+    let next : suc n ≡ n + 1 = omega arith in
+    let cells = first_cells [] (take n (cells_in text enc rs)) in
+    let more = ap (λ m. first_cells [] (take m (cells_in text enc rs))) next ∙ first_cells-more text enc rs n there.0 there.1 in
+    subst (λ l. IsKept text seam enc l (kept_records rs ss (suc n)) (kept_slots rs ss (suc n))) (sym more)
+    (kept-unless text seam enc rs (kept_records rs ss n) ss (kept_slots rs ss n) n cells there.0 (is_first rs n) there.1 are (kept-upto text seam enc rs ss n (omega arith) are))
 
 -- ---- where each record is the first with its address
 
@@ -174,21 +127,47 @@ all-first text enc rs (suc i) each inside =
     ∙ ap (λ l. l ++ cell ∷ []) (all-first text enc rs i each (omega arith))
     ∙ sym more ∙ ap (λ n. take n cells) (sym next)
 
-pub all-indexed : (text : List ℕ) (seam : ℕ) (enc : Enc) (arena : Arena) (own : ℕ) (found : Indexed) → length arena.cells.items ≤ 100000000
-    → AreRanked arena.cells.items found.ranks → AreApart found.ranks → own ≤ length arena.cells.items → found.arena ≡ arena → found.own ≡ own
-    → AreSlots text seam enc [] arena.cells.items arena.slots.items → IsIndexed text seam enc (cells_in text enc arena.cells.items) own found
-all-indexed text seam enc arena own found count are apart few same own_is slots =
-    let cells = cells_in text enc arena.cells.items in
-    let each : (n : ℕ) → n < length arena.cells.items → is_first arena.cells.items n ≡ true = λ n inside. apart-first arena.cells.items found.ranks n count are apart inside in
-    let whole : take (length arena.cells.items) cells ≡ cells =
-    ap (λ n. take n cells) (sym (length-map arena.cells.items (cell_in text enc))) ∙ take-length cells in
+-- ---- the first of all cells
+
+cells-whole : (text : List ℕ) (enc : Enc) (rs : List CellRecord) → take (length rs) (cells_in text enc rs) ≡ cells_in text enc rs
+cells-whole text enc rs = ap (λ n. take n (cells_in text enc rs)) (sym (length-map rs (cell_in text enc))) ∙ take-length (cells_in text enc rs)
+
+all-indexed : (text : List ℕ) (seam : ℕ) (enc : Enc) (all : Arena) (own : ℕ) (found : Indexed) → own ≤ length all.cells.items → AreSlots text seam enc [] all.cells.items all.slots.items
+    → AreRanked found.arena.cells.items found.ranks → AreAllKept all own found → IsIndexed text seam enc (cells_in text enc all.cells.items) own found
+all-indexed text seam enc all own found few slots ranks is =
+    let rs = all.cells.items in
+    let cells = cells_in text enc rs in
+    let whole = cells-whole text enc rs in
     record {
-      kept = subst (λ (a : Arena). IsKept text seam enc (first_cells [] cells) a) (sym same) (record {
+      kept = subst (λ (a : Arena). IsKept text seam enc (first_cells [] cells) a.cells.items a.slots.items) (sym is.arena_is) (record {
         slots_are = slots;
-        cells_are = sym (ap (first_cells []) (sym whole) ∙ all-first text enc arena.cells.items (length arena.cells.items) each (omega arith) ∙ whole);
+        cells_are = sym (ap (first_cells []) (sym whole) ∙ all-first text enc rs (length rs) is.first (omega arith) ∙ whole);
       });
-      ranks_are = subst (λ (a : Arena). AreRanked a.cells.items found.ranks) (sym same) are;
-      own_is = own_is
-          ∙ sym (ap length (all-first text enc arena.cells.items own each few)
-          ∙ (let n = length-take own cells in omega (arith, n, few, length-map arena.cells.items (cell_in text enc))));
+      ranks_are = ranks;
+      own_is = is.own_is
+          ∙ sym (ap length (all-first text enc rs own is.first few)
+          ∙ (let n = length-take own cells in omega (arith, n, few, length-map rs (cell_in text enc))));
     }
+
+first-indexed : (text : List ℕ) (seam : ℕ) (enc : Enc) (all : Arena) (own : ℕ) (found : Indexed) → own ≤ length all.cells.items → AreSlots text seam enc [] all.cells.items all.slots.items
+    → AreRanked found.arena.cells.items found.ranks → AreFirstKept all own found → IsIndexed text seam enc (cells_in text enc all.cells.items) own found
+first-indexed text seam enc all own found few slots ranks is =
+    let rs = all.cells.items in
+    let ss = all.slots.items in
+    let cells = cells_in text enc rs in
+    let kept = subst (λ l. IsKept text seam enc (first_cells [] l) (kept_records rs ss (length rs)) (kept_slots rs ss (length rs))) (cells-whole text enc rs)
+    (kept-upto text seam enc rs ss (length rs) (omega arith) slots) in
+    record {
+      kept = subst (λ (l : List CellRecord). IsKept text seam enc (first_cells [] cells) l found.arena.slots.items) (sym is.cells_are)
+          (subst (λ (l : List Slot). IsKept text seam enc (first_cells [] cells) (kept_records rs ss (length rs)) l) (sym is.slots_are) kept);
+      ranks_are = ranks;
+      own_is = is.own_is ∙ sym (length-map (kept_records rs ss own) (cell_in text enc)) ∙ ap length (kept-upto text seam enc rs ss own few slots).cells_are;
+    }
+
+pub indexed : (text : List ℕ) (seam : ℕ) (enc : Enc) (all : Arena) (own : ℕ) (found : Indexed) → own ≤ length all.cells.items → AreSlots text seam enc [] all.cells.items all.slots.items
+    → IsIndexOf all own found → IsIndexed text seam enc (cells_in text enc all.cells.items) own found
+indexed text seam enc all own found few slots is = by-case is.kept
+  where
+    by-case : AreAllKept all own found ⊎ AreFirstKept all own found → IsIndexed text seam enc (cells_in text enc all.cells.items) own found
+    by-case (inl whole) = all-indexed text seam enc all own found few slots is.ranks_are whole
+    by-case (inr first) = first-indexed text seam enc all own found few slots is.ranks_are first

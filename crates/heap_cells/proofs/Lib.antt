@@ -1,13 +1,8 @@
-pub mod FirstFacts
-pub mod FirstPlace
 pub mod FoundFacts
 pub mod GatheringFacts
 pub mod HeapFacts
 pub mod KeepingFacts
-pub mod OrderFacts
 pub mod PushingFacts
-pub mod RanksFacts
 pub mod RecordFacts
-pub mod ResolvingFacts
 pub mod SpelledFacts
 pub mod TargetFacts

@@ -8,11 +8,12 @@ use Rattle.std.proofs.lemmas.List.{length-map, map-append, take-append-le, drop-
 use Rattle.std.proofs.lemmas.List.Concat.{flat_map-append}
 use Rattle.std.proofs.Math.Seq.{drop-append_seam, take-length}
 use Rattle.binary_payloads.specs.declared.enc.Enc.{Enc}
-use Rattle.heap_cells.specs.declared.cells.CellRecord.{CellRecord}
-use Rattle.heap_cells.specs.declared.cells.Slot.{Slot}
+use Rattle.cell_records.specs.declared.cells.CellRecord.{CellRecord}
+use Rattle.cell_records.specs.declared.cells.Slot.{Slot}
 use Rattle.heap_cells.specs.Cells.{Cell}
 use Rattle.heap_cells.specs.Targets.{target, slot_target}
-use Rattle.heap_cells.specs.Inner.Records.{elements_by, IsRecord, AreLaid, AreSlots, AllSpell, first_or, start_at, slots_at}
+use Rattle.heap_cells.specs.Inner.Records.{elements_by, IsRecord, AreLaid, AreSlots, AllSpell}
+use Rattle.cell_records.specs.Slots.{first_or, start_at, slots_at}
 use Rattle.heap_cells.proofs.RecordFacts.{append-none, piece-of}
 
 -- ---- a record behind others

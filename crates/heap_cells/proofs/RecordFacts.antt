@@ -10,17 +10,18 @@ use Rattle.std.proofs.lemmas.List.Sums.{sum_by-cons}
 use Rattle.binary_payloads.specs.declared.enc.Enc.{Enc}
 use Rattle.term_forms.specs.Elements.{Element}
 use Rattle.term_forms.specs.Forms.{HeapForm}
-use Rattle.heap_cells.specs.declared.cells.CellRecord.{CellRecord}
-use Rattle.heap_cells.specs.declared.cells.Slot.{Slot}
-use Rattle.heap_cells.specs.declared.cells.Slot.TheVariants as slot
+use Rattle.cell_records.specs.declared.cells.CellRecord.{CellRecord}
+use Rattle.cell_records.specs.declared.cells.Slot.{Slot}
+use Rattle.cell_records.specs.declared.cells.Slot.TheVariants as slot
 use Rattle.heap_cells.specs.declared.cells.Kid.{Kid}
-use Rattle.heap_cells.specs.declared.cells.Kind.{Kind}
+use Rattle.cell_records.specs.declared.cells.Kind.{Kind}
 use Rattle.heap_cells.specs.declared.cells.Kid.TheVariants as kid
 use Rattle.heap_cells.specs.Cells.{Cell, elements_in, kind_of, cell_weight, weight_of}
 use Rattle.heap_cells.specs.HeapMap.{number_at, form_at, elements_at}
 use Rattle.heap_cells.specs.Targets.{target, slot_target, kid_target, KeepsElement}
-use Rattle.heap_cells.specs.Inner.Order.{record_with}
-use Rattle.heap_cells.specs.Inner.Records.{cell_in, cells_in, elements_by, IsRecord, AreLaid, AreSlots, start_at, slots_at, element_at, spelled_by, IsReadable, Spells}
+use Rattle.cell_records.specs.Order.{record_with}
+use Rattle.cell_records.specs.Slots.{start_at, slots_at}
+use Rattle.heap_cells.specs.Inner.Records.{cell_in, cells_in, elements_by, IsRecord, AreLaid, AreSlots, element_at, spelled_by, IsReadable, Spells}
 
 -- ---- a record by its number
 

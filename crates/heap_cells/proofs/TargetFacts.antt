@@ -5,7 +5,7 @@ use Rattle.std.proofs.Math.ListN.{get_or-map as get_or-map_same}
 use Rattle.std.proofs.lemmas.List.{get_or-map, length-map}
 use Rattle.std.proofs.lemmas.List.Quantifiers.{position-Some}
 use Rattle.term_forms.specs.Elements.{Element, Nil, Small, Atom, Pid, Port, Ref}
-use Rattle.heap_cells.specs.declared.cells.Slot.{Slot}
+use Rattle.cell_records.specs.declared.cells.Slot.{Slot}
 use Rattle.heap_cells.specs.Cells.{Cell}
 use Rattle.heap_cells.specs.HeapMap.{number_at}
 use Rattle.heap_cells.specs.Targets.{target, target_at, slot_target, IsWithin}

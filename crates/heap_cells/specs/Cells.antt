@@ -9,8 +9,8 @@ use Rattle.term_forms.specs.Forms.{HeapForm, Cons, Tuple, Float, Long, Pid, Port
 use Rattle.term_forms.specs.Places.{elements_of}
 use Rattle.term_forms.specs.Words.{led_of}
 use Rattle.term_forms.specs.ReadingForms.{form_of}
-use Rattle.heap_cells.specs.declared.cells.Kind.{Kind}
-use Rattle.heap_cells.specs.declared.cells.Kind.TheVariants as kind
+use Rattle.cell_records.specs.declared.cells.Kind.{Kind}
+use Rattle.cell_records.specs.declared.cells.Kind.TheVariants as kind
 
 -- an address, and the form of its text; `None` if the text spells no form, so that the cell is malformed
 pub record Cell : Type 0 where

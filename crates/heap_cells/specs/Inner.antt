@@ -1,10 +1,7 @@
 pub mod Found
 pub mod Gathering
 pub mod Keeping
-pub mod Order
 pub mod Parts
-pub mod Ranks
 pub mod Records
-pub mod Resolving
 pub mod Spellings
 pub mod Texts

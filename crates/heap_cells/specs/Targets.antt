@@ -2,19 +2,15 @@
 use Rattle.std.specs.Prelude.{◌≡◌, ℕ, ◌<◌, List, Option, None, Some, IsSome}
 use Rattle.term_forms.specs.Elements.{Element, Nil, Small, Atom, Pid, Port, Ref}
 use Rattle.term_forms.specs.Seen.{element}
-use Rattle.heap_cells.specs.declared.cells.CellIx.{CellIx}
 use Rattle.heap_cells.specs.declared.cells.Seat.{Seat}
 use Rattle.heap_cells.specs.declared.cells.Seat.TheVariants as seat
-use Rattle.heap_cells.specs.declared.cells.Slot.{Slot}
-use Rattle.heap_cells.specs.declared.cells.Slot.TheVariants as slot
+use Rattle.cell_records.specs.declared.cells.Slot.{Slot}
+use Rattle.cell_records.specs.declared.cells.Slot.TheVariants as slot
 use Rattle.heap_cells.specs.declared.cells.Kid.{Kid}
 use Rattle.heap_cells.specs.declared.cells.Kid.TheVariants as kid
 use Rattle.heap_cells.specs.Cells.{Cell}
 use Rattle.heap_cells.specs.HeapMap.{number_at, form_at}
-
--- the number of a cell
-abbrev pub number : CellIx → ℕ
-number ix = ix.0
+pub use Rattle.cell_records.specs.Numbers.{number}
 
 -- what an element leads to: nothing, since it is no reference;
 -- the cell with a number; or an address that no cell has

@@ -10,7 +10,7 @@ ghost use Rattle.heap_cells.specs.Inner.Gathering.{slot_with, slot_for, form_fou
 ghost use Rattle.heap_cells.specs.Inner.Found.{size_at, spelled_at, pair_spelled, read_in, IsPairOf, IsReadOf};
 ghost use Rattle.heap_cells.specs.Inner.Spellings.{IsSpelling};
 
-use crate::cells::{Kind, Slot, Span};
+use cell_records::{Kind, Slot, Span};
 use std::alloc::AllocError;
 use term_forms::reading::elem;
 use term_forms::shapes::{Elem, Form};

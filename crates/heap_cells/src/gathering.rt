@@ -10,10 +10,9 @@ ghost use Rattle.heap_cells.specs.Inner.Parts.{IsPart};
 ghost use Rattle.heap_cells.specs.Inner.Spellings.{IsSpelling};
 ghost use Rattle.heap_cells.specs.Inner.Texts.{text_of, seam_of};
 
-use crate::arena::Arena;
-use crate::cells::CellRecord;
 use crate::found::{Found, found_weight, push_found, read_found};
 use crate::texts::{Texts, part};
+use cell_records::{Arena, CellRecord};
 use field_lines::Line;
 use field_lines::reading::lines;
 use std::alloc::{AllocError, Global};

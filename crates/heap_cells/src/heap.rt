@@ -10,15 +10,13 @@ ghost use Rattle.heap_cells.specs.declared.faults.HeapFault.{HeapFault};
 ghost use Rattle.heap_cells.specs.Loading.{enc_of, heap_section, literals_section, section_in, body_size, body_in, bodies_fault, section_fault, IsAnswerFor, IsCauseOf, IsOfTheTexts};
 ghost use Rattle.heap_cells.specs.Targets.{number, target, slot_target, kid_target, KeepsElement, IsSeatOf, IsSeatWithin, IsWithin};
 
-use crate::arena::{Arena, kid_of, slots_of};
-use crate::cells::{CellIx, Kid, Kind, Seat, Slot};
+use crate::cells::{Kid, Seat};
 use crate::faults::HeapFault;
 use crate::gathering::gather_all;
-use crate::keeping::{Indexed, index_cells};
+use crate::kids::kid_of;
 use crate::loading::{judge_size, read_texts};
-use crate::order::number_of;
-use crate::resolving::resolve;
 use crate::texts::{Texts, part};
+use cell_records::{Arena, CellIx, Indexed, Kind, Slot, index_cells, number_of, resolve, slots_of};
 use dump_io::{Dumps, Limits};
 use dump_sections::Index;
 use std::alloc::Global;

@@ -6,21 +6,18 @@
 //! in the order of their lines, and a reference to another cell is kept as that cell's number.
 #![tactic(auto)]
 
-mod arena;
 mod cells;
 mod faults;
 mod found;
 mod gathering;
 mod heap;
-mod keeping;
+mod kids;
 mod loading;
-mod order;
-mod ranks;
-mod resolving;
 mod spelled;
 mod texts;
 
-pub use cells::{CellIx, Kid, Kind, Seat, Slot, Span, Why};
+pub use cell_records::{CellIx, Kind, Slot, Span, Why};
+pub use cells::{Kid, Seat};
 pub use faults::HeapFault;
 pub use heap::Heap;
 pub use loading::enc_of;

@@ -9,7 +9,7 @@ use Rattle.std.proofs.lemmas.Map.Keys.{any_passes_from_place}
 use Rattle.std.proofs.lemmas.Option.{none-some, same_Some, slice_get_within}
 use Rattle.term_forms.specs.Elements.{Element, Nil, Small, Atom, Pid as PidElement, Port as PortElement, Ref}
 use Rattle.term_forms.specs.Forms.{HeapForm, Cons, Tuple, Float, Long, Pid, Port, Ext, HeapBin, RefBin, SubBin, Flat, Hash, Node}
-use Rattle.heap_cells.specs.declared.cells.Kind.TheVariants as kind
+use Rattle.cell_records.specs.declared.cells.Kind.TheVariants as kind
 use Rattle.heap_cells.specs.Cells.{Cell, elements_in, kind_of}
 use Rattle.heap_cells.specs.HeapMap.{form_at, number_at}
 use Rattle.heap_cells.specs.Targets.{Target, Plain, At, Missing, target, target_at}

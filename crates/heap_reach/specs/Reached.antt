@@ -4,7 +4,7 @@ use Rattle.std.specs.Prelude.{◌≡◌, ℕ, Bool, true, false, ◌⊎◌, List
 use Rattle.std.specs.Option.{option_map}
 use Rattle.term_forms.specs.Elements.{Element}
 use Rattle.term_forms.specs.Forms.{SubBin}
-use Rattle.heap_cells.specs.declared.cells.Kind.TheVariants.{HeapBin}
+use Rattle.cell_records.specs.declared.cells.Kind.TheVariants.{HeapBin}
 use Rattle.heap_cells.specs.Cells.{Cell, kind_of}
 use Rattle.heap_cells.specs.HeapMap.{HeapMap, elements_at, form_at, number_at}
 use Rattle.heap_cells.specs.Targets.{Target, At, target}

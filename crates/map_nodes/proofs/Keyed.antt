@@ -6,7 +6,7 @@ use Rattle.term_forms.specs.Forms.{HeapForm, Cons, Tuple, Float, Long, Pid, Port
 use Rattle.heap_cells.specs.Cells.{Cell, kind_of, elements_in}
 use Rattle.heap_cells.specs.HeapMap.{form_at, elements_at}
 use Rattle.heap_cells.specs.Targets.{At, target}
-use Rattle.heap_cells.specs.declared.cells.Kind.TheVariants as kinds
+use Rattle.cell_records.specs.declared.cells.Kind.TheVariants as kinds
 use Rattle.map_nodes.specs.Laws.Targets.{leads-at}
 use Rattle.map_nodes.specs.Rules.{address_of, form_keys, element_keys, cell_keys, tuple_keys, keys_of_cell}
 

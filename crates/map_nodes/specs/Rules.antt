@@ -6,8 +6,8 @@ use Rattle.term_forms.specs.Forms.{HeapForm, Cons, Tuple, Flat, Node}
 use Rattle.std.specs.Option.{option_map, unwrap_or}
 use Rattle.heap_cells.specs.Cells.{Cell}
 use Rattle.heap_cells.specs.HeapMap.{number_at, address_at, form_at, elements_at}
-use Rattle.heap_cells.specs.declared.cells.Why.{Why}
-use Rattle.heap_cells.specs.declared.cells.Why.TheVariants.{Missing, Malformed}
+use Rattle.cell_records.specs.declared.cells.Why.{Why}
+use Rattle.cell_records.specs.declared.cells.Why.TheVariants.{Missing, Malformed}
 
 -- the address of the cell with a number
 abbrev pub address_of : List Cell → ℕ → ℕ

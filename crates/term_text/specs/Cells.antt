@@ -7,8 +7,8 @@ use Rattle.dump_io.specs.Numbers.{hexadecimal}
 use Rattle.term_forms.specs.Forms.{HeapForm, Cons, Tuple, Float, Long, Pid, Port, Ext, HeapBin, RefBin, SubBin, Flat, Hash, Node}
 use Rattle.heap_cells.specs.Cells.{Cell, kind_of}
 use Rattle.heap_cells.specs.HeapMap.{HeapMap}
-use Rattle.heap_cells.specs.declared.cells.Kind.{Kind}
-use Rattle.heap_cells.specs.declared.cells.Kind.TheVariants as kind
+use Rattle.cell_records.specs.declared.cells.Kind.{Kind}
+use Rattle.cell_records.specs.declared.cells.Kind.TheVariants as kind
 use Rattle.report_lines.specs.Lines.{count_line, newline, tab}
 
 -- the word for a kind of cells; a cell without a kind is malformed

@@ -10,8 +10,8 @@ use Rattle.std.proofs.Math.Nat.{div-add-mod}
 use Rattle.term_forms.specs.Elements.{Element, Nil}
 use Rattle.term_forms.specs.Forms.{HeapForm, Cons, Tuple, Flat, Hash, Node}
 use Rattle.heap_cells.specs.Cells.{Cell, cell_weight, weight_of, elements_in}
-use Rattle.heap_cells.specs.declared.cells.CellIx.{CellIx}
-use Rattle.heap_cells.specs.declared.cells.Slot.{Slot}
+use Rattle.cell_records.specs.declared.cells.CellIx.{CellIx}
+use Rattle.cell_records.specs.declared.cells.Slot.{Slot}
 use Rattle.heap_cells.specs.HeapMap.{HeapMap, IsBounded, form_at, elements_at}
 use Rattle.heap_cells.specs.Targets.{At, number, target, slot_target, IsWithin}
 use Rattle.map_nodes.specs.Laws.Targets.{no_slot, slot-leads, leads-at}

@@ -12,7 +12,7 @@ use Rattle.term_forms.specs.Elements.{Element, Nil, Small, Atom, Pid, Port, Ref}
 use Rattle.term_forms.specs.Forms.{HeapForm, Cons, Tuple, Float, Long, Pid as PidForm, Port as PortForm, Ext, HeapBin, RefBin, SubBin, Flat, Hash, Node}
 use Rattle.heap_cells.specs.Cells.{Cell, addresses}
 use Rattle.heap_cells.specs.HeapMap.{number_at, form_at}
-use Rattle.heap_cells.specs.declared.cells.Why.TheVariants.{OnPath}
+use Rattle.cell_records.specs.declared.cells.Why.TheVariants.{OnPath}
 use Rattle.map_nodes.specs.Rules.{Keys, no_keys, keys_at, bad_keys, keys_of_map, form_member, cell_member, form_with}
 use Rattle.term_unfold.specs.Laws.{IsPath}
 use Rattle.term_unfold.specs.Rules.{Child, Term, Item, Opening, leaf, bad, node, is_on, unless_on, keyed, form_opening, cell_opening, item_opening, opening}

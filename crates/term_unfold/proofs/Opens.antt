@@ -11,10 +11,10 @@ use Rattle.std.specs.Cmp.{nat_eq_equiv}
 use Rattle.term_forms.specs.Elements.{Element, Nil, Small, Atom, Pid, Port, Ref}
 use Rattle.term_forms.specs.Forms.{HeapForm, Cons, Tuple, Float, Long, Pid as PidForm, Port as PortForm, Ext, HeapBin, RefBin, SubBin, Flat, Hash, Node}
 use Rattle.heap_cells.specs.Cells.{Cell, addresses, elements_in, kind_of}
-use Rattle.heap_cells.specs.declared.cells.Kind.{Kind}
-use Rattle.heap_cells.specs.declared.cells.Kind.TheVariants as cell_kind
-use Rattle.heap_cells.specs.declared.cells.Why.{Why}
-use Rattle.heap_cells.specs.declared.cells.Why.TheVariants.{Missing, Malformed, OnPath}
+use Rattle.cell_records.specs.declared.cells.Kind.{Kind}
+use Rattle.cell_records.specs.declared.cells.Kind.TheVariants as cell_kind
+use Rattle.cell_records.specs.declared.cells.Why.{Why}
+use Rattle.cell_records.specs.declared.cells.Why.TheVariants.{Missing, Malformed, OnPath}
 use Rattle.heap_cells.specs.HeapMap.{number_at, form_at}
 use Rattle.heap_cells.specs.Targets.{Plain, At, number, target}
 use Rattle.map_nodes.specs.Laws.Targets.{leads-at, leads-nowhere}

@@ -6,7 +6,7 @@ use Rattle.term_forms.specs.Forms.{HeapForm}
 use Rattle.heap_cells.specs.Cells.{Cell}
 use Rattle.heap_cells.specs.HeapMap.{form_at, elements_at}
 use Rattle.heap_cells.specs.Targets.{number}
-use Rattle.heap_cells.specs.declared.cells.Why.{Why}
+use Rattle.cell_records.specs.declared.cells.Why.{Why}
 use Rattle.map_nodes.specs.Rules.{address_of, form_with}
 use Rattle.term_unfold.specs.declared.node.NodeKind.{NodeKind}
 use Rattle.term_unfold.specs.declared.node.NodeKind.TheVariants as kinds

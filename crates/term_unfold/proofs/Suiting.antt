@@ -3,8 +3,8 @@ use Rattle.std.proofs.Common.{ℕ, zero, suc, ◌-◌, List, [], ◌∷◌, leng
 use Rattle.term_forms.specs.Elements.{Element, Nil, Small, Atom, Pid, Port, Ref}
 use Rattle.term_forms.specs.Forms.{HeapForm, Cons, Tuple, Float, Long, Pid as PidForm, Port as PortForm, Ext, HeapBin, RefBin, SubBin, Flat, Hash, Node}
 use Rattle.heap_cells.specs.Cells.{Cell}
-use Rattle.heap_cells.specs.declared.cells.Why.{Why}
-use Rattle.heap_cells.specs.declared.cells.Why.TheVariants.{OnPath}
+use Rattle.cell_records.specs.declared.cells.Why.{Why}
+use Rattle.cell_records.specs.declared.cells.Why.TheVariants.{OnPath}
 use Rattle.map_nodes.specs.Rules.{Keys, no_keys, keys_at, bad_keys, keys_of_map, Member, pair_at, inner_at, bad_member, member_of, form_with}
 use Rattle.term_unfold.specs.Laws.{Suits}
 use Rattle.term_unfold.specs.Rules.{Child, Term, Item, Opening, bad, is_on, unless_on, terms, items, pairs, keyed, form_opening, cell_opening, term_opening, item_opening, opening}

@@ -1,7 +1,7 @@
 -- Turns, by what the walk writes and where it stands then.
 use Rattle.std.proofs.Common.{◌≡◌, ℕ, suc, ◌+◌, ◌<◌, ◌≤◌, Bool, true, false, cond, List, [], ◌∷◌, ◌++◌, length, drop, refl, sym, ◌∙◌, ap, subst, append_assoc, append-nil, arith}
 use Rattle.heap_cells.specs.Cells.{Cell}
-use Rattle.heap_cells.specs.declared.cells.Why.{Why}
+use Rattle.cell_records.specs.declared.cells.Why.{Why}
 use Rattle.term_unfold.specs.declared.openings.Opened.{Opened}
 use Rattle.term_unfold.specs.declared.openings.Opened.TheVariants as opened
 use Rattle.term_unfold.specs.declared.path.Entry.{Entry}

@@ -1,6 +1,6 @@
 -- The nodes of a tree with their places, and what each looks like.
 use Rattle.std.specs.Prelude.{ℕ, suc, Bool, List, [], ◌∷◌, ◌++◌}
-use Rattle.heap_cells.specs.declared.cells.Why.{Why}
+use Rattle.cell_records.specs.declared.cells.Why.{Why}
 use Rattle.term_unfold.specs.declared.node.NodeKind.{NodeKind}
 use Rattle.term_unfold.specs.Terms.{count}
 use Rattle.term_unfold.specs.Text.{is_nil}

@@ -2,8 +2,8 @@
 use Rattle.std.specs.Prelude.{ℕ, zero, suc, Bool, true, false, List, [], ◌++◌, codes}
 use Rattle.std.specs.Fmt.{digits}
 use Rattle.term_forms.specs.Elements.{Nil}
-use Rattle.heap_cells.specs.declared.cells.Why.{Why}
-use Rattle.heap_cells.specs.declared.cells.Why.TheVariants.{Missing, Malformed, OnPath}
+use Rattle.cell_records.specs.declared.cells.Why.{Why}
+use Rattle.cell_records.specs.declared.cells.Why.TheVariants.{Missing, Malformed, OnPath}
 use Rattle.term_unfold.specs.declared.node.NodeKind.TheVariants as kinds
 use Rattle.term_unfold.specs.Trees.{Value, Immediate, Tree, Leaf, Bad, Branch, Trees, none, more}
 

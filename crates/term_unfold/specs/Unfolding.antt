@@ -2,7 +2,7 @@
 use Rattle.std.specs.Prelude.{ℕ, zero, suc, ◌-◌, List, [], ◌∷◌, length}
 use Rattle.term_forms.specs.Elements.{Element}
 use Rattle.heap_cells.specs.Cells.{Cell}
-use Rattle.heap_cells.specs.declared.cells.Why.TheVariants.{OnPath}
+use Rattle.cell_records.specs.declared.cells.Why.TheVariants.{OnPath}
 use Rattle.term_unfold.specs.Rules.{Child, Term, Opening, leaf, bad, node, opening}
 use Rattle.term_unfold.specs.Trees.{Tree, Leaf, Bad, Branch, Trees, none, more}
 

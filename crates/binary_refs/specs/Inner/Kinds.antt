@@ -1,7 +1,7 @@
 -- The kinds of cells that are binaries or refer to one.
 use Rattle.std.specs.Prelude.{Bool, true, false, Option, Some}
-use Rattle.heap_cells.specs.declared.cells.Kind.{Kind}
-use Rattle.heap_cells.specs.declared.cells.Kind.TheVariants.{HeapBin, RefBin, SubBin}
+use Rattle.cell_records.specs.declared.cells.Kind.{Kind}
+use Rattle.cell_records.specs.declared.cells.Kind.TheVariants.{HeapBin, RefBin, SubBin}
 
 -- a cell of this kind refers to a binary; a malformed one has no kind
 abbrev pub refers : Option Kind → Bool

@@ -6,13 +6,14 @@ use Rattle.binary_payloads.specs.declared.enc.Enc.{Enc}
 use Rattle.term_forms.specs.Elements.{Element}
 use Rattle.term_forms.specs.Reading.{whole_of}
 use Rattle.term_forms.specs.ReadingForms.{form_of}
-use Rattle.heap_cells.specs.declared.cells.CellRecord.{CellRecord}
-use Rattle.heap_cells.specs.declared.cells.Slot.{Slot}
-use Rattle.heap_cells.specs.declared.cells.Slot.TheVariants as slot
-use Rattle.heap_cells.specs.declared.cells.Span.{Span}
+use Rattle.cell_records.specs.declared.cells.CellRecord.{CellRecord}
+use Rattle.cell_records.specs.declared.cells.Slot.{Slot}
+use Rattle.cell_records.specs.declared.cells.Slot.TheVariants as slot
+use Rattle.cell_records.specs.declared.cells.Span.{Span}
 use Rattle.heap_cells.specs.Cells.{Cell, elements_in, kind_of, addresses}
 use Rattle.heap_cells.specs.Targets.{target, slot_target}
-use Rattle.heap_cells.specs.Inner.Order.{IsOrder}
+use Rattle.cell_records.specs.Order.{IsOrder}
+use Rattle.cell_records.specs.Slots.{slots_at}
 use Rattle.heap_cells.specs.Inner.Parts.{IsPart}
 
 abbrev pub cell_in : List ℕ → Enc → CellRecord → Cell
@@ -35,18 +36,6 @@ abbrev pub AreLaid : List ℕ → ℕ → Enc → ℕ → List CellRecord → �
 AreLaid text seam enc begin [] upto = begin ≡ upto
 AreLaid text seam enc begin (r ∷ rs) upto =
     IsRecord text seam enc begin r × AreLaid text seam enc (begin + length (elements_by text enc r)) rs upto
-
--- where the slots of a record begin, or, past the last record, where all slots end
-abbrev pub first_or : ℕ → Option CellRecord → ℕ
-first_or total None = total
-first_or total (Some r) = r.first
-
-abbrev pub start_at : List CellRecord → ℕ → ℕ → ℕ
-start_at records i total = first_or total (slice_get records i)
-
--- the slots of a record
-abbrev pub slots_at : List CellRecord → List Slot → ℕ → List Slot
-slots_at records slots i = slice_range slots (start_at records i (length slots)) (start_at records (i + 1) (length slots))
 
 -- the element that a part of the text spells
 abbrev pub element_at : List ℕ → Span → Option Element

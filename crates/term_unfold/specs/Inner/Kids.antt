@@ -4,8 +4,8 @@ use Rattle.std.specs.Option.{option_map}
 use Rattle.term_forms.specs.Elements.{Element, Ref}
 use Rattle.term_forms.specs.Forms.{HeapForm, Tuple, Hash, Node}
 use Rattle.heap_cells.specs.Cells.{Cell, elements_in, kind_of}
-use Rattle.heap_cells.specs.declared.cells.Kind.TheVariants as cell_kind
-use Rattle.heap_cells.specs.declared.cells.Slot.{Slot}
+use Rattle.cell_records.specs.declared.cells.Kind.TheVariants as cell_kind
+use Rattle.cell_records.specs.declared.cells.Slot.{Slot}
 use Rattle.heap_cells.specs.HeapMap.{form_at, elements_at}
 use Rattle.heap_cells.specs.Targets.{number, target, slot_target, IsWithin}
 use Rattle.map_nodes.specs.Rules.{address_of, element_at, form_with}

@@ -7,8 +7,8 @@ use Rattle.heap_cells.specs.Cells.{spelled_cell, elements_in}
 use Rattle.heap_cells.specs.Inner.Found.{read_in}
 use Rattle.heap_cells.specs.Inner.Gathering.{form_found}
 use Rattle.heap_cells.specs.Inner.Texts.{text_of, seam_of}
-use Rattle.heap_cells.specs.declared.cells.CellRecord.{CellRecord}
-use Rattle.heap_cells.specs.declared.cells.Slot.{Slot}
+use Rattle.cell_records.specs.declared.cells.CellRecord.{CellRecord}
+use Rattle.cell_records.specs.declared.cells.Slot.{Slot}
 use Rattle.heap_cells.specs.declared.gathering.Gathering.{Gathering}
 use Rattle.heap_cells.specs.declared.texts.Texts.{Texts}
 use Rattle.heap_cells.proofs.GatheringFacts.{Found, OnOk-both, found-few, found-is, found-weight, part-few, slots-more, slots-found-count, cells-more, leads-kept}

@@ -1,8 +1,8 @@
 use Rattle.std.proofs.Common.{◌≡◌, subst, sym, refl, ap, ◌∙◌}
 use Rattle.heap_cells.specs.HeapMap.{elements_at}
 use Rattle.heap_cells.specs.Targets.{number}
-use Rattle.heap_cells.specs.declared.cells.Why.TheVariants.{Malformed}
-use Rattle.heap_cells.specs.declared.cells.Slot.TheVariants as slot
+use Rattle.cell_records.specs.declared.cells.Why.TheVariants.{Malformed}
+use Rattle.cell_records.specs.declared.cells.Slot.TheVariants as slot
 use Rattle.map_nodes.specs.Answers.{IsMemberAt}
 use Rattle.map_nodes.specs.Laws.Targets.{address-is, slot-leads, leads-at, leads-missing, leads-nowhere}
 use Rattle.map_nodes.specs.Rules.{bad_member, address_of, element_at, member_of, cell_member}

@@ -1,7 +1,7 @@
 use Rattle.std.proofs.Common.{◌-◌, subst, sym, arith, ap}
 use Rattle.heap_cells.specs.HeapMap.{elements_at}
 use Rattle.heap_cells.specs.Targets.{number}
-use Rattle.heap_cells.specs.declared.cells.Slot.TheVariants as slot
+use Rattle.cell_records.specs.declared.cells.Slot.TheVariants as slot
 use Rattle.map_nodes.specs.Answers.{IsKeysAt}
 use Rattle.map_nodes.specs.Laws.Targets.{slot-leads}
 use Rattle.map_nodes.proofs.Keyed.{cell-keyed}

@@ -3,7 +3,7 @@ use Rattle.std.proofs.Common.{refl, sym, ap, subst}
 use Rattle.term_forms.specs.Elements.{Ref}
 use Rattle.heap_cells.specs.HeapMap.{form_at}
 use Rattle.heap_cells.specs.Targets.{number}
-use Rattle.heap_cells.specs.declared.cells.Why.TheVariants.{Missing}
+use Rattle.cell_records.specs.declared.cells.Why.TheVariants.{Missing}
 use Rattle.map_nodes.specs.Laws.Targets.{found-address}
 use Rattle.term_unfold.specs.Inner.Entries.{numbers_of, path_of, IsLine}
 use Rattle.term_unfold.specs.Inner.Openings.{Opens}

@@ -1,7 +1,7 @@
 use Rattle.std.proofs.Common.{Some, refl, sym, ◌∙◌, ap}
 use Rattle.heap_cells.specs.HeapMap.{form_at}
 use Rattle.heap_cells.specs.Targets.{number}
-use Rattle.heap_cells.specs.declared.cells.Why.TheVariants.{Malformed}
+use Rattle.cell_records.specs.declared.cells.Why.TheVariants.{Malformed}
 use Rattle.map_nodes.specs.Laws.Targets.{address-is}
 use Rattle.map_nodes.specs.Rules.{address_of}
 use Rattle.term_unfold.specs.Inner.Entries.{path_of}

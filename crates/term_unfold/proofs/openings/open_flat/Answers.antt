@@ -1,8 +1,8 @@
 use Rattle.std.proofs.Common.{◌∷◌, refl, ◌∙◌, ap, subst, arith}
 use Rattle.heap_cells.specs.HeapMap.{elements_at, form_at}
 use Rattle.heap_cells.specs.Targets.{number}
-use Rattle.heap_cells.specs.declared.cells.Slot.TheVariants as slot
-use Rattle.heap_cells.specs.declared.cells.Why.TheVariants.{Malformed}
+use Rattle.cell_records.specs.declared.cells.Slot.TheVariants as slot
+use Rattle.cell_records.specs.declared.cells.Why.TheVariants.{Malformed}
 use Rattle.map_nodes.specs.Laws.Targets.{address-is, slot-leads, leads-missing}
 use Rattle.map_nodes.specs.Rules.{address_of, element_at}
 use Rattle.term_unfold.specs.Inner.Entries.{numbers_of, path_of, IsLine}

@@ -2,7 +2,7 @@ use Rattle.std.proofs.Common.{◌≡◌, true, false, ◌||◌, ◌∷◌, refl,
 use Rattle.std.proofs.lemmas.Bool.{eq-eqb}
 use Rattle.heap_cells.specs.HeapMap.{form_at}
 use Rattle.heap_cells.specs.Targets.{number}
-use Rattle.heap_cells.specs.declared.cells.Why.TheVariants.{OnPath}
+use Rattle.cell_records.specs.declared.cells.Why.TheVariants.{OnPath}
 use Rattle.map_nodes.specs.Laws.Targets.{address-is, leads-at}
 use Rattle.map_nodes.specs.Rules.{address_of, element_at}
 use Rattle.term_unfold.specs.Inner.Entries.{path_of}

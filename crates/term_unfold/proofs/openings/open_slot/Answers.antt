@@ -1,6 +1,6 @@
 use Rattle.std.proofs.Common.{sym, ◌∙◌, ap, subst}
 use Rattle.heap_cells.specs.Targets.{number}
-use Rattle.heap_cells.specs.declared.cells.Why.TheVariants.{Missing}
+use Rattle.cell_records.specs.declared.cells.Why.TheVariants.{Missing}
 use Rattle.map_nodes.specs.Laws.Targets.{leads-at, leads-missing}
 use Rattle.term_unfold.specs.Inner.Entries.{numbers_of, path_of, IsLine}
 use Rattle.term_unfold.specs.Inner.Openings.{Opens}

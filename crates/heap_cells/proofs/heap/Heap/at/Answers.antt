@@ -1,12 +1,12 @@
 use Rattle.std.proofs.Common.{◌≡◌, ℕ, ◌<◌, List, length, get_or, Option, None, Some, refl, sym, ◌∙◌, ap, arith}
 use Rattle.std.specs.Option.{option_map}
-use Rattle.heap_cells.specs.declared.cells.CellRecord.{CellRecord}
+use Rattle.cell_records.specs.declared.cells.CellRecord.{CellRecord}
 use Rattle.heap_cells.specs.declared.heap.Heap.TheInside.{Inside}
 use Rattle.heap_cells.specs.contracts.heap.Heap.{the_invariant, the_view}
 use Rattle.heap_cells.specs.Cells.{kind_of}
 use Rattle.heap_cells.specs.HeapMap.{HeapMap, number_at, form_at}
 use Rattle.heap_cells.specs.Inner.Texts.{text_of, seam_of}
-use Rattle.heap_cells.specs.Inner.Order.{record_with}
+use Rattle.cell_records.specs.Order.{record_with}
 use Rattle.heap_cells.proofs.RecordFacts.{number-at, read-from, form-of, no-kind, some-kind}
 use Rattle.heap_cells.proofs.TargetFacts.{number_at-within}
 use Rattle.heap_cells.proofs.heap.Heap.at.Goals as goal

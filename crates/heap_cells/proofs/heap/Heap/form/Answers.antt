@@ -2,7 +2,7 @@ use Rattle.std.proofs.Common.{◌≡◌, ℕ, ◌<◌, ◌∙◌, sym, ap, subst
 use Rattle.std.specs.Prelude.{IsSome}
 use Rattle.term_forms.specs.SeenForms.{heap_form}
 use Rattle.term_forms.specs.ReadingForms.{form_of}
-use Rattle.heap_cells.specs.declared.cells.CellRecord.{CellRecord}
+use Rattle.cell_records.specs.declared.cells.CellRecord.{CellRecord}
 use Rattle.heap_cells.specs.declared.heap.Heap.TheInside.{Inside}
 use Rattle.heap_cells.specs.contracts.heap.Heap.{the_invariant, the_view}
 use Rattle.heap_cells.specs.HeapMap.{HeapMap, IsSpelled, form_at}

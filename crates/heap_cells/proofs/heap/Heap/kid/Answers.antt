@@ -1,13 +1,13 @@
 use Rattle.std.proofs.Common.{◌≡◌, ℕ, ◌<◌, ◌∙◌, List, length, get_or, Some, refl, sym, ap}
 use Rattle.std.specs.Option.{option_map}
-use Rattle.heap_cells.specs.declared.cells.Slot.{Slot}
-use Rattle.heap_cells.specs.declared.cells.Slot.TheVariants as slot
+use Rattle.cell_records.specs.declared.cells.Slot.{Slot}
+use Rattle.cell_records.specs.declared.cells.Slot.TheVariants as slot
 use Rattle.heap_cells.specs.declared.heap.Heap.TheInside.{Inside}
 use Rattle.heap_cells.specs.contracts.heap.Heap.{the_invariant, the_view}
 use Rattle.heap_cells.specs.HeapMap.{HeapMap, elements_at}
 use Rattle.heap_cells.specs.Targets.{number, target}
 use Rattle.heap_cells.specs.Inner.Texts.{text_of, seam_of}
-use Rattle.heap_cells.specs.Inner.Records.{slots_at}
+use Rattle.cell_records.specs.Slots.{slots_at}
 use Rattle.heap_cells.proofs.RecordFacts.{IsSlotsOf, slots-of, slots-length, IsKidOf, kid-of, spells-readable, keeps-element}
 use Rattle.heap_cells.proofs.TargetFacts.{target-within}
 use Rattle.heap_cells.proofs.heap.Heap.kid.Goals as goal

@@ -1,7 +1,7 @@
 use Rattle.std.proofs.Common.{◌≤◌, length, ap, arith}
 use Rattle.heap_cells.specs.HeapMap.{HeapMap, elements_at}
 use Rattle.heap_cells.specs.Targets.{number}
-use Rattle.heap_cells.specs.Inner.Records.{slots_at}
+use Rattle.cell_records.specs.Slots.{slots_at}
 use Rattle.heap_cells.specs.Inner.Texts.{text_of, seam_of}
 use Rattle.heap_cells.proofs.RecordFacts.{IsSlotsOf, slots-of, slots_at-few}
 use Rattle.heap_cells.proofs.TargetFacts.{slots-within}

@@ -1,0 +1,236 @@
+-- Numbers of records in the order of their addresses.
+use Rattle.std.proofs.Common.{◌≡◌, ℕ, ◌+◌, ◌<◌, ◌≤◌, ◌==◌, ◌⊎◌, inl, inr, true, false, ltb, List, [], ◌∷◌, ◌++◌, length, get_or, map, None, Some, refl, sym, ◌∙◌, ap, subst, arith, length-append, below_more}
+use Rattle.std.specs.Prelude.{All}
+use Rattle.std.specs.List.Sorted.{IsNonDecreasingBy, IsPartitionPoint, IsPermutation, IsSorted}
+use Rattle.std.specs.Ordering.{is_lt, ordering_then, nat_cmp}
+use Rattle.std.specs.Cmp.{nat_cmp_is}
+use Rattle.std.specs.declared.cmp.Ordering.TheVariants.{Less, Equal}
+use Rattle.std.proofs.lemmas.Map.Keys.{ge_from_not_lt}
+use Rattle.std.proofs.lemmas.List.Elements.{All-map}
+use Rattle.std.proofs.lemmas.Bool.{true≢false, cases_lt, cases_order, false_from_ne_true, eq-eqb, eqb-true, ltb-true, ltb-false, lt-ltb, le-ltb}
+use Rattle.std.proofs.lemmas.List.{get_or_default, get_or_push, get_or_append_left, get_or-map, length-map}
+use Rattle.std.proofs.lemmas.List.Sorted.{All-permutation, Contains-permutation, IsNonDecreasingBy-from_all_adjacent}
+use Rattle.std.proofs.lemmas.Option.{slice_get-get_or}
+use Rattle.cell_records.specs.declared.cells.CellRecord.{CellRecord}
+use Rattle.cell_records.specs.Order.{address_or, address_in, rank, IsOrder, record_with, IsPairOf, ArePairs, AreRanked}
+use Rattle.cell_records.specs.Inner.References.{IsFirstFrom}
+use Rattle.cell_records.proofs.FirstPlace.{position-at, position-none}
+
+pub lesser : (a b m n : ℕ) → m < 4294967296 → n < 4294967296 → rank a m ≤ rank b n → a ≤ b
+lesser a b m n one other ranks = omega arith
+
+-- the numbers rise by address
+pub by-address : (rs : List CellRecord) (order : List ℕ) → length rs < 4294967296 → IsOrder rs order → IsNonDecreasingBy (address_in rs) order
+by-address rs order few is i j d up inside =
+    let one = is.within i d (omega arith) in
+    let other = is.within j d inside in
+    lesser (address_in rs (get_or order i d)) (address_in rs (get_or order j d)) (get_or order i d) (get_or order j d) (omega (arith, one)) (omega (arith, other)) (is.sorted i j d up inside)
+
+-- ---- the first record with an address
+
+no_record : CellRecord
+no_record = record { address = 0; at = 0; len = 0; first = 0; kind = None }
+
+address-in : (rs : List CellRecord) (n : ℕ) → n < length rs → address_in rs n ≡ (get_or rs n no_record).address
+address-in rs n inside = ap (address_or 0) (slice_get-get_or rs n no_record inside)
+
+has-address : (rs : List CellRecord) (address n : ℕ) → n < length rs → address_in rs n ≡ address → ((get_or rs n no_record).address == address) ≡ true
+has-address rs address n inside is = eq-eqb _ _ (sym (address-in rs n inside) ∙ is)
+
+lacks-address : (rs : List CellRecord) (address n : ℕ) → n < length rs → (address_in rs n ≡ address → ⊥) → ((get_or rs n no_record).address == address) ≡ false
+lacks-address rs address n inside other = false_from_ne_true _ (λ same. other (address-in rs n inside ∙ eqb-true _ _ same))
+
+-- a record with the address, and none before it
+pub record-first : (rs : List CellRecord) (address n : ℕ) → n < length rs → address_in rs n ≡ address → ((m : ℕ) → m < n → address_in rs m ≡ address → ⊥)
+    → record_with rs address ≡ Some n
+record-first rs address n inside is none =
+    position-at (λ r. r.address == address) rs n no_record (λ m before. lacks-address rs address m (omega arith) (none m before)) inside (has-address rs address n inside is)
+
+pub record-none : (rs : List CellRecord) (address : ℕ) → ((m : ℕ) → m < length rs → address_in rs m ≡ address → ⊥) → record_with rs address ≡ None
+record-none rs address none = position-none (λ r. r.address == address) rs no_record (λ m inside. lacks-address rs address m inside (none m inside))
+
+-- ---- what a search by address finds
+
+abbrev pub IsPointOf : List CellRecord → List ℕ → ℕ → ℕ → Type 0
+IsPointOf rs order address at = IsPartitionPoint (λ n. ltb (address_in rs n) address ≡ true) (λ n. ltb (address_in rs n) address ≡ false) order at
+
+-- a number in front of the point has another address
+front-differs : (rs : List CellRecord) (order : List ℕ) (address at k n : ℕ) → IsPointOf rs order address at → k < at → get_or order k n ≡ n → address_in rs n ≡ address → ⊥
+front-differs rs order address at k n point before there is =
+    let less : address_in rs n < address = ltb-true _ _ (subst (λ m. ltb (address_in rs m) address ≡ true) there (point.0 k n (omega arith) before)) in
+    omega (arith, less, is)
+
+pub past-the-end : (rs : List CellRecord) (order : List ℕ) (address at : ℕ) → IsOrder rs order → IsPointOf rs order address at → length order ≤ at
+    → record_with rs address ≡ None
+past-the-end rs order address at is point past =
+    record-none rs address
+    (λ m inside same. let there = is.complete m inside in front-differs rs order address at there.0 m point (omega (arith, there.1)) there.2 same)
+
+-- a number at an earlier place has no greater rank
+pub ranked : (rs : List CellRecord) (order : List ℕ) (i j m n : ℕ) → IsOrder rs order → i ≤ j → j < length order → get_or order i m ≡ m → get_or order j n ≡ n
+    → rank (address_in rs m) m ≤ rank (address_in rs n) n
+ranked rs order i j m n is up inside one other =
+    let first : get_or order i 0 ≡ m = get_or_default order i 0 m (omega arith) ∙ one in
+    let second : get_or order j 0 ≡ n = get_or_default order j 0 n inside ∙ other in
+    subst (λ k. rank (address_in rs m) m ≤ rank (address_in rs k) k) second
+    (subst (λ k. rank (address_in rs k) k ≤ rank (address_in rs (get_or order j 0)) (get_or order j 0)) first (is.sorted i j 0 up inside))
+
+pub found-there : (rs : List CellRecord) (order : List ℕ) (address at n : ℕ) → IsOrder rs order → IsPointOf rs order address at → at < length order
+    → n ≡ get_or order at n → address_in rs n ≡ address → record_with rs address ≡ Some n
+found-there rs order address at n is point inside read same =
+    record-first rs address n (subst (λ k. k < length rs) (sym read) (is.within at n inside)) same before
+  where
+    not_before : (m k : ℕ) → m < n → address_in rs m ≡ address → k < length order → get_or order k m ≡ m → (k < at) ⊎ (at ≤ k) → ⊥
+    not_before m k less equal within there (inl earlier) = front-differs rs order address at k m point earlier there equal
+    not_before m k less equal within there (inr later) =
+        let ranks = ranked rs order at k n m is later within (sym read) there in omega (arith, ranks, same, equal)
+
+    before : (m : ℕ) → m < n → address_in rs m ≡ address → ⊥
+    before m less equal =
+        let here : n < length rs = subst (λ k. k < length rs) (sym read) (is.within at n inside) in
+        let there = is.complete m (omega arith) in
+        not_before m there.0 less equal there.1 there.2 (cases_lt there.0 at)
+
+pub other-there : (rs : List CellRecord) (order : List ℕ) (address at n : ℕ) → length rs < 4294967296 → IsOrder rs order → IsPointOf rs order address at → at < length order
+    → n ≡ get_or order at n → (address_in rs n ≡ address → ⊥) → record_with rs address ≡ None
+other-there rs order address at n few is point inside read other =
+    record-none rs address (λ m within same. let there = is.complete m within in nowhere m there.0 within same there.1 there.2 (cases_lt there.0 at))
+  where
+    nowhere : (m k : ℕ) → m < length rs → address_in rs m ≡ address → k < length order → get_or order k m ≡ m → (k < at) ⊎ (at ≤ k) → ⊥
+    nowhere m k within same listed there (inl earlier) = front-differs rs order address at k m point earlier there same
+    nowhere m k within same listed there (inr later) =
+        let here : n < length rs = subst (λ k. k < length rs) (sym read) (is.within at n inside) in
+        let ranks = ranked rs order at k n m is later listed (sym read) there in
+        let up : address_in rs n ≤ address_in rs m = lesser (address_in rs n) (address_in rs m) n m (omega arith) (omega arith) ranks in
+        let behind : address ≤ address_in rs n =
+        ltb-false _ _ (subst (λ k. ltb (address_in rs k) address ≡ false) (sym read) (point.1 at n (omega arith) inside)) in
+        other (omega (arith, up, behind, same))
+
+-- ---- pairs of addresses and numbers
+
+pub pairs-more : (rs : List CellRecord) (pairs more : List (ℕ × ℕ)) (i : ℕ) → length pairs ≡ i → ((k : ℕ) (d : ℕ × ℕ) → k < i → get_or pairs k d ≡ (address_in rs k, k))
+    → more ≡ pairs ++ (address_in rs i, i) ∷ [] → (length more ≡ i + 1) × ((k : ℕ) (d : ℕ × ℕ) → k < i + 1 → get_or more k d ≡ (address_in rs k, k))
+pairs-more rs pairs more i count each is = (
+  ap length is ∙ length-append pairs ((address_in rs i, i) ∷ []) ∙ omega (arith, count),
+  λ k d inside. below_more (λ j. get_or more j d ≡ (address_in rs j, j)) i (before d) (ap (λ l. get_or l i d) is ∙ get_or_push pairs (address_in rs i, i) d i count) k inside,
+)
+  where
+    before : (d : ℕ × ℕ) (j : ℕ) → j < i → get_or more j d ≡ (address_in rs j, j)
+    before d j inside = ap (λ l. get_or l j d) is ∙ get_or_append_left pairs ((address_in rs i, i) ∷ []) d j (omega (arith, inside, count)) ∙ each j d inside
+
+pub pairs-all : (rs : List CellRecord) (pairs : List (ℕ × ℕ)) (i : ℕ) → length pairs ≡ i → ((k : ℕ) (d : ℕ × ℕ) → k < i → get_or pairs k d ≡ (address_in rs k, k))
+    → i ≡ length rs → ArePairs rs pairs
+pairs-all rs pairs i count each all = record {
+  each = λ k d inside. subst (IsPairOf rs) (sym (each k d (omega (arith, inside, count)))) (pair k (omega (arith, inside, count, all)));
+  complete = λ n inside. (n, omega (arith, inside, count, all), each n (address_in rs n, n) (omega (arith, inside, all)));
+}
+  where
+    pair : (k : ℕ) → k < length rs → IsPairOf rs (address_in rs k, k)
+    pair k inside = record { within = inside; address = refl }
+
+-- ---- sorted pairs
+
+pub pairs-moved : (rs : List CellRecord) (pairs sorted : List (ℕ × ℕ)) → ArePairs rs pairs → IsPermutation pairs sorted → ArePairs rs sorted
+pairs-moved rs pairs sorted are moved = record {
+  each = All-permutation (IsPairOf rs) pairs sorted moved are.each;
+  complete = λ n inside. Contains-permutation pairs sorted (address_in rs n, n) moved (are.complete n inside);
+}
+
+-- a pair that isn't less than another one has no lesser rank
+not-less : (a m b n : ℕ) → m < 4294967296 → n < 4294967296 → is_lt (ordering_then (nat_cmp b a) (nat_cmp n m)) ≡ false → rank a m ≤ rank b n
+not-less a m b n one other stands = by-order (cases_order a b)
+  where
+    by-order : (a ≡ b) ⊎ ((a < b) ⊎ (b < a)) → rank a m ≤ rank b n
+    by-order (inl same) =
+        let equal : Equal ≡ nat_cmp b a = nat_cmp_is b a Equal (sym same) in
+        let up : m ≤ n = ge_from_not_lt n m (ap (λ o. is_lt (ordering_then o (nat_cmp n m))) equal ∙ stands) in
+        omega (arith, same, up)
+    by-order (inr (inl less)) = omega (arith, less, one)
+    by-order (inr (inr more)) =
+        let greater : Less ≡ nat_cmp b a = nat_cmp_is b a Less more in
+        absurd (true≢false (ap (λ o. is_lt (ordering_then o (nat_cmp n m))) greater ∙ stands))
+
+pub pairs-ranked : (pairs : List (ℕ × ℕ)) → All (λ (p : ℕ × ℕ). p.1 < 134217728) pairs → IsSorted (λ x y. ordering_then (nat_cmp x.0 y.0) (nat_cmp x.1 y.1)) pairs
+    → IsNonDecreasingBy (λ (p : ℕ × ℕ). rank p.0 p.1) pairs
+pairs-ranked pairs few sorted =
+    IsNonDecreasingBy-from_all_adjacent (λ (p : ℕ × ℕ). rank p.0 p.1) pairs
+    (λ k d inside.
+    let one = few k d (omega arith) in
+    let other = few (k + 1) d inside in
+    not-less (get_or pairs k d).0 (get_or pairs k d).1 (get_or pairs (k + 1) d).0 (get_or pairs (k + 1) d).1 (omega (arith, one)) (omega (arith, other)) (sorted k d (omega arith) inside))
+
+-- the numbers of sorted pairs
+pub order-is : (rs : List CellRecord) (pairs : List (ℕ × ℕ)) (order : List ℕ) → ArePairs rs pairs → IsNonDecreasingBy (λ (p : ℕ × ℕ). rank p.0 p.1) pairs
+    → map (λ (p : ℕ × ℕ). p.1) pairs ≡ order → IsOrder rs order
+order-is rs pairs order are sorted is = subst (IsOrder rs) is (record {
+  within = All-map (λ n. n < length rs) (λ (p : ℕ × ℕ). p.1) pairs (λ k d inside. (are.each k d inside).within);
+  complete = λ n inside. let there = are.complete n inside in (
+    there.0,
+    omega (arith, there.1, length-map pairs (λ (p : ℕ × ℕ). p.1)),
+    get_or-map (λ (p : ℕ × ℕ). p.1) pairs there.0 (address_in rs n, n) n there.1 ∙ ap (λ (p : ℕ × ℕ). p.1) there.2,
+  );
+  sorted = λ i j d up inside.
+      let within : j < length pairs = omega (arith, inside, length-map pairs (λ (p : ℕ × ℕ). p.1)) in
+      let i_is = get_or-map (λ (p : ℕ × ℕ). p.1) pairs i (0, 0) d (omega arith) in
+      let j_is = get_or-map (λ (p : ℕ × ℕ). p.1) pairs j (0, 0) d within in
+      let i_at = (are.each i (0, 0) (omega arith)).address in
+      let j_at = (are.each j (0, 0) within).address in
+      rw (i_is, j_is, i_at, j_at) (sorted i j (0, 0) up within);
+})
+
+-- ---- ranked pairs
+
+abbrev pub numbers_of : List (ℕ × ℕ) → List ℕ
+numbers_of pairs = map (λ (p : ℕ × ℕ). p.1) pairs
+
+pub order-of : (rs : List CellRecord) (pairs : List (ℕ × ℕ)) → AreRanked rs pairs → IsOrder rs (numbers_of pairs)
+order-of rs pairs are = order-is rs pairs (numbers_of pairs) are.pairs_are are.sorted refl
+
+-- the address of the record whose number stands at a place
+pub address-at : (rs : List CellRecord) (pairs : List (ℕ × ℕ)) (k d : ℕ) → ArePairs rs pairs → k < length pairs
+    → address_in rs (get_or (numbers_of pairs) k d) ≡ (get_or pairs k (0, 0)).0
+address-at rs pairs k d are inside = ap (address_in rs) (get_or-map (λ (p : ℕ × ℕ). p.1) pairs k (0, 0) d inside) ∙ (are.each k (0, 0) inside).address
+
+pub addresses-rise : (pairs : List (ℕ × ℕ)) (i j : ℕ) → All (λ (p : ℕ × ℕ). p.1 < 4294967296) pairs → IsNonDecreasingBy (λ (p : ℕ × ℕ). rank p.0 p.1) pairs → i ≤ j → j < length pairs
+    → (get_or pairs i (0, 0)).0 ≤ (get_or pairs j (0, 0)).0
+addresses-rise pairs i j few sorted up inside =
+    lesser (get_or pairs i (0, 0)).0 (get_or pairs j (0, 0)).0 (get_or pairs i (0, 0)).1 (get_or pairs j (0, 0)).1 (few i (0, 0) (omega arith)) (few j (0, 0) inside) (sorted i j (0, 0) up inside)
+
+few-pairs : (rs : List CellRecord) (pairs : List (ℕ × ℕ)) → length rs ≤ 100000000 → ArePairs rs pairs → All (λ (p : ℕ × ℕ). p.1 < 4294967296) pairs
+few-pairs rs pairs few are k d inside = let one = (are.each k d inside).within in omega (arith, one, few)
+
+point-of : (rs : List CellRecord) (pairs : List (ℕ × ℕ)) (address at : ℕ) → length rs ≤ 100000000 → AreRanked rs pairs → IsFirstFrom pairs address at
+    → IsPointOf rs (numbers_of pairs) address at
+point-of rs pairs address at few are first = (
+  λ k d low before.
+      let inside : k < length pairs = omega (arith, before, first.within) in
+      let less : address_in rs (get_or (numbers_of pairs) k d) < address = let same = address-at rs pairs k d are.pairs_are inside in let front = first.front k before in omega (arith, same, front) in
+      lt-ltb (address_in rs (get_or (numbers_of pairs) k d)) address less,
+  λ k d low within.
+      let inside : k < length pairs = omega (arith, within, length-map pairs (λ (p : ℕ × ℕ). p.1)) in
+      let up = addresses-rise pairs at k (few-pairs rs pairs few are.pairs_are) are.sorted low inside in
+      let no_less : address ≤ address_in rs (get_or (numbers_of pairs) k d) =
+      let same = address-at rs pairs k d are.pairs_are inside in let behind = first.behind (omega (arith, low, inside)) in omega (arith, same, behind, up) in
+      le-ltb (address_in rs (get_or (numbers_of pairs) k d)) address no_less,
+)
+
+-- what stands at the first place whose address isn't lesser
+pub none-there : (rs : List CellRecord) (pairs : List (ℕ × ℕ)) (address at : ℕ) → length rs ≤ 100000000 → AreRanked rs pairs → IsFirstFrom pairs address at → length pairs ≤ at
+    → record_with rs address ≡ None
+none-there rs pairs address at few are first past =
+    past-the-end rs (numbers_of pairs) address at (order-of rs pairs are) (point-of rs pairs address at few are first) (omega (arith, past, length-map pairs (λ (p : ℕ × ℕ). p.1)))
+
+pub number-there : (rs : List CellRecord) (pairs : List (ℕ × ℕ)) (address at number : ℕ) → length rs ≤ 100000000 → AreRanked rs pairs → IsFirstFrom pairs address at → at < length pairs
+    → (get_or pairs at (0, 0)).1 ≡ number → (get_or pairs at (0, 0)).0 ≡ address → record_with rs address ≡ Some number
+number-there rs pairs address at number few are first inside is same =
+    let read : number ≡ get_or (numbers_of pairs) at number = sym (get_or-map (λ (p : ℕ × ℕ). p.1) pairs at (0, 0) number inside ∙ is) in
+    found-there rs (numbers_of pairs) address at number (order-of rs pairs are) (point-of rs pairs address at few are first) (omega (arith, inside, length-map pairs (λ (p : ℕ × ℕ). p.1))) read
+    (ap (address_in rs) read ∙ address-at rs pairs at number are.pairs_are inside ∙ same)
+
+pub other-address : (rs : List CellRecord) (pairs : List (ℕ × ℕ)) (address at : ℕ) → length rs ≤ 100000000 → AreRanked rs pairs → IsFirstFrom pairs address at → at < length pairs
+    → ((get_or pairs at (0, 0)).0 ≡ address → ⊥) → record_with rs address ≡ None
+other-address rs pairs address at few are first inside other =
+    let number = (get_or pairs at (0, 0)).1 in
+    let read : number ≡ get_or (numbers_of pairs) at number = sym (get_or-map (λ (p : ℕ × ℕ). p.1) pairs at (0, 0) number inside) in
+    other-there rs (numbers_of pairs) address at number (omega (arith, few)) (order-of rs pairs are) (point-of rs pairs address at few are first)
+    (omega (arith, inside, length-map pairs (λ (p : ℕ × ℕ). p.1))) read (λ same. other (sym (address-at rs pairs at number are.pairs_are inside) ∙ ap (address_in rs) (sym read) ∙ same))

@@ -1,0 +1,197 @@
+-- Resolving references in place.
+use Rattle.std.proofs.Common.{◌≡◌, ℕ, ◌+◌, ◌<◌, ◌≤◌, ◌⊎◌, true, false, eqb, inl, inr, List, [], ◌∷◌, ◌++◌, length, get_or, set, map, Option, None, Some, refl, sym, ◌∙◌, ap, subst, arith, below_more}
+use Rattle.std.specs.Prelude.{slice_get, All, Contains}
+use Rattle.std.specs.List.Sorted.{IsPermutation, IsNonDecreasingBy}
+use Rattle.std.proofs.lemmas.List.Sorted.{All-permutation, Contains-permutation}
+use Rattle.std.proofs.lemmas.List.Elements.{All-push, Contains-push, Contains-append_left}
+use Rattle.std.proofs.lemmas.Option.{get_or_from_slice_get, slice_get_within, slice_get-get_or}
+use Rattle.std.proofs.lemmas.Bool.Decides.{eqb_tells}
+use Rattle.std.proofs.lemmas.Grind.{get_or-set_at}
+use Rattle.std.proofs.lemmas.List.{get_or_default, get_or-set_other, get_or-map, length-set, length-map, same_lists}
+use Rattle.cell_records.specs.declared.cells.CellRecord.{CellRecord}
+use Rattle.cell_records.specs.declared.cells.Slot.{Slot}
+use Rattle.cell_records.specs.declared.cells.Slot.TheVariants as slot
+use Rattle.cell_records.specs.Order.{record_with, rank, AreRanked}
+use Rattle.cell_records.specs.Resolving.{cell_or_gone, settled}
+use Rattle.cell_records.specs.Inner.References.{reference_of, found_at, AreReferences, IsFirstFrom}
+use Rattle.cell_records.proofs.OrderFacts.{lesser}
+
+-- those among the first slots
+pub record AreFound (slots : List Slot) (references : List (ℕ × ℕ)) (upto : ℕ) : Type 0 where
+  pub sound : All (λ (r : ℕ × ℕ). slice_get slots r.1 ≡ Some (slot.Gone r.0)) references
+  pub complete : (i address : ℕ) → i < upto → slice_get slots i ≡ Some (slot.Gone address) → Contains references (address, i)
+
+-- each slot is as it was or settled, and those of the first references are settled
+pub record AreResolving (rs : List CellRecord) (olds slots : List Slot) (references : List (ℕ × ℕ)) (upto : ℕ) : Type 0 where
+  pub count : length slots ≡ length olds
+  pub each : (i : ℕ) (d : Slot) → i < length olds → (get_or slots i d ≡ get_or olds i d) ⊎ (get_or slots i d ≡ settled rs (get_or olds i d))
+  pub over : (k : ℕ) (d : Slot) → k < upto → get_or slots (get_or references k (0, 0)).1 d ≡ settled rs (get_or olds (get_or references k (0, 0)).1 d)
+
+-- the first references are settled, and the pairs in front of a place have lesser addresses than those that are left
+pub record IsMerging (pairs : List (ℕ × ℕ)) (olds slots : List Slot) (references : List (ℕ × ℕ)) (at k : ℕ) : Type 0 where
+  pub within : at ≤ length pairs
+  pub front : (i j : ℕ) → i < at → k ≤ j → j < length references → (get_or pairs i (0, 0)).0 < (get_or references j (0, 0)).0
+  pub resolving : (rs : List CellRecord) → length rs ≤ 100000000 → AreRanked rs pairs → AreResolving rs olds slots references k
+
+-- ---- the references are found
+
+pub found-none : (slots : List Slot) → AreFound slots [] 0
+found-none slots = record { sound = λ k d inside. absurd (omega arith); complete = λ i address before. absurd (omega arith) }
+
+append-none : {X : Type 0} (xs : List X) → xs ++ [] ≡ xs
+append-none [] = refl
+append-none (x ∷ xs) = ap (λ l. x ∷ l) (append-none xs)
+
+abbrev IsOf : List Slot → ℕ × ℕ → Type 0
+IsOf slots r = slice_get slots r.1 ≡ Some (slot.Gone r.0)
+
+sound-more : (slots : List Slot) (references : List (ℕ × ℕ)) (i : ℕ) (s : Slot) → slice_get slots i ≡ Some s → All (λ (r : ℕ × ℕ). IsOf slots r) references
+    → All (λ (r : ℕ × ℕ). IsOf slots r) (references ++ reference_of s i)
+sound-more slots references i (slot.Imm span) is all = subst (All (λ (r : ℕ × ℕ). IsOf slots r)) (sym (append-none references)) all
+sound-more slots references i (slot.Cell ix) is all = subst (All (λ (r : ℕ × ℕ). IsOf slots r)) (sym (append-none references)) all
+sound-more slots references i (slot.Gone address) is all = All-push (λ (r : ℕ × ℕ). IsOf slots r) references (address, i) all is
+
+pub found-more : (slots : List Slot) (references more : List (ℕ × ℕ)) (i : ℕ) (d : Slot) → i < length slots → AreFound slots references i
+    → more ≡ references ++ reference_of (get_or slots i d) i → AreFound slots more (i + 1)
+found-more slots references more i d inside found is = subst (λ l. AreFound slots l (i + 1)) (sym is) (record {
+  sound = sound-more slots references i (get_or slots i d) (slice_get-get_or slots i d inside) found.sound;
+  complete = λ j address before at. below_more (λ k. (a : ℕ) → slice_get slots k ≡ Some (slot.Gone a) → Contains (references ++ reference_of (get_or slots i d) i) (a, k)) i
+      (λ k earlier a stands. Contains-append_left references (reference_of (get_or slots i d) i) (a, k) (found.complete k a earlier stands))
+      (λ a stands. here a (get_or_from_slice_get slots i (slot.Gone a) d stands)) j before address at;
+})
+  where
+    here : (a : ℕ) → get_or slots i d ≡ slot.Gone a → Contains (references ++ reference_of (get_or slots i d) i) (a, i)
+    here a same = subst (λ s. Contains (references ++ reference_of s i) (a, i)) (sym same) (Contains-push references (a, i))
+
+pub found-all : (slots : List Slot) (references : List (ℕ × ℕ)) (i : ℕ) → i ≡ length slots → AreFound slots references i → AreReferences slots references
+found-all slots references i all found = record {
+  sound = found.sound;
+  complete = λ j address at. found.complete j address (let inside = slice_get_within slots j (slot.Gone address) at in omega (arith, inside, all)) at;
+}
+
+-- ---- each slot is settled
+
+pub resolving-none : (rs : List CellRecord) (slots : List Slot) (references : List (ℕ × ℕ)) → AreResolving rs slots slots references 0
+resolving-none rs slots references = record { count = refl; each = λ i d inside. inl refl; over = λ k d before. absurd (omega arith) }
+
+-- what is found of a reference is that it is settled
+found-settled : (rs : List CellRecord) (olds : List Slot) (address i : ℕ) (d : Slot) (number : Option ℕ) → slice_get olds i ≡ Some (slot.Gone address) → number ≡ record_with rs address
+    → cell_or_gone address number ≡ settled rs (get_or olds i d)
+found-settled rs olds address i d number is found = ap (cell_or_gone address) found ∙ ap (settled rs) (sym (get_or_from_slice_get olds i (slot.Gone address) d is))
+
+pub resolving-more : (rs : List CellRecord) (olds slots : List Slot) (references : List (ℕ × ℕ)) (k : ℕ) (number : Option ℕ) → k < length references → AreReferences olds references
+    → AreResolving rs olds slots references k → number ≡ record_with rs (get_or references k (0, 0)).0
+    → AreResolving rs olds (found_at slots (get_or references k (0, 0)).1 number) references (k + 1)
+resolving-more rs olds slots references k None listed are before found = record {
+  count = before.count;
+  each = before.each;
+  over = λ j e. below_more (λ j. get_or slots (get_or references j (0, 0)).1 e ≡ settled rs (get_or olds (get_or references j (0, 0)).1 e)) k
+      (λ j earlier. before.over j e earlier) (stays e (before.each i e inside)) j;
+}
+  where
+    i : ℕ
+    i = (get_or references k (0, 0)).1
+
+    address : ℕ
+    address = (get_or references k (0, 0)).0
+
+    is : slice_get olds i ≡ Some (slot.Gone address)
+    is = are.sound k (0, 0) listed
+
+    inside : i < length olds
+    inside = slice_get_within olds i (slot.Gone address) is
+
+    stays : (e : Slot) → (get_or slots i e ≡ get_or olds i e) ⊎ (get_or slots i e ≡ settled rs (get_or olds i e)) → get_or slots i e ≡ settled rs (get_or olds i e)
+    stays e (inl same) = same ∙ get_or_from_slice_get olds i (slot.Gone address) e is ∙ found-settled rs olds address i e None is found
+    stays e (inr over) = over
+resolving-more rs olds slots references k (Some number) listed are before found = record {
+  count = length-set slots i now ∙ before.count;
+  each = λ j e within. each j e within (eqb_tells j i);
+  over = λ j e. below_more (λ j. get_or (set slots i now) (get_or references j (0, 0)).1 e ≡ settled rs (get_or olds (get_or references j (0, 0)).1 e)) k
+      (λ j earlier. over j e earlier (eqb_tells (get_or references j (0, 0)).1 i)) (here i e refl) j;
+}
+  where
+    i : ℕ
+    i = (get_or references k (0, 0)).1
+
+    address : ℕ
+    address = (get_or references k (0, 0)).0
+
+    now : Slot
+    now = slot.Cell (record { 0 = number })
+
+    is : slice_get olds i ≡ Some (slot.Gone address)
+    is = are.sound k (0, 0) listed
+
+    within : i < length slots
+    within = let inside = slice_get_within olds i (slot.Gone address) is in omega (arith, inside, before.count)
+
+    here : (j : ℕ) (e : Slot) → j ≡ i → get_or (set slots i now) j e ≡ settled rs (get_or olds j e)
+    here j e same =
+        get_or-set_at slots i j now e same within ∙ found-settled rs olds address i e (Some number) is found ∙ ap (λ n. settled rs (get_or olds n e)) (sym same)
+
+    each : (j : ℕ) (e : Slot) → j < length olds → ((eqb j i ≡ true) × (j ≡ i)) ⊎ ((eqb j i ≡ false) × (j ≡ i → ⊥))
+        → (get_or (set slots i now) j e ≡ get_or olds j e) ⊎ (get_or (set slots i now) j e ≡ settled rs (get_or olds j e))
+    each j e listed (inl same) = inr (here j e same.1)
+    each j e listed (inr other) =
+        let was = get_or-set_other slots i j now e other.1 in rw was (before.each j e listed)
+
+    over : (j : ℕ) (e : Slot) → j < k → ((eqb (get_or references j (0, 0)).1 i ≡ true) × ((get_or references j (0, 0)).1 ≡ i)) ⊎ ((eqb (get_or references j (0, 0)).1 i ≡ false) × ((get_or references j (0, 0)).1 ≡ i → ⊥))
+        → get_or (set slots i now) (get_or references j (0, 0)).1 e ≡ settled rs (get_or olds (get_or references j (0, 0)).1 e)
+    over j e earlier (inl same) = here (get_or references j (0, 0)).1 e same.1
+    over j e earlier (inr other) = get_or-set_other slots i (get_or references j (0, 0)).1 now e other.1 ∙ before.over j e earlier
+
+either : (s old now : Slot) → now ≡ old → (s ≡ old) ⊎ (s ≡ now) → s ≡ now
+either s old now same (inl was) = was ∙ sym same
+either s old now same (inr over) = over
+
+pub resolving-all : (rs : List CellRecord) (olds slots : List Slot) (references : List (ℕ × ℕ)) (k : ℕ) → AreReferences olds references → length references ≤ k
+    → AreResolving rs olds slots references k → slots ≡ map (settled rs) olds
+resolving-all rs olds slots references k are all resolving =
+    same_lists slots (map (settled rs) olds) (resolving.count ∙ sym (length-map olds (settled rs)))
+    (λ j d inside. let listed : j < length olds = omega (arith, inside, resolving.count) in
+    at j d listed (get_or olds j d) refl ∙ sym (get_or-map (settled rs) olds j d d listed))
+  where
+    at : (j : ℕ) (d : Slot) → j < length olds → (s : Slot) → get_or olds j d ≡ s → get_or slots j d ≡ settled rs (get_or olds j d)
+    at j d listed (slot.Imm span) is = either _ _ _ (rw is refl) (resolving.each j d listed)
+    at j d listed (slot.Cell ix) is = either _ _ _ (rw is refl) (resolving.each j d listed)
+    at j d listed (slot.Gone address) is =
+        let there = are.complete j address (slice_get-get_or olds j d listed ∙ ap Some is) in
+        let place : (get_or references there.0 (0, 0)).1 ≡ j =
+        ap (λ (r : ℕ × ℕ). r.1) (get_or_default references there.0 (0, 0) (address, j) there.1 ∙ there.2) in
+        subst (λ i. get_or slots i d ≡ settled rs (get_or olds i d)) place (resolving.over there.0 d (omega (arith, there.1, all)))
+
+-- in another order
+pub references-moved : (slots : List Slot) (references sorted : List (ℕ × ℕ)) → AreReferences slots references → IsPermutation references sorted → AreReferences slots sorted
+references-moved slots references sorted are moved = record {
+  sound = All-permutation (λ (r : ℕ × ℕ). IsOf slots r) references sorted moved are.sound;
+  complete = λ i address at. Contains-permutation references sorted (address, i) moved (are.complete i address at);
+}
+
+-- ---- the merge
+
+-- the addresses of references rise where they are ranked
+pub references-rise : (slots : List Slot) (references : List (ℕ × ℕ)) → length slots ≤ 100000000 → AreReferences slots references
+    → IsNonDecreasingBy (λ (p : ℕ × ℕ). rank p.0 p.1) references → IsNonDecreasingBy (λ (p : ℕ × ℕ). p.0) references
+references-rise slots references few are sorted i j d up inside =
+    lesser (get_or references i d).0 (get_or references j d).0 (get_or references i d).1 (get_or references j d).1 (place i (omega arith)) (place j inside) (sorted i j d up inside)
+  where
+    place : (k : ℕ) → k < length references → (get_or references k d).1 < 4294967296
+    place k listed = let there = slice_get_within slots (get_or references k d).1 (slot.Gone (get_or references k d).0) (are.sound k d listed) in omega (arith, there, few)
+
+pub merging-none : (pairs : List (ℕ × ℕ)) (slots : List Slot) (references : List (ℕ × ℕ)) → IsMerging pairs slots slots references 0 0
+merging-none pairs slots references = record {
+  within = omega arith;
+  front = λ i j before. absurd (omega arith);
+  resolving = λ rs few are. resolving-none rs slots references;
+}
+
+pub merging-more : (pairs : List (ℕ × ℕ)) (olds slots : List Slot) (references : List (ℕ × ℕ)) (at next k : ℕ) (number : Option ℕ) → k < length references → AreReferences olds references
+    → IsNonDecreasingBy (λ (p : ℕ × ℕ). p.0) references → IsMerging pairs olds slots references at k → IsFirstFrom pairs (get_or references k (0, 0)).0 next
+    → ((rs : List CellRecord) → length rs ≤ 100000000 → AreRanked rs pairs → number ≡ record_with rs (get_or references k (0, 0)).0)
+    → IsMerging pairs olds (found_at slots (get_or references k (0, 0)).1 number) references next (k + 1)
+merging-more pairs olds slots references at next k number listed are rise before first found = record {
+  within = first.within;
+  front = λ i j earlier later inside. let less = first.front i earlier in let up = rise k j (0, 0) (omega arith) inside in omega (arith, less, up);
+  resolving = λ rs few ranked. resolving-more rs olds slots references k number listed are (before.resolving rs few ranked) (found rs few ranked);
+}

@@ -1,0 +1,15 @@
+use Rattle.std.proofs.Common.{sym, subst, arith}
+use Rattle.cell_records.specs.declared.cells.Slot.TheVariants as slot
+use Rattle.cell_records.proofs.ResolvingFacts.{AreFound, found-none, found-more, found-all}
+use Rattle.cell_records.proofs.resolving.references_of.Goals as goal
+
+pub loop-i-init : goal.loop-i-init
+loop-i-init c = subst (λ l. AreFound c.args.slots.now l 0) (sym c.in_ok-references.ensures) (found-none c.args.slots.now)
+
+pub loop-i-preserved : goal.loop-i-preserved
+loop-i-preserved c =
+    found-more c.args.slots.now c.loop-i.references c.push_reference.new.references c.loop-i.i (slot.Imm (record { at = 0; len = 0 })) c.loop-i-test.true c.loop-i.invariant
+    c.in_ok-push_reference.ensures
+
+pub returns : goal.returns
+returns c = found-all c.args.slots.now c.loop-i.references c.loop-i.i (omega arith) c.loop-i.invariant

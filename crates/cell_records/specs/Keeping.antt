@@ -1,0 +1,46 @@
+-- Keeping the first of the records with each address.
+use Rattle.std.specs.Prelude.{◌≡◌, ℕ, zero, suc, ◌<◌, ◌⊎◌, Bool, true, List, [], ◌∷◌, ◌++◌, length, slice_get, Option, None, Some, if◌then◌else◌}
+use Rattle.cell_records.specs.declared.arena.Arena.{Arena}
+use Rattle.cell_records.specs.declared.cells.CellRecord.{CellRecord}
+use Rattle.cell_records.specs.declared.cells.Slot.{Slot}
+use Rattle.cell_records.specs.declared.keeping.Indexed.{Indexed}
+use Rattle.cell_records.specs.Order.{is_first, AreRanked}
+use Rattle.cell_records.specs.Slots.{slots_at}
+
+abbrev pub moved : ℕ → Option CellRecord → List CellRecord
+moved first None = []
+moved first (Some r) = record r { first = first } ∷ []
+
+-- a record whose slots begin at another place
+abbrev pub moved_record : List CellRecord → ℕ → ℕ → List CellRecord
+moved_record records i first = moved first (slice_get records i)
+
+-- the slots of those of the first n records that are the first with their address
+abbrev pub kept_slots : List CellRecord → List Slot → ℕ → List Slot
+kept_slots records slots zero = []
+kept_slots records slots (suc n) =
+    if is_first records n then kept_slots records slots n ++ slots_at records slots n else kept_slots records slots n
+
+-- these records, each with its slots behind those of the one before
+abbrev pub kept_records : List CellRecord → List Slot → ℕ → List CellRecord
+kept_records records slots zero = []
+kept_records records slots (suc n) =
+    if is_first records n then kept_records records slots n ++ moved_record records n (length (kept_slots records slots n))
+    else kept_records records slots n
+
+-- each record is the first with its address, and all are kept as they are
+pub record AreAllKept (all : Arena) (own : ℕ) (found : Indexed) : Type 0 where
+  pub first : (n : ℕ) → n < length all.cells.items → is_first all.cells.items n ≡ true
+  pub arena_is : found.arena ≡ all
+  pub own_is : found.own ≡ own
+
+-- the first with each address are kept, and it is counted how many of these are among the first `own`
+pub record AreFirstKept (all : Arena) (own : ℕ) (found : Indexed) : Type 0 where
+  pub cells_are : found.arena.cells.items ≡ kept_records all.cells.items all.slots.items (length all.cells.items)
+  pub slots_are : found.arena.slots.items ≡ kept_slots all.cells.items all.slots.items (length all.cells.items)
+  pub own_is : found.own ≡ length (kept_records all.cells.items all.slots.items own)
+
+-- the records that are the first with their address, with their order by address
+pub record IsIndexOf (all : Arena) (own : ℕ) (found : Indexed) : Type 0 where
+  pub kept : AreAllKept all own found ⊎ AreFirstKept all own found
+  pub ranks_are : AreRanked found.arena.cells.items found.ranks

@@ -1,0 +1,6 @@
+pub mod Inner
+pub mod Keeping
+pub mod Numbers
+pub mod Order
+pub mod Resolving
+pub mod Slots

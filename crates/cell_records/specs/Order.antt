@@ -1,0 +1,47 @@
+-- The records of a heap in the order of their addresses.
+use Rattle.std.specs.Prelude.{◌≡◌, ℕ, ◌+◌, ◌*◌, ◌<◌, ◌==◌, Bool, not, List, length, take, slice_get, Option, None, Some, All, Contains, position}
+use Rattle.std.specs.List.{list_any}
+use Rattle.std.specs.List.Sorted.{IsNonDecreasingBy}
+use Rattle.cell_records.specs.declared.cells.CellRecord.{CellRecord}
+
+-- an address and a number as one number, which orders pairs
+-- by address, and those with the same address by number
+abbrev pub rank : ℕ → ℕ → ℕ
+rank address number = address * 4294967296 + number
+
+abbrev pub address_or : ℕ → Option CellRecord → ℕ
+address_or other None = other
+address_or other (Some r) = r.address
+
+-- the address of the record with a number; past the last one, 0
+abbrev pub address_in : List CellRecord → ℕ → ℕ
+address_in records n = address_or 0 (slice_get records n)
+
+-- the numbers of all records, by address and then by number
+pub record IsOrder (records : List CellRecord) (order : List ℕ) : Type 0 where
+  pub within : All (λ n. n < length records) order
+  pub complete : (n : ℕ) → n < length records → Contains order n
+  pub sorted : IsNonDecreasingBy (λ n. rank (address_in records n) n) order
+
+-- the number of the first record with an address
+abbrev pub record_with : List CellRecord → ℕ → Option ℕ
+record_with records address = position (λ r. r.address == address) records
+
+-- the record with a number comes before all others with its address
+abbrev pub is_first : List CellRecord → ℕ → Bool
+is_first records n = not (list_any (λ r. r.address == address_in records n) (take n records))
+
+-- a record's address and its number
+pub record IsPairOf (records : List CellRecord) (pair : ℕ × ℕ) : Type 0 where
+  pub within : pair.1 < length records
+  pub address : address_in records pair.1 ≡ pair.0
+
+-- the pairs of all records
+pub record ArePairs (records : List CellRecord) (pairs : List (ℕ × ℕ)) : Type 0 where
+  pub each : All (IsPairOf records) pairs
+  pub complete : (n : ℕ) → n < length records → Contains pairs (address_in records n, n)
+
+-- the same, sorted by address and then by number
+pub record AreRanked (records : List CellRecord) (pairs : List (ℕ × ℕ)) : Type 0 where
+  pub pairs_are : ArePairs records pairs
+  pub sorted : IsNonDecreasingBy (λ pair. rank pair.0 pair.1) pairs

@@ -1,0 +1,175 @@
+// Pairs of an address and a number.
+ghost use Rattle.std.specs.Prelude.{◌≡◌, ◌<◌, ◌≤◌, ◌++◌, ◌∷◌, [], ℕ, List, length, map, slice_index_or, IfOk, OnOk, IfSome, true, false};
+ghost use Rattle.std.specs.List.Sorted.{IsNonDecreasingBy, IsPermutation};
+ghost use Rattle.cell_records.specs.declared.cells.CellRecord.{CellRecord};
+ghost use Rattle.cell_records.specs.Order.{rank, is_first, IsOrder, AreRanked};
+ghost use Rattle.cell_records.specs.Inner.Firsts.{AreApart};
+ghost use Rattle.cell_records.specs.Inner.Ranks.{pair_at};
+
+use std::alloc::{AllocError, Global};
+use std::marker::Model;
+
+// Every number is less than this: a heap has at most 100,000,000 cells and elements.
+const NUMBERS: u64 = 134217728;
+
+// How far above the base an address may be at most to fit into 64 bits together with its number.
+const REACH: u64 = 137438953472;
+
+// In 64 bits each, as long as all addresses are in reach of a base; otherwise as they are.
+#[derive(Drop)]
+enum Kept {
+    Narrow(Vec<u64>),
+    Wide(Vec<(u64, u32)>),
+}
+
+/// Pairs of an address and a number. Those of one heap mostly lie close together, and
+/// are then stored and sorted in half the memory. Contracts see the list of the pairs.
+#[derive(Drop)]
+pub struct Ranks {
+    base: u64,
+    kept: Kept,
+}
+
+impl Model for Ranks {
+    ghost use Rattle.std.specs.Prelude.{ℕ, List, ◌≤◌};
+    ghost use Rattle.cell_records.specs.Inner.Ranks.{pairs_in, AreNumbered};
+
+    ghost Value = { List (ℕ × ℕ) };
+
+    ghost view = { λ r. pairs_in r.base r.kept };
+
+    ghost invariant = { λ r. (r.base ≤ 18446743936270598143) × AreNumbered r.kept };
+}
+
+fn pair_at(base: u64, rank: u64) -> (u64, u32)
+    requires { base ≤ 18446743936270598143 }
+    ensures { result ≡ pair_at base rank }
+{
+    (base + rank / NUMBERS, (rank % NUMBERS) as u32)
+}
+
+// The pair as one number, if its address is in reach of the base.
+fn rank_of(base: u64, address: u64, number: u32) -> Option<u64>
+    requires { number < 134217728 }
+    ensures { IfSome result (λ rank. pair_at base rank ≡ (address, number)) }
+{
+    let above = address.checked_sub(base)?;
+    if above < REACH {
+        Some(above * NUMBERS + u64::from(number))
+    } else {
+        None
+    }
+}
+
+fn pairs_at(alloc: Global, base: u64, ranks: &[u64]) -> Result<Vec<(u64, u32)>, AllocError>
+    requires { base ≤ 18446743936270598143 }
+    ensures { IfOk result (λ pairs. pairs.items ≡ map (pair_at base) ranks.now) }
+{
+    let mut pairs = Vec::with_capacity(alloc, ranks.len())?;
+    for rank in ranks {
+        pairs.push(pair_at(base, *rank))?;
+    }
+    Ok(pairs)
+}
+
+impl Ranks {
+    // No pairs, and room for `count` of them whose addresses lie around this one.
+    pub(crate) fn around(alloc: Global, address: u64, count: usize) -> Result<Ranks, AllocError>
+        ensures { IfOk result (λ ranks. ranks ≡ []) }
+    {
+        let base = address.saturating_sub(REACH / 2).min(u64::MAX - REACH);
+        let ranks = Vec::with_capacity(alloc, count)?;
+        Ok(Ranks {
+            base,
+            kept: Kept::Narrow(ranks),
+        })
+    }
+
+    pub(crate) fn len(&self) -> usize
+        ensures { result ≡ length self.now }
+    {
+        match &self.kept {
+            Kept::Narrow(ranks) => ranks.len(),
+            Kept::Wide(pairs) => pairs.len(),
+        }
+    }
+
+    pub(crate) fn get(&self, i: usize) -> (u64, u32)
+        requires { i < length self.now }
+        ensures { result ≡ slice_index_or self.now i (0, 0) }
+    {
+        match &self.kept {
+            Kept::Narrow(ranks) => pair_at(self.base, ranks[i]),
+            Kept::Wide(pairs) => pairs[i],
+        }
+    }
+
+    // Appends a pair. If its address is out of reach, all are stored as they are from then on.
+    pub(crate) fn push(
+        &mut self,
+        alloc: Global,
+        address: u64,
+        number: u32,
+    ) -> Result<(), AllocError>
+        requires { number < 134217728 }
+        ensures { OnOk result (self.new ≡ self.old ++ (address, number) ∷ []) }
+    {
+        match &mut self.kept {
+            Kept::Wide(pairs) => {
+                pairs.push((address, number))?;
+                Ok(())
+            }
+            Kept::Narrow(ranks) => match rank_of(self.base, address, number) {
+                Some(rank) => {
+                    ranks.push(rank)?;
+                    Ok(())
+                }
+                None => {
+                    let mut pairs = pairs_at(alloc, self.base, ranks)?;
+                    pairs.push((address, number))?;
+                    self.kept = Kept::Wide(pairs);
+                    Ok(())
+                }
+            },
+        }
+    }
+
+    // Sorts the pairs by address, and those with the same address by number.
+    pub(crate) fn sort(&mut self)
+        ensures permutation { IsPermutation self.old self.new }
+        ensures sorted { IsNonDecreasingBy (λ pair. rank pair.0 pair.1) self.new }
+    {
+        match &mut self.kept {
+            Kept::Narrow(ranks) => ranks.sort_unstable(),
+            Kept::Wide(pairs) => pairs.sort_unstable(),
+        }
+    }
+
+    /// The numbers of the pairs. Those of ranked cells are the cells' numbers in the order of their addresses.
+    pub fn numbers(&self, alloc: Global) -> Result<Vec<u32>, AllocError>
+        ensures numbers { IfOk result (λ numbers. numbers.items ≡ map (λ pair. pair.1) self.now) }
+        ensures order { IfOk result (λ numbers. (cells : List CellRecord) → AreRanked cells self.now → IsOrder cells numbers.items) }
+    {
+        let mut numbers = Vec::with_capacity(alloc, self.len())?;
+        for i in 0..self.len() {
+            numbers.push(self.get(i).1)?;
+        }
+        Ok(numbers)
+    }
+}
+
+// Whether no two adjacent pairs have the same address. If they are
+// those of cells, each cell is then the first with its address.
+pub(crate) fn are_apart(ranks: &Ranks) -> bool
+    ensures apart { result ≡ true → AreApart ranks.now }
+    ensures beside { result ≡ false → AreApart ranks.now → ⊥ }
+    ensures first { result ≡ true → (cells : List CellRecord) → length cells ≤ 100000000 → AreRanked cells ranks.now
+        → (n : ℕ) → n < length cells → is_first cells n ≡ true }
+{
+    for i in 1..ranks.len() {
+        if ranks.get(i - 1).0 == ranks.get(i).0 {
+            return false;
+        }
+    }
+    true
+}

@@ -1,0 +1,133 @@
+// Resolving references to the cells that they lead to.
+ghost use Rattle.std.specs.Prelude.{◌≡◌, ℕ, ◌<◌, ◌≤◌, ◌++◌, List, length, map, slice_index_or, IfOk, OnOk};
+ghost use Rattle.std.specs.List.Sorted.{IsNonDecreasingBy};
+ghost use Rattle.cell_records.specs.declared.cells.CellRecord.{CellRecord};
+ghost use Rattle.cell_records.specs.Order.{AreRanked, record_with};
+ghost use Rattle.cell_records.specs.Resolving.{settled};
+ghost use Rattle.cell_records.specs.Inner.References.{reference_of, found_at, AreReferences, IsFirstFrom};
+
+use crate::cells::{CellIx, Slot};
+use crate::ranks::Ranks;
+use std::alloc::{AllocError, Global};
+
+fn push_reference(
+    alloc: Global,
+    references: &mut Ranks,
+    slot: Slot,
+    place: u32,
+) -> Result<(), AllocError>
+    requires { place < 134217728 }
+    ensures { OnOk result (references.new ≡ references.old ++ reference_of slot place) }
+{
+    if let Slot::Gone(address) = slot {
+        references.push(alloc, address, place)?;
+    }
+    Ok(())
+}
+
+// The address of the first pair.
+fn first_address(ranks: &Ranks) -> u64
+    ensures { result ≡ (slice_index_or ranks.now 0 (0, 0)).0 }
+{
+    if ranks.len() == 0 { 0 } else { ranks.get(0).0 }
+}
+
+// The address of each slot that is a reference, with the place of the slot.
+fn references_of(alloc: Global, slots: &[Slot], ranks: &Ranks) -> Result<Ranks, AllocError>
+    requires { length slots.now ≤ 100000000 }
+    ensures { IfOk result (AreReferences slots.now) }
+{
+    let mut references = Ranks::around(alloc, first_address(ranks), 0)?;
+    for i in 0..slots.len() {
+        push_reference(alloc, &mut references, slots[i], i as u32)?;
+    }
+    Ok(references)
+}
+
+// The place of the first pair whose address isn't lower; no pair before the place `from` is one.
+fn first_from(ranks: &Ranks, from: usize, address: u64) -> usize
+    requires within { from ≤ length ranks.now }
+    requires front { (i : ℕ) → i < from → (slice_index_or ranks.now i (0, 0)).0 < address }
+    ensures { IsFirstFrom ranks.now address result }
+{
+    let mut at = from;
+    while at < ranks.len() && ranks.get(at).0 < address {
+        at += 1;
+    }
+    at
+}
+
+// The number of the first cell with the address, whose pair would be at the place.
+fn number_there(ranks: &Ranks, at: usize, address: u64) -> Option<u32>
+    requires { IsFirstFrom ranks.now address at }
+    ensures { (cells : List CellRecord) → length cells ≤ 100000000 → AreRanked cells ranks.now → result ≡ record_with cells address }
+{
+    if at == ranks.len() {
+        return None;
+    }
+    let (found, number) = ranks.get(at);
+    if found == address { Some(number) } else { None }
+}
+
+fn put_cell(slots: &mut [Slot], place: usize, number: Option<u32>)
+    requires { place < length slots.old }
+    ensures { slots.new ≡ found_at slots.old place number }
+{
+    if let Some(n) = number {
+        slots[place] = Slot::Cell(CellIx::new(n));
+    }
+}
+
+// Both lists are sorted, so that one pass over them finds the cell of each reference.
+fn resolve_each(slots: &mut [Slot], references: &Ranks, ranks: &Ranks)
+    requires references { AreReferences slots.old references.now }
+    requires ascend { IsNonDecreasingBy (λ pair. pair.0) references.now }
+    ensures { (cells : List CellRecord) → length cells ≤ 100000000 → AreRanked cells ranks.now → slots.new ≡ map (settled cells) slots.old }
+{
+    let mut at = 0;
+    for k in 0..references.len() {
+        let (address, place) = references.get(k);
+        at = first_from(ranks, at, address);
+        let number = number_there(ranks, at, address);
+        put_cell(slots, place as usize, number);
+    }
+}
+
+// Each reference to the address of a cell becomes that cell, if there is memory.
+fn resolve_part(alloc: Global, slots: &mut [Slot], ranks: &Ranks) -> Result<(), AllocError>
+    requires { length slots.old ≤ 100000000 }
+    ensures { OnOk result ((cells : List CellRecord) → length cells ≤ 100000000 → AreRanked cells ranks.now → slots.new ≡ map (settled cells) slots.old) }
+{
+    let mut references = references_of(alloc, slots, ranks)?;
+    references.sort();
+    resolve_each(slots, &references, ranks);
+    Ok(())
+}
+
+// The same in parts, by repeated halving: only the references of one part at a time take memory.
+fn resolve_parts(
+    alloc: Global,
+    slots: &mut [Slot],
+    ranks: &Ranks,
+    halvings: u32,
+) -> Result<(), AllocError>
+    requires { length slots.old ≤ 100000000 }
+    ensures { OnOk result ((cells : List CellRecord) → length cells ≤ 100000000 → AreRanked cells ranks.now → slots.new ≡ map (settled cells) slots.old) }
+{
+    if halvings == 0 {
+        return resolve_part(alloc, slots, ranks);
+    }
+    let half = slots.len() / 2;
+    let (first, rest) = slots.split_at_mut(half);
+    resolve_parts(alloc, first, ranks, halvings - 1)?;
+    resolve_parts(alloc, rest, ranks, halvings - 1)
+}
+
+/// Each reference to the address of a cell becomes that cell, if there is
+/// memory. The pairs are the addresses of the cells with their numbers, sorted.
+pub fn resolve(alloc: Global, slots: &mut Vec<Slot>, ranks: &Ranks) -> Result<(), AllocError>
+    requires { length slots.old.items ≤ 100000000 }
+    ensures { OnOk result ((cells : List CellRecord) → length cells ≤ 100000000 → AreRanked cells ranks.now → slots.new.items ≡ map (settled cells) slots.old.items) }
+{
+    resolve_parts(alloc, slots, ranks, 2)
+}

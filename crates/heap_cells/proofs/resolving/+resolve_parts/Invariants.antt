@@ -1,4 +1,0 @@
-use Rattle.heap_cells.proofs.resolving.+resolve_parts.Given as goal
-
-abbrev pub decreases-resolve_parts : goal.decreases-resolve_parts
-decreases-resolve_parts l = l.halvings

@@ -1,5 +1,0 @@
-use Rattle.heap_cells.proofs.ResolvingFacts.{IsMerging}
-use Rattle.heap_cells.proofs.resolving.resolve_each.Given as goal
-
-abbrev pub invariant-loop-k : goal.invariant-loop-k
-invariant-loop-k l = IsMerging l.ranks l.initial.slots l.slots l.references l.at l.k
