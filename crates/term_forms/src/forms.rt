@@ -63,14 +63,21 @@ fn port(text: &[u8]) -> Option<Form<'_>>
     Some(Form::Port(number))
 }
 
+// Whether the characters are the payload of `size` bytes.
+fn judge_payload(chars: &[u8], enc: Enc, size: u64) -> bool
+    ensures { result ≡ payload_test enc size chars.now }
+{
+    payload_bytes_are_read(enc);
+    is_payload(chars, enc, size)
+}
+
 // Whether the characters are the payload of `size` bytes,
 // which isn't checked if `spelled` says that it is known.
 fn has_payload(chars: &[u8], enc: Enc, size: u64, spelled: bool) -> bool
     requires { spelled ≡ true → payload_test enc size chars.now ≡ true }
     ensures { result ≡ payload_test enc size chars.now }
 {
-    payload_bytes_are_read(enc);
-    spelled || is_payload(chars, enc, size)
+    spelled || judge_payload(chars, enc, size)
 }
 
 // A length, and the characters of that many bytes.
