@@ -2,6 +2,7 @@
 ghost use Rattle.std.specs.Prelude.{◌≡◌, ◌<◌, length, codes, IfOk, IfSome};
 ghost use Rattle.heap_cells.specs.Loading.{section_in, heap_section, literals_section};
 ghost use Rattle.root_views.specs.Kinds.{roots_tag};
+ghost use Rattle.root_views.specs.declared.kinds.RootKind.TheVariants.{Stack, Dict, Mail};
 ghost use Rattle.dump_trial.specs.Trial.{root_section};
 ghost use Rattle.dump_trial.specs.Inner.Finding.{firsts};
 
@@ -24,6 +25,21 @@ fn find_roots(alloc: Global, index: &Index, kind: RootKind) -> Result<FirstSecti
     ensures { IfOk result (λ found. found ≡ firsts index.now (roots_tag kind)) }
 {
     FirstSections::find(alloc, index, kind.tag())
+}
+
+// The first sections with stacks, with dictionaries and with mailboxes.
+fn find_all_roots(
+    alloc: Global,
+    index: &Index,
+) -> Result<(FirstSections<'_>, FirstSections<'_>, FirstSections<'_>), AllocError>
+    ensures stacks { IfOk result (λ found. found.0 ≡ firsts index.now (roots_tag Stack)) }
+    ensures dictionaries { IfOk result (λ found. found.1 ≡ firsts index.now (roots_tag Dict)) }
+    ensures mailboxes { IfOk result (λ found. found.2 ≡ firsts index.now (roots_tag Mail)) }
+{
+    let stacks = find_roots(alloc, index, RootKind::Stack)?;
+    let dictionaries = find_roots(alloc, index, RootKind::Dict)?;
+    let mailboxes = find_roots(alloc, index, RootKind::Mail)?;
+    Ok((stacks, dictionaries, mailboxes))
 }
 
 /// Where the heaps and the roots of processes are, which is looked up for each process. Contracts see the index.
@@ -55,11 +71,9 @@ impl<'a> Finder<'a> {
         ensures { IfOk result (λ finder. finder ≡ index.now) }
     {
         let heaps = find_heaps(alloc, index)?;
-        let stacks = find_roots(alloc, index, RootKind::Stack)?;
-        let dictionaries = find_roots(alloc, index, RootKind::Dict)?;
-        let mailboxes = find_roots(alloc, index, RootKind::Mail)?;
-        let literals = index.first_tag(b"literals");
         let binaries = BinaryPlaces::find(alloc, index)?;
+        let (stacks, dictionaries, mailboxes) = find_all_roots(alloc, index)?;
+        let literals = index.first_tag(b"literals");
         Ok(Finder {
             index,
             heaps,

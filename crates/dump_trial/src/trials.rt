@@ -1,14 +1,15 @@
 // Holding a made dump in memory and reading it.
 ghost use Rattle.std.specs.Prelude.{◌≡◌, ◌≤◌, length, All, None, IfOk};
 ghost use Rattle.dump_sections.specs.Index.{IsIndexOf};
-ghost use Rattle.process_table.specs.Processes.{IsIn};
+ghost use Rattle.process_table.specs.Processes.{IsIn, process_table};
 ghost use Rattle.dump_audit.specs.Findings.{audit_of, findings};
-ghost use Rattle.dump_trial.specs.Trial.{queue_limit, summary_of, trial_of};
+ghost use Rattle.dump_trial.specs.Trial.{queue_limit, summary_of, tally_of, trial_of};
 
 use crate::counting::count_processes;
 use crate::finder::Finder;
 use crate::held::Held;
 use crate::summary::Summary;
+use crate::tally::Tally;
 use dump_audit::audit;
 use dump_sections::Index;
 use dump_write::{made_dump_is_accepted, make};
@@ -29,20 +30,48 @@ fn count_findings(alloc: Global, index: &Index, procs: &Procs) -> Result<u64, Al
     Ok(found.len() as u64)
 }
 
-fn summarize(alloc: Global, held: &mut Held, index: &Index) -> Result<Summary, AllocError>
+// How many roots the processes have.
+fn count_all_roots(
+    alloc: Global,
+    held: &mut Held,
+    index: &Index,
+    procs: &Procs,
+) -> Result<Tally, AllocError>
     requires { IsIndexOf held.old index.now }
+    ensures { IfOk result (λ tally. tally ≡ tally_of held.old procs.now.processes) }
+{
+    let finder = Finder::new(alloc, index)?;
+    count_processes(alloc, held, &finder, procs)
+}
+
+// What there is in the dump with these processes.
+fn summarize_processes(
+    alloc: Global,
+    held: &mut Held,
+    index: &Index,
+    procs: &Procs,
+) -> Result<Summary, AllocError>
+    requires index { IsIndexOf held.old index.now }
+    requires table { procs.now ≡ process_table held.old }
+    requires sections { All (IsIn index.now) procs.now.processes }
     ensures { IfOk result (λ summary. summary ≡ summary_of held.old) }
 {
-    let procs = held.procs(alloc, index)?;
-    let finder = Finder::new(alloc, index)?;
-    let tally = count_processes(alloc, held, &finder, &procs)?;
-    let findings = count_findings(alloc, index, &procs)?;
+    let tally = count_all_roots(alloc, held, index, procs)?;
+    let findings = count_findings(alloc, index, procs)?;
     Ok(Summary {
         sections: index.len() as u64,
         processes: procs.len() as u64,
         tally,
         findings,
     })
+}
+
+fn summarize(alloc: Global, held: &mut Held, index: &Index) -> Result<Summary, AllocError>
+    requires { IsIndexOf held.old index.now }
+    ensures { IfOk result (λ summary. summary ≡ summary_of held.old) }
+{
+    let procs = held.procs(alloc, index)?;
+    summarize_processes(alloc, held, index, &procs)
 }
 
 /// Makes the dump of a seed and a count of processes, from 1 to 200,000, holds it in memory
