@@ -1,5 +1,5 @@
 -- The section at a place.
-use Rattle.std.proofs.Common.{◌≡◌, ℕ, zero, suc, ◌+◌, ◌-◌, List, [], ◌∷◌, length, slice_get, Some, refl, sym, ◌∙◌, ap, Bool, codes, if◌then◌else◌, All, subst, arith}
+use Rattle.std.proofs.Common.{◌≡◌, ℕ, zero, suc, ◌+◌, ◌-◌, List, [], ◌∷◌, length, slice_get, Some, sym, ◌∙◌, ap, Bool, codes, if◌then◌else◌, All, subst, arith}
 use Rattle.std.proofs.lemmas.Option.{get_or_from_slice_get, slice_get_within}
 use Rattle.dump_io.specs.Lines.{Header}
 use Rattle.dump_sections.specs.Sections.{section, sections_of, next_at, end_at, tag_of}

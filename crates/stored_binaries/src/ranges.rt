@@ -1,9 +1,9 @@
 // The first bytes of ranges.
-ghost use Rattle.std.specs.Prelude.{◌≡◌, ℕ, ◌+◌, ◌≤◌, ◌<◌, List, length, take, drop, nat_le, IfSome, OnOk, OnErr, IfOk};
+ghost use Rattle.std.specs.Prelude.{◌≡◌, ℕ, ◌+◌, ◌≤◌, ◌<◌, List, length, take, drop, nat_le, OnErr, IfOk};
 ghost use Rattle.std.specs.Option.{option_map};
 ghost use Rattle.dump_io.specs.Dumps.{told, DeviceFailed, ReadsAtMost};
 ghost use Rattle.dump_sections.specs.Bodies.{section_at, body_length};
-ghost use Rattle.dump_sections.specs.Index.{IsBuiltOver, sections_in};
+ghost use Rattle.dump_sections.specs.Index.{IsBuiltOver};
 ghost use Rattle.stored_binaries.specs.Payloads.{payload_of};
 ghost use Rattle.stored_binaries.specs.Ranges.{bytes_from, in_body, in_dump};
 ghost use Rattle.stored_binaries.specs.Inner.Leads.{body_at};
