@@ -201,11 +201,11 @@ fn put_finding_counts<K: Sink>(sink: &mut K, counts: FindingCounts) -> Result<()
 }
 
 /// Writes one page on a dump: version, size, number of sections and slogan, as in
-/// [`put_info`](crate::put_info); `memory KEY VALUE` for each field of the body of the first `memory`
+/// [`put_info`](report_text::put_info); `memory KEY VALUE` for each field of the body of the first `memory`
 /// section, which is empty if there is none; the number of processes, as in
-/// [`put_procs`](crate::put_procs); `state COUNT STATE`, `queue LENGTH PID NAME AT`,
+/// [`put_procs`](report_text::put_procs); `state COUNT STATE`, `queue LENGTH PID NAME AT`,
 /// `process BYTES PID NAME AT` and `ets WORDS ID NAME AT` for each row of the triage; `finding COUNT KIND`
-/// for each kind of findings that occurs; and the state line, as in [`put_index`](crate::put_index). Words
+/// for each kind of findings that occurs; and the state line, as in [`put_index`](report_text::put_index). Words
 /// and values have tabs between them, `-` stands for a missing name, and AT is the offset of the section.
 ///
 /// The processes and the tables are those of the index, and the triage
