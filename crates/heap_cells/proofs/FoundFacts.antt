@@ -1,19 +1,21 @@
 -- What the text of a cell's form spells, as it is read.
-use Rattle.std.proofs.Common.{◌≡◌, ℕ, suc, ◌+◌, ◌-◌, ◌≤◌, List, [], ◌∷◌, ◌++◌, length, take, drop, map, Some, refl, sym, ◌∙◌, ap, subst, arith, length-append, append_assoc}
+use Rattle.std.proofs.Common.{◌≡◌, ℕ, suc, ◌+◌, ◌-◌, List, [], ◌∷◌, ◌++◌, length, take, drop, map, Some, sym, ◌∙◌, ap, arith, length-append, append_assoc}
 use Rattle.std.specs.Prelude.{codes, ◌↔◌, slice_range, All}
-use Rattle.std.proofs.lemmas.List.{length-take, length-drop}
-use Rattle.std.proofs.lemmas.List.Elements.{All-map, All-weaker}
+use Rattle.std.proofs.lemmas.List.{length-drop}
+use Rattle.std.proofs.lemmas.List.Elements.{All-weaker}
 use Rattle.std.proofs.Math.Seq.{drop-append_seam, take-append_seam, take-length}
 use Rattle.binary_payloads.specs.declared.enc.Enc.{Enc}
 use Rattle.term_forms.specs.declared.shapes.Elem.{Elem}
-use Rattle.term_forms.specs.Elements.{Element, Small, IsElem, IsFront}
+use Rattle.term_forms.specs.Elements.{Element, IsElem, IsFront}
 use Rattle.term_forms.specs.Forms.{IsForm, Cons}
 use Rattle.term_forms.specs.Places.{Placed, StandsAt}
 use Rattle.term_forms.specs.Reading.{front, whole_of}
 use Rattle.term_forms.specs.Seen.{element}
 use Rattle.term_forms.specs.Words.{bar}
-use Rattle.heap_cells.specs.Inner.Found.{IsPairOf, pair_spelled, size_read, size_at, spelled_at}
-use Rattle.heap_cells.specs.Inner.Spellings.{Spelling, IsSpelling}
+use Rattle.cell_records.specs.declared.cells.Slot.{Slot}
+use Rattle.heap_cells.specs.Inner.Found.{IsPairOf, pair_spelled}
+use Rattle.heap_cells.specs.Inner.Gathering.{slot_for}
+use Rattle.heap_cells.specs.Inner.Spellings.{IsSpelling}
 
 -- the front of a text is the longest prefix that spells an element
 abbrev pub IsLongest : Type 0
@@ -28,7 +30,7 @@ IsRead = (text : List ℕ) (e : Element) → (whole_of text ≡ Some e) ↔ IsEl
 pub pair-form : (enc : Enc) (text : List ℕ) (head : Elem) (len : ℕ) (tail : Elem) → IsPairOf text head len tail → IsForm enc text (Cons (element head) (element tail))
 pair-form enc text head len tail is = (is.first, is.rest, is.split, is.head_is, is.tail_is)
 
-All-two : (P : Spelling → Type 0) (p q : Spelling) → P p → P q → All P (p ∷ q ∷ [])
+All-two : (P : Placed → Type 0) (p q : Placed) → P p → P q → All P (p ∷ q ∷ [])
 All-two P p q one other ℕ.zero d inside = one
 All-two P p q one other (suc ℕ.zero) d inside = other
 All-two P p q one other (suc (suc k)) d inside = absurd (omega arith)
@@ -55,38 +57,25 @@ pair-spelled text head len tail read is =
 
 -- ---- another form
 
-same-elements : (text : List ℕ) (ps : List Placed) → map (λ (s : Spelling). s.element) (map (spelled_at text) ps) ≡ map (λ (p : Placed). p.element) ps
-same-elements text [] = refl
-same-elements text (p ∷ ps) = ap (λ es. p.element ∷ es) (same-elements text ps)
-
-pub elements-spelled : (text : List ℕ) (ps : List Placed) (es : List Element) → map (λ (p : Placed). p.element) ps ≡ es
-    → map (λ (s : Spelling). s.element) (map (spelled_at text) ps) ≡ es
-elements-spelled text ps es are = same-elements text ps ∙ are
-
-spelled-there : (text : List ℕ) (p : Placed) → IsLongest → IsRead → StandsAt text p → IsSpelling text (spelled_at text p)
+spelled-there : (text : List ℕ) (p : Placed) → IsLongest → IsRead → StandsAt text p → IsSpelling text p
 spelled-there text p longest read stands =
-    let len = stands.len in
-    let size : size_read (front (drop p.at text)) ≡ len = ap size_read stands.read in
-    let is : IsFront (drop p.at text) p.element len = (longest (drop p.at text) p.element len).0 stands.read in
+    let is : IsFront (drop p.at text) p.element p.len = (longest (drop p.at text) p.element p.len).0 stands.read in
     let before = stands.within in
     let within = is.within in
-    let fits : p.at + len ≤ length text = omega (arith, before, within, length-drop p.at text) in
-    let count : p.at + len - p.at ≡ len = omega arith in
-    subst (λ n. IsSpelling text (record { at = p.at; len = n; element = p.element })) (sym size) (record {
-      within = fits;
-      spells = ap (λ n. whole_of (take n (drop p.at text))) count ∙ (read (take len (drop p.at text)) p.element).1 is.spells;
-    })
+    let count : p.at + p.len - p.at ≡ p.len = omega arith in
+    record {
+      within = omega (arith, before, within, length-drop p.at text);
+      spells = ap (λ n. whole_of (take n (drop p.at text))) count ∙ (read (take p.len (drop p.at text)) p.element).1 is.spells;
+    }
 
-pub all-spelled : (text : List ℕ) (ps : List Placed) → IsLongest → IsRead → All (StandsAt text) ps → All (IsSpelling text) (map (spelled_at text) ps)
-all-spelled text ps longest read stand =
-    All-map (IsSpelling text) (spelled_at text) ps (All-weaker (StandsAt text) (λ p. IsSpelling text (spelled_at text p)) (λ p. spelled-there text p longest read) ps stand)
+pub all-spelled : (text : List ℕ) (ps : List Placed) → IsLongest → IsRead → All (StandsAt text) ps → All (IsSpelling text) ps
+all-spelled text ps longest read stand = All-weaker (StandsAt text) (IsSpelling text) (λ p. spelled-there text p longest read) ps stand
 
--- an integer is spelled by one byte more than it has
-pub small-size : (text : List ℕ) (p : Placed) (integer : List ℕ) → IsRead → p.element ≡ Small integer → IsSpelling text (spelled_at text p) → length integer + 1 ≡ size_at text p.at
-small-size text p integer read same is =
-    let n = size_at text p.at in
-    let part = slice_range text p.at (p.at + size_at text p.at) in
-    let spelled : IsElem part (Small integer) = subst (IsElem part) same ((read part p.element).0 is.spells) in
-    let count : length part ≡ suc (length integer) = ap length spelled.0 in
-    let within = is.within in
-    omega (arith, count, within, length-take (p.at + n - p.at) (drop p.at text), length-drop p.at text)
+-- the slot of one more element
+pub slots-more : (from : ℕ) (old new all : List Slot) (p : Placed) (rest ps : List Placed) → new ≡ old ++ slot_for from p ∷ [] → ps ≡ p ∷ rest
+    → old ++ map (slot_for from) ps ≡ all → new ++ map (slot_for from) rest ≡ all
+slots-more from old new all p rest ps pushed split is =
+    ap (λ l. l ++ map (slot_for from) rest) pushed
+    ∙ append_assoc old (slot_for from p ∷ []) (map (slot_for from) rest)
+    ∙ ap (λ l. old ++ map (slot_for from) l) (sym split)
+    ∙ is

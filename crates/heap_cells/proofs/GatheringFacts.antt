@@ -13,7 +13,7 @@ use Rattle.term_forms.specs.Elements.{Element, IsElem, Nil, Small, Atom, Pid, Po
 use Rattle.term_forms.specs.Forms as forms
 use Rattle.term_forms.specs.Forms.{HeapForm, IsForm}
 use Rattle.term_forms.specs.Joined.{IsJoined}
-use Rattle.term_forms.specs.Places.{elements_of}
+use Rattle.term_forms.specs.Places.{Placed, elements_of}
 use Rattle.term_forms.specs.Reading.{whole_of}
 use Rattle.term_forms.specs.ReadingForms.{form_of}
 use Rattle.term_forms.specs.SeenForms.{heap_form}
@@ -28,7 +28,7 @@ use Rattle.heap_cells.specs.Targets.{target, slot_target}
 use Rattle.heap_cells.specs.Inner.Gathering.{slot_with, slot_for, form_found, slots_found, new_record, IsLineAt, IsBodyAt, IsGathered, Leads, AreAll}
 use Rattle.heap_cells.specs.Inner.Parts.{IsPart}
 use Rattle.heap_cells.specs.Inner.Records.{cell_in, cells_in, AreSlots, IsSpan, Spells, AllSpell, element_at}
-use Rattle.heap_cells.specs.Inner.Spellings.{Spelling, IsSpelling}
+use Rattle.heap_cells.specs.Inner.Spellings.{IsSpelling}
 use Rattle.heap_cells.proofs.PushingFacts.{AreSlots-push}
 use Rattle.heap_cells.specs.declared.texts.Texts.{Texts}
 use Rattle.heap_cells.specs.Inner.Texts.{text_of, seam_of}
@@ -95,7 +95,7 @@ form-few enc text (forms.Node children) is =
 -- ---- what was found in the text of a form
 
 abbrev pub Found : Type 0
-Found = Option (Form × List Spelling)
+Found = Option (Form × List Placed)
 
 pub found-few : (enc : Enc) (text : List ℕ) (found : Found) → IfSome found (λ f. IsForm enc text (heap_form f.0)) → length (elements_in (form_found found)) ≤ length text
 found-few enc text None is = omega arith
@@ -111,13 +111,13 @@ with-target span (Pid pid) = refl
 with-target span (Port port) = refl
 with-target span (Ref address) = refl
 
-for-targets : (from : ℕ) (ss : List Spelling) → map slot_target (map (slot_for from) ss) ≡ map (target []) (map (λ (s : Spelling). s.element) ss)
+for-targets : (from : ℕ) (ss : List Placed) → map slot_target (map (slot_for from) ss) ≡ map (target []) (map (λ (s : Placed). s.element) ss)
 for-targets from [] = refl
 for-targets from (s ∷ ss) =
     ap (λ t. t ∷ map slot_target (map (slot_for from) ss)) (with-target (record { at = from + s.at; len = s.len }) s.element)
     ∙ ap (λ ts. target [] s.element ∷ ts) (for-targets from ss)
 
-pub found-targets : (from : ℕ) (found : Found) → IfSome found (λ f. map (λ (s : Spelling). s.element) f.1 ≡ elements_of (heap_form f.0))
+pub found-targets : (from : ℕ) (found : Found) → IfSome found (λ f. map (λ (s : Placed). s.element) f.1 ≡ elements_of (heap_form f.0))
     → map slot_target (slots_found from found) ≡ map (target []) (elements_in (form_found found))
 found-targets from None are = refl
 found-targets from (Some f) are = for-targets from f.1 ∙ ap (map (target [])) are
@@ -142,7 +142,7 @@ slice-slice text base n from upto ordered within =
     ∙ ap (λ k. take k (drop (base + from) text)) (sym size)
 
 -- what is spelled in a part of the text is spelled in the text
-for-spells : (text : List ℕ) (seam from upto : ℕ) (s : Spelling) → IsPart seam (length text) from upto → IsSpelling (slice_range text from upto) s
+for-spells : (text : List ℕ) (seam from upto : ℕ) (s : Placed) → IsPart seam (length text) from upto → IsSpelling (slice_range text from upto) s
     → Spells text seam (slot_for from s) s.element
 for-spells text seam from upto s part is =
     let size : length (slice_range text from upto) ≤ upto - from = omega (arith, length-take (upto - from) (drop from text)) in
@@ -164,7 +164,7 @@ for-spells text seam from upto s part is =
     (ap whole_of same ∙ is.spells)
 
 pub found-spell : (text : List ℕ) (seam from upto : ℕ) (found : Found) → IsPart seam (length text) from upto
-    → IfSome found (λ f. map (λ (s : Spelling). s.element) f.1 ≡ elements_of (heap_form f.0)) → IfSome found (λ f. All (IsSpelling (slice_range text from upto)) f.1)
+    → IfSome found (λ f. map (λ (s : Placed). s.element) f.1 ≡ elements_of (heap_form f.0)) → IfSome found (λ f. All (IsSpelling (slice_range text from upto)) f.1)
     → AllSpell text seam (slots_found from found) (elements_in (form_found found))
 found-spell text seam from upto None part are spelled k s e slot_is element_is = cc
 found-spell text seam from upto (Some f) part are spelled k s e slot_is element_is =
@@ -173,7 +173,7 @@ found-spell text seam from upto (Some f) part are spelled k s e slot_is element_
     let p = there.0 in
     let slot_same : Some (slot_for from p) ≡ Some s = sym (slice_get-map (slot_for from) ps k ∙ ap (option_map (slot_for from)) there.1) ∙ slot_is in
     let element_same : Some p.element ≡ Some e =
-    sym (ap (λ l. slice_get l k) (sym are) ∙ slice_get-map (λ (p : Spelling). p.element) ps k ∙ ap (option_map (λ (p : Spelling). p.element)) there.1) ∙ element_is in
+    sym (ap (λ l. slice_get l k) (sym are) ∙ slice_get-map (λ (p : Placed). p.element) ps k ∙ ap (option_map (λ (p : Placed). p.element)) there.1) ∙ element_is in
     let is : IsSpelling (slice_range text from upto) p =
     subst (IsSpelling (slice_range text from upto)) (get_or_from_slice_get ps k p p there.1) (spelled k p (slice_get_within ps k p there.1)) in
     let s_is : slot_for from p ≡ s = cc in
@@ -186,7 +186,7 @@ found-spell text seam from upto (Some f) part are spelled k s e slot_is element_
 pub record IsFound (text : List ℕ) (seam : ℕ) (enc : Enc) (from upto : ℕ) (found : Found) : Type 0 where
   pub part : IsPart seam (length text) from upto
   pub form : form_found found ≡ form_of enc (slice_range text from upto)
-  pub elements : IfSome found (λ f. map (λ (s : Spelling). s.element) f.1 ≡ elements_of (heap_form f.0))
+  pub elements : IfSome found (λ f. map (λ (s : Placed). s.element) f.1 ≡ elements_of (heap_form f.0))
   pub places : IfSome found (λ f. All (IsSpelling (slice_range text from upto)) f.1)
 
 -- the record of its cell
@@ -210,7 +210,7 @@ slots-more text seam enc address from upto found old new is are cells slots =
     (found-targets from found is.elements ∙ ap (λ f. map (target []) (elements_in f)) form)
     (subst (AllSpell text seam (slots_found from found)) (ap elements_in form) (found-spell text seam from upto found is.part is.elements is.places)))
 
-pub slots-found-count : (from : ℕ) (found : Found) → IfSome found (λ f. map (λ (s : Spelling). s.element) f.1 ≡ elements_of (heap_form f.0))
+pub slots-found-count : (from : ℕ) (found : Found) → IfSome found (λ f. map (λ (s : Placed). s.element) f.1 ≡ elements_of (heap_form f.0))
     → length (slots_found from found) ≡ length (elements_in (form_found found))
 slots-found-count from found are =
     sym (length-map (slots_found from found) slot_target) ∙ ap length (found-targets from found are) ∙ length-map (elements_in (form_found found)) (target [])
@@ -242,7 +242,7 @@ leads-passed text enc old new cell rest all weight over leads = record {
 }
 
 pub found-is : (text : List ℕ) (seam : ℕ) (enc : Enc) (from upto : ℕ) (part : List ℕ) (found : Found) → IsPart seam (length text) from upto → part ≡ slice_range text from upto
-    → form_found found ≡ form_of enc part → IfSome found (λ f. map (λ (s : Spelling). s.element) f.1 ≡ elements_of (heap_form f.0)) → IfSome found (λ f. All (IsSpelling part) f.1)
+    → form_found found ≡ form_of enc part → IfSome found (λ f. map (λ (s : Placed). s.element) f.1 ≡ elements_of (heap_form f.0)) → IfSome found (λ f. All (IsSpelling part) f.1)
     → IsFound text seam enc from upto found
 found-is text seam enc from upto part found within is form elements places = record {
   part = within;

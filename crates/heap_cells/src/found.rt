@@ -4,19 +4,17 @@ ghost use Rattle.std.specs.Option.{option_map};
 ghost use Rattle.term_forms.specs.Places.{elements_of};
 ghost use Rattle.term_forms.specs.Seen.{element};
 ghost use Rattle.term_forms.specs.SeenForms.{heap_form};
-ghost use Rattle.term_forms.specs.SeenPlaces.{placed};
 ghost use Rattle.heap_cells.specs.Cells.{elements_in, kind_of};
 ghost use Rattle.heap_cells.specs.Inner.Gathering.{slot_with, slot_for, form_found, slots_found};
-ghost use Rattle.heap_cells.specs.Inner.Found.{size_at, spelled_at, pair_spelled, read_in, IsPairOf, IsReadOf};
-ghost use Rattle.heap_cells.specs.Inner.Spellings.{IsSpelling};
+ghost use Rattle.heap_cells.specs.Inner.Found.{pair_spelled, read_in, IsPairOf, IsReadOf};
+ghost use Rattle.heap_cells.specs.Inner.Spellings.{IsNear, IsSpelling};
 
 use cell_records::{Kind, Slot, Span};
 use std::alloc::AllocError;
 use term_forms::reading::elem;
 use term_forms::shapes::{Elem, Form};
 use term_forms::{
-    Enc, PlacedElem, PlacedElems, form_is_read, front_is_longest, placed_form, whole_elem,
-    whole_is_read,
+    Enc, PlacedElems, form_is_read, front_is_longest, placed_form, whole_elem, whole_is_read,
 };
 
 // No form; a cons cell with its head, how many bytes spell that,
@@ -122,29 +120,6 @@ pub(crate) fn found_weight(text: &[u8], found: &Found<'_>) -> u64
     }
 }
 
-// How many bytes spell the element that is read at a place of the text.
-fn size_at(text: &[u8], at: usize) -> usize
-    requires { at ≤ length text.now }
-    ensures { result ≡ size_at text.now at }
-{
-    match elem(text_from(text, at)) {
-        Some((_, len)) => len,
-        None => 0,
-    }
-}
-
-// How many bytes spell an element of a form. An integer is not read again for that.
-fn size_of(text: &[u8], found: &PlacedElem<'_>) -> usize
-    requires { IsSpelling text.now (spelled_at text.now (placed found.now)) }
-    ensures { result ≡ size_at text.now found.now.at }
-{
-    whole_is_read();
-    match found.elem {
-        Elem::Small(integer) => integer.len() + 1,
-        _ => size_at(text, found.at),
-    }
-}
-
 // The slot of an immediate, given the place where its spelling begins, and how many bytes it has.
 fn imm(at: usize, len: usize) -> Slot
     requires { at + len < 4294967296 }
@@ -167,31 +142,17 @@ fn slot_with(e: &Elem<'_>, at: usize, len: usize) -> Slot
     }
 }
 
-// The slot of an element of a form whose text begins at a place.
-fn slot_for(text: &[u8], found: &PlacedElem<'_>, from: usize) -> Slot
-    requires spelled { IsSpelling text.now (spelled_at text.now (placed found.now)) }
-    requires small { from + length text.now < 4294967296 }
-    ensures { result ≡ slot_for from (spelled_at text.now (placed found.now)) }
-{
-    match found.elem {
-        Elem::Ref(address) => Slot::Gone(address),
-        _ => imm(from + found.at, size_of(text, found)),
-    }
-}
-
 // The slots of the elements of a form whose text begins at a place.
 fn push_slots(
     slots: &mut Vec<Slot>,
-    text: &[u8],
     elements: PlacedElems<'_>,
     from: usize,
 ) -> Result<(), AllocError>
-    requires spelled { All (IsSpelling text.now) (map (spelled_at text.now) elements) }
-    requires small { from + length text.now < 4294967296 }
-    ensures { OnOk result (slots.new.items ≡ slots.old.items ++ map (slot_for from) (map (spelled_at text.now) elements.entry)) }
+    requires { All (IsNear from) elements }
+    ensures { OnOk result (slots.new.items ≡ slots.old.items ++ map (slot_for from) elements.entry) }
 {
     for found in elements {
-        slots.push(slot_for(text, &found, from))?;
+        slots.push(slot_with(&found.elem, from + found.at, found.len))?;
     }
     Ok(())
 }
@@ -234,7 +195,7 @@ pub(crate) fn push_found(
             Ok(Some(Kind::List))
         }
         Found::Other(form, elements) => {
-            push_slots(slots, text, elements, from)?;
+            push_slots(slots, elements, from)?;
             Ok(Some(kind_of(&form)))
         }
     }

@@ -76,8 +76,8 @@ fn stand(rt: &impl Abort, text: &[u8], expected: &[PlacedElem<'_>]) {
     }
 }
 
-fn at(at: usize, elem: Elem<'_>) -> PlacedElem<'_> {
-    PlacedElem { at, elem }
+fn at(at: usize, len: usize, elem: Elem<'_>) -> PlacedElem<'_> {
+    PlacedElem { at, len, elem }
 }
 
 #[test]
@@ -85,29 +85,29 @@ fn elements_have_places(rt: HostRuntime) {
     stand(
         &rt,
         b"lA3:a|b|H0a",
-        &[at(1, Elem::Atom(b"a|b")), at(8, Elem::Ref(10))],
+        &[at(1, 6, Elem::Atom(b"a|b")), at(8, 3, Elem::Ref(10))],
     );
     stand(
         &rt,
         b"t003:p#Port<0.1>,N,I-1",
         &[
-            at(5, Elem::Port(b"<0.1>")),
-            at(17, Elem::Nil),
-            at(19, Elem::Small(b"-1")),
+            at(5, 11, Elem::Port(b"<0.1>")),
+            at(17, 1, Elem::Nil),
+            at(19, 3, Elem::Small(b"-1")),
         ],
     );
     stand(
         &rt,
         b"Mf1:H20:A3:a,b",
-        &[at(4, Elem::Ref(32)), at(8, Elem::Atom(b"a,b"))],
+        &[at(4, 3, Elem::Ref(32)), at(8, 6, Elem::Atom(b"a,b"))],
     );
-    stand(&rt, b"Mf0:N:", &[at(4, Elem::Nil)]);
+    stand(&rt, b"Mf0:N:", &[at(4, 1, Elem::Nil)]);
     stand(
         &rt,
         b"Mh3:2:H1,H2",
-        &[at(6, Elem::Ref(1)), at(9, Elem::Ref(2))],
+        &[at(6, 2, Elem::Ref(1)), at(9, 2, Elem::Ref(2))],
     );
-    stand(&rt, b"Mn01:H5", &[at(5, Elem::Ref(5))]);
+    stand(&rt, b"Mn01:H5", &[at(5, 2, Elem::Ref(5))]);
     stand(&rt, b"t0:", &[]);
     stand(&rt, b"Yc0a:01:2", &[]);
     assert!(rt; placed_form(b"t2:I1", Enc::Hex).is_none());

@@ -27,17 +27,17 @@ pub placed_end : (size n : ℕ) (rest : List ℕ) → front rest ≡ None → pl
 unfolding placed_list
 placed_end size zero rest h = refl
 placed_end size (suc n) rest h =
-    ap (λ o. option_map_or (λ found. record { at = size - length rest; element = found.0 } ∷ placed_list size n (drop (found.1 + 1) rest)) o []) h
+    ap (λ o. option_map_or (λ found. record { at = size - length rest; len = found.1; element = found.0 } ∷ placed_list size n (drop (found.1 + 1) rest)) o []) h
 
 pub placed_none : (size : ℕ) (rest : List ℕ) → placed_list size 0 rest ≡ []
 unfolding placed_list
 placed_none size rest = refl
 
 pub placed_step : (size n : ℕ) (rest : List ℕ) (e : Element) (len : ℕ) → front rest ≡ Some (e, len)
-    → placed_list size (suc n) rest ≡ record { at = size - length rest; element = e } ∷ placed_list size n (drop (len + 1) rest)
+    → placed_list size (suc n) rest ≡ record { at = size - length rest; len = len; element = e } ∷ placed_list size n (drop (len + 1) rest)
 unfolding placed_list
 placed_step size n rest e len h =
-    ap (λ o. option_map_or (λ found. record { at = size - length rest; element = found.0 } ∷ placed_list size n (drop (found.1 + 1) rest)) o []) h
+    ap (λ o. option_map_or (λ found. record { at = size - length rest; len = found.1; element = found.0 } ∷ placed_list size n (drop (found.1 + 1) rest)) o []) h
 
 -- ---- each stands at its place
 
@@ -83,9 +83,9 @@ stands text (suc n) rest ends = of (front rest) refl (λ j. stands text n (drop 
     of None e others = subst (All (StandsAt text)) (sym (placed_end (length text) (suc n) rest e)) (All-nil (StandsAt text))
     of (Some found) e others =
         let at : ℕ = length text - length rest in
-        let first : Placed = record { at = length text - length rest; element = found.0 } in
+        let first : Placed = record { at = length text - length rest; len = found.1; element = found.0 } in
         let some = begun_some rest found.0 found.1 e in
-        let here : StandsAt text first = record { within = omega (arith, some, ends.0); len = found.1; read = ap front ends.1 ∙ e } in
+        let here : StandsAt text first = record { within = omega (arith, some, ends.0); read = ap front ends.1 ∙ e } in
         subst (All (StandsAt text)) (sym (placed_step (length text) n rest found.0 found.1 e)) (All-cons (StandsAt text) first _ here (others (found.1 + 1)))
 
 pub all_stand : (text : List ℕ) (n from : ℕ) → All (StandsAt text) (placed_list (length text) n (drop from text))

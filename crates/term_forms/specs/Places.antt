@@ -21,13 +21,13 @@ elements_of (Flat keys values) = keys ∷ values
 elements_of (Hash size children) = children
 elements_of (Node children) = children
 
--- an element, and the number of bytes before its spelling
+-- an element, the number of bytes before its spelling, and the number of bytes that spell it
 pub record Placed : Type 0 where
   pub at : ℕ
+  pub len : ℕ
   pub element : Element
 
--- the text from that place on begins with this element when it is read
+-- the text from that place on begins with this element and this spelling when it is read
 pub record StandsAt (text : List ℕ) (placed : Placed) : Type 0 where
   pub within : placed.at < length text
-  pub len : ℕ
-  pub read : front (drop placed.at text) ≡ Some (placed.element, len)
+  pub read : front (drop placed.at text) ≡ Some (placed.element, placed.len)

@@ -67,7 +67,11 @@ impl<'a> Iterator for PlacedElems<'a> {
         let at = self.size - self.rest.len();
         self.rest = behind_byte(self.rest, len);
         self.left -= 1;
-        Some(PlacedElem { at, elem: found })
+        Some(PlacedElem {
+            at,
+            len,
+            elem: found,
+        })
     }
 }
 

@@ -51,11 +51,13 @@ pub enum Form<'a> {
     Node(Elems<'a>),
 }
 
-/// An element of a form, and where its spelling begins.
+/// An element of a form, and where its spelling stands.
 #[derive(Clone, Copy, Debug, PartialEq, Eq)]
 pub struct PlacedElem<'a> {
     /// The number of bytes in the form's text before the spelling.
     pub at: usize,
+    /// The number of bytes of the spelling.
+    pub len: usize,
     /// The element.
     pub elem: Elem<'a>,
 }

@@ -5,6 +5,7 @@ use Rattle.field_lines.specs.Lines.{TextLine}
 use Rattle.binary_payloads.specs.declared.enc.Enc.{Enc}
 use Rattle.term_forms.specs.Elements.{Element, Nil, Small, Atom, Pid, Port, Ref}
 use Rattle.term_forms.specs.Forms.{HeapForm}
+use Rattle.term_forms.specs.Places.{Placed}
 use Rattle.term_forms.specs.SeenForms.{heap_form}
 use Rattle.term_forms.specs.declared.shapes.Form.{Form}
 use Rattle.cell_records.specs.declared.cells.CellRecord.{CellRecord}
@@ -17,7 +18,6 @@ use Rattle.heap_cells.specs.Inner.Parts.{IsPart}
 use Rattle.heap_cells.specs.declared.texts.Texts.{Texts}
 use Rattle.heap_cells.specs.Inner.Texts.{text_of, seam_of}
 use Rattle.heap_cells.specs.Inner.Records.{cells_in, AreSlots}
-use Rattle.heap_cells.specs.Inner.Spellings.{Spelling}
 
 -- the slot of an element before references are resolved, given the part of the text that spells it
 abbrev pub slot_with : Span → Element → Slot
@@ -29,14 +29,14 @@ slot_with span (Port port) = slot.Imm span
 slot_with span (Ref address) = slot.Gone address
 
 -- the same, given the place where the text of its form begins
-abbrev pub slot_for : ℕ → Spelling → Slot
-slot_for from s = slot_with (record { at = from + s.at; len = s.len }) s.element
+abbrev pub slot_for : ℕ → Placed → Slot
+slot_for from p = slot_with (record { at = from + p.at; len = p.len }) p.element
 
--- what a form's text spells: its form, and its elements with their spellings
-abbrev pub form_found : Option (Form × List Spelling) → Option HeapForm
+-- what a form's text spells: its form, and its elements with their places
+abbrev pub form_found : Option (Form × List Placed) → Option HeapForm
 form_found found = option_map (λ f. heap_form f.0) found
 
-abbrev pub slots_found : ℕ → Option (Form × List Spelling) → List Slot
+abbrev pub slots_found : ℕ → Option (Form × List Placed) → List Slot
 slots_found from None = []
 slots_found from (Some found) = map (slot_for from) found.1
 

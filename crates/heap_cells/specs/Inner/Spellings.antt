@@ -1,15 +1,13 @@
 -- Elements, and the parts of a text that spell them.
-use Rattle.std.specs.Prelude.{◌≡◌, ℕ, ◌+◌, ◌≤◌, List, length, slice_range, Some}
-use Rattle.term_forms.specs.Elements.{Element}
+use Rattle.std.specs.Prelude.{◌≡◌, ℕ, ◌+◌, ◌<◌, ◌≤◌, List, length, slice_range, Some}
+use Rattle.term_forms.specs.Places.{Placed}
 use Rattle.term_forms.specs.Reading.{whole_of}
 
--- an element, the number of bytes before its spelling, and the number of bytes that spell it
-pub record Spelling : Type 0 where
-  pub at : ℕ
-  pub len : ℕ
-  pub element : Element
+-- the part of the text at the element's place spells it
+pub record IsSpelling (text : List ℕ) (p : Placed) : Type 0 where
+  pub within : p.at + p.len ≤ length text
+  pub spells : whole_of (slice_range text p.at (p.at + p.len)) ≡ Some p.element
 
--- that part of the text spells the element
-pub record IsSpelling (text : List ℕ) (s : Spelling) : Type 0 where
-  pub within : s.at + s.len ≤ length text
-  pub spells : whole_of (slice_range text s.at (s.at + s.len)) ≡ Some s.element
+-- it ends before the place 2^32, if the form's text begins at the place `from`
+abbrev pub IsNear : ℕ → Placed → Type 0
+IsNear from p = from + p.at + p.len < 4294967296

@@ -10,7 +10,7 @@ use Rattle.term_forms.specs.Places.{Placed}
 unfoldable pub placed_list : ℕ → ℕ → List ℕ → List Placed
 placed_list size zero rest = []
 placed_list size (suc n) rest =
-    option_map_or (λ found. record { at = size - length rest; element = found.0 } ∷ placed_list size n (drop (found.1 + 1) rest)) (front rest) []
+    option_map_or (λ found. record { at = size - length rest; len = found.1; element = found.0 } ∷ placed_list size n (drop (found.1 + 1) rest)) (front rest) []
 
 -- what stands after a number and its colon, or nothing if there is no number
 abbrev pub behind_number : Option (ℕ × List ℕ) → List ℕ

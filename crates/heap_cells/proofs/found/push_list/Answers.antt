@@ -1,9 +1,9 @@
 use Rattle.std.proofs.Common.{◌+◌, ◌-◌, ◌≤◌, length, arith}
 use Rattle.term_forms.specs.Elements.{Nil}
-use Rattle.heap_cells.specs.Inner.Spellings.{Spelling}
+use Rattle.term_forms.specs.Places.{Placed}
 use Rattle.heap_cells.proofs.found.push_list.Goals as goal
 
-any : Spelling
+any : Placed
 any = record { at = 0; len = 0; element = Nil }
 
 pub overflow_add-at : goal.overflow_add-at

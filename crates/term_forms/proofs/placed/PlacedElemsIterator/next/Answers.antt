@@ -26,12 +26,12 @@ returns-clause-steps c =
     let more : s.left ≡ suc (s.left - 1) = omega (arith, c.if-self-eq0.false) in
     sym c.self.view_is ∙ ap (λ n. placed_list s.size n s.rest.now) more
     ∙ placed_step s.size (s.left - 1) s.rest.now e len (sym c.in_ok-found.ensures.exact)
-    ∙ ap (λ rest. record { at = s.size - length s.rest.now; element = e } ∷ placed_list s.size (s.left - 1) rest) (sym c.behind_byte-self-inside.ensures)
+    ∙ ap (λ rest. record { at = s.size - length s.rest.now; len = len; element = e } ∷ placed_list s.size (s.left - 1) rest) (sym c.behind_byte-self-inside.ensures)
 
 pub returns-clause-goes : goal.returns-clause-goes
 returns-clause-goes c =
     let s = c.self.inside in
     let left = placed_list s.size (s.left - 1) c.behind_byte-self-inside.result.now in
-    let split : c.args.self.now ≡ placed (record { at = s.size - length s.rest.now; elem = c.in_ok-found.found }) ∷ left = returns-clause-steps c in
+    let split : c.args.self.now ≡ placed (record { at = s.size - length s.rest.now; len = c.in_ok-found.len; elem = c.in_ok-found.found }) ∷ left = returns-clause-steps c in
     let fewer : length left < length c.args.self.now = omega (arith, ap length split) in
     record { on = λ _. (tt, tt, fewer); keeps = tt; rests = λ _. tt }
