@@ -18,7 +18,7 @@ fn blanked(c: u8, enc: Enc) -> u8
     match enc {
         Enc::Hex => { if c.is_ascii_hexdigit() { b'0' } else { c } }
         Enc::Base64 => {
-            if c.is_ascii_alphanumeric() || c == b'+' || c == b'/' {
+            if c.is_ascii_alphabetic() || c == b'+' || (b'/' <= c && c <= b'9') {
                 b'A'
             } else {
                 c
