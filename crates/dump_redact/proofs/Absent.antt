@@ -7,14 +7,10 @@ use Rattle.std.proofs.lemmas.List.Elements.{All-from_get_or}
 use Rattle.memchr.specs.Find.{Passes, is_byte, Nowhere}
 use Rattle.dump_io.specs.Lines.{lf}
 
--- it doesn't stand among the first n bytes
-pub byte_free : (byte : ℕ) (bytes : List ℕ) (n : ℕ) → n ≤ length bytes → Nowhere (Passes (is_byte byte) bytes) 0 n → All (λ c. c ≢ byte) (take n bytes)
-byte_free byte bytes n fits none =
-    All-from_get_or (λ c. c ≢ byte) (take n bytes) 0 (λ i l same.
+-- LF doesn't stand among the first n bytes
+pub lf_free : (bytes : List ℕ) (n : ℕ) → n ≤ length bytes → Nowhere (Passes (is_byte lf) bytes) 0 n → All (λ c. c ≢ lf) (take n bytes)
+lf_free bytes n fits none =
+    All-from_get_or (λ c. c ≢ lf) (take n bytes) 0 (λ i l same.
     let len : length (take n bytes) ≡ n = length-take-le n bytes fits in
     let inside : i < n = omega (arith, l, len) in
     none i (omega arith) inside (eq-eqb _ _ (sym (get_or-take n bytes i 0 inside) ∙ same)))
-
--- the same for LF
-pub lf_free : (bytes : List ℕ) (n : ℕ) → n ≤ length bytes → Nowhere (Passes (is_byte lf) bytes) 0 n → All (λ c. c ≢ lf) (take n bytes)
-lf_free bytes n fits none = byte_free lf bytes n fits none

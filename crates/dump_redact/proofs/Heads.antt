@@ -1,12 +1,12 @@
 -- A redacted dump has the lines of the dump, each alike to what it was, and its headers.
-use Rattle.std.proofs.Common.{◌≡◌, ℕ, suc, ◌+◌, ◌-◌, Bool, true, false, cond, ◌&&◌, List, [], ◌∷◌, length, take, map, filter, Option, Some, None, if◌then◌else◌, refl, sym, ◌∙◌, ap, ap₂, arith}
-use Rattle.std.specs.Prelude.{nat_eq, unwrap_or}
-use Rattle.std.specs.List.{starts_with, ends_with}
-use Rattle.std.proofs.lemmas.Bool.{eqb-true, and_parts, cond-true}
-use Rattle.dump_io.specs.Lines.{lf, cr, equals_sign, raw_lines, lines_from, text_of, is_header, Line, Header, header_of, headers}
+use Rattle.std.proofs.Common.{◌≡◌, ℕ, ◌+◌, ◌-◌, Bool, true, false, cond, ◌&&◌, List, [], ◌∷◌, length, map, filter, Option, Some, None, if◌then◌else◌, refl, sym, ◌∙◌, ap, ap₂}
+use Rattle.std.specs.Prelude.{unwrap_or}
+use Rattle.std.proofs.lemmas.Bool.{cond-true}
+use Rattle.dump_io.specs.Lines.{raw_lines, lines_from, text_of, is_header, Line, Header, header_of, headers}
 use Rattle.dump_io.specs.Laws.Lines.{AreLines-raw}
 use Rattle.dump_sections.specs.Index.{Contents, index_of}
 use Rattle.dump_sections.specs.Versions.{first_in, version_named}
+use Rattle.dump_sections.specs.TilingLaws.{headers_in, is_header-first}
 use Rattle.dump_sections.specs.Sections.{sections, sections_of, id_of}
 use Rattle.dump_sections.specs.declared.version.Version.{Version}
 use Rattle.dump_sections.specs.declared.version.Version.TheVariants.{V05}
@@ -15,46 +15,9 @@ use Rattle.dump_redact.specs.declared.parts.Part.{Part}
 use Rattle.dump_redact.specs.declared.parts.Part.TheVariants.{Other}
 use Rattle.heap_cells.specs.Loading.{enc_of}
 use Rattle.dump_redact.specs.Redacted.{payload_in, without, redacted_line, redacted_lines, next_part, redacted_in, redacted, version_of}
-use Rattle.dump_redact.proofs.Alike.{begins, Alike, AllAlike, Alike-refl, Alike-length, concat-alike, raw_lines-of, blank_from-alike}
+use Rattle.dump_redact.proofs.Alike.{Alike, AllAlike, Alike-refl, Alike-length, concat-alike, raw_lines-of, blank_from-alike}
 
 -- ---- a header is a line that begins with an equals sign
-
-chosen : (a b : Bool) (c m n : ℕ) (bytes : List ℕ)
-    → starts_with nat_eq (if a then take (suc m) (c ∷ bytes) else (if b then take (suc n) (c ∷ bytes) else c ∷ bytes)) (equals_sign ∷ []) ≡ begins c
-chosen true b c m n bytes = refl
-chosen false true c m n bytes = refl
-chosen false false c m n bytes = refl
-
-chosen_short : (a b : Bool) (c : ℕ) (bytes : List ℕ) → (a ≡ true → begins c ≡ false)
-    → starts_with nat_eq (if a then take 0 (c ∷ bytes) else (if b then take 1 (c ∷ bytes) else c ∷ bytes)) (equals_sign ∷ []) ≡ begins c
-chosen_short true b c bytes none = sym (none refl)
-chosen_short false true c bytes none = refl
-chosen_short false false c bytes none = refl
-
-chosen_alone : (a b : Bool) (c : ℕ) → (b ≡ true → begins c ≡ false)
-    → starts_with nat_eq (if a && false then take 0 (c ∷ []) else (if b then take 0 (c ∷ []) else c ∷ [])) (equals_sign ∷ []) ≡ begins c
-chosen_alone true true c none = sym (none refl)
-chosen_alone true false c none = refl
-chosen_alone false true c none = sym (none refl)
-chosen_alone false false c none = refl
-
-other_byte : (c d : ℕ) → begins d ≡ false → nat_eq d c && true ≡ true → begins c ≡ false
-other_byte c d unlike same = ap begins (sym (eqb-true d c (and_parts (nat_eq d c) true same).0)) ∙ unlike
-
-is_header-first : (c : ℕ) (line : List ℕ) → is_header (c ∷ line) ≡ begins c
-is_header-first c [] = chosen_alone (nat_eq cr c) (nat_eq lf c && true) c (other_byte c lf refl)
-is_header-first c (d ∷ []) =
-    chosen_short (nat_eq cr c && (nat_eq lf d && true)) (nat_eq lf d && true) c (d ∷ [])
-    (λ ends. ap begins (sym (eqb-true cr c (and_parts (nat_eq cr c) _ ends).0)))
-is_header-first c (d ∷ e ∷ line) =
-    let raw : List ℕ = c ∷ d ∷ e ∷ line in
-    let two : length raw - 2 ≡ suc (length line) = omega arith in
-    let one : length raw - 1 ≡ suc (suc (length line)) = omega arith in
-    let crlf : Bool = ends_with nat_eq raw (cr ∷ lf ∷ []) in
-    let ends : Bool = ends_with nat_eq raw (lf ∷ []) in
-    ap (λ n. starts_with nat_eq (if crlf then take n raw else (if ends then take (length raw - 1) raw else raw)) (equals_sign ∷ [])) two
-    ∙ ap (λ n. starts_with nat_eq (if crlf then take (suc (length line)) raw else (if ends then take n raw else raw)) (equals_sign ∷ [])) one
-    ∙ chosen crlf ends c (length line) (suc (length line)) (d ∷ e ∷ line)
 
 pub is_header-alike : (xs ys : List ℕ) → Alike xs ys → is_header xs ≡ is_header ys
 is_header-alike [] [] h = refl
@@ -94,9 +57,6 @@ pub line-header : (enc : Enc) (part : Part) (raw : List ℕ) → is_header raw �
 line-header enc part raw h = cond-true (is_header raw) raw _ h
 
 -- ---- headers
-
-abbrev pub headers_in : List Line → List Header
-headers_in lines = map header_of (filter (λ line. is_header line.raw) lines)
 
 picked : (q : Bool) (line : Line) (lines : List Line) → map header_of (cond q (line ∷ lines) lines) ≡ cond q (header_of line ∷ map header_of lines) (map header_of lines)
 picked true line lines = refl

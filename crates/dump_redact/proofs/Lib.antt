@@ -10,6 +10,7 @@ pub mod HexZeros
 pub mod InTurn
 pub mod Judging
 pub mod Leads
+pub mod Marks
 pub mod Pieces
 pub mod Places
 pub mod PlainLines

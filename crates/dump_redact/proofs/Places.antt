@@ -53,17 +53,17 @@ known : (o : Option (List ℕ)) → (o ≡ None) ⊎ ((chars : List ℕ) × (o �
 known None = inl refl
 known (Some chars) = inr (chars, refl)
 
--- the text of a line with a payload has the first of those letters
+-- the text of a line with a payload has those letters behind a colon
 marked-by : LedIsRead → (enc : Enc) → FormIsRead enc → (text chars : List ℕ) (o : Option (ℕ × List ℕ)) → led_of text ≡ o
-    → option_and_then (λ led. bin_chars (form_of enc led.1)) o ≡ Some chars → (front : List ℕ) × (more : List ℕ) × (text ≡ front ++ 89 ∷ more)
+    → option_and_then (λ led. bin_chars (form_of enc led.1)) o ≡ Some chars → (front : List ℕ) × (more : List ℕ) × (text ≡ front ++ (codes ":Yh" ++ more))
 marked-by law enc forms text chars None e h = cc
 marked-by law enc forms text chars (Some (address, spelled)) e h =
     let led : IsLed text address spelled = (law text address spelled).0 e in
     let form = bin-marked enc forms spelled chars h in
-    (led.0 ++ colon ∷ [], 104 ∷ form.0, led.2 ∙ ap (λ l. led.0 ++ colon ∷ l) form.1 ∙ sym (append_assoc led.0 (colon ∷ []) (codes "Yh" ++ form.0)))
+    (led.0, form.0, led.2 ∙ ap (λ l. led.0 ++ colon ∷ l) form.1)
 
 pub marked : LedIsRead → (enc : Enc) → FormIsRead enc → (text chars : List ℕ) → payload_in enc Heap text ≡ Some chars
-    → (front : List ℕ) × (more : List ℕ) × (text ≡ front ++ 89 ∷ more)
+    → (front : List ℕ) × (more : List ℕ) × (text ≡ front ++ (codes ":Yh" ++ more))
 marked law enc forms text chars h = marked-by law enc forms text chars (led_of text) refl h
 
 -- ---- the two places

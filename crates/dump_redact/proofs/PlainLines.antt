@@ -1,9 +1,8 @@
--- Lines in which the letter `Y` doesn't stand have no payload.
-use Rattle.std.proofs.Common.{◌≡◌, ℕ, ◌+◌, ◌-◌, ◌<◌, ◌≤◌, ◌==◌, Bool, true, false, List, [], ◌∷◌, ◌++◌, length, take, drop, map, Option, Some, None, suc, if◌then◌else◌, refl, sym, ◌∙◌, ap, ap₂, subst, arith, append-nil, append_assoc}
-use Rattle.std.specs.Prelude.{◌≢◌, All, slice_index}
+-- Lines in which `:Yh` doesn't stand have no payload.
+use Rattle.std.proofs.Common.{◌≡◌, ℕ, ◌+◌, ◌-◌, ◌<◌, ◌≤◌, ◌==◌, Bool, true, false, List, [], ◌∷◌, ◌++◌, length, take, drop, map, Option, Some, None, suc, if◌then◌else◌, refl, sym, ◌∙◌, ap, ap₂, subst, arith, append-nil, append_assoc, length-append}
+use Rattle.std.specs.Prelude.{codes, slice_index}
 use Rattle.std.specs.List.{concat}
-use Rattle.std.proofs.lemmas.List.{length-take, length-take-le, map-append, take_all, take_at, drop_at, drop_all, drop-drop, length-drop, take-take, take-append-drop}
-use Rattle.std.proofs.lemmas.List.Elements.{All-head, All-take, All-drop}
+use Rattle.std.proofs.lemmas.List.{length-take, length-take-le, map-append, take_all, drop_all, drop-drop, length-drop, take-take, take-append-drop}
 use Rattle.std.proofs.lemmas.List.Folds.{concat-append}
 use Rattle.dump_io.specs.Laws.Lines.{AreLines-raw}
 use Rattle.dump_io.specs.Laws.Reads.{take-two}
@@ -12,25 +11,33 @@ use Rattle.binary_payloads.specs.declared.enc.Enc.{Enc}
 use Rattle.dump_redact.specs.declared.parts.Part.TheVariants.{Heap}
 use Rattle.dump_redact.specs.Bodies.{heap_line, redacted_body}
 use Rattle.dump_redact.specs.Redacted.{payload_in, without}
+use Rattle.dump_redact.specs.Inner.Places.{AreMarksFrom}
 use Rattle.dump_redact.proofs.Places.{LedIsRead, FormIsRead, marked}
 use Rattle.dump_redact.proofs.Steps.{IsDone}
 use Rattle.dump_redact.proofs.Texts.{kept, text-kept}
 
--- no `Y` stands in the text
+-- no `:Yh` stands in the text
 abbrev pub IsFree : List ℕ → Type 0
-IsFree text = All (λ c. c ≢ 89) text
+IsFree text = (front more : List ℕ) → text ≡ front ++ (codes ":Yh" ++ more) → ⊥
 
 free-left : (xs ys : List ℕ) → IsFree (xs ++ ys) → IsFree xs
-free-left xs ys free = subst IsFree (take_at xs ys (length xs) refl) (All-take (λ c. c ≢ 89) (length xs) (xs ++ ys) free)
+free-left xs ys free front more is = free front (more ++ ys) (ap (λ l. l ++ ys) is ∙ append_assoc front (codes ":Yh" ++ more) ys)
 
 free-right : (xs ys : List ℕ) → IsFree (xs ++ ys) → IsFree ys
-free-right xs ys free = subst IsFree (drop_at xs ys (length xs) refl) (All-drop (λ c. c ≢ 89) (length xs) (xs ++ ys) free)
+free-right xs ys free front more is = free (xs ++ front) more (ap (λ l. xs ++ l) is ∙ sym (append_assoc xs front (codes ":Yh" ++ more)))
 
-found : (xs ys : List ℕ) → IsFree (xs ++ 89 ∷ ys) → ⊥
-found xs ys free = All-head (λ c. c ≢ 89) 89 ys (free-right xs (89 ∷ ys) free) refl
+free-take : (n : ℕ) (xs : List ℕ) → IsFree xs → IsFree (take n xs)
+free-take n xs free = free-left (take n xs) (drop n xs) (subst IsFree (sym (take-append-drop n xs)) free)
+
+-- none stands before the first of a text
+pub free-before : (place : ℕ) (bytes : List ℕ) → AreMarksFrom place bytes → IsFree (take place bytes)
+free-before place bytes marks front more is =
+    let rest = drop place bytes in
+    let whole : bytes ≡ front ++ (codes ":Yh" ++ (more ++ rest)) = sym (take-append-drop place bytes) ∙ ap (λ l. l ++ rest) is ∙ append_assoc front (codes ":Yh" ++ more) rest in
+    omega (arith, marks front (more ++ rest) whole, length-take place bytes, ap length is, length-append front (codes ":Yh" ++ more))
 
 module _ (law : LedIsRead) (enc : Enc) (forms : FormIsRead enc) where
-  -- a line without that letter stays
+  -- a line without it stays
   plain-line : (raw : List ℕ) → IsFree raw → heap_line enc raw ≡ raw
   plain-line raw free = by (payload_in enc Heap (text_of raw)) refl
     where
@@ -38,8 +45,8 @@ module _ (law : LedIsRead) (enc : Enc) (forms : FormIsRead enc) where
       by None is = refl
       by (Some chars) is =
           let letter = marked law enc forms (text_of raw) chars is in
-          let text : IsFree (text_of raw) = subst IsFree (sym (text-kept raw)) (All-take (λ c. c ≢ 89) (kept raw) raw free) in
-          absurd (found letter.0 letter.1 (subst IsFree letter.2 text))
+          let text : IsFree (text_of raw) = subst IsFree (sym (text-kept raw)) (free-take (kept raw) raw free) in
+          absurd (text letter.0 letter.1 letter.2)
 
   plain-lines : (raws : List (List ℕ)) → IsFree (concat raws) → map (heap_line enc) raws ≡ raws
   plain-lines [] free = refl
@@ -88,7 +95,7 @@ lines-front (c ∷ d ∷ front) rest ended =
 -- ---- a body whose first lines have no payload
 
 module _ (law : LedIsRead) (enc : Enc) (forms : FormIsRead enc) (bytes : List ℕ) where
-  -- lines in front of a place up to which the letter doesn't stand
+  -- lines in front of a place up to which it doesn't stand
   pub plain-front : (place n : ℕ) → IsFree (take place bytes) → n ≤ length (take place bytes) → (0 < n → IsEnded (take n (take place bytes)))
       → redacted_body enc Heap bytes ≡ take n bytes ++ redacted_body enc Heap (drop n bytes)
   plain-front place n free within ended =
@@ -98,7 +105,7 @@ module _ (law : LedIsRead) (enc : Enc) (forms : FormIsRead enc) (bytes : List �
       let all : length (take place bytes) ≤ length bytes = omega (arith, length-take place bytes) in
       let same : take n (take place bytes) ≡ front = take-take n place bytes (omega (arith, within, size)) in
       let long : length front ≡ n = length-take-le n bytes (omega (arith, within, all)) in
-      let own : IsFree front = subst IsFree same (All-take (λ c. c ≢ 89) n (take place bytes) free) in
+      let own : IsFree front = subst IsFree same (free-take n (take place bytes) free) in
       let last : 0 < length front → IsEnded front = λ some. subst IsEnded same (ended (omega (arith, some, long))) in
       ap (redacted_body enc Heap) (sym (take-append-drop n bytes))
       ∙ ap (λ ls. concat (map (heap_line enc) ls)) (lines-front front rest last)

@@ -7,6 +7,7 @@ use Rattle.std.proofs.lemmas.List.{take_at, drop_at, drop-drop}
 use Rattle.std.proofs.lemmas.List.Elements.{All-nil, All-cons, All-head, All-tail}
 use Rattle.dump_io.specs.Lines.{AreLines, HasLfLast, IsEnded, raw_lines, lines_from, text_of, is_header, Header, Line}
 use Rattle.dump_io.specs.Laws.Lines.{AreLines-raw, front-cons, raw_lines-ended, raw_lines-one}
+use Rattle.dump_sections.specs.TilingLaws.{headers_in}
 use Rattle.dump_sections.specs.Sections.{section, sections, sections_of, next_at, tag_of}
 use Rattle.binary_payloads.specs.declared.enc.Enc.{Enc}
 use Rattle.dump_redact.specs.declared.parts.Part.{Part}
@@ -16,7 +17,7 @@ use Rattle.dump_redact.specs.Laws.{IsRedacted}
 use Rattle.heap_cells.specs.Loading.{enc_of}
 use Rattle.dump_redact.specs.Redacted.{later, part_of, next_part, payload_in, redacted_line, redacted_lines, redacted, version_of}
 use Rattle.dump_redact.proofs.Alike.{AllAlike, Alike-length, Alike-refl, concat-alike, raw_lines-of}
-use Rattle.dump_redact.proofs.Heads.{headers_in, heads-cons, without-alike, line-alike, lines-alike, line-header}
+use Rattle.dump_redact.proofs.Heads.{heads-cons, without-alike, line-alike, lines-alike, line-header}
 use Rattle.dump_redact.proofs.InTurn.{AreInBody, bodies, in_turn, part_behind}
 
 -- ---- lines up to the next header, and those from it on

@@ -1,9 +1,9 @@
 // Redacting the body of a heap in place.
-ghost use Rattle.std.specs.Prelude.{◌≡◌, ◌<◌, ◌≤◌, ◌++◌, length, take, drop, map, IfSome};
+ghost use Rattle.std.specs.Prelude.{◌≡◌, ◌+◌, ◌<◌, ◌≤◌, ◌++◌, false, length, take, drop, map, IfSome};
 ghost use Rattle.dump_io.specs.Lines.{IsEnded};
 ghost use Rattle.dump_redact.specs.Bodies.{heap_line, redacted_body};
 ghost use Rattle.dump_redact.specs.Redacted.{blank};
-ghost use Rattle.dump_redact.specs.Inner.Places.{place_of};
+ghost use Rattle.dump_redact.specs.Inner.Places.{place_of, AreMarksFrom};
 
 use crate::parts::Part;
 use dump_io::{line_len, line_text};
@@ -18,7 +18,7 @@ fn blanked(c: u8, enc: Enc) -> u8
     match enc {
         Enc::Hex => { if c.is_ascii_hexdigit() { b'0' } else { c } }
         Enc::Base64 => {
-            if c.is_ascii_alphanumeric() || c == b'+' || c == b'/' {
+            if c.is_ascii_alphabetic() || c == b'+' || (b'/' <= c && c <= b'9') {
                 b'A'
             } else {
                 c
@@ -73,18 +73,53 @@ fn last_line_at(bytes: &[u8]) -> usize
     }
 }
 
-// How many bytes the lines before the first one with a `Y` have. No payload
-// stands in them, since the form of a line with one begins with that letter.
+// Where the first `Y` from a place on stands; if there is none, the length.
+fn letter_from(bytes: &[u8], at: usize) -> usize
+    requires { at ≤ length bytes.now }
+    ensures within { result ≤ length bytes.now }
+    ensures low { at ≤ result }
+    ensures marks { AreMarksFrom at bytes.now → AreMarksFrom result bytes.now }
+{
+    match memchr(b'Y', &bytes[at..]) {
+        Some(skipped) => at + skipped,
+        None => bytes.len(),
+    }
+}
+
+// Whether the `Y` at a place is that of a `:Yh`.
+fn is_mark(bytes: &[u8], place: usize) -> bool
+    requires { place < length bytes.now }
+    ensures { result ≡ false → AreMarksFrom place bytes.now → AreMarksFrom (place + 1) bytes.now }
+{
+    place > 0 && bytes[place - 1..].starts_with(b":Yh")
+}
+
+// Where the `Y` of the first `:Yh` stands; if there is none, the length. Other lines
+// with that letter, however many there are, cost only the search for the next one.
+fn mark_at(bytes: &[u8]) -> usize
+    ensures within { result ≤ length bytes.now }
+    ensures marks { AreMarksFrom result bytes.now }
+{
+    let mut place = letter_from(bytes, 0);
+    while place < bytes.len() && !is_mark(bytes, place) {
+        place = letter_from(bytes, place + 1);
+    }
+    place
+}
+
+// How many bytes the lines before the first one with a `:Yh` have. No payload stands in
+// them, since the form of a line with one begins with these letters, after a colon.
 fn plain_len(bytes: &[u8], enc: Enc) -> usize
     ensures within { result ≤ length bytes.now }
     ensures plain { redacted_body enc Part.Heap bytes.now ≡ take result bytes.now ++ redacted_body enc Part.Heap (drop result bytes.now) }
 {
     number_is_read();
     form_is_read(enc);
-    match memchr(b'Y', bytes) {
-        Some(place) => last_line_at(&bytes[..place]),
-        None => bytes.len(),
+    let place = mark_at(bytes);
+    if place == bytes.len() {
+        return place;
     }
+    last_line_at(&bytes[..place])
 }
 
 // Makes the payloads of the heap binaries in the body of a heap zero.

@@ -5,7 +5,7 @@ ghost use Rattle.dump_io.specs.Sinks.{WritesAll};
 ghost use Rattle.dump_sections.specs.Bodies.{section_at};
 ghost use Rattle.dump_sections.specs.Index.{IsBuiltOver, sections_in};
 ghost use Rattle.dump_redact.specs.Redacted.{redacted};
-ghost use Rattle.dump_redact.specs.Refusals.{large_fault, IsCauseOf};
+ghost use Rattle.dump_redact.specs.Refusals.{is_heap, large_fault, IsCauseOf};
 ghost use Rattle.dump_redact.specs.declared.faults.RedactFault.{RedactFault};
 ghost use Rattle.dump_redact.specs.Inner.Copying.{Copies};
 ghost use Rattle.dump_redact.specs.Inner.Places.{length_between, text_between, HasRoom, fault_at};
@@ -20,19 +20,25 @@ use dump_sections::Index;
 use heap_cells::enc_of;
 use std::alloc::Global;
 
-// The refusal of the section at a place, if it is a heap or literals with more bytes than the limit.
+// Whether the section at a place holds a heap or literals.
+fn is_heap(index: &Index, i: usize) -> bool
+    requires { i < length index.now.headers }
+    ensures { result ≡ is_heap (section_at index.now i) }
+{
+    let section = index.section(i);
+    section.tag == b"proc_heap".as_slice() || section.tag == b"literals".as_slice()
+}
+
+// The refusal of the section at a place, if it is a heap or literals with more
+// bytes than the limit. Most sections are smaller, and the tags of those aren't read.
 fn judge(index: &Index, i: usize, limits: &Limits) -> Option<RedactFault>
     requires { i < length index.now.headers }
     ensures { result ≡ fault_at limits.now.section (section_at index.now i) }
 {
-    let section = index.section(i);
-    let len = section.end - section.body;
-    let is_heap = section.tag == b"proc_heap".as_slice() || section.tag == b"literals".as_slice();
-    if is_heap && len > u64::from(limits.section()) {
-        return Some(RedactFault::SectionTooLarge {
-            at: section.at,
-            len,
-        });
+    let extent = index.extent(i);
+    let len = extent.end - extent.body;
+    if len > u64::from(limits.section()) && is_heap(index, i) {
+        return Some(RedactFault::SectionTooLarge { at: extent.at, len });
     }
     None
 }
@@ -195,7 +201,7 @@ fn put_dump<D: Dumps, K: Sink>(
 /// on a section's body; it names the first in the dump, and nothing is read or written then. Returns
 /// `Read` only if the device's count of faults rose, and `Write` only if the sink's did; `Memory` may
 /// come from allocating room for a heap or for literals that don't fit into a piece, or the pieces of
-/// at most 65,536 bytes in which all other bytes are copied. After any of these three a proper prefix of
+/// at most 16,384 bytes in which all other bytes are copied. After any of these three a proper prefix of
 /// the redacted dump was written. Whatever it returns, at most as many bytes are read as the file has.
 pub fn redact<D: Dumps, K: Sink>(
     alloc: Global,

@@ -19,7 +19,7 @@ pub(crate) fn offset(index: &Index, i: usize) -> u64
     ensures bounded { AreBounded index.now }
 {
     if i < index.len() {
-        index.section(i).at
+        index.extent(i).at
     } else {
         index.size()
     }

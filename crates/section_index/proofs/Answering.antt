@@ -23,7 +23,7 @@ use Rattle.section_index.specs.Inner.Reading.{IsHeaderRefusal}
 use Rattle.section_index.proofs.Grown.{Gives-whole}
 
 -- the first piece is all, or long
-pub first-piece : (all first : List ℕ) (size : ℕ) → length first ≡ min 65536 (size - 0) → length all ≡ size → IsAllOrLong first (drop (length first) all)
+pub first-piece : (all first : List ℕ) (size : ℕ) → length first ≡ min 16384 (size - 0) → length all ≡ size → IsAllOrLong first (drop (length first) all)
 first-piece all first size count whole short =
     empty (drop (length first) all) (omega (arith, length-drop (length first) all, count, whole, short))
   where
@@ -83,11 +83,11 @@ pub record IsFirstPiece (all first : List ℕ) (size : ℕ) : Type 0 where
   pub long : IsAllOrLong first rest
   pub size' : length all ≡ size
 
-pub piece-size : (old buffer : List ℕ) (count size : ℕ) → length buffer ≡ length old → length old ≡ 65536 → count ≡ min (length old) (size - 0)
-    → length (take count buffer) ≡ min 65536 (size - 0)
+pub piece-size : (old buffer : List ℕ) (count size : ℕ) → length buffer ≡ length old → length old ≡ 16384 → count ≡ min (length old) (size - 0)
+    → length (take count buffer) ≡ min 16384 (size - 0)
 piece-size old buffer count size same room is = length-take-le count buffer (omega (arith, same, room, is)) ∙ omega (arith, room, is)
 
-pub IsFirstPiece-read : (all old buffer : List ℕ) (now : Now) (count size : ℕ) → now ≡ told all → Gives now 0 (take count buffer) → length buffer ≡ length old → length old ≡ 65536
+pub IsFirstPiece-read : (all old buffer : List ℕ) (now : Now) (count size : ℕ) → now ≡ told all → Gives now 0 (take count buffer) → length buffer ≡ length old → length old ≡ 16384
     → count ≡ min (length old) (size - 0) → size_of now ≡ size → IsFirstPiece all (take count buffer) size
 IsFirstPiece-read all old buffer now count size is gives same room counted whole =
     let first = take count buffer in

@@ -21,14 +21,14 @@ use Rattle.section_index.proofs.Causes.{fault-long}
 use Rattle.dump_sections.specs.TilingLaws.{is_header-first}
 
 -- the first bytes tell whether all begin so
-starts-if : (q : Bool) (first more start : List ℕ) → nat_lt (length first) 65536 ≡ q → length start ≤ 65536 → IsAllOrLong first more
+starts-if : (q : Bool) (first more start : List ℕ) → nat_lt (length first) 16384 ≡ q → length start ≤ 16384 → IsAllOrLong first more
     → starts_with nat_eq (first ++ more) start ≡ starts_with nat_eq first start
-starts-if true first more start e short all = ap (starts_with nat_eq (first ++ more)) refl ∙ ap (λ m. starts_with nat_eq (first ++ m) start) (all (ltb-true (length first) 65536 e)) ∙ ap (λ b. starts_with nat_eq b start) (append-nil first)
+starts-if true first more start e short all = ap (starts_with nat_eq (first ++ more)) refl ∙ ap (λ m. starts_with nat_eq (first ++ m) start) (all (ltb-true (length first) 16384 e)) ∙ ap (λ b. starts_with nat_eq b start) (append-nil first)
 starts-if false first more start e short all =
-    ap (pointwise nat_eq start) (take-append-le (length start) first more (omega (arith, short, ltb-false (length first) 65536 e)))
+    ap (pointwise nat_eq start) (take-append-le (length start) first more (omega (arith, short, ltb-false (length first) 16384 e)))
 
-pub starts-front : (first more start : List ℕ) → length start ≤ 65536 → IsAllOrLong first more → starts_with nat_eq (first ++ more) start ≡ starts_with nat_eq first start
-starts-front first more start short all = starts-if (nat_lt (length first) 65536) first more start refl short all
+pub starts-front : (first more start : List ℕ) → length start ≤ 16384 → IsAllOrLong first more → starts_with nat_eq (first ++ more) start ≡ starts_with nat_eq first start
+starts-front first more start short all = starts-if (nat_lt (length first) 16384) first more start refl short all
 
 -- the first line of what begins with an equals sign
 raw_lines-equals : (bytes : List ℕ) → (line : List ℕ) × (rest : List (List ℕ)) × (raw_lines (61 ∷ bytes) ≡ (61 ∷ line) ∷ rest)

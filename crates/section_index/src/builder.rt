@@ -18,7 +18,7 @@ use std::alloc::{AllocError, Global};
 use std::marker::Brand;
 
 // The most bytes in a piece.
-const PIECE: usize = 65_536;
+const PIECE: usize = 16_384;
 
 // A buffer for a piece.
 fn make_buffer(alloc: Global) -> Result<Vec<u8>, AllocError>
@@ -119,7 +119,7 @@ fn index_of<B: Bounds, D: Dumps>(
     Ok(Index::new(headers, size, version))
 }
 
-/// Opens a dump by its name and finds its sections, reading it once, in pieces of at most 65,536
+/// Opens a dump by its name and finds its sections, reading it once, in pieces of at most 16,384
 /// bytes. On `Ok` the file stays open, and the index has at most as many sections as `limits` allows.
 ///
 /// The refusals are judged in this order, and each is returned exactly when its condition holds and none before

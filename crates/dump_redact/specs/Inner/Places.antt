@@ -1,5 +1,5 @@
 -- Where payloads stand, and what a dump has between two sections.
-use Rattle.std.specs.Prelude.{◌≡◌, ℕ, ◌+◌, ◌-◌, ◌&&◌, ◌≤◌, List, ◌++◌, length, take, drop, slice_get, nat_lt, Option, None, Some, option_map, if◌then◌else◌}
+use Rattle.std.specs.Prelude.{◌≡◌, ℕ, ◌+◌, ◌-◌, ◌&&◌, ◌≤◌, List, ◌++◌, length, take, drop, codes, slice_get, nat_lt, Option, None, Some, option_map, if◌then◌else◌}
 use Rattle.std.specs.List.{between}
 use Rattle.dump_io.specs.Limits.{usual}
 use Rattle.dump_io.specs.Lines.{text_of}
@@ -19,6 +19,10 @@ use Rattle.dump_redact.specs.Refusals.{is_heap}
 -- where the payload begins in a heap line, if it has one
 abbrev pub place_of : Enc → List ℕ → Option ℕ
 place_of enc raw = option_map (λ chars. length (text_of raw) - length chars) (payload_in enc Heap (text_of raw))
+
+-- each `:Yh` has its `Y` at this place or behind it
+abbrev pub AreMarksFrom : ℕ → List ℕ → Type 0
+AreMarksFrom place bytes = (front more : List ℕ) → bytes ≡ front ++ (codes ":Yh" ++ more) → place ≤ length front + 1
 
 -- where the payload of a binary begins in the body: after a number and its colon
 abbrev pub IsLeadOf : List ℕ → Option ℕ → Type 0

@@ -7,7 +7,7 @@ pub returns-then-i-len-clause-value : goal.returns-then-i-len-clause-value
 returns-then-i-len-clause-value c =
     let index = c.args.index.now in
     let inside : c.args.i < length index.headers = omega (arith, c.if-i-len.true, c.len.ensures.value) in
-    ap (λ (x : Section). x.at) (sym c.section.ensures.at_place) ∙ at-offset index c.args.i inside
+    ap (λ (x : Section). x.at) (sym c.extent.ensures.at_place) ∙ at-offset index c.args.i inside
 
 pub returns-else-i-len-clause-value : goal.returns-else-i-len-clause-value
 returns-else-i-len-clause-value c =
