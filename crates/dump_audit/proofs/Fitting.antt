@@ -52,10 +52,6 @@ All-if : {Y : Type 0} (P : Y → Type 0) (b : Bool) (xs ys : List Y) → All P x
 All-if P true xs ys first second = first
 All-if P false xs ys first second = second
 
-All-option : {Y : Type 0} (P : Y → Type 0) (o : Option Y) → IfSome o P → All P (option_to_list o)
-All-option P None one = All-nil P
-All-option P (Some y) one = All-cons P y [] one (All-nil P)
-
 some-if : {Y : Type 0} (P : Y → Type 0) (b : Bool) (o : Option Y) → IfSome o P → IfSome (if b then o else None) P
 some-if P true o holds = holds
 some-if P false o holds = tt
