@@ -1,5 +1,5 @@
 -- The run of a command by the words that are it.
-use Rattle.std.proofs.Common.{◌≡◌, ◌^◌, ◌<◌, ℕ, List, None, Some, Result, refl, sym, ◌∙◌, subst}
+use Rattle.std.proofs.Common.{◌≡◌, ◌^◌, ◌<◌, ℕ, List, Some, Result, refl, sym, ◌∙◌, subst}
 use Rattle.dump_io.specs.Dumps.{DeviceState}
 use Rattle.dump_io.specs.Limits.{Numbers}
 use Rattle.dump_io.specs.Sinks.{SinkState}
