@@ -8,7 +8,7 @@ use Rattle.std.proofs.lemmas.Map.Keys.{apart_from_distinct}
 use Rattle.std.proofs.lemmas.Option.{slice_get-map, slice_get-get_or, unwrap_or-slice_get}
 use Rattle.std.proofs.lemmas.List.Sums.{position_or_len_is, prefix_len_passes}
 use Rattle.std.specs.Cmp.{nat_eq_equiv}
-use Rattle.term_forms.specs.Elements.{Element, Nil, Small, Atom, Pid, Port, Ref}
+use Rattle.term_forms.specs.Elements.{Element, Nil, Ref}
 use Rattle.term_forms.specs.Forms.{HeapForm, Cons, Tuple, Float, Long, Pid as PidForm, Port as PortForm, Ext, HeapBin, RefBin, SubBin, Flat, Hash, Node}
 use Rattle.heap_cells.specs.Cells.{Cell, addresses, elements_in, kind_of}
 use Rattle.cell_records.specs.declared.cells.Kind.{Kind}
@@ -220,12 +220,8 @@ pairs-none [] = refl
 pairs-none (k ∷ ks) = refl
 
 flat-alone : (heap : List Cell) (keys : Element) → flat_kids heap (keys ∷ []) ≡ []
-flat-alone heap Nil = refl
-flat-alone heap (Small integer) = refl
-flat-alone heap (Atom bytes) = refl
-flat-alone heap (Pid pid) = refl
-flat-alone heap (Port port) = refl
 flat-alone heap (Ref k) = pairs-none (found_elements (form_with heap k))
+flat-alone heap keys = refl
 
 pub flat-empty : (heap : List Cell) (path : List ℕ) (a : ℕ) (form : Option HeapForm) → option_map kind_of form ≡ Some cell_kind.Flat → length (elements_in form) < 2
     → form_opening heap path a form ≡ node a kinds.Flat (flat_kids heap (elements_in form))
