@@ -29,15 +29,9 @@ refused-accepted bytes fault accepted refused = none-some fault (sym accepted �
 -- of an accepted dump that is read
 pub memory-opening : (bytes : List ℕ) (fault : OpenFault) → IsAccepted bytes usual → IsAnswerFor bytes usual (Err fault)
     → (fault ≡ opening_faults.Read → ⊥) → fault ≡ opening_faults.Memory
-memory-opening bytes opening_faults.Compressed accepted answer unread = absurd (refused-accepted bytes _ accepted answer)
-memory-opening bytes opening_faults.NotADump accepted answer unread = absurd (refused-accepted bytes _ accepted answer)
-memory-opening bytes (opening_faults.Version text) accepted answer unread = absurd (refused-accepted bytes _ accepted answer)
-memory-opening bytes (opening_faults.TooLarge size) accepted answer unread = absurd (refused-accepted bytes _ accepted answer)
-memory-opening bytes (opening_faults.HeaderTooLong at) accepted answer unread = absurd (refused-accepted bytes _ accepted answer)
-memory-opening bytes (opening_faults.TooManySections at) accepted answer unread = absurd (refused-accepted bytes _ accepted answer)
-memory-opening bytes (opening_faults.HeadersTooLarge at) accepted answer unread = absurd (refused-accepted bytes _ accepted answer)
 memory-opening bytes opening_faults.Read accepted answer unread = absurd (unread refl)
 memory-opening bytes opening_faults.Memory accepted answer unread = refl
+memory-opening bytes fault accepted answer unread = absurd (refused-accepted bytes _ accepted answer)
 
 -- of the sections of processes
 pub memory-records : (sections : List Section) (before after : DeviceState) (fault : BodyFault) → All IsSmall sections → (DeviceFailed before after → ⊥)
