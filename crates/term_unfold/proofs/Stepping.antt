@@ -212,20 +212,10 @@ tail-other : (leaf : Value → List ℕ) (heap : List Cell) (entries : List Entr
     → tail_text leaf (more (unfolded heap (path_of heap entries) child) ts) (suc m) ≡ barred (node_text leaf (unfolded heap (path_of heap entries) child) m)
 tail-other leaf heap entries child opened.Immediate ts m few term opens nil list =
     tail-as leaf _ _ ts m (unfolded-as heap entries child _ few opens) (tail-leaf leaf (Immediate (element_of child)) ts m (not-nil child term nil))
-tail-other leaf heap entries child (opened.Leaf ix) ts m few term opens nil list =
-    tail-as leaf _ _ ts m (unfolded-as heap entries child _ few opens.opens) refl
 tail-other leaf heap entries child (opened.Bad address why) ts m few term opens nil list =
     tail-as leaf _ _ ts m (unfolded-as heap entries child _ few opens) refl
 tail-other leaf heap entries child (opened.Node ix kinds.Cons) ts m few term opens nil list = cc
-tail-other leaf heap entries child (opened.Node ix kinds.Tuple) ts m few term opens nil list =
-    tail-as leaf _ _ ts m (unfolded-as heap entries child _ few opens.opens) refl
-tail-other leaf heap entries child (opened.Node ix kinds.Flat) ts m few term opens nil list =
-    tail-as leaf _ _ ts m (unfolded-as heap entries child _ few opens.opens) refl
-tail-other leaf heap entries child (opened.Node ix kinds.Hash) ts m few term opens nil list =
-    tail-as leaf _ _ ts m (unfolded-as heap entries child _ few opens.opens) refl
-tail-other leaf heap entries child (opened.Node ix kinds.Inner) ts m few term opens nil list =
-    tail-as leaf _ _ ts m (unfolded-as heap entries child _ few opens.opens) refl
-tail-other leaf heap entries child (opened.Node ix kinds.Pair) ts m few term opens nil list =
+tail-other leaf heap entries child o ts m few term opens nil list =
     tail-as leaf _ _ ts m (unfolded-as heap entries child _ few opens.opens) refl
 
 pub step-tail : (leaf : Value → List ℕ) (heap : List Cell) (e : Entry) (es : List Entry) (child : Child) (o : Opened) (n m : ℕ) → e.kind ≡ kinds.Cons → e.next ≡ suc n → HasChild heap e child
@@ -308,14 +298,8 @@ items-at : (leaf : Value → List ℕ) (heap : List Cell) (e : Entry) (es : List
     → resume leaf heap (e ∷ es) (At came m) ≡ ending leaf (is_item k) heap es (items_text leaf came (left_of heap e es) m)
 items-at leaf heap e es came m kinds.Hash is has = term-at leaf heap e es came m kinds.Hash is refl
 items-at leaf heap e es came m kinds.Inner is has = item-at leaf heap e es came m kinds.Inner is refl
-items-at leaf heap e es came m kinds.Cons is (inl h) = cc
-items-at leaf heap e es came m kinds.Cons is (inr h) = cc
-items-at leaf heap e es came m kinds.Tuple is (inl h) = cc
-items-at leaf heap e es came m kinds.Tuple is (inr h) = cc
-items-at leaf heap e es came m kinds.Flat is (inl h) = cc
-items-at leaf heap e es came m kinds.Flat is (inr h) = cc
-items-at leaf heap e es came m kinds.Pair is (inl h) = cc
-items-at leaf heap e es came m kinds.Pair is (inr h) = cc
+items-at leaf heap e es came m k is (inl h) = cc
+items-at leaf heap e es came m k is (inr h) = cc
 
 cut-ending : (leaf : Value → List ℕ) (b : Bool) (heap : List Cell) (es : List Entry) → cond b (resume leaf heap es Cut) (codes "}" ++ rest leaf heap es 0) ≡ ending leaf b heap es (listed [] Cut)
 cut-ending leaf true heap es = refl
