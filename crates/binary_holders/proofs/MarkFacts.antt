@@ -12,7 +12,7 @@ use Rattle.dump_io.specs.Laws.Reads.{take-two}
 use Rattle.dump_io.specs.Lines.{lf, cr, raw_lines, text_of}
 use Rattle.dump_io.specs.Numbers.{hex_number}
 use Rattle.binary_payloads.specs.declared.enc.Enc.{Enc}
-use Rattle.term_forms.specs.Forms.{HeapForm, Cons, Tuple, Float, Long, Pid, Port, Ext, HeapBin, RefBin, SubBin, Flat, Hash, Node, IsForm, IsRange}
+use Rattle.term_forms.specs.Forms.{HeapForm, RefBin, IsForm, IsRange}
 use Rattle.term_forms.specs.ReadingForms.{form_of}
 use Rattle.term_forms.specs.Words.{colon, led_of, IsLed}
 use Rattle.binary_holders.specs.HeapReferences.{referred}
@@ -49,23 +49,11 @@ pub record Refers (text : List ℕ) : Type 0 where
 -- only the form of such a text is a reference to a binary
 pub refers-range : (enc : Enc) → AreForms enc → (rest : List ℕ) (n : ℕ) (f : Option HeapForm) → form_of enc rest ≡ f → referred f ≡ Some n
     → (range : List ℕ) × (rest ≡ codes "Yc" ++ range) × (offset : ℕ) × (size : ℕ) × IsRange range n offset size
-refers-range enc forms rest n None found refers = absurd (let no : ⊥ = cc (refers) in no)
 refers-range enc forms rest n (Some (RefBin binary offset size)) found refers =
     let spelled = (forms rest (RefBin binary offset size)).0 found in
     let same : binary ≡ n = cc (refers) in
     (spelled.0, spelled.1, offset, size, subst (λ m. IsRange spelled.0 m offset size) same spelled.2)
-refers-range enc forms rest n (Some (Cons head tail)) found refers = absurd (let no : ⊥ = cc (refers) in no)
-refers-range enc forms rest n (Some (Tuple elements)) found refers = absurd (let no : ⊥ = cc (refers) in no)
-refers-range enc forms rest n (Some (Float bytes)) found refers = absurd (let no : ⊥ = cc (refers) in no)
-refers-range enc forms rest n (Some (Long number)) found refers = absurd (let no : ⊥ = cc (refers) in no)
-refers-range enc forms rest n (Some (Pid pid)) found refers = absurd (let no : ⊥ = cc (refers) in no)
-refers-range enc forms rest n (Some (Port port)) found refers = absurd (let no : ⊥ = cc (refers) in no)
-refers-range enc forms rest n (Some (Ext size chars)) found refers = absurd (let no : ⊥ = cc (refers) in no)
-refers-range enc forms rest n (Some (HeapBin size chars)) found refers = absurd (let no : ⊥ = cc (refers) in no)
-refers-range enc forms rest n (Some (SubBin binary offset size)) found refers = absurd (let no : ⊥ = cc (refers) in no)
-refers-range enc forms rest n (Some (Flat keys values)) found refers = absurd (let no : ⊥ = cc (refers) in no)
-refers-range enc forms rest n (Some (Hash size children)) found refers = absurd (let no : ⊥ = cc (refers) in no)
-refers-range enc forms rest n (Some (Node children)) found refers = absurd (let no : ⊥ = cc (refers) in no)
+refers-range enc forms rest n f found refers = absurd (let no : ⊥ = cc (refers) in no)
 
 refers-form : (enc : Enc) → AreForms enc → (text hex rest : List ℕ) (address n : ℕ) → hex_number hex ≡ Some address → text ≡ hex ++ colon ∷ rest
     → referred (form_of enc rest) ≡ Some n → Refers text

@@ -22,7 +22,7 @@ use Rattle.binary_holders.specs.Inner.Pieces.{HearsFront}
 use Rattle.binary_holders.specs.Inner.Tallies.{Hears}
 use Rattle.binary_holders.proofs.LineFacts.{references-whole, one-more}
 use Rattle.binary_holders.proofs.MarkFacts.{AreLed, AreForms, long-front}
-use Rattle.binary_holders.proofs.TallyFacts.{Hears-none, Hears-then, Hears-as}
+use Rattle.binary_holders.proofs.TallyFacts.{Hears-then, Hears-as}
 
 -- ---- line by line
 
@@ -32,9 +32,6 @@ pub record HeardSome (enc : Enc) (binaries : List Binary) (old new : Tally) (byt
   pub hears : Hears binaries old new heard
   pub whole : line_references enc bytes ≡ heard ++ line_references enc rest
 
-pub some-none : (enc : Enc) (binaries : List Binary) (tally : Tally) (bytes : List ℕ) → HeardSome enc binaries tally tally bytes bytes
-some-none enc binaries tally bytes = record { heard = []; hears = Hears-none binaries tally; whole = refl }
-
 pub some-more : (enc : Enc) (binaries : List Binary) (old mid new : Tally) (bytes rest behind more : List ℕ) → HeardSome enc binaries old mid bytes rest
     → line_references enc rest ≡ more ++ line_references enc behind → Hears binaries mid new more → HeardSome enc binaries old new bytes behind
 some-more enc binaries old mid new bytes rest behind more some next one = record {
@@ -42,11 +39,6 @@ some-more enc binaries old mid new bytes rest behind more some next one = record
   hears = Hears-then binaries old mid new some.heard more some.hears one;
   whole = some.whole ∙ ap (λ l. some.heard ++ l) next ∙ sym (append_assoc some.heard more (line_references enc behind));
 }
-
-pub some-all : (enc : Enc) (binaries : List Binary) (old new : Tally) (bytes rest : List ℕ) → HeardSome enc binaries old new bytes rest → line_references enc rest ≡ []
-    → Hears binaries old new (line_references enc bytes)
-some-all enc binaries old new bytes rest some none =
-    Hears-as binaries old new some.heard (line_references enc bytes) (sym (some.whole ∙ ap (λ l. some.heard ++ l) none ∙ append-nil some.heard)) some.hears
 
 -- ---- the front of a line stands for it
 
@@ -102,13 +94,6 @@ pub record HearsUpto (enc : Enc) (binaries : List Binary) (old new : Tally) (now
   pub hears : Hears binaries old new heard
   pub rest : (dump : List ℕ) → now ≡ told dump
       → line_references enc (between from upto dump) ≡ heard ++ line_references enc (left ++ between at upto dump)
-
-pub upto-none : (enc : Enc) (binaries : List Binary) (tally : Tally) (now : Now) (from upto : ℕ) (left : List ℕ) → left ≡ [] → HearsUpto enc binaries tally tally now from from upto left
-upto-none enc binaries tally now from upto left none = record {
-  heard = [];
-  hears = Hears-none binaries tally;
-  rest = λ dump is. ap (λ l. line_references enc (l ++ between from upto dump)) (sym none);
-}
 
 between-split : (dump : List ℕ) (at mid upto : ℕ) → at ≤ mid → mid ≤ upto → between at upto dump ≡ between at mid dump ++ between mid upto dump
 between-split dump at mid upto low high =

@@ -1,5 +1,5 @@
 -- What is counted when a line refers to a binary.
-use Rattle.std.proofs.Common.{◌≡◌, ◌≢◌, ℕ, zero, suc, ◌+◌, ◌-◌, ◌^◌, ◌<◌, ◌≤◌, ◌==◌, Bool, true, false, cond, ◌||◌, List, [], ◌∷◌, ◌++◌, length, get_or, set, None, Some, refl, sym, ◌∙◌, ap, subst, arith, append_assoc, append-nil, ⊎_elim}
+use Rattle.std.proofs.Common.{◌≡◌, ◌≢◌, ℕ, zero, suc, ◌+◌, ◌-◌, ◌^◌, ◌<◌, ◌≤◌, ◌==◌, Bool, true, false, cond, ◌||◌, List, [], ◌∷◌, ◌++◌, length, get_or, set, None, Some, refl, sym, ◌∙◌, ap, subst, arith, append_assoc, ⊎_elim}
 use Rattle.std.specs.Prelude.{min, slice_index, replicate}
 use Rattle.std.specs.List.{count_by, sum_by, filter}
 use Rattle.std.proofs.lemmas.Bool.{cases_eq, eq-eqb, ne_eqb}
@@ -17,9 +17,6 @@ use Rattle.binary_holders.specs.Inner.Tallies.{number_at, counted, HasHeard, Has
 use Rattle.binary_holders.proofs.SumFacts.{sum-agree, sum-differs, sum-filter}
 
 -- ---- several references one after another
-
-pub Hears-none : (binaries : List Binary) (tally : Tally) → Hears binaries tally tally []
-Hears-none binaries tally = record { heard = λ heaps refs heard. subst (λ l. HasHeard binaries heaps l tally) (sym (append-nil refs)) heard }
 
 pub Hears-then : (binaries : List Binary) (old mid new : Tally) (xs ys : List ℕ) → Hears binaries old mid xs → Hears binaries mid new ys → Hears binaries old new (xs ++ ys)
 Hears-then binaries old mid new xs ys first second = record {

@@ -1,15 +1,11 @@
 -- A command of four words or more.
-use Rattle.std.proofs.Common.{◌≡◌, ℕ, ◌≤◌, List, [], ◌∷◌, length, map, drop, get_or, sym, ◌∙◌, ap, arith}
+use Rattle.std.proofs.Common.{◌≡◌, ℕ, ◌≤◌, List, ◌∷◌, length, map, drop, get_or, sym, ◌∙◌, ap, arith}
 use Rattle.command_words.specs.Command.{command, process_command}
 
 -- the first three words and those behind them
 pub long-command : {X : Type 0} (text : X → List ℕ) (words : List X) (name file pid : X) → 4 ≤ length words
     → name ≡ get_or words 0 name → file ≡ get_or words 1 file → pid ≡ get_or words 2 pid
     → command (map text words) ≡ process_command (text name) (text file) (text pid) (map text (drop 3 words))
-long-command text [] name file pid many first second third = absurd (omega (arith, many))
-long-command text (a ∷ []) name file pid many first second third = absurd (omega (arith, many))
-long-command text (a ∷ b ∷ []) name file pid many first second third = absurd (omega (arith, many))
-long-command text (a ∷ b ∷ c ∷ []) name file pid many first second third = absurd (omega (arith, many))
 long-command text (a ∷ b ∷ c ∷ d ∷ words) name file pid many first second third =
     let one : a ≡ name = sym first in
     let two : b ≡ file = sym second in
@@ -18,3 +14,4 @@ long-command text (a ∷ b ∷ c ∷ d ∷ words) name file pid many first secon
     ap (λ x. process_command (text x) (text b) (text c) rest) one
     ∙ ap (λ x. process_command (text name) (text x) (text c) rest) two
     ∙ ap (λ x. process_command (text name) (text file) (text x) rest) three
+long-command text words name file pid many first second third = absurd (omega (arith, many))

@@ -10,7 +10,7 @@ use Rattle.std.proofs.lemmas.Option.{slice_get_within}
 use Rattle.dump_io.specs.Numbers.{dec_number}
 use Rattle.section_rows.specs.Rows.{Kept}
 use Rattle.process_table.specs.Processes.{Process, nobody, process_at}
-use Rattle.link_entries.specs.Kinds.{Kind, Link, LinkPort, To, ToPort, ToName, From, FromPort, Other}
+use Rattle.link_entries.specs.Kinds.{Kind, Link, LinkPort, To, From}
 use Rattle.link_entries.specs.Entries.{LinkEntry}
 use Rattle.link_entries.specs.Texts.{is_local}
 use Rattle.link_graph.specs.Graph.{links_of}
@@ -52,10 +52,6 @@ All-if : {Y : Type 0} (P : Y → Type 0) (b : Bool) (xs ys : List Y) → All P x
 All-if P true xs ys first second = first
 All-if P false xs ys first second = second
 
-All-option : {Y : Type 0} (P : Y → Type 0) (o : Option Y) → IfSome o P → All P (option_to_list o)
-All-option P None one = All-nil P
-All-option P (Some y) one = All-cons P y [] one (All-nil P)
-
 some-if : {Y : Type 0} (P : Y → Type 0) (b : Bool) (o : Option Y) → IfSome o P → IfSome (if b then o else None) P
 some-if P true o holds = holds
 some-if P false o holds = tt
@@ -93,10 +89,7 @@ kind-fits a p entry at process (To pid reference) has =
 kind-fits a p entry at process (From pid reference) has =
     partner-fits a p process entry at (From pid reference) pid (place_of a.processes pid) (place-within a.processes pid) (λ q other inside. (has is_from refl, inside)) (λ other. has is_from refl)
 kind-fits a p entry at process LinkPort has = tt
-kind-fits a p entry at process ToPort has = tt
-kind-fits a p entry at process (ToName reference) has = tt
-kind-fits a p entry at process FromPort has = tt
-kind-fits a p entry at process Other has = tt
+kind-fits a p entry at process kind has = tt
 
 entries-fit : (a : Audit) (p : ℕ) → p < length a.processes
     → All (Fits a.processes) (entry_findings a p (process_at a.processes p) (links_of (process_at a.processes p).links).entries)

@@ -123,11 +123,8 @@ IsRunOf-complete cmd limits status before after out out' err err' run bytes dump
 
 -- a refusal that is handed on has a line
 pub IsProper-ended : (cmd : Command) (limits : Numbers) (before after : DeviceState) (out out' : SinkState) (ended : Result ℕ Stop) → Runs cmd limits before after out out' ended → IfErr ended IsProper
-IsProper-ended cmd limits before after out out' (Ok status) runs = tt
 IsProper-ended cmd limits before after out out' (Err (Refused why)) runs = runs.left.0.proper
-IsProper-ended cmd limits before after out out' (Err NotRead) runs = tt
-IsProper-ended cmd limits before after out out' (Err NotWritten) runs = tt
-IsProper-ended cmd limits before after out out' (Err NoMemory) runs = tt
+IsProper-ended cmd limits before after out out' ended runs = tt
 
 -- the command is the one of the words
 pub IsRunOf-same : (words : Option Command) (mine cmd : Command) (limits : Numbers) (status : ℕ) (before after : DeviceState) (out out' err err' : SinkState)

@@ -104,14 +104,11 @@ heap-small limit pid index is =
 
 section-of : (fault : Option HeapFault) (at len : ℕ) → option_map stop_of_heap fault ≡ Some (Refused (SectionTooLarge at len))
     → fault ≡ Some (faults.SectionTooLarge at len)
-section-of None at len is = absurd (let no : ⊥ = cc (is) in no)
 section-of (Some (faults.SectionTooLarge a l)) at len is =
     let same_at : a ≡ at = cc (is) in
     let same_len : l ≡ len = cc (is) in
     ap (λ n. Some (faults.SectionTooLarge n l)) same_at ∙ ap (λ n. Some (faults.SectionTooLarge at n)) same_len
-section-of (Some (faults.TooDense count)) at len is = absurd (let no : ⊥ = cc (is) in no)
-section-of (Some faults.Read) at len is = absurd (let no : ⊥ = cc (is) in no)
-section-of (Some faults.Memory) at len is = absurd (let no : ⊥ = cc (is) in no)
+section-of fault at len is = absurd (let no : ⊥ = cc (is) in no)
 
 -- where the heap is too dense none of its sections is too large
 pub dense-small : (limit : ℕ) (pid : List ℕ) (index : Contents) (count : ℕ)

@@ -41,9 +41,7 @@ module _ (before after : DeviceState) (P : Refusal → Type 0) where
   -- for something else
   pub StopsFor-too : (Q : Refusal → Type 0) (stop : Stop) → StopsFor before after P stop → ((why : Refusal) → P why → Q why) → StopsFor before after Q stop
   StopsFor-too Q (Refused why) cause follows = (cause.0, follows why cause.1)
-  StopsFor-too Q NotRead cause follows = cause
-  StopsFor-too Q NotWritten cause follows = cause
-  StopsFor-too Q NoMemory cause follows = cause
+  StopsFor-too Q stop cause follows = cause
 
   -- for a cause that was found
   pub StopsFor-judged : (T : Type 0) (cause : Option Refusal) (stop : Stop) → Judges {T = T} cause (Err stop) → ((why : Refusal) → cause ≡ Some why → P why) → StopsFor before after P stop

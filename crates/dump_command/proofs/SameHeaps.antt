@@ -11,7 +11,7 @@ use Rattle.dump_io.specs.Lines.{Line, lines_from, raw_lines, text_of}
 use Rattle.dump_sections.specs.Lookups.{has_tag, is_named}
 use Rattle.dump_sections.specs.Sections.{Section, sections, id_of, tag_of}
 use Rattle.binary_payloads.specs.declared.enc.Enc.{Enc}
-use Rattle.term_forms.specs.Forms.{HeapForm, Cons, Tuple, Float, Long, Pid, Port, Ext, HeapBin, RefBin, SubBin, Flat, Hash, Node}
+use Rattle.term_forms.specs.Forms.{HeapForm, HeapBin}
 use Rattle.term_forms.specs.ReadingForms.{form_of}
 use Rattle.term_forms.specs.Words.{led_of}
 use Rattle.heap_cells.specs.Cells.{Cell, addresses, cell_of, cells_of, first_cells, line_cells, own_count, spelled_cell}
@@ -46,20 +46,8 @@ cell address form = record { address = address; form = form }
 
 module _ (enc : Enc) where
   pub bin-or-same : (form : Option HeapForm) → IsBin form ⊎ ((bin_chars form ≡ None) × (option_map (blank_form enc) form ≡ form))
-  bin-or-same None = inr (refl, refl)
-  bin-or-same (Some (Cons head tail)) = inr (refl, refl)
-  bin-or-same (Some (Tuple elements)) = inr (refl, refl)
-  bin-or-same (Some (Float bytes)) = inr (refl, refl)
-  bin-or-same (Some (Long number)) = inr (refl, refl)
-  bin-or-same (Some (Pid pid)) = inr (refl, refl)
-  bin-or-same (Some (Port port)) = inr (refl, refl)
-  bin-or-same (Some (Ext size chars)) = inr (refl, refl)
   bin-or-same (Some (HeapBin size chars)) = inl (size, chars, refl)
-  bin-or-same (Some (RefBin address offset size)) = inr (refl, refl)
-  bin-or-same (Some (SubBin address offset size)) = inr (refl, refl)
-  bin-or-same (Some (Flat keys values)) = inr (refl, refl)
-  bin-or-same (Some (Hash size children)) = inr (refl, refl)
-  bin-or-same (Some (Node children)) = inr (refl, refl)
+  bin-or-same form = inr (refl, refl)
 
   abbrev led_cell : List ℕ → Option Cell
   led_cell raw = option_map (spelled_cell enc) (led_of (text_of raw))

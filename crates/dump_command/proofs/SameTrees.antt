@@ -9,8 +9,8 @@ use Rattle.std.proofs.lemmas.Option.{slice_get-map}
 use Rattle.dump_sections.specs.Lookups.{has_tag, is_named}
 use Rattle.dump_sections.specs.Sections.{Section, sections, id_of}
 use Rattle.binary_payloads.specs.declared.enc.Enc.{Enc}
-use Rattle.term_forms.specs.Elements.{Element, Nil, Small, Atom, Pid, Port, Ref}
-use Rattle.term_forms.specs.Forms.{HeapForm, Cons, Tuple, Float, Long, Pid as PidForm, Port as PortForm, Ext, HeapBin, RefBin, SubBin, Flat, Hash, Node}
+use Rattle.term_forms.specs.Elements.{Element, Ref}
+use Rattle.term_forms.specs.Forms.{HeapForm, Cons, Tuple, HeapBin, RefBin, SubBin, Flat, Node}
 use Rattle.heap_cells.specs.Cells.{Cell}
 use Rattle.heap_cells.specs.HeapMap.{HeapMap, form_at, number_at}
 use Rattle.heap_cells.specs.Loading.{body_in, enc_of}
@@ -19,10 +19,10 @@ use Rattle.binary_refs.specs.declared.entries.Entry.{Entry}
 use Rattle.term_unfold.specs.Leaves.{leaf_text}
 use Rattle.term_unfold.specs.declared.node.NodeKind.TheVariants as kinds
 use Rattle.term_unfold.specs.Rules.{Child, Term, Item, Opening, leaf, bad, node, is_on, unless_on, terms, items, pairs, flat_opening, form_opening, cell_opening, term_opening, opening}
-use Rattle.term_unfold.specs.Trees.{Value, Immediate, OfCell, Tree, Leaf, Bad, Branch, Trees, none, more, pre, pre_all, seen, or_else, first_bad, verdict}
+use Rattle.term_unfold.specs.Trees.{Value, OfCell, Tree, Leaf, Bad, Branch, Trees, none, more, pre, pre_all, seen, or_else, first_bad, verdict}
 use Rattle.term_unfold.specs.Unfolding.{trees, grown, unfold_by, unfolded, unfolding_of}
 use Rattle.root_views.specs.declared.kinds.RootKind.{RootKind}
-use Rattle.root_views.specs.declared.kinds.RootKind.TheVariants.{Stack, Dict, Mail}
+use Rattle.root_views.specs.declared.kinds.RootKind.TheVariants.{Stack}
 use Rattle.root_views.specs.Kinds.{roots_in, roots_tag}
 use Rattle.dump_redact.specs.Laws.{IsRedacted, KeepsOthers, KeepsSections, RedactsSections}
 use Rattle.dump_redact.specs.Redacted.{blank, part_of, redacted, version_of}
@@ -67,20 +67,8 @@ module _ (heap : List Cell) (path : List ℕ) (a k : ℕ) (value : Element) (val
   flat-tuple n elements e f false fits = rw (e, f, fits) refl
 
   flat-form : (n : ℕ) → number_at heap k ≡ Some n → (form : Option HeapForm) → form_at heap n ≡ form → FlatIs
-  flat-form n e None f = rw (e, f) refl
-  flat-form n e (Some (Cons head tail)) f = rw (e, f) refl
   flat-form n e (Some (Tuple elements)) f = flat-tuple n elements e f (length elements == length (value ∷ values)) refl
-  flat-form n e (Some (Float bytes)) f = rw (e, f) refl
-  flat-form n e (Some (Long number)) f = rw (e, f) refl
-  flat-form n e (Some (PidForm pid)) f = rw (e, f) refl
-  flat-form n e (Some (PortForm port)) f = rw (e, f) refl
-  flat-form n e (Some (Ext size chars)) f = rw (e, f) refl
-  flat-form n e (Some (HeapBin size chars)) f = rw (e, f) refl
-  flat-form n e (Some (RefBin address offset size)) f = rw (e, f) refl
-  flat-form n e (Some (SubBin address offset size)) f = rw (e, f) refl
-  flat-form n e (Some (Flat keys members)) f = rw (e, f) refl
-  flat-form n e (Some (Hash size children)) f = rw (e, f) refl
-  flat-form n e (Some (Node children)) f = rw (e, f) refl
+  flat-form n e form f = rw (e, f) refl
 
   flat-number : (found : Option ℕ) → number_at heap k ≡ found → FlatIs
   flat-number None e = rw e refl
@@ -97,18 +85,7 @@ module _ (heap : List Cell) (path : List ℕ) (parent a : ℕ) where
   item-form : (n : ℕ) → number_at heap a ≡ Some n → (form : Option HeapForm) → form_at heap n ≡ form → ItemIs
   item-form n e None f = rw (e, f) refl
   item-form n e (Some (Cons head tail)) f = rw (e, f) refl
-  item-form n e (Some (Tuple elements)) f = rw (e, f) refl
-  item-form n e (Some (Float bytes)) f = rw (e, f) refl
-  item-form n e (Some (Long number)) f = rw (e, f) refl
-  item-form n e (Some (PidForm pid)) f = rw (e, f) refl
-  item-form n e (Some (PortForm port)) f = rw (e, f) refl
-  item-form n e (Some (Ext size chars)) f = rw (e, f) refl
-  item-form n e (Some (HeapBin size chars)) f = rw (e, f) refl
-  item-form n e (Some (RefBin address offset size)) f = rw (e, f) refl
-  item-form n e (Some (SubBin address offset size)) f = rw (e, f) refl
-  item-form n e (Some (Flat keys members)) f = rw (e, f) refl
-  item-form n e (Some (Hash size children)) f = rw (e, f) refl
-  item-form n e (Some (Node children)) f = rw (e, f) refl
+  item-form n e form f = rw (e, f) refl
 
   item-number : (found : Option ℕ) → number_at heap a ≡ found → ItemIs
   item-number None e = rw e refl
@@ -185,37 +162,21 @@ module _ (enc : Enc) where
   blank_opening (node a kind children) = node a kind children
 
   unless-same : (path : List ℕ) (e : Element) (off : Opening) → unless_on path e (blank_opening off) ≡ blank_opening (unless_on path e off)
-  unless-same path Nil off = refl
-  unless-same path (Small i) off = refl
-  unless-same path (Atom name) off = refl
-  unless-same path (Pid pid) off = refl
-  unless-same path (Port port) off = refl
   unless-same path (Ref a) off =
       elim (is_on a path) as (λ b. (if b then bad a OnPath else blank_opening off) ≡ blank_opening (if b then bad a OnPath else off)) [
         | true ↦ refl
         | false ↦ refl
       ]
+  unless-same path e off = refl
 
   -- what a map opens is no leaf
   keyed-blank : (k a : ℕ) (values : List Element) (form : Option HeapForm) → keyed_by k a values form ≡ blank_opening (keyed_by k a values form)
-  keyed-blank k a values None = refl
-  keyed-blank k a values (Some (Cons head tail)) = refl
   keyed-blank k a values (Some (Tuple elements)) =
       elim (length elements == length values) as (λ b. (if b then node a kinds.Flat (pairs elements values) else bad k Malformed) ≡ blank_opening (if b then node a kinds.Flat (pairs elements values) else bad k Malformed)) [
         | true ↦ refl
         | false ↦ refl
       ]
-  keyed-blank k a values (Some (Float bytes)) = refl
-  keyed-blank k a values (Some (Long number)) = refl
-  keyed-blank k a values (Some (PidForm pid)) = refl
-  keyed-blank k a values (Some (PortForm port)) = refl
-  keyed-blank k a values (Some (Ext size chars)) = refl
-  keyed-blank k a values (Some (HeapBin size chars)) = refl
-  keyed-blank k a values (Some (RefBin address offset size)) = refl
-  keyed-blank k a values (Some (SubBin address offset size)) = refl
-  keyed-blank k a values (Some (Flat keys members)) = refl
-  keyed-blank k a values (Some (Hash size children)) = refl
-  keyed-blank k a values (Some (Node children)) = refl
+  keyed-blank k a values form = refl
 
   keyed_at-blank : (heap : List Cell) (k a : ℕ) (values : List Element) (found : Option ℕ) → keyed_at heap k a values found ≡ blank_opening (keyed_at heap k a values found)
   keyed_at-blank heap k a values None = refl
@@ -224,18 +185,7 @@ module _ (enc : Enc) where
   item-blank : (a : ℕ) (form : Option HeapForm) → item_by a form ≡ blank_opening (item_by a form)
   item-blank a None = refl
   item-blank a (Some (Cons head tail)) = refl
-  item-blank a (Some (Tuple elements)) = refl
-  item-blank a (Some (Float bytes)) = refl
-  item-blank a (Some (Long number)) = refl
-  item-blank a (Some (PidForm pid)) = refl
-  item-blank a (Some (PortForm port)) = refl
-  item-blank a (Some (Ext size chars)) = refl
-  item-blank a (Some (HeapBin size chars)) = refl
-  item-blank a (Some (RefBin address offset size)) = refl
-  item-blank a (Some (SubBin address offset size)) = refl
-  item-blank a (Some (Flat keys members)) = refl
-  item-blank a (Some (Hash size children)) = refl
-  item-blank a (Some (Node children)) = refl
+  item-blank a form = refl
 
   item_at-blank : (heap : List Cell) (a : ℕ) (found : Option ℕ) → item_at heap a found ≡ blank_opening (item_at heap a found)
   item_at-blank heap a None = refl
@@ -244,34 +194,18 @@ module _ (enc : Enc) where
   flat-same : (heap : List Cell) (path : List ℕ) (a : ℕ) (keys : Element) (values : List Element)
       → flat_opening (blanked heap) path a keys values ≡ blank_opening (flat_opening heap path a keys values)
   flat-same heap path a keys [] = refl
-  flat-same heap path a Nil (value ∷ values) = refl
-  flat-same heap path a (Small i) (value ∷ values) = refl
-  flat-same heap path a (Atom name) (value ∷ values) = refl
-  flat-same heap path a (Pid pid) (value ∷ values) = refl
-  flat-same heap path a (Port port) (value ∷ values) = refl
   flat-same heap path a (Ref k) (value ∷ values) =
       let off = keyed_at heap k a (value ∷ values) (number_at heap k) in
       flat-is (blanked heap) path a k value values
       ∙ ap (unless_on (a ∷ path) (Ref k)) (keyed-same heap k a (value ∷ values) ∙ keyed_at-blank heap k a (value ∷ values) (number_at heap k))
       ∙ unless-same (a ∷ path) (Ref k) off
       ∙ ap blank_opening (sym (flat-is heap path a k value values))
+  flat-same heap path a keys (value ∷ values) = refl
 
   form-opens : (heap : List Cell) (path : List ℕ) (a : ℕ) (form : Option HeapForm)
       → form_opening (blanked heap) path a (option_map (blank_form enc) form) ≡ blank_opening (form_opening heap path a form)
-  form-opens heap path a None = refl
-  form-opens heap path a (Some (Cons head tail)) = refl
-  form-opens heap path a (Some (Tuple elements)) = refl
-  form-opens heap path a (Some (Float bytes)) = refl
-  form-opens heap path a (Some (Long number)) = refl
-  form-opens heap path a (Some (PidForm pid)) = refl
-  form-opens heap path a (Some (PortForm port)) = refl
-  form-opens heap path a (Some (Ext size chars)) = refl
-  form-opens heap path a (Some (HeapBin size chars)) = refl
-  form-opens heap path a (Some (RefBin address offset size)) = refl
-  form-opens heap path a (Some (SubBin address offset size)) = refl
   form-opens heap path a (Some (Flat keys values)) = flat-same heap path a keys values
-  form-opens heap path a (Some (Hash size children)) = refl
-  form-opens heap path a (Some (Node children)) = refl
+  form-opens heap path a form = refl
 
   cell-opens : (heap : List Cell) (path : List ℕ) (a : ℕ) (found : Option (Option HeapForm))
       → cell_opening (blanked heap) path a (option_map (option_map (blank_form enc)) found) ≡ blank_opening (cell_opening heap path a found)
@@ -279,24 +213,16 @@ module _ (enc : Enc) where
   cell-opens heap path a (Some form) = form-opens heap path a form
 
   term-opens : (heap : List Cell) (path : List ℕ) (e : Element) → term_opening (blanked heap) path e ≡ blank_opening (term_opening heap path e)
-  term-opens heap path Nil = refl
-  term-opens heap path (Small i) = refl
-  term-opens heap path (Atom name) = refl
-  term-opens heap path (Pid pid) = refl
-  term-opens heap path (Port port) = refl
   term-opens heap path (Ref a) = ap (cell_opening (blanked heap) path a) (with-same heap a) ∙ cell-opens heap path a (form_with heap a)
+  term-opens heap path e = refl
 
   item-opens : (heap : List Cell) (path : List ℕ) (parent : ℕ) (e : Element) → opening (blanked heap) path (Item parent e) ≡ blank_opening (opening heap path (Item parent e))
-  item-opens heap path parent Nil = refl
-  item-opens heap path parent (Small i) = refl
-  item-opens heap path parent (Atom name) = refl
-  item-opens heap path parent (Pid pid) = refl
-  item-opens heap path parent (Port port) = refl
   item-opens heap path parent (Ref a) =
       item-is (blanked heap) path parent a
       ∙ ap (unless_on path (Ref a)) (item-same heap a ∙ item_at-blank heap a (number_at heap a))
       ∙ unless-same path (Ref a) (item_at heap a (number_at heap a))
       ∙ ap blank_opening (sym (item-is heap path parent a))
+  item-opens heap path parent e = refl
 
   opens-same : (heap : List Cell) (path : List ℕ) (child : Child) → opening (blanked heap) path child ≡ blank_opening (opening heap path child)
   opens-same heap path (Term e) = ap (unless_on path e) (term-opens heap path e) ∙ unless-same path e (term_opening heap path e)
@@ -343,8 +269,7 @@ module _ (enc : Enc) where
 
   seen-same : (t : Tree) → seen (blank_tree enc t) ≡ seen t
   seen-same (Leaf value) = refl
-  seen-same (Bad address why) = refl
-  seen-same (Branch kind children) = refl
+  seen-same t = refl
 
   first_bad-same : (ts : List Tree) → first_bad (map (blank_tree enc) ts) ≡ first_bad ts
   first_bad-same [] = refl
@@ -356,20 +281,10 @@ module _ (enc : Enc) where
   -- ---- the texts of leaves
 
   text-same : (new old : List Cell) (after before : List Entry) (value : Value) → is_binary value ≡ false → leaf_text enc new after (blank_value enc value) ≡ leaf_text enc old before value
-  text-same new old after before (Immediate e) is = refl
-  text-same new old after before (OfCell a (Cons head tail)) is = refl
-  text-same new old after before (OfCell a (Tuple elements)) is = refl
-  text-same new old after before (OfCell a (Float bytes)) is = refl
-  text-same new old after before (OfCell a (Long number)) is = refl
-  text-same new old after before (OfCell a (PidForm pid)) is = refl
-  text-same new old after before (OfCell a (PortForm port)) is = refl
-  text-same new old after before (OfCell a (Ext size chars)) is = refl
   text-same new old after before (OfCell a (HeapBin size chars)) is = absurd (let no : ⊥ = cc is in no)
   text-same new old after before (OfCell a (RefBin address offset size)) is = absurd (let no : ⊥ = cc is in no)
   text-same new old after before (OfCell a (SubBin address offset size)) is = absurd (let no : ⊥ = cc is in no)
-  text-same new old after before (OfCell a (Flat keys values)) is = refl
-  text-same new old after before (OfCell a (Hash size children)) is = refl
-  text-same new old after before (OfCell a (Node children)) is = refl
+  text-same new old after before value is = refl
 
 -- ---- the dump
 
@@ -391,8 +306,7 @@ module _ (heaps : KeepsHeaps) where
 
 kind-other : (kind : RootKind) → part_of (roots_tag kind) ≡ part_of []
 kind-other Stack = refl
-kind-other Dict = refl
-kind-other Mail = refl
+kind-other kind = refl
 
 module _ (same : KeepsSections) (redacts : RedactsSections) (others : KeepsOthers) where
   pub keeps-roots : KeepsRoots

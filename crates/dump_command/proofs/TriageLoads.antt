@@ -1,5 +1,6 @@
 -- What a command has read that tells what stands out in a dump.
-use Rattle.std.proofs.Common.{◌≡◌, ℕ, ◌+◌, List, [], ◌∷◌, ◌++◌, Option, None, Some, refl, sym, ◌∙◌, ap, subst, inl, inr, arith}
+use Rattle.std.proofs.Common.{◌≡◌, ℕ, ◌+◌, List, [], ◌∷◌, ◌++◌, Option, None, Some, Result, Ok, Err, refl, sym, ◌∙◌, ap, subst, inl, inr, arith}
+use Rattle.std.specs.Prelude.{IsErrAnd}
 use Rattle.std.specs.Option.{option_map, option_or}
 use Rattle.std.proofs.lemmas.List.Sums.{sum_by-append, sum_by-cons}
 use Rattle.dump_io.specs.Dumps.{DeviceState, DeviceFailed, ReadsAtMost}
@@ -25,7 +26,7 @@ use Rattle.dump_command.specs.Inner.Opened.{IsIndexed}
 use Rattle.dump_command.specs.Inner.Reading.{HasRead, IsHalted, Takes}
 use Rattle.dump_command.specs.Inner.Stops.{stop_of_body}
 use Rattle.dump_command.specs.declared.stop.Stop.TheVariants.{NoMemory}
-use Rattle.dump_command.specs.Inner.TriageLoads.{shown_bodies, triage_text, AreFound, HoldsBodies}
+use Rattle.dump_command.specs.Inner.TriageLoads.{shown_bodies, triage_text, AreFound, HoldsBodies, ReadsBodies}
 use Rattle.dump_command.specs.declared.commands.triage.Places.{Places}
 use Rattle.dump_command.specs.declared.commands.triage.Loaded.{Loaded}
 use Rattle.dump_command.proofs.FoundLoads.{bytes-one}
@@ -119,6 +120,13 @@ module _ {index : Contents} {places : Places} (found : AreFound index places) wh
       → ReadsAtMost a e (bodies_length (triage_sections (sections_in index)))
   reads-tables first memory procs tables =
       ReadsAtMost-within (omega (arith, triage-length index places found)) (ReadsAtMost-then (ReadsAtMost-then (ReadsAtMost-then first memory) procs) tables)
+
+-- they weren't read
+pub not-read : {index : Contents} {before after : DeviceState} (result : Result Loaded BodyFault) (fault : BodyFault) → IsErrAnd result (λ e. e ≡ fault)
+    → ReadsAtMost before after (bodies_length (triage_sections (sections_in index))) → IsUnread before after fault → ReadsBodies index before after result
+not-read (Ok loaded) fault is reads cause = absurd is
+not-read {before = before} {after = after} (Err e) fault is reads cause =
+    record { reads = reads; bodies = tt; fits = tt; fault = subst (IsUnread before after) (sym is) cause }
 
 -- ---- the command
 

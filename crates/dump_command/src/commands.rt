@@ -1,7 +1,6 @@
 // Each command: what it loads, and what it writes.
-ghost use Rattle.std.specs.Prelude.{◌≡◌, None};
-ghost use Rattle.command_words.specs.Command.{file_of, shown, IsInRange};
-ghost use Rattle.dump_command.specs.Inner.Runs.{Runs};
+ghost use Rattle.command_words.specs.Command.{shown, IsInRange};
+ghost use Rattle.dump_command.specs.Inner.Runs.{RunsOn};
 
 mod audit;
 mod audit_json;
@@ -64,10 +63,7 @@ pub(crate) fn run_command<D: Dumps, K: Sink>(
     out: &mut K,
 ) -> Result<u8, Stop>
     requires { IsInRange (shown cmd) }
-    ensures runs { Runs (shown cmd.entry) limits.now (D.state dumps.old) (D.state dumps.new) (K.state out.old) (K.state out.new) result }
-
-    // A command without a file leaves the device as it is.
-    ensures idle { file_of (shown cmd.entry) ≡ None → dumps.new ≡ dumps.old }
+    ensures { RunsOn D.state (shown cmd.entry) limits.now dumps.old dumps.new (K.state out.old) (K.state out.new) result }
 {
     match cmd {
         Cmd::Index { file } => run_report(alloc, &Index { file }, limits, dumps, out),

@@ -9,7 +9,7 @@ use Rattle.section_index.specs.declared.opening.OpenFault.{OpenFault}
 use Rattle.section_index.specs.declared.opening.OpenFault.TheVariants as opening_faults
 use Rattle.dump_sections.specs.declared.bodies.BodyFault.{BodyFault}
 use Rattle.dump_sections.specs.declared.bodies.BodyFault.TheVariants as body_faults
-use Rattle.dump_sections.specs.Bodies.{body_length, section_at, IsCauseOf}
+use Rattle.dump_sections.specs.Bodies.{body_length, IsCauseOf}
 use Rattle.dump_sections.specs.Index.{Contents, sections_in}
 use Rattle.section_index.specs.Answers.{IsAnswerFor}
 use Rattle.section_index.specs.Opening.{IsAccepted, IsRefusedFor}
@@ -21,7 +21,7 @@ use Rattle.heap_cells.specs.Loading.{enc_of, heap_section, literals_section, bod
 use Rattle.heap_cells.specs.Loading as heaps
 use Rattle.heap_cells.specs.declared.faults.HeapFault.{HeapFault}
 use Rattle.heap_cells.specs.declared.faults.HeapFault.TheVariants as heap_faults
-use Rattle.dump_trial.proofs.Contained.{IsSmall, small-at, small-in, records-small}
+use Rattle.dump_trial.proofs.Contained.{IsSmall, small-in, records-small}
 
 refused-accepted : (bytes : List ℕ) (fault : OpenFault) → IsAccepted bytes usual → IsRefusedFor bytes usual fault → ⊥
 refused-accepted bytes fault accepted refused = none-some fault (sym accepted ∙ refused)
@@ -29,15 +29,9 @@ refused-accepted bytes fault accepted refused = none-some fault (sym accepted �
 -- of an accepted dump that is read
 pub memory-opening : (bytes : List ℕ) (fault : OpenFault) → IsAccepted bytes usual → IsAnswerFor bytes usual (Err fault)
     → (fault ≡ opening_faults.Read → ⊥) → fault ≡ opening_faults.Memory
-memory-opening bytes opening_faults.Compressed accepted answer unread = absurd (refused-accepted bytes _ accepted answer)
-memory-opening bytes opening_faults.NotADump accepted answer unread = absurd (refused-accepted bytes _ accepted answer)
-memory-opening bytes (opening_faults.Version text) accepted answer unread = absurd (refused-accepted bytes _ accepted answer)
-memory-opening bytes (opening_faults.TooLarge size) accepted answer unread = absurd (refused-accepted bytes _ accepted answer)
-memory-opening bytes (opening_faults.HeaderTooLong at) accepted answer unread = absurd (refused-accepted bytes _ accepted answer)
-memory-opening bytes (opening_faults.TooManySections at) accepted answer unread = absurd (refused-accepted bytes _ accepted answer)
-memory-opening bytes (opening_faults.HeadersTooLarge at) accepted answer unread = absurd (refused-accepted bytes _ accepted answer)
 memory-opening bytes opening_faults.Read accepted answer unread = absurd (unread refl)
 memory-opening bytes opening_faults.Memory accepted answer unread = refl
+memory-opening bytes fault accepted answer unread = absurd (refused-accepted bytes _ accepted answer)
 
 -- of the sections of processes
 pub memory-records : (sections : List Section) (before after : DeviceState) (fault : BodyFault) → All IsSmall sections → (DeviceFailed before after → ⊥)
@@ -46,14 +40,6 @@ memory-records sections before after (body_faults.SectionTooLarge at len) all wo
     absurd (none-some _ (sym (ap (option_map (λ (s : Section). body_faults.SectionTooLarge s.at (body_length s))) (records-small sections all)) ∙ cause))
 memory-records sections before after body_faults.Read all works cause = absurd (works cause.0)
 memory-records sections before after body_faults.Memory all works cause = refl
-
--- of one body
-pub memory-body : (index : Contents) (i : ℕ) (before after : DeviceState) (fault : BodyFault) → All IsSmall (sections_in index) → (DeviceFailed before after → ⊥)
-    → IsCauseOf (section_at index i) usual.section before after fault → fault ≡ body_faults.Memory
-memory-body index i before after (body_faults.SectionTooLarge at len) all works cause =
-    let small : body_length (section_at index i) ≤ usual.section = small-at index i all in absurd (omega (arith, small, cause.2))
-memory-body index i before after body_faults.Read all works cause = absurd (works cause)
-memory-body index i before after body_faults.Memory all works cause = refl
 
 -- the bodies of a heap are within the limit
 no-section-fault : (index : Contents) (pid : List ℕ) → All IsSmall (sections_in index) → section_fault usual.section index pid ≡ None

@@ -1,7 +1,6 @@
 -- What is known of a good dump that is open and held in memory.
 use Rattle.std.proofs.Common.{◌≡◌, ℕ, List, Option, Some, sym, ◌∙◌, ap, subst, arith}
 use Rattle.std.specs.Prelude.{All, Err}
-use Rattle.std.specs.List.{between}
 use Rattle.std.proofs.lemmas.Bool.{cond-true}
 use Rattle.std.specs.Str.{bytes_eq}
 use Rattle.std.proofs.lemmas.Slice.Eq.{bytes_eq-Decides}
@@ -13,7 +12,7 @@ use Rattle.dump_io.specs.declared.file.DumpFile.{DumpFile}
 use Rattle.dump_io.specs.Limits.{Numbers}
 use Rattle.dump_sections.specs.declared.bodies.BodyFault.{BodyFault}
 use Rattle.dump_sections.specs.declared.bodies.BodyFault.TheVariants as body_faults
-use Rattle.dump_sections.specs.Bodies.{section_at, IsBodyOf, IsCauseOf}
+use Rattle.dump_sections.specs.Bodies.{IsCauseOf}
 use Rattle.dump_sections.specs.Index.{Contents, IsIndexOf, sections_in}
 use Rattle.dump_sections.specs.Laws.{index-is}
 use Rattle.dump_sections.specs.Sections.{Section}
@@ -27,7 +26,7 @@ use Rattle.root_views.specs.declared.kinds.RootKind.{RootKind}
 use Rattle.dump_trial.specs.Trial.{root_body, root_section}
 use Rattle.dump_trial.specs.Inner.Held.{bytes_in, IsOpened}
 use Rattle.dump_trial.proofs.Contained.{IsSmall}
-use Rattle.dump_trial.proofs.Memory.{memory-records, memory-body, memory-heap}
+use Rattle.dump_trial.proofs.Memory.{memory-records, memory-heap}
 
 -- each body is within the limit
 small-opened : (now : Now) (index : Contents) (limits : Numbers) → IsOpened now limits → IsIndexOf (bytes_in now) index → All IsSmall (sections_in index)
@@ -44,13 +43,6 @@ pub records-opened : (old new : HeldDump) (index : Contents) (limits : Numbers) 
 records-opened old new index limits fault held of cause =
     memory-records (sections_in index) (state_of old) (state_of new) fault (small-opened (now_of old) index limits held of) (never-fails old new)
     (subst (λ (l : Numbers). AreRefused (record_sections (sections_in index)) l.section (state_of old) (state_of new) fault) held.bounds cause)
-
--- for a body
-pub body-opened : (old new : HeldDump) (index : Contents) (limits : Numbers) (i : ℕ) (fault : BodyFault) → IsOpened (now_of old) limits
-    → IsIndexOf (bytes_in (now_of old)) index → IsCauseOf (section_at index i) limits.section (state_of old) (state_of new) fault → fault ≡ body_faults.Memory
-body-opened old new index limits i fault held of cause =
-    memory-body index i (state_of old) (state_of new) fault (small-opened (now_of old) index limits held of) (never-fails old new)
-    (subst (λ (l : Numbers). IsCauseOf (section_at index i) l.section (state_of old) (state_of new) fault) held.bounds cause)
 
 -- what a fault tells of the bodies at two places, and why it comes
 abbrev IsAnswerAt : Contents → Numbers → Option ℕ → Option ℕ → HeapFault → List ℕ → Type 0
@@ -85,11 +77,6 @@ pub root-at : (bytes : List ℕ) (index : Contents) (kind : RootKind) (pid : Lis
     → section ≡ root_section index kind pid → root_body bytes kind pid ≡ body_in bytes section
 root-at bytes index kind pid section of found =
     ap (λ (i : Contents). body_in bytes (root_section i kind pid)) (sym (index-is bytes index of)) ∙ ap (body_in bytes) (sym found)
-
--- the bytes that were read of a section
-pub read-opened : (now : Now) (limits : Numbers) (section : Section) (body : List ℕ) → IsOpened now limits
-    → IsBodyOf now section body → body ≡ between section.body section.end (bytes_in now)
-read-opened now limits section body held is = subst (λ n. IsBodyOf n section body) held.opened is
 
 -- a file is the one of its name
 pub file-held : (file : DumpFile) (name bytes : List ℕ) → name_of file ≡ name → bytes_of file ≡ bytes → files_of file name ≡ Some bytes

@@ -76,11 +76,6 @@ pub header_count : (texts : List (List ℕ)) → list_all is_line_text texts ≡
 header_count texts are =
     sym (length-map (headers (lines_of texts)) (λ (h : Header). h.text)) ∙ ap length (header_texts texts are) ∙ length-filter begins_with_equals texts
 
--- no line is too long
-begins_with_equals-line : (text : List ℕ) → begins_with_equals (line text) ≡ begins_with_equals text
-begins_with_equals-line [] = refl
-begins_with_equals-line (c ∷ text) = refl
-
 length_before_lf-line : (text : List ℕ) → length_before_lf (line text) ≡ length text
 length_before_lf-line text = ap (λ b. cond b (length (line text) - 1) (length (line text))) (has_lf-line text) ∙ sym (line_length text)
 

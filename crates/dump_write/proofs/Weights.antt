@@ -4,7 +4,7 @@ use Rattle.dump_io.specs.Colons.{colon}
 use Rattle.dump_io.specs.Numbers.{hex_number}
 use Rattle.binary_payloads.specs.declared.enc.Enc.{Enc}
 use Rattle.term_forms.specs.Elements.{Element, Nil, Small, Atom, Pid, Port, Ref, IsElem}
-use Rattle.term_forms.specs.Forms.{HeapForm, Cons, Tuple, Float, Long, Pid as PidForm, Port as PortForm, Ext, HeapBin, RefBin, SubBin, Flat, Hash, Node, IsForm}
+use Rattle.term_forms.specs.Forms.{HeapForm, Cons, Tuple, Flat, Hash, Node, IsForm}
 use Rattle.term_forms.specs.Joined.{IsJoined}
 use Rattle.term_forms.specs.Places.{elements_of}
 use Rattle.term_forms.specs.Words.{bar, comma, IsLed}
@@ -44,16 +44,9 @@ pub form_bytes : (enc : Enc) (text : List ℕ) (f : HeapForm) → IsForm enc tex
 form_bytes enc text (Cons head tail) is =
     omega (arith, ap length is.2, length-append is.0 (bar ∷ is.1), element_bytes is.0 head is.3, element_bytes is.1 tail is.4)
 form_bytes enc text (Tuple elements) is = omega (arith, ap length is.2, led_bytes is.0 (length elements) is.1 is.3, joined_bytes is.1 elements is.4)
-form_bytes enc text (Float bytes) is = omega arith
-form_bytes enc text (Long number) is = omega arith
-form_bytes enc text (PidForm pid) is = omega arith
-form_bytes enc text (PortForm port) is = omega arith
-form_bytes enc text (Ext size chars) is = omega arith
-form_bytes enc text (HeapBin size chars) is = omega arith
-form_bytes enc text (RefBin address offset size) is = omega arith
-form_bytes enc text (SubBin address offset size) is = omega arith
 form_bytes enc text (Flat keys values) is =
     omega (arith, ap length is.3, led_bytes is.0 (length values) (is.1 ++ colon ∷ is.2) is.4, length-append is.1 (colon ∷ is.2), element_bytes is.1 keys is.5, joined_bytes is.2 values is.6)
 form_bytes enc text (Hash size children) is =
     omega (arith, ap length is.3, led_bytes is.0 size is.1 is.4, led_bytes is.1 (length children) is.2 is.5, joined_bytes is.2 children is.6)
 form_bytes enc text (Node children) is = omega (arith, ap length is.2, led_bytes is.0 (length children) is.1 is.3, joined_bytes is.1 children is.4)
+form_bytes enc text f is = omega arith

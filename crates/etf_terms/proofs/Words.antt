@@ -25,34 +25,25 @@ no-way x e = cc
 
 pub word-first : (bytes : List ℕ) (n : ℕ) (behind : List ℕ) → number4_of bytes ≡ Ok (n, behind) → words_text bytes ≡ dotted n ++ words_text behind
 unfolding number4_of run_of number_in rest_in
-word-first [] n behind e = absurd (no-way (n, behind) e)
-word-first (a ∷ []) n behind e = absurd (no-way (n, behind) e)
-word-first (a ∷ b ∷ []) n behind e = absurd (no-way (n, behind) e)
-word-first (a ∷ b ∷ c ∷ []) n behind e = absurd (no-way (n, behind) e)
 word-first (a ∷ b ∷ c ∷ d ∷ bytes) n behind e =
     let same = sym (full a b c d bytes) ∙ e in
     let numbers : from_be_bytes w32 (a ∷ b ∷ c ∷ d ∷ []) ≡ n = ap number_in same in
     let rests : bytes ≡ behind = ap rest_in same in
     ap (λ x. dotted x ++ words_text bytes) numbers ∙ ap (λ l. dotted n ++ words_text l) rests
+word-first bytes n behind e = absurd (no-way (n, behind) e)
 
 pub word-shorter : (bytes : List ℕ) (n : ℕ) (behind : List ℕ) → number4_of bytes ≡ Ok (n, behind) → length behind < length bytes
 unfolding number4_of run_of number_in rest_in
-word-shorter [] n behind e = absurd (no-way (n, behind) e)
-word-shorter (a ∷ []) n behind e = absurd (no-way (n, behind) e)
-word-shorter (a ∷ b ∷ []) n behind e = absurd (no-way (n, behind) e)
-word-shorter (a ∷ b ∷ c ∷ []) n behind e = absurd (no-way (n, behind) e)
 word-shorter (a ∷ b ∷ c ∷ d ∷ bytes) n behind e =
     let same = sym (full a b c d bytes) ∙ e in
     let rests : bytes ≡ behind = ap rest_in same in
     let sizes : length bytes ≡ length behind = ap length rests in
     omega (arith, sizes)
+word-shorter bytes n behind e = absurd (no-way (n, behind) e)
 
 no-end : (x : ℕ × List ℕ) (left : ℕ) → ◌≡◌ {A = Parsed ℕ} (Ok x) (Err left) → ⊥
 no-end x left e = cc
 
 pub word-none : (bytes : List ℕ) (left : ℕ) → number4_of bytes ≡ Err left → words_text bytes ≡ []
-word-none [] left e = refl
-word-none (a ∷ []) left e = refl
-word-none (a ∷ b ∷ []) left e = refl
-word-none (a ∷ b ∷ c ∷ []) left e = refl
 word-none (a ∷ b ∷ c ∷ d ∷ bytes) left e = absurd (no-end (from_be_bytes w32 (a ∷ b ∷ c ∷ d ∷ []), bytes) left (sym (full a b c d bytes) ∙ e))
+word-none bytes left e = refl

@@ -4,6 +4,7 @@ ghost use Rattle.std.specs.List.{flat_map};
 ghost use Rattle.dump_io.specs.Sinks.{Puts};
 ghost use Rattle.dump_io.specs.Atoms.{atom_text};
 ghost use Rattle.dump_io.specs.Numbers.{hex_byte};
+ghost use Rattle.dump_io.specs.Pieces.{pieces_text};
 ghost use Rattle.etf_terms.specs.Heads.{kids};
 ghost use Rattle.etf_terms.specs.Inner.Parts.{head};
 ghost use Rattle.etf_terms.specs.Inner.Serving.{Serves};
@@ -13,7 +14,9 @@ ghost use Rattle.etf_terms.specs.Text.{kind_of, dotted, float_text, bits_text, p
 
 use crate::heads::{HeadRead, number4, read_head};
 use crate::stack::{Entry, Kind, Stack};
-use dump_io::{Failed, Sink, hex_pair, put_atom, put_dec, put_hex_bytes, write_all};
+use dump_io::{
+    Failed, Piece, Sink, hex_pair, put_atom, put_dec, put_hex_bytes, put_pieces, write_all,
+};
 
 fn closing_text(kind: Kind, kids: u64) -> &'static [u8]
     ensures { result.now ≡ closing kind kids }
@@ -157,15 +160,35 @@ fn put_export<K: Sink>(sink: &mut K, name: &[u8], function: &[u8], arity: u8) ->
     put_atom(sink, name)?;
     write_all(sink, b":")?;
     put_atom(sink, function)?;
-    write_all(sink, b"/")?;
-    put_dec(sink, arity as u64)
+    put_led(sink, b"/", arity as u64)
+}
+
+// A number behind a text.
+fn put_led<K: Sink>(sink: &mut K, front: &[u8], n: u64) -> Result<(), Failed>
+    ensures { Puts (K.state sink.old) (K.state sink.new) (front.now ++ decimal n) result }
+{
+    write_all(sink, front)?;
+    put_dec(sink, n)
 }
 
 fn put_dotted<K: Sink>(sink: &mut K, n: u64) -> Result<(), Failed>
     ensures { Puts (K.state sink.old) (K.state sink.new) (dotted n) result }
 {
-    write_all(sink, b".")?;
-    put_dec(sink, n)
+    put_led(sink, b".", n)
+}
+
+// An atom between a text and some pieces.
+fn put_named<K: Sink>(
+    sink: &mut K,
+    front: &[u8],
+    name: &[u8],
+    pieces: &[Piece<'_>],
+) -> Result<(), Failed>
+    ensures { Puts (K.state sink.old) (K.state sink.new) (front.now ++ (atom_text name.now ++ pieces_text pieces.now)) result }
+{
+    write_all(sink, front)?;
+    put_atom(sink, name)?;
+    put_pieces(sink, pieces)
 }
 
 fn put_float<K: Sink>(sink: &mut K, bytes: &[u8]) -> Result<(), Failed>
@@ -179,11 +202,14 @@ fn put_float<K: Sink>(sink: &mut K, bytes: &[u8]) -> Result<(), Failed>
 fn put_bits<K: Sink>(sink: &mut K, bits: u8, bytes: &[u8]) -> Result<(), Failed>
     ensures { Puts (K.state sink.old) (K.state sink.new) (bits_text bits bytes.now) result }
 {
-    write_all(sink, b"#Bits<")?;
-    put_dec(sink, bytes.len() as u64)?;
-    write_all(sink, b"/")?;
-    put_dec(sink, bits as u64)?;
-    write_all(sink, b":")?;
+    let pieces = [
+        Piece::Bytes(b"#Bits<"),
+        Piece::Dec(bytes.len() as u64),
+        Piece::Bytes(b"/"),
+        Piece::Dec(bits as u64),
+        Piece::Bytes(b":"),
+    ];
+    put_pieces(sink, &pieces)?;
     put_preview(sink, bytes)
 }
 
@@ -196,22 +222,29 @@ fn put_pid<K: Sink>(
 ) -> Result<(), Failed>
     ensures { Puts (K.state sink.old) (K.state sink.new) (pid_text name.now id serial creation) result }
 {
-    write_all(sink, b"#Pid<")?;
-    put_atom(sink, name)?;
-    put_dotted(sink, id as u64)?;
-    put_dotted(sink, serial as u64)?;
-    put_dotted(sink, creation as u64)?;
-    write_all(sink, b">")
+    let pieces = [
+        Piece::Bytes(b"."),
+        Piece::Dec(id as u64),
+        Piece::Bytes(b"."),
+        Piece::Dec(serial as u64),
+        Piece::Bytes(b"."),
+        Piece::Dec(creation as u64),
+        Piece::Bytes(b">"),
+    ];
+    put_named(sink, b"#Pid<", name, &pieces)
 }
 
 fn put_port<K: Sink>(sink: &mut K, name: &[u8], id: u64, creation: u32) -> Result<(), Failed>
     ensures { Puts (K.state sink.old) (K.state sink.new) (port_text name.now id creation) result }
 {
-    write_all(sink, b"#Port<")?;
-    put_atom(sink, name)?;
-    put_dotted(sink, id)?;
-    put_dotted(sink, creation as u64)?;
-    write_all(sink, b">")
+    let pieces = [
+        Piece::Bytes(b"."),
+        Piece::Dec(id),
+        Piece::Bytes(b"."),
+        Piece::Dec(creation as u64),
+        Piece::Bytes(b">"),
+    ];
+    put_named(sink, b"#Port<", name, &pieces)
 }
 
 // Each word of four bytes.
@@ -239,8 +272,7 @@ fn put_ref<K: Sink>(sink: &mut K, name: &[u8], creation: u32, words: &[u8]) -> R
 fn put_negative<K: Sink>(sink: &mut K, n: u64) -> Result<(), Failed>
     ensures { Puts (K.state sink.old) (K.state sink.new) (codes "-" ++ decimal n) result }
 {
-    write_all(sink, b"-")?;
-    put_dec(sink, n)
+    put_led(sink, b"-", n)
 }
 
 fn put_int<K: Sink>(sink: &mut K, n: u32) -> Result<(), Failed>
@@ -256,8 +288,7 @@ fn put_int<K: Sink>(sink: &mut K, n: u32) -> Result<(), Failed>
 fn put_comma_number<K: Sink>(sink: &mut K, n: u8) -> Result<(), Failed>
     ensures { Puts (K.state sink.old) (K.state sink.new) (comma_number n) result }
 {
-    write_all(sink, b",")?;
-    put_dec(sink, n as u64)
+    put_led(sink, b",", n as u64)
 }
 
 fn put_numbers<K: Sink>(sink: &mut K, bytes: &[u8]) -> Result<(), Failed>
@@ -290,13 +321,14 @@ fn put_chars<K: Sink>(sink: &mut K, bytes: &[u8]) -> Result<(), Failed>
 fn put_fun<K: Sink>(sink: &mut K, name: &[u8], index: u32, arity: u8) -> Result<(), Failed>
     ensures { Puts (K.state sink.old) (K.state sink.new) (fun_text name.now index arity) result }
 {
-    write_all(sink, b"#Fun<")?;
-    put_atom(sink, name)?;
-    write_all(sink, b"/")?;
-    put_dec(sink, index as u64)?;
-    write_all(sink, b"/")?;
-    put_dec(sink, arity as u64)?;
-    write_all(sink, b":")
+    let pieces = [
+        Piece::Bytes(b"/"),
+        Piece::Dec(index as u64),
+        Piece::Bytes(b"/"),
+        Piece::Dec(arity as u64),
+        Piece::Bytes(b":"),
+    ];
+    put_named(sink, b"#Fun<", name, &pieces)
 }
 
 fn bracket(n: u32) -> &'static [u8]

@@ -7,8 +7,8 @@ use Rattle.std.proofs.lemmas.Bool.{and_parts, eq-eqb, eqb-true, false≢true, or
 use Rattle.std.proofs.lemmas.List.Quantifiers.{position-Some}
 use Rattle.std.proofs.lemmas.Map.Keys.{any_passes_from_place}
 use Rattle.std.proofs.lemmas.Option.{none-some, same_Some, slice_get_within}
-use Rattle.term_forms.specs.Elements.{Element, Nil, Small, Atom, Pid as PidElement, Port as PortElement, Ref}
-use Rattle.term_forms.specs.Forms.{HeapForm, Cons, Tuple, Float, Long, Pid, Port, Ext, HeapBin, RefBin, SubBin, Flat, Hash, Node}
+use Rattle.term_forms.specs.Elements.{Element, Ref}
+use Rattle.term_forms.specs.Forms.{HeapForm, HeapBin, SubBin}
 use Rattle.cell_records.specs.declared.cells.Kind.TheVariants as kind
 use Rattle.heap_cells.specs.Cells.{Cell, elements_in, kind_of}
 use Rattle.heap_cells.specs.HeapMap.{form_at, number_at}
@@ -43,34 +43,12 @@ pub at-is_at : (n : ℕ) (t : Target) → t ≡ At n → is_at n t ≡ true
 at-is_at n t is = ap (is_at n) is ∙ eq-eqb n n refl
 
 bin-kind : (form : HeapForm) → is_bin form ≡ true → kind_of form ≡ kind.HeapBin
-bin-kind (Cons head tail) is = absurd (false≢true is)
-bin-kind (Tuple elements) is = absurd (false≢true is)
-bin-kind (Float bytes) is = absurd (false≢true is)
-bin-kind (Long number) is = absurd (false≢true is)
-bin-kind (Pid pid) is = absurd (false≢true is)
-bin-kind (Port port) is = absurd (false≢true is)
-bin-kind (Ext size chars) is = absurd (false≢true is)
 bin-kind (HeapBin size chars) is = refl
-bin-kind (RefBin address offset size) is = absurd (false≢true is)
-bin-kind (SubBin address offset size) is = absurd (false≢true is)
-bin-kind (Flat keys values) is = absurd (false≢true is)
-bin-kind (Hash size children) is = absurd (false≢true is)
-bin-kind (Node children) is = absurd (false≢true is)
+bin-kind form is = absurd (false≢true is)
 
 kind-bin : (form : HeapForm) → kind_of form ≡ kind.HeapBin → is_bin form ≡ true
-kind-bin (Cons head tail) is = absurd (let no : ⊥ = cc (is) in no)
-kind-bin (Tuple elements) is = absurd (let no : ⊥ = cc (is) in no)
-kind-bin (Float bytes) is = absurd (let no : ⊥ = cc (is) in no)
-kind-bin (Long number) is = absurd (let no : ⊥ = cc (is) in no)
-kind-bin (Pid pid) is = absurd (let no : ⊥ = cc (is) in no)
-kind-bin (Port port) is = absurd (let no : ⊥ = cc (is) in no)
-kind-bin (Ext size chars) is = absurd (let no : ⊥ = cc (is) in no)
 kind-bin (HeapBin size chars) is = refl
-kind-bin (RefBin address offset size) is = absurd (let no : ⊥ = cc (is) in no)
-kind-bin (SubBin address offset size) is = absurd (let no : ⊥ = cc (is) in no)
-kind-bin (Flat keys values) is = absurd (let no : ⊥ = cc (is) in no)
-kind-bin (Hash size children) is = absurd (let no : ⊥ = cc (is) in no)
-kind-bin (Node children) is = absurd (let no : ⊥ = cc (is) in no)
+kind-bin form is = absurd (let no : ⊥ = cc (is) in no)
 
 kind-some : (o : Option HeapForm) → option_map kind_of o ≡ Some kind.HeapBin → option_map_or is_bin o false ≡ true
 kind-some None is = absurd (none-some kind.HeapBin is)
@@ -81,19 +59,8 @@ module _ (cells : List Cell) where
 
   part-form : (n : ℕ) (form : HeapForm) → is_part_of cells n form ≡ true
       → (address : ℕ) × (offset : ℕ) × (size : ℕ) × (form ≡ SubBin address offset size) × (is_bin_at cells address n ≡ true)
-  part-form n (Cons head tail) is = absurd (false≢true is)
-  part-form n (Tuple elements) is = absurd (false≢true is)
-  part-form n (Float bytes) is = absurd (false≢true is)
-  part-form n (Long number) is = absurd (false≢true is)
-  part-form n (Pid pid) is = absurd (false≢true is)
-  part-form n (Port port) is = absurd (false≢true is)
-  part-form n (Ext size chars) is = absurd (false≢true is)
-  part-form n (HeapBin size chars) is = absurd (false≢true is)
-  part-form n (RefBin address offset size) is = absurd (false≢true is)
   part-form n (SubBin address offset size) is = (address, offset, size, refl, is)
-  part-form n (Flat keys values) is = absurd (false≢true is)
-  part-form n (Hash size children) is = absurd (false≢true is)
-  part-form n (Node children) is = absurd (false≢true is)
+  part-form n form is = absurd (false≢true is)
 
   bin-tested : (address n : ℕ) → IsBinAt cells address n → is_bin_at cells address n ≡ true
   bin-tested address n bin =
@@ -137,12 +104,8 @@ module _ (cells : List Cell) where
   at-number address n (Some m) is = let same : m ≡ n = cc (is) in ap Some same
 
   target-within : (e : Element) (n : ℕ) → target cells e ≡ At n → n < length cells
-  target-within Nil n is = absurd (let no : ⊥ = cc (is) in no)
-  target-within (Small integer) n is = absurd (let no : ⊥ = cc (is) in no)
-  target-within (Atom bytes) n is = absurd (let no : ⊥ = cc (is) in no)
-  target-within (PidElement pid) n is = absurd (let no : ⊥ = cc (is) in no)
-  target-within (PortElement port) n is = absurd (let no : ⊥ = cc (is) in no)
   target-within (Ref address) n is = number-within address n (at-number address n (number_at cells address) is)
+  target-within e n is = absurd (let no : ⊥ = cc (is) in no)
 
   among-within : (es : List Element) (k n : ℕ) → slice_get (map (target cells) es) k ≡ Some (At n) → n < length cells
   among-within [] zero n is = absurd (none-some (At n) is)

@@ -14,7 +14,7 @@ use Rattle.dump_sections.specs.Bodies.{section_at}
 use Rattle.section_rows.specs.Rows.{Kept}
 use Rattle.process_table.specs.Processes.{Process, process_at}
 use Rattle.process_table.specs.Records.{Placed}
-use Rattle.link_entries.specs.Kinds.{Kind, Link, LinkPort, To, ToPort, ToName, From, FromPort, Other}
+use Rattle.link_entries.specs.Kinds.{Kind, Link, To, From}
 use Rattle.link_entries.specs.Entries.{LinkEntry}
 use Rattle.link_entries.specs.Texts.{is_local}
 use Rattle.link_graph.specs.Graph.{links_of}
@@ -81,21 +81,13 @@ one_sided-small : (kind : Kind) (p q entry at other : ℕ) → at < 2 ^ 64 → o
 one_sided-small (Link pid) p q entry at other a o = (a, o)
 one_sided-small (To pid reference) p q entry at other a o = (a, o)
 one_sided-small (From pid reference) p q entry at other a o = (a, o)
-one_sided-small LinkPort p q entry at other a o = tt
-one_sided-small ToPort p q entry at other a o = tt
-one_sided-small (ToName reference) p q entry at other a o = tt
-one_sided-small FromPort p q entry at other a o = tt
-one_sided-small Other p q entry at other a o = tt
+one_sided-small kind p q entry at other a o = tt
 
 gone-small : (kind : Kind) (p entry at other : ℕ) → at < 2 ^ 64 → other < 2 ^ 64 → IfSome (gone kind p entry at other) Has64Bits
 gone-small (Link pid) p entry at other a o = (a, o)
 gone-small (To pid reference) p entry at other a o = (a, o)
 gone-small (From pid reference) p entry at other a o = (a, o)
-gone-small LinkPort p entry at other a o = tt
-gone-small ToPort p entry at other a o = tt
-gone-small (ToName reference) p entry at other a o = tt
-gone-small FromPort p entry at other a o = tt
-gone-small Other p entry at other a o = tt
+gone-small kind p entry at other a o = tt
 
 mail-there : (counts : List (Option ℕ)) (p : ℕ) (count : Option (Option ℕ)) → slice_get counts p ≡ count → All (λ c. IfSome c (λ n. n < 2 ^ 64)) counts
     → IfSome (option_flatten count) (λ n. n < 2 ^ 64)
@@ -135,11 +127,7 @@ module _ (a : Audit) (begins : (place : ℕ) → (section_at a.index place).at <
   entry-small p process entry at (Link pid) low = partner-small p process entry at (Link pid) pid (place_of a.processes pid) low
   entry-small p process entry at (To pid reference) low = partner-small p process entry at (To pid reference) pid (place_of a.processes pid) low
   entry-small p process entry at (From pid reference) low = partner-small p process entry at (From pid reference) pid (place_of a.processes pid) low
-  entry-small p process entry at LinkPort low = tt
-  entry-small p process entry at ToPort low = tt
-  entry-small p process entry at (ToName reference) low = tt
-  entry-small p process entry at FromPort low = tt
-  entry-small p process entry at Other low = tt
+  entry-small p process entry at kind low = tt
 
   entries-small : (p : ℕ) (process : Process) (entries : List LinkEntry) → All (λ e. e.at < 2 ^ 64) entries → AreSmall (length entries) (entry_findings a p process entries)
   entries-small p process entries low =

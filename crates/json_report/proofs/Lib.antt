@@ -1,7 +1,6 @@
 pub mod Bounds
 pub mod Counts
 pub mod Files
-pub mod Lists
 pub mod ReadingBack
 pub mod Spans
 pub mod Stands

@@ -187,15 +187,7 @@ read-as text tree d same back is = ap (λ o. unwrap_or o tree) (sym is ∙ ap re
 
 whole-finding : (ps : List Process) (f : Finding) → has_float (finding_object ps f) ≡ false
 whole-finding ps (LinkOneSided p q entry at other) = refl
-whole-finding ps (MonitorTo p q entry at other) = refl
-whole-finding ps (MonitorFrom p q entry at other) = refl
-whole-finding ps (Mailbox p count at other) = refl
-whole-finding ps (UnreadLinks p at other) = refl
-whole-finding ps (UnreadQueue p at other) = refl
-whole-finding ps (LinkGone p entry at other) = refl
-whole-finding ps (ToGone p entry at other) = refl
-whole-finding ps (FromGone p entry at other) = refl
-whole-finding ps (QueueCount p stated found at other) = refl
+whole-finding ps f = refl
 
 whole-findings : (ps : List Process) (found : List Finding) → items_have_float (items_of (map (finding_object ps) found)) ≡ false
 whole-findings ps [] = refl

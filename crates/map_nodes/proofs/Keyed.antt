@@ -1,8 +1,8 @@
 -- The keys of a flat map, by its elements.
-use Rattle.std.proofs.Common.{◌≡◌, ℕ, ◌-◌, ◌≤◌, List, [], ◌∷◌, length, get_or, Option, None, Some, sym, ◌∙◌, ap, arith}
+use Rattle.std.proofs.Common.{◌≡◌, ℕ, ◌-◌, ◌≤◌, List, [], ◌∷◌, length, get_or, Option, Some, sym, ◌∙◌, ap, arith}
 use Rattle.std.specs.Option.{option_map}
 use Rattle.term_forms.specs.Elements.{Nil}
-use Rattle.term_forms.specs.Forms.{HeapForm, Cons, Tuple, Float, Long, Pid, Port, Ext, HeapBin, RefBin, SubBin, Flat, Hash, Node}
+use Rattle.term_forms.specs.Forms.{HeapForm, Flat}
 use Rattle.heap_cells.specs.Cells.{Cell, kind_of, elements_in}
 use Rattle.heap_cells.specs.HeapMap.{form_at, elements_at}
 use Rattle.heap_cells.specs.Targets.{At, target}
@@ -12,23 +12,11 @@ use Rattle.map_nodes.specs.Rules.{address_of, form_keys, element_keys, cell_keys
 
 form-keyed : (heap : List Cell) (map : ℕ) (form : Option HeapForm) → option_map kind_of form ≡ Some kinds.Flat → 2 ≤ length (elements_in form)
     → form_keys heap map form ≡ element_keys heap map (length (elements_in form) - 1) (get_or (elements_in form) 0 Nil)
-form-keyed heap map None is some = cc
 form-keyed heap map (Some (Flat keys [])) is some = absurd (omega (arith, some))
 form-keyed heap map (Some (Flat keys (v ∷ vs))) is some =
     let size : length (v ∷ vs) ≡ length (keys ∷ v ∷ vs) - 1 = omega arith in
     ap (λ n. element_keys heap map n keys) size
-form-keyed heap map (Some (Cons head tail)) is some = cc
-form-keyed heap map (Some (Tuple elements)) is some = cc
-form-keyed heap map (Some (Float bytes)) is some = cc
-form-keyed heap map (Some (Long number)) is some = cc
-form-keyed heap map (Some (Pid pid)) is some = cc
-form-keyed heap map (Some (Port port)) is some = cc
-form-keyed heap map (Some (Ext size chars)) is some = cc
-form-keyed heap map (Some (HeapBin size chars)) is some = cc
-form-keyed heap map (Some (RefBin address offset size)) is some = cc
-form-keyed heap map (Some (SubBin address offset size)) is some = cc
-form-keyed heap map (Some (Hash size children)) is some = cc
-form-keyed heap map (Some (Node children)) is some = cc
+form-keyed heap map form is some = cc
 
 -- the keys element refers to the cell with a number
 pub cell-keyed : (heap : List Cell) (n k size : ℕ) → option_map kind_of (form_at heap n) ≡ Some kinds.Flat → 2 ≤ length (elements_at heap n) → size ≡ length (elements_at heap n) - 1

@@ -1,18 +1,10 @@
 -- A cell of a heap by its number, and among the heap's own.
 use Rattle.std.proofs.Common.{◌≡◌, ℕ, ◌<◌, ◌≤◌, List, length, take, None, Some, ap, ◌∙◌, arith}
 use Rattle.std.specs.Prelude.{slice_get}
-use Rattle.std.specs.Option.{option_map, option_and_then}
 use Rattle.std.proofs.lemmas.List.{get_or-take, length-take-le}
 use Rattle.std.proofs.lemmas.Option.{slice_get-get_or}
 use Rattle.heap_cells.specs.Cells.{Cell}
-use Rattle.heap_cells.specs.HeapMap.{address_at, form_at}
 use Rattle.term_text.specs.Inner.Cells.{cell_at}
-
-pub address-there : (cells : List Cell) (n : ℕ) → n < length cells → address_at cells n ≡ Some (cell_at cells n).address
-address-there cells n within = ap (λ found. option_map (λ (cell : Cell). cell.address) found) (slice_get-get_or cells n (record { address = 0; form = None }) within)
-
-pub form-there : (cells : List Cell) (n : ℕ) → n < length cells → form_at cells n ≡ (cell_at cells n).form
-form-there cells n within = ap (λ found. option_and_then (λ (cell : Cell). cell.form) found) (slice_get-get_or cells n (record { address = 0; form = None }) within)
 
 pub own-there : (cells : List Cell) (own n : ℕ) → own ≤ length cells → n < own → slice_get (take own cells) n ≡ Some (cell_at cells n)
 own-there cells own n within below =

@@ -143,9 +143,7 @@ same-leaf_tail false false text other m xs ys b t rest = record { shown = ap (λ
 
 tail-cut : (leaf : Value → List ℕ) (t : Tree) → tail_text leaf (more t none) 0 ≡ shown (codes "|...]") 0
 tail-cut leaf (Leaf value) = refl
-tail-cut leaf (Bad address why) = refl
-tail-cut leaf (Branch kinds.Cons ts) = refl
-tail-cut leaf (Branch k ts) = refl
+tail-cut leaf t = refl
 
 cut-rest : (leaf : Value → List ℕ) (t : Tree) (xs ys : List Face) → take (tail_text leaf (more t none) 0).left xs ≡ take (tail_text leaf (more t none) 0).left ys
 cut-rest leaf t xs ys = ap (λ (s : Shown). take s.left xs) (tail-cut leaf t) ∙ sym (ap (λ (s : Shown). take s.left ys) (tail-cut leaf t))
@@ -295,7 +293,6 @@ mutual
 
   same-item : (leaf : Value → List ℕ) (came : Bool) (t u : Tree) (m : ℕ) (xs ys : List Face) → IsItem t → IsItem u → Agree (suc m) (faces leaf t ++ xs) (faces leaf u ++ ys)
       → SameItems (item_text leaf came t m) (item_text leaf came u m) xs ys
-  same-item leaf came (Leaf v) u m xs ys a b h = absurd a
   same-item leaf came (Bad c why) (Leaf w) m xs ys a b h = absurd b
   same-item leaf came (Bad c why) (Bad d reason) m xs ys a b h =
       let first = agree-first m (BadFace c why) (BadFace d reason) xs ys h in
@@ -303,10 +300,6 @@ mutual
       let same : item_text leaf came (Bad c why) m ≡ item_text leaf came (Bad d reason) m = cc in
       record { shown = same; rest = first.1 }
   same-item leaf came (Bad c why) (Branch j us) m xs ys a b h = let no = (agree-first m (BadFace c why) (BranchFace j (count us)) xs (faces_all leaf us ++ ys) h).0 in cc
-  same-item leaf came (Branch kinds.Cons ts) u m xs ys a b h = absurd a
-  same-item leaf came (Branch kinds.Tuple ts) u m xs ys a b h = absurd a
-  same-item leaf came (Branch kinds.Flat ts) u m xs ys a b h = absurd a
-  same-item leaf came (Branch kinds.Hash ts) u m xs ys a b h = absurd a
   same-item leaf came (Branch k ts) (Leaf w) m xs ys a b h = absurd b
   same-item leaf came (Branch k ts) (Bad d reason) m xs ys a b h = let no = (agree-first m (BranchFace k (count ts)) (BadFace d reason) (faces_all leaf ts ++ xs) ys h).0 in cc
   same-item leaf came (Branch kinds.Inner ts) (Branch j us) m xs ys a b h =
@@ -315,6 +308,7 @@ mutual
   same-item leaf came (Branch kinds.Pair ts) (Branch j us) m xs ys a b h =
       at-kind (λ k. IsItem (Branch k us) → SameItems (item_text leaf came (Branch kinds.Pair ts) m) (item_text leaf came (Branch k us) m) xs ys) m kinds.Pair j (count ts) (count us) (faces_all leaf ts ++ xs) (faces_all leaf us ++ ys) h
       (λ size rest is. same-pair leaf came ts us m xs ys a is rest) b
+  same-item leaf came t u m xs ys a b h = absurd a
 
   same-pair : (leaf : Value → List ℕ) (came : Bool) (ts us : Trees) (m : ℕ) (xs ys : List Face) → (count ts ≡ 2) × AreTerms ts → (count us ≡ 2) × AreTerms us
       → Agree m (faces_all leaf ts ++ xs) (faces_all leaf us ++ ys) → SameItems (pair_text leaf came ts m) (pair_text leaf came us m) xs ys

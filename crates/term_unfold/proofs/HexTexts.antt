@@ -1,5 +1,5 @@
 -- The digits that the hex crate writes, in upper case.
-use Rattle.std.proofs.Common.{◌≡◌, ℕ, zero, suc, ◌/◌, ◌%◌, ◌<◌, true, List, [], ◌∷◌, map, get_or, slice_index, refl, sym, ◌∙◌, ap, inl, inr, arith}
+use Rattle.std.proofs.Common.{◌≡◌, ℕ, suc, ◌/◌, ◌%◌, ◌<◌, true, List, [], ◌∷◌, map, get_or, slice_index, refl, sym, ◌∙◌, ap, inl, inr, arith}
 use Rattle.std.specs.Prelude.{Result, Ok, Err, IsOk, OnOk}
 use Rattle.std.specs.Char.{to_ascii_uppercase}
 use Rattle.std.specs.Fmt.{digit_glyph}
@@ -27,23 +27,8 @@ upper-encode (b ∷ rest) =
     ∙ ap (λ r. slice_index upper_digits (b / 16) ∷ slice_index upper_digits (b % 16) ∷ r) (upper-encode rest)
 
 glyph : (d : ℕ) → d < 16 → slice_index upper_digits d ≡ digit_glyph true d
-glyph zero below = refl
-glyph (suc zero) below = refl
-glyph (suc (suc zero)) below = refl
-glyph (suc (suc (suc zero))) below = refl
-glyph (suc (suc (suc (suc zero)))) below = refl
-glyph (suc (suc (suc (suc (suc zero))))) below = refl
-glyph (suc (suc (suc (suc (suc (suc zero)))))) below = refl
-glyph (suc (suc (suc (suc (suc (suc (suc zero))))))) below = refl
-glyph (suc (suc (suc (suc (suc (suc (suc (suc zero)))))))) below = refl
-glyph (suc (suc (suc (suc (suc (suc (suc (suc (suc zero))))))))) below = refl
-glyph (suc (suc (suc (suc (suc (suc (suc (suc (suc (suc zero)))))))))) below = refl
-glyph (suc (suc (suc (suc (suc (suc (suc (suc (suc (suc (suc zero))))))))))) below = refl
-glyph (suc (suc (suc (suc (suc (suc (suc (suc (suc (suc (suc (suc zero)))))))))))) below = refl
-glyph (suc (suc (suc (suc (suc (suc (suc (suc (suc (suc (suc (suc (suc zero))))))))))))) below = refl
-glyph (suc (suc (suc (suc (suc (suc (suc (suc (suc (suc (suc (suc (suc (suc zero)))))))))))))) below = refl
-glyph (suc (suc (suc (suc (suc (suc (suc (suc (suc (suc (suc (suc (suc (suc (suc zero))))))))))))))) below = refl
 glyph (suc (suc (suc (suc (suc (suc (suc (suc (suc (suc (suc (suc (suc (suc (suc (suc d)))))))))))))))) below = absurd (omega (arith, below))
+glyph d below = refl
 
 -- bytes as pairs of digits
 pub bytes-encode : (xs : List ℕ) → ((k : ℕ) → get_or xs k 0 < 256) → encode_upper xs ≡ flat_map hex_byte xs

@@ -1,11 +1,10 @@
 -- The children of an open cell by their places.
-use Rattle.std.proofs.Common.{◌≡◌, ℕ, zero, suc, ◌+◌, ◌<◌, ◌≤◌, ◌/◌, ◌%◌, List, [], ◌∷◌, length, map, take, drop, get_or, Option, Some, None, refl, sym, ◌∙◌, ap, inl, inr, arith, Bor}
-use Rattle.std.specs.Prelude.{slice_get, IfSome}
+use Rattle.std.proofs.Common.{◌≡◌, ℕ, zero, suc, ◌+◌, ◌<◌, ◌≤◌, ◌/◌, ◌%◌, List, [], ◌∷◌, length, map, drop, get_or, Option, Some, None, refl, sym, ◌∙◌, ap, inl, inr, arith, Bor}
+use Rattle.std.specs.Prelude.{slice_get}
 use Rattle.std.specs.Option.{option_map}
 use Rattle.std.proofs.lemmas.Bool.{cases_lt}
-use Rattle.std.proofs.lemmas.List.{length-map}
 use Rattle.std.proofs.lemmas.List.Sums.{sum_by-cons}
-use Rattle.std.proofs.lemmas.Option.{slice_get-map, slice_get-get_or, slice_get_past}
+use Rattle.std.proofs.lemmas.Option.{slice_get-map, slice_get-get_or}
 use Rattle.std.proofs.Math.Nat.{div-add-mod}
 use Rattle.term_forms.specs.Elements.{Element, Nil}
 use Rattle.term_forms.specs.Forms.{HeapForm, Cons, Tuple, Flat, Hash, Node}
@@ -36,12 +35,6 @@ elements-few heap n bounded = omega (arith, bounded.weight, weight-at heap.cells
 pub kid-none : (heap : List Cell) (children : List Child) (next most : ℕ) (found : Option Kid) → found ≡ None → slice_get children next ≡ None → IsKidAt heap children next most found
 kid-none heap children next most None is past = record { child = sym past; kid = tt; few = tt }
 kid-none heap children next most (Some k) is past = cc
-
-pub terms-past : (elements : List Element) (next : ℕ) → length elements ≤ next → slice_get (terms elements) next ≡ None
-terms-past elements next past = slice_get_past (terms elements) next (omega (arith, length-map elements Term, past))
-
-pub items-past : (a : ℕ) (elements : List Element) (next : ℕ) → length elements ≤ next → slice_get (items a elements) next ≡ None
-items-past a elements next past = slice_get_past (items a elements) next (omega (arith, length-map elements (Item a), past))
 
 -- the child at a place
 
@@ -91,40 +84,6 @@ members-are (Some form) (inr (inl h)) = cc
 members-are (Some form) (inr (inr h)) = cc
 
 -- the first two of some children
-
-two-first : (children : List Child) (place : ℕ) → place < 2 → slice_get (take 2 children) place ≡ slice_get children place
-two-first [] place h = refl
-two-first (x ∷ []) zero h = refl
-two-first (x ∷ []) (suc place) h = refl
-two-first (x ∷ y ∷ rest) zero h = refl
-two-first (x ∷ y ∷ rest) (suc zero) h = refl
-two-first (x ∷ y ∷ rest) (suc (suc place)) h = absurd (omega (arith, h))
-
-terms-two : (elements : List Element) → terms (take 2 elements) ≡ take 2 (terms elements)
-terms-two [] = refl
-terms-two (x ∷ []) = refl
-terms-two (x ∷ y ∷ rest) = refl
-
-kid-few : (k : Option Kid) (next most : ℕ) → next < most → IfSome k (λ _. next < most)
-kid-few None next most h = tt
-kid-few (Some k) next most h = h
-
-pub two-kid : (heap : List Cell) (elements : List Element) (place most : ℕ) (found : Option Kid) → place < 2 → IsKidAt heap (terms elements) place most found
-    → IsKidAt heap (terms (take 2 elements)) place 2 found
-two-kid heap elements place most found h at =
-    record {
-      child = at.child ∙ sym (ap (λ l. slice_get l place) (terms-two elements) ∙ two-first (terms elements) place h);
-      kid = at.kid;
-      few = kid-few found place 2 h;
-    }
-
-length-two : (elements : List Element) → length (take 2 elements) ≤ 2
-length-two [] = omega arith
-length-two (x ∷ []) = omega arith
-length-two (x ∷ y ∷ rest) = omega arith
-
-pub two-past : (elements : List Element) (place : ℕ) → 2 ≤ place → slice_get (terms (take 2 elements)) place ≡ None
-two-past elements place h = terms-past (take 2 elements) place (omega (arith, length-two elements, h))
 
 -- keys and values
 

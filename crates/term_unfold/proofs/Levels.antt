@@ -8,8 +8,8 @@ use Rattle.std.proofs.lemmas.Bool.{false≢true, or_parts, or_cases, eqb-true}
 use Rattle.std.proofs.lemmas.List.{length-map}
 use Rattle.std.proofs.lemmas.List.Quantifiers.{position-Some}
 use Rattle.std.proofs.lemmas.Map.Made.{length-le_from_is_member}
-use Rattle.term_forms.specs.Elements.{Element, Nil, Small, Atom, Pid, Port, Ref}
-use Rattle.term_forms.specs.Forms.{HeapForm, Cons, Tuple, Float, Long, Pid as PidForm, Port as PortForm, Ext, HeapBin, RefBin, SubBin, Flat, Hash, Node}
+use Rattle.term_forms.specs.Elements.{Element, Ref}
+use Rattle.term_forms.specs.Forms.{HeapForm, Cons, Tuple, Flat, Hash, Node}
 use Rattle.heap_cells.specs.Cells.{Cell, addresses}
 use Rattle.heap_cells.specs.HeapMap.{number_at, form_at}
 use Rattle.cell_records.specs.declared.cells.Why.TheVariants.{OnPath}
@@ -99,12 +99,8 @@ unless-is heap path true a off h = tt
 unless-is heap path false a off h = h refl
 
 off-is : (heap : List Cell) (above path : List ℕ) (e : Element) (off : Opening) → IsOpening heap path off → IsOpening heap path (unless_on above e off)
-off-is heap above path Nil off h = h
-off-is heap above path (Small integer) off h = h
-off-is heap above path (Atom bytes) off h = h
-off-is heap above path (Pid pid) off h = h
-off-is heap above path (Port port) off h = h
 off-is heap above path (Ref a) off h = unless-is heap path (is_on a above) a off (λ _. h)
+off-is heap above path e off h = h
 
 keyed-is : (heap : List Cell) (path : List ℕ) (a : ℕ) (vs : List Element) (keys : Keys) → IsPath heap (a ∷ path) → IsOpening heap path (keyed a vs keys)
 keyed-is heap path a vs no_keys is = is
@@ -112,38 +108,19 @@ keyed-is heap path a vs (keys_at k ks) is = is
 keyed-is heap path a vs (bad_keys k why) is = tt
 
 form-is : (heap : List Cell) (path : List ℕ) (a : ℕ) (form : Option HeapForm) → IsPath heap (a ∷ path) → IsOpening heap path (form_opening heap path a form)
-form-is heap path a None is = tt
 form-is heap path a (Some (Cons head tail)) is = is
 form-is heap path a (Some (Tuple elements)) is = is
 form-is heap path a (Some (Flat keys [])) is = is
 form-is heap path a (Some (Flat keys (v ∷ vs))) is =
     off-is heap (a ∷ path) path keys (keyed a (v ∷ vs) (keys_of_map heap a keys (v ∷ vs))) (keyed-is heap path a (v ∷ vs) (keys_of_map heap a keys (v ∷ vs)) is)
 form-is heap path a (Some (Hash size children)) is = is
-form-is heap path a (Some (Node children)) is = tt
-form-is heap path a (Some (Float bytes)) is = tt
-form-is heap path a (Some (Long number)) is = tt
-form-is heap path a (Some (PidForm pid)) is = tt
-form-is heap path a (Some (PortForm port)) is = tt
-form-is heap path a (Some (Ext size chars)) is = tt
-form-is heap path a (Some (HeapBin size chars)) is = tt
-form-is heap path a (Some (RefBin address offset size)) is = tt
-form-is heap path a (Some (SubBin address offset size)) is = tt
+form-is heap path a form is = tt
 
 member-is : (heap : List Cell) (path : List ℕ) (a : ℕ) (form : Option HeapForm) → IsPath heap (a ∷ path) → IsOpening heap path (item_opening (form_member a form))
-member-is heap path a None is = tt
 member-is heap path a (Some (Cons head tail)) is = is
 member-is heap path a (Some (Tuple elements)) is = is
-member-is heap path a (Some (Flat keys values)) is = tt
-member-is heap path a (Some (Hash size children)) is = tt
 member-is heap path a (Some (Node children)) is = is
-member-is heap path a (Some (Float bytes)) is = tt
-member-is heap path a (Some (Long number)) is = tt
-member-is heap path a (Some (PidForm pid)) is = tt
-member-is heap path a (Some (PortForm port)) is = tt
-member-is heap path a (Some (Ext size chars)) is = tt
-member-is heap path a (Some (HeapBin size chars)) is = tt
-member-is heap path a (Some (RefBin address offset size)) is = tt
-member-is heap path a (Some (SubBin address offset size)) is = tt
+member-is heap path a form is = tt
 
 -- a cell, by its number
 cell-is : (heap : List Cell) (path : List ℕ) (a : ℕ) (number : Option ℕ) → (IsSome number → IsPath heap (a ∷ path)) → IsOpening heap path (cell_opening heap path a (option_map (form_at heap) number))
@@ -155,20 +132,11 @@ cell_member-is heap path a None is = tt
 cell_member-is heap path a (Some n) is = member-is heap path a (form_at heap n) (is refl)
 
 opening-is : (heap : List Cell) (path : List ℕ) (child : Child) → IsPath heap path → IsOpening heap path (opening heap path child)
-opening-is heap path (Term Nil) is = tt
-opening-is heap path (Term (Small integer)) is = tt
-opening-is heap path (Term (Atom bytes)) is = tt
-opening-is heap path (Term (Pid pid)) is = tt
-opening-is heap path (Term (Port port)) is = tt
 opening-is heap path (Term (Ref a)) is =
     unless-is heap path (is_on a path) a (cell_opening heap path a (form_with heap a)) (λ off. cell-is heap path a (number_at heap a) (λ some. (some, off, is)))
-opening-is heap path (Item parent Nil) is = tt
-opening-is heap path (Item parent (Small integer)) is = tt
-opening-is heap path (Item parent (Atom bytes)) is = tt
-opening-is heap path (Item parent (Pid pid)) is = tt
-opening-is heap path (Item parent (Port port)) is = tt
 opening-is heap path (Item parent (Ref a)) is =
     unless-is heap path (is_on a path) a (item_opening (cell_member a (form_with heap a))) (λ off. cell_member-is heap path a (number_at heap a) (λ some. (some, off, is)))
+opening-is heap path child is = tt
 
 -- two numbers of levels that are enough give the same tree
 pub levels-enough : (m n : ℕ) (heap : List Cell) (path : List ℕ) (child : Child) → IsPath heap path → length heap < m + length path → length heap < n + length path

@@ -8,7 +8,7 @@ use Rattle.std.proofs.lemmas.Map.Keys.{apart_from_distinct}
 use Rattle.std.proofs.lemmas.Option.{slice_get-map, slice_get-get_or, unwrap_or-slice_get}
 use Rattle.std.proofs.lemmas.List.Sums.{position_or_len_is, prefix_len_passes}
 use Rattle.std.specs.Cmp.{nat_eq_equiv}
-use Rattle.term_forms.specs.Elements.{Element, Nil, Small, Atom, Pid, Port, Ref}
+use Rattle.term_forms.specs.Elements.{Element, Nil, Ref}
 use Rattle.term_forms.specs.Forms.{HeapForm, Cons, Tuple, Float, Long, Pid as PidForm, Port as PortForm, Ext, HeapBin, RefBin, SubBin, Flat, Hash, Node}
 use Rattle.heap_cells.specs.Cells.{Cell, addresses, elements_in, kind_of}
 use Rattle.cell_records.specs.declared.cells.Kind.{Kind}
@@ -24,7 +24,7 @@ use Rattle.term_unfold.specs.declared.path.Entry.{Entry}
 use Rattle.term_unfold.specs.Inner.Entries.{numbers_of, path_of, IsLine}
 use Rattle.term_unfold.specs.Inner.Kids.{members_in, found_elements, flat_kids}
 use Rattle.term_unfold.specs.Rules.{Term, Item, leaf, bad, node, is_on, unless_on, terms, items, pairs, keyed, form_opening, cell_opening, term_opening, item_opening, opening}
-use Rattle.term_unfold.specs.Trees.{Immediate, OfCell}
+use Rattle.term_unfold.specs.Trees.{OfCell}
 use Rattle.term_unfold.proofs.Kidded.{flat_kids-at}
 
 -- addresses and numbers
@@ -70,25 +70,24 @@ off-other heap m n distinct a b other = address-eqb heap m n distinct a b ∙ ne
 
 -- a reference to an ancestor, and one to another cell
 
-pub term-on : (heap : List Cell) (path : List ℕ) (a : ℕ) → is_on a path ≡ true → opening heap path (Term (Ref a)) ≡ bad a OnPath
-term-on heap path a on = ap (λ b. cond b (bad a OnPath) (term_opening heap path (Ref a))) on
+pub item-on : (heap : List Cell) (path : List ℕ) (parent k : ℕ) (e : Element) → target heap e ≡ At k → is_on (address_of heap k) path ≡ true → opening heap path (Item parent e) ≡ bad (address_of heap k) OnPath
+item-on heap path parent k e leads on =
+    let b = address_of heap k in
+    ap (λ x. opening heap path (Item parent x)) (leads-at heap k e leads).element ∙ ap (λ o. cond o (bad b OnPath) (item_opening (member_of heap parent (Ref b)))) on
 
-pub item-on : (heap : List Cell) (path : List ℕ) (parent a : ℕ) → is_on a path ≡ true → opening heap path (Item parent (Ref a)) ≡ bad a OnPath
-item-on heap path parent a on = ap (λ b. cond b (bad a OnPath) (item_opening (member_of heap parent (Ref a)))) on
+pub member-at : (heap : List Cell) (parent k : ℕ) (e : Element) → target heap e ≡ At k → member_of heap parent e ≡ form_member (address_of heap k) (form_at heap k)
+member-at heap parent k e leads =
+    let to = leads-at heap k e leads in
+    ap (member_of heap parent) to.element ∙ ap (cell_member (address_of heap k)) to.form
 
-pub term-off : (heap : List Cell) (path : List ℕ) (a n : ℕ) → is_on a path ≡ false → form_with heap a ≡ Some (form_at heap n) → opening heap path (Term (Ref a)) ≡ form_opening heap path a (form_at heap n)
-term-off heap path a n off found =
-    ap (λ b. cond b (bad a OnPath) (term_opening heap path (Ref a))) off ∙ ap (cell_opening heap path a) found
-
-pub item-off : (heap : List Cell) (path : List ℕ) (parent a n : ℕ) → is_on a path ≡ false → form_with heap a ≡ Some (form_at heap n) → opening heap path (Item parent (Ref a)) ≡ item_opening (form_member a (form_at heap n))
-item-off heap path parent a n off found =
-    ap (λ b. cond b (bad a OnPath) (item_opening (member_of heap parent (Ref a)))) off ∙ ap (λ f. item_opening (cell_member a f)) found
+pub item-at : (heap : List Cell) (path : List ℕ) (parent k : ℕ) (e : Element) → target heap e ≡ At k → is_on (address_of heap k) path ≡ false
+    → opening heap path (Item parent e) ≡ item_opening (form_member (address_of heap k) (form_at heap k))
+item-at heap path parent k e leads off =
+    let b = address_of heap k in
+    ap (λ x. opening heap path (Item parent x)) (leads-at heap k e leads).element ∙ ap (λ o. cond o (bad b OnPath) (item_opening (member_of heap parent (Ref b)))) off
+    ∙ ap item_opening (ap (member_of heap parent) (sym (leads-at heap k e leads).element) ∙ member-at heap parent k e leads)
 
 -- an element that leads nowhere, or to no cell
-
-pub term-plain : (heap : List Cell) (path : List ℕ) (e : Element) → target heap e ≡ Plain → opening heap path (Term e) ≡ leaf (Immediate e)
-term-plain heap path e h =
-    leads-nowhere (λ e. opening heap path (Term e) ≡ leaf (Immediate e)) heap e h refl (λ _. refl) (λ _. refl) (λ _. refl) (λ _. refl)
 
 pub item-plain : (heap : List Cell) (path : List ℕ) (parent : ℕ) (e : Element) → target heap e ≡ Plain → opening heap path (Item parent e) ≡ bad parent Malformed
 item-plain heap path parent e h =
@@ -156,8 +155,14 @@ number-is heap n distinct within =
     (λ lt. ap (λ b. eqb b a) (sym (address-cell heap n within)) ∙ eq-eqb a a refl) in
     ap (λ k. cond (ltb k (length heap)) (Some k) None) place ∙ ap (λ b. cond b (Some n) None) (lt-ltb n (length heap) within)
 
-pub form-is : (heap : List Cell) (n : ℕ) → IsDistinct eqb (addresses heap) → n < length heap → form_with heap (address_of heap n) ≡ Some (form_at heap n)
+form-is : (heap : List Cell) (n : ℕ) → IsDistinct eqb (addresses heap) → n < length heap → form_with heap (address_of heap n) ≡ Some (form_at heap n)
 form-is heap n distinct within = ap (option_map (form_at heap)) (number-is heap n distinct within)
+
+pub term-at : (heap : List Cell) (path : List ℕ) (n : ℕ) → is_on (address_of heap n) path ≡ false → IsDistinct eqb (addresses heap) → n < length heap
+    → opening heap path (Term (Ref (address_of heap n))) ≡ form_opening heap path (address_of heap n) (form_at heap n)
+term-at heap path n off distinct within =
+    let a = address_of heap n in
+    ap (λ b. cond b (bad a OnPath) (term_opening heap path (Ref a))) off ∙ ap (cell_opening heap path a) (form-is heap n distinct within)
 
 -- the openings of forms, by their kinds
 
@@ -215,12 +220,8 @@ pairs-none [] = refl
 pairs-none (k ∷ ks) = refl
 
 flat-alone : (heap : List Cell) (keys : Element) → flat_kids heap (keys ∷ []) ≡ []
-flat-alone heap Nil = refl
-flat-alone heap (Small integer) = refl
-flat-alone heap (Atom bytes) = refl
-flat-alone heap (Pid pid) = refl
-flat-alone heap (Port port) = refl
 flat-alone heap (Ref k) = pairs-none (found_elements (form_with heap k))
+flat-alone heap keys = refl
 
 pub flat-empty : (heap : List Cell) (path : List ℕ) (a : ℕ) (form : Option HeapForm) → option_map kind_of form ≡ Some cell_kind.Flat → length (elements_in form) < 2
     → form_opening heap path a form ≡ node a kinds.Flat (flat_kids heap (elements_in form))
@@ -264,10 +265,11 @@ flat-ref heap path a b form found h some is with_is =
     ∙ ap (λ e. unless_on (a ∷ path) e (keyed a (drop 1 (elements_in form)) (element_keys heap a (length (elements_in form) - 1) e))) is
     ∙ ap (λ f. cond (is_on b (a ∷ path)) (bad b OnPath) (keyed a (drop 1 (elements_in form)) (cell_keys b (length (elements_in form) - 1) f))) with_is
 
-pub flat-on : (heap : List Cell) (path : List ℕ) (a b : ℕ) (form : Option HeapForm) → option_map kind_of form ≡ Some cell_kind.Flat → 2 ≤ length (elements_in form)
-    → get_or (elements_in form) 0 Nil ≡ Ref b → is_on b (a ∷ path) ≡ true → form_opening heap path a form ≡ bad b OnPath
-flat-on heap path a b form h some is on =
-    flat-ref heap path a b form (form_with heap b) h some is refl
+pub flat-on : (heap : List Cell) (path : List ℕ) (a k : ℕ) (form : Option HeapForm) → option_map kind_of form ≡ Some cell_kind.Flat → 2 ≤ length (elements_in form)
+    → target heap (get_or (elements_in form) 0 Nil) ≡ At k → is_on (address_of heap k) (a ∷ path) ≡ true → form_opening heap path a form ≡ bad (address_of heap k) OnPath
+flat-on heap path a k form h some leads on =
+    let b = address_of heap k in
+    flat-ref heap path a b form (form_with heap b) h some (leads-at heap k (get_or (elements_in form) 0 Nil) leads).element refl
     ∙ ap (λ x. cond x (bad b OnPath) (keyed a (drop 1 (elements_in form)) (cell_keys b (length (elements_in form) - 1) (form_with heap b)))) on
 
 pub flat-missing : (heap : List Cell) (path : List ℕ) (a b : ℕ) (form : Option HeapForm) → option_map kind_of form ≡ Some cell_kind.Flat → 2 ≤ length (elements_in form)

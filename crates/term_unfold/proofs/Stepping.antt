@@ -1,7 +1,7 @@
 -- What the open cells still have to write, where a child is visited.
 use Rattle.std.proofs.Common.{◌≡◌, ℕ, zero, suc, ◌+◌, ◌≤◌, Bool, true, false, not, cond, List, [], ◌∷◌, ◌++◌, length, take, Some, None, refl, sym, ◌∙◌, ap, inl, inr, append_assoc, arith, add-one}
 use Rattle.std.specs.Prelude.{codes, slice_get}
-use Rattle.term_forms.specs.Elements.{Element, Nil, Small, Atom, Pid, Port, Ref}
+use Rattle.term_forms.specs.Elements.{Element, Nil, Ref}
 use Rattle.term_forms.specs.Forms.{HeapForm}
 use Rattle.heap_cells.specs.Cells.{Cell}
 use Rattle.heap_cells.specs.HeapMap.{form_at, elements_at}
@@ -164,11 +164,7 @@ at-tail leaf heap came e es child n m is at has =
 
 nil-element : (e : Element) → is_nil (Immediate e) ≡ true → e ≡ Nil
 nil-element Nil h = refl
-nil-element (Small integer) h = cc
-nil-element (Atom bytes) h = cc
-nil-element (Pid pid) h = cc
-nil-element (Port port) h = cc
-nil-element (Ref a) h = cc
+nil-element e h = cc
 
 nil-child : (child : Child) → is_nil_term child ≡ true → child ≡ Term Nil
 nil-child (Term e) h = ap Term (nil-element e h)
@@ -187,14 +183,6 @@ step-nil leaf heap e es child n m is at has few nil =
 pub step-cons : (leaf : Value → List ℕ) (heap : List Cell) (e : Entry) (es : List Entry) (child : Child) (o : Opened) (n m : ℕ) → e.kind ≡ kinds.Cons → e.next ≡ suc n → HasChild heap e child
     → length (e ∷ es) ≤ length heap → IsOpened heap (path_of heap (e ∷ es)) child o → is_list o ≡ true
     → rest leaf heap (e ∷ es) (suc m) ≡ codes "," ++ rest leaf heap (entered_by o false (next_of false e ∷ es)) m
-step-cons leaf heap e es child opened.Immediate n m is at has few opens list = cc
-step-cons leaf heap e es child (opened.Leaf ix) n m is at has few opens list = cc
-step-cons leaf heap e es child (opened.Bad address why) n m is at has few opens list = cc
-step-cons leaf heap e es child (opened.Node ix kinds.Tuple) n m is at has few opens list = cc
-step-cons leaf heap e es child (opened.Node ix kinds.Flat) n m is at has few opens list = cc
-step-cons leaf heap e es child (opened.Node ix kinds.Hash) n m is at has few opens list = cc
-step-cons leaf heap e es child (opened.Node ix kinds.Inner) n m is at has few opens list = cc
-step-cons leaf heap e es child (opened.Node ix kinds.Pair) n m is at has few opens list = cc
 step-cons leaf heap e es child (opened.Node ix kinds.Cons) n m is at has few opens list =
     let ts = trees (unfolded heap (address_of heap (number ix) ∷ path_of heap (e ∷ es))) (kids_of heap kinds.Cons (number ix)) in
     let inner : Entry = record { cell = ix; next = 0; kind = kinds.Cons; came = false } in
@@ -205,6 +193,7 @@ step-cons leaf heap e es child (opened.Node ix kinds.Cons) n m is at has few ope
     ∙ ap (λ l. codes "," ++ l) (run-at s (rest leaf heap es) (rest leaf heap (next_of false e ∷ es)) (sym (behind-tail leaf heap false e es n s.left is at))
     ∙ ap (λ x. run x (rest leaf heap (next_of false e ∷ es))) (sym (list-first leaf ts m))
     ∙ sym (term-at leaf heap inner (next_of false e ∷ es) false m kinds.Cons refl refl))
+step-cons leaf heap e es child o n m is at has few opens list = cc
 
 -- another tail
 
@@ -223,20 +212,10 @@ tail-other : (leaf : Value → List ℕ) (heap : List Cell) (entries : List Entr
     → tail_text leaf (more (unfolded heap (path_of heap entries) child) ts) (suc m) ≡ barred (node_text leaf (unfolded heap (path_of heap entries) child) m)
 tail-other leaf heap entries child opened.Immediate ts m few term opens nil list =
     tail-as leaf _ _ ts m (unfolded-as heap entries child _ few opens) (tail-leaf leaf (Immediate (element_of child)) ts m (not-nil child term nil))
-tail-other leaf heap entries child (opened.Leaf ix) ts m few term opens nil list =
-    tail-as leaf _ _ ts m (unfolded-as heap entries child _ few opens.opens) refl
 tail-other leaf heap entries child (opened.Bad address why) ts m few term opens nil list =
     tail-as leaf _ _ ts m (unfolded-as heap entries child _ few opens) refl
 tail-other leaf heap entries child (opened.Node ix kinds.Cons) ts m few term opens nil list = cc
-tail-other leaf heap entries child (opened.Node ix kinds.Tuple) ts m few term opens nil list =
-    tail-as leaf _ _ ts m (unfolded-as heap entries child _ few opens.opens) refl
-tail-other leaf heap entries child (opened.Node ix kinds.Flat) ts m few term opens nil list =
-    tail-as leaf _ _ ts m (unfolded-as heap entries child _ few opens.opens) refl
-tail-other leaf heap entries child (opened.Node ix kinds.Hash) ts m few term opens nil list =
-    tail-as leaf _ _ ts m (unfolded-as heap entries child _ few opens.opens) refl
-tail-other leaf heap entries child (opened.Node ix kinds.Inner) ts m few term opens nil list =
-    tail-as leaf _ _ ts m (unfolded-as heap entries child _ few opens.opens) refl
-tail-other leaf heap entries child (opened.Node ix kinds.Pair) ts m few term opens nil list =
+tail-other leaf heap entries child o ts m few term opens nil list =
     tail-as leaf _ _ ts m (unfolded-as heap entries child _ few opens.opens) refl
 
 pub step-tail : (leaf : Value → List ℕ) (heap : List Cell) (e : Entry) (es : List Entry) (child : Child) (o : Opened) (n m : ℕ) → e.kind ≡ kinds.Cons → e.next ≡ suc n → HasChild heap e child
@@ -319,14 +298,8 @@ items-at : (leaf : Value → List ℕ) (heap : List Cell) (e : Entry) (es : List
     → resume leaf heap (e ∷ es) (At came m) ≡ ending leaf (is_item k) heap es (items_text leaf came (left_of heap e es) m)
 items-at leaf heap e es came m kinds.Hash is has = term-at leaf heap e es came m kinds.Hash is refl
 items-at leaf heap e es came m kinds.Inner is has = item-at leaf heap e es came m kinds.Inner is refl
-items-at leaf heap e es came m kinds.Cons is (inl h) = cc
-items-at leaf heap e es came m kinds.Cons is (inr h) = cc
-items-at leaf heap e es came m kinds.Tuple is (inl h) = cc
-items-at leaf heap e es came m kinds.Tuple is (inr h) = cc
-items-at leaf heap e es came m kinds.Flat is (inl h) = cc
-items-at leaf heap e es came m kinds.Flat is (inr h) = cc
-items-at leaf heap e es came m kinds.Pair is (inl h) = cc
-items-at leaf heap e es came m kinds.Pair is (inr h) = cc
+items-at leaf heap e es came m k is (inl h) = cc
+items-at leaf heap e es came m k is (inr h) = cc
 
 cut-ending : (leaf : Value → List ℕ) (b : Bool) (heap : List Cell) (es : List Entry) → cond b (resume leaf heap es Cut) (codes "}" ++ rest leaf heap es 0) ≡ ending leaf b heap es (listed [] Cut)
 cut-ending leaf true heap es = refl
@@ -360,12 +333,9 @@ pub list-bad : (leaf : Value → List ℕ) (heap : List Cell) (entries : List En
 list-bad leaf heap entries came child address why m few is = list-as leaf heap entries came child (Bad address why) m (unfolded-as heap entries child _ few is)
 
 entered-item : (leaf : Value → List ℕ) (k : NodeKind) (came : Bool) (ts : Trees) (m : ℕ) → is_item k ≡ true → item_text leaf came (Branch k ts) m ≡ item_rest leaf k came 0 ts m
-entered-item leaf kinds.Cons came ts m h = cc
-entered-item leaf kinds.Tuple came ts m h = cc
-entered-item leaf kinds.Flat came ts m h = cc
-entered-item leaf kinds.Hash came ts m h = cc
 entered-item leaf kinds.Inner came ts m h = refl
 entered-item leaf kinds.Pair came ts m h = sym (pair-first leaf came ts m)
+entered-item leaf k came ts m h = cc
 
 -- all but a bad one
 pub list-opened : (leaf : Value → List ℕ) (heap : List Cell) (c : Bool) (e : Entry) (es : List Entry) (child : Child) (o : Opened) (m : ℕ) → length (e ∷ es) ≤ length heap → is_item_child child ≡ true
@@ -403,13 +373,8 @@ pairs-term (k ∷ ks) (v ∷ vs) (suc zero) child h = let same : Term v ≡ chil
 pairs-term (k ∷ ks) (v ∷ vs) (suc (suc n)) child h = pairs-term ks vs n child h
 
 flat-term : (heap : List Cell) (es : List Element) (n : ℕ) (child : Child) → slice_get (flat_kids heap es) n ≡ Some child → is_item_child child ≡ false
-flat-term heap [] n child h = cc
 flat-term heap (Ref k ∷ es) n child h = pairs-term (found_elements (form_with heap k)) es n child h
-flat-term heap (Nil ∷ es) n child h = cc
-flat-term heap (Small integer ∷ es) n child h = cc
-flat-term heap (Atom bytes ∷ es) n child h = cc
-flat-term heap (Pid pid ∷ es) n child h = cc
-flat-term heap (Port port ∷ es) n child h = cc
+flat-term heap es n child h = cc
 
 child-as : (heap : List Cell) (e : Entry) (k : NodeKind) (child : Child) → e.kind ≡ k → HasChild heap e child → slice_get (kids_of heap k (number e.cell)) e.next ≡ Some child
 child-as heap e k child is has = ap (λ k. slice_get (kids_of heap k (number e.cell)) e.next) (sym is) ∙ has

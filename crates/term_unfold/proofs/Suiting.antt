@@ -1,7 +1,7 @@
 -- What a term unfolds to is a term, and what a child of a hash map unfolds to is an item.
 use Rattle.std.proofs.Common.{ℕ, zero, suc, ◌-◌, List, [], ◌∷◌, length, Option, None, Some, refl, true, false, cond}
-use Rattle.term_forms.specs.Elements.{Element, Nil, Small, Atom, Pid, Port, Ref}
-use Rattle.term_forms.specs.Forms.{HeapForm, Cons, Tuple, Float, Long, Pid as PidForm, Port as PortForm, Ext, HeapBin, RefBin, SubBin, Flat, Hash, Node}
+use Rattle.term_forms.specs.Elements.{Element, Ref}
+use Rattle.term_forms.specs.Forms.{HeapForm, Cons, Tuple, Flat, Hash}
 use Rattle.heap_cells.specs.Cells.{Cell}
 use Rattle.cell_records.specs.declared.cells.Why.{Why}
 use Rattle.cell_records.specs.declared.cells.Why.TheVariants.{OnPath}
@@ -35,50 +35,28 @@ keyed-suits below a vs (keys_at k ks) h = pairs-suit (below a) ks vs (h a)
 keyed-suits below a vs (bad_keys k why) h = tt
 
 off-suits : (below : ℕ → Child → Tree) (path : List ℕ) (e : Element) (off : Opening) → IsTerm (grown below off) → IsTerm (grown below (unless_on path e off))
-off-suits below path Nil off h = h
-off-suits below path (Small integer) off h = h
-off-suits below path (Atom bytes) off h = h
-off-suits below path (Pid pid) off h = h
-off-suits below path (Port port) off h = h
 off-suits below path (Ref a) off h = elim (is_on a path) as (λ b. IsTerm (grown below (cond b (bad a OnPath) off))) [ true ↦ tt | false ↦ h ]
+off-suits below path e off h = h
 
 off-suits_item : (below : ℕ → Child → Tree) (path : List ℕ) (e : Element) (off : Opening) → IsItem (grown below off) → IsItem (grown below (unless_on path e off))
-off-suits_item below path Nil off h = h
-off-suits_item below path (Small integer) off h = h
-off-suits_item below path (Atom bytes) off h = h
-off-suits_item below path (Pid pid) off h = h
-off-suits_item below path (Port port) off h = h
 off-suits_item below path (Ref a) off h = elim (is_on a path) as (λ b. IsItem (grown below (cond b (bad a OnPath) off))) [ true ↦ tt | false ↦ h ]
+off-suits_item below path e off h = h
 
 form-suits : (below : ℕ → Child → Tree) (heap : List Cell) (path : List ℕ) (a : ℕ) (form : Option HeapForm) → AllSuit below → IsTerm (grown below (form_opening heap path a form))
-form-suits below heap path a None h = tt
 form-suits below heap path a (Some (Cons head tail)) h = (refl, terms-suit (below a) (head ∷ tail ∷ []) (h a))
 form-suits below heap path a (Some (Tuple elements)) h = terms-suit (below a) elements (h a)
-form-suits below heap path a (Some (Flat keys [])) h = tt
 form-suits below heap path a (Some (Flat keys (v ∷ vs))) h =
     off-suits below (a ∷ path) keys (keyed a (v ∷ vs) (keys_of_map heap a keys (v ∷ vs))) (keyed-suits below a (v ∷ vs) (keys_of_map heap a keys (v ∷ vs)) h)
 form-suits below heap path a (Some (Hash size children)) h = items-suit (below a) a children (h a)
-form-suits below heap path a (Some (Node children)) h = tt
-form-suits below heap path a (Some (Float bytes)) h = tt
-form-suits below heap path a (Some (Long number)) h = tt
-form-suits below heap path a (Some (PidForm pid)) h = tt
-form-suits below heap path a (Some (PortForm port)) h = tt
-form-suits below heap path a (Some (Ext size chars)) h = tt
-form-suits below heap path a (Some (HeapBin size chars)) h = tt
-form-suits below heap path a (Some (RefBin address offset size)) h = tt
-form-suits below heap path a (Some (SubBin address offset size)) h = tt
+form-suits below heap path a form h = tt
 
 cell-suits : (below : ℕ → Child → Tree) (heap : List Cell) (path : List ℕ) (a : ℕ) (found : Option (Option HeapForm)) → AllSuit below → IsTerm (grown below (cell_opening heap path a found))
 cell-suits below heap path a None h = tt
 cell-suits below heap path a (Some form) h = form-suits below heap path a form h
 
 term-suits : (below : ℕ → Child → Tree) (heap : List Cell) (path : List ℕ) (e : Element) → AllSuit below → IsTerm (grown below (term_opening heap path e))
-term-suits below heap path Nil h = tt
-term-suits below heap path (Small integer) h = tt
-term-suits below heap path (Atom bytes) h = tt
-term-suits below heap path (Pid pid) h = tt
-term-suits below heap path (Port port) h = tt
 term-suits below heap path (Ref a) h = cell-suits below heap path a (form_with heap a) h
+term-suits below heap path e h = tt
 
 item-suits : (below : ℕ → Child → Tree) (member : Member) → AllSuit below → IsItem (grown below (item_opening member))
 item-suits below (pair_at a key value) h = (refl, terms-suit (below a) (key ∷ value ∷ []) (h a))

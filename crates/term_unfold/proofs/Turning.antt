@@ -8,12 +8,12 @@ use Rattle.term_unfold.specs.declared.node.NodeKind.{NodeKind}
 use Rattle.term_unfold.specs.declared.node.NodeKind.TheVariants as kinds
 use Rattle.term_unfold.specs.declared.path.Entry.{Entry}
 use Rattle.term_unfold.specs.Inner.Coming.{left_of}
-use Rattle.term_unfold.specs.Inner.Entries.{path_of, next_of, told, is_item, outside}
+use Rattle.term_unfold.specs.Inner.Entries.{path_of, next_of, is_item, outside}
 use Rattle.term_unfold.specs.Inner.Kids.{kids_of}
-use Rattle.term_unfold.specs.Inner.Rest.{closing, list_rest, is_value, flat_rest, term_rest, pair_rest, item_rest, run, run_items, resume, rest}
+use Rattle.term_unfold.specs.Inner.Rest.{is_value, flat_rest, term_rest, pair_rest, item_rest, run, run_items, resume, rest}
 use Rattle.term_unfold.specs.Rules.{Child}
-use Rattle.term_unfold.specs.Text.{Shown, shown, led, ◌then◌, Cut, At, listed, closed, comma, barred, tail_text, elements_text, items_text}
-use Rattle.term_unfold.specs.Trees.{Value, Tree, Leaf, Bad, Branch, Trees, none, more}
+use Rattle.term_unfold.specs.Text.{Shown, led, ◌then◌, Cut, At, closed, comma, barred, elements_text, items_text}
+use Rattle.term_unfold.specs.Trees.{Value, Tree, none, more}
 use Rattle.term_unfold.specs.Unfolding.{trees, unfolded}
 use Rattle.term_unfold.proofs.Visited.{drop-at_get, drop-past_get}
 
@@ -52,11 +52,6 @@ item-at leaf heap e es came m k is item =
     ap (λ x. cond (is_item x) (run_items (item_rest leaf x came e.next (left_of heap e es) m) (resume leaf heap es)) (run (term_rest leaf x came e.next (left_of heap e es) m) (rest leaf heap es))) is
     ∙ ap (λ b. cond b (run_items (item_rest leaf k came e.next (left_of heap e es) m) (resume leaf heap es)) (run (term_rest leaf k came e.next (left_of heap e es) m) (rest leaf heap es))) item
 
--- what the innermost was told is where it stands
-pub rest-told : (leaf : Value → List ℕ) (heap : List Cell) (es : List Entry) (came : Bool) (m : ℕ) → rest leaf heap (told came es) m ≡ resume leaf heap es (At came m)
-rest-told leaf heap [] came m = refl
-rest-told leaf heap (e ∷ es) came m = refl
-
 -- a cut is closed by the map, and the count is 0
 cut-at : (leaf : Value → List ℕ) (b : Bool) (heap : List Cell) (es : List Entry) → resume leaf heap es Cut ≡ codes "}" ++ rest leaf heap (outside es) 0
     → cond b (resume leaf heap es Cut) (codes "}" ++ rest leaf heap es 0) ≡ codes "}" ++ rest leaf heap (cond b (outside es) es) 0
@@ -75,58 +70,7 @@ outside-term e es k is term = ap (λ x. cond (is_item x) (outside es) es) is ∙
 
 -- no child is left
 
-list-none : (leaf : Value → List ℕ) (came : Bool) (next m : ℕ) → list_rest leaf came next none m ≡ shown (closing came) m
-list-none leaf came zero m = refl
-list-none leaf came (suc next) m = refl
-
-flat-none : (leaf : Value → List ℕ) (b came : Bool) (m : ℕ) → flat_rest leaf b came none m ≡ shown (codes "}") m
-flat-none leaf true came m = refl
-flat-none leaf false came m = refl
-
-pair-none : (leaf : Value → List ℕ) (came : Bool) (next m : ℕ) → pair_rest leaf came next none m ≡ listed [] (At true m)
-pair-none leaf came zero m = refl
-pair-none leaf came (suc next) m = refl
-
-pub close-cons : (leaf : Value → List ℕ) (heap : List Cell) (e : Entry) (es : List Entry) (m : ℕ) → e.kind ≡ kinds.Cons → left_of heap e es ≡ none
-    → rest leaf heap (e ∷ es) m ≡ closing e.came ++ rest leaf heap es m
-close-cons leaf heap e es m is left =
-    term-at leaf heap e es e.came m kinds.Cons is refl ∙ ap (λ t. run (list_rest leaf e.came e.next t m) (rest leaf heap es)) left
-    ∙ ap (λ s. run s (rest leaf heap es)) (list-none leaf e.came e.next m)
-
-pub close-tuple : (leaf : Value → List ℕ) (heap : List Cell) (e : Entry) (es : List Entry) (m : ℕ) → e.kind ≡ kinds.Tuple → left_of heap e es ≡ none
-    → rest leaf heap (e ∷ es) m ≡ codes "}" ++ rest leaf heap es m
-close-tuple leaf heap e es m is left =
-    term-at leaf heap e es e.came m kinds.Tuple is refl ∙ ap (λ t. run (elements_text leaf e.came t m) (rest leaf heap es)) left
-
-pub close-flat : (leaf : Value → List ℕ) (heap : List Cell) (e : Entry) (es : List Entry) (m : ℕ) → e.kind ≡ kinds.Flat → left_of heap e es ≡ none
-    → rest leaf heap (e ∷ es) m ≡ codes "}" ++ rest leaf heap es m
-close-flat leaf heap e es m is left =
-    term-at leaf heap e es e.came m kinds.Flat is refl ∙ ap (λ t. run (flat_rest leaf (is_value e.next) e.came t m) (rest leaf heap es)) left
-    ∙ ap (λ s. run s (rest leaf heap es)) (flat-none leaf (is_value e.next) e.came m)
-
-pub close-hash : (leaf : Value → List ℕ) (heap : List Cell) (e : Entry) (es : List Entry) (m : ℕ) → e.kind ≡ kinds.Hash → left_of heap e es ≡ none
-    → rest leaf heap (e ∷ es) m ≡ codes "}" ++ rest leaf heap es m
-close-hash leaf heap e es m is left =
-    term-at leaf heap e es e.came m kinds.Hash is refl ∙ ap (λ t. run (closed (items_text leaf e.came t m)) (rest leaf heap es)) left
-
-pub close-inner : (leaf : Value → List ℕ) (heap : List Cell) (e : Entry) (es : List Entry) (m : ℕ) → e.kind ≡ kinds.Inner → left_of heap e es ≡ none
-    → rest leaf heap (e ∷ es) m ≡ rest leaf heap (told e.came es) m
-close-inner leaf heap e es m is left =
-    item-at leaf heap e es e.came m kinds.Inner is refl ∙ ap (λ t. run_items (items_text leaf e.came t m) (resume leaf heap es)) left ∙ sym (rest-told leaf heap es e.came m)
-
-pub close-pair : (leaf : Value → List ℕ) (heap : List Cell) (e : Entry) (es : List Entry) (m : ℕ) → e.kind ≡ kinds.Pair → left_of heap e es ≡ none
-    → rest leaf heap (e ∷ es) m ≡ rest leaf heap (told true es) m
-close-pair leaf heap e es m is left =
-    item-at leaf heap e es e.came m kinds.Pair is refl ∙ ap (λ t. run_items (pair_rest leaf e.came e.next t m) (resume leaf heap es)) left
-    ∙ ap (λ l. run_items l (resume leaf heap es)) (pair-none leaf e.came e.next m) ∙ sym (rest-told leaf heap es true m)
-
 -- a child is left that isn't visited
-
-tail-cut : (leaf : Value → List ℕ) (t : Tree) (ts : Trees) → tail_text leaf (more t ts) 0 ≡ shown (codes "|...]") 0
-tail-cut leaf (Leaf value) ts = refl
-tail-cut leaf (Bad address why) ts = refl
-tail-cut leaf (Branch kinds.Cons children) ts = refl
-tail-cut leaf (Branch k children) ts = refl
 
 -- a cut behind a front, down to the map
 cut-down : (leaf : Value → List ℕ) (heap : List Cell) (entries : List Entry) (front : List ℕ) → (front ++ codes "...") ++ resume leaf heap entries Cut ≡ (front ++ codes "...}") ++ rest leaf heap (outside entries) 0
@@ -139,19 +83,6 @@ HasChild heap e child = slice_get (kids_of heap e.kind (number e.cell)) e.next �
 
 abbrev tree_of : List Cell → Entry → List Entry → Child → Tree
 tree_of heap e es child = unfolded heap (path_of heap (next_of true e ∷ es)) child
-
-pub cut-head : (leaf : Value → List ℕ) (heap : List Cell) (e : Entry) (es : List Entry) (child : Child) → e.kind ≡ kinds.Cons → e.next ≡ 0 → HasChild heap e child
-    → rest leaf heap (e ∷ es) 0 ≡ codes "...]" ++ rest leaf heap es 0
-cut-head leaf heap e es child is at has =
-    term-at leaf heap e es e.came 0 kinds.Cons is refl ∙ ap (λ t. run (list_rest leaf e.came e.next t 0) (rest leaf heap es)) (left-more heap true e es child has)
-    ∙ ap (λ n. run (list_rest leaf e.came n (more (tree_of heap e es child) (left_of heap (next_of true e) es)) 0) (rest leaf heap es)) at
-
-pub cut-tail : (leaf : Value → List ℕ) (heap : List Cell) (e : Entry) (es : List Entry) (child : Child) (n : ℕ) → e.kind ≡ kinds.Cons → e.next ≡ suc n → HasChild heap e child
-    → rest leaf heap (e ∷ es) 0 ≡ codes "|...]" ++ rest leaf heap es 0
-cut-tail leaf heap e es child n is at has =
-    term-at leaf heap e es e.came 0 kinds.Cons is refl ∙ ap (λ t. run (list_rest leaf e.came e.next t 0) (rest leaf heap es)) (left-more heap true e es child has)
-    ∙ ap (λ n. run (list_rest leaf e.came n (more (tree_of heap e es child) (left_of heap (next_of true e) es)) 0) (rest leaf heap es)) at
-    ∙ ap (λ s. run s (rest leaf heap es)) (tail-cut leaf (tree_of heap e es child) (left_of heap (next_of true e) es))
 
 pub cut-tuple : (leaf : Value → List ℕ) (heap : List Cell) (e : Entry) (es : List Entry) (child : Child) → e.kind ≡ kinds.Tuple → HasChild heap e child
     → rest leaf heap (e ∷ es) 0 ≡ (comma e.came ++ codes "...}") ++ rest leaf heap es 0

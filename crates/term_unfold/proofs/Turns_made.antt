@@ -17,16 +17,12 @@ use Rattle.term_unfold.proofs.Turning.{HasChild}
 use Rattle.term_unfold.proofs.Stepping.{show-opened, step-items, list-bad, list-opened, items-child}
 
 pub leaf-within : (heap : List Cell) (path : List ℕ) (child : Child) (o : Opened) → IsOpened heap path child o → LeafWithin heap o
-leaf-within heap path child opened.Immediate is = tt
 leaf-within heap path child (opened.Leaf ix) is = is.cell
-leaf-within heap path child (opened.Bad address why) is = tt
-leaf-within heap path child (opened.Node ix kind) is = tt
+leaf-within heap path child o is = tt
 
 entered-more : (o : Opened) (b : Bool) (entries : List Entry) → length (entered_by o b entries) ≤ length entries + 1
 entered-more opened.Immediate b entries = omega arith
-entered-more (opened.Leaf ix) b entries = omega arith
-entered-more (opened.Bad address why) b entries = omega arith
-entered-more (opened.Node ix kind) b entries = omega arith
+entered-more o b entries = omega arith
 
 stepped-length : (came : Bool) (entries : List Entry) → length (stepped came entries) ≡ length entries
 stepped-length came [] = refl

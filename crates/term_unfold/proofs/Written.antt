@@ -1,10 +1,9 @@
 -- Steps of a text that is written.
-use Rattle.std.proofs.Common.{◌≡◌, ℕ, ◌+◌, ◌*◌, ◌<◌, List, [], ◌++◌, length, Result, Ok, Err, refl, sym, ◌∙◌, ap, subst, append_assoc, append-nil}
+use Rattle.std.proofs.Common.{◌≡◌, ℕ, List, [], ◌++◌, Result, Ok, Err, refl, sym, ◌∙◌, ap, subst, append_assoc, append-nil}
 use Rattle.std.specs.Prelude.{IsErr}
 use Rattle.dump_io.specs.Sinks.{SinkState, GainedFront, Puts}
 use Rattle.dump_io.specs.Laws.Puts.{HasPut-both, HasPut-done, HasPut-whole, Puts-as, Puts-behind, Puts-stopped}
-use Rattle.term_unfold.specs.declared.path.Entry.{Entry}
-use Rattle.term_unfold.specs.Inner.Steps.{IsPart, Steps, Falls, counted_of}
+use Rattle.term_unfold.specs.Inner.Steps.{IsPart, Steps, counted_of}
 
 -- a text that is written alone
 pub Steps-text : {E : Type 0} {a b : SinkState} (whole bytes : List ℕ) (k : ℕ → List ℕ) (m : ℕ) (written : Result (Unit {0}) E) (r : Result ℕ E)
@@ -22,11 +21,6 @@ Steps-text {E} {a = a} {b = b} whole bytes k m (Err e) r is puts splits =
       writes = subst (GainedFront a b) (sym splits) broken.writes.front;
       failed = puts.failed;
     })
-
-pub Falls-counted : {E : Type 0} (before after : List Entry) (left m : ℕ) (written : Result (Unit {0}) E) (r : Result ℕ E) → r ≡ counted_of written m → 2 * m + length after < 2 * left + length before
-    → Falls before after left r
-Falls-counted before after left m (Ok x) r is falls = subst (Falls before after left) (sym is) falls
-Falls-counted before after left m (Err e) r is falls = subst (Falls before after left) (sym is) tt
 
 -- a part behind a part
 pub IsPart-next : {a b c : SinkState} (whole later last : List ℕ) → IsPart a b whole later → IsPart b c later last → IsPart a c whole last

@@ -92,7 +92,6 @@ impl<'h> Walker<'h> {
             (show (leaf_text self.old.heap.enc self.old.heap.cells self.old.previews) (unfolding_of self.old.heap.cells (element root.entry)) budget) result }
         ensures same { self.new ≡ self.old }
     {
-        let _shown = marked;
         let result = print_all(
             self.heap,
             self.previews,

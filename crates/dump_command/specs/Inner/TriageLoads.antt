@@ -1,13 +1,15 @@
 -- From what the report of `triage` is written.
-use Rattle.std.specs.Prelude.{◌≡◌, ℕ, ◌<◌, List, length, All, Some, IfSome}
-use Rattle.dump_io.specs.Dumps.{Now, told}
+use Rattle.std.specs.Prelude.{◌≡◌, ℕ, ◌<◌, List, length, All, Some, Result, IfErr, IfOk, IfSome}
+use Rattle.dump_io.specs.Dumps.{DeviceState, Now, ReadsAtMost, told}
 use Rattle.dump_sections.specs.Index.{Contents, sections_in}
+use Rattle.dump_sections.specs.declared.bodies.BodyFault.{BodyFault}
+use Rattle.section_rows.specs.Loading.{bodies_length, IsUnread}
 use Rattle.process_table.specs.Processes.{process_table, IsIn}
 use Rattle.process_table.specs.Records.{proc_places}
 use Rattle.table_sections.specs.declared.kinds.TableKind.TheVariants.{Ets}
 use Rattle.table_sections.specs.Tables.{table_of, AreListed, IsOver}
 use Rattle.heap_cells.specs.Loading.{section_in, IsBodyIn}
-use Rattle.dump_command.specs.Report.{memory_section}
+use Rattle.dump_command.specs.Report.{memory_section, triage_sections}
 use Rattle.dump_command.specs.Triage.{Told, triage_over}
 use Rattle.dump_command.specs.declared.commands.triage.Places.{Places}
 use Rattle.dump_command.specs.declared.commands.triage.Loaded.{Loaded}
@@ -39,3 +41,10 @@ pub record HoldsBodies (index : Contents) (now : Now) (loaded : Loaded) : Type 0
 pub record Fits (index : Contents) (loaded : Loaded) : Type 0 where
   pub sections : All (IsIn index) loaded.procs.processes
   pub tables : IsOver Ets index loaded.tables
+
+-- the bodies, none of which is too large, were read, or not
+pub record ReadsBodies (index : Contents) (before after : DeviceState) (loaded : Result Loaded BodyFault) : Type 0 where
+  pub reads : ReadsAtMost before after (bodies_length (triage_sections (sections_in index)))
+  pub bodies : IfOk loaded (HoldsBodies index before.now)
+  pub fits : IfOk loaded (Fits index)
+  pub fault : IfErr loaded (IsUnread before after)

@@ -1,11 +1,10 @@
 // `triage`: what to read first of a dump.
-ghost use Rattle.std.specs.Prelude.{◌≡◌, ◌≤◌, length, None, IfOk, IfErr};
-ghost use Rattle.dump_io.specs.Dumps.{ReadsAtMost};
+ghost use Rattle.std.specs.Prelude.{◌≡◌, ◌≤◌, length, None, IfOk};
 ghost use Rattle.dump_sections.specs.Index.{sections_in, IsBuiltOver};
-ghost use Rattle.section_rows.specs.Loading.{bodies_length, large_fault, IsUnread};
+ghost use Rattle.section_rows.specs.Loading.{large_fault};
 ghost use Rattle.command_words.specs.Command.{triage};
 ghost use Rattle.dump_command.specs.Report.{triage_sections};
-ghost use Rattle.dump_command.specs.Inner.TriageLoads.{triage_text, AreFound, Fits, HoldsBodies};
+ghost use Rattle.dump_command.specs.Inner.TriageLoads.{triage_text, AreFound, Fits, ReadsBodies};
 
 use crate::commands::subjects::{Body, large_body, read_found};
 use crate::open::Opened;
@@ -79,10 +78,7 @@ fn read_bodies<D: Dumps>(
     requires some { 1 ≤ length at.now.index.now.headers }
     requires places { AreFound at.now.index.now places }
     requires small { large_fault at.now.limits.now.section (triage_sections (sections_in at.now.index.now)) ≡ None }
-    ensures reads { ReadsAtMost (D.state dumps.old) (D.state dumps.new) (bodies_length (triage_sections (sections_in at.now.index.now))) }
-    ensures bodies { IfOk result (HoldsBodies at.now.index.now (D.state dumps.old).now) }
-    ensures fits { IfOk result (Fits at.now.index.now) }
-    ensures fault { IfErr result (IsUnread (D.state dumps.old) (D.state dumps.new)) }
+    ensures { ReadsBodies at.now.index.now (D.state dumps.old) (D.state dumps.new) result }
 {
     let first = read_found(at, dumps, Some(0))?;
     let memory = read_found(at, dumps, places.memory)?;

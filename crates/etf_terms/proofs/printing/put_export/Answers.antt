@@ -17,12 +17,7 @@ returns-in_err-put_atom-2 g c =
     Puts-then c.in_ok-write_all.ensures.puts (Puts-then c.in_ok-put_atom.ensures (Puts-then c.in_ok-write_all-2.ensures.puts
     (Puts-stopped _ c.from_residual-in_err-put_atom-2.ensures.0 c.in_err-put_atom-2.ensures)))
 
-pub returns-in_err-write_all-3 : goal.returns-in_err-write_all-3
-returns-in_err-write_all-3 g c =
-    Puts-then c.in_ok-write_all.ensures.puts (Puts-then c.in_ok-put_atom.ensures (Puts-then c.in_ok-write_all-2.ensures.puts
-    (Puts-then c.in_ok-put_atom-2.ensures (Puts-stopped _ c.from_residual-in_err-write_all-3.ensures.0 c.in_err-write_all-3.ensures.puts))))
-
 pub returns : goal.returns
 returns g c =
     Puts-then c.in_ok-write_all.ensures.puts (Puts-then c.in_ok-put_atom.ensures (Puts-then c.in_ok-write_all-2.ensures.puts
-    (Puts-then c.in_ok-put_atom-2.ensures (Puts-then c.in_ok-write_all-3.ensures.puts c.put_dec.ensures))))
+    (Puts-then c.in_ok-put_atom-2.ensures c.put_led.ensures)))

@@ -1,6 +1,7 @@
 use Rattle.std.proofs.Common.{◌≡◌, [], drop, map, Some, sym, ◌∙◌, subst, arith}
 use Rattle.std.specs.Prelude.{All}
 use Rattle.std.proofs.lemmas.List.{drop_all, length-map, take_all}
+use Rattle.std.proofs.lemmas.List.Elements.{All-more}
 use Rattle.std.proofs.lemmas.Result.{on_ok_weaker}
 use Rattle.serde.specs.Event.{Logs, seq_begins}
 use Rattle.serde_json.specs.Events.{SendsItems}
@@ -8,7 +9,6 @@ use Rattle.serde_json.specs.View.{items_of}
 use Rattle.json_report.specs.Trees.{finding_object}
 use Rattle.json_report.specs.Laws.{Has64Bits}
 use Rattle.json_report.proofs.Counts.{SendsItems-more, items_len-items_of}
-use Rattle.json_report.proofs.Lists.{All-more}
 use Rattle.json_report.proofs.sending.send_findings.Goals as goal
 
 pub loop-finding-preserved : goal.loop-finding-preserved

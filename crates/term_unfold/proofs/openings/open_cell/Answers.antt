@@ -1,95 +1,68 @@
 use Rattle.std.proofs.Common.{Some, refl, sym, ◌∙◌, ap}
-use Rattle.heap_cells.specs.HeapMap.{form_at}
 use Rattle.heap_cells.specs.Targets.{number}
 use Rattle.cell_records.specs.declared.cells.Why.TheVariants.{Malformed}
 use Rattle.map_nodes.specs.Laws.Targets.{address-is}
-use Rattle.map_nodes.specs.Rules.{address_of}
-use Rattle.term_unfold.specs.Inner.Entries.{path_of}
 use Rattle.term_unfold.specs.Rules.{bad}
-use Rattle.term_unfold.proofs.Opens.{term-off, form-is, form-none, form-list, form-tuple, form-hash, form-node, form-leaf}
+use Rattle.term_unfold.proofs.Opens.{term-at, form-none, form-list, form-tuple, form-hash, form-node, form-leaf}
 use Rattle.term_unfold.proofs.openings.open_cell.Goals as goal
 
 pub returns-in_default : goal.returns-in_default
 returns-in_default c =
     let heap = c.args.heap.now.cells in
-    let entries = c.args.path.now.entries in
-    let path = path_of heap entries in
     let n = number c.args.ix in
-    let a = address_of heap n in
-    let form = form_at heap n in
-    let off = term-off heap path a n (sym c.is_open.ensures.on ∙ c.if-is_open.false) (form-is heap n c.requires.serves.bounded.distinct c.requires.cell) in
+    let off = term-at heap _ n (sym c.is_open.ensures.on ∙ c.if-is_open.false) c.requires.serves.bounded.distinct c.requires.cell in
     record {
-      found_is = off ∙ form-none heap path a form (sym c.kind.ensures ∙ c.in_default.is) ∙ ap (λ x. bad x Malformed) (address-is heap n c.addr-in_default.result c.addr-in_default.ensures);
+      found_is = off ∙ form-none _ _ _ _ (sym c.kind.ensures ∙ c.in_default.is) ∙ ap (λ x. bad x Malformed) (address-is heap n c.addr-in_default.result c.addr-in_default.ensures);
       enters = tt;
     }
 
 pub returns-in-List : goal.returns-in-List
 returns-in-List c =
     let heap = c.args.heap.now.cells in
-    let entries = c.args.path.now.entries in
-    let path = path_of heap entries in
     let n = number c.args.ix in
-    let a = address_of heap n in
-    let form = form_at heap n in
-    let off = term-off heap path a n (sym c.is_open.ensures.on ∙ c.if-is_open.false) (form-is heap n c.requires.serves.bounded.distinct c.requires.cell) in
+    let off = term-at heap _ n (sym c.is_open.ensures.on ∙ c.if-is_open.false) c.requires.serves.bounded.distinct c.requires.cell in
     record {
-      found_is = record { cell = c.requires.cell; fits = refl; opens = off ∙ form-list heap path a form (sym c.kind.ensures ∙ c.in-Some.is ∙ ap Some c.in-List.is) };
+      found_is = record { cell = c.requires.cell; fits = refl; opens = off ∙ form-list _ _ _ _ (sym c.kind.ensures ∙ c.in-Some.is ∙ ap Some c.in-List.is) };
       enters = c.is_open.ensures.line c.if-is_open.false;
     }
 
 pub returns-in-Tuple : goal.returns-in-Tuple
 returns-in-Tuple c =
     let heap = c.args.heap.now.cells in
-    let entries = c.args.path.now.entries in
-    let path = path_of heap entries in
     let n = number c.args.ix in
-    let a = address_of heap n in
-    let form = form_at heap n in
-    let off = term-off heap path a n (sym c.is_open.ensures.on ∙ c.if-is_open.false) (form-is heap n c.requires.serves.bounded.distinct c.requires.cell) in
+    let off = term-at heap _ n (sym c.is_open.ensures.on ∙ c.if-is_open.false) c.requires.serves.bounded.distinct c.requires.cell in
     record {
-      found_is = record { cell = c.requires.cell; fits = refl; opens = off ∙ form-tuple heap path a form (sym c.kind.ensures ∙ c.in-Some.is ∙ ap Some c.in-Tuple.is) };
+      found_is = record { cell = c.requires.cell; fits = refl; opens = off ∙ form-tuple _ _ _ _ (sym c.kind.ensures ∙ c.in-Some.is ∙ ap Some c.in-Tuple.is) };
       enters = c.is_open.ensures.line c.if-is_open.false;
     }
 
 pub returns-in-Hash : goal.returns-in-Hash
 returns-in-Hash c =
     let heap = c.args.heap.now.cells in
-    let entries = c.args.path.now.entries in
-    let path = path_of heap entries in
     let n = number c.args.ix in
-    let a = address_of heap n in
-    let form = form_at heap n in
-    let off = term-off heap path a n (sym c.is_open.ensures.on ∙ c.if-is_open.false) (form-is heap n c.requires.serves.bounded.distinct c.requires.cell) in
+    let off = term-at heap _ n (sym c.is_open.ensures.on ∙ c.if-is_open.false) c.requires.serves.bounded.distinct c.requires.cell in
     record {
-      found_is = record { cell = c.requires.cell; fits = refl; opens = off ∙ form-hash heap path a form (sym c.kind.ensures ∙ c.in-Some.is ∙ ap Some c.in-Hash.is) };
+      found_is = record { cell = c.requires.cell; fits = refl; opens = off ∙ form-hash _ _ _ _ (sym c.kind.ensures ∙ c.in-Some.is ∙ ap Some c.in-Hash.is) };
       enters = c.is_open.ensures.line c.if-is_open.false;
     }
 
 pub returns-in-Node : goal.returns-in-Node
 returns-in-Node c =
     let heap = c.args.heap.now.cells in
-    let entries = c.args.path.now.entries in
-    let path = path_of heap entries in
     let n = number c.args.ix in
-    let a = address_of heap n in
-    let form = form_at heap n in
-    let off = term-off heap path a n (sym c.is_open.ensures.on ∙ c.if-is_open.false) (form-is heap n c.requires.serves.bounded.distinct c.requires.cell) in
+    let off = term-at heap _ n (sym c.is_open.ensures.on ∙ c.if-is_open.false) c.requires.serves.bounded.distinct c.requires.cell in
     record {
-      found_is = off ∙ form-node heap path a form (sym c.kind.ensures ∙ c.in-Some.is ∙ ap Some c.in-Node.is) ∙ ap (λ x. bad x Malformed) (address-is heap n c.addr-in-Node.result c.addr-in-Node.ensures);
+      found_is = off ∙ form-node _ _ _ _ (sym c.kind.ensures ∙ c.in-Some.is ∙ ap Some c.in-Node.is) ∙ ap (λ x. bad x Malformed) (address-is heap n c.addr-in-Node.result c.addr-in-Node.ensures);
       enters = tt;
     }
 
 pub returns-in_default-kind : goal.returns-in_default-kind
 returns-in_default-kind c =
     let heap = c.args.heap.now.cells in
-    let entries = c.args.path.now.entries in
-    let path = path_of heap entries in
     let n = number c.args.ix in
-    let a = address_of heap n in
-    let form = form_at heap n in
-    let off = term-off heap path a n (sym c.is_open.ensures.on ∙ c.if-is_open.false) (form-is heap n c.requires.serves.bounded.distinct c.requires.cell) in
+    let off = term-at heap _ n (sym c.is_open.ensures.on ∙ c.if-is_open.false) c.requires.serves.bounded.distinct c.requires.cell in
     let none = c.in_default-kind in
-    let leaf = form-leaf heap path a c.in-Some.kind form (sym c.kind.ensures ∙ c.in-Some.is) none.not-List none.not-Tuple none.not-Flat none.not-Hash none.not-Node in
+    let leaf = form-leaf heap _ _ c.in-Some.kind _ (sym c.kind.ensures ∙ c.in-Some.is) none.not-List none.not-Tuple none.not-Flat none.not-Hash none.not-Node in
     record {
       found_is = record { cell = c.requires.cell; form = leaf.leaf_form; form_is = leaf.form_is; opens = off ∙ leaf.opens };
       enters = tt;
