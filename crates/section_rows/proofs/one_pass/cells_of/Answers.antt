@@ -21,8 +21,8 @@ loop-line-init c = (
   subst (All (IsPart c.args.body.now)) (sym c.into_iter-line-iterator.ensures.into_iter_gives) c.lines-line-items.ensures.parts,
 )
 
-pub returns-then-not-take_line-clause-cells : goal.returns-then-not-take_line-clause-cells
-returns-then-not-take_line-clause-cells c =
+pub returns-then-not-take_line : goal.returns-then-not-take_line
+returns-then-not-take_line c =
     let s = shown_section c.args.section.now in
     let body = c.args.body.now in
     let columns = c.args.columns.now in
@@ -31,22 +31,11 @@ returns-then-not-take_line-clause-cells c =
     (subst (λ left. AreSettled s body columns left c.loop-line.cells.items) c.in-Some.ensures.steps c.loop-line.invariant.2) in
     let after = c.take_line.new.cells in
     let back = take_at after (drop (length after) c.loop-line.cells.items) c.loop-line.cells.len (omega (arith, before.count, c.take_line.ensures.count, c.deref_mut.ensures.len)) in
-    ap (map shown_cell) back
-    ∙ cells-over s body columns after rest (c.take_line.ensures.over c.if-not-take_line.true) (c.take_line.ensures.settles body rest before)
-
-pub returns-then-not-take_line-clause-room : goal.returns-then-not-take_line-clause-room
-returns-then-not-take_line-clause-room c =
-    let s = shown_section c.args.section.now in
-    let body = c.args.body.now in
-    let columns = c.args.columns.now in
-    let rest = c.next.new.self in
-    let before = subst (AreSettled s body columns (shown_line c.in-Some.line ∷ rest)) (sym c.deref_mut.ensures.value)
-    (subst (λ left. AreSettled s body columns left c.loop-line.cells.items) c.in-Some.ensures.steps c.loop-line.invariant.2) in
-    let after = c.take_line.new.cells in
-    let back = take_at after (drop (length after) c.loop-line.cells.items) c.loop-line.cells.len (omega (arith, before.count, c.take_line.ensures.count, c.deref_mut.ensures.len)) in
-    subst (All (λ (cell : Option Kept). HasRoom s.at (shown_cell cell)))
-    (sym back)
-    (cells-room s body columns after rest (c.take_line.ensures.settles body rest before))
+    let left = c.take_line.ensures.settles body rest before in
+    record {
+      cells = ap (map shown_cell) back ∙ cells-over s body columns after rest (c.take_line.ensures.over c.if-not-take_line.true) left;
+      room = subst (All (λ (cell : Option Kept). HasRoom s.at (shown_cell cell))) (sym back) (cells-room s body columns after rest left);
+    }
 
 pub loop-line-preserved : goal.loop-line-preserved
 loop-line-preserved c =
