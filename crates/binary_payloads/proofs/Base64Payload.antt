@@ -17,6 +17,7 @@ use Rattle.base64.proofs.Decoding.{length-groups_bytes}
 use Rattle.base64.specs.Engines.{standard}
 use Rattle.binary_payloads.specs.declared.enc.Enc.TheVariants.{Base64}
 use Rattle.binary_payloads.specs.Payload.{IsPayload, IsPayloadOf, base64_of}
+use Rattle.binary_payloads.proofs.HexDigits.{ok-same}
 
 or_error_parts : (x : Option DecodeError) (r : Result ℕ DecodeSliceError) (n : ℕ) → or_error x r ≡ Ok n → (x ≡ None) × (r ≡ Ok n)
 or_error_parts None r n h = (refl, h)
@@ -33,9 +34,6 @@ or_else_parts (Some e) b h = cc h
 outcome_parts : (x : Option DecodeError) (d b : List ℕ) → decode_outcome x d ≡ Ok b → (x ≡ None) × (d ≡ b)
 outcome_parts None d b h = (refl, cc h)
 outcome_parts (Some e) d b h = cc h
-
-pub same_count : (m n : ℕ) → (let r : Result ℕ DecodeSliceError = Ok m in r) ≡ Ok n → m ≡ n
-same_count m n h = cc h
 
 abbrev lone_of : GeneralPurpose → List ℕ → Option DecodeError
 lone_of e s = lone_error e.decode_table e.padding.value s
@@ -64,7 +62,7 @@ slice_ok e s room n h =
     let third = or_error_parts (rest_of e s) (size_answer e s room) n second.1 in
     let fourth = choice_parts (nat_lt room (length (decoded_bytes_of e s))) (Ok (length (decoded_bytes_of e s))) n third.1 in
     let errors : or_else (lone_of e s) (rest_of e s) ≡ None = rw first.0 third.0 in
-    (ap (λ x. decode_outcome x (decoded_bytes_of e s)) errors, same_count (length (decoded_bytes_of e s)) n fourth.1)
+    (ap (λ x. decode_outcome x (decoded_bytes_of e s)) errors, ok-same (length (decoded_bytes_of e s)) n fourth.1)
 
 -- `decode_slice` into room for all bytes answers their number
 slice_room : (e : GeneralPurpose) (s b : List ℕ) (room : ℕ) → decode_of e s ≡ Ok b → length b ≤ room → decode_slice_of e s room ≡ Ok (length b)

@@ -1,13 +1,10 @@
 -- The laws of encodings.
-use Rattle.std.proofs.Common.{◌≡◌, ℕ, ◌+◌, ◌*◌, ◌/◌, ◌%◌, ◌≤◌, true, List, [], ◌∷◌, ◌++◌, length, take, drop, replicate, refl, sym, ap, ◌∙◌, subst, Ok, length-append, zero, suc, arith}
-use Rattle.std.specs.Prelude.{Result}
+use Rattle.std.proofs.Common.{◌≡◌, ℕ, ◌+◌, ◌*◌, ◌/◌, ◌%◌, ◌≤◌, true, List, [], ◌∷◌, ◌++◌, length, take, drop, replicate, refl, sym, ap, ◌∙◌, subst, length-append, zero, suc, arith}
 use Rattle.std.specs.Char.{to_ascii_uppercase}
 use Rattle.std.proofs.lemmas.List.{length-map, length-replicate, take-append-drop, length-take-le, take_at, drop_at, take-map, drop-map, map-append, get_or-drop}
 use Rattle.base64.proofs.EngineFacts.{front_bytes}
 use Rattle.hex.specs.Hex.{encode_with, upper_digits, decode_of as decode_hex}
 use Rattle.hex.proofs.HexLemmas.{length-encode_with, decode_of-encode_upper}
-use Rattle.hex.specs.declared.error.FromHexError.{FromHexError}
-use Rattle.base64.specs.declared.decode.DecodeError.{DecodeError}
 use Rattle.base64.specs.declared.engine.general_purpose.GeneralPurpose.{GeneralPurpose}
 use Rattle.base64.specs.Rfc4648.{encode_symbols, padding_len}
 use Rattle.base64.specs.Engines.{standard}
@@ -17,6 +14,7 @@ use Rattle.base64.proofs.RoundTrip.{length-encode_symbols}
 use Rattle.binary_payloads.specs.declared.enc.Enc.{Enc}
 use Rattle.binary_payloads.specs.declared.enc.Enc.TheVariants.{Hex, Base64}
 use Rattle.binary_payloads.specs.Payload.{IsPayload, encoding, in_one_case, chars_of, group_of, base64_of}
+use Rattle.binary_payloads.proofs.HexDigits.{ok-same}
 
 hex-append : (t a b : List ℕ) → encode_with t (a ++ b) ≡ encode_with t a ++ encode_with t b
 unfolding encode_with
@@ -54,15 +52,9 @@ length-in_one_case Base64 chars = refl
 pub length-payload : (enc : Enc) (chars bytes : List ℕ) → IsPayload enc chars bytes → length chars ≡ chars_of enc (length bytes)
 length-payload enc chars bytes is = sym (length-in_one_case enc chars) ∙ ap length is.written ∙ length-encoding enc bytes
 
-hex-same : (x y : List ℕ) → (let r : Result (List ℕ) FromHexError = Ok x in r) ≡ Ok y → x ≡ y
-hex-same x y h = cc h
-
-base64-same : (x y : List ℕ) → (let r : Result (List ℕ) DecodeError = Ok x in r) ≡ Ok y → x ≡ y
-base64-same x y h = cc h
-
 engine-unique : (e : GeneralPurpose) (a b : List ℕ) → IsConsistent e → IsBytes a → IsBytes b → encode_of e a ≡ encode_of e b → a ≡ b
 engine-unique e a b consistent ba bb h =
-    base64-same a b (sym (decode_of-encode_of e a consistent ba) ∙ ap (λ x. decode_of e x) h ∙ decode_of-encode_of e b consistent bb)
+    ok-same a b (sym (decode_of-encode_of e a consistent ba) ∙ ap (λ x. decode_of e x) h ∙ decode_of-encode_of e b consistent bb)
 
 base64-unique : (a b : List ℕ) → IsBytes a → IsBytes b → base64_of a ≡ base64_of b → a ≡ b
 unfolding base64_of
@@ -71,7 +63,7 @@ base64-unique a b ba bb h = engine-unique standard a b refl ba bb h
 -- an encoding is that of one list of bytes
 pub encoding-unique : (enc : Enc) (a b : List ℕ) → IsBytes a → IsBytes b → encoding enc a ≡ encoding enc b → a ≡ b
 encoding-unique Hex a b ba bb h =
-    hex-same a b (sym (decode_of-encode_upper a ba) ∙ ap decode_hex h ∙ decode_of-encode_upper b bb)
+    ok-same a b (sym (decode_of-encode_upper a ba) ∙ ap decode_hex h ∙ decode_of-encode_upper b bb)
 encoding-unique Base64 a b ba bb h = base64-unique a b ba bb h
 
 pub payload-unique : (enc : Enc) (chars a b : List ℕ) → IsPayload enc chars a → IsPayload enc chars b → a ≡ b

@@ -48,7 +48,8 @@ both_given : {A B : Type 0} (r : Result A FromHexError) (f : A → Result B From
 both_given (Ok x) f y h = (x, refl, h)
 both_given (Err e) f y h = cc h
 
-ok-same : {A : Type 0} (x y : A) → (let r : Result A FromHexError = Ok x in r) ≡ Ok y → x ≡ y
+-- a result that is given twice is one
+pub ok-same : {A E : Type 0} (x y : A) → (let r : Result A E = Ok x in r) ≡ Ok y → x ≡ y
 ok-same x y h = cc h
 
 -- pairs of digits that read as bytes are, in upper case, the digits of these

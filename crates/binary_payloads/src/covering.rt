@@ -96,14 +96,6 @@ fn part(text: &[u8], from: usize, count: usize) -> &[u8]
     &text[from..][..count]
 }
 
-// No slice has 2^63 bytes.
-fn byte_count(text: &[u8]) -> usize
-    ensures count { result ≡ length text.now }
-    ensures few { result < 2 ^ 63 }
-{
-    text.len()
-}
-
 // Whether the characters of the cover can be decoded; if so, `into` holds the bytes of the cover.
 fn read_cover(chars: &[u8], enc: Enc, cover: &Cover, into: &mut [u8]) -> bool
     requires within { cover.now.first + cover.now.chars ≤ length chars.now }
@@ -129,7 +121,6 @@ pub fn payload_part(chars: &[u8], enc: Enc, size: u64, from: u64, into: &mut [u8
     // The same, by the function with which definitions compute.
     ensures exact { option_map (λ bytes. take (length into.old) (drop from bytes)) (payload_bytes enc chars.now) ≡ Some into.new }
 {
-    let _few = byte_count(chars);
     let cover = range_cover(enc, size, from, into.len() as u32);
     let mut buffer = [0; 36];
     let read = &mut buffer[..cover.bytes as usize];

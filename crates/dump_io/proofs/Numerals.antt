@@ -3,7 +3,7 @@ use Rattle.std.proofs.Common.{◌≡◌, ℕ, ◌+◌, ◌*◌, ◌^◌, ◌<◌
 use Rattle.std.specs.List.{list_all}
 use Rattle.std.specs.Char.{digit_value}
 use Rattle.std.specs.Str.Parse.{digits_value}
-use Rattle.std.proofs.lemmas.Bool.{and_parts, and_from, ltb-true, lt-ltb, le-leb, false≢true}
+use Rattle.std.proofs.lemmas.Bool.{and_parts, and_from, ltb-true, lt-ltb, le-leb, false≢true, true_from_ne_false}
 use Rattle.std.proofs.lemmas.List.Folds.{list_all_at}
 use Rattle.std.proofs.lemmas.Int.Digits.{digits_value_more}
 use Rattle.std.proofs.lemmas.Str.Parse.{digits_value-take-le}
@@ -17,10 +17,6 @@ refuted : (b : Bool) (v : ℕ) → (b ≡ true → ⊥) → (if b then Some v el
 refuted true v h = absurd (h refl)
 refuted false v h = refl
 
-decided : (b : Bool) → (b ≡ false → ⊥) → b ≡ true
-decided true h = refl
-decided false h = absurd (h refl)
-
 -- a digit that can't be added leaves no number
 pub number_of-stopped : (base most : ℕ) (text : List ℕ) (i : ℕ) → 1 ≤ base → i < length text
     → ((digit_value (get_or text i 0) < base) × (digits_value base (take i text) * base + digit_value (get_or text i 0) < 2 ^ 64) → ⊥)
@@ -30,7 +26,7 @@ number_of-stopped base most text i some inside stopped =
     let parts = and_parts _ _ is in
     let digits = (and_parts _ _ parts.0).1 in
     let digit : digit_value (get_or text i 0) < base =
-    ltb-true _ _ (decided _ (λ no. false≢true (sym (list_all_at (is_digit_of base) text i 0 inside no) ∙ digits))) in
+    ltb-true _ _ (true_from_ne_false _ (λ no. false≢true (sym (list_all_at (is_digit_of base) text i 0 inside no) ∙ digits))) in
     let small : digits_value base text < 2 ^ 64 = ltb-true _ _ parts.1 in
     let more = digits_value_more base text i inside in
     let front = digits_value-take-le base text (i + 1) some in

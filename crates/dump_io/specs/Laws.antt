@@ -1,4 +1,6 @@
 -- Laws of the definitions, each with its proof, for the proofs of callers.
+pub mod Colons
 pub mod Lines
+pub mod Lists
 pub mod Puts
 pub mod Reads

@@ -3,7 +3,7 @@ use Rattle.std.proofs.Common.{◌≡◌, ℕ, zero, suc, ◌+◌, ◌<◌, ◌�
 use Rattle.std.specs.Str.{bytes_eq}
 use Rattle.std.specs.Prelude.{All, Option, option_map}
 use Rattle.std.specs.Map.{update}
-use Rattle.std.proofs.lemmas.Bool.{false≢true}
+use Rattle.std.proofs.lemmas.Bool.{false≢true, false_from_ne_true}
 use Rattle.std.proofs.lemmas.List.{take_more, length-map, map-append}
 use Rattle.std.proofs.lemmas.List.Sums.{count_by-le-length, sum_by-cons, sum_by_push}
 use Rattle.std.proofs.lemmas.Option.{get_or_from_slice_get, slice_get_within, slice_get-map, same_Some, none-some}
@@ -12,6 +12,7 @@ use Rattle.std.proofs.lemmas.List.Elements.{All-nil, All-cons, All-filter, All-m
 use Rattle.dump_sections.specs.declared.tags.TagCount.{TagCount}
 use Rattle.dump_sections.specs.Tags.{distinct, tag_counts}
 use Rattle.dump_sections.specs.Inner.Counting.{counts_of, one_more, place_in, AreApart}
+use Rattle.dump_io.specs.Laws.Lists.{All-at}
 
 bytes_eq-refl : (x : List ℕ) → bytes_eq x x ≡ true
 bytes_eq-refl x = (bytes_eq-Decides x x).1 refl
@@ -19,12 +20,8 @@ bytes_eq-refl x = (bytes_eq-Decides x x).1 refl
 bytes_eq-same : (x y : List ℕ) → bytes_eq x y ≡ true → x ≡ y
 bytes_eq-same x y e = (bytes_eq-Decides x y).0 e
 
-decided : (b : Bool) → (b ≡ true → ⊥) → b ≡ false
-decided true h = absurd (h refl)
-decided false h = refl
-
 bytes_eq-swap : (x y : List ℕ) → bytes_eq x y ≡ false → bytes_eq y x ≡ false
-bytes_eq-swap x y e = decided (bytes_eq y x) (λ same. false≢true (sym e ∙ ap (bytes_eq x) (bytes_eq-same y x same) ∙ bytes_eq-refl x))
+bytes_eq-swap x y e = false_from_ne_true (bytes_eq y x) (λ same. false≢true (sym e ∙ ap (bytes_eq x) (bytes_eq-same y x same) ∙ bytes_eq-refl x))
 
 -- the counts of other tags
 abbrev others : List ℕ → List (List ℕ × ℕ) → List (List ℕ × ℕ)
@@ -126,9 +123,6 @@ tag_counts-more tags i tag at =
     ap tag_counts (take_more tags i tag (slice_get_within tags i tag at) ∙ ap (λ t. take i tags ++ t ∷ []) (get_or_from_slice_get tags i tag tag at))
     ∙ tag_counts-push (take i tags) tag
 
-All-found : {X : Type 0} (P : X → Type 0) (xs : List X) (i : ℕ) (x : X) → All P xs → slice_get xs i ≡ Some x → P x
-All-found P xs i x all is = subst P (get_or_from_slice_get xs i x x is) (all i x (slice_get_within xs i x is))
-
 -- a tag that is counted, or isn't yet
 pub one_more-new : (tag : List ℕ) (pairs : List (List ℕ × ℕ)) → place_in tag pairs ≡ None → one_more tag pairs ≡ pairs ++ (tag, 1) ∷ []
 one_more-new tag [] new = refl
@@ -169,7 +163,7 @@ place-apart tag [] n pair apart is same = cc
 place-apart tag (first ∷ pairs) zero pair apart is same =
     let here : first ≡ pair = cc in place-first tag first pairs (ap (λ (p : List ℕ × ℕ). bytes_eq tag p.0) here ∙ same)
 place-apart tag (first ∷ pairs) (suc n) pair apart is same =
-    let other : bytes_eq first.0 pair.0 ≡ false = All-found (λ (o : List ℕ × ℕ). bytes_eq first.0 o.0 ≡ false) pairs n pair apart.0 is in
+    let other : bytes_eq first.0 pair.0 ≡ false = All-at (λ (o : List ℕ × ℕ). bytes_eq first.0 o.0 ≡ false) pairs n pair apart.0 is in
     let differs : bytes_eq tag first.0 ≡ false =
     ap (λ t. bytes_eq t first.0) (bytes_eq-same tag pair.0 same) ∙ bytes_eq-swap first.0 pair.0 other in
     place-later tag first pairs differs ∙ ap (option_map (λ k. k + 1)) (place-apart tag pairs n pair apart.1 is same) ∙ ap Some (omega arith)
@@ -203,11 +197,6 @@ one_more-set tag (first ∷ counts) n d is = by (bytes_eq tag first.tag.items) r
             let same : m + 1 ≡ suc k = same_Some (m + 1) (suc k) (sym (ap (option_map (λ k. k + 1)) f) ∙ is) in
             let here : m ≡ k = omega (arith, same) in
             ap (λ l. pair ∷ l) (rest k d (f ∙ ap Some here)) ∙ sym (ap (λ b. if b then (pair.0, pair.1 + 1) ∷ counts_of counts else pair ∷ one_more tag (counts_of counts)) e)
-
--- places after one more of a tag: they stay where it was there, and a new tag has the last one
-place-map : (o : Option ℕ) (b : Bool) (k : ℕ) → (if b then Some (k + 1) else option_map (λ n. n + 1) o) ≡ option_map (λ n. n + 1) (if b then Some k else o)
-place-map o true k = refl
-place-map o false k = refl
 
 pub place-push : (other tag : List ℕ) (pairs : List (List ℕ × ℕ)) → place_in tag pairs ≡ None
     → place_in other (pairs ++ (tag, 1) ∷ []) ≡ update bytes_eq (λ t. place_in t pairs) tag (Some (length pairs)) other
@@ -306,7 +295,7 @@ tag_counts-few tags = few (distinct tags)
 pub count-few : (counts : List TagCount) (n most : ℕ) (count : TagCount) → All (λ (c : List ℕ × ℕ). c.1 + 1 < most) (counts_of counts) → slice_get counts n ≡ Some count
     → count.count + 1 < most
 count-few counts n most count few is =
-    All-found (λ (c : List ℕ × ℕ). c.1 + 1 < most) (counts_of counts) n (count.tag.items, count.count) few
+    All-at (λ (c : List ℕ × ℕ). c.1 + 1 < most) (counts_of counts) n (count.tag.items, count.count) few
     (slice_get-map (λ (c : TagCount). (c.tag.items, c.count)) counts n ∙ ap (option_map (λ (c : TagCount). (c.tag.items, c.count))) is)
 
 pub length-counts : (counts : List TagCount) → length (counts_of counts) ≡ length counts

@@ -1,16 +1,12 @@
 -- Headers that are kept with their texts in one pool.
-use Rattle.std.proofs.Common.{◌≡◌, ℕ, zero, suc, ◌-◌, ◌<◌, ◌≤◌, List, [], ◌∷◌, ◌++◌, length, take, drop, get_or, slice_get, Some, refl, sym, ◌∙◌, ap, arith, length-append}
+use Rattle.std.proofs.Common.{◌≡◌, ℕ, zero, suc, ◌-◌, ◌<◌, ◌≤◌, List, [], ◌∷◌, ◌++◌, length, take, get_or, slice_get, Some, refl, sym, ◌∙◌, ap, arith, length-append}
 use Rattle.std.specs.List.{between}
-use Rattle.std.proofs.lemmas.List.{drop-append-le, take-append-le, drop_at, take_all, map-append, length-drop}
+use Rattle.std.proofs.lemmas.List.{drop_at, take_all, map-append}
 use Rattle.std.proofs.lemmas.Option.{slice_get-map, slice_get-get_or}
 use Rattle.dump_io.specs.Lines.{Header}
+use Rattle.dump_io.specs.Laws.Lists.{between-grown}
 use Rattle.dump_sections.specs.declared.headers.Head.{Head}
 use Rattle.dump_sections.specs.Inner.Headers.{header_in, headers_in, AreWithin}
-
-between-grown : (pool text : List ℕ) (from upto : ℕ) → from ≤ upto → upto ≤ length pool → between from upto (pool ++ text) ≡ between from upto pool
-between-grown pool text from upto ordered within =
-    ap (take (upto - from)) (drop-append-le from pool text (omega arith))
-    ∙ take-append-le (upto - from) (drop from pool) text (omega (arith, length-drop from pool))
 
 pub headers_in-grown : (pool text : List ℕ) (heads : List Head) → AreWithin (length pool) heads → headers_in (pool ++ text) heads ≡ headers_in pool heads
 headers_in-grown pool text [] within = refl

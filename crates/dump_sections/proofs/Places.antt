@@ -1,6 +1,5 @@
 -- The section at a place.
-use Rattle.std.proofs.Common.{◌≡◌, ℕ, zero, suc, ◌+◌, ◌-◌, List, [], ◌∷◌, length, slice_get, Some, sym, ◌∙◌, ap, Bool, codes, if◌then◌else◌, All, subst, arith}
-use Rattle.std.proofs.lemmas.Option.{get_or_from_slice_get, slice_get_within}
+use Rattle.std.proofs.Common.{◌≡◌, ℕ, zero, suc, ◌+◌, ◌-◌, List, [], ◌∷◌, length, slice_get, Some, sym, ◌∙◌, ap, Bool, codes, if◌then◌else◌, arith}
 use Rattle.dump_io.specs.Lines.{Header}
 use Rattle.dump_sections.specs.Sections.{section, sections_of, next_at, end_at, tag_of}
 use Rattle.dump_sections.specs.Index.{last_text, state_of}
@@ -33,7 +32,3 @@ state_of-last headers i header tag b last is same whole =
     let test : bytes_eq (tag_of (last_text headers)) (codes "end") ≡ b =
     ap (λ text. bytes_eq (tag_of text) (codes "end")) (last_text-at headers i header last is) ∙ ap (λ t. bytes_eq t (codes "end")) (sym same) ∙ sym whole in
     ap (λ w. if w then Whole else TruncatedIn (length headers - 1)) test ∙ ap (λ n. if b then Whole else TruncatedIn n) place
-
--- what holds of each element holds of the one at a place
-pub All-at : {X : Type 0} (P : X → Type 0) (xs : List X) (i : ℕ) (x : X) → All P xs → slice_get xs i ≡ Some x → P x
-All-at P xs i x all is = subst P (get_or_from_slice_get xs i x x is) (all i x (slice_get_within xs i x is))

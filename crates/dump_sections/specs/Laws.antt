@@ -12,6 +12,7 @@ use Rattle.dump_sections.specs.Sections.{Section, id_of, sections_of}
 use Rattle.dump_sections.specs.declared.version.Version.{Version}
 use Rattle.dump_sections.specs.declared.version.Version.TheVariants.{V05}
 
+-- what an index holds
 abbrev contents : List Header → ℕ → Version → Contents
 contents headers size version = record { headers = headers; size = size; version = version }
 
@@ -57,10 +58,11 @@ some-named : (b : Bool) (o : Option (List ℕ)) (here id : List ℕ) → (if b t
 some-named true o here id is = ap (λ o. option_eq bytes_eq o (Some id)) is
 some-named false o here id is = absurd (let no : ⊥ = cc (is) in no)
 
-or-none : {X : Type 0} (o : Option X) → option_or o None ≡ o
-or-none None = refl
-or-none (Some x) = refl
+pub option_or-none : {X : Type 0} (o : Option X) → option_or o None ≡ o
+option_or-none None = refl
+option_or-none (Some x) = refl
 
+-- the place of the first section with a tag and an id
 abbrev first_named : List ℕ → List Section → List ℕ → Option ℕ
 first_named tag sections id = position (λ section. is_named tag (Some id) section.text) sections
 
@@ -74,7 +76,7 @@ pub first-passed : (tag : List ℕ) (before : List Section) (s : Section) (id : 
 first-passed tag before s id none =
     first-last tag before s id
     ∙ ap (λ b. option_or (first_named tag before id) (if b then Some (length before) else None)) (none-named (has_tag tag s.text) (id_of s.text) id none)
-    ∙ or-none (first_named tag before id)
+    ∙ option_or-none (first_named tag before id)
 
 -- with both, it is the first with its id, unless one before it is
 pub first-more : (tag : List ℕ) (before : List Section) (s : Section) (here id : List ℕ) → (if has_tag tag s.text then id_of s.text else None) ≡ Some here

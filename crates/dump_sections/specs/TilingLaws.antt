@@ -10,6 +10,7 @@ use Rattle.dump_sections.specs.Versions.{signature}
 use Rattle.dump_sections.specs.Sections.{sections_of, sections}
 use Rattle.dump_sections.specs.Tiling.{Tile}
 
+-- a raw line, and how many bytes stand before it
 abbrev pub line_at : ℕ → List ℕ → Line
 line_at at raw = record { at = at; raw = raw }
 

@@ -1,6 +1,7 @@
 // Reading the body of a section.
 ghost use Rattle.std.specs.Prelude.{◌≡◌, ◌+◌, ◌<◌, ◌≤◌, ◌⊎◌, length, IfOk, OnOk, IfErr, IsErrOf};
 ghost use Rattle.dump_io.specs.Dumps.{IsOpen, size_of, Gives, DeviceFailed, ReadsAtMost};
+ghost use Rattle.dump_io.specs.Limits.{usual};
 ghost use Rattle.dump_sections.specs.Bodies.{section_at, body_length, IsBodyOf, IsCauseOf};
 ghost use Rattle.dump_sections.specs.Index.{IsBuiltOver};
 
@@ -65,6 +66,7 @@ pub fn read_body<D: Dumps>(
     ensures reads { ReadsAtMost (D.state dumps.old) (D.state dumps.new) (body_length (section_at index.now i)) }
     ensures body { IfOk result (λ body. IsBodyOf (D.state dumps.old).now (section_at index.now i) body.items) }
     ensures length { IfOk result (λ body. length body.items ≡ body_length (section_at index.now i)) }
+    ensures small { IfOk result (λ body. length body.items ≤ usual.section) }
     ensures loaded { OnOk result (body_length (section_at index.now i) ≤ limits.now.section) }
     ensures fault { IfErr result (IsCauseOf (section_at index.now i) limits.now.section (D.state dumps.old) (D.state dumps.new)) }
 

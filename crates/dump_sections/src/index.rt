@@ -156,6 +156,7 @@ impl Index {
         ensures short { result.body ≤ result.at + usual.header + 1 }
         ensures ends { result.body ≤ result.end }
         ensures within { result.end ≤ self.now.size }
+        ensures small { result.end ≤ usual.dump }
     {
         let header = self.headers.header(i);
         let end = end_of(&self.headers, i, self.size);
@@ -179,6 +180,7 @@ impl Index {
         ensures short { result.body ≤ result.at + usual.header + 1 }
         ensures ends { result.body ≤ result.end }
         ensures within { result.end ≤ self.now.size }
+        ensures small { result.end ≤ usual.dump }
     {
         let extent = self.extent(i);
         let (tag, id) = tag_and_id(extent.text);

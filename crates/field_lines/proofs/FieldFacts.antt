@@ -1,38 +1,14 @@
 -- A field by the place of its colon, and the place of a value.
-use Rattle.std.proofs.Common.{◌≡◌, ℕ, ◌+◌, ◌-◌, ◌<◌, ◌≤◌, ◌==◌, ◌&&◌, Bool, true, false, nat_lt, List, [], ◌∷◌, length, take, drop, Option, None, Some, if◌then◌else◌, refl, sym, ◌∙◌, ap, subst, length-drop, drop_of_length-le, ⊎_elim, true≢false, lt-ltb, eq-eqb, arith}
-use Rattle.std.specs.Prelude.{unwrap_or, find, cond, slice_index, slice_range}
+use Rattle.std.proofs.Common.{◌≡◌, ℕ, ◌+◌, ◌-◌, ◌≤◌, ◌==◌, true, false, List, [], ◌∷◌, length, take, drop, None, Some, if◌then◌else◌, refl, sym, ◌∙◌, ap, subst, length-drop, drop_of_length-le, ⊎_elim, arith}
+use Rattle.std.specs.Prelude.{unwrap_or, find, cond, slice_range}
 use Rattle.std.specs.List.{position_or_len}
-use Rattle.std.specs.Str.{bytes_eq}
-use Rattle.std.proofs.lemmas.Bool.{cases_lt, and_parts, and_from, eqb-true, false_from_ne_true}
-use Rattle.std.proofs.lemmas.List.{drop-drop, drop-take, length-take-le}
-use Rattle.std.proofs.lemmas.List.Elements.{All-from_get_or}
-use Rattle.std.proofs.lemmas.List.Folds.{list_any_none}
-use Rattle.std.proofs.lemmas.List.Sums.{fails_before_first, passes_at_first}
-use Rattle.std.proofs.lemmas.Slice.Eq.{bytes_eq-Decides}
+use Rattle.std.proofs.lemmas.Bool.{cases_lt}
+use Rattle.std.proofs.lemmas.List.{drop-drop, drop-take}
 use Rattle.std.proofs.Math.Seq.{drop-length}
-use Rattle.dump_io.specs.Colons.{colon, is_colon, has_colon}
-use Rattle.field_lines.specs.Fields.{Field, field_of, space, without_space, key_of, value_of, has_key, place_of}
+use Rattle.dump_io.specs.Colons.{is_colon}
+use Rattle.field_lines.specs.Fields.{space, without_space, value_of, has_key, place_of}
 use Rattle.field_lines.specs.Lines.{TextLine, IsPart}
 use Rattle.field_lines.specs.declared.shapes.FieldAt.{FieldAt}
-
--- the field of a text that has a colon, or that has none
-abbrev pub field_if : List ℕ → Bool → Option Field
-field_if text has = if has then Some (record { key = key_of text; value = value_of text }) else None
-
-pub field_of-parts : (text key value : List ℕ) → has_colon text ≡ true → key ≡ key_of text → value ≡ value_of text
-    → Some (record { key = key; value = value }) ≡ field_of text
-field_of-parts text key value has first rest =
-    ap (λ l. Some (record { key = l; value = value })) first
-    ∙ ap (λ l. Some (record { key = key_of text; value = l })) rest
-    ∙ sym (ap (field_if text) has)
-
--- the value of a field that was found
-pub field_of-value : (text : List ℕ) (field : Field) → Some field ≡ field_of text → field.value ≡ value_of text
-field_of-value text field =
-    elim (has_colon text) as (λ b. Some field ≡ (if b then Some (record { key = key_of text; value = value_of text }) else None) → field.value ≡ value_of text) [
-      | true ↦ λ e. ap (λ o. (unwrap_or o field).value) e
-      | false ↦ λ e. absurd (cc e)
-    ]
 
 -- ---- a value ends its text
 pub record IsEnd (text value : List ℕ) : Type 0 where
@@ -80,32 +56,6 @@ IsEnd-value text =
     (IsEnd-without_space (drop n text))
 
 -- ---- a field's first colon stands after its key
-first-inside : (text : List ℕ) → has_colon text ≡ true → position_or_len is_colon text < length text
-first-inside text has =
-    let n = position_or_len is_colon text in
-    ⊎_elim (λ l. l)
-    (λ past. absurd (true≢false (sym has ∙ list_any_none is_colon text
-    (All-from_get_or (λ c. is_colon c ≡ false) text 0 (λ i l. fails_before_first is_colon text i 0 (omega (arith, l, past)))))))
-    (cases_lt n (length text))
-
-colon-behind : (key : List ℕ) (line : TextLine) → has_key key line ≡ true → (length key < length line.text) × (slice_index line.text (length key) ≡ colon)
-colon-behind key line has =
-    let text = line.text in
-    let n = position_or_len is_colon text in
-    let parts = and_parts (has_colon text) (bytes_eq (key_of text) key) has in
-    let inside : n < length text = first-inside text parts.0 in
-    let same : key_of text ≡ key = (bytes_eq-Decides (key_of text) key).0 parts.1 in
-    let count : length key ≡ n = ap length (sym same) ∙ length-take-le n text (omega (arith, inside)) in
-    (omega (arith, count, inside), ap (slice_index text) count ∙ eqb-true _ _ (passes_at_first is_colon text 0 inside))
-
--- where no colon stands there, the line has another key
-pub no_colon-there : (key : List ℕ) (line : TextLine) → (nat_lt (length key) (length line.text) && (slice_index line.text (length key) == colon)) ≡ false
-    → has_key key line ≡ false
-no_colon-there key line none =
-    false_from_ne_true (has_key key line) (λ has.
-    let there = colon-behind key line has in
-    true≢false (sym (and_from _ _ (lt-ltb _ _ there.0) (eq-eqb _ _ there.1)) ∙ none))
-
 -- ---- the place of a value in its body
 pub place-found : (key : List ℕ) (line : TextLine) (field : FieldAt) → Some field ≡ (if has_key key line then Some (place_of line) else None)
     → (has_key key line ≡ true) × (field ≡ place_of line)

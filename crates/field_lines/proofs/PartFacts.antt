@@ -1,34 +1,13 @@
 -- The lines of a body are parts of it.
-use Rattle.std.proofs.Common.{◌≡◌, ℕ, suc, ◌+◌, ◌-◌, ◌≤◌, ◌==◌, true, false, List, [], ◌∷◌, ◌++◌, length, take, drop, if◌then◌else◌, refl, ◌∙◌, ap, subst, append_assoc, length-append, arith}
+use Rattle.std.proofs.Common.{◌≡◌, ℕ, ◌+◌, ◌-◌, ◌≤◌, true, false, List, [], ◌∷◌, ◌++◌, length, take, drop, if◌then◌else◌, ◌∙◌, ap, subst, append_assoc, length-append, arith}
 use Rattle.std.specs.Prelude.{All, map, nat_eq}
 use Rattle.std.specs.List.{concat, ends_with}
 use Rattle.std.proofs.lemmas.List.{length-take-le, take-append-le}
 use Rattle.std.proofs.lemmas.List.Elements.{All-nil, All-cons}
 use Rattle.std.proofs.Math.Seq.{take-length, drop-append_seam}
-use Rattle.dump_io.specs.Lines.{lf, cr, lines_after, raw_lines, text_of, lines_from}
+use Rattle.dump_io.specs.Lines.{lf, cr, raw_lines, text_of, lines_from}
 use Rattle.dump_io.specs.Laws.Lines.{AreLines-raw}
 use Rattle.field_lines.specs.Lines.{text_line, text_lines, IsPart}
-
--- ---- no more lines than bytes
-length-lines_after : (c : ℕ) (raws : List (List ℕ)) → length (lines_after c raws) ≤ suc (length raws)
-length-lines_after c [] = omega arith
-length-lines_after c (raw ∷ raws) = omega arith
-
-length-raw_lines : (bytes : List ℕ) → length (raw_lines bytes) ≤ length bytes
-length-raw_lines [] = omega arith
-length-raw_lines (c ∷ bytes) =
-    let rest = length-raw_lines bytes in
-    elim (c == lf) as (λ b. length (if b then (c ∷ []) ∷ raw_lines bytes else lines_after c (raw_lines bytes)) ≤ suc (length bytes)) [
-      | true ↦ omega (arith, rest)
-      | false ↦ omega (arith, rest, length-lines_after c (raw_lines bytes))
-    ]
-
-length-texts : (at : ℕ) (raws : List (List ℕ)) → length (map text_line (lines_from at raws)) ≡ length raws
-length-texts at [] = refl
-length-texts at (raw ∷ raws) = ap suc (length-texts (at + length raw) raws)
-
-pub length-text_lines : (body : List ℕ) → length (text_lines body) ≤ length body
-length-text_lines body = let e = length-texts 0 (raw_lines body) in let l = length-raw_lines body in omega (arith, e, l)
 
 -- ---- each line's text stands at its place
 -- a text is a front of its raw line

@@ -1,3 +1,4 @@
 pub mod Fields
+pub mod Laws
 pub mod Lines
 pub mod Shown

@@ -9,7 +9,7 @@ use Rattle.std.proofs.lemmas.Bool.{ltb-true}
 use Rattle.std.proofs.lemmas.List.{take_more}
 use Rattle.std.proofs.lemmas.Option.{get_or_from_slice_get, slice_get_within}
 use Rattle.std.proofs.lemmas.Slice.Eq.{bytes_eq-Decides}
-use Rattle.dump_sections.specs.Laws.{first-more, first-passed}
+use Rattle.dump_sections.specs.Laws.{first-more, first-passed, option_or-none}
 use Rattle.dump_sections.specs.Lookups.{is_named}
 use Rattle.dump_sections.specs.Sections.{Section}
 use Rattle.first_sections.specs.Inner.Places.{AreFirsts, Places, first_place, id_with, place_at}
@@ -24,10 +24,6 @@ within n size false is = tt
 
 position-within : {X : Type 0} (p : X → Bool) (xs : List X) → IfSome (position p xs) (λ i. i < length xs)
 position-within p xs = let n = position_or_len p xs in within n (length xs) (nat_lt n (length xs)) refl
-
-or-none : {X : Type 0} (o : Option X) → option_or o None ≡ o
-or-none None = refl
-or-none (Some x) = refl
 
 or-some : {X : Type 0} (o more : Option X) → is_some o ≡ true → option_or o more ≡ o
 or-some None more is = absurd (let no : ⊥ = cc (is) in no)
@@ -53,7 +49,7 @@ AreFirsts-repeated tag places before s here are is there id =
     by true e =
         let same : here ≡ id = (bytes_eq-Decides here id).0 e in
         or-some (first_place tag before id) (Some (length before)) (ap is_some (sym (are id) ∙ ap (place_at places) (sym same)) ∙ there)
-    by false e = or-none (first_place tag before id)
+    by false e = option_or-none (first_place tag before id)
 
 -- another is taken
 pub AreFirsts-new : (tag : List ℕ) (places after : Places) (before : List Section) (s : Section) (here : List ℕ) → AreFirsts tag before places
@@ -70,7 +66,7 @@ AreFirsts-new tag places after before s here are is none grown id =
         ap (λ b. if b then Some (length before) else place_at places id) e
         ∙ sym (ap (λ o. option_or o (if bytes_eq here id then Some (length before) else None)) gone ∙ ap (λ b. if b then Some (length before) else None) e)
     by false e =
-        ap (λ b. if b then Some (length before) else place_at places id) e ∙ are id ∙ sym (or-none (first_place tag before id))
+        ap (λ b. if b then Some (length before) else place_at places id) e ∙ are id ∙ sym (option_or-none (first_place tag before id))
         ∙ ap (λ b. option_or (first_place tag before id) (if b then Some (length before) else None)) (sym e)
 
 -- a place that is found is that of a section

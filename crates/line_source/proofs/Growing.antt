@@ -1,13 +1,13 @@
 -- What more bytes bring to a stream begins behind what the stream has.
-use Rattle.std.proofs.Common.{◌≡◌, ℕ, ◌+◌, ◌-◌, ◌<◌, ◌≤◌, Bool, true, false, List, [], ◌∷◌, ◌++◌, length, Some, suc, sym, ◌∙◌, ap, subst, length-append, arith, if◌then◌else◌, ◌==◌}
+use Rattle.std.proofs.Common.{◌≡◌, ℕ, ◌+◌, ◌-◌, ◌<◌, ◌≤◌, List, [], ◌∷◌, ◌++◌, length, Some, sym, ◌∙◌, ap, subst, length-append, arith}
 use Rattle.std.specs.Prelude.{All, slice_get}
 use Rattle.std.proofs.lemmas.List.Elements.{All-nil, All-cons, All-head, All-append, All-weaker}
 use Rattle.dump_io.specs.Lines.{Header}
 use Rattle.line_source.specs.Streams.{LastLine, ended, plain, header, last_line, ended_headers, open_headers, new_headers}
 use Rattle.line_source.specs.Feeding.{first_too_long}
 use Rattle.line_source.specs.Growth.{TooLongGrows}
-use Rattle.line_source.proofs.Walk.{step, long_at, last_by, heard_by, long_by, last_line-walk, ended_headers-walk, too_long-walk}
-use Rattle.line_source.proofs.Pieces.{last_line-append, too_long-append, held, held-step, held-by, held-line, Lies, heard_by-lies, long_by-from, new_headers-walk}
+use Rattle.line_source.proofs.Walk.{last_by, heard_by, long_by, last_line-walk, ended_headers-walk, too_long-walk}
+use Rattle.line_source.proofs.Pieces.{last_line-append, too_long-append, held, held-by, held-line, Lies, heard_by-lies, long_by-from, new_headers-walk, long_by-upto}
 use Rattle.line_source.proofs.LastLines.{open_by, open_headers-walk}
 
 pub TooLongGrows-all : (limit : ℕ) (s more : List ℕ) → TooLongGrows limit s more
@@ -27,29 +27,6 @@ TooLongGrows-all limit s more =
           (ended_headers s) lies;
     }
 
-long_at-upto-test : (q : Bool) (n m : ℕ) → n ≤ m → All (λ at. at ≤ m) (if q then n ∷ [] else [])
-long_at-upto-test true n m le = All-cons (λ at. at ≤ m) n [] le (All-nil (λ at. at ≤ m))
-long_at-upto-test false n m le = All-nil (λ at. at ≤ m)
-
-long_at-upto : (limit n m : ℕ) (l : LastLine) → n - held l ≤ m → All (λ at. at ≤ m) (long_at limit n l)
-long_at-upto limit n m ended le = All-nil (λ at. at ≤ m)
-long_at-upto limit n m plain le = All-nil (λ at. at ≤ m)
-long_at-upto limit n m (header t) le = long_at-upto-test (length t == limit + 1) (n - length t) m le
-
--- a line that is too long begins no later than the last line
-long_by-upto : (limit n : ℕ) (l : LastLine) (p : List ℕ) → held l ≤ n → All (λ at. at ≤ n + length p - held (last_by l p)) (long_by limit n l p)
-long_by-upto limit n l [] fits = All-nil (λ at. at ≤ n + 0 - held l)
-long_by-upto limit n l (b ∷ bs) fits =
-    let after = step l b in
-    let more : held after ≤ held l + 1 = held-step l b in
-    let last : held (last_by after bs) ≤ held after + length bs = held-by after bs in
-    let high = n + suc (length bs) - held (last_by after bs) in
-    let same : (at : ℕ) → at ≤ n + 1 + length bs - held (last_by after bs) → at ≤ high = λ at le. omega (arith, le) in
-    All-append (λ at. at ≤ high) (long_at limit (n + 1) after) (long_by limit (n + 1) after bs)
-    (long_at-upto limit (n + 1) high after (omega (arith, more, last, fits)))
-    (All-weaker (λ at. at ≤ n + 1 + length bs - held (last_by after bs)) (λ at. at ≤ high) same
-    (long_by limit (n + 1) after bs) (long_by-upto limit (n + 1) after bs (omega (arith, more, fits))))
-
 first-upto : (m at : ℕ) (ats : List ℕ) → All (λ at. at ≤ m) ats → slice_get ats 0 ≡ Some at → at ≤ m
 first-upto m at [] all is = cc
 first-upto m at (a ∷ ats) all is =
@@ -60,7 +37,7 @@ first-before-start : (limit at : ℕ) (s : List ℕ) → first_too_long limit s 
 first-before-start limit at s first =
     let same : held (last_line s) ≡ held (last_by ended s) = ap held (last_line-walk s) in
     let upto : at ≤ 0 + length s - held (last_by ended s) =
-    first-upto (0 + length s - held (last_by ended s)) at (long_by limit 0 ended s) (long_by-upto limit 0 ended s (omega arith))
+    first-upto (0 + length s - held (last_by ended s)) at (long_by limit 0 ended s) (long_by-upto limit 0 ended s)
     (ap (λ ats. slice_get ats 0) (sym (too_long-walk limit s)) ∙ first) in
     omega (arith, upto, same)
 

@@ -14,10 +14,9 @@ use Rattle.dump_sections.specs.Sections.{Section, id_of, sections, sections_of}
 use Rattle.section_rows.specs.Loading.{sections_at}
 use Rattle.section_rows.specs.Rows.{Row, rows_of, body_of}
 use Rattle.process_table.specs.declared.pids.PidPlace.{PidPlace}
-use Rattle.process_table.specs.Records.{Placed, ProcPlaces, placed, is_process, named_place, proc_places, pid_of, records, record_sections, repeated}
+use Rattle.process_table.specs.Records.{Placed, ProcPlaces, is_process, named_place, proc_places, pid_of, records, record_sections, repeated}
 use Rattle.process_table.specs.Processes.{Process, ProcessTable, process_in, process_table, IsIn, IsOver}
-use Rattle.process_table.specs.Inner.Finding.{named_places, AreFound, IsRecordOf, sections_of as places_in}
-use Rattle.process_table.specs.declared.finding.Found.{Found}
+use Rattle.process_table.specs.Inner.Finding.{named_places, IsRecordOf, sections_of as places_in}
 use Rattle.process_table.specs.Inner.Joined.{joined, all_joined, field_columns}
 use Rattle.process_table.proofs.Joining.{length-named, pids-all_joined}
 
@@ -101,14 +100,6 @@ All-named index (r ∷ rs) (row ∷ rows) all =
       named = subst (λ (s : Section). is_named (codes "proc") (Some (pid_of r.1)) s.text ≡ true) (sym own.section) (named_own r.1 own.process);
     })
     (All-named index rs rows (All-tail (IsRecordOf index) r rs all))
-
--- how many records and how many others were found
-pub count_of_records : (found : Found) (sections : List Section) → AreFound found (placed sections) → length found.places.items ≡ length (records sections)
-count_of_records found sections are =
-    sym (length-map found.places.items (λ (place : PidPlace). (place.pid.items, place.section))) ∙ ap length are.records ∙ length-map (records sections) named_place
-
-pub repeated_of : (found : Found) (sections : List Section) → AreFound found (placed sections) → found.repeated ≡ repeated sections
-repeated_of found sections are = omega (arith, are.all, count_of_records found sections are)
 
 -- the sections of an index over bytes that are told are those of the bytes
 pub sections_told : (now : Now) (index : Contents) (bytes : List ℕ) → IsBuiltOver now index → now ≡ told bytes → sections_in index ≡ sections bytes

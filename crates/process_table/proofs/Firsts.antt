@@ -1,11 +1,10 @@
 -- The first section of each process, where sections come one after another.
-use Rattle.std.proofs.Common.{◌≡◌, ℕ, zero, suc, ◌+◌, ◌≤◌, length, Bool, true, false, cond, not, ◌||◌, List, [], ◌∷◌, ◌++◌, take, filter, slice_get, Some, refl, sym, ◌∙◌, ap, arith, if◌then◌else◌}
+use Rattle.std.proofs.Common.{◌≡◌, ℕ, zero, suc, ◌+◌, Bool, true, false, cond, not, ◌||◌, List, [], ◌∷◌, ◌++◌, take, filter, slice_get, Some, refl, sym, ◌∙◌, ap, arith, if◌then◌else◌}
 use Rattle.std.specs.List.{list_any, enumerate_from}
 use Rattle.std.specs.Str.{bytes_eq}
 use Rattle.std.proofs.lemmas.Bool.{false≢true}
 use Rattle.std.proofs.lemmas.List.{append-nil, take_more}
 use Rattle.std.proofs.lemmas.List.Elements.{filter-append}
-use Rattle.std.proofs.lemmas.List.Sums.{length-filter, count_by-le-length}
 use Rattle.std.proofs.lemmas.Option.{get_or_from_slice_get, slice_get_within}
 use Rattle.std.proofs.lemmas.Slice.Eq.{bytes_eq-Decides}
 use Rattle.dump_sections.specs.Sections.{Section}
@@ -87,17 +86,6 @@ pub first_of_each-more : (sections : List Placed) (p : Placed)
     → first_of_each (sections ++ p ∷ []) ≡ (if is_among p (first_of_each sections) then first_of_each sections else first_of_each sections ++ p ∷ [])
 first_of_each-more [] p = refl
 first_of_each-more (first ∷ sections) p = ap (λ l. first ∷ others first l) (first_of_each-more sections p) ∙ step first p (first_of_each sections)
-
--- no more are first than there are
-pub first_of_each-few : (sections : List Placed) → length (first_of_each sections) ≤ length sections
-first_of_each-few [] = omega arith
-first_of_each-few (first ∷ sections) =
-    omega (
-      arith,
-      first_of_each-few sections,
-      length-filter (λ other. not (has_same_pid first other)) (first_of_each sections),
-      count_by-le-length (λ other. not (has_same_pid first other)) (first_of_each sections),
-    )
 
 -- the section at a place, with its place
 enumerated-at : (n : ℕ) (sections : List Section) (i : ℕ) (s : Section) → slice_get sections i ≡ Some s → slice_get (enumerate_from n sections) i ≡ Some (n + i, s)

@@ -1,7 +1,5 @@
 -- Processes joined of places and rows.
-use Rattle.std.proofs.Common.{◌≡◌, ℕ, zero, suc, ◌+◌, ◌<◌, List, [], ◌∷◌, length, map, slice_get, get_or, Option, Some, None, All, refl, sym, ◌∙◌, ap, subst, arith, inl, inr, unwrap_or, Bool, cond, not, position}
-use Rattle.std.specs.Prelude.{nat_lt}
-use Rattle.std.specs.List.{prefix_len, position_or_len}
+use Rattle.std.proofs.Common.{◌≡◌, ℕ, zero, suc, ◌<◌, List, [], ◌∷◌, length, map, slice_get, get_or, Option, Some, None, All, refl, sym, ◌∙◌, ap, subst, arith, inl, inr, unwrap_or, position}
 use Rattle.std.specs.Str.{bytes_eq}
 use Rattle.std.proofs.lemmas.List.{length-map, get_or_past}
 use Rattle.std.proofs.lemmas.Option.{unwrap_or-slice_get, slice_get_cases, slice_get-get_or}
@@ -11,6 +9,7 @@ use Rattle.process_table.specs.declared.pids.PidPlace.{PidPlace}
 use Rattle.process_table.specs.Processes.{Process, IsBounded, nobody, process_at}
 use Rattle.process_table.specs.Inner.Finding.{named_places, has_pid}
 use Rattle.process_table.specs.Inner.Joined.{joined, all_joined}
+use Rattle.dump_io.specs.Laws.Lists.{position-map}
 
 pub length-named : (places : List PidPlace) → length (named_places places) ≡ length places
 length-named places = length-map places (λ (place : PidPlace). (place.pid.items, place.section))
@@ -73,16 +72,6 @@ all_joined-bounded (entry ∷ entries) [] bounded = All-nil IsBounded
 all_joined-bounded (entry ∷ entries) (row ∷ rows) bounded =
     let inside : Row → Type 0 = λ (r : Row). All IsBoundedCell r.cells in
     All-cons IsBounded (joined entry row) (all_joined entries rows) (joined-bounded entry row (All-head inside row rows bounded)) (all_joined-bounded entries rows (All-tail inside row rows bounded))
-
-prefix_len-map : {X Y : Type 0} (test : Y → Bool) (f : X → Y) (xs : List X) → prefix_len test (map f xs) ≡ prefix_len (λ x. test (f x)) xs
-prefix_len-map test f [] = refl
-prefix_len-map test f (x ∷ xs) = ap (λ n. cond (test (f x)) (1 + n) 0) (prefix_len-map test f xs)
-
--- the first element whose image passes
-position-map : {X Y : Type 0} (test : Y → Bool) (f : X → Y) (xs : List X) → position test (map f xs) ≡ position (λ x. test (f x)) xs
-position-map test f xs =
-    ap (λ n. cond (nat_lt n (length (map f xs))) (Some n) None) (prefix_len-map (λ y. not (test y)) f xs)
-    ∙ ap (λ size. cond (nat_lt (position_or_len (λ x. test (f x)) xs) size) (Some (position_or_len (λ x. test (f x)) xs)) None) (length-map xs f)
 
 -- the place of a pid among the keys is that among the processes
 pub place_of_pid : (pid : List ℕ) (places : List PidPlace) (rows : List Row) → length rows ≡ length places

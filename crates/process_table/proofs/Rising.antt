@@ -20,8 +20,8 @@ use Rattle.std.proofs.lemmas.Slice.Eq.{bytes_eq-Decides}
 use Rattle.process_table.specs.declared.pids.PidOrder.TheVariants.{Rising}
 use Rattle.process_table.specs.declared.pids.PidPlace.{PidPlace}
 use Rattle.process_table.specs.Inner.Finding.{has_pid, is_behind, named_places, rising_cmp, AreFoundRising, AreOrdered, AreOwn, AreRising}
-use Rattle.process_table.proofs.Positions.{position-at, position-nowhere}
 use Rattle.process_table.proofs.Ranking.{same-text, position-holds, position-push-there}
+use Rattle.dump_io.specs.Laws.Lists.{position-at, position-none}
 
 -- how two places compare by their pids
 abbrev by_pid : PidPlace → PidPlace → Ordering
@@ -62,7 +62,7 @@ Greater-differs pid place more = other-differs pid place (λ equal. let clash : 
 -- each pid that rises is at its own place
 pub AreOwn-rising : (places : List PidPlace) → AreRising places → AreOwn places
 AreOwn-rising places rising number place at =
-    position-at (has_pid place.pid.items) places number place (λ k before. Less-differs place.pid.items (get_or places k place) (less k before)) at
+    position-at (has_pid place.pid.items) places place number place (λ k before. Less-differs place.pid.items (get_or places k place) (less k before)) at
     ((bytes_eq-Decides place.pid.items place.pid.items).1 refl)
   where
     less : (k : ℕ) → k < number → rising_cmp (get_or places k place).pid.items place.pid.items ≡ Less
@@ -149,7 +149,7 @@ pub rising-err : (places : List PidPlace) (pid : List ℕ) (r : Result ℕ ℕ) 
     → Searches places pid r → position (has_pid pid) places ≡ None
 rising-err places pid r at rising is result =
     let point = (subst (Searches places pid) is result) (searchable_from_sorted rising_total (λ (place : PidPlace). place.pid.items) places pid sorted) in
-    position-nowhere (has_pid pid) places (λ k d inside. sides point.0 point.1 k d inside (ltb k at) refl)
+    position-none (has_pid pid) places (λ k d inside. sides point.0 point.1 k d inside (ltb k at) refl)
   where
     sorted : IsSortedBy (λ (a : PidPlace) (b : PidPlace). is_lt (rising_cmp a.pid.items b.pid.items)) places
     sorted k d low inside =

@@ -9,6 +9,7 @@ use Rattle.std.specs.Prelude.{unwrap_or}
 use Rattle.std.specs.Option.{option_map, option_and_then, option_or}
 use Rattle.std.proofs.lemmas.List.Sums.{length-filter, count_by-le-length}
 use Rattle.field_lines.specs.Lines.{TextLine, text_lines}
+use Rattle.field_lines.specs.Laws.{length-text_lines}
 use Rattle.root_views.specs.Roots.{BodyRoot, has_text, root_lines, stack_root, dict_root, dist_roots, pair_roots, mail_line, message, token, behind_colon, Dist, Term, Unread}
 use Rattle.root_views.specs.declared.kinds.RootKind.{RootKind}
 use Rattle.root_views.specs.declared.kinds.RootKind.TheVariants.{Stack, Dict, Mail}
@@ -60,10 +61,11 @@ lines-few : (lines : List TextLine) → length (flat_map mail_line lines) ≤ 2 
 lines-few [] = omega arith
 lines-few (line ∷ lines) = omega (arith, length-append (mail_line line) (flat_map mail_line lines), line-few line, lines-few lines)
 
-pub roots-few : (kind : RootKind) (body : List ℕ) → length (text_lines body) ≤ length body → length (roots_in kind body) ≤ 2 * length body
-roots-few Stack body lines =
-    omega (arith, lines, length-map (root_lines body) stack_root, length-filter has_text (text_lines body), count_by-le-length has_text (text_lines body))
-roots-few Dict body lines =
-    omega (arith, lines, length-map (root_lines body) dict_root, length-filter has_text (text_lines body), count_by-le-length has_text (text_lines body))
-roots-few Mail body lines =
-    omega (arith, lines, lines-few (root_lines body), length-filter has_text (text_lines body), count_by-le-length has_text (text_lines body))
+-- a body has at most one line for each byte, and a line has at most two roots
+pub roots-few : (kind : RootKind) (body : List ℕ) → length (roots_in kind body) ≤ 2 * length body
+roots-few Stack body =
+    omega (arith, length-text_lines body, length-map (root_lines body) stack_root, length-filter has_text (text_lines body), count_by-le-length has_text (text_lines body))
+roots-few Dict body =
+    omega (arith, length-text_lines body, length-map (root_lines body) dict_root, length-filter has_text (text_lines body), count_by-le-length has_text (text_lines body))
+roots-few Mail body =
+    omega (arith, length-text_lines body, lines-few (root_lines body), length-filter has_text (text_lines body), count_by-le-length has_text (text_lines body))

@@ -10,7 +10,6 @@ use crate::dictionaries::{DictRoots, dict};
 use crate::mailboxes::{MailRoots, mail};
 use crate::roots::Root;
 use crate::stacks::{StackRoots, stack};
-use field_lines::reading::lines;
 use std::marker::Model;
 
 /// Which roots of a process a body holds.
@@ -22,13 +21,6 @@ pub enum RootKind {
     Dict,
     /// Those of its mailbox, in a `proc_messages` section.
     Mail,
-}
-
-// A body has at most one line for each byte, and a line has at most two roots.
-fn few_roots(kind: RootKind, body: &[u8])
-    ensures { length (roots_in kind body.now) ≤ 2 * length body.now }
-{
-    let _lines = lines(body);
 }
 
 impl RootKind {
@@ -49,7 +41,6 @@ impl RootKind {
         ensures inside { All (IsInside body.now) result }
         ensures few { length result ≤ 2 * length body.now }
     {
-        few_roots(self, body);
         let coming = match self {
             RootKind::Stack => Coming::Stack(stack(body)),
             RootKind::Dict => Coming::Dict(dict(body)),

@@ -51,15 +51,6 @@ cells_in-at base texts (first ∷ places) (suc c) place is =
 slice_get-at : (places : List (Option Place)) (c : ℕ) (place : Option Place) → c < length places → get_or places c None ≡ place → slice_get places c ≡ Some place
 slice_get-at places c place inside is = slice_get-get_or places c None inside ∙ ap Some is
 
--- the texts before it and its own are among those of all cells
-pub text_len-at : (places : List (Option Place)) (c : ℕ) (place : Option Place) → slice_get places c ≡ Some place → text_len (take c places) + place_len place ≤ text_len places
-text_len-at [] c place is = cc
-text_len-at (first ∷ places) zero place is =
-    let same : first ≡ place = cc in
-    omega (arith, sum_by-cons place_len first places, ap place_len same)
-text_len-at (first ∷ places) (suc c) place is =
-    omega (arith, text_len-at places c place is, sum_by-cons place_len first places, sum_by-cons place_len first (take c places))
-
 -- the same where the place is read from the list
 pub cells_in-read : (base : ℕ) (texts : List ℕ) (places : List (Option Place)) (c : ℕ) (place : Option Place) → c < length places → get_or places c None ≡ place
     → slice_get (cells_in base texts places) c ≡ Some (cell_in base (drop (text_len (take c places)) texts) place)

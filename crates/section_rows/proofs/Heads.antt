@@ -1,7 +1,7 @@
 -- Rows that are put one behind another.
-use Rattle.std.proofs.Common.{◌≡◌, ℕ, ◌+◌, ◌-◌, ◌≤◌, List, [], ◌∷◌, ◌++◌, length, take, drop, map, get_or, Option, All, refl, sym, ◌∙◌, ap, subst, arith, length-append}
+use Rattle.std.proofs.Common.{◌≡◌, ℕ, ◌+◌, ◌-◌, List, [], ◌∷◌, ◌++◌, length, take, drop, map, get_or, Option, All, refl, sym, ◌∙◌, ap, subst, arith, length-append}
 use Rattle.std.specs.List.{between}
-use Rattle.std.proofs.lemmas.List.{drop-append-le, take-append-le, drop_at, take_all, length-drop, map-append}
+use Rattle.std.proofs.lemmas.List.{drop-append-le, drop_at, take_all, length-drop, map-append}
 use Rattle.std.proofs.lemmas.List.Elements.{All-head, All-tail, All-nil, All-cons, All-push, All-map}
 use Rattle.std.proofs.lemmas.List.Edits.{length-between}
 use Rattle.section_rows.specs.declared.store.Place.{Place}
@@ -10,11 +10,7 @@ use Rattle.section_rows.specs.declared.store.Store.{Store}
 use Rattle.section_rows.specs.Rows.{IsBoundedCell, Kept, Row}
 use Rattle.section_rows.specs.Inner.Places.{text_len, cells_in, places_of, row_in, rows_in, IsWithin, AreWithin, HasGained, Gained}
 use Rattle.section_rows.proofs.Cells.{cells_in-more, length-cells_in}
-
-between-grown : {X : Type 0} (xs more : List X) (from upto : ℕ) → from ≤ upto → upto ≤ length xs → between from upto (xs ++ more) ≡ between from upto xs
-between-grown xs more from upto ordered within =
-    ap (take (upto - from)) (drop-append-le from xs more (omega arith))
-    ∙ take-append-le (upto - from) (drop from xs) more (omega (arith, length-drop from xs))
+use Rattle.dump_io.specs.Laws.Lists.{between-grown}
 
 -- what was put behind a list
 between-behind : {X : Type 0} (xs more : List X) (from count : ℕ) → from ≡ length xs → length more ≡ count → between from (from + count) (xs ++ more) ≡ more

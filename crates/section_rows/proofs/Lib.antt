@@ -4,4 +4,3 @@ mod Examples
 pub mod Heads
 pub mod Loaded
 pub mod Passing
-pub mod Values

@@ -14,15 +14,7 @@ use Rattle.section_rows.specs.declared.store.Store.{Store}
 use Rattle.section_rows.specs.Rows.{Column, Row, row_of, rows_of, body_of}
 use Rattle.section_rows.specs.Loading.{sections_at, bodies_length, first_large, large_fault}
 use Rattle.section_rows.specs.Inner.Gains.{GainsRow, HoldsRows}
-use Rattle.section_rows.specs.Inner.Places.{AreWithin, rows_in}
-
-pub HoldsRows-none : (now : Now) (columns : List Column) (store : Store) → store.width ≡ length columns → AreWithin store → rows_in store ≡ [] → HoldsRows now columns [] store
-HoldsRows-none now columns store width within none = record {
-  width = width;
-  within = within;
-  rows = λ bytes same. none;
-  places = ap (map (λ (row : Row). row.at)) none;
-}
+use Rattle.section_rows.specs.Inner.Places.{rows_in}
 
 -- the body of a section is told with what is open
 told_body : (now : Now) (s : Section) (body bytes : List ℕ) → IsBodyOf now s body → now ≡ told bytes → body ≡ body_of bytes s

@@ -1,23 +1,19 @@
 -- A pass over the lines of a body.
-use Rattle.std.proofs.Common.{◌≡◌, ℕ, suc, ◌+◌, ◌<◌, ◌≤◌, true, false, cond, List, [], ◌∷◌, ◌++◌, length, map, get_or, Option, None, Some, find, option_map, is_some, All, true≢false, refl, sym, ◌∙◌, ap, subst, ⊎_elim, arith, if◌then◌else◌}
+use Rattle.std.proofs.Common.{◌≡◌, ℕ, suc, ◌+◌, ◌<◌, ◌≤◌, List, [], ◌∷◌, ◌++◌, length, map, get_or, Option, None, All, refl, sym, ◌∙◌, ap, subst, ⊎_elim, arith}
 use Rattle.std.specs.Option.{option_or}
 use Rattle.std.proofs.lemmas.Bool.{cases_lt}
 use Rattle.std.proofs.lemmas.List.{get_or_append_left, get_or_push}
 use Rattle.std.proofs.lemmas.List.Elements.{All-from_get_or}
 use Rattle.field_lines.specs.Lines.{TextLine, text_lines}
-use Rattle.field_lines.specs.Fields.{has_key}
 use Rattle.dump_sections.specs.Sections.{Section}
+use Rattle.dump_sections.specs.Laws.{option_or-none}
 use Rattle.section_rows.specs.declared.columns.Kept.{Kept as LentKept}
 use Rattle.section_rows.specs.declared.columns.Column.{Column as LentColumn}
 use Rattle.section_rows.specs.declared.columns.Column.TheVariants.{Tag}
 use Rattle.section_rows.specs.Rows.{Kept, Column, tag, id, field, id_kept, cell_of}
 use Rattle.section_rows.specs.Shown.{shown_cell, shown_column}
-use Rattle.section_rows.specs.Inner.Passing.{own_cell, kept_in, line_cell, later_cell, IsSettled, AreSettled, IsOver, AreOver}
+use Rattle.section_rows.specs.Inner.Passing.{own_cell, later_cell, IsSettled, AreSettled, IsOver, AreOver}
 use Rattle.section_rows.specs.Inner.Places.{HasRoom}
-
-option_or-none : {T : Type 0} (o : Option T) → option_or o None ≡ o
-option_or-none None = refl
-option_or-none (Some x) = refl
 
 -- ---- one column
 -- before the first line
@@ -26,56 +22,10 @@ settled-own s body tag room = record { value = refl; room = room }
 settled-own s body id room = record { value = sym (option_or-none (id_kept s)); room = room }
 settled-own s body (field key) room = record { value = refl; room = room }
 
-later-line : (base : ℕ) (line : TextLine) (left : List TextLine) (column : Column)
-    → later_cell base (line ∷ left) column ≡ option_or (line_cell base line column) (later_cell base left column)
-later-line base line left tag = refl
-later-line base line left id = refl
-later-line base line left (field key) =
-    elim (has_key key line) as (λ b. option_map (kept_in base) (cond b (Some line) (find (has_key key) left))
-    ≡ option_or (if b then Some (kept_in base line) else None) (option_map (kept_in base) (find (has_key key) left))) [
-      | true ↦ refl
-      | false ↦ refl
-    ]
-
 later-none : (base : ℕ) (column : Column) → later_cell base [] column ≡ None
 later-none base tag = refl
 later-none base id = refl
 later-none base (field key) = refl
-
--- a line has been looked at
-pub settled-line : (s : Section) (body : List ℕ) (column : Column) (line : TextLine) (left : List TextLine) (cell new : Option Kept) → cell ≡ None
-    → new ≡ line_cell s.body line column → HasRoom s.at new → IsSettled s body column (line ∷ left) cell → IsSettled s body column left new
-settled-line s body column line left cell new none is room settled = record {
-  value =
-      settled.value ∙ ap (λ o. option_or o (later_cell s.body (line ∷ left) column)) none ∙ later-line s.body line left column
-      ∙ ap (λ o. option_or o (later_cell s.body left column)) (sym is);
-  room = room;
-}
-
--- a line is passed over
-pub settled-over : (s : Section) (body : List ℕ) (column : Column) (line : TextLine) (left : List TextLine) (cell : Option Kept)
-    → IsOver column cell → IsSettled s body column (line ∷ left) cell → IsSettled s body column left cell
-settled-over s body column line left cell over settled = record {
-  value = settled.value ∙ over.stays s.body (line ∷ left) ∙ sym (over.stays s.body left);
-  room = settled.room;
-}
-
-pub over-tag : (cell : Option Kept) → IsOver tag cell
-over-tag cell = record { stays = λ base left. option_or-none cell }
-
-pub over-id : (cell : Option Kept) → IsOver id cell
-over-id cell = record { stays = λ base left. option_or-none cell }
-
-pub over-found : (column : Column) (k : Kept) → IsOver column (Some k)
-over-found column k = record { stays = λ base left. refl }
-
-pub over-some : (column : Column) (cell : Option LentKept) → is_some cell ≡ true → IsOver column (shown_cell cell)
-over-some column None some = absurd (true≢false (sym some))
-over-some column (Some k) some = over-found column _
-
-pub open-none : (cell : Option LentKept) → is_some cell ≡ false → shown_cell cell ≡ None
-open-none None none = refl
-open-none (Some k) none = absurd (true≢false none)
 
 -- ---- all columns
 -- the first columns have looked at the line, the others haven't
@@ -84,12 +34,6 @@ pub record AreHalfway (s : Section) (body : List ℕ) (columns : List LentColumn
   pub others : (k : ℕ) → n ≤ k → k < length columns → IsSettled s body (shown_column (get_or columns k Tag)) (line ∷ left) (shown_cell (get_or cells k None))
 
 module _ (s : Section) (body : List ℕ) (columns : List LentColumn) (line : TextLine) (left : List TextLine) where
-  pub halfway-none : (cells : List (Option LentKept)) → AreSettled s body columns (line ∷ left) cells → AreHalfway s body columns line left 0 cells
-  halfway-none cells all = record {
-    passed = λ k below. absurd (omega (arith, below));
-    others = λ k _ inside. all.each k inside;
-  }
-
   pub halfway-all : (n : ℕ) (cells : List (Option LentKept)) → length columns ≤ n → length cells ≡ length columns → AreHalfway s body columns line left n cells
       → AreSettled s body columns left cells
   halfway-all n cells all count half = record {

@@ -8,6 +8,7 @@ use Rattle.dump_sections.specs.declared.bodies.BodyFault.{BodyFault}
 use Rattle.dump_sections.specs.declared.bodies.BodyFault.TheVariants.{SectionTooLarge}
 use Rattle.section_rows.specs.Loading.{first_large, large_fault}
 
+-- the refusal of a section whose body is too large
 abbrev fault_of : Section → BodyFault
 fault_of s = SectionTooLarge s.at (body_length s)
 

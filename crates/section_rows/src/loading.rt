@@ -40,7 +40,6 @@ fn lent(index: &Index, i: usize) -> Section<'_>
     ensures section { shown_section result ≡ section_at index.now i }
     ensures lent { IsLent result }
 {
-    let _size = index.size();
     index.section(i)
 }
 
@@ -63,8 +62,6 @@ fn load_row<D: Dumps>(
     ensures row { OnOk result (GainsRow (D.state dumps.old).now (map shown_column columns.now) (section_at index.now i) store.old store.new) }
     ensures fault { IfErr result (IsUnread (D.state dumps.old) (D.state dumps.new)) }
 {
-    // For what `section` ensures: no limit is above the usual one.
-    let _most = limits.section();
     let section = lent(index, i);
     let body = read_body(alloc, dumps, index, i, limits)?;
     store

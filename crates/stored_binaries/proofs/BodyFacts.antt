@@ -1,26 +1,24 @@
 -- Parts of bodies, and what is shown of them.
-use Rattle.std.proofs.Common.{◌≡◌, ℕ, zero, suc, ◌+◌, ◌-◌, ◌<◌, ◌≤◌, ◌==◌, ◌↔◌, ⊎_elim, false, List, [], ◌∷◌, ◌++◌, length, take, drop, get_or, Option, None, Some, if◌then◌else◌, refl, sym, ◌∙◌, ap, arith, append_assoc, length-append}
-use Rattle.std.specs.Prelude.{slice_get, unwrap_or, min, replicate, IfSome}
-use Rattle.std.specs.Option.{option_map, option_and_then}
+use Rattle.std.proofs.Common.{◌≡◌, ℕ, zero, suc, ◌+◌, ◌-◌, ◌<◌, ◌≤◌, ◌==◌, ◌↔◌, ⊎_elim, List, [], ◌∷◌, ◌++◌, length, take, drop, get_or, Option, None, Some, if◌then◌else◌, refl, sym, ◌∙◌, ap, arith, append_assoc, length-append}
+use Rattle.std.specs.Prelude.{slice_get, unwrap_or, min, replicate}
+use Rattle.std.specs.Option.{option_and_then}
 use Rattle.std.specs.List.{between}
-use Rattle.std.proofs.lemmas.Bool.{cases_lt, and_parts, leb-true, eqb-true, false_from_ne_true}
+use Rattle.std.proofs.lemmas.Bool.{cases_lt, and_parts, leb-true, ne_eqb}
 use Rattle.std.proofs.lemmas.Option.{cond_some, slice_get-get_or}
 use Rattle.std.proofs.lemmas.List.{take_all, take-append-drop, length-take, length-take-le, length-drop}
 use Rattle.dump_io.specs.Numbers.{hex_number}
 use Rattle.dump_sections.specs.Bodies.{section_at, body_length}
 use Rattle.dump_sections.specs.Index.{Contents, IsIndexOf, sections_in}
-use Rattle.dump_sections.specs.Laws.{length-sections_of}
 use Rattle.dump_sections.specs.Sections.{Section, section}
 use Rattle.binary_payloads.specs.declared.enc.Enc.{Enc}
 use Rattle.binary_payloads.specs.declared.enc.Enc.TheVariants.{Hex, Base64}
 use Rattle.binary_payloads.specs.Payload.{IsPayload, IsPayloadOf, chars_of}
 use Rattle.binary_payloads.specs.ReadingPayloads.{payload_bytes}
 use Rattle.term_forms.specs.Words.{colon, led_of, IsLed}
-use Rattle.stored_binaries.specs.declared.leads.Lead.{Lead}
 use Rattle.stored_binaries.specs.Payloads.{payload_of}
 use Rattle.stored_binaries.specs.Ranges.{in_body, in_dump}
-use Rattle.stored_binaries.specs.StoredBinaries.{binary_place, binary_section, size_stated}
-use Rattle.stored_binaries.specs.Inner.Leads.{body_at, IsLeadOf}
+use Rattle.stored_binaries.specs.StoredBinaries.{binary_place, binary_section}
+use Rattle.stored_binaries.specs.Inner.Leads.{body_at}
 
 -- ---- what a body begins with
 
@@ -68,17 +66,7 @@ lead-none reads front body none is = none-of (led_of body) (λ p found.
     none p.0 (take (16 - length led.0) p.1)
     (led.0, led.1, is ∙ (ap (take 17) led.2 ∙ take-front led.0 p.1 17 (16 - length led.0) (omega (arith, short)))))
 
--- the size that a body states is the length with which it begins
-pub size-led : (body : List ℕ) (lead : Lead) → IsLeadOf body (Some lead) → lead.length ≡ size_stated body
-size-led body lead is = ap (λ o. unwrap_or (option_map (λ (led : ℕ × List ℕ). led.0) o) 0) is
-
-pub size-none : (body : List ℕ) → IsLeadOf body None → 0 ≡ size_stated body
-size-none body is = ap (λ o. unwrap_or (option_map (λ (led : ℕ × List ℕ). led.0) o) 0) is
-
 -- ---- what is shown by characters
-
-eq-not : (a b : ℕ) → (a ≡ b → ⊥) → (a == b) ≡ false
-eq-not a b other = false_from_ne_true _ (λ same. other (eqb-true a b same))
 
 abbrev pub AreDecoded : Enc → Type 0
 AreDecoded enc = (chars bytes : List ℕ) → (payload_bytes enc chars ≡ Some bytes) ↔ IsPayload enc chars bytes
@@ -90,7 +78,7 @@ payload-false enc law chars n none = by (payload_bytes enc chars) refl
     by None is = refl
     by (Some bytes) is =
         ap (λ b. if b then Some bytes else None)
-        (eq-not (length bytes) n (λ same. none (record { bytes = bytes; count = same; payload = (law chars bytes).0 is })))
+        (ne_eqb (length bytes) n (λ same. none (record { bytes = bytes; count = same; payload = (law chars bytes).0 is })))
 
 pub body-length : (dump : List ℕ) (index : Contents) (place : ℕ) → IsIndexOf dump index → (section_at index place).end ≤ index.size
     → length (body_at dump index place) ≡ body_length (section_at index place)
@@ -111,9 +99,6 @@ section-found index address place inside found =
     there : slice_get (sections_in index) place ≡ Some (get_or (sections_in index) place (section 0 0 0 []))
     there = slice_get-get_or (sections_in index) place (section 0 0 0 []) inside
 
-pub section-none : (index : Contents) (address : ℕ) → binary_place (sections_in index) address ≡ None → binary_section index address ≡ None
-section-none index address none = ap (option_and_then (slice_get (sections_in index))) none
-
 pub in-dump : (dump : List ℕ) (index : Contents) (enc : Enc) (address offset size place : ℕ) → place < length (sections_in index)
     → binary_place (sections_in index) address ≡ Some place → in_dump dump index enc address offset size ≡ in_body enc offset size (body_at dump index place)
 in-dump dump index enc address offset size place inside found =
@@ -127,12 +112,6 @@ payload-count Base64 chars n law is = omega (arith, is.count, law chars is.bytes
 -- the front of a body that is read is that of the whole
 pub take-upto : (m n : ℕ) (body : List ℕ) → length body ≡ m → take (min m n) body ≡ take n body
 take-upto m n body size = ⊎_elim (λ less. ap (λ k. take k body) (omega (arith, less))) (λ more. ap (λ k. take k body) (omega (arith, more)) ∙ (take_all m body (omega (arith, size)) ∙ sym (take_all n body (omega (arith, size, more))))) (cases_lt n m)
-
--- the section that is found by its place
-pub first-section : (index : Contents) (address : ℕ) (place : Option ℕ) → place ≡ binary_place (sections_in index) address → IfSome place (λ i. i < length index.headers)
-    → option_map (section_at index) place ≡ binary_section index address
-first-section index address None is within = sym (section-none index address (sym is))
-first-section index address (Some i) is within = sym (section-found index address i (omega (arith, within, length-sections_of index.headers index.size)) (sym is))
 
 -- the room for the front of a body, and for the bytes of a cover
 abbrev pub zeros : ℕ → List ℕ

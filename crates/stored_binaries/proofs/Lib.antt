@@ -1,4 +1,3 @@
 pub mod BodyFacts
 pub mod Examples
-pub mod FirstPlace
 pub mod PlaceFacts

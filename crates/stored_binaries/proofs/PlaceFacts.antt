@@ -9,16 +9,16 @@ use Rattle.std.specs.declared.cmp.Ordering.TheVariants.{Less, Equal}
 use Rattle.std.proofs.lemmas.Map.Keys.{ge_from_not_lt}
 use Rattle.std.proofs.lemmas.Bool.{true≢false, cases_lt, cases_order, false_from_ne_true, eq-eqb, eqb-true, ltb-true, ltb-false}
 use Rattle.std.proofs.lemmas.Bool.Decides.{eqb_tells}
-use Rattle.std.proofs.lemmas.List.Elements.{All-nil}
+use Rattle.std.proofs.lemmas.List.Elements.{All-from_get_or}
 use Rattle.std.proofs.lemmas.List.Sorted.{All-permutation, Contains-permutation, IsNonDecreasingBy-from_all_adjacent}
 use Rattle.std.proofs.lemmas.List.{get_or_default}
 use Rattle.std.proofs.lemmas.Option.{slice_get-get_or, none-some, same_Some}
 use Rattle.dump_io.specs.Numbers.{hex_number}
+use Rattle.dump_io.specs.Laws.Lists.{position-at, position-none}
 use Rattle.dump_sections.specs.Lookups.{has_hex, has_tag}
 use Rattle.dump_sections.specs.Sections.{Section, section, id_of}
 use Rattle.stored_binaries.specs.StoredBinaries.{binary_place, number_of}
 use Rattle.stored_binaries.specs.Inner.Places.{number_at, rank, IsPairOf, ArePairs, AreOrdered}
-use Rattle.stored_binaries.proofs.FirstPlace.{position-at, position-none}
 
 -- ---- the test of a section
 
@@ -49,14 +49,14 @@ at-place ss n inside = ap (option_and_then number_of) (slice_get-get_or ss n no_
 
 place-first : (ss : List Section) (a n : ℕ) → n < length ss → number_at ss n ≡ Some a → ((m : ℕ) → m < n → number_at ss m ≡ Some a → ⊥) → binary_place ss a ≡ Some n
 place-first ss a n inside is none =
-    position-at (λ (s : Section). has_hex (codes "binary") a s.text) ss n no_section
-    (λ m before. lacks-hex (get_or ss m no_section) a (λ same. none m before (at-place ss m (omega arith) ∙ same))) inside
+    position-at (λ (s : Section). has_hex (codes "binary") a s.text) ss no_section n (get_or ss n no_section)
+    (λ m before. lacks-hex (get_or ss m no_section) a (λ same. none m before (at-place ss m (omega arith) ∙ same))) (slice_get-get_or ss n no_section inside)
     (has-hex (get_or ss n no_section) a (sym (at-place ss n inside) ∙ is))
 
 place-none : (ss : List Section) (a : ℕ) → ((m : ℕ) → m < length ss → number_at ss m ≡ Some a → ⊥) → binary_place ss a ≡ None
 place-none ss a none =
-    position-none (λ (s : Section). has_hex (codes "binary") a s.text) ss no_section
-    (λ m inside. lacks-hex (get_or ss m no_section) a (λ same. none m inside (at-place ss m inside ∙ same)))
+    position-none (λ (s : Section). has_hex (codes "binary") a s.text) ss (All-from_get_or (λ (s : Section). has_hex (codes "binary") a s.text ≡ false) ss no_section
+    (λ m inside. lacks-hex (get_or ss m no_section) a (λ same. none m inside (at-place ss m inside ∙ same))))
 
 -- ---- what a search by address finds
 
@@ -129,9 +129,6 @@ looked-within ss pairs a at p is inside read =
     elim (p.0 == a) as (λ b. IfSome (if b then Some p.1 else None) (λ i. i < length ss)) [ true ↦ pair.0 | false ↦ tt ]
 
 -- ---- the pairs of the sections so far
-
-pub pairs-none : (ss : List Section) → ArePairs ss 0 []
-pairs-none ss = record { each = All-nil (IsPairOf ss); complete = λ place a before. absurd (omega (arith, before)) }
 
 -- ---- sorted pairs
 

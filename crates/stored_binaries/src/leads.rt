@@ -25,10 +25,9 @@ pub(crate) fn body_of(index: &Index, place: usize) -> (u64, u64)
     ensures len { result.1 ≡ body_length (section_at index.now place) }
     ensures ends { result.0 + result.1 ≡ (section_at index.now place).end }
     ensures within { result.0 + result.1 ≤ index.now.size }
-    ensures small { index.now.size ≤ 68719476736 }
+    ensures small { result.0 + result.1 ≤ 68719476736 }
 {
-    let _size = index.size();
-    let section = index.section(place);
+    let section = index.extent(place);
     (section.body, section.end - section.body)
 }
 

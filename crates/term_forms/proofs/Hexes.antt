@@ -1,11 +1,10 @@
 -- Hex numbers, and what stands behind one and a colon.
-use Rattle.std.proofs.Common.{◌≡◌, ℕ, ◌+◌, ◌<◌, ◌≤◌, ◌^◌, Bool, true, false, cond, suc, not, ◌&&◌, ◌||◌, List, [], ◌∷◌, ◌++◌, length, take, drop, get_or, Some, None, refl, ◌∙◌, ap, subst, arith, if◌then◌else◌}
+use Rattle.std.proofs.Common.{◌≡◌, ℕ, ◌+◌, ◌<◌, ◌≤◌, ◌^◌, Bool, true, false, not, ◌&&◌, ◌||◌, List, [], ◌∷◌, ◌++◌, length, take, drop, get_or, Some, None, refl, ◌∙◌, ap, subst, arith, if◌then◌else◌}
 use Rattle.std.specs.Prelude.{nat_lt, nat_le}
 use Rattle.std.specs.List.{list_all, prefix_len, position_or_len}
 use Rattle.std.specs.Char.{digit_value}
 use Rattle.std.specs.Str.Parse.{digits_value, AllDigits}
 use Rattle.std.proofs.lemmas.Bool.{and_parts, and_from, ltb-true, leb-true, eqb-true, lt-ltb, le-leb, not-false, not_from_false, false≢true, false_from_ne_true}
-use Rattle.std.proofs.lemmas.List.{length-drop}
 use Rattle.std.proofs.lemmas.List.Sums.{prefix_len_stops, split_at_first}
 use Rattle.std.proofs.lemmas.Option.{some_pair_parts}
 use Rattle.std.proofs.Math.Seq.{take-append_seam, drop-append-add}
@@ -13,6 +12,7 @@ use Rattle.std.proofs.Math.Nat.{pow-le-pow_right}
 use Rattle.std.proofs.lemmas.Int.Digits.{digits_value-lt}
 use Rattle.dump_io.specs.Colons.{is_colon, has_colon, before_colon, after_colon}
 use Rattle.dump_io.specs.Numbers.{hex_number, is_numeral}
+use Rattle.dump_io.specs.Laws.Colons.{colon-within}
 use Rattle.term_forms.specs.Words.{colon, is_hex_digit, IsLed, led_of}
 use Rattle.term_forms.specs.Inner.Chain.{◌>>=◌}
 use Rattle.term_forms.proofs.Steps.{bind_some, bind_from, guard_some, guard_from, guard_option}
@@ -77,21 +77,6 @@ has_colon-at : (hex rest : List ℕ) → has_colon (hex ++ colon ∷ rest) ≡ t
 has_colon-at [] rest = refl
 has_colon-at (c ∷ hex) rest = ap (λ b. is_colon c || b) (has_colon-at hex rest) ∙ or_true (is_colon c)
 
--- where a colon is, the first one is in the text
-pub colon_within : (text : List ℕ) → has_colon text ≡ true → position_or_len is_colon text < length text
-colon_within [] h = cc
-colon_within (c ∷ text) h = of (is_colon c) refl h (colon_within text)
-  where
-    of : (b : Bool) → is_colon c ≡ b → (b || has_colon text) ≡ true → (has_colon text ≡ true → position_or_len is_colon text < length text)
-        → cond (not b) (1 + position_or_len is_colon text) 0 < suc (length text)
-    of true e h rest = omega arith
-    of false e h rest = let within = rest h in omega (arith, within)
-
-pub after_colon-shorter : (text : List ℕ) → has_colon text ≡ true → length (after_colon text) < length text
-after_colon-shorter text h =
-    let within = colon_within text h in
-    omega (arith, within, length-drop (position_or_len is_colon text + 1) text)
-
 -- a text is read by where its first colon stands
 led_at : (text : List ℕ) (at : ℕ) → has_colon text ≡ true → position_or_len is_colon text ≡ at
     → led_of text ≡ (hex_number (take at text) >>= λ n. Some (n, drop (at + 1) text))
@@ -125,7 +110,7 @@ led_sound text n rest h =
     let o = hex_number (take at text) >>= λ n. Some (n, drop (at + 1) text) in
     let inside = guard_option (has_colon text) o (n, rest) h in
     let found = bind_some (hex_number (take at text)) (λ n. Some (n, drop (at + 1) text)) (n, rest) inside.1 in
-    let here : at < length text = colon_within text inside.0 in
+    let here : at < length text = colon-within text inside.0 in
     let pair : (found.0 ≡ n) × (drop (at + 1) text ≡ rest) = some_pair_parts found.0 n (drop (at + 1) text) rest found.2 in
     let stop : get_or text at 0 ≡ colon = eqb-true (get_or text at 0) colon (not-false (is_colon (get_or text at 0)) (prefix_len_stops (λ c. not (is_colon c)) text 0 here)) in
     let split : text ≡ take at text ++ (get_or text at 0 ∷ drop (at + 1) text) = split_at_first is_colon text 0 here in (

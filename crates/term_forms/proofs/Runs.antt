@@ -21,10 +21,6 @@ pub run_passes : (p : ℕ → Bool) (xs : List ℕ) → list_all p (take (prefix
 run_passes p [] = refl
 run_passes p (x ∷ xs) = run_passes_first p x xs (prefix_len p xs) (p x) refl (run_passes p xs)
 
--- no byte of what follows passes
-pub run_stops : (p : ℕ → Bool) (c : ℕ) (ys : List ℕ) → p c ≡ false → prefix_len p (c ∷ ys) ≡ 0
-run_stops p c ys h = ap (λ b. cond b (1 + prefix_len p ys) 0) h
-
 -- what passes one test passes another
 pub list_all_also : (p q : ℕ → Bool) (xs : List ℕ) → ((x : ℕ) → p x ≡ true → q x ≡ true) → list_all p xs ≡ true → list_all q xs ≡ true
 list_all_also p q [] also h = refl

@@ -64,10 +64,6 @@ WritesAll-failed {r = Err e} failed broken = record { whole = tt; front = broken
 
 -- Calls on a sink in a row: their `Puts` are joined to one.
 
--- nothing to write
-pub Puts-none : {T E : Type 0} {a : SinkState} {x : T} → Puts {E = E} a a [] (Ok x)
-Puts-none = record { later = omega arith; writes = WritesAll-none; failed = tt }
-
 -- the same text in another form
 pub Puts-as : {T E : Type 0} {a b : SinkState} {xs ys : List ℕ} {r : Result T E} → xs ≡ ys → Puts a b xs r → Puts a b ys r
 Puts-as {a = a} {b = b} {r = r} same puts = subst (λ l. Puts a b l r) same puts
@@ -90,13 +86,6 @@ pub Puts-stopped : {T U E F : Type 0} {a b : SinkState} {xs : List ℕ} {e : F} 
 Puts-stopped {r = Ok y} more failed broken = cc
 Puts-stopped {r = Err e} more failed broken =
     record { later = broken.later; writes = WritesAll-stopped more failed broken.writes; failed = broken.failed }
-
--- a failure that is passed on
-pub Puts-failed : {T U E F : Type 0} {a b : SinkState} {xs : List ℕ} {e : F} {r : Result T E}
-    → IsErr r → Puts {T = U} a b xs (Err e) → Puts a b xs r
-Puts-failed {r = Ok y} failed broken = cc
-Puts-failed {r = Err e} failed broken =
-    record { later = broken.later; writes = WritesAll-failed failed broken.writes; failed = broken.failed }
 
 -- What several successful calls have put, as the invariant of a loop states it.
 

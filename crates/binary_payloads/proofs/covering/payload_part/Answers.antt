@@ -1,4 +1,4 @@
-use Rattle.std.proofs.Common.{◌≤◌, length, take, drop, sym, ◌∙◌, subst, arith}
+use Rattle.std.proofs.Common.{◌<◌, ◌^◌, ◌≤◌, rules, length, take, drop, sym, ◌∙◌, subst, arith}
 use Rattle.std.proofs.lemmas.List.{length-take-le}
 use Rattle.std.proofs.lemmas.Bool.{false≢true}
 use Rattle.binary_payloads.specs.Payload.{IsPayloadOf}
@@ -8,7 +8,8 @@ use Rattle.binary_payloads.proofs.covering.payload_part.Goals as goal
 pub range_cover-cover-requires-clause-small : goal.range_cover-cover-requires-clause-small
 range_cover-cover-requires-clause-small c =
     let size = payload_of-size c.args.enc c.args.chars.now c.args.size c.requires.whole in
-    omega (arith, size, c.requires.within, c.byte_count-few.ensures.count, c.byte_count-few.ensures.few)
+    let few : length c.args.chars.now < 2 ^ 63 = search rules in
+    omega (arith, size, c.requires.within, few)
 
 pub read_cover-requires : goal.read_cover-requires
 read_cover-requires c = record {

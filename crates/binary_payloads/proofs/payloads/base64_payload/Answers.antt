@@ -1,6 +1,7 @@
 use Rattle.std.proofs.Common.{◌≡◌, length, sym, ◌∙◌, eq-eqb, eqb-true, rules}
 use Rattle.base64.specs.GeneralPurpose.{IsBytes}
-use Rattle.binary_payloads.proofs.Base64Payload.{base64_yes, base64_found, same_count}
+use Rattle.binary_payloads.proofs.Base64Payload.{base64_yes, base64_found}
+use Rattle.binary_payloads.proofs.HexDigits.{ok-same}
 use Rattle.binary_payloads.proofs.payloads.base64_payload.Goals as goal
 
 pub returns-in-Ok-clause-found : goal.returns-in-Ok-clause-found
@@ -17,7 +18,7 @@ returns-in-Ok-clause-found c =
           },
       λ is.
           let answer = base64_found c.args.chars.now (length c.args.into.now) is in
-          let same : c.in-Ok.count ≡ length c.args.into.now = same_count _ _ (c.in-Ok.ensures.value ∙ answer) in
+          let same : c.in-Ok.count ≡ length c.args.into.now = ok-same _ _ (c.in-Ok.ensures.value ∙ answer) in
           eq-eqb c.in-Ok.count (length c.decode_slice.new.output) (same ∙ sym kept),
     )
 

@@ -1,5 +1,4 @@
-use Rattle.std.proofs.Common.{◌≡◌, ℕ, ◌-◌, ◌%◌, ◌≤◌, List, length, take, drop, refl, sym, ◌∙◌, ap, subst, rules, arith}
-use Rattle.std.proofs.lemmas.List.{length-take-le}
+use Rattle.std.proofs.Common.{◌≡◌, ℕ, ◌-◌, ◌%◌, ◌≤◌, List, take, drop, refl, sym, ◌∙◌, ap, subst, arith}
 use Rattle.binary_payloads.specs.declared.enc.Enc.{Enc}
 use Rattle.binary_payloads.specs.declared.enc.Enc.TheVariants.{Hex, Base64}
 use Rattle.binary_payloads.specs.Payload.{IsPayloadOf, chars_of, group_of}
@@ -14,9 +13,6 @@ whole Base64 = refl
 -- the same characters and the same room
 same_payload : (enc : Enc) (x y : List ℕ) (m n : ℕ) → x ≡ y → m ≡ n → IsPayloadOf enc x m → IsPayloadOf enc y n
 same_payload enc x y m n e room is = subst (λ k. IsPayloadOf enc y k) room (subst (λ chars. IsPayloadOf enc chars m) e is)
-
-pub loop-left-init : goal.loop-left-init
-loop-left-init c = (search rules, (λ is. is, λ is. is))
 
 pub returns-in_default : goal.returns-in_default
 returns-in_default c = (
@@ -50,12 +46,4 @@ loop-left-preserved c =
             let back = subst (λ chars. IsPayloadOf c.args.enc chars (c.loop-left.left - 768)) after is in
             c.loop-left.invariant.1.1 (payload_of-whole c.args.enc c.loop-left.rest.now 768 c.loop-left.left (whole c.args.enc) fits front back),
       ),
-    )
-
-pub returns : goal.returns
-returns c =
-    let room : length (take c.loop-left.left c.loop-left.buffer) ≡ c.loop-left.left = length-take-le _ _ (omega (arith, c.loop-left.invariant.0)) in
-    let back = c.loop-left.invariant.1 in (
-      λ yes. back.1 (same_payload c.args.enc c.loop-left.rest.now _ _ _ refl room (c.payload-2.ensures.found.0 yes)),
-      λ is. c.payload-2.ensures.found.1 (same_payload c.args.enc c.loop-left.rest.now _ _ _ refl (sym room) (back.0 is)),
     )

@@ -1,7 +1,8 @@
 use Rattle.std.proofs.Common.{subst, sym, length, ◌≤◌}
 use Rattle.std.specs.Prelude.{All}
 use Rattle.field_lines.specs.Lines.{IsPart}
-use Rattle.field_lines.proofs.PartFacts.{length-text_lines, parts}
+use Rattle.field_lines.specs.Laws.{length-text_lines}
+use Rattle.field_lines.proofs.PartFacts.{parts}
 use Rattle.field_lines.proofs.reading.lines.Goals as goal
 
 pub returns-clause-count : goal.returns-clause-count

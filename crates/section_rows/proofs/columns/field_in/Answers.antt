@@ -1,7 +1,7 @@
 use Rattle.std.proofs.Common.{None, Some, ap, sym, ◌∙◌, length, arith, if◌then◌else◌}
 use Rattle.field_lines.specs.Shown.{shown_line}
+use Rattle.field_lines.specs.Laws.{field_of-value, length-value, no_colon-there}
 use Rattle.section_rows.specs.Inner.Passing.{kept_in}
-use Rattle.section_rows.proofs.Values.{value-found, length-value, no_colon-there}
 use Rattle.section_rows.proofs.columns.field_in.Goals as goal
 
 pub returns-then-not-may_have_key-clause-value : goal.returns-then-not-may_have_key-clause-value
@@ -13,14 +13,14 @@ returns-then-not-may_have_key-clause-value c =
 pub overflow_sub-from : goal.overflow_sub-from
 overflow_sub-from c =
     let text = c.args.line.now.text.now in
-    let value = value-found text (record { key = c.in_ok-name.name.now; value = c.in_ok-name.value.now }) c.in_ok-name.ensures in
+    let value = field_of-value text (record { key = c.in_ok-name.name.now; value = c.in_ok-name.value.now }) c.in_ok-name.ensures in
     omega (arith, ap length value, length-value text)
 
 pub returns-clause-room : goal.returns-clause-room
 returns-clause-room c =
     let text = c.args.line.now.text.now in
     let lent = c.requires.lent in
-    let value = value-found text (record { key = c.in_ok-name.name.now; value = c.in_ok-name.value.now }) c.in_ok-name.ensures in
+    let value = field_of-value text (record { key = c.in_ok-name.name.now; value = c.in_ok-name.value.now }) c.in_ok-name.ensures in
     let short = length-value text in
     let same = ap length value in (
       record {

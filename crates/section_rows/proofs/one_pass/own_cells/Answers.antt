@@ -8,12 +8,6 @@ use Rattle.section_rows.specs.Inner.Passing.{IsSettled}
 use Rattle.section_rows.proofs.Passing.{own-more}
 use Rattle.section_rows.proofs.one_pass.own_cells.Goals as goal
 
-pub loop-column-init : goal.loop-column-init
-loop-column-init c = record {
-  count = ap length c.in_ok-cells.ensures.items;
-  own = λ body k below. absurd (omega (arith, below));
-}
-
 pub loop-column-preserved : goal.loop-column-preserved
 loop-column-preserved c =
     let s = shown_section c.args.section.now in
@@ -28,9 +22,3 @@ loop-column-preserved c =
           subst (λ cells. IsSettled s body (shown_column (get_or columns k Tag)) (text_lines body) (shown_cell (get_or cells k None))) (sym {A = List (Option Kept)} pushed)
           (own-more s columns i before c.own.result c.loop-column.invariant.count c.own.ensures.value c.own.ensures.room c.loop-column.invariant.own body k below);
     }
-
-pub returns : goal.returns
-returns c = λ body. record {
-  count = omega (arith, c.loop-column.invariant.count, c.loop-column-test.false);
-  each = λ k inside. c.loop-column.invariant.own body k (omega (arith, inside, c.loop-column-test.false));
-}

@@ -1,15 +1,8 @@
 use Rattle.std.proofs.Common.{◌≤◌, ◌<◌, ◌∙◌, length, arith}
 use Rattle.field_lines.specs.Shown.{shown_line}
 use Rattle.section_rows.specs.Inner.Lent.{shown_section}
-use Rattle.section_rows.proofs.Passing.{halfway-none, halfway-more, halfway-all, over-more}
+use Rattle.section_rows.proofs.Passing.{halfway-more, halfway-all, over-more}
 use Rattle.section_rows.proofs.one_pass.take_line.Goals as goal
-
-pub loop-c-init : goal.loop-c-init
-loop-c-init c = record {
-  count = c.requires.count;
-  settles = λ body rest. halfway-none (shown_section c.args.section.now) body c.args.columns.now (shown_line c.args.line.now) rest c.args.cells.now;
-  over = λ _ k below. absurd (omega (arith, below));
-}
 
 pub loop-c-preserved : goal.loop-c-preserved
 loop-c-preserved c =
@@ -36,6 +29,3 @@ returns-clause-settles c = λ body rest all.
     let upto : length c.args.columns.now ≤ c.loop-c.c = omega (arith, c.loop-c-test.false) in
     halfway-all (shown_section c.args.section.now) body c.args.columns.now (shown_line c.args.line.now) rest c.loop-c.c c.loop-c.cells upto c.loop-c.invariant.count
     (c.loop-c.invariant.settles body rest all)
-
-pub returns-clause-over : goal.returns-clause-over
-returns-clause-over c = λ no k inside. c.loop-c.invariant.over no k (omega (arith, inside, c.loop-c-test.false))

@@ -1,17 +1,12 @@
 use Rattle.std.proofs.Common.{◌≡◌, ◌+◌, [], ◌∷◌, ◌++◌, map, take, get_or, None, sym, subst}
 use Rattle.std.proofs.lemmas.List.{map_more}
-use Rattle.std.proofs.lemmas.List.Elements.{All-get_or}
 use Rattle.section_rows.specs.Shown.{shown_cell}
-use Rattle.section_rows.specs.Inner.Places.{Gained, HasRoom}
+use Rattle.section_rows.specs.Inner.Places.{Gained}
 use Rattle.section_rows.proofs.Cells.{Gained-none, Gained-append}
 use Rattle.section_rows.proofs.store.push_cells.Goals as goal
 
 pub loop-cell-init : goal.loop-cell-init
 loop-cell-init c = Gained-none c.args.base c.args.places.now.items c.args.pool.now.items
-
-pub push_cell-requires : goal.push_cell-requires
-push_cell-requires c =
-    All-get_or (λ o. HasRoom c.args.base (shown_cell o)) c.args.cells.now c.loop-cell.cell-index None c.loop-cell-test.true c.requires
 
 pub loop-cell-preserved : goal.loop-cell-preserved
 loop-cell-preserved c =

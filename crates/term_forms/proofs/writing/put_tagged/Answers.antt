@@ -1,8 +1,5 @@
-use Rattle.dump_io.specs.Laws.Puts.{WritesAll-then, WritesAll-stopped}
+use Rattle.dump_io.specs.Laws.Puts.{WritesAll-then}
 use Rattle.term_forms.proofs.writing.put_tagged.Goals as goal
-
-pub returns-in_err-put_text : goal.returns-in_err-put_text
-returns-in_err-put_text c = WritesAll-stopped _ c.from_residual.ensures.0 c.in_err-put_text.ensures
 
 pub returns : goal.returns
 returns c = WritesAll-then c.in_ok-put_text.ensures c.put_text-2.ensures

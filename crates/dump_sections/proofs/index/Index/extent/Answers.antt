@@ -1,4 +1,4 @@
-use Rattle.std.proofs.Common.{◌≡◌, ◌<◌, ◌≤◌, sym, ◌∙◌, ap, Some, [], subst}
+use Rattle.std.proofs.Common.{◌≡◌, ◌<◌, ◌≤◌, sym, ◌∙◌, ap, Some, [], subst, arith}
 use Rattle.std.specs.Prelude.{unwrap_or}
 use Rattle.std.specs.List.{slice_get}
 use Rattle.dump_io.specs.Lines.{Header}
@@ -6,7 +6,7 @@ use Rattle.dump_sections.specs.Sections.{section, sections_of}
 use Rattle.dump_sections.specs.Index.{Contents, HasShortLine, sections_in}
 use Rattle.dump_sections.proofs.Places.{sections_of-at}
 use Rattle.dump_sections.proofs.Parts.{Tile-at}
-use Rattle.dump_sections.proofs.Places.{All-at}
+use Rattle.dump_io.specs.Laws.Lists.{All-at}
 use Rattle.dump_sections.proofs.index.Index.extent.Goals as goal
 
 place : (c : goal.After-result-1) → slice_get (sections_of c.self.inside.headers c.self.inside.size) c.args.i
@@ -44,3 +44,6 @@ pub returns-clause-at_place : goal.returns-clause-at_place
 returns-clause-at_place c =
     ap (λ index. unwrap_or (slice_get (sections_in index) c.args.i) (section 0 0 0 [])) (sym c.self.view_is)
     ∙ ap (λ found. unwrap_or found (section 0 0 0 [])) (place c)
+
+pub returns-clause-small : goal.returns-clause-small
+returns-clause-small c = omega (arith, (tile c).2, c.self.invariant.size)

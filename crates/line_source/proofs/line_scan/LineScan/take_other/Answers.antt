@@ -1,28 +1,12 @@
-use Rattle.std.proofs.Common.{◌≡◌, ◌+◌, ◌-◌, ◌++◌, length, take, drop, get_or, sym, ◌∙◌, ap, subst, append_assoc, append-nil, arith}
+use Rattle.std.proofs.Common.{◌+◌, ◌-◌, ◌++◌, length, take, drop, sym, ◌∙◌, ap, subst, append_assoc, append-nil, arith}
 use Rattle.std.proofs.lemmas.Result.{err_from_is_err_and}
-use Rattle.std.proofs.lemmas.List.{take_rest, get_or-drop}
 use Rattle.line_source.specs.Streams.{new_headers, too_long}
-use Rattle.line_source.specs.Receiver.{stop_value}
 use Rattle.line_source.specs.Scan.{StandsFor}
 use Rattle.line_source.specs.Inner.Ends.{Ends}
 use Rattle.line_source.proofs.Pieces.{new_headers-append}
 use Rattle.line_source.proofs.Joins.{two_parts, both_parts, Ends-later}
 use Rattle.line_source.proofs.StartPlaces.{length-rest}
 use Rattle.line_source.proofs.line_scan.LineScan.take_other.Goals as goal
-
-pub returns-then-passed-rest : goal.returns-then-passed-rest
-returns-then-passed-rest g c =
-    let passed = c.pass-passed.ensures in
-    let before = g.H.HeaderSink.heard c.args.into.now in
-    record {
-      within = (omega (arith, c.if-passed-rest.true, c.requires.some), passed.within);
-      offset = passed.offset;
-      limit = passed.limit;
-      stop = ap stop_value c.requires.open;
-      stands = passed.stands;
-      heard = λ stream stands. sym (append-nil before) ∙ ap (λ hs. before ++ hs) (sym (passed.silent stream stands));
-      ends = tt;
-    }
 
 pub returns-in_err-taken : goal.returns-in_err-taken
 returns-in_err-taken g c =
@@ -79,13 +63,3 @@ returns g c =
           ∙ ap (λ hs. hs ++ new_headers (stream ++ take n rest) part) (passed.silent stream stands)));
       ends = tt;
     }
-
-pub take_line-requires-clause-line : goal.take_line-requires-clause-line
-take_line-requires-clause-line g c = (c.pass-passed.ensures.header (omega (arith, c.pass-passed.ensures.within, c.if-passed-rest.false))).0
-
-pub take_line-requires-clause-sign : goal.take_line-requires-clause-sign
-take_line-requires-clause-sign g c =
-    let rest = c.args.rest.now in
-    let n = c.pass-passed.result in
-    let none : n + 0 ≡ n = omega arith in
-    ap (λ l. get_or l 0 0) (take_rest rest n) ∙ get_or-drop n rest 0 0 ∙ ap (λ k. get_or rest k 0) none ∙ (c.pass-passed.ensures.header (omega (arith, c.pass-passed.ensures.within, c.if-passed-rest.false))).1
