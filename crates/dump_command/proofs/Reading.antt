@@ -1,6 +1,6 @@
 -- What a command reads of the dump that is open, by the clauses of what it calls.
 use Rattle.std.proofs.Common.{◌≡◌, ℕ, ◌≤◌, List, Option, None, Some, Result, Ok, Err, refl, sym, ◌∙◌, ap, subst, inl, arith}
-use Rattle.std.specs.Prelude.{IfErr, IfOk, IsSome, OnOk, is_some}
+use Rattle.std.specs.Prelude.{IfErr, IfOk, IsErrAnd, IsSome, MatchResult, OnOk, is_some}
 use Rattle.std.specs.Option.{option_map, option_or}
 use Rattle.std.proofs.lemmas.Result.{IfOk-weaker}
 use Rattle.dump_io.specs.Dumps.{DeviceState, told, ReadsAtMost}
@@ -63,6 +63,11 @@ module _ (before after : DeviceState) (P : Refusal → Type 0) where
   StopsFor-bodies ss limit body_faults.Read cause follows = cause.0
   StopsFor-bodies ss limit body_faults.Memory cause follows = tt
   StopsFor-bodies ss limit (body_faults.SectionTooLarge at len) cause follows = StopsFor-large (first_large limit ss) _ cause follows
+
+-- what halted a command is what its `?` returns
+pub ReadsFor-halted : {V E : Type 0} (P : V → Type 0) (Q : E → Type 0) (result : Result V E) (stop : E) → IsErrAnd result (λ e. e ≡ stop) → Q stop → MatchResult result P Q
+ReadsFor-halted P Q (Ok loaded) stop is halted = absurd is
+ReadsFor-halted P Q (Err e) stop is halted = subst Q (sym is) halted
 
 -- ---- what is taken
 

@@ -1,25 +1,22 @@
 use Rattle.std.proofs.Common.{refl, ◌∙◌, arith}
-use Rattle.std.proofs.lemmas.Result.{err_from_is_err_and}
 use Rattle.dump_io.specs.Laws.Reads.{ReadsAtMost-then}
 use Rattle.dump_command.proofs.HolderLoads.{binaries-told, fronts-told, none-listed, HearsHeaps-binaries, IsHalted-holders, IsHalted-processes, Takes-heard}
-use Rattle.dump_command.proofs.Reading.{HasRead-listed, ReadsAtMost-same}
+use Rattle.dump_command.proofs.Reading.{HasRead-listed, ReadsAtMost-same, ReadsFor-halted}
 use Rattle.dump_command.proofs.commands.binaries.BinariesReport.read.Goals as goal
 
 pub returns-in_err-procs-clause-reads : goal.returns-in_err-procs-clause-reads
 returns-in_err-procs-clause-reads g c =
     let d = g.D.Dumps in
-    let p = err_from_is_err_and c.from_residual.result c.from_residual.ensures.1 in
     let read = c.in_err-procs.ensures in
-    rw (p.1, p.2) (IsHalted-processes _ _ _ _ (HearsHeaps-binaries c.args.self.now.file.now _ _) _ _ _ read.reads
+    ReadsFor-halted _ _ c.from_residual.result _ c.from_residual.ensures.1 (IsHalted-processes _ _ _ _ (HearsHeaps-binaries c.args.self.now.file.now _ _) _ _ _ read.reads
     (λ some. ReadsAtMost-same d.state _ _ _ read.reads (read.unread some)) read.fault)
 
 pub returns-in_err-found-clause-reads : goal.returns-in_err-found-clause-reads
 returns-in_err-found-clause-reads g c =
     let d = g.D.Dumps in
-    let p = err_from_is_err_and c.from_residual-in_err-found.result c.from_residual-in_err-found.ensures.1 in
     let read = c.in_ok-procs.ensures in
     let heard = c.in_err-found.ensures in
-    rw (p.1, p.2) (IsHalted-holders _ _ _ _ _ (d.state c.load.new.dumps) (d.state c.binary_use.new.dumps) _
+    ReadsFor-halted _ _ c.from_residual-in_err-found.result _ c.from_residual-in_err-found.ensures.1 (IsHalted-holders _ _ _ _ _ (d.state c.load.new.dumps) (d.state c.binary_use.new.dumps) _
     (Takes-heard _ _ _ _ (HearsHeaps-binaries c.args.self.now.file.now _ _) _ _ _ _ read.loaded (ReadsAtMost-then read.reads heard.reads) (omega arith)
     (λ bytes all. fronts-told bytes _ _ all.of (read.table bytes all.opened)))
     heard.fault (λ rose. omega (arith, rose, read.reads.later)))

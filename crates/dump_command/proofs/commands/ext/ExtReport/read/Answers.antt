@@ -1,16 +1,14 @@
-use Rattle.std.proofs.lemmas.Result.{err_from_is_err_and}
 use Rattle.dump_command.proofs.Externals.{reads-ext, IsOfHeap-ext}
 use Rattle.dump_command.proofs.HeapLoads.{IsHalted-heap}
-use Rattle.dump_command.proofs.Reading.{ReadsAtMost-same}
+use Rattle.dump_command.proofs.Reading.{ReadsAtMost-same, ReadsFor-halted}
 use Rattle.dump_command.proofs.commands.ext.ExtReport.read.Goals as goal
 
 pub returns-in_err-heap-clause-reads : goal.returns-in_err-heap-clause-reads
 returns-in_err-heap-clause-reads g c =
     let d = g.D.Dumps in
-    let p = err_from_is_err_and c.from_residual.result c.from_residual.ensures.1 in
     let t = c.args.self.now in
     let read = c.in_err-heap.ensures in
-    rw (p.1, p.2) (IsHalted-heap _ _ _ _ _ (IsOfHeap-ext t.file.now t.pid.now t.addr _ _) _ _ _ read.reads
+    ReadsFor-halted _ _ c.from_residual.result _ c.from_residual.ensures.1 (IsHalted-heap _ _ _ _ _ (IsOfHeap-ext t.file.now t.pid.now t.addr _ _) _ _ _ read.reads
     (λ some. ReadsAtMost-same d.state _ _ _ read.reads (read.unread some)) read.heap)
 
 pub returns-clause-reads : goal.returns-clause-reads

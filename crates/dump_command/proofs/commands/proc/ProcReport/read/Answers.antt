@@ -1,16 +1,14 @@
 use Rattle.std.proofs.Common.{ℕ, Some, refl, sym, rules}
-use Rattle.std.proofs.lemmas.Result.{err_from_is_err_and}
 use Rattle.heap_cells.specs.Loading.{section_in}
 use Rattle.command_words.specs.Command.{proc}
 use Rattle.dump_command.specs.Report.{process_section}
 use Rattle.dump_command.proofs.FoundLoads.{Loads-found, ReadsFor-fields}
-use Rattle.dump_command.proofs.Reading.{IsHalted-subject}
+use Rattle.dump_command.proofs.Reading.{IsHalted-subject, ReadsFor-halted}
 use Rattle.dump_command.proofs.commands.proc.ProcReport.read.Goals as goal
 
 pub returns-in_err-place-clause-reads : goal.returns-in_err-place-clause-reads
 returns-in_err-place-clause-reads g c =
-    let p = err_from_is_err_and c.from_residual.result c.from_residual.ensures.1 in
-    rw (p.1, p.2) (IsHalted-subject (proc c.args.self.now.file.now c.args.self.now.pid.now) _ c.args.at.now.index.now _ _ ℕ _ (search rules) c.in_err-place.ensures.judges)
+    ReadsFor-halted _ _ c.from_residual.result _ c.from_residual.ensures.1 (IsHalted-subject (proc c.args.self.now.file.now c.args.self.now.pid.now) _ c.args.at.now.index.now _ _ ℕ _ (search rules) c.in_err-place.ensures.judges)
 
 pub returns-clause-reads : goal.returns-clause-reads
 returns-clause-reads g c =

@@ -1,47 +1,43 @@
 use Rattle.std.proofs.Common.{refl, ◌∙◌, subst, arith}
-use Rattle.std.proofs.lemmas.Result.{err_from_is_err_and}
 use Rattle.dump_io.specs.Dumps.{told}
 use Rattle.dump_io.specs.Laws.Reads.{ReadsAtMost-then}
 use Rattle.heap_cells.specs.Loading.{section_in, IsBodyIn}
 use Rattle.dump_command.proofs.FoundLoads.{bytes-one}
 use Rattle.dump_command.proofs.HeapLoads.{none-listed, roots-found, roots-told, IsHalted-heap, IsHalted-last, IsHalted-previews, IsOfHeap-roots, Takes-previews}
-use Rattle.dump_command.proofs.Reading.{HasRead-listed, ReadsAtMost-same}
+use Rattle.dump_command.proofs.Reading.{HasRead-listed, ReadsAtMost-same, ReadsFor-halted}
 use Rattle.dump_command.proofs.commands.roots.RootsReport.read.Goals as goal
 
 pub returns-in_err-heap-clause-reads : goal.returns-in_err-heap-clause-reads
 returns-in_err-heap-clause-reads g c =
     let d = g.D.Dumps in
-    let p = err_from_is_err_and c.from_residual.result c.from_residual.ensures.1 in
     let t = c.args.self.now in
     let read = c.in_err-heap.ensures in
     let here = roots-found t.kind t.pid.now c.tag.result.now c.args.at.now.index.now _ c.tag.ensures c.first-place.ensures.place in
-    rw (p.1, p.2) (IsHalted-heap _ _ _ _ _ (IsOfHeap-roots t.kind t.file.now t.pid.now t.nodes t.marked _ _ _ here) _ _ _ read.reads
+    ReadsFor-halted _ _ c.from_residual.result _ c.from_residual.ensures.1 (IsHalted-heap _ _ _ _ _ (IsOfHeap-roots t.kind t.file.now t.pid.now t.nodes t.marked _ _ _ here) _ _ _ read.reads
     (λ some. ReadsAtMost-same d.state _ _ _ read.reads (read.unread some)) read.heap)
 
 pub returns-in_err-previews-clause-reads : goal.returns-in_err-previews-clause-reads
 returns-in_err-previews-clause-reads g c =
     let d = g.D.Dumps in
-    let p = err_from_is_err_and c.from_residual-in_err-previews.result c.from_residual-in_err-previews.ensures.1 in
     let t = c.args.self.now in
     let read = c.in_ok-heap.ensures in
     let shown = c.in_err-previews.ensures in
     let here = roots-found t.kind t.pid.now c.tag.result.now c.args.at.now.index.now _ c.tag.ensures c.first-place.ensures.place in
     let of = IsOfHeap-roots t.kind t.file.now t.pid.now t.nodes t.marked c.args.at.now.limits.now _ _ here in
-    rw (p.1, p.2) (IsHalted-previews _ _ _ _ _ (d.state c.load_heap.new.dumps) (d.state c.load.new.dumps) _
+    ReadsFor-halted _ _ c.from_residual-in_err-previews.result _ c.from_residual-in_err-previews.ensures.1 (IsHalted-previews _ _ _ _ _ (d.state c.load_heap.new.dumps) (d.state c.load.new.dumps) _
     (Takes-previews _ _ _ _ _ of _ _ _ read.heap _ (λ bytes. omega arith) (ReadsAtMost-then read.reads shown.reads) (omega arith))
     shown.fault (λ rose. omega (arith, rose, read.reads.later)))
 
 pub returns-in_err-body-clause-reads : goal.returns-in_err-body-clause-reads
 returns-in_err-body-clause-reads g c =
     let d = g.D.Dumps in
-    let p = err_from_is_err_and c.from_residual-in_err-body.result c.from_residual-in_err-body.ensures.1 in
     let t = c.args.self.now in
     let read = c.in_ok-heap.ensures in
     let shown = c.in_ok-previews.ensures in
     let last = c.in_err-body.ensures in
     let here = roots-found t.kind t.pid.now c.tag.result.now c.args.at.now.index.now _ c.tag.ensures c.first-place.ensures.place in
     let of = IsOfHeap-roots t.kind t.file.now t.pid.now t.nodes t.marked c.args.at.now.limits.now _ _ here in
-    rw (p.1, p.2) (IsHalted-last _ _ _ _ _ _ _ _ _ (d.state c.load.new.dumps) (d.state c.read_found.new.dumps) _
+    ReadsFor-halted _ _ c.from_residual-in_err-body.result _ c.from_residual-in_err-body.ensures.1 (IsHalted-last _ _ _ _ _ _ _ _ _ (d.state c.load.new.dumps) (d.state c.read_found.new.dumps) _
     (Takes-previews _ _ _ _ _ of _ _ _ read.heap _ (λ bytes. omega arith) (ReadsAtMost-then (ReadsAtMost-then read.reads shown.reads) last.reads)
     (omega (arith, bytes-one (section_in c.args.at.now.index.now c.first-place.result)))) read.heap last.fault (λ rose. omega (arith, rose, read.reads.later, shown.reads.later)))
 

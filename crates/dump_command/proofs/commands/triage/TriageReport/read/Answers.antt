@@ -1,12 +1,11 @@
 use Rattle.std.proofs.Common.{rules}
-use Rattle.std.proofs.lemmas.Result.{err_from_is_err_and}
 use Rattle.dump_command.proofs.TriageLoads.{HasRead-triage, IsHalted-places, IsHalted-triage, IsHalted-unread}
+use Rattle.dump_command.proofs.Reading.{ReadsFor-halted}
 use Rattle.dump_command.proofs.commands.triage.TriageReport.read.Goals as goal
 
 pub returns-in_err-places-clause-reads : goal.returns-in_err-places-clause-reads
 returns-in_err-places-clause-reads g c =
-    let p = err_from_is_err_and c.from_residual.result c.from_residual.ensures.1 in
-    rw (p.1, p.2) (IsHalted-places c.args.self.now.file.now c.args.self.now.count _ _ _ _ (search rules))
+    ReadsFor-halted _ _ c.from_residual.result _ c.from_residual.ensures.1 (IsHalted-places c.args.self.now.file.now c.args.self.now.count _ _ _ _ (search rules))
 
 pub returns-in-Some-clause-reads : goal.returns-in-Some-clause-reads
 returns-in-Some-clause-reads g c =
@@ -14,9 +13,8 @@ returns-in-Some-clause-reads g c =
 
 pub returns-in_err-read_bodies-clause-reads : goal.returns-in_err-read_bodies-clause-reads
 returns-in_err-read_bodies-clause-reads g c =
-    let p = err_from_is_err_and c.from_residual-in_err-read_bodies.result c.from_residual-in_err-read_bodies.ensures.1 in
     let read = c.in_err-read_bodies.ensures in
-    rw (p.1, p.2) (IsHalted-unread c.args.self.now.file.now c.args.self.now.count _ _ _ _ _ c.in_default.ensures read.reads read.fault)
+    ReadsFor-halted _ _ c.from_residual-in_err-read_bodies.result _ c.from_residual-in_err-read_bodies.ensures.1 (IsHalted-unread c.args.self.now.file.now c.args.self.now.count _ _ _ _ _ c.in_default.ensures read.reads read.fault)
 
 pub returns-clause-reads : goal.returns-clause-reads
 returns-clause-reads g c =
