@@ -1,18 +1,18 @@
 -- What the text of a cell's form spells, as it is read.
 use Rattle.std.proofs.Common.{◌≡◌, ℕ, suc, ◌+◌, ◌-◌, ◌≤◌, List, [], ◌∷◌, ◌++◌, length, take, drop, map, Some, refl, sym, ◌∙◌, ap, subst, arith, length-append, append_assoc}
 use Rattle.std.specs.Prelude.{codes, ◌↔◌, slice_range, All}
-use Rattle.std.proofs.lemmas.List.{length-take, length-drop}
+use Rattle.std.proofs.lemmas.List.{length-drop}
 use Rattle.std.proofs.lemmas.List.Elements.{All-map, All-weaker}
 use Rattle.std.proofs.Math.Seq.{drop-append_seam, take-append_seam, take-length}
 use Rattle.binary_payloads.specs.declared.enc.Enc.{Enc}
 use Rattle.term_forms.specs.declared.shapes.Elem.{Elem}
-use Rattle.term_forms.specs.Elements.{Element, Small, IsElem, IsFront}
+use Rattle.term_forms.specs.Elements.{Element, IsElem, IsFront}
 use Rattle.term_forms.specs.Forms.{IsForm, Cons}
 use Rattle.term_forms.specs.Places.{Placed, StandsAt}
 use Rattle.term_forms.specs.Reading.{front, whole_of}
 use Rattle.term_forms.specs.Seen.{element}
 use Rattle.term_forms.specs.Words.{bar}
-use Rattle.heap_cells.specs.Inner.Found.{IsPairOf, pair_spelled, size_read, size_at, spelled_at}
+use Rattle.heap_cells.specs.Inner.Found.{IsPairOf, pair_spelled, size_read, spelled_at}
 use Rattle.heap_cells.specs.Inner.Spellings.{Spelling, IsSpelling}
 
 -- the front of a text is the longest prefix that spells an element
@@ -80,13 +80,3 @@ spelled-there text p longest read stands =
 pub all-spelled : (text : List ℕ) (ps : List Placed) → IsLongest → IsRead → All (StandsAt text) ps → All (IsSpelling text) (map (spelled_at text) ps)
 all-spelled text ps longest read stand =
     All-map (IsSpelling text) (spelled_at text) ps (All-weaker (StandsAt text) (λ p. IsSpelling text (spelled_at text p)) (λ p. spelled-there text p longest read) ps stand)
-
--- an integer is spelled by one byte more than it has
-pub small-size : (text : List ℕ) (p : Placed) (integer : List ℕ) → IsRead → p.element ≡ Small integer → IsSpelling text (spelled_at text p) → length integer + 1 ≡ size_at text p.at
-small-size text p integer read same is =
-    let n = size_at text p.at in
-    let part = slice_range text p.at (p.at + size_at text p.at) in
-    let spelled : IsElem part (Small integer) = subst (IsElem part) same ((read part p.element).0 is.spells) in
-    let count : length part ≡ suc (length integer) = ap length spelled.0 in
-    let within = is.within in
-    omega (arith, count, within, length-take (p.at + n - p.at) (drop p.at text), length-drop p.at text)
