@@ -3,7 +3,7 @@ use Rattle.std.proofs.Common.{◌≡◌, ℕ, zero, suc, ◌+◌, ◌-◌, ◌*�
 use Rattle.std.specs.Prelude.{All, IsSome, is_some}
 use Rattle.std.specs.Option.{option_map, option_and_then, option_or, option_to_list}
 use Rattle.std.specs.List.Sorted.{IsNonDecreasingBy, IsPartitionPoint}
-use Rattle.std.proofs.lemmas.Bool.{true≢false, cases_lt, false_from_ne_true, eq-eqb, eqb-true, ltb-true, ltb-false}
+use Rattle.std.proofs.lemmas.Bool.{true≢false, cases_lt, eq-eqb, eqb-true, ltb-true, ltb-false, ne_eqb}
 use Rattle.std.proofs.lemmas.Bool.Decides.{eqb_tells}
 use Rattle.std.proofs.lemmas.List.{get_or-map, length-map}
 use Rattle.std.proofs.lemmas.List.Elements.{All-nil, All-push}
@@ -12,6 +12,7 @@ use Rattle.std.proofs.lemmas.Option.{none-some, same_Some}
 use Rattle.binary_payloads.specs.declared.enc.Enc.{Enc}
 use Rattle.term_forms.specs.Forms.{HeapForm, Cons, Tuple, Float, Long, Pid, Port, Ext, HeapBin, RefBin, SubBin, Flat, Hash, Node}
 use Rattle.dump_sections.specs.Index.{Contents}
+use Rattle.dump_sections.specs.Laws.{option_or-none}
 use Rattle.heap_cells.specs.Cells.{Cell, kind_of}
 use Rattle.heap_cells.specs.HeapMap.{form_at}
 use Rattle.binary_refs.specs.declared.entries.Entry.{Entry}
@@ -20,22 +21,19 @@ use Rattle.binary_refs.specs.Inner.Kinds.{refers}
 
 -- ---- looking entries up
 
-eq-not : (a b : ℕ) → (a ≡ b → ⊥) → (a == b) ≡ false
-eq-not a b other = false_from_ne_true _ (λ same. other (eqb-true a b same))
-
 -- the first entry with a number
 pub entry-first : (es : List Entry) (n i : ℕ) (d : Entry) → ((k : ℕ) → k < i → (get_or es k d).cell ≡ n → ⊥) → i < length es → (get_or es i d).cell ≡ n
     → entry_at es n ≡ Some (get_or es i d)
 entry-first [] n i d before inside is = absurd (omega (arith, inside))
 entry-first (e ∷ es) n zero d before inside is = ap (λ b. if b then Some e else entry_at es n) (eq-eqb e.cell n is)
 entry-first (e ∷ es) n (suc i) d before inside is =
-    ap (λ b. if b then Some e else entry_at es n) (eq-not e.cell n (before 0 (omega arith)))
+    ap (λ b. if b then Some e else entry_at es n) (ne_eqb e.cell n (before 0 (omega arith)))
     ∙ entry-first es n i d (λ k less. before (suc k) (omega (arith, less))) (omega (arith, inside)) is
 
 pub entry-none : (es : List Entry) (n : ℕ) (d : Entry) → ((k : ℕ) → k < length es → (get_or es k d).cell ≡ n → ⊥) → entry_at es n ≡ None
 entry-none [] n d none = refl
 entry-none (e ∷ es) n d none =
-    ap (λ b. if b then Some e else entry_at es n) (eq-not e.cell n (none 0 (omega arith)))
+    ap (λ b. if b then Some e else entry_at es n) (ne_eqb e.cell n (none 0 (omega arith)))
     ∙ entry-none es n d (λ k less. none (suc k) (omega (arith, less)))
 
 abbrev pub IsPointOf : List Entry → ℕ → ℕ → Type 0
@@ -134,11 +132,7 @@ pair-one (Some p) n numbered = ap (λ b. if b then Some p else None) (eq-eqb p.0
 
 pair-other : (o : Option (ℕ × ℕ)) (n k : ℕ) → ((p : ℕ × ℕ) → o ≡ Some p → p.0 ≡ n) → (n ≡ k → ⊥) → pair_at (option_to_list o) k ≡ None
 pair-other None n k numbered other = refl
-pair-other (Some p) n k numbered other = ap (λ b. if b then Some p else None) (eq-not p.0 k (λ same. other (sym (numbered p refl) ∙ same)))
-
-or-none : (o : Option (ℕ × ℕ)) → option_or o None ≡ o
-or-none None = refl
-or-none (Some p) = refl
+pair-other (Some p) n k numbered other = ap (λ b. if b then Some p else None) (ne_eqb p.0 k (λ same. other (sym (numbered p refl) ∙ same)))
 
 -- the pair of a number among those of the first n cells
 abbrev pub AreUpto : List Cell → ℕ → ℕ → Type 0
@@ -153,7 +147,7 @@ pairs-step cells n k so_far = (λ before. below before (cases_lt k n), above)
     apart : (n ≡ k → ⊥) → pair_at (by_number stated cells (suc n)) k ≡ pair_at (by_number stated cells n) k
     apart other =
         parts ∙ ap (option_or (pair_at (by_number stated cells n) k)) (pair-other (one_stated cells n) n k (one-number cells n) other)
-        ∙ or-none (pair_at (by_number stated cells n) k)
+        ∙ option_or-none (pair_at (by_number stated cells n) k)
 
     below : k < suc n → (k < n) ⊎ (n ≤ k) → pair_at (by_number stated cells (suc n)) k ≡ one_stated cells k
     below before (inl earlier) = apart (λ same. omega (arith, same, earlier)) ∙ so_far.0 earlier
@@ -293,11 +287,6 @@ no-entry dump index enc cells n (Some (Hash size children)) other = refl
 no-entry dump index enc cells n (Some (Node children)) other = refl
 
 -- ---- heaps without a reference to a binary
-
-pub none-more : (cells : List Cell) (n : ℕ) → refers (option_map kind_of (form_at cells n)) ≡ false → by_number stated cells n ≡ [] → by_number stated cells (n + 1) ≡ []
-none-more cells n other none =
-    by_number-more stated cells n
-    ∙ (ap (λ l. l ++ option_to_list (one_stated cells n)) none ∙ ap option_to_list (not-stated n (form_at cells n) other))
 
 stated-of : (dump : List ℕ) (index : Contents) (enc : Enc) (cells : List Cell) (n : ℕ) (form : HeapForm) → stated n form ≡ None → entry_of dump index enc cells n form ≡ None
 stated-of dump index enc cells n (Cons head tail) none = refl

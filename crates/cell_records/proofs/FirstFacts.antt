@@ -1,15 +1,14 @@
 -- Which records stand in front of all others with their address.
-use Rattle.std.proofs.Common.{◌≡◌, ℕ, zero, suc, ◌+◌, ◌-◌, ◌<◌, ◌≤◌, ◌==◌, ◌||◌, ◌⊎◌, inl, inr, Bool, true, false, not, eqb, None, List, length, get_or, set, take, refl, sym, ◌∙◌, ap, subst, arith, below_more}
+use Rattle.std.proofs.Common.{◌≡◌, ℕ, zero, suc, ◌+◌, ◌-◌, ◌<◌, ◌≤◌, ◌==◌, ◌||◌, ◌⊎◌, inl, inr, Bool, true, false, not, eqb, List, length, get_or, set, take, refl, sym, ◌∙◌, ap, subst, arith, below_more}
 use Rattle.std.proofs.lemmas.Bool.{true≢false, cases_lt, false_from_ne_true, eq-eqb, eqb-true}
 use Rattle.std.proofs.lemmas.Bool.Decides.{eqb_tells}
 use Rattle.std.proofs.lemmas.Grind.{get_or-set_at}
 use Rattle.std.proofs.lemmas.List.{get_or_default, get_or-set_other, get_or-set_same, length-set, length-map, get_or-take, length-take}
 use Rattle.std.proofs.lemmas.List.Folds.{list_any_none, list_any_at}
-use Rattle.std.proofs.lemmas.Option.{slice_get-get_or}
 use Rattle.cell_records.specs.declared.cells.CellRecord.{CellRecord}
 use Rattle.cell_records.specs.Inner.Firsts.{AreFirsts, AreApart}
-use Rattle.cell_records.specs.Order.{address_or, address_in, rank, IsOrder, is_first, AreRanked}
-use Rattle.cell_records.proofs.OrderFacts.{ranked, lesser, numbers_of, order-of, address-at}
+use Rattle.cell_records.specs.Order.{address_in, rank, IsOrder, is_first, AreRanked}
+use Rattle.cell_records.proofs.OrderFacts.{ranked, lesser, numbers_of, order-of, address-at, no_record, record-address}
 
 -- no record before this one has its address
 abbrev pub IsFirst : List CellRecord → ℕ → Type 0
@@ -159,15 +158,9 @@ same-bools true y one other = sym (one refl)
 same-bools false true one other = other refl
 same-bools false false one other = refl
 
-record-address : (rs : List CellRecord) (k : ℕ) (d : CellRecord) → k < length rs → address_in rs k ≡ (get_or rs k d).address
-record-address rs k d inside = ap (address_or 0) (slice_get-get_or rs k d inside)
-
 -- a record in front of another one, as it is met among those in front
 front-address : (rs : List CellRecord) (n k : ℕ) (d : CellRecord) → n < length rs → k < n → (get_or (take n rs) k d).address ≡ address_in rs k
 front-address rs n k d inside before = ap (λ (r : CellRecord). r.address) (get_or-take n rs k d before) ∙ sym (record-address rs k d (omega arith))
-
-no_record : CellRecord
-no_record = record { address = 0; at = 0; len = 0; first = 0; kind = None }
 
 pub first-passes : (rs : List CellRecord) (n : ℕ) → n < length rs → IsFirst rs n → is_first rs n ≡ true
 first-passes rs n inside first =

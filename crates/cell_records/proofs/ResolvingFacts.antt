@@ -1,5 +1,5 @@
 -- Resolving references in place.
-use Rattle.std.proofs.Common.{◌≡◌, ℕ, ◌+◌, ◌<◌, ◌≤◌, ◌⊎◌, true, false, eqb, inl, inr, List, [], ◌∷◌, ◌++◌, length, get_or, set, map, Option, None, Some, refl, sym, ◌∙◌, ap, subst, arith, below_more}
+use Rattle.std.proofs.Common.{◌≡◌, ℕ, ◌+◌, ◌<◌, ◌≤◌, ◌⊎◌, true, false, eqb, inl, inr, List, ◌++◌, length, get_or, set, map, Option, None, Some, refl, sym, ◌∙◌, ap, subst, arith, below_more}
 use Rattle.std.specs.Prelude.{slice_get, All, Contains}
 use Rattle.std.specs.List.Sorted.{IsPermutation, IsNonDecreasingBy}
 use Rattle.std.proofs.lemmas.List.Sorted.{All-permutation, Contains-permutation}
@@ -7,7 +7,7 @@ use Rattle.std.proofs.lemmas.List.Elements.{All-push, Contains-push, Contains-ap
 use Rattle.std.proofs.lemmas.Option.{get_or_from_slice_get, slice_get_within, slice_get-get_or}
 use Rattle.std.proofs.lemmas.Bool.Decides.{eqb_tells}
 use Rattle.std.proofs.lemmas.Grind.{get_or-set_at}
-use Rattle.std.proofs.lemmas.List.{get_or_default, get_or-set_other, get_or-map, length-set, length-map, same_lists}
+use Rattle.std.proofs.lemmas.List.{get_or_default, get_or-set_other, get_or-map, length-set, length-map, same_lists, append-nil}
 use Rattle.cell_records.specs.declared.cells.CellRecord.{CellRecord}
 use Rattle.cell_records.specs.declared.cells.Slot.{Slot}
 use Rattle.cell_records.specs.declared.cells.Slot.TheVariants as slot
@@ -35,20 +35,13 @@ pub record IsMerging (pairs : List (ℕ × ℕ)) (olds slots : List Slot) (refer
 
 -- ---- the references are found
 
-pub found-none : (slots : List Slot) → AreFound slots [] 0
-found-none slots = record { sound = λ k d inside. absurd (omega arith); complete = λ i address before. absurd (omega arith) }
-
-append-none : {X : Type 0} (xs : List X) → xs ++ [] ≡ xs
-append-none [] = refl
-append-none (x ∷ xs) = ap (λ l. x ∷ l) (append-none xs)
-
 abbrev IsOf : List Slot → ℕ × ℕ → Type 0
 IsOf slots r = slice_get slots r.1 ≡ Some (slot.Gone r.0)
 
 sound-more : (slots : List Slot) (references : List (ℕ × ℕ)) (i : ℕ) (s : Slot) → slice_get slots i ≡ Some s → All (λ (r : ℕ × ℕ). IsOf slots r) references
     → All (λ (r : ℕ × ℕ). IsOf slots r) (references ++ reference_of s i)
-sound-more slots references i (slot.Imm span) is all = subst (All (λ (r : ℕ × ℕ). IsOf slots r)) (sym (append-none references)) all
-sound-more slots references i (slot.Cell ix) is all = subst (All (λ (r : ℕ × ℕ). IsOf slots r)) (sym (append-none references)) all
+sound-more slots references i (slot.Imm span) is all = subst (All (λ (r : ℕ × ℕ). IsOf slots r)) (sym (append-nil references)) all
+sound-more slots references i (slot.Cell ix) is all = subst (All (λ (r : ℕ × ℕ). IsOf slots r)) (sym (append-nil references)) all
 sound-more slots references i (slot.Gone address) is all = All-push (λ (r : ℕ × ℕ). IsOf slots r) references (address, i) all is
 
 pub found-more : (slots : List Slot) (references more : List (ℕ × ℕ)) (i : ℕ) (d : Slot) → i < length slots → AreFound slots references i
@@ -70,9 +63,6 @@ found-all slots references i all found = record {
 }
 
 -- ---- each slot is settled
-
-pub resolving-none : (rs : List CellRecord) (slots : List Slot) (references : List (ℕ × ℕ)) → AreResolving rs slots slots references 0
-resolving-none rs slots references = record { count = refl; each = λ i d inside. inl refl; over = λ k d before. absurd (omega arith) }
 
 -- what is found of a reference is that it is settled
 found-settled : (rs : List CellRecord) (olds : List Slot) (address i : ℕ) (d : Slot) (number : Option ℕ) → slice_get olds i ≡ Some (slot.Gone address) → number ≡ record_with rs address
@@ -178,13 +168,6 @@ references-rise slots references few are sorted i j d up inside =
   where
     place : (k : ℕ) → k < length references → (get_or references k d).1 < 4294967296
     place k listed = let there = slice_get_within slots (get_or references k d).1 (slot.Gone (get_or references k d).0) (are.sound k d listed) in omega (arith, there, few)
-
-pub merging-none : (pairs : List (ℕ × ℕ)) (slots : List Slot) (references : List (ℕ × ℕ)) → IsMerging pairs slots slots references 0 0
-merging-none pairs slots references = record {
-  within = omega arith;
-  front = λ i j before. absurd (omega arith);
-  resolving = λ rs few are. resolving-none rs slots references;
-}
 
 pub merging-more : (pairs : List (ℕ × ℕ)) (olds slots : List Slot) (references : List (ℕ × ℕ)) (at next k : ℕ) (number : Option ℕ) → k < length references → AreReferences olds references
     → IsNonDecreasingBy (λ (p : ℕ × ℕ). p.0) references → IsMerging pairs olds slots references at k → IsFirstFrom pairs (get_or references k (0, 0)).0 next

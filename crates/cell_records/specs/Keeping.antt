@@ -7,11 +7,12 @@ use Rattle.cell_records.specs.declared.keeping.Indexed.{Indexed}
 use Rattle.cell_records.specs.Order.{is_first, AreRanked}
 use Rattle.cell_records.specs.Slots.{slots_at}
 
+-- at most one record, whose slots begin at this place
 abbrev pub moved : ℕ → Option CellRecord → List CellRecord
 moved first None = []
 moved first (Some r) = record r { first = first } ∷ []
 
--- a record whose slots begin at another place
+-- the record with a number, whose slots begin at this place; past the last one, none
 abbrev pub moved_record : List CellRecord → ℕ → ℕ → List CellRecord
 moved_record records i first = moved first (slice_get records i)
 

@@ -9,6 +9,7 @@ use Rattle.cell_records.specs.declared.cells.CellRecord.{CellRecord}
 abbrev pub rank : ℕ → ℕ → ℕ
 rank address number = address * 4294967296 + number
 
+-- the address of a record, or another one if there is no record
 abbrev pub address_or : ℕ → Option CellRecord → ℕ
 address_or other None = other
 address_or other (Some r) = r.address

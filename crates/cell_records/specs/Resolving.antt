@@ -5,6 +5,7 @@ use Rattle.cell_records.specs.declared.cells.Slot.{Slot}
 use Rattle.cell_records.specs.declared.cells.Slot.TheVariants as slot
 use Rattle.cell_records.specs.Order.{record_with}
 
+-- a reference leads to the cell that was found, or to an address that no cell has
 abbrev pub cell_or_gone : ℕ → Option ℕ → Slot
 cell_or_gone address None = slot.Gone address
 cell_or_gone address (Some number) = slot.Cell (record { 0 = number })

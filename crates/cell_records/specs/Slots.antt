@@ -3,11 +3,12 @@ use Rattle.std.specs.Prelude.{ℕ, ◌+◌, ◌<◌, ◌≤◌, List, length, sl
 use Rattle.cell_records.specs.declared.cells.CellRecord.{CellRecord}
 use Rattle.cell_records.specs.declared.cells.Slot.{Slot}
 
--- where the slots of a record begin, or, past the last record, where all slots end
+-- where the slots of a record begin, or, if there is no record, where all slots end
 abbrev pub first_or : ℕ → Option CellRecord → ℕ
 first_or total None = total
 first_or total (Some r) = r.first
 
+-- where the slots of the record with a number begin; past the last one, where all slots end
 abbrev pub start_at : List CellRecord → ℕ → ℕ → ℕ
 start_at records i total = first_or total (slice_get records i)
 

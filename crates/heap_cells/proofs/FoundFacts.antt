@@ -72,9 +72,9 @@ pub all-spelled : (text : List ℕ) (ps : List Placed) → IsLongest → IsRead 
 all-spelled text ps longest read stand = All-weaker (StandsAt text) (IsSpelling text) (λ p. spelled-there text p longest read) ps stand
 
 -- the slot of one more element
-pub slots-more : (from : ℕ) (old new all : List Slot) (p : Placed) (rest ps : List Placed) → new ≡ old ++ slot_for from p ∷ [] → ps ≡ p ∷ rest
+pub slots-pushed : (from : ℕ) (old new all : List Slot) (p : Placed) (rest ps : List Placed) → new ≡ old ++ slot_for from p ∷ [] → ps ≡ p ∷ rest
     → old ++ map (slot_for from) ps ≡ all → new ++ map (slot_for from) rest ≡ all
-slots-more from old new all p rest ps pushed split is =
+slots-pushed from old new all p rest ps pushed split is =
     ap (λ l. l ++ map (slot_for from) rest) pushed
     ∙ append_assoc old (slot_for from p ∷ []) (map (slot_for from) rest)
     ∙ ap (λ l. old ++ map (slot_for from) l) (sym split)

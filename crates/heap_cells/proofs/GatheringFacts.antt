@@ -5,7 +5,7 @@ use Rattle.std.specs.Option.{option_map}
 use Rattle.std.specs.List.{filter_map, cons_option}
 use Rattle.std.proofs.Math.Seq.{drop-append_seam}
 use Rattle.field_lines.specs.Lines.{TextLine, IsPart as IsLinePart}
-use Rattle.std.proofs.lemmas.List.{drop-drop, drop-take, length-take, length-map, map-append, take-take}
+use Rattle.std.proofs.lemmas.List.{drop-drop, drop-take, length-take, length-map, map-append, take-take, append-nil}
 use Rattle.std.proofs.lemmas.List.Sums.{sum_by-cons}
 use Rattle.std.proofs.lemmas.Option.{slice_get-map, slice_get_within, get_or_from_slice_get}
 use Rattle.binary_payloads.specs.declared.enc.Enc.{Enc}
@@ -32,7 +32,7 @@ use Rattle.heap_cells.specs.Inner.Spellings.{IsSpelling}
 use Rattle.heap_cells.proofs.PushingFacts.{AreSlots-push}
 use Rattle.heap_cells.specs.declared.texts.Texts.{Texts}
 use Rattle.heap_cells.specs.Inner.Texts.{text_of, seam_of}
-use Rattle.heap_cells.proofs.RecordFacts.{append-none, has-at}
+use Rattle.heap_cells.proofs.RecordFacts.{has-at}
 
 pub OnOk-both : {A B C T E : Type 0} (r : Result T E) → OnOk r A → OnOk r B → (A → B → C) → OnOk r C
 OnOk-both (Ok x) a b f = f a b
@@ -234,13 +234,6 @@ leads-kept text enc old new cell rest all weight dense cells leads = record {
   kept = λ few. ap (λ l. l ++ rest) cells ∙ append_assoc (cells_in text enc old.arena.cells.items) (cell ∷ []) rest ∙ leads.kept (omega (arith, few, weight, dense));
 }
 
-pub leads-passed : (text : List ℕ) (enc : Enc) (old new : Gathering) (cell : Cell) (rest all : List Cell) → new.weight ≡ old.weight + cell_weight cell → new.dense < new.weight
-    → Leads text enc old (cell ∷ rest) all → Leads text enc new rest all
-leads-passed text enc old new cell rest all weight over leads = record {
-  weight = omega (arith, weight, leads.weight, sum_by-cons cell_weight cell rest);
-  kept = λ few. absurd (omega (arith, few, over));
-}
-
 pub found-is : (text : List ℕ) (seam : ℕ) (enc : Enc) (from upto : ℕ) (part : List ℕ) (found : Found) → IsPart seam (length text) from upto → part ≡ slice_range text from upto
     → form_found found ≡ form_of enc part → IfSome found (λ f. map (λ (s : Placed). s.element) f.1 ≡ elements_of (heap_form f.0)) → IfSome found (λ f. All (IsSpelling part) f.1)
     → IsFound text seam enc from upto found
@@ -289,10 +282,6 @@ pub line-cells : (enc : Enc) (line : TextLine) (address : ℕ) (spelled : List �
     → filter_map (cell_of enc) (line ∷ rest) ≡ spelled_cell enc (address, spelled) ∷ filter_map (cell_of enc) rest
 line-cells enc line address spelled rest led = ap (λ o. cons_option (option_map (spelled_cell enc) o) (filter_map (cell_of enc) rest)) (sym led)
 
--- and of another line
-pub no-line : (enc : Enc) (line : TextLine) (rest : List TextLine) → None ≡ led_of line.text → filter_map (cell_of enc) (line ∷ rest) ≡ filter_map (cell_of enc) rest
-no-line enc line rest none = ap (λ o. cons_option (option_map (spelled_cell enc) o) (filter_map (cell_of enc) rest)) (sym none)
-
 -- ---- a line of a body
 
 pub line-at : (text : List ℕ) (seam base : ℕ) (body : List ℕ) (line : TextLine) → IsBodyAt text seam base body → IsLinePart body line → IsLineAt text seam base line
@@ -319,12 +308,6 @@ leads-begin text enc g all none cells = record {
   kept = λ few. ap (λ l. cells_in text enc l ++ all) cells;
 }
 
-pub gathered-begin : (text : List ℕ) (seam : ℕ) (enc : Enc) (g : Gathering) → g.arena.cells.items ≡ [] → g.arena.slots.items ≡ [] → IsGathered text seam enc g
-gathered-begin text seam enc g cells slots = record {
-  slots_are = rw (cells, slots) (record { laid = refl; targets = refl; spelled = λ i r is. cc });
-  few = rw (cells, slots) (omega arith);
-}
-
 pub all-gathered : (texts : Texts) (first last : Gathering) (own : ℕ) → first.dense ≡ last.dense → IsGathered (text_of texts) (seam_of texts) texts.enc last
     → Leads (text_of texts) texts.enc first (line_cells texts.enc texts.literals.items) (line_cells texts.enc texts.heap.items ++ line_cells texts.enc texts.literals.items)
     → Leads (text_of texts) texts.enc last [] (line_cells texts.enc texts.heap.items ++ line_cells texts.enc texts.literals.items) → own ≡ length first.arena.cells.items
@@ -332,7 +315,7 @@ pub all-gathered : (texts : Texts) (first last : Gathering) (own : ℕ) → firs
 all-gathered texts first last own same gathered before after own_is = record {
   gathered = gathered;
   weight_is = omega (arith, after.weight);
-  cells_are = λ few. sym (append-none (cells_in (text_of texts) texts.enc last.arena.cells.items)) ∙ after.kept few;
+  cells_are = λ few. sym (append-nil (cells_in (text_of texts) texts.enc last.arena.cells.items)) ∙ after.kept few;
   own_is = λ few.
       let heap = line_cells texts.enc texts.heap.items in
       let literals = line_cells texts.enc texts.literals.items in

@@ -4,7 +4,7 @@ use Rattle.std.specs.Prelude.{nat_eq, slice_get, slice_range}
 use Rattle.std.specs.Option.{option_map}
 use Rattle.std.specs.List.{list_any, flat_map, IsDistinct, AllByRecursion}
 use Rattle.std.proofs.lemmas.Bool.{true≢false, false_from_ne_true, eqb-true, eq-eqb}
-use Rattle.std.proofs.lemmas.List.{length-map, take-map, drop-map, take-append-drop}
+use Rattle.std.proofs.lemmas.List.{length-map, take-map, drop-map, take-append-drop, append-nil}
 use Rattle.std.proofs.Math.Seq.{take-append_seam}
 use Rattle.std.proofs.lemmas.List.Folds.{list_any-append}
 use Rattle.std.proofs.lemmas.List.Sums.{sum_by-cons}
@@ -28,8 +28,8 @@ use Rattle.cell_records.specs.Order.{record_with, IsOrder}
 use Rattle.cell_records.specs.Slots.{start_at, slots_at, AreOrdered}
 use Rattle.heap_cells.specs.Inner.Records.{cell_in, cells_in, elements_by, AreLaid, AreSlots, Spells, AllSpell, IsArena}
 use Rattle.cell_records.specs.Resolving.{settled, cell_or_gone}
-use Rattle.heap_cells.proofs.KeepingFacts.{is_seen, indexed}
-use Rattle.heap_cells.proofs.RecordFacts.{append-none, has-at, piece-of, number-at, weight-slots}
+use Rattle.heap_cells.proofs.KeepingFacts.{is_seen, indexed, cond-append}
+use Rattle.heap_cells.proofs.RecordFacts.{has-at, piece-of, number-at, weight-slots}
 
 pub ordered-slots : (text : List ℕ) (seam : ℕ) (enc : Enc) (known : List Cell) (rs : List CellRecord) (slots : List Slot) → AreSlots text seam enc known rs slots
     → AreOrdered rs (length slots)
@@ -51,16 +51,12 @@ weight-first seen (cell ∷ cells) =
     let few = weight-unless (is_seen seen cell) cell later (weight_of cells) (weight-first (seen ++ cell.address ∷ []) cells) in
     omega (arith, few, sum_by-cons cell_weight cell cells)
 
-append-unless : (b : Bool) (cell : Cell) (xs ys : List Cell) → cond b (xs ++ ys) (cell ∷ (xs ++ ys)) ≡ cond b xs (cell ∷ xs) ++ ys
-append-unless true cell xs ys = refl
-append-unless false cell xs ys = refl
-
 first_cells-append : (seen : List ℕ) (xs ys : List Cell) → first_cells seen (xs ++ ys) ≡ first_cells seen xs ++ first_cells (seen ++ addresses xs) ys
-first_cells-append seen [] ys = ap (λ l. first_cells l ys) (sym (append-none seen))
+first_cells-append seen [] ys = ap (λ l. first_cells l ys) (sym (append-nil seen))
 first_cells-append seen (cell ∷ xs) ys =
     let more = seen ++ cell.address ∷ [] in
     let later = first_cells-append more xs ys ∙ ap (λ l. first_cells more xs ++ first_cells l ys) (append_assoc seen (cell.address ∷ []) (addresses xs)) in
-    ap (λ l. cond (is_seen seen cell) l (cell ∷ l)) later ∙ append-unless (is_seen seen cell) cell (first_cells more xs) (first_cells (seen ++ addresses (cell ∷ xs)) ys)
+    ap (λ l. cond (is_seen seen cell) l (cell ∷ l)) later ∙ cond-append (is_seen seen cell) (first_cells more xs) (first_cells (seen ++ addresses (cell ∷ xs)) ys) cell
 
 pub first-few : (cells : List Cell) (own : ℕ) → length (first_cells [] (take own cells)) ≤ length (first_cells [] cells)
 first-few cells own =

@@ -3,7 +3,7 @@ use Rattle.std.proofs.Common.{◌≡◌, ℕ, zero, suc, ◌+◌, ◌<◌, ◌�
 use Rattle.std.specs.Prelude.{slice_get}
 use Rattle.std.specs.List.{list_any}
 use Rattle.std.proofs.Math.Seq.{take-length}
-use Rattle.std.proofs.lemmas.List.{take_more, length-map, map-append, take-map, length-take}
+use Rattle.std.proofs.lemmas.List.{take_more, length-map, map-append, take-map, length-take, append-nil}
 use Rattle.std.proofs.lemmas.Option.{get_or_from_slice_get, slice_get_within}
 use Rattle.binary_payloads.specs.declared.enc.Enc.{Enc}
 use Rattle.cell_records.specs.declared.arena.Arena.{Arena}
@@ -17,20 +17,20 @@ use Rattle.cell_records.specs.Order.{address_or, address_in, is_first, AreRanked
 use Rattle.heap_cells.specs.Inner.Records.{cell_in, cells_in, AreSlots}
 use Rattle.cell_records.specs.Slots.{slots_at}
 use Rattle.heap_cells.proofs.PushingFacts.{AreSlots-push}
-use Rattle.heap_cells.proofs.RecordFacts.{append-none, has-at, cell-at, record-at, piece-of}
+use Rattle.heap_cells.proofs.RecordFacts.{has-at, cell-at, record-at, piece-of}
 
 -- ---- the first of the cells
 
 abbrev pub is_seen : List ℕ → Cell → Bool
 is_seen seen cell = list_any (λ address. address == cell.address) seen
 
-cond-append : (b : Bool) (xs ys : List Cell) (x : Cell) → cond b (xs ++ ys) (x ∷ (xs ++ ys)) ≡ cond b xs (x ∷ xs) ++ ys
+pub cond-append : (b : Bool) (xs ys : List Cell) (x : Cell) → cond b (xs ++ ys) (x ∷ (xs ++ ys)) ≡ cond b xs (x ∷ xs) ++ ys
 cond-append true xs ys x = refl
 cond-append false xs ys x = refl
 
 first_cells-push : (seen : List ℕ) (cells : List Cell) (cell : Cell)
     → first_cells seen (cells ++ cell ∷ []) ≡ first_cells seen cells ++ cond (is_seen (seen ++ addresses cells) cell) [] (cell ∷ [])
-first_cells-push seen [] cell = ap (λ l. cond (is_seen l cell) [] (cell ∷ [])) (sym (append-none seen))
+first_cells-push seen [] cell = ap (λ l. cond (is_seen l cell) [] (cell ∷ [])) (sym (append-nil seen))
 first_cells-push seen (other ∷ cells) cell =
     let later = first_cells-push (seen ++ other.address ∷ []) cells cell in
     let tail = cond (is_seen (seen ++ addresses (other ∷ cells)) cell) [] (cell ∷ []) in
@@ -96,7 +96,7 @@ kept-unless : (text : List ℕ) (seam : ℕ) (enc : Enc) (rs records : List Cell
     → slice_get rs i ≡ Some r → AreSlots text seam enc [] rs ss → IsKept text seam enc cells records slots
     → IsKept text seam enc (cells ++ cond b (cell_in text enc r ∷ []) []) (cond b (records ++ moved_record rs i (length slots)) records) (cond b (slots ++ slots_at rs ss i) slots)
 kept-unless text seam enc rs records ss slots i cells r true is are kept = kept-more text seam enc rs records ss slots i cells r is are kept
-kept-unless text seam enc rs records ss slots i cells r false is are kept = subst (λ l. IsKept text seam enc l records slots) (sym (append-none cells)) kept
+kept-unless text seam enc rs records ss slots i cells r false is are kept = subst (λ l. IsKept text seam enc l records slots) (sym (append-nil cells)) kept
 
 kept-upto : (text : List ℕ) (seam : ℕ) (enc : Enc) (rs : List CellRecord) (ss : List Slot) (n : ℕ) → n ≤ length rs → AreSlots text seam enc [] rs ss
     → IsKept text seam enc (first_cells [] (take n (cells_in text enc rs))) (kept_records rs ss n) (kept_slots rs ss n)

@@ -4,7 +4,7 @@ use Rattle.std.specs.Prelude.{slice_get, slice_range}
 use Rattle.std.specs.List.{flat_map}
 use Rattle.std.proofs.lemmas.Bool.{cases_lt}
 use Rattle.std.proofs.lemmas.Option.{slice_get_past}
-use Rattle.std.proofs.lemmas.List.{length-map, map-append, take-append-le, drop-append-le}
+use Rattle.std.proofs.lemmas.List.{length-map, map-append, take-append-le, drop-append-le, append-nil}
 use Rattle.std.proofs.lemmas.List.Concat.{flat_map-append}
 use Rattle.std.proofs.Math.Seq.{drop-append_seam, take-length}
 use Rattle.binary_payloads.specs.declared.enc.Enc.{Enc}
@@ -14,7 +14,7 @@ use Rattle.heap_cells.specs.Cells.{Cell}
 use Rattle.heap_cells.specs.Targets.{target, slot_target}
 use Rattle.heap_cells.specs.Inner.Records.{elements_by, IsRecord, AreLaid, AreSlots, AllSpell}
 use Rattle.cell_records.specs.Slots.{first_or, start_at, slots_at}
-use Rattle.heap_cells.proofs.RecordFacts.{append-none, piece-of}
+use Rattle.heap_cells.proofs.RecordFacts.{piece-of}
 
 -- ---- a record behind others
 
@@ -84,7 +84,7 @@ AreSlots-push text seam enc known rs slots added r are one leads spell =
           ∙ ap (λ l. l ++ map slot_target added) are.targets
           ∙ ap (λ l. map (target known) (flat_map (elements_by text enc) rs) ++ l) leads
           ∙ sym (map-append (target known) (flat_map (elements_by text enc) rs) es)
-          ∙ ap (map (target known)) (ap (λ l. flat_map (elements_by text enc) rs ++ l) (sym (append-none es)) ∙ sym (flat_map-append (elements_by text enc) rs (r ∷ [])));
+          ∙ ap (map (target known)) (ap (λ l. flat_map (elements_by text enc) rs ++ l) (sym (append-nil es)) ∙ sym (flat_map-append (elements_by text enc) rs (r ∷ [])));
       spelled = λ i other is. each i other is (cases_lt i (length rs));
     }
   where

@@ -1,10 +1,10 @@
 -- What the records and the slots of a heap say of its cells.
-use Rattle.std.proofs.Common.{◌≡◌, ℕ, zero, suc, ◌+◌, ◌-◌, ◌<◌, ◌≤◌, ◌==◌, Bool, not, cond, ltb, List, [], ◌∷◌, ◌++◌, length, take, drop, map, get_or, Option, None, Some, refl, sym, ◌∙◌, ap, subst, arith, length-append, length-drop}
+use Rattle.std.proofs.Common.{◌≡◌, ℕ, zero, suc, ◌+◌, ◌-◌, ◌<◌, ◌≤◌, ◌==◌, List, [], ◌∷◌, ◌++◌, length, take, drop, map, get_or, Option, None, Some, refl, sym, ◌∙◌, ap, subst, arith, length-append, length-drop}
 use Rattle.std.specs.Prelude.{slice_get, is_some, IsSome, IfSome}
 use Rattle.std.specs.Option.{option_map}
-use Rattle.std.specs.List.{flat_map, position, position_or_len}
+use Rattle.std.specs.List.{flat_map}
 use Rattle.std.proofs.lemmas.Option.{slice_get-map, slice_get_read, slice_get-get_or}
-use Rattle.std.proofs.lemmas.List.{length-map, length-take, drop-drop, take-map, drop-map}
+use Rattle.std.proofs.lemmas.List.{length-map, length-take, drop-drop, take-map, drop-map, append-nil}
 use Rattle.std.proofs.Math.Seq.{drop-append_seam}
 use Rattle.std.proofs.lemmas.List.Sums.{sum_by-cons}
 use Rattle.binary_payloads.specs.declared.enc.Enc.{Enc}
@@ -22,12 +22,9 @@ use Rattle.heap_cells.specs.Targets.{target, slot_target, kid_target, KeepsEleme
 use Rattle.cell_records.specs.Order.{record_with}
 use Rattle.cell_records.specs.Slots.{start_at, slots_at}
 use Rattle.heap_cells.specs.Inner.Records.{cell_in, cells_in, elements_by, IsRecord, AreLaid, AreSlots, element_at, spelled_by, IsReadable, Spells}
+use Rattle.dump_io.specs.Laws.Lists.{position-map}
 
 -- ---- a record by its number
-
-pub append-none : {X : Type 0} (xs : List X) → xs ++ [] ≡ xs
-append-none [] = refl
-append-none (x ∷ xs) = ap (λ l. x ∷ l) (append-none xs)
 
 pub has-at : {X : Type 0} (xs : List X) (i : ℕ) → i < length xs → (x : X) × (slice_get xs i ≡ Some x)
 has-at [] i h = absurd (omega arith)
@@ -42,10 +39,6 @@ cell-at text enc rs i r is = slice_get-map (cell_in text enc) rs i ∙ ap (optio
 pub form-at : (text : List ℕ) (enc : Enc) (rs : List CellRecord) (i : ℕ) (r : CellRecord) → slice_get rs i ≡ Some r
     → (cell_in text enc r).form ≡ form_at (cells_in text enc rs) i
 form-at text enc rs i r is = rw (cell-at text enc rs i r is) refl
-
-pub elements-at : (text : List ℕ) (enc : Enc) (rs : List CellRecord) (i : ℕ) (r : CellRecord) → slice_get rs i ≡ Some r
-    → elements_by text enc r ≡ elements_at (cells_in text enc rs) i
-elements-at text enc rs i r is = ap elements_in (form-at text enc rs i r is)
 
 pub record-at : (text : List ℕ) (seam : ℕ) (enc : Enc) (begin : ℕ) (rs : List CellRecord) (upto i : ℕ) (r : CellRecord) → AreLaid text seam enc begin rs upto
     → slice_get rs i ≡ Some r → (at : ℕ) × IsRecord text seam enc at r
@@ -69,7 +62,7 @@ start_at-is text seam enc begin (r ∷ rs) upto (suc i) laid =
 length-more : (f : CellRecord → List Element) (rs : List CellRecord) (i : ℕ) (r : CellRecord) → slice_get rs i ≡ Some r
     → length (flat_map f (take (suc i) rs)) ≡ length (flat_map f (take i rs)) + length (f r)
 length-more f [] i r is = cc
-length-more f (x ∷ rs) zero r is = let same : x ≡ r = cc in ap length (append-none (f x)) ∙ ap (λ y. length (f y)) same ∙ omega arith
+length-more f (x ∷ rs) zero r is = let same : x ≡ r = cc in ap length (append-nil (f x)) ∙ ap (λ y. length (f y)) same ∙ omega arith
 length-more f (x ∷ rs) (suc i) r is =
     let later = length-more f rs i r is in
     omega (arith, later, length-append (f x) (flat_map f (take (suc i) rs)), length-append (f x) (flat_map f (take i rs)))
@@ -250,18 +243,9 @@ keeps-element text seam (slot.Gone gone) e (kid.Gone address) spells is keeps = 
 
 -- ---- the record with an address
 
-position_or_len-map : {X Y : Type 0} (f : X → Y) (p : Y → Bool) (xs : List X) → position_or_len p (map f xs) ≡ position_or_len (λ x. p (f x)) xs
-position_or_len-map f p [] = refl
-position_or_len-map f p (x ∷ xs) = ap (λ n. cond (not (p (f x))) (1 + n) 0) (position_or_len-map f p xs)
-
-position-map : {X Y : Type 0} (f : X → Y) (p : Y → Bool) (xs : List X) → position p (map f xs) ≡ position (λ x. p (f x)) xs
-position-map f p xs =
-    ap (λ n. cond (ltb n (length (map f xs))) (Some n) None) (position_or_len-map f p xs)
-    ∙ ap (λ m. cond (ltb (position_or_len (λ x. p (f x)) xs) m) (Some (position_or_len (λ x. p (f x)) xs)) None) (length-map xs f)
-
 pub number-at : (text : List ℕ) (enc : Enc) (rs : List CellRecord) (cells : List Cell) (address : ℕ) → cells_in text enc rs ≡ cells
     → record_with rs address ≡ number_at cells address
-number-at text enc rs cells address are = sym (position-map (cell_in text enc) (λ cell. cell.address == address) rs) ∙ ap (λ l. number_at l address) are
+number-at text enc rs cells address are = sym (position-map (λ cell. cell.address == address) (cell_in text enc) rs) ∙ ap (λ l. number_at l address) are
 
 -- a cell without a kind is malformed, and one with a kind isn't
 pub no-kind : (form : Option HeapForm) → None ≡ option_map kind_of form → form ≡ None

@@ -15,15 +15,6 @@ some-is : {X : Type 0} (o : Option X) → IsSome o → (x : X) × (o ≡ Some x)
 some-is None is = cc
 some-is (Some x) is = (x, refl)
 
-nil-is : (rest : List ℕ) (e : Element) → IsElem (78 ∷ rest) e → e ≡ Nil
-nil-is rest Nil is = refl
-nil-is rest (Small integer) is = let c : 78 ≡ 73 = ap letter is.0 in absurd (omega (arith, c))
-nil-is rest (Atom bytes) is = let c : 78 ≡ 65 = ap letter is.1 in absurd (omega (arith, c))
-nil-is rest (Pid pid) is = let c : 78 ≡ 80 = ap letter is.0 in absurd (omega (arith, c))
-nil-is rest (Port port) (inl short, is) = let c : 78 ≡ 112 = ap letter short in absurd (omega (arith, c))
-nil-is rest (Port port) (inr long, is) = let c : 78 ≡ 112 = ap letter long in absurd (omega (arith, c))
-nil-is rest (Ref address) is = let c : 78 ≡ 72 = ap letter is.1 in absurd (omega (arith, c))
-
 small-is : (rest : List ℕ) (e : Element) → IsElem (73 ∷ rest) e → e ≡ Small rest
 small-is rest Nil is = let c : 73 ≡ 78 = ap letter is in absurd (omega (arith, c))
 small-is rest (Small integer) is = ap Small (sym (ap (drop 1) is.0))
@@ -61,9 +52,6 @@ by-tag tag c rest e read same some one =
     let found = some-is (whole_of (tag ∷ rest)) some in
     let is : IsElem (c ∷ rest) found.0 = subst (λ t. IsElem (t ∷ rest) found.0) same ((read (tag ∷ rest) found.0).0 found.1) in
     ap Some (sym (one found.0 is)) ∙ sym found.1
-
-pub nil-read : (tag : ℕ) (rest : List ℕ) → IsRead → tag ≡ 78 → IsSome (whole_of (tag ∷ rest)) → Some Nil ≡ whole_of (tag ∷ rest)
-nil-read tag rest read same some = by-tag tag 78 rest Nil read same some (nil-is rest)
 
 pub small-read : (tag : ℕ) (rest : List ℕ) → IsRead → tag ≡ 73 → IsSome (whole_of (tag ∷ rest)) → Some (Small rest) ≡ whole_of (tag ∷ rest)
 small-read tag rest read same some = by-tag tag 73 rest (Small rest) read same some (small-is rest)

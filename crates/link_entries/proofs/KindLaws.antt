@@ -10,6 +10,7 @@ use Rattle.link_entries.specs.Kinds.{Kind, Link, LinkPort, To, ToPort, ToName, F
 use Rattle.link_entries.specs.Reading.{is_comma, at_last_comma, parties, to_kind, from_kind, monitor_kind, kind_of}
 use Rattle.link_entries.proofs.Fronts.{inside_around, inside_parts}
 use Rattle.link_entries.proofs.Commas.{at_last_comma-more, at_last_comma-parts, at_last_comma-from}
+use Rattle.link_entries.proofs.Opening.{kind_opened, monitor_in, brace_is_no_pid, brace_is_no_port}
 
 -- ---- a reference has no comma
 no_comma : (c : ℕ) → (is_ascii_digit c || is_dot c) ≡ true → is_comma c ≡ false
@@ -84,28 +85,13 @@ braced_parts text h = of (inside (codes "{") (codes "}") text) refl h
     of None e h = absurd (false≢true h)
     of (Some inner) e h = (inner, inside_parts (codes "{") (codes "}") text inner e)
 
-brace_not_pid : (text : List ℕ) → is_pid (123 ∷ text) ≡ false
-unfolding is_pid inside behind
-brace_not_pid text = refl
-
-brace_not_port : (text : List ℕ) → is_port (123 ∷ text) ≡ false
-unfolding is_port inside behind
-brace_not_port text = refl
-
-to_not_from : (rest : List ℕ) → inside from_opening (codes "}") (to_opening ++ rest) ≡ None
-unfolding inside behind
-to_not_from rest = refl
-
 from_not_to : (rest : List ℕ) → inside to_opening (codes "}") (from_opening ++ rest) ≡ None
 unfolding inside behind
 from_not_to rest = refl
 
 -- the kind of a text that begins with a brace
-opened : (text : List ℕ) → kind_of (123 ∷ text) ≡ monitor_kind (inside to_opening (codes "}") (123 ∷ text)) (inside from_opening (codes "}") (123 ∷ text))
-unfolding kind_of
-opened text =
-    ap (λ b. if b then Link (123 ∷ text) else (if is_port (123 ∷ text) then LinkPort else monitor_kind (inside to_opening (codes "}") (123 ∷ text)) (inside from_opening (codes "}") (123 ∷ text)))) (brace_not_pid text)
-    ∙ ap (λ b. if b then LinkPort else monitor_kind (inside to_opening (codes "}") (123 ∷ text)) (inside from_opening (codes "}") (123 ∷ text))) (brace_not_port text)
+opened : (text : List ℕ) → kind_of (123 ∷ text) ≡ monitor_in (123 ∷ text)
+opened text = kind_opened (123 ∷ text) refl
 
 -- a monitor by what stands between its opening and its `}`
 regrouped : (opening partner reference : List ℕ) → opening ++ (partner ++ (codes "," ++ (reference ++ codes "}"))) ≡ opening ++ ((partner ++ 44 ∷ reference) ++ codes "}")
@@ -145,8 +131,8 @@ kind_full text ToPort (port, reference, h) =
     ∙ ap (λ b. if b then ToPort else (if is_braced port then ToName reference else Other)) h.partner_is
 kind_full text (ToName reference) (name, h) =
     let is = braced_parts name h.partner_is in
-    let no_pid : is_pid name ≡ false = ap is_pid is.1 ∙ brace_not_pid (is.0 ++ codes "}") in
-    let no_port : is_port name ≡ false = ap is_port is.1 ∙ brace_not_port (is.0 ++ codes "}") in
+    let no_pid : is_pid name ≡ false = ap is_pid is.1 ∙ brace_is_no_pid (is.0 ++ codes "}") in
+    let no_port : is_port name ≡ false = ap is_port is.1 ∙ brace_is_no_port (is.0 ++ codes "}") in
     to_read is_braced text name reference h
     ∙ ap (λ b. if b then To name reference else (if is_port name then ToPort else (if is_braced name then ToName reference else Other))) no_pid
     ∙ ap (λ b. if b then ToPort else (if is_braced name then ToName reference else Other)) no_port

@@ -9,7 +9,6 @@ pub mod KindLaws
 pub mod Laying
 pub mod Numbers
 pub mod Opening
-pub mod Searching
 pub mod Sets
 pub mod Spanned
 pub mod Spans

@@ -7,16 +7,16 @@ use Rattle.link_entries.specs.Kinds.{Kind, Link, LinkPort, Other, to_opening, fr
 use Rattle.link_entries.specs.Reading.{monitor_kind, kind_of}
 use Rattle.link_entries.specs.Inner.Opening.{is_opened}
 
-brace_is_no_pid : (text : List ℕ) → is_pid (123 ∷ text) ≡ false
+pub brace_is_no_pid : (text : List ℕ) → is_pid (123 ∷ text) ≡ false
 unfolding is_pid inside behind
 brace_is_no_pid text = refl
 
-brace_is_no_port : (text : List ℕ) → is_port (123 ∷ text) ≡ false
+pub brace_is_no_port : (text : List ℕ) → is_port (123 ∷ text) ≡ false
 unfolding is_port inside behind
 brace_is_no_port text = refl
 
 -- the kind of a monitor, whatever else the text might be
-abbrev monitor_in : List ℕ → Kind
+abbrev pub monitor_in : List ℕ → Kind
 monitor_in text = monitor_kind (inside to_opening (codes "}") text) (inside from_opening (codes "}") text)
 
 by_tests : (text : List ℕ) (pid port : Bool) → is_pid text ≡ pid → is_port text ≡ port → kind_of text ≡ (if pid then Link text else (if port then LinkPort else monitor_in text))

@@ -1,5 +1,5 @@
 -- Sets of kinds.
-use Rattle.std.proofs.Common.{◌≡◌, ℕ, ◌+◌, ◌<◌, Bool, true, false, ◌||◌, rules, List, [], ◌∷◌, ◌++◌, length, get_or, take, map, ltb, refl, sym, ◌∙◌, ap, arith}
+use Rattle.std.proofs.Common.{◌≡◌, ℕ, ◌<◌, Bool, true, false, ◌||◌, rules, List, [], ◌∷◌, length, get_or, map, ltb, refl, sym, ◌∙◌, ap, arith}
 use Rattle.std.specs.Prelude.{Result, Ok, Err, is_ok}
 use Rattle.std.specs.List.{list_any}
 use Rattle.std.specs.List.Sorted.{IsBinarySearchResult, IsSearchInRange, IsPartitionPoint}
@@ -8,7 +8,6 @@ use Rattle.std.specs.Ordering.{is_eq}
 use Rattle.std.specs.declared.cmp.Ordering.{Ordering}
 use Rattle.std.specs.declared.cmp.Ordering.TheVariants.{Less, Equal, Greater}
 use Rattle.std.proofs.lemmas.Bool.{ltb-true, ltb-false}
-use Rattle.std.proofs.lemmas.List.{take_more, map-append}
 use Rattle.std.proofs.lemmas.List.Folds.{list_any_at, list_any_none}
 use Rattle.std.proofs.lemmas.List.Sorted.{searchable_from_sorted}
 use Rattle.link_entries.specs.contracts.shapes.EntryKindPartialEq.TheImpl as block
@@ -17,9 +16,7 @@ use Rattle.link_entries.specs.contracts.shapes.EntryKindOrd.TheImpl.Laws as orde
 use Rattle.link_entries.specs.declared.shapes.EntryKind.{EntryKind}
 use Rattle.link_entries.specs.Inner.Orders.{AreInOrder}
 use Rattle.link_entries.specs.Seen.{shown_kind}
-use Rattle.link_entries.specs.Kinds.{Kind, is_same_kind}
-use Rattle.link_entries.specs.Entries.{LinkEntry}
-use Rattle.link_entries.specs.Lists.{has_kind}
+use Rattle.link_entries.specs.Kinds.{is_same_kind}
 
 -- kinds that are lent are equal where their values are the same
 eq-same : (one two : EntryKind) → block.ghosts.eq one two ≡ is_same_kind (shown_kind one) (shown_kind two)
@@ -60,35 +57,3 @@ searched kinds wanted (Err at) ordered range found =
         → (k : ℕ) (d : EntryKind) → k < length kinds → (b : Bool) → ltb k at ≡ b → is_eq (order.ghosts.cmp (get_or kinds k d) wanted) ≡ false
     sides point k d inside true e = ap is_eq (point.0 k d (omega arith) (ltb-true k at e))
     sides point k d inside false e = ap is_eq (point.1 k d (ltb-false k at e) inside)
-
-pub list_any-map : {A B : Type 0} (test : B → Bool) (f : A → B) (xs : List A) → list_any test (map f xs) ≡ list_any (λ x. test (f x)) xs
-list_any-map test f [] = refl
-list_any-map test f (x ∷ xs) = ap (λ b. test (f x) || b) (list_any-map test f xs)
-
-or-false : (b : Bool) → (b || false) ≡ b
-or-false true = refl
-or-false false = refl
-
-or-grouped : (a b c : Bool) → (a || (b || c)) ≡ ((a || b) || c)
-or-grouped true b c = refl
-or-grouped false b c = refl
-
--- one more at the end of a list
-list_any-push : {X : Type 0} (test : X → Bool) (xs : List X) (x : X) → list_any test (xs ++ x ∷ []) ≡ (list_any test xs || test x)
-list_any-push test [] x = or-false (test x)
-list_any-push test (y ∷ ys) x = ap (λ b. test y || b) (list_any-push test ys x) ∙ or-grouped (test y) (list_any test ys) (test x)
-
--- the kinds as far as a place, and that of one more entry
-pub kinds-more : (entries : List LinkEntry) (i : ℕ) (entry : LinkEntry) (kinds after : List EntryKind) (kind wanted : EntryKind) → i < length entries → entry ≡ get_or entries i entry
-    → after ≡ kinds ++ kind ∷ [] → shown_kind kind ≡ entry.kind
-    → list_any (is_same_kind (shown_kind wanted)) (map shown_kind kinds) ≡ has_kind (shown_kind wanted) (take i entries)
-    → list_any (is_same_kind (shown_kind wanted)) (map shown_kind after) ≡ has_kind (shown_kind wanted) (take (i + 1) entries)
-kinds-more entries i entry kinds after kind wanted inside at grown same so_far =
-    let w : Kind = shown_kind wanted in
-    let more : take (i + 1) entries ≡ take i entries ++ entry ∷ [] = take_more entries i entry inside ∙ ap (λ e. take i entries ++ e ∷ []) (sym at) in
-    ap (λ l. list_any (is_same_kind w) (map shown_kind l)) grown
-    ∙ ap (list_any (is_same_kind w)) (map-append shown_kind kinds (kind ∷ []))
-    ∙ list_any-push (is_same_kind w) (map shown_kind kinds) (shown_kind kind)
-    ∙ ap (λ b. b || is_same_kind w (shown_kind kind)) so_far
-    ∙ ap (λ k. has_kind w (take i entries) || is_same_kind w k) same
-    ∙ sym (ap (has_kind w) more ∙ list_any-push (λ (e : LinkEntry). is_same_kind w e.kind) (take i entries) entry)

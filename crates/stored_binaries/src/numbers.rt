@@ -10,19 +10,12 @@ ghost use Rattle.stored_binaries.specs.StoredBinaries.{binary_section, number_of
 use dump_io::hex_u64;
 use dump_sections::Index;
 
-// The number that an id is in hex.
-fn hex_id(id: Option<&[u8]>) -> Option<u64>
-    ensures { result ≡ option_and_then hex_number (option_copied id.entry) }
-{
-    hex_u64(id?)
-}
-
 // The number that an id writes, if the tag is that of binaries.
 fn number_with(tag: &[u8], id: Option<&[u8]>) -> Option<u64>
     ensures { result ≡ (if bytes_eq tag.now (codes "binary") then option_and_then hex_number (option_copied id.entry) else None) }
 {
     if tag == b"binary".as_slice() {
-        hex_id(id)
+        hex_u64(id?)
     } else {
         None
     }

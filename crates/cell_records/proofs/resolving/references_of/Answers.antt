@@ -1,10 +1,7 @@
-use Rattle.std.proofs.Common.{sym, subst, arith}
+use Rattle.std.proofs.Common.{arith}
 use Rattle.cell_records.specs.declared.cells.Slot.TheVariants as slot
-use Rattle.cell_records.proofs.ResolvingFacts.{AreFound, found-none, found-more, found-all}
+use Rattle.cell_records.proofs.ResolvingFacts.{found-more, found-all}
 use Rattle.cell_records.proofs.resolving.references_of.Goals as goal
-
-pub loop-i-init : goal.loop-i-init
-loop-i-init c = subst (λ l. AreFound c.args.slots.now l 0) (sym c.in_ok-references.ensures) (found-none c.args.slots.now)
 
 pub loop-i-preserved : goal.loop-i-preserved
 loop-i-preserved c =

@@ -2,11 +2,8 @@ use Rattle.std.proofs.Common.{◌≡◌, ℕ, ◌+◌, List, get_or, sym, ◌∙
 use Rattle.cell_records.specs.declared.cells.Slot.{Slot}
 use Rattle.cell_records.specs.Order.{record_with}
 use Rattle.cell_records.specs.Inner.References.{found_at, IsFirstFrom}
-use Rattle.cell_records.proofs.ResolvingFacts.{IsMerging, merging-none, merging-more, resolving-all}
+use Rattle.cell_records.proofs.ResolvingFacts.{IsMerging, merging-more, resolving-all}
 use Rattle.cell_records.proofs.resolving.resolve_each.Goals as goal
-
-pub loop-k-init : goal.loop-k-init
-loop-k-init c = merging-none c.args.ranks.now c.args.slots.now c.args.references.now
 
 pub loop-k-preserved : goal.loop-k-preserved
 loop-k-preserved c =

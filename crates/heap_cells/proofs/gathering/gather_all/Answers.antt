@@ -1,10 +1,10 @@
 use Rattle.std.proofs.Common.{◌++◌, [], List, sym, ◌∙◌, ap, subst, arith}
+use Rattle.std.proofs.lemmas.List.{append-nil}
 use Rattle.heap_cells.specs.declared.gathering.Gathering.{Gathering}
 use Rattle.heap_cells.specs.Cells.{Cell, line_cells}
 use Rattle.heap_cells.specs.Inner.Gathering.{Leads}
 use Rattle.heap_cells.specs.Inner.Texts.{text_of}
 use Rattle.heap_cells.proofs.GatheringFacts.{leads-begin, all-gathered}
-use Rattle.heap_cells.proofs.RecordFacts.{append-none}
 use Rattle.heap_cells.proofs.gathering.gather_all.Goals as goal
 
 pub returns-clause-all : goal.returns-clause-all
@@ -19,6 +19,6 @@ returns-clause-all c =
     let begin = leads-begin (text_of texts) texts.enc zero all (omega arith) c.new.ensures.cells in
     let before = c.in_ok-gather_lines.ensures.leads literals all (subst (λ (l : List Cell). Leads (text_of texts) texts.enc zero (l ++ literals) all) (sym heap_is) begin) in
     let after = c.in_ok-gather_lines-2.ensures.leads [] all
-    (subst (λ (l : List Cell). Leads (text_of texts) texts.enc c.gather_lines.new.g l all) (sym (append-none literals) ∙ ap (λ l. l ++ []) (sym literals_is)) before) in
+    (subst (λ (l : List Cell). Leads (text_of texts) texts.enc c.gather_lines.new.g l all) (sym (append-nil literals) ∙ ap (λ l. l ++ []) (sym literals_is)) before) in
     all-gathered texts c.gather_lines.new.g c.gather_lines-2.new.g c.len-own.result (sym c.in_ok-gather_lines-2.ensures.limit) c.in_ok-gather_lines-2.ensures.gathered before after
     (c.len-own.ensures ∙ c.gather_lines.new.g.arena.cells.ok.0)

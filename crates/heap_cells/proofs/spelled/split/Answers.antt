@@ -1,8 +1,5 @@
-use Rattle.heap_cells.proofs.SpelledFacts.{nil-read, small-read, pid-read}
+use Rattle.heap_cells.proofs.SpelledFacts.{small-read, pid-read}
 use Rattle.heap_cells.proofs.spelled.split.Goals as goal
-
-pub returns-in-78 : goal.returns-in-78
-returns-in-78 c = nil-read c.args.tag c.args.rest.now c.whole_is_read.ensures.found c.in-78.is c.requires
 
 pub returns-in-73 : goal.returns-in-73
 returns-in-73 c = small-read c.args.tag c.args.rest.now c.whole_is_read.ensures.found c.in-73.is c.requires

@@ -1,4 +1,4 @@
-use Rattle.std.proofs.Common.{◌≡◌, ℕ, ◌<◌, List, length, get_or, Option, None, Some, refl, sym, ◌∙◌, ap, arith}
+use Rattle.std.proofs.Common.{◌≡◌, ℕ, ◌<◌, List, length, get_or, Option, None, Some, refl, sym, ◌∙◌, ap}
 use Rattle.std.specs.Option.{option_map}
 use Rattle.cell_records.specs.declared.cells.CellRecord.{CellRecord}
 use Rattle.heap_cells.specs.declared.heap.Heap.TheInside.{Inside}
@@ -25,9 +25,6 @@ kind h map n r holds view inside is =
     let cells = ap (λ (m : HeapMap). m.cells) view in
     let read = read-from (text_of h.texts) (seam_of h.texts) h.texts.enc h.arena.cells.items map.cells (length h.arena.slots.items) n n r holds.slots_are.laid cells refl inside is in
     read.is_record.kind ∙ ap (option_map kind_of) (form-of (text_of h.texts) h.texts.enc h.arena.cells.items map.cells n r cells read.stands)
-
-pub number_of-requires-clause-few : goal.number_of-requires-clause-few
-number_of-requires-clause-few c = let few = c.self.invariant.few in omega (arith, few, ap length c.deref-2.ensures.value)
 
 pub returns-in_default-clause-seat : goal.returns-in_default-clause-seat
 returns-in_default-clause-seat c =

@@ -1,19 +1,10 @@
-use Rattle.std.proofs.Common.{length, ap, subst, arith, length-append}
+use Rattle.std.proofs.Common.{subst, arith, length-append}
 use Rattle.std.proofs.lemmas.List.{length-map}
-use Rattle.heap_cells.specs.HeapMap.{HeapMap, IsBounded}
+use Rattle.heap_cells.specs.HeapMap.{IsBounded}
 use Rattle.heap_cells.specs.Inner.Texts.{text_of, seam_of}
 use Rattle.heap_cells.specs.Inner.Records.{cell_in}
 use Rattle.heap_cells.proofs.RecordFacts.{weight-slots}
 use Rattle.heap_cells.proofs.heap.Heap.cells.Goals as goal
-
-pub overflow_cast-result : goal.overflow_cast-result
-overflow_cast-result c = let few = c.self.invariant.few in omega (arith, c.len.ensures, c.self.inside.arena.cells.ok.0, few)
-
-pub returns-clause-value : goal.returns-clause-value
-returns-clause-value c =
-    let h = c.self.inside in
-    let view = ap (λ (map : HeapMap). length map.cells) c.self.view_is in
-    omega (arith, c.len.ensures, h.arena.cells.ok.0, view, length-map h.arena.cells.items (cell_in (text_of h.texts) h.texts.enc))
 
 pub returns-clause-bounded : goal.returns-clause-bounded
 returns-clause-bounded c =

@@ -56,26 +56,15 @@ kid_of-requires c =
     let found = kid h c.args.self.now i c.args.n c.slots_of.result.now none c.self.invariant c.self.view_is c.requires.cell c.requires.place slots in
     spells-readable (text_of h.texts) (seam_of h.texts) _ found.element found.spells
 
-pub returns-clause-target : goal.returns-clause-target
-returns-clause-target c =
+pub returns : goal.returns
+returns c =
     let h = c.self.inside in
     let i = number c.args.ix in
     let slots = slots-are h i c.number-i.result c.slots_of.result.now c.slots_of.ensures c.number-i.ensures in
     let found = kid h c.args.self.now i c.args.n c.slots_of.result.now none c.self.invariant c.self.view_is c.requires.cell c.requires.place slots in
-    ap (option_map (target c.args.self.now.cells)) found.stands ∙ ap Some (sym (c.kid_of.ensures.target ∙ found.target_is))
-
-pub returns-clause-element : goal.returns-clause-element
-returns-clause-element c =
-    let h = c.self.inside in
-    let i = number c.args.ix in
-    let slots = slots-are h i c.number-i.result c.slots_of.result.now c.slots_of.ensures c.number-i.ensures in
-    let found = kid h c.args.self.now i c.args.n c.slots_of.result.now none c.self.invariant c.self.view_is c.requires.cell c.requires.place slots in
-    rw found.stands (keeps-element (text_of h.texts) (seam_of h.texts) _ found.element c.kid_of.result found.spells c.kid_of.ensures.target c.kid_of.ensures.element)
-
-pub returns-clause-within : goal.returns-clause-within
-returns-clause-within c =
-    let h = c.self.inside in
-    let i = number c.args.ix in
-    let slots = slots-are h i c.number-i.result c.slots_of.result.now c.slots_of.ensures c.number-i.ensures in
-    let found = kid h c.args.self.now i c.args.n c.slots_of.result.now none c.self.invariant c.self.view_is c.requires.cell c.requires.place slots in
-    rw (c.kid_of.ensures.target, found.target_is) (target-within c.args.self.now.cells found.element)
+    let read = c.kid_of.ensures in
+    record {
+      target = ap (option_map (target c.args.self.now.cells)) found.stands ∙ ap Some (sym (read.target ∙ found.target_is));
+      element = rw found.stands (keeps-element (text_of h.texts) (seam_of h.texts) _ found.element c.kid_of.result found.spells read.target read.element);
+      within = rw (read.target, found.target_is) (target-within c.args.self.now.cells found.element);
+    }

@@ -1,20 +1,11 @@
-use Rattle.std.proofs.Common.{◌≡◌, ◌<◌, Some, length, sym, ◌∙◌, ap, arith, subst, take, ◌++◌, ◌∷◌, []}
+use Rattle.std.proofs.Common.{◌≡◌, ◌<◌, Some, length, sym, ◌∙◌, ap, arith, take, ◌++◌, ◌∷◌, []}
 use Rattle.std.specs.Prelude.{slice_get}
 use Rattle.std.proofs.lemmas.Option.{slice_get-get_or, unwrap_or-slice_get}
-use Rattle.section_rows.specs.Rows.{IsBoundedCell}
 use Rattle.section_rows.specs.Shown.{shown_cell}
-use Rattle.process_table.specs.Processes.{Process, nobody, process_at}
+use Rattle.process_table.specs.Processes.{nobody, process_at}
 use Rattle.link_graph.specs.Graph.{links_of, graph_of}
 use Rattle.link_graph.proofs.Taken.{map-at}
 use Rattle.link_graph.proofs.graph.Graph.build.Goals as goal
-
-pub with_links-requires : goal.with_links-requires
-with_links-requires c =
-    let processes = c.args.procs.now.processes in
-    let p = c.loop-p.p in
-    let inside : p < length processes = omega arith in
-    subst IsBoundedCell (sym (c.links.ensures ∙ ap (λ (process : Process). process.links) (unwrap_or-slice_get processes p nobody)))
-    (c.len-p-end.ensures.bounded.fields p nobody inside).links
 
 pub loop-p-preserved : goal.loop-p-preserved
 loop-p-preserved c =
