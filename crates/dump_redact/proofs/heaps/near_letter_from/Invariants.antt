@@ -1,4 +1,4 @@
-use Rattle.std.proofs.Common.{◌≤◌, length}
+use Rattle.std.proofs.Common.{◌≤◌}
 use Rattle.dump_redact.specs.Inner.Places.{AreMarksFrom}
 use Rattle.dump_redact.proofs.heaps.near_letter_from.Given as goal
 
