@@ -1,7 +1,7 @@
 -- Where the first `:Yh` of a text stands.
-use Rattle.std.proofs.Common.{◌≡◌, ℕ, ◌+◌, ◌-◌, ◌<◌, ◌≤◌, Bool, true, false, List, ◌++◌, length, drop, refl, ◌∙◌, ap, arith, nat_lt}
-use Rattle.std.specs.Prelude.{codes, slice_index}
-use Rattle.std.proofs.lemmas.Bool.{eq-eqb, ltb-true, ltb-false}
+use Rattle.std.proofs.Common.{◌≡◌, ℕ, ◌+◌, ◌-◌, ◌<◌, ◌≤◌, Bool, true, false, List, ◌++◌, length, drop, refl, sym, ◌∙◌, ap, arith, nat_lt}
+use Rattle.std.specs.Prelude.{◌≢◌, codes, slice_index}
+use Rattle.std.proofs.lemmas.Bool.{eq-eqb, eqb-true, ltb-true, ltb-false}
 use Rattle.std.proofs.lemmas.List.{get_or-drop, get_or-append-add}
 use Rattle.memchr.specs.Find.{Passes, is_byte, Nowhere}
 use Rattle.dump_redact.specs.Inner.Places.{AreMarksFrom}
@@ -23,3 +23,10 @@ without-letter at n bytes none marks front more is = by (nat_lt (length front + 
         ∙ ap (λ l. slice_index l (length front + 1)) is
         ∙ get_or-append-add front (codes ":Yh" ++ more) 1 0 in
         absurd (none k (omega arith) (omega (arith, less, low)) (eq-eqb _ _ there))
+
+-- the same for one byte
+pub without-byte : (at : ℕ) (bytes : List ℕ) → slice_index bytes at ≢ 89 → AreMarksFrom at bytes → AreMarksFrom (at + 1) bytes
+without-byte at bytes other marks =
+    without-letter at 1 bytes (λ k low high is.
+    let first : at + k ≡ at = omega (arith, high) in
+    other (ap (λ i. slice_index bytes i) (sym first) ∙ sym (get_or-drop at bytes k 0) ∙ eqb-true _ _ is)) marks

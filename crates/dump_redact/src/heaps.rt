@@ -12,6 +12,9 @@ use term_forms::reading::form;
 use term_forms::shapes::Form;
 use term_forms::{Enc, form_is_read, heap_line as split_heap_line, number_is_read};
 
+// How many bytes behind a letter count as near.
+const NEAR: usize = 16;
+
 fn blanked(c: u8, enc: Enc) -> u8
     ensures { result ≡ blank enc c }
 {
@@ -86,6 +89,23 @@ fn letter_from(bytes: &[u8], at: usize) -> usize
     }
 }
 
+// The same, where the letter may well be near: the first few bytes are
+// looked at one by one, which takes less time than to begin a search.
+fn near_letter_from(bytes: &[u8], at: usize) -> usize
+    requires { at ≤ length bytes.now }
+    ensures within { result ≤ length bytes.now }
+    ensures low { at ≤ result }
+    ensures marks { AreMarksFrom at bytes.now → AreMarksFrom result bytes.now }
+{
+    let far = at + (bytes.len() - at).min(NEAR);
+    for place in at..far {
+        if bytes[place] == b'Y' {
+            return place;
+        }
+    }
+    letter_from(bytes, far)
+}
+
 // Whether the `Y` at a place is that of a `:Yh`.
 fn is_mark(bytes: &[u8], place: usize) -> bool
     requires { place < length bytes.now }
@@ -102,7 +122,7 @@ fn mark_at(bytes: &[u8]) -> usize
 {
     let mut place = letter_from(bytes, 0);
     while place < bytes.len() && !is_mark(bytes, place) {
-        place = letter_from(bytes, place + 1);
+        place = near_letter_from(bytes, place + 1);
     }
     place
 }
