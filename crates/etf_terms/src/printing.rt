@@ -269,19 +269,13 @@ fn put_ref<K: Sink>(sink: &mut K, name: &[u8], creation: u32, words: &[u8]) -> R
     write_all(sink, b">")
 }
 
-fn put_negative<K: Sink>(sink: &mut K, n: u64) -> Result<(), Failed>
-    ensures { Puts (K.state sink.old) (K.state sink.new) (codes "-" ++ decimal n) result }
-{
-    put_led(sink, b"-", n)
-}
-
 fn put_int<K: Sink>(sink: &mut K, n: u32) -> Result<(), Failed>
     ensures { Puts (K.state sink.old) (K.state sink.new) (int_text n) result }
 {
     if n < 2147483648 {
         put_dec(sink, n as u64)
     } else {
-        put_negative(sink, 4294967296 - n as u64)
+        put_led(sink, b"-", 4294967296 - n as u64)
     }
 }
 

@@ -1,5 +1,5 @@
 -- What a child opens, by what the walk sees of its cell.
-use Rattle.std.proofs.Common.{◌≡◌, ℕ, ◌-◌, ◌<◌, ◌≤◌, Bool, true, false, cond, ◌||◌, not, eqb, ltb, List, [], ◌∷◌, length, take, drop, get_or, Option, Some, None, refl, sym, ◌∙◌, ap, inl, inr, arith}
+use Rattle.std.proofs.Common.{◌≡◌, ℕ, ◌-◌, ◌<◌, ◌≤◌, Bool, true, false, cond, ◌||◌, not, eqb, ltb, List, [], ◌∷◌, length, take, drop, get_or, Option, Some, None, refl, sym, ◌∙◌, ap, subst, inl, inr, arith}
 use Rattle.std.specs.Option.{option_map, unwrap_or}
 use Rattle.std.specs.List.{IsDistinct, position_or_len}
 use Rattle.std.proofs.lemmas.Bool.{cases_eq, cases_lt, eq-eqb, ne_eqb, lt-ltb, ltb-false}
@@ -15,14 +15,17 @@ use Rattle.cell_records.specs.declared.cells.Kind.{Kind}
 use Rattle.cell_records.specs.declared.cells.Kind.TheVariants as cell_kind
 use Rattle.cell_records.specs.declared.cells.Why.{Why}
 use Rattle.cell_records.specs.declared.cells.Why.TheVariants.{Missing, Malformed, OnPath}
-use Rattle.heap_cells.specs.HeapMap.{number_at, form_at}
+use Rattle.heap_cells.specs.HeapMap.{HeapMap, number_at, form_at}
 use Rattle.heap_cells.specs.Targets.{Plain, At, number, target}
 use Rattle.map_nodes.specs.Laws.Targets.{leads-at, leads-nowhere}
 use Rattle.map_nodes.specs.Rules.{no_keys, keys_at, bad_keys, tuple_keys, cell_keys, element_keys, form_keys, pair_at, inner_at, form_member, cell_member, member_of, address_of, form_with}
 use Rattle.term_unfold.specs.declared.node.NodeKind.TheVariants as kinds
 use Rattle.term_unfold.specs.declared.path.Entry.{Entry}
-use Rattle.term_unfold.specs.Inner.Entries.{numbers_of, path_of, IsLine}
+use Rattle.term_unfold.specs.Inner.Entries.{Entered, numbers_of, path_of, IsLine}
+use Rattle.term_unfold.specs.declared.openings.Opened.{Opened}
+use Rattle.term_unfold.specs.declared.openings.Opened.TheVariants as opened
 use Rattle.term_unfold.specs.Inner.Kids.{members_in, found_elements, flat_kids}
+use Rattle.term_unfold.specs.Inner.Openings.{Opens}
 use Rattle.term_unfold.specs.Rules.{Term, Item, leaf, bad, node, is_on, unless_on, terms, items, pairs, keyed, form_opening, cell_opening, term_opening, item_opening, opening}
 use Rattle.term_unfold.specs.Trees.{OfCell}
 use Rattle.term_unfold.proofs.Kidded.{flat_kids-at}
@@ -126,7 +129,7 @@ none-number : (heap : List Cell) (found : Option ℕ) → option_map (form_at he
 none-number heap None h = refl
 none-number heap (Some n) h = cc
 
-pub off-missing : (heap : List Cell) (b : ℕ) (entries : List Entry) → form_with heap b ≡ None → IsLine (length heap) (numbers_of entries) → is_on b (path_of heap entries) ≡ false
+off-missing : (heap : List Cell) (b : ℕ) (entries : List Entry) → form_with heap b ≡ None → IsLine (length heap) (numbers_of entries) → is_on b (path_of heap entries) ≡ false
 off-missing heap b entries none line = off-path heap b entries (none-number heap (number_at heap b) none) line
 
 -- the same below one cell more
@@ -134,13 +137,25 @@ pub off-missing_below : (heap : List Cell) (b n : ℕ) (entries : List Entry) �
 off-missing_below heap b n entries none line =
     ap (λ x. x || is_on b (path_of heap entries)) (address-none heap b n (none-number heap (number_at heap b) none) line.0) ∙ off-missing heap b entries none line.2
 
-pub term-missing : (heap : List Cell) (path : List ℕ) (e : Element) (b : ℕ) → e ≡ Ref b → is_on b path ≡ false → form_with heap b ≡ None → opening heap path (Term e) ≡ bad b Missing
+term-missing : (heap : List Cell) (path : List ℕ) (e : Element) (b : ℕ) → e ≡ Ref b → is_on b path ≡ false → form_with heap b ≡ None → opening heap path (Term e) ≡ bad b Missing
 term-missing heap path e b is off none =
     ap (λ e. opening heap path (Term e)) is ∙ ap (λ x. cond x (bad b OnPath) (term_opening heap path (Ref b))) off ∙ ap (cell_opening heap path b) none
 
-pub item-missing : (heap : List Cell) (path : List ℕ) (parent : ℕ) (e : Element) (b : ℕ) → e ≡ Ref b → is_on b path ≡ false → form_with heap b ≡ None → opening heap path (Item parent e) ≡ bad b Missing
+item-missing : (heap : List Cell) (path : List ℕ) (parent : ℕ) (e : Element) (b : ℕ) → e ≡ Ref b → is_on b path ≡ false → form_with heap b ≡ None → opening heap path (Item parent e) ≡ bad b Missing
 item-missing heap path parent e b is off none =
     ap (λ e. opening heap path (Item parent e)) is ∙ ap (λ x. cond x (bad b OnPath) (item_opening (member_of heap parent (Ref b)))) off ∙ ap (λ f. item_opening (cell_member b f)) none
+
+-- what is found there
+module _ (heap : HeapMap) (path : Entered) (b : ℕ) {found : Opened} (is : found ≡ opened.Bad b Missing) (size : path.cells ≡ length heap.cells)
+    (line : IsLine path.cells (numbers_of path.entries)) (none : form_with heap.cells b ≡ None) where
+  off : is_on b (path_of heap.cells path.entries) ≡ false
+  off = off-missing heap.cells b path.entries none (subst (λ m. IsLine m (numbers_of path.entries)) size line)
+
+  pub term-none : (e : Element) → e ≡ Ref b → Opens heap path (Term e) found
+  term-none e to = subst (Opens heap path (Term e)) (sym is) (record { found_is = term-missing heap.cells _ e b to off none; enters = tt })
+
+  pub item-none : (parent : ℕ) (e : Element) → e ≡ Ref b → Opens heap path (Item parent e) found
+  item-none parent e to = subst (Opens heap path (Item parent e)) (sym is) (record { found_is = item-missing heap.cells _ parent e b to off none; enters = tt })
 
 -- each cell is found by its address
 

@@ -1,14 +1,14 @@
 use Rattle.std.proofs.Common.{◌≡◌, ◌<◌, ◌&&◌, ◌∷◌, [], ◌++◌, not, length, take, sym, ◌∙◌, ap, arith}
-use Rattle.std.specs.Prelude.{map, slice_get, unwrap_or, Some}
-use Rattle.std.specs.Option.{option_map}
+use Rattle.std.specs.Prelude.{map}
 use Rattle.std.proofs.lemmas.List.{take_more, map-append}
-use Rattle.std.proofs.lemmas.Option.{slice_get-map, slice_get-get_or, unwrap_or-slice_get, get_or_from_slice_get}
+use Rattle.std.proofs.lemmas.Option.{unwrap_or-slice_get}
 use Rattle.dump_sections.specs.Index.{state_of}
 use Rattle.process_table.specs.Processes.{nobody, process_at}
 use Rattle.link_entries.specs.Texts.{is_local}
-use Rattle.link_entries.specs.Lists.{links_at, no_links}
+use Rattle.link_entries.specs.Lists.{links_at}
 use Rattle.link_graph.specs.Graph.{links_of}
 use Rattle.dump_audit.specs.Findings.{is_cut, is_judged}
+use Rattle.dump_audit.specs.Laws.{links-at}
 use Rattle.dump_audit.proofs.auditing.all_judged.Goals as goal
 
 pub loop-p-preserved : goal.loop-p-preserved
@@ -17,11 +17,8 @@ loop-p-preserved c =
     let p = c.loop-p.p in
     let inside : p < length processes = omega arith in
     let process = process_at processes p in
-    let at : slice_get processes p ≡ Some process = slice_get-get_or processes p nobody inside ∙ ap Some (sym (unwrap_or-slice_get processes p nobody)) in
     let test = is_judged c.args.index.now in
-    let links : links_at c.args.graph.now p ≡ links_of process.links =
-    ap (λ g. links_at g p) c.requires
-    ∙ ap (λ o. unwrap_or o no_links) (slice_get-map (λ process. links_of process.links) processes p ∙ ap (option_map (λ process. links_of process.links)) at) in
+    let links : links_at c.args.graph.now p ≡ links_of process.links = ap (λ g. links_at g p) c.requires ∙ links-at processes p in
     let judged : c.is_judged.result ≡ test process =
     c.is_judged.ensures
     ∙ ap (λ s. not (is_cut c.state-state.result s) && is_local c.pid.result.now && not c.unread.result) c.section.ensures
@@ -32,4 +29,4 @@ loop-p-preserved c =
     ∙ ap (λ l. l ++ c.is_judged.result ∷ []) c.loop-p.invariant
     ∙ ap (λ b. map test (take p processes) ++ b ∷ []) judged
     ∙ sym (map-append test (take p processes) (process ∷ []))
-    ∙ ap (map test) (sym (take_more processes p process inside ∙ ap (λ y. take p processes ++ y ∷ []) (get_or_from_slice_get processes p process process at)))
+    ∙ ap (map test) (sym (take_more processes p nobody inside ∙ ap (λ y. take p processes ++ y ∷ []) (sym (unwrap_or-slice_get processes p nobody))))
