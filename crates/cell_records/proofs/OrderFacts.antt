@@ -1,5 +1,5 @@
 -- Numbers of records in the order of their addresses.
-use Rattle.std.proofs.Common.{◌≡◌, ℕ, ◌+◌, ◌<◌, ◌≤◌, ◌==◌, ◌⊎◌, inl, inr, true, false, ltb, List, length, get_or, map, None, Some, refl, sym, ◌∙◌, ap, subst, arith}
+use Rattle.std.proofs.Common.{◌≡◌, ℕ, ◌+◌, ◌<◌, ◌≤◌, ◌==◌, ◌⊎◌, inl, inr, true, false, ltb, List, length, get_or, map, None, Some, refl, sym, ◌∙◌, ap, subst, arith, [], ◌∷◌, ◌++◌, length-append, below_more}
 use Rattle.std.specs.Prelude.{All}
 use Rattle.std.specs.List.Sorted.{IsNonDecreasingBy, IsPartitionPoint, IsPermutation, IsSorted}
 use Rattle.std.specs.Ordering.{is_lt, ordering_then, nat_cmp}
@@ -8,7 +8,7 @@ use Rattle.std.specs.declared.cmp.Ordering.TheVariants.{Less, Equal}
 use Rattle.std.proofs.lemmas.Map.Keys.{ge_from_not_lt}
 use Rattle.std.proofs.lemmas.List.Elements.{All-map}
 use Rattle.std.proofs.lemmas.Bool.{true≢false, cases_lt, cases_order, false_from_ne_true, eq-eqb, eqb-true, ltb-true, ltb-false, lt-ltb, le-ltb}
-use Rattle.std.proofs.lemmas.List.{get_or_default, get_or-map, length-map}
+use Rattle.std.proofs.lemmas.List.{get_or_default, get_or-map, length-map, get_or_push, get_or_append_left}
 use Rattle.std.proofs.lemmas.List.Sorted.{All-permutation, Contains-permutation, IsNonDecreasingBy-from_all_adjacent}
 use Rattle.std.proofs.lemmas.Option.{slice_get-get_or}
 use Rattle.cell_records.specs.declared.cells.CellRecord.{CellRecord}
@@ -107,6 +107,16 @@ other-there rs order address at n few is point inside read other =
         other (omega (arith, up, behind, same))
 
 -- ---- pairs of addresses and numbers
+
+pub pairs-more : (rs : List CellRecord) (pairs more : List (ℕ × ℕ)) (i : ℕ) → length pairs ≡ i → ((k : ℕ) (d : ℕ × ℕ) → k < i → get_or pairs k d ≡ (address_in rs k, k))
+    → more ≡ pairs ++ (address_in rs i, i) ∷ [] → (length more ≡ i + 1) × ((k : ℕ) (d : ℕ × ℕ) → k < i + 1 → get_or more k d ≡ (address_in rs k, k))
+pairs-more rs pairs more i count each is = (
+  ap length is ∙ length-append pairs ((address_in rs i, i) ∷ []) ∙ omega (arith, count),
+  λ k d inside. below_more (λ j. get_or more j d ≡ (address_in rs j, j)) i (before d) (ap (λ l. get_or l i d) is ∙ get_or_push pairs (address_in rs i, i) d i count) k inside,
+)
+  where
+    before : (d : ℕ × ℕ) (j : ℕ) → j < i → get_or more j d ≡ (address_in rs j, j)
+    before d j inside = ap (λ l. get_or l j d) is ∙ get_or_append_left pairs ((address_in rs i, i) ∷ []) d j (omega (arith, inside, count)) ∙ each j d inside
 
 pub pairs-all : (rs : List CellRecord) (pairs : List (ℕ × ℕ)) (i : ℕ) → length pairs ≡ i → ((k : ℕ) (d : ℕ × ℕ) → k < i → get_or pairs k d ≡ (address_in rs k, k))
     → i ≡ length rs → ArePairs rs pairs

@@ -1,11 +1,12 @@
 -- The list at a place, by the span that stands there.
-use Rattle.std.proofs.Common.{◌≡◌, ℕ, zero, suc, ◌+◌, ◌-◌, ◌<◌, List, [], ◌∷◌, length, get_or, drop, refl, sym, ◌∙◌, ap, subst, arith}
-use Rattle.std.specs.Prelude.{All, unwrap_or}
+use Rattle.std.proofs.Common.{◌≡◌, ℕ, zero, suc, ◌+◌, ◌-◌, ◌<◌, List, [], ◌∷◌, length, get_or, drop, Some, refl, sym, ◌∙◌, ap, subst, arith}
+use Rattle.std.specs.Prelude.{All, slice_get, unwrap_or}
 use Rattle.std.specs.List.{between}
 use Rattle.std.specs.Option.{option_map}
-use Rattle.std.proofs.lemmas.List.{length-map, length-take}
+use Rattle.std.proofs.lemmas.List.{length-map, length-take, get_or-take, get_or-drop}
 use Rattle.std.proofs.lemmas.List.Elements.{All-head, All-tail}
-use Rattle.std.proofs.lemmas.Option.{slice_get_read, slice_get-map}
+use Rattle.std.proofs.lemmas.Option.{slice_get_read, slice_get-get_or, slice_get-map}
+use Rattle.link_entries.specs.Entries.{LinkEntry}
 use Rattle.link_entries.specs.Lists.{Links, no_links, links_at}
 use Rattle.link_entries.specs.Inner.Spans.{links_in_span, IsSpan, lists_in, AreSpans}
 use Rattle.link_entries.specs.declared.lists.Lists.{Lists}
@@ -36,3 +37,11 @@ module _ (lists : Lists) (p : ℕ) (span : Span) (place : p < length (lists_in l
       let own : n < length (between span.from span.upto lists.entries.items) = subst (λ (l : Links). n < length l.entries) links-shown few in
       let low : n < span.upto - span.from = omega (arith, own, length-take (span.upto - span.from) (drop span.from lists.entries.items)) in
       (low, omega (arith, low, is.ordered, is.inside))
+
+  pub entry-shown : (n : ℕ) (entry : LinkEntry) → n < length (links_at (lists_in lists) p).entries → AreSpans lists → entry ≡ get_or lists.entries.items (span.from + n) entry
+      → slice_get (links_at (lists_in lists) p).entries n ≡ Some entry
+  entry-shown n entry few all is =
+      let own : n < length (between span.from span.upto lists.entries.items) = subst (λ (l : Links). n < length l.entries) links-shown few in
+      ap (λ (l : Links). slice_get l.entries n) links-shown
+      ∙ slice_get-get_or (between span.from span.upto lists.entries.items) n entry own
+      ∙ ap Some (get_or-take (span.upto - span.from) (drop span.from lists.entries.items) n entry (number-inside n few all).0 ∙ get_or-drop span.from lists.entries.items n entry ∙ sym is)

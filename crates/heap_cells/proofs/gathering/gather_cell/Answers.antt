@@ -34,6 +34,17 @@ returns-then-g-from-clause-weight c =
     c.read_found-found.ensures.spelled c.found_weight.ensures in
     omega (arith, most)
 
+pub push_cell-requires-clause-spelled : goal.push_cell-requires-clause-spelled
+push_cell-requires-clause-spelled c = c.read_found-found.ensures.places
+
+pub push_cell-requires-clause-small : goal.push_cell-requires-clause-small
+push_cell-requires-clause-small c =
+    let size = ap length c.part-text.ensures in
+    let most = part-few (text_of c.args.texts.now) c.args.from c.args.upto in
+    let within = c.requires.part.within in
+    let ordered = c.requires.part.ordered in
+    omega (arith, size, most, within, ordered, c.requires.small)
+
 pub returns-clause-weight : goal.returns-clause-weight
 returns-clause-weight c =
     let most = weight-few c.args.texts.now c.args.from c.args.upto c.found_weight.result c.part-text.result.now (read_in c.part-text.result.now c.read_found-found.result) c.part-text.ensures

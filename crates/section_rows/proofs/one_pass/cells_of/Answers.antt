@@ -1,7 +1,7 @@
 use Rattle.std.proofs.Common.{◌∷◌, Option, length, drop, map, sym, ◌∙◌, ap, subst, arith}
 use Rattle.std.specs.Prelude.{All}
 use Rattle.std.proofs.lemmas.List.{take_at}
-use Rattle.std.proofs.lemmas.List.Elements.{All-tail}
+use Rattle.std.proofs.lemmas.List.Elements.{All-tail, All-head}
 use Rattle.field_lines.specs.Lines.{IsPart}
 use Rattle.field_lines.specs.Shown.{shown_line}
 use Rattle.section_rows.specs.declared.columns.Kept.{Kept}
@@ -20,6 +20,18 @@ loop-line-init c = (
       (c.in_ok-cells.ensures c.args.body.now),
   subst (All (IsPart c.args.body.now)) (sym c.into_iter-line-iterator.ensures.into_iter_gives) c.lines-line-items.ensures.parts,
 )
+
+pub take_line-requires-clause-inside : goal.take_line-requires-clause-inside
+take_line-requires-clause-inside c =
+    let body = c.args.body.now in
+    let part = All-head (IsPart body) (shown_line c.in-Some.line) c.next.new.self (subst (All (IsPart body)) c.in-Some.ensures.steps c.loop-line.invariant.3) in
+    omega (arith, part.within, c.requires.body)
+
+pub take_line-requires-clause-small : goal.take_line-requires-clause-small
+take_line-requires-clause-small c =
+    let body = c.args.body.now in
+    let part = All-head (IsPart body) (shown_line c.in-Some.line) c.next.new.self (subst (All (IsPart body)) c.in-Some.ensures.steps c.loop-line.invariant.3) in
+    omega (arith, part.within, c.requires.small)
 
 pub returns-then-not-take_line : goal.returns-then-not-take_line
 returns-then-not-take_line c =
@@ -58,3 +70,7 @@ loop-line-preserved c =
 pub returns-clause-cells : goal.returns-clause-cells
 returns-clause-cells c =
     cells-whole (shown_section c.args.section.now) c.args.body.now c.args.columns.now c.loop-line.cells.items c.loop-line.line-iterator c.in-None.ensures.steps.0 c.loop-line.invariant.2
+
+pub returns-clause-room : goal.returns-clause-room
+returns-clause-room c =
+    cells-room (shown_section c.args.section.now) c.args.body.now c.args.columns.now c.loop-line.cells.items c.loop-line.line-iterator c.loop-line.invariant.2

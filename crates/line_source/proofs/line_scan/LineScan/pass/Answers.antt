@@ -36,6 +36,9 @@ returns-in-Some-clause-silent c stream stands =
     ∙ ap (λ l. heard_by scan.offset l (take at rest)) other
     ∙ heard_by-quiet scan.offset begun (take at rest) (Nowhere-front begun rest at upto first.before)
 
+pub returns-in-Some-clause-header : goal.returns-in-Some-clause-header
+returns-in-Some-clause-header c = λ _. (ap (λ s. s.last) c.pass_lines.ensures, c.in-Some.ensures.1.0)
+
 pub returns-in-None-clause-stands : goal.returns-in-None-clause-stands
 returns-in-None-clause-stands c stream stands =
     let scan = c.args.self.now in
