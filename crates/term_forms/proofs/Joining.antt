@@ -1,7 +1,7 @@
 -- Elements that are written one after another.
 use Rattle.std.proofs.Common.{◌≡◌, List, [], ◌∷◌, ◌++◌, Option, Result, Ok, Err, sym, ◌∙◌, ap, subst}
 use Rattle.std.specs.Prelude.{ℕ, IsErr}
-use Rattle.std.proofs.lemmas.List.{append-nil}
+use Rattle.std.proofs.lemmas.List.{append_assoc, append-nil}
 use Rattle.dump_io.specs.Sinks.{WritesAll}
 use Rattle.dump_io.specs.Laws.Puts.{WritesAll-then, WritesAll-stopped}
 use Rattle.term_forms.specs.Words.{comma}
@@ -23,6 +23,15 @@ pub record IsUnder (before now : Option (List ℕ)) (more text : List ℕ) : Typ
   pub put : WritesAll {T = Unit {0}} {E = Unit {0}} before now front (Ok tt)
   pub split : text ≡ front ++ more
 
+pub under_step : {T E : Type 0} {w v u : Option (List ℕ)} {x : T} (more part rest text : List ℕ) → IsUnder w v more text → more ≡ part ++ rest
+    → WritesAll {E = E} v u part (Ok x) → IsUnder w u rest text
+under_step more part rest text under e next =
+    record {
+      front = under.front ++ part;
+      put = WritesAll-then under.put (record { whole = next.whole; front = tt });
+      split = under.split ∙ ap (λ t. under.front ++ t) e ∙ sym (append_assoc under.front part rest);
+    }
+
 pub under_start : {T E : Type 0} {w u : Option (List ℕ)} {x : T} (part rest text : List ℕ) → text ≡ part ++ rest
     → WritesAll {E = E} w u part (Ok x) → IsUnder w u rest text
 under_start part rest text e first = record { front = part; put = record { whole = first.whole; front = tt }; split = e }
@@ -31,3 +40,8 @@ pub under_broken : {T U E F : Type 0} {w v u : Option (List ℕ)} {e : F} {r : R
     → IsErr r → WritesAll {T = U} v u part (Err e) → WritesAll w u text r
 under_broken {w = w} {u = u} {r = r} more part rest text under e failed broken =
     subst (λ t. WritesAll w u t r) (sym (under.split ∙ ap (λ t. under.front ++ t) e)) (WritesAll-then under.put (WritesAll-stopped rest failed broken))
+
+pub under_done : {T E : Type 0} {w u : Option (List ℕ)} {x : T} (more text : List ℕ) → IsUnder w u more text → more ≡ [] → WritesAll {E = E} w u text (Ok x)
+under_done {T} {E} {w = w} {u = u} {x = x} more text under e =
+    subst (λ t. WritesAll {T = T} {E = E} w u t (Ok x)) (sym (under.split ∙ ap (λ t. under.front ++ t) e ∙ append-nil under.front))
+    (record { whole = under.put.whole; front = tt })
