@@ -5,7 +5,7 @@ use Rattle.process_table.specs.Processes.{Process}
 use Rattle.link_entries.specs.Lists.{Links, links_at}
 use Rattle.link_graph.specs.Graph.{graph_of}
 use Rattle.dump_audit.specs.FindingNames.{kind_in, kind_at}
-use Rattle.dump_audit.specs.Laws.{links-at}
+use Rattle.link_graph.specs.Laws.{links-at}
 
 pub kind-there : (graph : List Links) (processes : List Process) (p entry : ℕ) → graph ≡ graph_of processes
     → kind_in (slice_get (links_at graph p).entries entry) ≡ kind_at processes p entry

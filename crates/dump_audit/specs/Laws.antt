@@ -1,27 +1,13 @@
--- Laws, each with its proof, for the proofs of callers: what the graph of the processes has at a place,
--- what holds of elements with their places, and what one element more adds to a list made of these.
+-- Laws, each with its proof, for the proofs of callers: what holds of elements
+-- with their places, and what one element more adds to a list made of these.
 use Rattle.std.proofs.Common.{◌≡◌, ℕ, ◌+◌, List, [], ◌∷◌, ◌++◌, length, take, Option, Some, None, refl, ◌∙◌, ap, arith}
-use Rattle.std.specs.Prelude.{All, flat_map, slice_get, unwrap_or}
+use Rattle.std.specs.Prelude.{All, flat_map, slice_get}
 use Rattle.std.specs.List.{enumerate_from, filter_map, cons_option}
-use Rattle.std.specs.Option.{option_map, option_to_list}
+use Rattle.std.specs.Option.{option_to_list}
 use Rattle.std.proofs.lemmas.List.{take_more, length-take-le, append-nil}
 use Rattle.std.proofs.lemmas.List.Elements.{All-nil, All-cons, All-head, All-tail, filter_map-append}
 use Rattle.std.proofs.lemmas.Grind.{flat_map-append}
-use Rattle.std.proofs.lemmas.Option.{slice_get-map, slice_get_within, get_or_from_slice_get}
-use Rattle.process_table.specs.Processes.{Process, nobody, process_at}
-use Rattle.link_entries.specs.Lists.{links_at, no_links}
-use Rattle.link_graph.specs.Graph.{graph_of, links_of}
-
--- what the graph has at a place is what the process there has
-pub links-at : (processes : List Process) (p : ℕ) → links_at (graph_of processes) p ≡ links_of (process_at processes p).links
-links-at processes p =
-    ap (λ o. unwrap_or o no_links) (slice_get-map (λ process. links_of process.links) processes p) ∙ of (slice_get processes p)
-  where
-    of : (o : Option Process) → unwrap_or (option_map (λ process. links_of process.links) o) no_links ≡ links_of (unwrap_or o nobody).links
-    of None = refl
-    of (Some process) = refl
-
--- ---- elements with their places
+use Rattle.std.proofs.lemmas.Option.{slice_get_within, get_or_from_slice_get}
 
 -- what holds of each element holds of each with its place
 pub all-numbered : {X : Type 0} (P : X → Type 0) (n : ℕ) (xs : List X) → All P xs → All (λ p. P p.1) (enumerate_from n xs)

@@ -8,7 +8,7 @@ use Rattle.link_entries.specs.Texts.{is_local}
 use Rattle.link_entries.specs.Lists.{links_at}
 use Rattle.link_graph.specs.Graph.{links_of}
 use Rattle.dump_audit.specs.Findings.{is_cut, is_judged}
-use Rattle.dump_audit.specs.Laws.{links-at}
+use Rattle.link_graph.specs.Laws.{links-at}
 use Rattle.dump_audit.proofs.auditing.all_judged.Goals as goal
 
 pub loop-p-preserved : goal.loop-p-preserved

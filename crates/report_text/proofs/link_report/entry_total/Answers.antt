@@ -4,7 +4,8 @@ use Rattle.std.proofs.lemmas.List.Sums.{sum_by_push}
 use Rattle.process_table.specs.Processes.{process_at}
 use Rattle.link_entries.specs.Lists.{links_at}
 use Rattle.report_text.specs.Links.{entry_count}
-use Rattle.report_text.proofs.LinkFacts.{links-at, take-process}
+use Rattle.link_graph.specs.Laws.{links-at}
+use Rattle.report_text.proofs.LinkFacts.{take-process}
 use Rattle.report_text.proofs.link_report.entry_total.Goals as goal
 
 pub loop-p-preserved : goal.loop-p-preserved
