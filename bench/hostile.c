@@ -20,6 +20,7 @@
 //   hostile counts FILE N     N external tuples that want as many elements as a tuple can, of which one stands there
 //   hostile quoted FILE N     an external term of N atoms of as many bytes as an atom can have, each of which is quoted
 //   hostile letters FILE N    a heap of N lines that are the letter with which references to binaries begin
+//   hostile marks FILE N      a heap of N lines that begin as a heap binary does, and are none
 //   hostile states FILE N     N processes, each in a state of its own, all of which begin with the same hundred bytes
 //   hostile numbers FILE N    N sections of one binary, and a heap with as many references to it
 #include <stdio.h>
@@ -212,6 +213,11 @@ static void letters(FILE *f, long count) {
     for (long i = 0; i < count; i++) fputs(plain ? "X\n" : "Y\n", f);
 }
 
+static void marks(FILE *f, long count) {
+    put_heap(f);
+    for (long i = 0; i < count; i++) fputs(plain ? "1:Xh\n" : "1:Yh\n", f);
+}
+
 static void states(FILE *f, long count) {
     for (long i = 0; i < count; i++) fprintf(f, "=proc:<0.%ld.0>\nState: %0100d%08ld\n", i + 1, 0, plain ? 0 : i);
 }
@@ -300,7 +306,7 @@ static const struct {
     {"pids", pids}, {"tags", tags}, {"mailboxes", mailboxes}, {"kinds", kinds}, {"payload", payload}, {"external", external},
     {"subs", subs}, {"address", one_address}, {"falling", falling}, {"commas", commas}, {"equals", equals}, {"roots", roots},
     {"one_pid", one_pid}, {"star", star}, {"nested", nested}, {"counts", counts}, {"quoted", quoted},
-    {"letters", letters}, {"states", states}, {"numbers", numbers},
+    {"letters", letters}, {"marks", marks}, {"states", states}, {"numbers", numbers},
 };
 
 int main(int count, char **words) {

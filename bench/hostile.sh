@@ -85,6 +85,7 @@ shape nested 2000000
 shape counts 2000000
 shape quoted 200
 shape letters 10000000
+shape marks 4000000
 shape states 200000
 shape numbers 500000
 exit "$slow"
