@@ -1,19 +1,18 @@
 -- What the text of a cell's form spells, as it is read.
-use Rattle.std.proofs.Common.{◌≡◌, ℕ, suc, ◌+◌, ◌-◌, List, [], ◌∷◌, ◌++◌, length, take, drop, map, Some, sym, ◌∙◌, ap, arith, length-append, append_assoc}
-use Rattle.std.specs.Prelude.{codes, ◌↔◌, slice_range, All}
-use Rattle.std.proofs.lemmas.List.{length-drop}
-use Rattle.std.proofs.lemmas.List.Elements.{All-weaker}
-use Rattle.std.proofs.Math.Seq.{drop-append_seam, take-append_seam, take-length}
-use Rattle.binary_payloads.specs.declared.enc.Enc.{Enc}
-use Rattle.term_forms.specs.declared.shapes.Elem.{Elem}
-use Rattle.term_forms.specs.Elements.{Element, IsElem, IsFront}
-use Rattle.term_forms.specs.Forms.{IsForm, Cons}
-use Rattle.term_forms.specs.Places.{Placed, StandsAt}
-use Rattle.term_forms.specs.Reading.{front, whole_of}
-use Rattle.term_forms.specs.Seen.{element}
-use Rattle.term_forms.specs.Words.{bar}
+use Rattle.std.proofs.Common.{◌≡◌, ℕ, ◌+◌, ◌-◌, false, List, [], ◌∷◌, ◌++◌, length, take, drop, map, Option, None, Some, refl, sym, ◌∙◌, ap, subst, arith, length-append, append_assoc}
+use Rattle.std.specs.Prelude.{◌↔◌, All, IfSome}
+use Rattle.std.specs.Option.{option_map, option_and_then, is_some}
+use Rattle.std.proofs.lemmas.List.{append-nil, length-drop, length-map, map-append}
+use Rattle.std.proofs.lemmas.List.Elements.{All-nil, All-cons, All-append}
+use Rattle.std.proofs.Math.Seq.{take-append_seam}
 use Rattle.cell_records.specs.declared.cells.Slot.{Slot}
-use Rattle.heap_cells.specs.Inner.Found.{IsPairOf, pair_spelled}
+use Rattle.term_forms.specs.Elements.{Element, IsElem, IsFront}
+use Rattle.term_forms.specs.Forms.{HeapForm}
+use Rattle.term_forms.specs.Places.{Placed, StandsAt, elements_of}
+use Rattle.term_forms.specs.Reading.{front, whole_of}
+use Rattle.term_forms.specs.Unread.{Unread, IsFirstOf, form_with}
+use Rattle.heap_cells.specs.Cells.{elements_in, kind_of}
+use Rattle.heap_cells.specs.Inner.Found.{Pushes, IsReadInto}
 use Rattle.heap_cells.specs.Inner.Gathering.{slot_for}
 use Rattle.heap_cells.specs.Inner.Spellings.{IsSpelling}
 
@@ -25,39 +24,7 @@ IsLongest = (text : List ℕ) (e : Element) (n : ℕ) → (front text ≡ Some (
 abbrev pub IsRead : Type 0
 IsRead = (text : List ℕ) (e : Element) → (whole_of text ≡ Some e) ↔ IsElem text e
 
--- ---- a cons cell
-
-pub pair-form : (enc : Enc) (text : List ℕ) (head : Elem) (len : ℕ) (tail : Elem) → IsPairOf text head len tail → IsForm enc text (Cons (element head) (element tail))
-pair-form enc text head len tail is = (is.first, is.rest, is.split, is.head_is, is.tail_is)
-
-All-two : (P : Placed → Type 0) (p q : Placed) → P p → P q → All P (p ∷ q ∷ [])
-All-two P p q one other ℕ.zero d inside = one
-All-two P p q one other (suc ℕ.zero) d inside = other
-All-two P p q one other (suc (suc k)) d inside = absurd (omega arith)
-
-pub pair-spelled : (text : List ℕ) (head : Elem) (len : ℕ) (tail : Elem) → IsRead → IsPairOf text head len tail → All (IsSpelling text) (pair_spelled text head len tail)
-pair-spelled text head len tail read is =
-    let first = is.first in
-    let rest = is.rest in
-    let behind : drop 1 text ≡ first ++ bar ∷ rest = ap (drop 1) is.split in
-    let size : length text ≡ len + 2 + length rest = let n = ap length is.split in omega (arith, n, is.len_is, length-append first (bar ∷ rest)) in
-    let count : 1 + len - 1 ≡ length first = omega (arith, is.len_is) in
-    let one : slice_range text 1 (1 + len) ≡ first =
-    ap (λ n. take n (drop 1 text)) count ∙ ap (take (length first)) behind ∙ take-append_seam first (bar ∷ rest) in
-    let before : len + 2 ≡ length (codes "l" ++ (first ++ bar ∷ [])) = omega (arith, is.len_is, length-append first (bar ∷ [])) in
-    let whole : text ≡ (codes "l" ++ (first ++ bar ∷ [])) ++ rest = is.split ∙ ap (λ l. codes "l" ++ l) (sym (append_assoc first (bar ∷ []) rest)) in
-    let there : drop (len + 2) text ≡ rest =
-    ap (λ n. drop n text) before ∙ ap (drop (length (codes "l" ++ (first ++ bar ∷ [])))) whole ∙ drop-append_seam (codes "l" ++ (first ++ bar ∷ [])) rest in
-    let others : len + 2 + (length text - (len + 2)) - (len + 2) ≡ length rest = omega (arith, size) in
-    let other : slice_range text (len + 2) (len + 2 + (length text - (len + 2))) ≡ rest =
-    ap (λ n. take n (drop (len + 2) text)) others ∙ ap (take (length rest)) there ∙ take-length rest in
-    All-two (IsSpelling text) (record { at = 1; len = len; element = element head }) (record { at = len + 2; len = length text - (len + 2); element = element tail })
-    (record { within = omega (arith, size); spells = ap whole_of one ∙ (read first (element head)).1 is.head_is })
-    (record { within = omega (arith, size); spells = ap whole_of other ∙ (read rest (element tail)).1 is.tail_is })
-
--- ---- another form
-
-spelled-there : (text : List ℕ) (p : Placed) → IsLongest → IsRead → StandsAt text p → IsSpelling text p
+pub spelled-there : (text : List ℕ) (p : Placed) → IsLongest → IsRead → StandsAt text p → IsSpelling text p
 spelled-there text p longest read stands =
     let is : IsFront (drop p.at text) p.element p.len = (longest (drop p.at text) p.element p.len).0 stands.read in
     let before = stands.within in
@@ -68,14 +35,90 @@ spelled-there text p longest read stands =
       spells = ap (λ n. whole_of (take n (drop p.at text))) count ∙ (read (take p.len (drop p.at text)) p.element).1 is.spells;
     }
 
-pub all-spelled : (text : List ℕ) (ps : List Placed) → IsLongest → IsRead → All (StandsAt text) ps → All (IsSpelling text) ps
-all-spelled text ps longest read stand = All-weaker (StandsAt text) (IsSpelling text) (λ p. spelled-there text p longest read) ps stand
+-- ---- slots that are pushed
 
--- the slot of one more element
-pub slots-pushed : (from : ℕ) (old new all : List Slot) (p : Placed) (rest ps : List Placed) → new ≡ old ++ slot_for from p ∷ [] → ps ≡ p ∷ rest
-    → old ++ map (slot_for from) ps ≡ all → new ++ map (slot_for from) rest ≡ all
-slots-pushed from old new all p rest ps pushed split is =
-    ap (λ l. l ++ map (slot_for from) rest) pushed
-    ∙ append_assoc old (slot_for from p ∷ []) (map (slot_for from) rest)
-    ∙ ap (λ l. old ++ map (slot_for from) l) (sym split)
-    ∙ is
+pub pushes-none : (from most : ℕ) (old : List Slot) → Pushes from most [] old old
+pushes-none from most old = record { added = []; new_is = sym (append-nil old); added_is = λ _. refl; few = λ n within _. within }
+
+pub pushes-then : (from most : ℕ) (ps qs : List Placed) (old mid new : List Slot) → Pushes from most ps old mid → Pushes from most qs mid new → Pushes from most (ps ++ qs) old new
+pushes-then from most ps qs old mid new one other = record {
+  added = one.added ++ other.added;
+  new_is = other.new_is ∙ ap (λ l. l ++ other.added) one.new_is ∙ append_assoc old one.added other.added;
+  added_is = λ fits.
+      let both = length-append ps qs in
+      let first : one.added ≡ map (slot_for from) ps = one.added_is (omega (arith, fits, both)) in
+      let size : length mid ≡ length old + length ps =
+      ap length one.new_is ∙ length-append old one.added ∙ ap (λ n. length old + n) (ap length first ∙ length-map ps (slot_for from)) in
+      let second : other.added ≡ map (slot_for from) qs = other.added_is (omega (arith, fits, both, size)) in
+      ap (λ l. l ++ other.added) first ∙ ap (λ l. map (slot_for from) ps ++ l) second ∙ sym (map-append (slot_for from) ps qs);
+  few = λ n within room. other.few n (one.few n within room) room;
+}
+
+-- ---- elements that are read one after another
+
+abbrev elements_at : List Placed → List Element
+elements_at ps = map (λ p. p.element) ps
+
+-- some of the elements of a text were read and their slots pushed, and these are left
+pub record HasRead (from most : ℕ) (all left : Unread) (old new : List Slot) : Type 0 where
+  pub read : List Placed
+  pub text_is : left.text ≡ all.text
+  pub count_is : length read + left.count ≡ all.count
+  pub elements : all.elements ≡ option_and_then (λ es. Some (map (λ p. p.element) read ++ es)) left.elements
+  pub places : All (IsSpelling all.text) read
+  pub pushed : Pushes from most read old new
+
+pub read-more : (from most : ℕ) (all mid left : Unread) (p : Placed) (old new newer : List Slot) → HasRead from most all mid old new → IsFirstOf mid left p
+    → IsSpelling all.text p → Pushes from most (p ∷ []) new newer → HasRead from most all left old newer
+read-more from most all mid left p old new newer so_far first spelled pushed =
+    let ps = so_far.read in
+    record {
+      read = ps ++ p ∷ [];
+      text_is = first.text ∙ so_far.text_is;
+      count_is = omega (arith, so_far.count_is, first.count, length-append ps (p ∷ []));
+      elements = so_far.elements ∙ ap (option_and_then (λ es. Some (elements_at ps ++ es))) first.elements ∙ later left.elements;
+      places = All-append (IsSpelling all.text) ps (p ∷ []) so_far.places (All-cons (IsSpelling all.text) p [] spelled (All-nil (IsSpelling all.text)));
+      pushed = pushes-then from most ps (p ∷ []) old new newer so_far.pushed pushed;
+    }
+  where
+    later : (o : Option (List Element)) → option_and_then (λ es. Some (elements_at so_far.read ++ es)) (option_and_then (λ es. Some (p.element ∷ es)) o)
+        ≡ option_and_then (λ es. Some (elements_at (so_far.read ++ p ∷ []) ++ es)) o
+    later None = refl
+    later (Some es) =
+        ap (λ l. Some l) (sym (append_assoc (elements_at so_far.read) (p.element ∷ []) es) ∙ ap (λ l. l ++ es) (sym (map-append (λ (p : Placed). p.element) so_far.read (p ∷ []))))
+
+-- a form's first element was read before the others, and its slot pushed
+pub first-into : (text : List ℕ) (from most : ℕ) (p : Placed) (form : List Element → HeapForm) (es : Unread) (old mid new : List Slot) → es.text ≡ text → IsSpelling text p
+    → ((l : List Element) → elements_of (form l) ≡ p.element ∷ l) → Pushes from most (p ∷ []) old mid → IsReadInto es.text from most es.elements mid new
+    → IsReadInto text from most (option_map elements_of (form_with form es)) old new
+first-into text from most p form es old mid new text_is spelled are before into =
+    let ps = into.read in
+    record {
+      read = p ∷ ps;
+      elements = of es.elements into.elements;
+      places = All-cons (IsSpelling text) p ps spelled (subst (λ t. All (IsSpelling t) ps) text_is into.places);
+      pushed = pushes-then from most (p ∷ []) ps old mid new before into.pushed;
+    }
+  where
+    of : (o : Option (List Element)) → IfSome o (λ l. elements_at into.read ≡ l)
+        → IfSome (option_map elements_of (option_and_then (λ es. Some (form es)) o)) (λ l. p.element ∷ elements_at into.read ≡ l)
+    of None is = tt
+    of (Some l) is = ap (λ es. p.element ∷ es) is ∙ sym (are l)
+
+-- ---- what stays of it
+
+-- what was pushed can be taken back
+pub taken-back : (from most before : ℕ) (ps : List Placed) (old new : List Slot) → Pushes from most ps old new → before ≡ length old → take before new ≡ old
+taken-back from most before ps old new pushed before_is =
+    ap (λ n. take n new) before_is ∙ ap (take (length old)) pushed.new_is ∙ take-append_seam old pushed.added
+
+-- nothing stays of a text that spells none
+pub nothing-stays : (text : List ℕ) (from most : ℕ) (form : Option HeapForm) (old new : List Slot) → is_some (option_map kind_of form) ≡ false → new ≡ old
+    → IsReadInto text from most (Some (elements_in form)) old new
+nothing-stays text from most None old new none same = record {
+  read = [];
+  elements = refl;
+  places = All-nil (IsSpelling text);
+  pushed = subst (Pushes from most [] old) (sym same) (pushes-none from most old);
+}
+nothing-stays text from most (Some form) old new none same = cc

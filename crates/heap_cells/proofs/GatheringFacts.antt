@@ -1,6 +1,6 @@
 -- One more heap line.
-use Rattle.std.proofs.Common.{◌≡◌, ℕ, suc, ◌+◌, ◌-◌, ◌<◌, ◌≤◌, List, [], ◌∷◌, ◌++◌, length, take, drop, map, Option, None, Some, Result, Ok, Err, refl, sym, ◌∙◌, ap, subst, arith, length-append, append_assoc, inl, inr}
-use Rattle.std.specs.Prelude.{codes, ◌⊎◌, slice_get, slice_range, All, IfSome, OnOk}
+use Rattle.std.proofs.Common.{◌≡◌, ℕ, suc, ◌+◌, ◌-◌, ◌<◌, ◌≤◌, List, [], ◌∷◌, ◌++◌, length, take, drop, map, Option, None, Some, refl, sym, ◌∙◌, ap, subst, arith, length-append, append_assoc, inl, inr}
+use Rattle.std.specs.Prelude.{codes, ◌⊎◌, slice_range, All}
 use Rattle.std.specs.Option.{option_map}
 use Rattle.std.specs.List.{filter_map, cons_option}
 use Rattle.std.proofs.Math.Seq.{drop-append_seam}
@@ -16,16 +16,18 @@ use Rattle.term_forms.specs.Joined.{IsJoined}
 use Rattle.term_forms.specs.Places.{Placed, elements_of}
 use Rattle.term_forms.specs.Reading.{whole_of}
 use Rattle.term_forms.specs.ReadingForms.{form_of}
-use Rattle.term_forms.specs.SeenForms.{heap_form}
-use Rattle.term_forms.specs.declared.shapes.Form.{Form}
 use Rattle.term_forms.specs.Words.{comma, colon, bar, IsLed, led_of}
 use Rattle.cell_records.specs.declared.arena.Arena.{Arena}
+use Rattle.cell_records.specs.declared.cells.CellRecord.{CellRecord}
+use Rattle.cell_records.specs.declared.cells.Kind.{Kind}
 use Rattle.cell_records.specs.declared.cells.Slot.{Slot}
 use Rattle.cell_records.specs.declared.cells.Span.{Span}
 use Rattle.heap_cells.specs.declared.gathering.Gathering.{Gathering}
 use Rattle.heap_cells.specs.Cells.{Cell, spelled_cell, cell_of, line_cells, elements_in, kind_of, cell_weight, weight_of}
 use Rattle.heap_cells.specs.Targets.{target, slot_target}
-use Rattle.heap_cells.specs.Inner.Gathering.{slot_with, slot_for, form_found, slots_found, new_record, IsLineAt, IsBodyAt, IsGathered, Leads, AreAll}
+use Rattle.heap_cells.specs.Inner.Gathering.{slot_with, slot_for, new_record, IsLineAt, IsBodyAt, IsGathered, Leads, AreAll}
+use Rattle.heap_cells.specs.declared.found.Read.{Read}
+use Rattle.heap_cells.specs.Inner.Found.{read_of, IsReadInto}
 use Rattle.heap_cells.specs.Inner.Parts.{IsPart}
 use Rattle.heap_cells.specs.Inner.Records.{cell_in, cells_in, AreSlots, IsSpan, Spells, AllSpell, element_at}
 use Rattle.heap_cells.specs.Inner.Spellings.{IsSpelling}
@@ -34,17 +36,13 @@ use Rattle.heap_cells.specs.declared.texts.Texts.{Texts}
 use Rattle.heap_cells.specs.Inner.Texts.{text_of, seam_of}
 use Rattle.heap_cells.proofs.RecordFacts.{has-at}
 
-pub OnOk-both : {A B C T E : Type 0} (r : Result T E) → OnOk r A → OnOk r B → (A → B → C) → OnOk r C
-OnOk-both (Ok x) a b f = f a b
-OnOk-both (Err e) a b f = a
-
 -- ---- a text that spells a form has no fewer bytes than the form has elements
 
 elem-port : (text port : List ℕ) → (text ≡ codes "p" ++ port) ⊎ (text ≡ codes "p#Port" ++ port) → 0 < length text
 elem-port text port (inl short) = let n = ap length short in omega (arith, n)
 elem-port text port (inr long) = let n = ap length long in omega (arith, n)
 
-pub elem-some : (text : List ℕ) (e : Element) → IsElem text e → 0 < length text
+elem-some : (text : List ℕ) (e : Element) → IsElem text e → 0 < length text
 elem-some text Nil is = let n = ap length is in omega (arith, n)
 elem-some text (Small integer) is = let n = ap length is.0 in omega (arith, n)
 elem-some text (Atom bytes) is = let n = ap length is.1 in omega (arith, n)
@@ -63,7 +61,7 @@ joined-few text (e ∷ d ∷ es) is =
 led-longer : (text : List ℕ) (n : ℕ) (rest : List ℕ) → IsLed text n rest → length rest < length text
 led-longer text n rest is = let n = ap length is.2 in omega (arith, n, length-append is.0 (colon ∷ rest))
 
-pub form-few : (enc : Enc) (text : List ℕ) (f : HeapForm) → IsForm enc text f → length (elements_of f) ≤ length text
+form-few : (enc : Enc) (text : List ℕ) (f : HeapForm) → IsForm enc text f → length (elements_of f) ≤ length text
 form-few enc text (forms.Cons head tail) is =
     let one = elem-some is.0 head is.3 in
     let n = ap length is.2 in
@@ -92,14 +90,12 @@ form-few enc text (forms.Hash size children) is =
 form-few enc text (forms.Node children) is =
     let few = joined-few is.1 children is.4 in let led = led-longer is.0 (length children) is.1 is.3 in let n = ap length is.2 in omega (arith, few, led, n)
 
--- ---- what was found in the text of a form
-
-abbrev pub Found : Type 0
-Found = Option (Form × List Placed)
-
-pub found-few : (enc : Enc) (text : List ℕ) (found : Found) → IfSome found (λ f. IsForm enc text (heap_form f.0)) → length (elements_in (form_found found)) ≤ length text
-found-few enc text None is = omega arith
-found-few enc text (Some f) is = form-few enc text (heap_form f.0) is
+pub spelled-few : (enc : Enc) (text : List ℕ) → ((f : HeapForm) → form_of enc text ≡ Some f → IsForm enc text f) → length (elements_in (form_of enc text)) ≤ length text
+spelled-few enc text law = of (form_of enc text) refl
+  where
+    of : (o : Option HeapForm) → form_of enc text ≡ o → length (elements_in o) ≤ length text
+    of None e = omega arith
+    of (Some f) e = form-few enc text f (law f e)
 
 -- ---- the slots of its elements
 
@@ -116,11 +112,6 @@ for-targets from [] = refl
 for-targets from (s ∷ ss) =
     ap (λ t. t ∷ map slot_target (map (slot_for from) ss)) (with-target (record { at = from + s.at; len = s.len }) s.element)
     ∙ ap (λ ts. target [] s.element ∷ ts) (for-targets from ss)
-
-pub found-targets : (from : ℕ) (found : Found) → IfSome found (λ f. map (λ (s : Placed). s.element) f.1 ≡ elements_of (heap_form f.0))
-    → map slot_target (slots_found from found) ≡ map (target []) (elements_in (form_found found))
-found-targets from None are = refl
-found-targets from (Some f) are = for-targets from f.1 ∙ ap (map (target [])) are
 
 with-spells : (text : List ℕ) (seam : ℕ) (span : Span) (e : Element) → IsSpan text seam span → element_at text span ≡ Some e → Spells text seam (slot_with span e) e
 with-spells text seam span Nil part is = (part, is)
@@ -163,17 +154,14 @@ for-spells text seam from upto s part is =
     })
     (ap whole_of same ∙ is.spells)
 
-pub found-spell : (text : List ℕ) (seam from upto : ℕ) (found : Found) → IsPart seam (length text) from upto
-    → IfSome found (λ f. map (λ (s : Placed). s.element) f.1 ≡ elements_of (heap_form f.0)) → IfSome found (λ f. All (IsSpelling (slice_range text from upto)) f.1)
-    → AllSpell text seam (slots_found from found) (elements_in (form_found found))
-found-spell text seam from upto None part are spelled k s e slot_is element_is = cc
-found-spell text seam from upto (Some f) part are spelled k s e slot_is element_is =
-    let ps = f.1 in
+all-spell : (text : List ℕ) (seam from upto : ℕ) (ps : List Placed) → IsPart seam (length text) from upto → All (IsSpelling (slice_range text from upto)) ps
+    → AllSpell text seam (map (slot_for from) ps) (map (λ (p : Placed). p.element) ps)
+all-spell text seam from upto ps part spelled k s e slot_is element_is =
     let there = has-at ps k (omega (arith, slice_get_within (map (slot_for from) ps) k s slot_is, length-map ps (slot_for from))) in
     let p = there.0 in
     let slot_same : Some (slot_for from p) ≡ Some s = sym (slice_get-map (slot_for from) ps k ∙ ap (option_map (slot_for from)) there.1) ∙ slot_is in
     let element_same : Some p.element ≡ Some e =
-    sym (ap (λ l. slice_get l k) (sym are) ∙ slice_get-map (λ (p : Placed). p.element) ps k ∙ ap (option_map (λ (p : Placed). p.element)) there.1) ∙ element_is in
+    sym (slice_get-map (λ (p : Placed). p.element) ps k ∙ ap (option_map (λ (p : Placed). p.element)) there.1) ∙ element_is in
     let is : IsSpelling (slice_range text from upto) p =
     subst (IsSpelling (slice_range text from upto)) (get_or_from_slice_get ps k p p there.1) (spelled k p (slice_get_within ps k p there.1)) in
     let s_is : slot_for from p ≡ s = cc in
@@ -182,74 +170,90 @@ found-spell text seam from upto (Some f) part are spelled k s e slot_is element_
 
 -- ---- one more cell
 
--- what is known of a line's form
-pub record IsFound (text : List ℕ) (seam : ℕ) (enc : Enc) (from upto : ℕ) (found : Found) : Type 0 where
+-- the elements of a line's form
+pub record IsFound (text : List ℕ) (seam : ℕ) (enc : Enc) (from upto : ℕ) (ps : List Placed) : Type 0 where
   pub part : IsPart seam (length text) from upto
-  pub form : form_found found ≡ form_of enc (slice_range text from upto)
-  pub elements : IfSome found (λ f. map (λ (s : Placed). s.element) f.1 ≡ elements_of (heap_form f.0))
-  pub places : IfSome found (λ f. All (IsSpelling (slice_range text from upto)) f.1)
+  pub elements : map (λ p. p.element) ps ≡ elements_in (form_of enc (slice_range text from upto))
+  pub places : All (IsSpelling (slice_range text from upto)) ps
 
--- the record of its cell
-new-form : (text : List ℕ) (seam : ℕ) (enc : Enc) (address from upto first : ℕ) (found : Found) → IsFound text seam enc from upto found
-    → form_found found ≡ (cell_in text enc (new_record address from upto first (form_found found))).form
-new-form text seam enc address from upto first found is =
-    let ordered = is.part.ordered in
-    let end : from + (upto - from) ≡ upto = omega (arith, ordered) in
-    is.form ∙ ap (λ n. form_of enc (slice_range text from n)) (sym end)
-
-pub slots-more : (text : List ℕ) (seam : ℕ) (enc : Enc) (address from upto : ℕ) (found : Found) (old new : Arena) → IsFound text seam enc from upto found
-    → AreSlots text seam enc [] old.cells.items old.slots.items → new.cells.items ≡ old.cells.items ++ new_record address from upto (length old.slots.items) (form_found found) ∷ []
-    → new.slots.items ≡ old.slots.items ++ slots_found from found → AreSlots text seam enc [] new.cells.items new.slots.items
-slots-more text seam enc address from upto found old new is are cells slots =
-    let r = new_record address from upto (length old.slots.items) (form_found found) in
-    let form = new-form text seam enc address from upto (length old.slots.items) found is in
+pub slots-more : (text : List ℕ) (seam : ℕ) (enc : Enc) (address from upto : ℕ) (ps : List Placed) (old new : Arena) → IsFound text seam enc from upto ps
+    → AreSlots text seam enc [] old.cells.items old.slots.items
+    → new.cells.items ≡ old.cells.items ++ new_record address from upto (length old.slots.items) (option_map kind_of (form_of enc (slice_range text from upto))) ∷ []
+    → new.slots.items ≡ old.slots.items ++ map (slot_for from) ps → AreSlots text seam enc [] new.cells.items new.slots.items
+slots-more text seam enc address from upto ps old new is are cells slots =
     let ordered = is.part.ordered in
     let end : upto ≡ from + (upto - from) = omega (arith, ordered) in
-    rw (cells, slots) (AreSlots-push text seam enc [] old.cells.items old.slots.items (slots_found from found) r are
+    let form = ap (λ n. form_of enc (slice_range text from n)) end in
+    let es = is.elements ∙ ap elements_in form in
+    rw (cells, slots) (AreSlots-push text seam enc [] old.cells.items old.slots.items (map (slot_for from) ps)
+    (new_record address from upto (length old.slots.items) (option_map kind_of (form_of enc (slice_range text from upto)))) are
     (record { first = refl; part = subst (IsPart seam (length text) from) end is.part; kind = ap (option_map kind_of) form })
-    (found-targets from found is.elements ∙ ap (λ f. map (target []) (elements_in f)) form)
-    (subst (AllSpell text seam (slots_found from found)) (ap elements_in form) (found-spell text seam from upto found is.part is.elements is.places)))
-
-pub slots-found-count : (from : ℕ) (found : Found) → IfSome found (λ f. map (λ (s : Placed). s.element) f.1 ≡ elements_of (heap_form f.0))
-    → length (slots_found from found) ≡ length (elements_in (form_found found))
-slots-found-count from found are =
-    sym (length-map (slots_found from found) slot_target) ∙ ap length (found-targets from found are) ∙ length-map (elements_in (form_found found)) (target [])
+    (for-targets from ps ∙ ap (map (target [])) es) (subst (AllSpell text seam (map (slot_for from) ps)) es (all-spell text seam from upto ps is.part is.places)))
 
 -- the cell of its record
-pub cells-more : (text : List ℕ) (seam : ℕ) (enc : Enc) (address from upto : ℕ) (found : Found) (old new : Arena) → IsFound text seam enc from upto found
-    → new.cells.items ≡ old.cells.items ++ new_record address from upto (length old.slots.items) (form_found found) ∷ []
+pub cells-more : (text : List ℕ) (enc : Enc) (address from upto first : ℕ) (kind : Option Kind) (old new : Arena) → from ≤ upto
+    → new.cells.items ≡ old.cells.items ++ new_record address from upto first kind ∷ []
     → cells_in text enc new.cells.items ≡ cells_in text enc old.cells.items ++ spelled_cell enc (address, slice_range text from upto) ∷ []
-cells-more text seam enc address from upto found old new is cells =
-    let r = new_record address from upto (length old.slots.items) (form_found found) in
-    let ordered = is.part.ordered in
+cells-more text enc address from upto first kind old new ordered cells =
     let end : from + (upto - from) ≡ upto = omega (arith, ordered) in
     ap (cells_in text enc) cells
-    ∙ map-append (cell_in text enc) old.cells.items (r ∷ [])
+    ∙ map-append (cell_in text enc) old.cells.items (new_record address from upto first kind ∷ [])
     ∙ ap (λ n. cells_in text enc old.cells.items ++ spelled_cell enc (address, slice_range text from n) ∷ []) end
 
-pub leads-kept : (text : List ℕ) (enc : Enc) (old new : Gathering) (cell : Cell) (rest all : List Cell) → new.weight ≡ old.weight + cell_weight cell → new.dense ≡ old.dense
+leads-kept : (text : List ℕ) (enc : Enc) (old new : Gathering) (cell : Cell) (rest all : List Cell) → new.weight ≡ old.weight + cell_weight cell → new.dense ≡ old.dense
     → cells_in text enc new.arena.cells.items ≡ cells_in text enc old.arena.cells.items ++ cell ∷ [] → Leads text enc old (cell ∷ rest) all → Leads text enc new rest all
 leads-kept text enc old new cell rest all weight dense cells leads = record {
   weight = omega (arith, weight, leads.weight, sum_by-cons cell_weight cell rest);
   kept = λ few. ap (λ l. l ++ rest) cells ∙ append_assoc (cells_in text enc old.arena.cells.items) (cell ∷ []) rest ∙ leads.kept (omega (arith, few, weight, dense));
 }
 
-pub found-is : (text : List ℕ) (seam : ℕ) (enc : Enc) (from upto : ℕ) (part : List ℕ) (found : Found) → IsPart seam (length text) from upto → part ≡ slice_range text from upto
-    → form_found found ≡ form_of enc part → IfSome found (λ f. map (λ (s : Placed). s.element) f.1 ≡ elements_of (heap_form f.0)) → IfSome found (λ f. All (IsSpelling part) f.1)
-    → IsFound text seam enc from upto found
-found-is text seam enc from upto part found within is form elements places = record {
-  part = within;
-  form = form ∙ ap (form_of enc) is;
-  elements = elements;
-  places = subst (λ l. IfSome found (λ f. All (IsSpelling l) f.1)) is places;
-}
+-- what is left of a line whose form was read
+pub record IsPushed (text : List ℕ) (enc : Enc) (address from upto most : ℕ) (part : List ℕ) (read : Read) (old new : Gathering) : Type 0 where
+  pub part_is : part ≡ slice_range text from upto
+  pub read_is : read ≡ read_of (form_of enc part)
+  pub into : IsReadInto part from most (Some (elements_in (form_of enc part))) old.arena.slots.items new.arena.slots.items
+  pub cells_are : new.arena.cells.items ≡ old.arena.cells.items ++ new_record address from upto (length old.arena.slots.items) read.kind ∷ []
+  pub weight_is : new.weight ≡ old.weight + (1 + read.count)
+  pub most_is : old.weight ≤ old.dense → most ≡ old.dense
+  pub room : new.weight ≤ old.dense
 
--- the weight of the line's cell
-pub found-weight : (text : List ℕ) (seam : ℕ) (enc : Enc) (address from upto : ℕ) (found : Found) → IsFound text seam enc from upto found
-    → 1 + length (elements_in (form_found found)) ≡ cell_weight (spelled_cell enc (address, slice_range text from upto))
-found-weight text seam enc address from upto found is = ap (λ f. 1 + length (elements_in f)) is.form
+pub gathered-more : (text : List ℕ) (seam : ℕ) (enc : Enc) (address from upto most : ℕ) (part : List ℕ) (read : Read) (old new : Gathering) → IsPart seam (length text) from upto
+    → IsPushed text enc address from upto most part read old new → IsGathered text seam enc old → IsGathered text seam enc new
+gathered-more text seam enc address from upto most part read old new within is gathered =
+    let ps = is.into.read in
+    let few = gathered.few in
+    let count : length ps ≡ read.count = sym (length-map ps (λ (p : Placed). p.element)) ∙ ap length is.into.elements ∙ sym (ap (λ (r : Read). r.count) is.read_is) in
+    let all : most ≡ old.dense = is.most_is (omega (arith, is.room, is.weight_is)) in
+    let slots : new.arena.slots.items ≡ old.arena.slots.items ++ map (slot_for from) ps =
+    is.into.pushed.new_is ∙ ap (λ l. old.arena.slots.items ++ l) (is.into.pushed.added_is (omega (arith, count, few, all, is.room, is.weight_is))) in
+    let kind : read.kind ≡ option_map kind_of (form_of enc (slice_range text from upto)) =
+    ap (λ (r : Read). r.kind) is.read_is ∙ ap (λ l. option_map kind_of (form_of enc l)) is.part_is in
+    record {
+      slots_are = slots-more text seam enc address from upto ps old.arena new.arena
+          (record { part = within; elements = is.into.elements ∙ ap (λ l. elements_in (form_of enc l)) is.part_is; places = subst (λ l. All (IsSpelling l) ps) is.part_is is.into.places })
+          gathered.slots_are (is.cells_are ∙ ap (λ k. old.arena.cells.items ++ new_record address from upto (length old.arena.slots.items) k ∷ []) kind) slots;
+      few = omega (
+        arith,
+        few,
+        count,
+        is.weight_is,
+        ap length is.cells_are,
+        ap length slots,
+        length-map ps (slot_for from),
+        length-append {A = CellRecord},
+        length-append {A = Slot},
+      );
+    }
 
--- and it is at most that of its text
+pub leads-more : (text : List ℕ) (enc : Enc) (address from upto most : ℕ) (part : List ℕ) (read : Read) (old new : Gathering) (rest all : List Cell) → from ≤ upto
+    → IsPushed text enc address from upto most part read old new → new.dense ≡ old.dense → Leads text enc old (spelled_cell enc (address, slice_range text from upto) ∷ rest) all
+    → Leads text enc new rest all
+leads-more text enc address from upto most part read old new rest all ordered is dense leads =
+    leads-kept text enc old new (spelled_cell enc (address, slice_range text from upto)) rest all
+    (is.weight_is ∙ ap (λ n. old.weight + (1 + n)) (ap (λ (r : Read). r.count) is.read_is ∙ ap (λ l. length (elements_in (form_of enc l))) is.part_is)) dense
+    (cells-more text enc address from upto (length old.arena.slots.items) read.kind old.arena new.arena ordered is.cells_are) leads
+
+-- a part has no more bytes than it spans
 pub part-few : (text : List ℕ) (from upto : ℕ) → length (slice_range text from upto) ≤ upto - from
 part-few text from upto = omega (arith, length-take (upto - from) (drop from text))
 

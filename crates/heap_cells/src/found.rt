@@ -1,78 +1,25 @@
-// What the text of a cell's form spells.
-ghost use Rattle.std.specs.Prelude.{◌≡◌, ◌+◌, ◌<◌, ◌≤◌, ◌∷◌, ◌++◌, ◌^◌, length, drop, map, All, OnOk, IfOk, IfSome};
+// What the text of a cell's form spells: its kind, and the slots of its elements.
+ghost use Rattle.std.specs.Prelude.{◌≡◌, ◌+◌, ◌<◌, ◌≤◌, ◌∷◌, [], length, None, Some, OnOk, IfOk};
 ghost use Rattle.std.specs.Option.{option_map};
 ghost use Rattle.term_forms.specs.Places.{elements_of};
 ghost use Rattle.term_forms.specs.Seen.{element};
 ghost use Rattle.term_forms.specs.SeenForms.{heap_form};
+ghost use Rattle.term_forms.specs.SeenPlaces.{placed};
+ghost use Rattle.term_forms.specs.ReadingForms.{form_of};
 ghost use Rattle.heap_cells.specs.Cells.{elements_in, kind_of};
-ghost use Rattle.heap_cells.specs.Inner.Gathering.{slot_with, slot_for, form_found, slots_found};
-ghost use Rattle.heap_cells.specs.Inner.Found.{pair_spelled, read_in, IsPairOf, IsReadOf};
-ghost use Rattle.heap_cells.specs.Inner.Spellings.{IsNear, IsSpelling};
+ghost use Rattle.heap_cells.specs.Inner.Found.{read_of, read_with, Pushes, IsReadInto};
+ghost use Rattle.heap_cells.specs.Inner.Gathering.{slot_with};
 
 use cell_records::{Kind, Slot, Span};
 use std::alloc::AllocError;
-use term_forms::reading::elem;
-use term_forms::shapes::{Elem, Form};
-use term_forms::{
-    Enc, PlacedElems, form_is_read, front_is_longest, placed_form, whole_elem, whole_is_read,
-};
+use term_forms::shapes::{Elem, Form, Opened};
+use term_forms::{Enc, Joined, PlacedElem, front_is_longest, open_form, whole_is_read};
 
-// No form; a cons cell with its head, how many bytes spell that,
-// and its tail; or another form with its elements and their places.
+// The kind of the form that a text spells, if it spells one, and how many elements that has.
 #[derive(Drop)]
-pub(crate) enum Found<'a> {
-    Malformed,
-    List(Elem<'a>, usize, Elem<'a>),
-    Other(Form<'a>, PlacedElems<'a>),
-}
-
-fn text_from(text: &[u8], from: usize) -> &[u8]
-    requires { from ≤ length text.now }
-    ensures { result.now ≡ drop from text.now }
-{
-    &text[from..]
-}
-
-// What stands after the byte, if the text begins with it.
-fn behind(byte: u8, text: &[u8]) -> Option<&[u8]>
-    ensures { IfSome result (λ rest. text.now ≡ byte ∷ rest.now) }
-{
-    let (first, rest) = text.split_first()?;
-    if *first == byte { Some(rest) } else { None }
-}
-
-// The head of a cons cell, how many bytes spell it, and the tail, each of which is read once.
-fn read_pair(text: &[u8]) -> Option<(Elem<'_>, usize, Elem<'_>)>
-    ensures { IfSome result (λ pair. IsPairOf text.now pair.0 pair.1 pair.2) }
-{
-    let spelled = behind(b'l', text)?;
-    let (head, len) = elem(spelled)?;
-    let rest = behind(b'|', text_from(spelled, len))?;
-    let tail = whole_elem(rest)?;
-    Some((head, len, tail))
-}
-
-fn read_other(text: &[u8], enc: Enc) -> Found<'_>
-    ensures { IsReadOf enc text.now (read_in text.now result) }
-{
-    front_is_longest();
-    whole_is_read();
-    match placed_form(text, enc) {
-        None => Found::Malformed,
-        Some((form, elements)) => Found::Other(form, elements),
-    }
-}
-
-// What the whole text spells.
-pub(crate) fn read_found(text: &[u8], enc: Enc) -> Found<'_>
-    ensures { IsReadOf enc text.now (read_in text.now result) }
-{
-    form_is_read(enc);
-    whole_is_read();
-    match read_pair(text) {
-        Some((head, len, tail)) => Found::List(head, len, tail),
-        None => read_other(text, enc),
-    }
+pub(crate) struct Read {
+    pub kind: Option<Kind>,
+    pub count: u64,
 }
 
 fn kind_of(form: &Form<'_>) -> Kind
@@ -92,31 +39,6 @@ fn kind_of(form: &Form<'_>) -> Kind
         Form::Flat(_, _) => Kind::Flat,
         Form::Hash(_, _) => Kind::Hash,
         Form::Node(_) => Kind::Node,
-    }
-}
-
-fn element_count(form: &Form<'_>) -> u64
-    ensures value { result ≡ length (elements_of (heap_form form.now)) }
-    ensures few { result ≤ 2 ^ 63 }
-{
-    match form {
-        Form::List(_, _) => 2,
-        Form::Flat(_, values) => values.left() + 1,
-        Form::Tuple(elements) => elements.left(),
-        Form::Hash(_, children) => children.left(),
-        Form::Node(children) => children.left(),
-        _ => 0,
-    }
-}
-
-// The weight of a cell: 1 for itself, and 1 for each of its elements.
-pub(crate) fn found_weight(text: &[u8], found: &Found<'_>) -> u64
-    ensures { result ≡ 1 + length (elements_in (form_found (read_in text.now found.now))) }
-{
-    match found {
-        Found::Malformed => 1,
-        Found::List(_, _, _) => 3,
-        Found::Other(form, _) => 1 + element_count(form),
     }
 }
 
@@ -142,61 +64,138 @@ fn slot_with(e: &Elem<'_>, at: usize, len: usize) -> Slot
     }
 }
 
-// The slots of the elements of a form whose text begins at a place.
-fn push_slots(
+// The slot of an element of a form whose text begins at a place, unless there are as many slots as may be.
+fn push_elem(
     slots: &mut Vec<Slot>,
-    elements: PlacedElems<'_>,
+    found: &PlacedElem<'_>,
     from: usize,
+    most: usize,
 ) -> Result<(), AllocError>
-    requires { All (IsNear from) elements }
-    ensures { OnOk result (slots.new.items ≡ slots.old.items ++ map (slot_for from) elements.entry) }
+    requires { from + found.now.at + found.now.len < 4294967296 }
+    ensures { OnOk result (Pushes from most (placed found.now ∷ []) slots.old.items slots.new.items) }
 {
-    for found in elements {
-        slots.push(slot_with(&found.elem, from + found.at, found.len))?;
+    if slots.len() >= most {
+        return Ok(());
     }
+    slots.push(slot_with(&found.elem, from + found.at, found.len))?;
     Ok(())
 }
 
 // The slots of a cons cell's head and tail.
-fn push_list(
+fn push_pair(
     slots: &mut Vec<Slot>,
-    text: &[u8],
-    head: Elem<'_>,
-    len: usize,
-    tail: Elem<'_>,
+    head: &PlacedElem<'_>,
+    tail: &PlacedElem<'_>,
     from: usize,
+    most: usize,
 ) -> Result<(), AllocError>
-    requires spelled { All (IsSpelling text.now) (pair_spelled text.now head len tail) }
-    requires small { from + length text.now < 4294967296 }
-    ensures { OnOk result (slots.new.items ≡ slots.old.items ++ map (slot_for from) (pair_spelled text.now head.entry len tail.entry)) }
+    requires head { from + head.now.at + head.now.len < 4294967296 }
+    requires tail { from + tail.now.at + tail.now.len < 4294967296 }
+    ensures { OnOk result (Pushes from most (placed head.now ∷ placed tail.now ∷ []) slots.old.items slots.new.items) }
 {
-    let at = len + 2;
-    slots.push(slot_with(&head, from + 1, len))?;
-    slots.push(slot_with(&tail, from + at, text.len() - at))?;
-    Ok(())
+    push_elem(slots, head, from, most)?;
+    push_elem(slots, tail, from, most)
 }
 
-// The slots of a form that was found, and its kind.
-pub(crate) fn push_found(
+// No form.
+fn malformed() -> Read
+    ensures { result ≡ read_of None }
+{
+    Read {
+        kind: None,
+        count: 0,
+    }
+}
+
+// The slots of elements, each of which is read once. Some of the form's elements were before them.
+fn push_joined(
+    slots: &mut Vec<Slot>,
+    mut elements: Joined<'_>,
+    kind: Kind,
+    before: u64,
+    from: usize,
+    most: usize,
+) -> Result<Read, AllocError>
+    requires small { from + length elements.text < 4294967296 }
+    requires few { before ≤ 1 }
+    ensures read { IfOk result (λ read. read ≡ read_with kind before elements.entry.elements) }
+    ensures pushed { OnOk result (IsReadInto elements.entry.text from most elements.entry.elements slots.old.items slots.new.items) }
+{
+    front_is_longest();
+    whole_is_read();
+    let count = elements.left();
+    while elements.left() > 0 {
+        let Some(found) = elements.next_elem() else {
+            return Ok(malformed());
+        };
+        push_elem(slots, &found, from, most)?;
+    }
+    if !elements.is_over() {
+        return Ok(malformed());
+    }
+    Ok(Read {
+        kind: Some(kind),
+        count: before + count,
+    })
+}
+
+// The slots of the elements that the text spells, until it turns out to spell no form.
+fn push_opened(
     slots: &mut Vec<Slot>,
     text: &[u8],
-    found: Found<'_>,
+    enc: Enc,
     from: usize,
-) -> Result<Option<Kind>, AllocError>
-    requires spelled { IfSome (read_in text.now found) (λ f. All (IsSpelling text.now) f.1) }
-    requires small { from + length text.now < 4294967296 }
-    ensures slots { OnOk result (slots.new.items ≡ slots.old.items ++ slots_found from (read_in text.now found.entry)) }
-    ensures kind { IfOk result (λ kind. kind ≡ option_map kind_of (form_found (read_in text.now found.entry))) }
+    most: usize,
+) -> Result<Read, AllocError>
+    requires { from + length text.now < 4294967296 }
+    ensures read { IfOk result (λ read. read ≡ read_of (form_of enc text.now)) }
+    ensures pushed { OnOk result (IsReadInto text.now from most (option_map elements_of (form_of enc text.now)) slots.old.items slots.new.items) }
 {
-    match found {
-        Found::Malformed => Ok(None),
-        Found::List(head, len, tail) => {
-            push_list(slots, text, head, len, tail, from)?;
-            Ok(Some(Kind::List))
+    front_is_longest();
+    whole_is_read();
+    let Some(opened) = open_form(text, enc) else {
+        return Ok(malformed());
+    };
+    match opened {
+        Opened::List(head, tail) => {
+            push_pair(slots, &head, &tail, from, most)?;
+            Ok(Read {
+                kind: Some(Kind::List),
+                count: 2,
+            })
         }
-        Found::Other(form, elements) => {
-            push_slots(slots, elements, from)?;
-            Ok(Some(kind_of(&form)))
+        Opened::Tuple(elements) => push_joined(slots, elements, Kind::Tuple, 0, from, most),
+        Opened::Flat(keys, values) => {
+            push_elem(slots, &keys, from, most)?;
+            push_joined(slots, values, Kind::Flat, 1, from, most)
         }
+        Opened::Hash(_, children) => push_joined(slots, children, Kind::Hash, 0, from, most),
+        Opened::Node(children) => push_joined(slots, children, Kind::Node, 0, from, most),
+        Opened::Plain(form) => Ok(Read {
+            kind: Some(kind_of(&form)),
+            count: 0,
+        }),
     }
+}
+
+// Reads the text of a cell's form once, and pushes the slots of its elements as long as there
+// are fewer than `most`. Those of a text that turns out to spell no form are taken back.
+pub(crate) fn push_form(
+    slots: &mut Vec<Slot>,
+    text: &[u8],
+    enc: Enc,
+    from: usize,
+    most: usize,
+) -> Result<Read, AllocError>
+    requires { from + length text.now < 4294967296 }
+    ensures read { IfOk result (λ read. read ≡ read_of (form_of enc text.now)) }
+    ensures pushed { OnOk result (IsReadInto text.now from most (Some (elements_in (form_of enc text.now))) slots.old.items slots.new.items) }
+{
+    let before = slots.len();
+    let read = push_opened(slots, text, enc, from, most)?;
+    if read.kind.is_some() {
+        return Ok(read);
+    }
+    slots.truncate(before);
+    Ok(read)
 }

@@ -1,22 +1,20 @@
 // Gathering the heap lines of the bodies one by one.
-ghost use Rattle.std.specs.Prelude.{◌≡◌, ◌+◌, ◌^◌, ◌<◌, ◌≤◌, ◌-◌, ◌∷◌, ◌++◌, [], List, length, slice_range, All, OnOk, IfOk, IfSome};
+ghost use Rattle.std.specs.Prelude.{◌≡◌, ◌+◌, ◌^◌, ◌<◌, ◌≤◌, ◌-◌, ◌∷◌, ◌++◌, [], List, length, slice_range, OnOk, IfOk};
 ghost use Rattle.std.specs.List.{filter_map};
 ghost use Rattle.field_lines.specs.Lines.{TextLine};
 ghost use Rattle.field_lines.specs.Shown.{shown_line};
 ghost use Rattle.heap_cells.specs.Cells.{Cell, spelled_cell, cell_of, line_cells};
-ghost use Rattle.heap_cells.specs.Inner.Found.{read_in};
-ghost use Rattle.heap_cells.specs.Inner.Gathering.{form_found, slots_found, new_record, IsLineAt, IsBodyAt, IsGathered, Leads, AreAll};
+ghost use Rattle.heap_cells.specs.Inner.Gathering.{new_record, IsLineAt, IsBodyAt, IsGathered, Leads, AreAll};
 ghost use Rattle.heap_cells.specs.Inner.Parts.{IsPart};
-ghost use Rattle.heap_cells.specs.Inner.Spellings.{IsSpelling};
 ghost use Rattle.heap_cells.specs.Inner.Texts.{text_of, seam_of};
 
-use crate::found::{Found, found_weight, push_found, read_found};
+use crate::found::push_form;
 use crate::texts::{Texts, part};
-use cell_records::{Arena, CellRecord};
+use cell_records::{Arena, CellRecord, Kind};
 use field_lines::Line;
 use field_lines::reading::lines;
 use std::alloc::{AllocError, Global};
-use term_forms::heap_line;
+use term_forms::{form_is_read, heap_line};
 
 // The cells of the lines so far, with unresolved references, and how many lines and
 // elements there are so far. Once these are more than the limit, no more cells are kept.
@@ -27,34 +25,39 @@ pub(crate) struct Gathering {
     pub dense: u32,
 }
 
-// Appends a cell, given where the text of its form begins and ends.
-fn push_cell(
-    arena: &mut Arena,
+// Appends the record of a cell, given where the text of its form begins and ends.
+fn push_record(
+    cells: &mut Vec<CellRecord>,
     address: u64,
     from: usize,
     upto: usize,
-    text: &[u8],
-    found: Found<'_>,
+    first: usize,
+    kind: Option<Kind>,
 ) -> Result<(), AllocError>
-    requires spelled { IfSome (read_in text.now found) (λ f. All (IsSpelling text.now) f.1) }
-    requires small { from + length text.now < 4294967296 }
     requires ordered { from ≤ upto }
     requires within { upto < 4294967296 }
-    requires few { length arena.old.slots.items < 4294967296 }
-    ensures cells { OnOk result (arena.new.cells.items
-        ≡ arena.old.cells.items ++ new_record address from upto (length arena.old.slots.items) (form_found (read_in text.now found.entry)) ∷ []) }
-    ensures slots { OnOk result (arena.new.slots.items ≡ arena.old.slots.items ++ slots_found from (read_in text.now found.entry)) }
+    requires few { first < 4294967296 }
+    ensures { OnOk result (cells.new.items ≡ cells.old.items ++ new_record address from upto first kind ∷ []) }
 {
-    let first = arena.slots.len() as u32;
-    let kind = push_found(&mut arena.slots, text, found, from)?;
-    arena.cells.push(CellRecord {
+    cells.push(CellRecord {
         address,
         at: from as u32,
         len: (upto - from) as u32,
-        first,
+        first: first as u32,
         kind,
     })?;
     Ok(())
+}
+
+// How many slots there may be: none are needed once there are too many lines and elements.
+fn most_slots(g: &Gathering) -> usize
+    ensures { g.now.weight ≤ g.now.dense → result ≡ g.now.dense }
+{
+    if g.weight > u64::from(g.dense) {
+        0
+    } else {
+        g.dense as usize
+    }
 }
 
 // Gathers the cell of a heap line, given where the text of its form begins and ends.
@@ -77,13 +80,17 @@ fn gather_cell(
         → Leads (text_of texts.now) texts.now.enc g.old (spelled_cell texts.now.enc (address, slice_range (text_of texts.now) from upto) ∷ rest) all
         → Leads (text_of texts.now) texts.now.enc g.new rest all) }
 {
+    form_is_read(texts.enc);
     let text = part(texts, from, upto);
-    let found = read_found(text, texts.enc);
-    g.weight += found_weight(text, &found);
+    let most = most_slots(g);
+    let first = g.arena.slots.len();
+    let read = push_form(&mut g.arena.slots, text, texts.enc, from, most)?;
+    g.weight += 1 + read.count;
     if g.weight > u64::from(g.dense) {
+        g.arena.slots.truncate(first);
         return Ok(());
     }
-    push_cell(&mut g.arena, address, from, upto, text, found)
+    push_record(&mut g.arena.cells, address, from, upto, first, read.kind)
 }
 
 // Gathers the cell of a line, if the line is a heap line.

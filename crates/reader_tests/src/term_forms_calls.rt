@@ -2,8 +2,8 @@ use std::alloc::Global;
 use std::process::Abort;
 use std::test::Fail;
 use term_forms::reading::{elem, form};
-use term_forms::shapes::{Elem, PlacedElem};
-use term_forms::{Enc, heap_line, placed_form, put_elem, put_form};
+use term_forms::shapes::{Elem, Opened, PlacedElem};
+use term_forms::{Enc, Joined, heap_line, open_form, put_elem, put_form};
 
 // The text begins with an element of that many bytes, whose plain spelling is this.
 fn begins(
@@ -64,16 +64,53 @@ fn elements_are_read_and_written(rt: HostRuntime) -> Result<(), Fail> {
     Ok(())
 }
 
+// These are all elements that are left, each with its place.
+fn read(rt: &impl Abort, elements: &mut Joined<'_>, expected: &[PlacedElem<'_>]) {
+    for found in expected {
+        assert!(rt; elements.left() > 0);
+        assert_eq!(rt; elements.next_elem(), Some(*found));
+    }
+    assert_eq!(rt; elements.left(), 0);
+    assert!(rt; elements.is_over());
+}
+
 // The elements of the form that the text spells, each with its place.
 fn stand(rt: &impl Abort, text: &[u8], expected: &[PlacedElem<'_>]) {
-    let placed = placed_form(text, Enc::Base64);
-    assert!(rt; placed.is_some());
-    if let Some((_, mut elements)) = placed {
-        for found in expected {
-            assert_eq!(rt; elements.next(), Some(*found));
+    let Some(opened) = open_form(text, Enc::Base64) else {
+        panic!(rt; "no form");
+    };
+    match opened {
+        Opened::List(head, tail) => {
+            assert_eq!(rt; expected.len(), 2);
+            assert_eq!(rt; head, expected[0]);
+            assert_eq!(rt; tail, expected[1]);
         }
-        assert_eq!(rt; elements.next(), None);
+        Opened::Flat(keys, mut values) => {
+            assert!(rt; !expected.is_empty());
+            assert_eq!(rt; keys, expected[0]);
+            read(rt, &mut values, &expected[1..]);
+        }
+        Opened::Tuple(mut elements) => read(rt, &mut elements, expected),
+        Opened::Hash(_, mut children) => read(rt, &mut children, expected),
+        Opened::Node(mut children) => read(rt, &mut children, expected),
+        Opened::Plain(_) => assert!(rt; expected.is_empty()),
     }
+}
+
+// Whether the text spells a tuple.
+fn is_tuple(text: &[u8]) -> bool {
+    let Some(Opened::Tuple(mut elements)) = open_form(text, Enc::Hex) else {
+        return false;
+    };
+    for _ in text {
+        if elements.left() == 0 {
+            return elements.is_over();
+        }
+        if elements.next_elem().is_none() {
+            return false;
+        }
+    }
+    false
 }
 
 fn at(at: usize, len: usize, elem: Elem<'_>) -> PlacedElem<'_> {
@@ -110,7 +147,17 @@ fn elements_have_places(rt: HostRuntime) {
     stand(&rt, b"Mn01:H5", &[at(5, 2, Elem::Ref(5))]);
     stand(&rt, b"t0:", &[]);
     stand(&rt, b"Yc0a:01:2", &[]);
-    assert!(rt; placed_form(b"t2:I1", Enc::Hex).is_none());
+    assert!(rt; is_tuple(b"t2:I1,N"));
+    for text in [
+        b"t2:I1".as_slice(),
+        b"t1:I1,",
+        b"t1:I1,N",
+        b"t2:I1|N",
+        b"t0:N",
+    ] {
+        assert!(rt; !is_tuple(text));
+    }
+    assert!(rt; open_form(b"lN,N", Enc::Hex).is_none());
 }
 
 #[test]

@@ -1,7 +1,7 @@
 -- The parts of a form, each with what it is read as.
 use Rattle.std.proofs.Common.{◌≡◌, ℕ, zero, suc, ◌==◌, true, List, [], ◌∷◌, ◌++◌, length, take, drop, Some, None, refl, sym, ◌∙◌, ap, subst, arith, if◌then◌else◌, inl, inr}
 use Rattle.std.proofs.lemmas.Bool.{eqb-true, eq-eqb}
-use Rattle.std.proofs.lemmas.List.{take_all, append-nil, take-append-drop}
+use Rattle.std.proofs.lemmas.List.{take_all, append-nil, take-append-drop, length-take-le}
 use Rattle.std.proofs.lemmas.Option.{same_Some, some_pair_parts}
 use Rattle.std.proofs.lemmas.List.{drop_at}
 use Rattle.dump_io.specs.Numbers.{hex_number}
@@ -17,7 +17,7 @@ use Rattle.term_forms.specs.Inner.PayloadTest.{payload_test}
 use Rattle.term_forms.specs.Elements.{Element, IsElem, EndsElement}
 use Rattle.term_forms.specs.Joined.{IsJoined}
 use Rattle.term_forms.specs.Forms.{IsRange}
-use Rattle.term_forms.proofs.Steps.{bind_some, bind_from, guard_some, guard_from}
+use Rattle.term_forms.proofs.Steps.{bind_some, bind_from, guard_some, guard_from, some_pair}
 use Rattle.term_forms.proofs.Hexes.{led_full, led_sound}
 use Rattle.term_forms.proofs.WordTexts.{bracketed_full, bracketed_sound}
 use Rattle.term_forms.proofs.FrontsTaken.{front_sound}
@@ -68,7 +68,8 @@ until_full stop text first rest e ends split is =
     (bind_from (behind stop (drop (length first) (first ++ stop ∷ rest))) (λ rest. Some (e, rest)) rest (e, rest)
     (ap (behind stop) (drop_at first (stop ∷ rest) (length first) refl) ∙ behind_from stop rest) refl)
 
-pub until_sound : (stop : ℕ) (text : List ℕ) (e : Element) (rest : List ℕ) → until_of stop text ≡ Some (e, rest) → (first : List ℕ) × (text ≡ first ++ stop ∷ rest) × IsElem first e
+pub until_sound : (stop : ℕ) (text : List ℕ) (e : Element) (rest : List ℕ) → until_of stop text ≡ Some (e, rest)
+    → (first : List ℕ) × (text ≡ first ++ stop ∷ rest) × IsElem first e × (front text ≡ Some (e, length first))
 unfolding until_of
 until_sound stop text e rest h =
     let step = bind_some (front text) (λ found. behind stop (drop found.1 text) >>= λ rest. Some (found.0, rest)) (e, rest) h in
@@ -79,6 +80,7 @@ until_sound stop text e rest h =
       sym (take-append-drop step.0.1 text) ∙ ap (λ t. take step.0.1 text ++ t) (behind_sound stop (drop step.0.1 text) next.0 next.1)
           ∙ ap (λ rest. take step.0.1 text ++ stop ∷ rest) same.1,
       subst (λ e. IsElem (take step.0.1 text) e) same.0 is.1,
+      step.1 ∙ some_pair step.0.0 e step.0.1 (length (take step.0.1 text)) same.0 (sym (length-take-le step.0.1 text is.0)),
     )
 
 -- ---- elements joined by commas

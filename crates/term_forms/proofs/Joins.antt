@@ -1,6 +1,6 @@
 -- Elements joined by commas, as they are read.
 use Rattle.std.proofs.Common.{◌≡◌, ℕ, zero, suc, ◌-◌, ◌<◌, ◌≤◌, ◌==◌, true, List, [], ◌∷◌, length, Option, Some, None, refl, sym, ◌∙◌, ap, arith}
-use Rattle.std.specs.Option.{is_some, unwrap_or}
+use Rattle.std.specs.Option.{is_some, option_and_then, unwrap_or}
 use Rattle.term_forms.specs.Words.{comma}
 use Rattle.term_forms.specs.Reading.{front, whole_of}
 use Rattle.term_forms.specs.Inner.Chain.{◌>>=◌}
@@ -62,6 +62,10 @@ pub with_first_none : (left : ℕ) → with_first left None ≡ None
 unfolding with_first
 with_first_none left = refl
 
+pub with_first_is : (left : ℕ) (e : Element) (rest : List ℕ) → with_first left (Some (e, rest)) ≡ option_and_then (λ es. Some (e ∷ es)) (joined_of left rest)
+unfolding with_first
+with_first_is left e rest = refl
+
 -- an `Elems` has as many elements as it counts
 pub joined_list_length : (count : ℕ) (text : List ℕ) → is_some (joined_of count text) ≡ true → length (joined_list count text) ≡ count
 joined_list_length count text h = of (joined_of count text) refl h
@@ -97,7 +101,7 @@ until_shorter stop text e rest h =
     let is = until_sound stop text e rest h in
     omega (arith, ap length is.1, length-append is.0 (stop ∷ rest))
 
-joined_within : (count : ℕ) (text : List ℕ) (es : List Element) → joined_of count text ≡ Some es → count ≤ length text
+pub joined_within : (count : ℕ) (text : List ℕ) (es : List Element) → joined_of count text ≡ Some es → count ≤ length text
 unfolding joined_of
 joined_within zero text es h = omega arith
 joined_within (suc zero) text es h =

@@ -1,3 +1,4 @@
+pub mod Ends
 pub mod FormParts
 pub mod FormsRead
 pub mod FormsTaken
@@ -10,7 +11,6 @@ pub mod OfElements
 pub mod OfForms
 pub mod Joining
 pub mod PayloadTests
-pub mod Placing
 pub mod PlainHex
 pub mod Runs
 pub mod Steps

@@ -7,5 +7,7 @@ pub mod Reading
 pub mod ReadingForms
 pub mod Seen
 pub mod SeenForms
+pub mod SeenOpened
 pub mod SeenPlaces
+pub mod Unread
 pub mod Words

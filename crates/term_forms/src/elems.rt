@@ -8,6 +8,7 @@ ghost use Rattle.term_forms.specs.Inner.Joins.{until_of, behind, joined_of, join
 ghost use Rattle.term_forms.specs.Seen.{element, element_rest};
 
 use crate::elements::elem;
+use crate::opening::first_in;
 use crate::shapes::Elem;
 use std::marker::Model;
 
@@ -49,7 +50,7 @@ pub(crate) fn elem_until(text: &[u8], stop: u8) -> Option<(Elem<'_>, &[u8])>
     Some((e, rest))
 }
 
-fn end_of(text: &[u8]) -> &[u8]
+pub(crate) fn end_of(text: &[u8]) -> &[u8]
     ensures { result.now ≡ [] }
 {
     &text[text.len()..]
@@ -60,12 +61,8 @@ fn split_elem(count: u64, text: &[u8]) -> Option<(Elem<'_>, &[u8])>
     requires { 0 < count }
     ensures { joined_of count text.now ≡ with_first (count - 1) (option_map element_rest result) }
 {
-    if count == 1 {
-        let e = read_whole(text)?;
-        Some((e, end_of(text)))
-    } else {
-        elem_until(text, b',')
-    }
+    let (found, others) = first_in(text, text, count)?;
+    Some((found.elem, others))
 }
 
 // Whether the text spells `count` elements, which isn't checked if `spelled` says that it is known.

@@ -3,9 +3,11 @@
 //!
 //! ```
 //! let (address, text) = heap_line(b"7F10:t2:A2:ok,H20")?; // 0x7F10, and the text of a form
-//! let (form, elements) = placed_form(text, Enc::Base64)?; // a tuple
-//! for found in elements {
-//!     // The atom `ok` at 3, and a reference to 0x20 at 8: what `elem(&text[found.at..])` reads again.
+//! if let Opened::Tuple(mut elements) = open_form(text, Enc::Base64)? {
+//!     while elements.left() > 0 {
+//!         let found = elements.next_elem()?;
+//!         // The atom `ok` at 3, and a reference to 0x20 at 8: what `elem(&text[found.at..])` reads again.
+//!     }
 //! }
 //! let mut first = [0; 3];
 //! if let Form::HeapBin(size, chars) = form(b"Yh5:aGVsbG8=", Enc::Base64)? {
@@ -13,7 +15,7 @@
 //! }
 //! ```
 //!
-//! The types `Elem`, `Form` and `Cover` are in [`shapes`], and the functions `elem`, `form` and `cover`,
+//! The types `Elem`, `Form`, `Opened` and `Cover` are in [`shapes`], and the functions `elem`, `form` and `cover`,
 //! which share their names, in [`reading`]. The grammar is in `specs/Elements.antt` and `specs/Forms.antt`.
 #![tactic(auto)]
 
@@ -21,7 +23,7 @@ mod elements;
 mod elems;
 mod forms;
 mod laws;
-mod placed;
+mod opening;
 pub mod reading;
 pub mod shapes;
 mod words;
@@ -37,7 +39,7 @@ pub use laws::{
     form_is_read, front_is_longest, front_of_element, number_is_read, plain_spelling_of_elements,
     plain_spelling_of_forms, unique_reading_of_elements, unique_reading_of_forms, whole_is_read,
 };
-pub use placed::{PlacedElems, placed_form};
+pub use opening::{Joined, open_form};
 pub use shapes::PlacedElem;
 pub use words::heap_line;
 pub use writing::{put_elem, put_form};

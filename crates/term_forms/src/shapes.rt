@@ -1,6 +1,7 @@
 //! The types that share their names with the functions of [`reading`](crate::reading).
 
 use crate::elems::Elems;
+use crate::opening::Joined;
 pub use binary_payloads::covers::Cover;
 
 /// An element of a dump's text. The slices are parts of the text that was read.
@@ -60,4 +61,21 @@ pub struct PlacedElem<'a> {
     pub len: usize,
     /// The element.
     pub elem: Elem<'a>,
+}
+
+/// How a form begins, and where its elements are read.
+#[derive(Drop)]
+pub enum Opened<'a> {
+    /// A cons cell: its head and its tail.
+    List(PlacedElem<'a>, PlacedElem<'a>),
+    /// A tuple: its elements.
+    Tuple(Joined<'a>),
+    /// A flat map: the element that leads to the tuple of its keys, and the values.
+    Flat(PlacedElem<'a>, Joined<'a>),
+    /// The root of a hash map: its stated size, and its children.
+    Hash(u64, Joined<'a>),
+    /// An inner node of a hash map: its children.
+    Node(Joined<'a>),
+    /// A form without elements.
+    Plain(Form<'a>),
 }

@@ -1,19 +1,16 @@
 -- Gathering the heap lines of the bodies one by one.
-use Rattle.std.specs.Prelude.{◌≡◌, ℕ, ◌+◌, ◌-◌, ◌≤◌, List, [], ◌++◌, map, length, slice_range, Option, None, Some}
-use Rattle.std.specs.Option.{option_map}
+use Rattle.std.specs.Prelude.{◌≡◌, ℕ, ◌+◌, ◌-◌, ◌≤◌, List, [], ◌++◌, length, slice_range, Option}
 use Rattle.field_lines.specs.Lines.{TextLine}
 use Rattle.binary_payloads.specs.declared.enc.Enc.{Enc}
 use Rattle.term_forms.specs.Elements.{Element, Nil, Small, Atom, Pid, Port, Ref}
-use Rattle.term_forms.specs.Forms.{HeapForm}
 use Rattle.term_forms.specs.Places.{Placed}
-use Rattle.term_forms.specs.SeenForms.{heap_form}
-use Rattle.term_forms.specs.declared.shapes.Form.{Form}
 use Rattle.cell_records.specs.declared.cells.CellRecord.{CellRecord}
+use Rattle.cell_records.specs.declared.cells.Kind.{Kind}
 use Rattle.cell_records.specs.declared.cells.Slot.{Slot}
 use Rattle.cell_records.specs.declared.cells.Slot.TheVariants as slot
 use Rattle.cell_records.specs.declared.cells.Span.{Span}
 use Rattle.heap_cells.specs.declared.gathering.Gathering.{Gathering}
-use Rattle.heap_cells.specs.Cells.{Cell, kind_of, weight_of, weight, line_cells}
+use Rattle.heap_cells.specs.Cells.{Cell, weight_of, weight, line_cells}
 use Rattle.heap_cells.specs.Inner.Parts.{IsPart}
 use Rattle.heap_cells.specs.declared.texts.Texts.{Texts}
 use Rattle.heap_cells.specs.Inner.Texts.{text_of, seam_of}
@@ -32,18 +29,9 @@ slot_with span (Ref address) = slot.Gone address
 abbrev pub slot_for : ℕ → Placed → Slot
 slot_for from p = slot_with (record { at = from + p.at; len = p.len }) p.element
 
--- what a form's text spells: its form, and its elements with their places
-abbrev pub form_found : Option (Form × List Placed) → Option HeapForm
-form_found found = option_map (λ f. heap_form f.0) found
-
-abbrev pub slots_found : ℕ → Option (Form × List Placed) → List Slot
-slots_found from None = []
-slots_found from (Some found) = map (slot_for from) found.1
-
 -- a record of these parts, whose first slot comes after this many
-abbrev pub new_record : ℕ → ℕ → ℕ → ℕ → Option HeapForm → CellRecord
-new_record address from upto first form =
-    record { address = address; at = from; len = upto - from; first = first; kind = option_map kind_of form }
+abbrev pub new_record : ℕ → ℕ → ℕ → ℕ → Option Kind → CellRecord
+new_record address from upto first kind = record { address = address; at = from; len = upto - from; first = first; kind = kind }
 
 -- the text of a line begins this many bytes after this place
 pub record IsLineAt (text : List ℕ) (seam base : ℕ) (line : TextLine) : Type 0 where
