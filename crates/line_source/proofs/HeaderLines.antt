@@ -117,13 +117,6 @@ new_headers-line scan s t x stands line lacks =
     new_headers-walked scan s (x ++ lf ∷ []) stands ∙ ap (λ l. heard_by scan.offset l (x ++ lf ∷ [])) line ∙ heard_by-line scan.offset t x [] lacks
 
 -- the line goes on
-pub StandsFor-longer : (scan after : Scan) (s t x : List ℕ) → StandsFor scan s → scan.last ≡ header t → length t ≤ scan.offset → lacks_lf x ≡ true
-    → length t + length x ≤ scan.limit → after.limit ≡ scan.limit → after.offset ≡ scan.offset + length x → after.last ≡ header (t ++ x)
-    → StandsFor after (s ++ x)
-StandsFor-longer scan after s t x stands line low lacks fits limit offset last =
-    StandsFor-more scan after s x stands limit offset (last ∙ sym (last_by-header t x lacks) ∙ ap (λ l. last_by l x) (sym line))
-    (ap (λ l. long_by scan.limit scan.offset l x) line ∙ long_by-fits scan.limit scan.offset t x low lacks fits)
-
 pub new_headers-longer : (scan : Scan) (s t x : List ℕ) → StandsFor scan s → scan.last ≡ header t → lacks_lf x ≡ true → new_headers s x ≡ []
 new_headers-longer scan s t x stands line lacks =
     new_headers-walked scan s x stands ∙ ap (λ l. heard_by scan.offset l x) line ∙ heard_by-header scan.offset t x lacks
@@ -141,8 +134,9 @@ kept-bytes scan after x is = ap (λ s. header_bytes s.last) is
 pub StandsFor-kept : (scan after : Scan) (s x : List ℕ) → StandsFor scan s → is_header_line scan.last ≡ true → length (header_bytes scan.last) ≤ scan.offset
     → lacks_lf x ≡ true → length (header_bytes scan.last) + length x ≤ scan.limit → after ≡ longer scan x → StandsFor after (s ++ x)
 StandsFor-kept scan after s x stands line low lacks fits is =
-    StandsFor-longer scan after s (header_bytes scan.last) x stands (header-known scan.last line) low lacks fits
-    (ap (λ s. s.limit) is) (kept-offset scan after x is) (ap (λ s. s.last) is)
+    let t = header_bytes scan.last in
+    let known : scan.last ≡ header t = header-known scan.last line in
+    StandsFor-more scan after s x stands (cc) (cc) (cc (last_by-header t x lacks)) (cc (long_by-fits scan.limit scan.offset t x low lacks fits))
 
 -- and then heard it
 pub StandsFor-heard : (scan middle after : Scan) (s x : List ℕ) → StandsFor scan s → is_header_line scan.last ≡ true → length (header_bytes scan.last) ≤ scan.offset

@@ -1,10 +1,14 @@
 -- What a scan stands for after more bytes, and the header of its last line.
-use Rattle.std.proofs.Common.{◌≡◌, ℕ, suc, ◌+◌, ◌-◌, ◌<◌, Bool, true, false, List, [], ◌∷◌, ◌++◌, length, get_or, Some, sym, ◌∙◌, ap, append-nil, length-append, arith, if◌then◌else◌, ◌==◌}
+use Rattle.std.proofs.Common.{◌≡◌, ℕ, suc, ◌+◌, ◌-◌, ◌<◌, Bool, true, false, List, [], ◌∷◌, ◌++◌, length, get_or, Option, Some, Err, sym, ◌∙◌, ap, append-nil, length-append, arith, if◌then◌else◌, ◌==◌}
 use Rattle.memchr.specs.Find.{Nowhere}
 use Rattle.dump_io.specs.Lines.{lf, Header}
 use Rattle.line_source.specs.Streams.{ended, plain, new_headers, open_headers, too_long}
 use Rattle.line_source.specs.declared.header_sink.RefusedHeader.{RefusedHeader}
-use Rattle.line_source.specs.Feeding.{StopsAmong}
+use Rattle.line_source.specs.Feeding.{StopsAmong, stop_of}
+use Rattle.line_source.specs.Inner.Ends.{Ends}
+use Rattle.line_source.specs.Inner.Takes.{Takes}
+use Rattle.line_source.specs.Receiver.{stop_value}
+use Rattle.line_source.specs.declared.scan_fault.ScanFault.{ScanFault}
 use Rattle.line_source.specs.Inner.LastLine.{header_bytes, is_header_line}
 use Rattle.line_source.specs.Inner.Starts.{BeginsHeader}
 use Rattle.line_source.specs.Scan.{Scan, StandsFor}
@@ -52,3 +56,8 @@ StopsAmong-last scan s before after kept refused stands is same stop at size =
       at = ap (λ r. r.at) (sym one) ∙ at;
       size = ap (λ r. r.size) (sym one) ∙ size;
     }
+
+-- nothing of the rest was taken, since it ends the stream
+pub Takes-stopped : {before after : Scan} {rest : List ℕ} {old new : List Header} {refused : Option RefusedHeader} {fault : ScanFault} → after.limit ≡ before.limit → stop_value refused ≡ stop_of {T = ℕ} (Err fault)
+    → ((stream : List ℕ) → StandsFor before stream → Ends before.limit stream rest old new refused fault) → Takes before after rest old new refused (Err fault)
+Takes-stopped limit stop ends = record { within = tt; offset = tt; limit = limit; stop = stop; stands = tt; heard = tt; ends = ends }
