@@ -1,7 +1,7 @@
 -- What is written before a text that ends where its buffer does.
-use Rattle.std.proofs.Common.{◌≡◌, ℕ, ◌+◌, ◌-◌, ◌<◌, ◌≤◌, Bool, true, if◌then◌else◌, List, [], ◌∷◌, ◌++◌, length, take, drop, get_or, slice_set, sym, ◌∙◌, ap, drop-drop, arith}
+use Rattle.std.proofs.Common.{◌≡◌, ℕ, ◌-◌, ◌<◌, ◌≤◌, Bool, true, if◌then◌else◌, List, [], ◌∷◌, ◌++◌, length, drop, get_or, slice_set, ◌∙◌, ap, drop-drop, arith}
 use Rattle.std.proofs.lemmas.List.{drop_all, drop_at, drop_more, length-take-le}
-use borrow.Rule.Slice.PartMut.{put_mid, post_of}
+use borrow.Rule.Slice.PartMut.{put_mid}
 use Rattle.dump_io.specs.declared.pieces.Piece.{Piece}
 use Rattle.dump_io.specs.Pieces.{piece_text, pieces_text}
 use Rattle.dump_io.proofs.Digits.{drop-put}
@@ -12,30 +12,19 @@ single bytes one = drop_more bytes 0 0 (omega (arith, one)) ∙ ap (λ l. get_or
 -- a single byte
 pub front-byte : (xs bytes : List ℕ) (end c : ℕ) → bytes ≡ c ∷ [] → length bytes ≤ end → end ≤ length xs
     → drop (end - length bytes) (slice_set xs (end - length bytes) c) ≡ bytes ++ drop end xs
-front-byte xs bytes end c is fits within =
-    let one : length bytes ≡ 1 = ap length is in
-    let from : end - length bytes ≡ end - 1 = omega (arith, one) in
-    ap (λ n. drop n (slice_set xs n c)) from ∙ drop-put xs end c (omega (arith, one, fits)) within ∙ ap (λ l. l ++ drop end xs) (sym is)
+front-byte xs bytes end c is fits within = grind (arith, drop-put)
 
 -- bytes that are copied
 pub front-copied : (xs bytes : List ℕ) (from end k : ℕ) → from ≤ end → end ≤ length xs → k ≡ end - from
     → drop from (put_mid from k xs bytes) ≡ bytes ++ drop end xs
-front-copied xs bytes from end k ordered within count =
-    let all : from + k ≡ end = omega (arith, ordered, count) in
-    drop_at (take from xs) (bytes ++ post_of from k xs) from (length-take-le from xs (omega (arith, ordered, within)))
-    ∙ ap (λ l. bytes ++ l) (drop-drop k from xs ∙ ap (λ n. drop n xs) all)
+front-copied xs bytes from end k ordered within count = grind (arith, drop_at, length-take-le, drop-drop)
 
 -- one piece more
 pub pieces_text-before : (pieces : List Piece) (left : ℕ) (d : Piece) → 0 < left → left ≤ length pieces
     → pieces_text (drop (left - 1) pieces) ≡ piece_text (get_or pieces (left - 1) d) ++ pieces_text (drop left pieces)
-pieces_text-before pieces left d some within =
-    let next : left - 1 + 1 ≡ left = omega (arith, some) in
-    ap pieces_text (drop_more pieces (left - 1) d (omega (arith, some, within)))
-    ∙ ap (λ n. piece_text (get_or pieces (left - 1) d) ++ pieces_text (drop n pieces)) next
+pieces_text-before pieces left d some within = grind (arith, drop_more)
 
 pub gathered : (pieces : List Piece) (left : ℕ) (d : Piece) (before after : List ℕ) (room : Bool) → 0 < left → left ≤ length pieces
     → before ≡ pieces_text (drop left pieces) → after ≡ (if room then piece_text (get_or pieces (left - 1) d) ++ before else before) → room ≡ true
     → after ≡ pieces_text (drop (left - 1) pieces)
-gathered pieces left d before after room some within are put there =
-    put ∙ ap (λ b. if b then piece_text (get_or pieces (left - 1) d) ++ before else before) there
-    ∙ ap (λ t. piece_text (get_or pieces (left - 1) d) ++ t) are ∙ sym (pieces_text-before pieces left d some within)
+gathered pieces left d before after room some within are put there = grind (arith, pieces_text-before)

@@ -1,5 +1,5 @@
 -- Writes one after another.
-use Rattle.std.proofs.Common.{◌≡◌, ℕ, ◌+◌, ◌-◌, List, length, take, drop, Option, sym, ◌∙◌, ap, arith}
+use Rattle.std.proofs.Common.{◌≡◌, ℕ, ◌+◌, ◌-◌, List, length, take, drop, Option, arith}
 use Rattle.std.proofs.lemmas.Grind.{common_steps}
 use Rattle.dump_io.specs.Sinks.{grown}
 use Rattle.dump_io.specs.Laws.Puts.{grown-grown}
@@ -12,6 +12,4 @@ rest-of bytes d = grind (arith, common_steps)
 -- the front of a piece that was written after another front
 pub grown-next : (w v u : Option (List ℕ)) (bytes : List ℕ) (d n : ℕ) → v ≡ grown w (take d bytes)
     → u ≡ grown v (take n (take (length bytes - d) (drop d bytes))) → u ≡ grown w (take (d + n) bytes)
-grown-next w v u bytes d n first second =
-    second ∙ ap (λ r. grown v (take n r)) (rest-of bytes d) ∙ ap (λ z. grown z (take n (drop d bytes))) first
-    ∙ grown-grown w (take d bytes) (take n (drop d bytes)) ∙ ap (λ xs. grown w xs) (sym (take-two d n bytes))
+grown-next w v u bytes d n first second = grind (arith, rest-of, grown-grown, take-two)

@@ -1,9 +1,9 @@
 -- A number is read digit by digit.
-use Rattle.std.proofs.Common.{◌≡◌, ℕ, ◌+◌, ◌*◌, ◌^◌, ◌<◌, ◌≤◌, Bool, true, false, List, length, take, get_or, None, Some, refl, sym, ◌∙◌, subst, ltb, leb, ◌&&◌, arith, if◌then◌else◌}
+use Rattle.std.proofs.Common.{◌≡◌, ℕ, ◌+◌, ◌*◌, ◌^◌, ◌<◌, ◌≤◌, Bool, true, false, List, length, take, get_or, None, Some, refl, sym, ◌∙◌, ltb, arith, if◌then◌else◌}
 use Rattle.std.specs.List.{list_all}
 use Rattle.std.specs.Char.{digit_value}
 use Rattle.std.specs.Str.Parse.{digits_value}
-use Rattle.std.proofs.lemmas.Bool.{and_parts, and_from, ltb-true, lt-ltb, le-leb, false≢true, true_from_ne_false}
+use Rattle.std.proofs.lemmas.Bool.{and_parts, ltb-true, false≢true, true_from_ne_false}
 use Rattle.std.proofs.lemmas.List.Folds.{list_all_at}
 use Rattle.std.proofs.lemmas.Int.Digits.{digits_value_more}
 use Rattle.std.proofs.lemmas.Str.Parse.{digits_value-take-le}
@@ -35,10 +35,4 @@ number_of-stopped base most text i some inside stopped =
 -- all digits could be added
 pub number_of-read : (base most : ℕ) (text : List ℕ) → 1 ≤ length text → length text ≤ most → list_all (is_digit_of base) text ≡ true
     → digits_value base text < 2 ^ 64 → number_of base most text ≡ Some (digits_value base text)
-number_of-read base most text some few digits small =
-    let one : leb 1 (length text) ≡ true = le-leb 1 (length text) some in
-    let most_of : leb (length text) most ≡ true = le-leb (length text) most few in
-    let count : (leb 1 (length text) && leb (length text) most) ≡ true = and_from _ _ one most_of in
-    let all : (leb 1 (length text) && leb (length text) most && list_all (is_digit_of base) text) ≡ true = and_from _ _ count digits in
-    let e : is_numeral base most text ≡ true = and_from _ _ all (lt-ltb _ _ small) in
-    subst (λ b. (if b then Some (digits_value base text) else None) ≡ Some (digits_value base text)) (sym e) refl
+number_of-read base most text some few digits small = grind arith

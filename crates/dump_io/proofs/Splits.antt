@@ -21,6 +21,4 @@ has_colon-none text none =
 -- a colon at this place and none before it
 pub has_colon-at : (text : List ℕ) (k : ℕ) → k < length text → Nowhere (Passes (is_byte 58) text) 0 k → Passes (is_byte 58) text k
     → (has_colon text ≡ true) × (before_colon text ≡ take k text) × (after_colon text ≡ drop (k + 1) text)
-has_colon-at text k fits none here =
-    let place : position_or_len is_colon text ≡ k = position_or_len_is is_colon text k 0 (omega arith) (λ i l. false_from_ne_true _ (none i (omega arith) l)) (λ _. here) in
-    (list_any_at is_colon text k 0 fits here, ap (λ n. take n text) place, ap (λ n. drop (n + 1) text) place)
+has_colon-at text k fits none here = grind (arith, position_or_len_is, false_from_ne_true, list_any_at)

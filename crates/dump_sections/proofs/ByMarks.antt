@@ -1,12 +1,12 @@
 -- Tags that are sought by their marks first.
-use Rattle.std.proofs.Common.{◌≡◌, ℕ, Bool, true, false, cond, List, Option, refl, sym, ◌∙◌, ap}
+use Rattle.std.proofs.Common.{arith, ◌≡◌, ℕ, false, List, Option}
 use Rattle.std.specs.BTreeMap.{BTreeMap, UpdatesBy, get_by}
 use Rattle.std.specs.Cmp.Lexicographic.{slice_cmp}
 use Rattle.std.specs.Map.{update}
 use Rattle.std.specs.Ordering.{nat_cmp, is_eq, ordering_then}
 use Rattle.std.specs.Str.{bytes_eq}
 use Rattle.std.specs.declared.cmp.Ordering.{Ordering}
-use Rattle.std.specs.declared.cmp.Ordering.TheVariants.{Less, Equal, Greater}
+use Rattle.std.specs.declared.cmp.Ordering.TheVariants.{Equal}
 use Rattle.std.proofs.lemmas.Cmp.{nat_cmp_total, tied_itself}
 use Rattle.std.proofs.lemmas.Map.Text.{is_eq-slice_cmp}
 use Rattle.std.proofs.lemmas.Slice.Eq.{bytes_eq-Decides}
@@ -15,21 +15,11 @@ use Rattle.dump_sections.specs.Inner.Marks.{mark_of, mark_cmp}
 
 -- tags whose marks differ differ
 apart : (tag other : List ℕ) → (nat_cmp (mark_of tag) (mark_of other) ≡ Equal → ⊥) → false ≡ bytes_eq tag other
-apart tag other unequal = by (bytes_eq tag other) refl
-  where
-    by : (b : Bool) → bytes_eq tag other ≡ b → false ≡ b
-    by false e = refl
-    by true e =
-        absurd (unequal (ap (λ t. nat_cmp (mark_of tag) (mark_of t)) (sym ((bytes_eq-Decides tag other).0 e)) ∙ tied_itself nat_cmp_total (mark_of tag)))
+apart tag other unequal = grind (arith, bytes_eq-Decides, tied_itself, nat_cmp_total)
 
 -- what compares as equal by marks and tags are the same tags
 marks-same : (tag other : List ℕ) → is_eq (ordering_then (nat_cmp (mark_of tag) (mark_of other)) (slice_cmp nat_cmp tag other)) ≡ bytes_eq tag other
-marks-same tag other = by (nat_cmp (mark_of tag) (mark_of other)) refl
-  where
-    by : (o : Ordering) → nat_cmp (mark_of tag) (mark_of other) ≡ o → is_eq (ordering_then o (slice_cmp nat_cmp tag other)) ≡ bytes_eq tag other
-    by Less e = apart tag other (λ equal. let clash : Less ≡ Equal = sym e ∙ equal in cc)
-    by Equal e = is_eq-slice_cmp tag other
-    by Greater e = apart tag other (λ equal. let clash : Greater ≡ Equal = sym e ∙ equal in cc)
+marks-same tag other = grind (arith, apart, is_eq-slice_cmp)
 
 -- how two keys of the tree compare
 abbrev pub key_cmp : ℕ × Bor (List ℕ) → ℕ × Bor (List ℕ) → Ordering
@@ -40,8 +30,4 @@ pub marked-more : (tag : List ℕ) (key : ℕ × Bor (List ℕ)) (before after :
     → UpdatesBy key_cmp (key_cmp key) before after number
     → (other : List ℕ) → get_by (mark_cmp other) after ≡ update bytes_eq (λ t. get_by (mark_cmp t) before) tag number other
 marked-more tag key before after number mark text updates other =
-    updates.0 (mark_of other, record { ref_ptr = (0, 0); now = other })
-    ∙ ap (λ (b : Bool). cond b number (get_by (mark_cmp other) before))
-    (ap (λ m. is_eq (ordering_then (nat_cmp m (mark_of other)) (slice_cmp nat_cmp key.1.now other))) mark
-    ∙ ap (λ t. is_eq (ordering_then (nat_cmp (mark_of tag) (mark_of other)) (slice_cmp nat_cmp t other))) text
-    ∙ marks-same tag other)
+    cc (updates.0 (mark_of other, record { ref_ptr = (0, 0); now = other }), marks-same tag other)

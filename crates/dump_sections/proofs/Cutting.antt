@@ -1,11 +1,11 @@
 -- The sections of a front of a dump.
-use Rattle.std.proofs.Common.{◌≡◌, ℕ, zero, suc, ◌+◌, ◌-◌, ◌<◌, ◌≤◌, ◌==◌, true, false, cond, List, [], ◌∷◌, length, take, map, filter, count_by, nat_lt, if◌then◌else◌, refl, sym, ◌∙◌, ap, subst, slice_get, ⊎_elim, zero-add, arith}
+use Rattle.std.proofs.Common.{◌≡◌, ℕ, zero, suc, ◌+◌, ◌-◌, ◌<◌, ◌≤◌, true, false, cond, List, [], ◌∷◌, length, take, map, filter, count_by, nat_lt, if◌then◌else◌, refl, sym, ◌∙◌, ap, subst, slice_get, ⊎_elim, arith}
 use Rattle.std.specs.Prelude.{All}
 use Rattle.std.proofs.lemmas.Bool.{lt-ltb, le-ltb, cases_lt}
 use Rattle.std.proofs.lemmas.List.{take_all, length-take-le}
 use Rattle.std.proofs.lemmas.List.Sums.{sum_by-cons}
 use Rattle.std.proofs.lemmas.List.Elements.{All-head, All-tail}
-use Rattle.dump_io.specs.Lines.{lf, raw_lines, lines_after, is_header, Header, headers, lines_from, header_of, Line}
+use Rattle.dump_io.specs.Lines.{raw_lines, is_header, Header, headers, lines_from, header_of, Line}
 use Rattle.dump_io.specs.Laws.Lines.{AreLines-raw}
 use Rattle.dump_sections.specs.Cuts.{AreCut}
 use Rattle.dump_sections.specs.Sections.{Section, section, sections_of, next_at, sections}
@@ -28,44 +28,12 @@ cut_lines-past n line lines past =
     ap (λ b. if b then line ∷ cut_lines (n - length line) lines else (if nat_lt 0 n then take n line ∷ [] else [])) (lt-ltb (length line) n past)
 
 cut_lines-inside : (n : ℕ) (line : List ℕ) (lines : List (List ℕ)) → 0 < n → n ≤ length line → cut_lines n (line ∷ lines) ≡ take n line ∷ []
-cut_lines-inside n line lines some inside =
-    ap (λ b. if b then line ∷ cut_lines (n - length line) lines else (if nat_lt 0 n then take n line ∷ [] else [])) (le-ltb (length line) n inside)
-    ∙ ap (λ b. if b then take n line ∷ [] else []) (lt-ltb 0 n some)
-
--- one more byte in front
-lines_after-cut : (c n : ℕ) (lines : List (List ℕ)) → lines_after c (cut_lines n lines) ≡ cut_lines (suc n) (lines_after c lines)
-lines_after-cut c zero [] = refl
-lines_after-cut c (suc n) [] = sym (cut_lines-past (suc (suc n)) (c ∷ []) [] (omega arith))
-lines_after-cut c zero (line ∷ lines) =
-    ap (lines_after c) (cut_lines-zero (line ∷ lines)) ∙ sym (cut_lines-inside 1 (c ∷ line) lines (omega arith) (omega arith))
-lines_after-cut c (suc n) (line ∷ lines) =
-    ⊎_elim
-    (λ past.
-    let count : suc (suc n) - length (c ∷ line) ≡ suc n - length line = omega arith in
-    ap (lines_after c) (cut_lines-past (suc n) line lines past)
-    ∙ ap (λ k. (c ∷ line) ∷ cut_lines k lines) (sym count)
-    ∙ sym (cut_lines-past (suc (suc n)) (c ∷ line) lines (omega arith)))
-    (λ inside.
-    ap (lines_after c) (cut_lines-inside (suc n) line lines (omega arith) inside)
-    ∙ sym (cut_lines-inside (suc (suc n)) (c ∷ line) lines (omega arith) (omega arith)))
-    (cases_lt (length line) (suc n))
-
--- one more line in front, which is an LF alone
-lf-cut : (c n : ℕ) (lines : List (List ℕ)) → (c ∷ []) ∷ cut_lines n lines ≡ cut_lines (suc n) ((c ∷ []) ∷ lines)
-lf-cut c zero lines = ap (λ l. (c ∷ []) ∷ l) (cut_lines-zero lines)
-lf-cut c (suc n) lines =
-    let count : suc (suc n) - 1 ≡ suc n = omega arith in
-    ap (λ k. (c ∷ []) ∷ cut_lines k lines) (sym count) ∙ sym (cut_lines-past (suc (suc n)) (c ∷ []) lines (omega arith))
+cut_lines-inside n line lines some inside = grind arith
 
 raw_lines-take : (n : ℕ) (bytes : List ℕ) → raw_lines (take n bytes) ≡ cut_lines n (raw_lines bytes)
 raw_lines-take zero bytes = sym (cut_lines-zero (raw_lines bytes))
 raw_lines-take (suc n) [] = refl
-raw_lines-take (suc n) (c ∷ bytes) =
-    let lines = raw_lines bytes in
-    elim (c == lf) as (λ b. (if b then (c ∷ []) ∷ raw_lines (take n bytes) else lines_after c (raw_lines (take n bytes))) ≡ cut_lines (suc n) (if b then (c ∷ []) ∷ lines else lines_after c lines)) [
-      | true ↦ ap (λ l. (c ∷ []) ∷ l) (raw_lines-take n bytes) ∙ lf-cut c n lines
-      | false ↦ ap (lines_after c) (raw_lines-take n bytes) ∙ lines_after-cut c n lines
-    ]
+raw_lines-take (suc n) (c ∷ bytes) = grind (arith, raw_lines-take n bytes)
 
 -- the headers of a front of m bytes, beside those of the whole
 abbrev AreCutHeaders : ℕ → List Header → List Header → Type 0
@@ -139,10 +107,7 @@ counted-first m first rest before =
     ∙ (let e : 1 + count_by (λ (s : Section). nat_lt s.at m) rest ≡ suc (count_by (λ (s : Section). nat_lt s.at m) rest) = omega arith in e)
 
 not_counted-first : (m : ℕ) (first : Section) (rest : List Section) → m ≤ first.at → count_by (λ (s : Section). nat_lt s.at m) (first ∷ rest) ≡ count_by (λ (s : Section). nat_lt s.at m) rest
-not_counted-first m first rest behind =
-    sum_by-cons (λ (s : Section). cond (nat_lt s.at m) 1 0) first rest
-    ∙ ap (λ b. cond b 1 0 + count_by (λ (s : Section). nat_lt s.at m) rest) (le-ltb first.at m behind)
-    ∙ zero-add (count_by (λ (s : Section). nat_lt s.at m) rest)
+not_counted-first m first rest behind = grind arith
 
 AreCut-headers : (m n : ℕ) (front whole : List Header) → AreCutHeaders m front whole → AreCut (sections_of front m) (sections_of whole n) m
 AreCut-headers m n [] [] are = record { count = refl; all_but_last = refl; places = refl }

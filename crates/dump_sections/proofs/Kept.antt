@@ -10,9 +10,7 @@ use Rattle.dump_sections.specs.Inner.Headers.{header_in, headers_in, AreWithin}
 
 pub headers_in-grown : (pool text : List ℕ) (heads : List Head) → AreWithin (length pool) heads → headers_in (pool ++ text) heads ≡ headers_in pool heads
 headers_in-grown pool text [] within = refl
-headers_in-grown pool text (head ∷ heads) within =
-    ap (λ t. (let h : Header = record { at = head.at; body = head.body; text = t } in h) ∷ headers_in (pool ++ text) heads) (between-grown pool text head.from head.upto within.0 within.1)
-    ∙ ap (λ hs. header_in pool head ∷ hs) (headers_in-grown pool text heads within.2)
+headers_in-grown pool text (head ∷ heads) within = grind (arith, headers_in-grown pool text heads within.2, between-grown)
 
 pub AreWithin-more : (m n : ℕ) (heads : List Head) → m ≤ n → AreWithin m heads → AreWithin n heads
 AreWithin-more m n [] more within = tt
@@ -35,12 +33,7 @@ between-behind pool text upto e =
 pub headers_in-push : (pool text : List ℕ) (heads : List Head) (at body from upto : ℕ) → AreWithin (length pool) heads → from ≡ length pool → upto ≡ length (pool ++ text)
     → (let head : Head = record { at = at; body = body; from = from; upto = upto } in let header : Header = record { at = at; body = body; text = text } in
     headers_in (pool ++ text) (heads ++ head ∷ []) ≡ headers_in pool heads ++ header ∷ [])
-headers_in-push pool text heads at body from upto within begin_is end_is =
-    let head : Head = record { at = at; body = body; from = from; upto = upto } in
-    let text_is : between from upto (pool ++ text) ≡ text = ap (λ n. between n upto (pool ++ text)) begin_is ∙ between-behind pool text upto end_is in
-    map-append (header_in (pool ++ text)) heads (head ∷ [])
-    ∙ ap (λ hs. hs ++ header_in (pool ++ text) head ∷ []) (headers_in-grown pool text heads within)
-    ∙ ap (λ t. headers_in pool heads ++ (let h : Header = record { at = at; body = body; text = t } in h) ∷ []) text_is
+headers_in-push pool text heads at body from upto within begin_is end_is = grind (arith, between-behind, map-append, headers_in-grown)
 
 -- the header at a place
 pub headers_in-at : (pool : List ℕ) (heads : List Head) (i : ℕ) (head : Head) → i < length heads → head ≡ get_or heads i head

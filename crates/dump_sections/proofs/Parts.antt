@@ -1,5 +1,5 @@
 -- Where a section of a dump lies.
-use Rattle.std.proofs.Common.{◌≡◌, ℕ, zero, suc, ◌<◌, ◌≤◌, List, [], ◌∷◌, slice_get, Some, subst, arith}
+use Rattle.std.proofs.Common.{◌≡◌, ℕ, zero, suc, ◌<◌, ◌≤◌, List, [], ◌∷◌, slice_get, Some, arith}
 use Rattle.dump_sections.specs.Sections.{Section}
 use Rattle.dump_sections.specs.Tiling.{Tile}
 
@@ -11,7 +11,5 @@ Tile-size from size (section ∷ rest) tile = omega (arith, Tile-size section.en
 pub Tile-at : (from size : ℕ) (sections : List Section) (i : ℕ) (section : Section) → Tile from size sections → slice_get sections i ≡ Some section
     → (section.at < section.body) × (section.body ≤ section.end) × (section.end ≤ size)
 Tile-at from size [] i section tile is = cc
-Tile-at from size (first ∷ rest) zero section tile is =
-    let same : first ≡ section = cc in
-    subst (λ (s : Section). (s.at < s.body) × (s.body ≤ s.end) × (s.end ≤ size)) same (tile.1, tile.2, Tile-size first.end size rest tile.3)
+Tile-at from size (first ∷ rest) zero section tile is = grind (arith, Tile-size)
 Tile-at from size (first ∷ rest) (suc i) section tile is = Tile-at first.end size rest i section tile.3 is

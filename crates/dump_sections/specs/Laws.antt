@@ -1,6 +1,6 @@
 -- Laws of the definitions, each with its proof, for the proofs of callers.
-use Rattle.std.proofs.Common.{◌≡◌, ℕ, suc, ◌+◌, Bool, true, false, ◌&&◌, List, [], ◌∷◌, ◌++◌, length, Option, None, Some, refl, sym, ◌∙◌, ap, arith, if◌then◌else◌}
-use Rattle.std.specs.Prelude.{cond, position, unwrap_or}
+use Rattle.std.proofs.Common.{◌≡◌, ℕ, suc, ◌+◌, Bool, true, false, ◌&&◌, List, [], ◌∷◌, ◌++◌, length, Option, None, Some, refl, ap, arith, if◌then◌else◌}
+use Rattle.std.specs.Prelude.{position}
 use Rattle.std.specs.List.{position_from}
 use Rattle.std.specs.Option.{option_eq, option_or}
 use Rattle.std.specs.Str.{bytes_eq}
@@ -10,7 +10,6 @@ use Rattle.dump_sections.specs.Index.{Contents, IsIndexOf, index_of}
 use Rattle.dump_sections.specs.Lookups.{has_tag, is_named}
 use Rattle.dump_sections.specs.Sections.{Section, id_of, sections_of}
 use Rattle.dump_sections.specs.declared.version.Version.{Version}
-use Rattle.dump_sections.specs.declared.version.Version.TheVariants.{V05}
 
 -- what an index holds
 abbrev contents : List Header → ℕ → Version → Contents
@@ -23,10 +22,7 @@ length-sections_of (header ∷ rest) size = ap suc (length-sections_of rest size
 
 -- an index of accepted bytes is the one that they have
 pub index-is : (bytes : List ℕ) (index : Contents) → IsIndexOf bytes index → index ≡ index_of bytes
-index-is bytes index of =
-    ap (λ hs. contents hs index.size index.version) of.headers
-    ∙ ap (λ n. contents (headers bytes) n index.version) of.size
-    ∙ ap (λ v. contents (headers bytes) (length bytes) (unwrap_or v V05)) (sym of.version)
+index-is bytes index of = grind arith
 
 -- ---- the first section with a tag and an id, where a section comes behind the others
 
@@ -34,25 +30,14 @@ index-is bytes index of =
 from-last : {X : Type 0} (p : X → Bool) (n : ℕ) (xs : List X) (y : X)
     → position_from p n (xs ++ y ∷ []) ≡ option_or (position_from p n xs) (if p y then Some (n + length xs) else None)
 from-last p n [] y = let here : n ≡ n + 0 = omega arith in ap (λ m. if p y then Some m else None) here
-from-last p n (x ∷ xs) y =
-    let rest : position_from p (n + 1) (xs ++ y ∷ []) ≡ option_or (position_from p (n + 1) xs) (if p y then Some (n + length (x ∷ xs)) else None) =
-    from-last p (n + 1) xs y ∙ (let there : n + 1 + length xs ≡ n + length (x ∷ xs) = omega arith in ap (λ m. option_or (position_from p (n + 1) xs) (if p y then Some m else None)) there) in
-    elim (p x) as (λ b. cond b (Some n) (position_from p (n + 1) (xs ++ y ∷ [])) ≡ option_or (cond b (Some n) (position_from p (n + 1) xs)) (if p y then Some (n + length (x ∷ xs)) else None)) [
-      | true ↦ refl
-      | false ↦ rest
-    ]
+from-last p n (x ∷ xs) y = grind (arith, from-last p (n + 1) xs y)
 
 position-last : {X : Type 0} (p : X → Bool) (xs : List X) (y : X)
     → position p (xs ++ y ∷ []) ≡ option_or (position p xs) (if p y then Some (length xs) else None)
-position-last p xs y =
-    position_from-zero p (xs ++ y ∷ []) ∙ from-last p 0 xs y
-    ∙ (let same : 0 + length xs ≡ length xs = omega arith in ap (λ m. option_or (position_from p 0 xs) (if p y then Some m else None)) same)
-    ∙ ap (λ o. option_or o (if p y then Some (length xs) else None)) (sym (position_from-zero p xs))
+position-last p xs y = grind (arith, position_from-zero, from-last)
 
 none-named : (b : Bool) (o : Option (List ℕ)) (id : List ℕ) → (if b then o else None) ≡ None → (b && option_eq bytes_eq o (Some id)) ≡ false
-none-named true None id is = refl
-none-named true (Some other) id is = absurd (let no : ⊥ = cc (is) in no)
-none-named false o id is = refl
+none-named b o id is = grind arith
 
 some-named : (b : Bool) (o : Option (List ℕ)) (here id : List ℕ) → (if b then o else None) ≡ Some here → (b && option_eq bytes_eq o (Some id)) ≡ bytes_eq here id
 some-named true o here id is = ap (λ o. option_eq bytes_eq o (Some id)) is
@@ -73,14 +58,9 @@ first-last tag before s id = position-last (λ (section : Section). is_named tag
 -- without the tag, or without an id, it is passed over
 pub first-passed : (tag : List ℕ) (before : List Section) (s : Section) (id : List ℕ) → (if has_tag tag s.text then id_of s.text else None) ≡ None
     → first_named tag (before ++ s ∷ []) id ≡ first_named tag before id
-first-passed tag before s id none =
-    first-last tag before s id
-    ∙ ap (λ b. option_or (first_named tag before id) (if b then Some (length before) else None)) (none-named (has_tag tag s.text) (id_of s.text) id none)
-    ∙ option_or-none (first_named tag before id)
+first-passed tag before s id none = grind (arith, first-last, none-named, option_or-none)
 
 -- with both, it is the first with its id, unless one before it is
 pub first-more : (tag : List ℕ) (before : List Section) (s : Section) (here id : List ℕ) → (if has_tag tag s.text then id_of s.text else None) ≡ Some here
     → first_named tag (before ++ s ∷ []) id ≡ option_or (first_named tag before id) (if bytes_eq here id then Some (length before) else None)
-first-more tag before s here id some =
-    first-last tag before s id
-    ∙ ap (λ b. option_or (first_named tag before id) (if b then Some (length before) else None)) (some-named (has_tag tag s.text) (id_of s.text) here id some)
+first-more tag before s here id some = grind (arith, first-last, some-named)

@@ -1,10 +1,10 @@
 -- The sections of a dump tile its bytes.
-use Rattle.std.proofs.Common.{◌≡◌, ℕ, suc, ◌+◌, ◌-◌, ◌<◌, ◌≤◌, Bool, true, false, ◌&&◌, List, [], ◌∷◌, length, take, map, filter, if◌then◌else◌, refl, sym, ◌∙◌, ap, subst, length-append, arith}
+use Rattle.std.proofs.Common.{◌≡◌, ℕ, suc, ◌+◌, ◌<◌, ◌≤◌, Bool, true, false, ◌&&◌, List, [], ◌∷◌, length, take, map, filter, if◌then◌else◌, refl, sym, ◌∙◌, ap, subst, length-append, arith}
 use Rattle.std.specs.Prelude.{nat_eq, All}
-use Rattle.std.specs.List.{concat, starts_with, ends_with}
+use Rattle.std.specs.List.{concat, starts_with}
 use Rattle.std.proofs.lemmas.Bool.{and_parts, eqb-true}
 use Rattle.std.proofs.lemmas.List.Elements.{All-head, All-tail}
-use Rattle.dump_io.specs.Lines.{lf, cr, equals_sign, raw_lines, is_header, Header, lines_from, header_of, Line}
+use Rattle.dump_io.specs.Lines.{equals_sign, is_header, Header, lines_from, header_of, Line}
 use Rattle.dump_io.specs.Laws.Lines.{AreLines-raw}
 use Rattle.dump_sections.specs.Versions.{signature}
 use Rattle.dump_sections.specs.Sections.{sections_of, sections}
@@ -25,23 +25,16 @@ begins c = starts_with nat_eq (c ∷ []) (equals_sign ∷ [])
 -- what is left of a line begins as the line
 chosen : (a b : Bool) (c m n : ℕ) (bytes : List ℕ)
     → starts_with nat_eq (if a then take (suc m) (c ∷ bytes) else (if b then take (suc n) (c ∷ bytes) else c ∷ bytes)) (equals_sign ∷ []) ≡ begins c
-chosen true b c m n bytes = refl
-chosen false true c m n bytes = refl
-chosen false false c m n bytes = refl
+chosen a b c m n bytes = grind arith
 
 -- the same for a line of at most two bytes, of which nothing may be left
 chosen_short : (a b : Bool) (c : ℕ) (bytes : List ℕ) → (a ≡ true → begins c ≡ false)
     → starts_with nat_eq (if a then take 0 (c ∷ bytes) else (if b then take 1 (c ∷ bytes) else c ∷ bytes)) (equals_sign ∷ []) ≡ begins c
-chosen_short true b c bytes none = sym (none refl)
-chosen_short false true c bytes none = refl
-chosen_short false false c bytes none = refl
+chosen_short a b c bytes none = grind arith
 
 chosen_alone : (a b : Bool) (c : ℕ) → (b ≡ true → begins c ≡ false)
     → starts_with nat_eq (if a && false then take 0 (c ∷ []) else (if b then take 0 (c ∷ []) else c ∷ [])) (equals_sign ∷ []) ≡ begins c
-chosen_alone true true c none = sym (none refl)
-chosen_alone true false c none = refl
-chosen_alone false true c none = sym (none refl)
-chosen_alone false false c none = refl
+chosen_alone a b c none = grind arith
 
 -- a byte other than an equals sign begins no header
 other_byte : (c d : ℕ) → begins d ≡ false → nat_eq d c && true ≡ true → begins c ≡ false
@@ -49,28 +42,12 @@ other_byte c d unlike same = ap begins (sym (eqb-true d c (and_parts (nat_eq d c
 
 -- a header is a line that begins with an equals sign
 pub is_header-first : (c : ℕ) (line : List ℕ) → is_header (c ∷ line) ≡ begins c
-is_header-first c [] = chosen_alone (nat_eq cr c) (nat_eq lf c && true) c (other_byte c lf refl)
-is_header-first c (d ∷ []) =
-    chosen_short (nat_eq cr c && (nat_eq lf d && true)) (nat_eq lf d && true) c (d ∷ [])
-    (λ ends. ap begins (sym (eqb-true cr c (and_parts (nat_eq cr c) _ ends).0)))
-is_header-first c (d ∷ e ∷ line) =
-    let raw : List ℕ = c ∷ d ∷ e ∷ line in
-    let two : length raw - 2 ≡ suc (length line) = omega arith in
-    let one : length raw - 1 ≡ suc (suc (length line)) = omega arith in
-    let crlf : Bool = ends_with nat_eq raw (cr ∷ lf ∷ []) in
-    let ends : Bool = ends_with nat_eq raw (lf ∷ []) in
-    ap (λ n. starts_with nat_eq (if crlf then take n raw else (if ends then take (length raw - 1) raw else raw)) (equals_sign ∷ [])) two
-    ∙ ap (λ n. starts_with nat_eq (if crlf then take (suc (length line)) raw else (if ends then take n raw else raw)) (equals_sign ∷ [])) one
-    ∙ chosen crlf ends c (length line) (suc (length line)) (d ∷ e ∷ line)
+is_header-first c line = grind (arith, chosen_alone, other_byte, chosen_short, eqb-true, and_parts, chosen)
 
 -- headers from an offset on tile the bytes from the first of them
 abbrev pub Behind : ℕ → ℕ → List Header → Type 0
 Behind from size [] = from ≤ size
 Behind from size (header ∷ rest) = (from ≤ header.at) × Tile header.at size (sections_of (header ∷ rest) size)
-
-Behind-less : (from more size : ℕ) (heads : List Header) → from ≤ more → Behind more size heads → Behind from size heads
-Behind-less from more size [] less behind = omega arith
-Behind-less from more size (header ∷ rest) less behind = (omega (arith, behind.0), behind.1)
 
 Tile-header : (header : Header) (rest : List Header) (size : ℕ) → header.at < header.body → Behind header.body size rest
     → Tile header.at size (sections_of (header ∷ rest) size)
@@ -81,15 +58,7 @@ Tile-header header (next ∷ rest) size some behind = (refl, some, behind.0, beh
 lines_tile : (at size : ℕ) (raws : List (List ℕ)) → All (λ raw. 0 < length raw) raws → at + length (concat raws) ≡ size
     → Behind at size (headers_in (lines_from at raws))
 lines_tile at size [] some all = omega arith
-lines_tile at size (raw ∷ raws) some all =
-    let len : 0 < length raw = All-head (λ r. 0 < length r) raw raws some in
-    let rest : List Header = headers_in (lines_from (at + length raw) raws) in
-    let behind : Behind (at + length raw) size rest =
-    lines_tile (at + length raw) size raws (All-tail (λ r. 0 < length r) raw raws some) (omega (arith, length-append raw (concat raws))) in
-    elim (is_header raw) as (λ b. Behind at size (map header_of (if b then line_at at raw ∷ filter (λ l. is_header l.raw) (lines_from (at + length raw) raws) else filter (λ l. is_header l.raw) (lines_from (at + length raw) raws)))) [
-      | true ↦ (omega arith, Tile-header (header_of (line_at at raw)) rest size (omega arith) behind)
-      | false ↦ Behind-less at (at + length raw) size rest (omega arith) behind
-    ]
+lines_tile at size (raw ∷ raws) some all = grind (arith, lines_tile (at + length raw) size raws (All-tail (λ r. 0 < length r) raw raws some) (omega (arith, length-append raw (concat raws))))
 
 -- where the first line is a header they tile all the bytes
 raws_tile : (raws : List (List ℕ)) (bytes : List ℕ) → concat raws ≡ bytes → All (λ raw. 0 < length raw) raws
@@ -107,10 +76,4 @@ raws_tile ((c ∷ line) ∷ raws) bytes all some is =
 
 -- the sections of what begins as a dump tile it
 pub sections_tile : (bytes : List ℕ) → starts_with nat_eq bytes signature ≡ true → Tile 0 (length bytes) (sections bytes)
-sections_tile bytes is =
-    let lines = AreLines-raw bytes in
-    raws_tile (raw_lines bytes) bytes lines.together lines.some (begins_so bytes is)
-  where
-    begins_so : (bytes : List ℕ) → starts_with nat_eq bytes signature ≡ true → starts_with nat_eq bytes (equals_sign ∷ []) ≡ true
-    begins_so [] is = cc
-    begins_so (c ∷ bytes) is = ap (λ b. b && true) (and_parts (nat_eq equals_sign c) _ is).0
+sections_tile bytes is = grind (arith, AreLines-raw, raws_tile, and_parts)

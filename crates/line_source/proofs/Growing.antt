@@ -1,14 +1,13 @@
 -- What more bytes bring to a stream begins behind what the stream has.
 use Rattle.std.proofs.Common.{◌≡◌, ℕ, ◌+◌, ◌-◌, ◌<◌, ◌≤◌, List, [], ◌∷◌, ◌++◌, length, Some, sym, ◌∙◌, ap, subst, length-append, arith}
 use Rattle.std.specs.Prelude.{All, slice_get}
-use Rattle.std.proofs.lemmas.List.Elements.{All-nil, All-cons, All-head, All-append, All-weaker}
+use Rattle.std.proofs.lemmas.List.Elements.{All-head, All-append, All-weaker}
 use Rattle.dump_io.specs.Lines.{Header}
-use Rattle.line_source.specs.Streams.{LastLine, ended, plain, header, last_line, ended_headers, open_headers, new_headers}
+use Rattle.line_source.specs.Streams.{LastLine, ended, last_line, ended_headers, open_headers, new_headers}
 use Rattle.line_source.specs.Feeding.{first_too_long}
 use Rattle.line_source.specs.Growth.{TooLongGrows}
-use Rattle.line_source.proofs.Walk.{last_by, heard_by, long_by, last_line-walk, ended_headers-walk, too_long-walk}
+use Rattle.line_source.proofs.Walk.{last_by, heard_by, long_by, open_by, open_headers-walk, last_line-walk, ended_headers-walk, too_long-walk}
 use Rattle.line_source.proofs.Pieces.{last_line-append, too_long-append, held, held-by, held-line, Lies, heard_by-lies, long_by-from, new_headers-walk, long_by-upto}
-use Rattle.line_source.proofs.LastLines.{open_by, open_headers-walk}
 
 pub TooLongGrows-all : (limit : ℕ) (s more : List ℕ) → TooLongGrows limit s more
 TooLongGrows-all limit s more =
@@ -29,9 +28,7 @@ TooLongGrows-all limit s more =
 
 first-upto : (m at : ℕ) (ats : List ℕ) → All (λ at. at ≤ m) ats → slice_get ats 0 ≡ Some at → at ≤ m
 first-upto m at [] all is = cc
-first-upto m at (a ∷ ats) all is =
-    let same : a ≡ at = cc in
-    subst (λ x. x ≤ m) same (All-head (λ at. at ≤ m) a ats all)
+first-upto m at (a ∷ ats) all is = grind (arith, All-head)
 
 first-before-start : (limit at : ℕ) (s : List ℕ) → first_too_long limit s ≡ Some at → at ≤ length s - held (last_line s)
 first-before-start limit at s first =
@@ -42,11 +39,7 @@ first-before-start limit at s first =
     omega (arith, upto, same)
 
 open_by-from : (n m : ℕ) (l : LastLine) → m ≤ n - held l → All (λ h. m ≤ h.at) (open_by n l)
-open_by-from n m ended le = All-nil (λ h. m ≤ h.at)
-open_by-from n m plain le = All-nil (λ h. m ≤ h.at)
-open_by-from n m (header t) le =
-    let h : Header = record { at = n - length t; body = n; text = t } in
-    All-cons (λ h. m ≤ h.at) h [] le (All-nil (λ h. m ≤ h.at))
+open_by-from n m l le = grind arith
 
 -- the headers that more bytes bring begin behind the first line that is too long
 pub later-after : (limit at : ℕ) (s more : List ℕ) → first_too_long limit s ≡ Some at → All (λ h. at ≤ h.at) (new_headers s more ++ open_headers (s ++ more))

@@ -1,12 +1,12 @@
 -- The bytes of a header line, up to its LF or to the end of the piece.
 use Rattle.std.proofs.Common.{◌≡◌, ℕ, zero, suc, ◌+◌, ◌-◌, ◌<◌, ◌≤◌, true, false, List, [], ◌∷◌, ◌++◌, length, take, drop, get_or, Option, Some, refl, sym, ◌∙◌, ap, append-nil, arith, ◌==◌, nat_lt}
 use Rattle.std.specs.Prelude.{All, slice_get}
-use Rattle.std.proofs.lemmas.Bool.{cond-true, cond-false, eqb-true, and_from, and_right, le-ltb, lt-ltb, le-leb, not_from_false, false_from_ne_true}
+use Rattle.std.proofs.lemmas.Bool.{eqb-true, and_from, le-ltb, lt-ltb, le-leb, not_from_false, false_from_ne_true}
 use Rattle.std.proofs.lemmas.List.{take_more, drop_more, take-append-drop, length_push}
 use Rattle.std.proofs.lemmas.List.Elements.{All-weaker, All-same}
 use Rattle.memchr.specs.Find.{Nowhere, Passes, is_byte}
 use Rattle.dump_io.specs.Lines.{lf, text_of, Header}
-use Rattle.line_source.specs.Streams.{LastLine, ended, plain, header, new_headers, headers_before, too_long}
+use Rattle.line_source.specs.Streams.{LastLine, ended, header, new_headers, headers_before, too_long}
 use Rattle.line_source.specs.Scan.{Scan, StandsFor}
 use Rattle.line_source.specs.declared.header_sink.RefusedHeader.{RefusedHeader}
 use Rattle.line_source.specs.Inner.Ends.{EndsTooLong, EndsRefused}
@@ -25,19 +25,13 @@ lacks-before (b ∷ bs) (suc m) fits none =
     (lacks-before bs m (omega (arith, fits)) (λ k low high is. none (suc k) (omega arith) (omega (arith, high)) is))
 
 pub header-known : (l : LastLine) → is_header_line l ≡ true → l ≡ header (header_bytes l)
-header-known ended is = cc
-header-known plain is = cc
-header-known (header t) is = refl
-
-fits-not : (limit k m : ℕ) → k + m ≤ limit → passes limit k m ≡ false
-fits-not limit k m fits = and_right _ _ (le-ltb limit (k + m) fits)
+header-known l is = grind arith
 
 passes-over : (limit k m : ℕ) → k ≤ limit → limit < k + m → passes limit k m ≡ true
 passes-over limit k m within over = and_from _ _ (le-leb k limit within) (lt-ltb limit (k + m) over)
 
 long_by-fits : (limit n : ℕ) (t x : List ℕ) → length t ≤ n → lacks_lf x ≡ true → length t + length x ≤ limit → long_by limit n (header t) x ≡ []
-long_by-fits limit n t x low lacks fits =
-    long_by-header limit n t x low lacks ∙ cond-false _ _ _ (fits-not limit (length t) (length x) fits)
+long_by-fits limit n t x low lacks fits = grind (arith, long_by-header)
 
 -- the header whose line has the bytes t and x before its LF
 abbrev pub ended_header : ℕ → List ℕ → List ℕ → Header
@@ -45,17 +39,11 @@ ended_header n t x = record { at = n + length x - length (t ++ x); body = n + le
 
 pub heard_by-line : (n : ℕ) (t x more : List ℕ) → lacks_lf x ≡ true
     → heard_by n (header t) (x ++ lf ∷ more) ≡ ended_header n t x ∷ heard_by (n + length x + 1) ended more
-heard_by-line n t x more lacks =
-    heard_by-append n (header t) x (lf ∷ more)
-    ∙ ap (λ hs. hs ++ heard_by (n + length x) (last_by (header t) x) (lf ∷ more)) (heard_by-header n t x lacks)
-    ∙ ap (λ l. heard_by (n + length x) l (lf ∷ more)) (last_by-header t x lacks)
+heard_by-line n t x more lacks = grind (arith, heard_by-append, heard_by-header, last_by-header)
 
 pub long_by-line : (limit n : ℕ) (t x more : List ℕ) → length t ≤ n → lacks_lf x ≡ true → length t + length x ≤ limit
     → long_by limit n (header t) (x ++ lf ∷ more) ≡ long_by limit (n + length x + 1) ended more
-long_by-line limit n t x more low lacks fits =
-    long_by-append limit n (header t) x (lf ∷ more)
-    ∙ ap (λ ls. ls ++ long_by limit (n + length x) (last_by (header t) x) (lf ∷ more)) (long_by-fits limit n t x low lacks fits)
-    ∙ ap (λ l. long_by limit (n + length x) l (lf ∷ more)) (last_by-header t x lacks)
+long_by-line limit n t x more low lacks fits = grind (arith, long_by-append, long_by-fits)
 
 pub last_by-line : (t x : List ℕ) → lacks_lf x ≡ true → last_by (header t) (x ++ lf ∷ []) ≡ ended
 last_by-line t x lacks = last_by-append (header t) x (lf ∷ []) ∙ ap (λ l. last_by l (lf ∷ [])) (last_by-header t x lacks)
@@ -68,10 +56,7 @@ EndsTooLong-here scan s t x more before after stands line within low lacks over 
     let at = scan.offset - length t in
     let rest = long_by scan.limit (scan.offset + length x) (last_by (header t) x) more in
     let long : too_long scan.limit (s ++ (x ++ more)) ≡ at ∷ rest =
-    too_long-walked scan s (x ++ more) stands
-    ∙ ap (λ l. long_by scan.limit scan.offset l (x ++ more)) line
-    ∙ long_by-append scan.limit scan.offset (header t) x more
-    ∙ ap (λ ls. ls ++ rest) (long_by-header scan.limit scan.offset t x low lacks ∙ cond-true _ _ _ (passes-over scan.limit (length t) (length x) within over)) in
+    cc (too_long-walked scan s (x ++ more) stands, long_by-append scan.limit scan.offset (header t) x more, long_by-header scan.limit scan.offset t x low lacks, passes-over scan.limit (length t) (length x) within over) in
     let heard = heard_by scan.offset (header t) (x ++ more) in
     let new : new_headers s (x ++ more) ≡ heard = new_headers-walked scan s (x ++ more) stands ∙ ap (λ l. heard_by scan.offset l (x ++ more)) line in
     let after_it : All (λ h. nat_lt h.at at ≡ false) heard =
@@ -111,9 +96,7 @@ EndsRefused-here scan s t x more before after stop refused stands line low lacks
 
 -- the bytes around an LF
 pub around-lf : (rest : List ℕ) (end : ℕ) → end < length rest → Passes (is_byte lf) rest end → take end rest ++ lf ∷ drop (end + 1) rest ≡ rest
-around-lf rest end inside is =
-    ap (λ b. take end rest ++ b ∷ drop (end + 1) rest) (sym (eqb-true (get_or rest end 0) lf is))
-    ∙ ap (λ r. take end rest ++ r) (sym (drop_more rest end 0 inside)) ∙ take-append-drop end rest
+around-lf rest end inside is = grind (arith, drop_more, take-append-drop)
 
 pub up-to-lf : (rest : List ℕ) (end : ℕ) → end < length rest → Passes (is_byte lf) rest end → take (end + 1) rest ≡ take end rest ++ lf ∷ []
 up-to-lf rest end inside is = take_more rest end 0 inside ∙ ap (λ b. take end rest ++ b ∷ []) (eqb-true (get_or rest end 0) lf is)
@@ -134,13 +117,6 @@ new_headers-line scan s t x stands line lacks =
     new_headers-walked scan s (x ++ lf ∷ []) stands ∙ ap (λ l. heard_by scan.offset l (x ++ lf ∷ [])) line ∙ heard_by-line scan.offset t x [] lacks
 
 -- the line goes on
-pub StandsFor-longer : (scan after : Scan) (s t x : List ℕ) → StandsFor scan s → scan.last ≡ header t → length t ≤ scan.offset → lacks_lf x ≡ true
-    → length t + length x ≤ scan.limit → after.limit ≡ scan.limit → after.offset ≡ scan.offset + length x → after.last ≡ header (t ++ x)
-    → StandsFor after (s ++ x)
-StandsFor-longer scan after s t x stands line low lacks fits limit offset last =
-    StandsFor-more scan after s x stands limit offset (last ∙ sym (last_by-header t x lacks) ∙ ap (λ l. last_by l x) (sym line))
-    (ap (λ l. long_by scan.limit scan.offset l x) line ∙ long_by-fits scan.limit scan.offset t x low lacks fits)
-
 pub new_headers-longer : (scan : Scan) (s t x : List ℕ) → StandsFor scan s → scan.last ≡ header t → lacks_lf x ≡ true → new_headers s x ≡ []
 new_headers-longer scan s t x stands line lacks =
     new_headers-walked scan s x stands ∙ ap (λ l. heard_by scan.offset l x) line ∙ heard_by-header scan.offset t x lacks
@@ -158,8 +134,9 @@ kept-bytes scan after x is = ap (λ s. header_bytes s.last) is
 pub StandsFor-kept : (scan after : Scan) (s x : List ℕ) → StandsFor scan s → is_header_line scan.last ≡ true → length (header_bytes scan.last) ≤ scan.offset
     → lacks_lf x ≡ true → length (header_bytes scan.last) + length x ≤ scan.limit → after ≡ longer scan x → StandsFor after (s ++ x)
 StandsFor-kept scan after s x stands line low lacks fits is =
-    StandsFor-longer scan after s (header_bytes scan.last) x stands (header-known scan.last line) low lacks fits
-    (ap (λ s. s.limit) is) (kept-offset scan after x is) (ap (λ s. s.last) is)
+    let t = header_bytes scan.last in
+    let known : scan.last ≡ header t = header-known scan.last line in
+    StandsFor-more scan after s x stands (cc) (cc) (cc (last_by-header t x lacks)) (cc (long_by-fits scan.limit scan.offset t x low lacks fits))
 
 -- and then heard it
 pub StandsFor-heard : (scan middle after : Scan) (s x : List ℕ) → StandsFor scan s → is_header_line scan.last ≡ true → length (header_bytes scan.last) ≤ scan.offset
@@ -175,6 +152,4 @@ StandsFor-heard scan middle after s x stands line low lacks fits is then =
 pub heard-kept : (scan middle : Scan) (x : List ℕ) → middle ≡ longer scan x
     → record { at = middle.offset - length (header_bytes middle.last); body = middle.offset + 1; text = text_of (header_bytes middle.last ++ lf ∷ []) }
     ≡ ended_header scan.offset (header_bytes scan.last) x
-heard-kept scan middle x is =
-    let heard : Scan → Header = λ s. record { at = s.offset - length (header_bytes s.last); body = s.offset + 1; text = text_of (header_bytes s.last ++ lf ∷ []) } in
-    ap heard is
+heard-kept scan middle x is = grind arith

@@ -1,9 +1,9 @@
 -- A piece taken in two parts.
-use Rattle.std.proofs.Common.{◌≡◌, ℕ, ◌+◌, ◌-◌, ◌<◌, ◌≤◌, true, List, [], ◌∷◌, ◌++◌, length, take, drop, Option, None, Some, refl, sym, ◌∙◌, ap, subst, append_assoc, length-append, arith, nat_lt}
+use Rattle.std.proofs.Common.{◌≡◌, ℕ, ◌+◌, ◌-◌, ◌≤◌, true, List, [], ◌∷◌, ◌++◌, length, take, drop, Option, None, Some, sym, ◌∙◌, ap, append_assoc, length-append, arith, nat_lt}
 use Rattle.std.specs.Prelude.{All, slice_get}
 use Rattle.std.proofs.lemmas.Bool.{lt-ltb}
 use Rattle.std.proofs.lemmas.List.{take_rest, take-append-drop, take-take, drop-take}
-use Rattle.std.proofs.lemmas.List.Elements.{All-weaker, All-same, All-head, filter-append}
+use Rattle.std.proofs.lemmas.List.Elements.{All-weaker, All-head, filter-append}
 use Rattle.dump_io.specs.Lines.{Header}
 use Rattle.line_source.specs.Streams.{last_line, new_headers, headers_before, too_long}
 use Rattle.line_source.specs.declared.header_sink.RefusedHeader.{RefusedHeader}
@@ -18,19 +18,14 @@ use Rattle.line_source.proofs.Pieces.{Lies, held, held-line, last_line-append, t
 -- two parts of the bytes, and the rest
 pub two_parts : (bytes : List ℕ) (d n : ℕ) → take d bytes ++ take n (take (length bytes - d) (drop d bytes)) ≡ take (d + n) bytes
 two_parts bytes d n =
-    ap (λ r. take d bytes ++ take n r) (take_rest bytes d)
-    ∙ ap (λ r. take d bytes ++ r) (sym (drop-take d n bytes))
-    ∙ ap (λ r. r ++ drop d (take (d + n) bytes)) (sym (take-take d (d + n) bytes (omega arith)))
-    ∙ take-append-drop d (take (d + n) bytes)
+    cc (take_rest bytes d, drop-take d n bytes, take-take d (d + n) bytes (omega arith), take-append-drop d (take (d + n) bytes))
 
 pub both_parts : (bytes : List ℕ) (d : ℕ) → take d bytes ++ take (length bytes - d) (drop d bytes) ≡ bytes
 both_parts bytes d = ap (λ r. take d bytes ++ r) (take_rest bytes d) ∙ take-append-drop d bytes
 
 first-from : (n at : ℕ) (ats : List ℕ) → All (λ at. n ≤ at) ats → slice_get ats 0 ≡ Some at → n ≤ at
 first-from n at [] all is = cc
-first-from n at (a ∷ ats) all is =
-    let same : a ≡ at = cc in
-    subst (λ x. n ≤ x) same (All-head (λ at. n ≤ at) a ats all)
+first-from n at (a ∷ ats) all is = grind (arith, All-head)
 
 -- the first line that is too long is the last line of what was right before, or begins later
 pub long-from : (limit : ℕ) (s p : List ℕ) (at : ℕ) → too_long limit s ≡ [] → first_too_long limit (s ++ p) ≡ Some at
@@ -51,42 +46,19 @@ before-all limit s a b at short first =
     let sum : length (s ++ a) ≡ length s + length a = length-append s a in
     let same : held (last_line (s ++ a)) ≡ held (last_by line a) = ap held (last_line-append s a) in
     let from : length (s ++ a) - held (last_line (s ++ a)) ≤ at = long-from limit (s ++ a) b at short first in
-    ap (headers_before at) (new_headers-walk s a)
-    ∙ filter-all (λ h. nat_lt h.at at) hs
-    (All-weaker (Lies (length s - held line) (length s) high) (λ h. nat_lt h.at at ≡ true)
-    (λ h lies. lt-ltb h.at at (omega (arith, lies.some, lies.upto, from, sum, same))) hs (heard_by-lies (length s) line a (held-line s)))
-    ∙ sym (new_headers-walk s a)
+    cc (new_headers-walk s a, filter-all (λ h. nat_lt h.at at) hs (All-weaker (Lies (length s - held line) (length s) high) (λ h. nat_lt h.at at ≡ true) (λ h lies. lt-ltb h.at at (omega (arith, lies.some, lies.upto, from, sum, same))) hs (heard_by-lies (length s) line a (held-line s))))
 
 EndsTooLong-later : (limit : ℕ) (s a b : List ℕ) (before middle after : List Header) (at : ℕ) → too_long limit (s ++ a) ≡ []
     → middle ≡ before ++ new_headers s a → EndsTooLong limit (s ++ a) b middle after at → EndsTooLong limit s (a ++ b) before after at
 EndsTooLong-later limit s a b before middle after at short heard ends = record {
   first = ap (first_too_long limit) (sym (append_assoc s a b)) ∙ ends.first;
   heard =
-      ends.heard ∙ ap (λ hs. hs ++ headers_before at (new_headers (s ++ a) b)) heard
-      ∙ append_assoc before (new_headers s a) (headers_before at (new_headers (s ++ a) b))
-      ∙ ap (λ hs. before ++ hs)
-      (ap (λ hs. hs ++ headers_before at (new_headers (s ++ a) b)) (sym (before-all limit s a b at short ends.first))
-      ∙ sym (filter-append (λ h. nat_lt h.at at) (new_headers s a) (new_headers (s ++ a) b))
-      ∙ ap (headers_before at) (sym (new_headers-append s a b)));
+      cc (ends.heard, append_assoc before (new_headers s a) (headers_before at (new_headers (s ++ a) b)), before-all limit s a b at short ends.first, filter-append (λ h. nat_lt h.at at) (new_headers s a) (new_headers (s ++ a) b), new_headers-append s a b);
 }
 
 pub EndsRefused-later : (limit : ℕ) (s a b : List ℕ) (before middle after : List Header) (stop : Option RefusedHeader)
     → middle ≡ before ++ new_headers s a → EndsRefused limit (s ++ a) b middle after stop → EndsRefused limit s (a ++ b) before after stop
-EndsRefused-later limit s a b before middle after stop heard ends =
-    let among = ends.among in record {
-      refused = ends.refused;
-      kept = ends.kept;
-      among = record {
-        heard = new_headers s a ++ among.heard;
-        next = among.next;
-        more = among.more;
-        parts = new_headers-append s a b ∙ ap (λ hs. new_headers s a ++ hs) among.parts ∙ sym (append_assoc (new_headers s a) among.heard (among.next ∷ among.more));
-        grown = among.grown ∙ ap (λ hs. hs ++ among.heard) heard ∙ append_assoc before (new_headers s a) among.heard;
-        at = among.at;
-        size = among.size;
-      };
-      short = All-same (λ at. ends.refused.at < at) (too_long limit (s ++ (a ++ b))) (too_long limit ((s ++ a) ++ b)) (ap (too_long limit) (sym (append_assoc s a b))) ends.short;
-    }
+EndsRefused-later limit s a b before middle after stop heard ends = grind (arith, new_headers-append, append_assoc)
 
 pub Ends-later : (limit : ℕ) (s a b : List ℕ) (before middle after : List Header) (stop : Option RefusedHeader) (fault : ScanFault) → too_long limit (s ++ a) ≡ []
     → middle ≡ before ++ new_headers s a → Ends limit (s ++ a) b middle after stop fault → Ends limit s (a ++ b) before after stop fault
@@ -97,5 +69,4 @@ pub new_headers-none : (s : List ℕ) → new_headers s [] ≡ []
 new_headers-none s = new_headers-walk s []
 
 pub refused-none : (stop : Option RefusedHeader) → stop_value stop ≡ None → stop ≡ None
-refused-none None is = refl
-refused-none (Some refused) is = cc
+refused-none stop is = grind arith

@@ -1,7 +1,6 @@
 pub mod Growing
 pub mod HeaderLines
 pub mod Joins
-pub mod LastLines
 pub mod Pieces
 pub mod Scans
 pub mod StartPlaces

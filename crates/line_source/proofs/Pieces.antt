@@ -1,32 +1,21 @@
 -- What a piece adds to the stream before it.
-use Rattle.std.proofs.Common.{◌≡◌, ℕ, suc, ◌+◌, ◌-◌, ◌<◌, ◌≤◌, Bool, true, false, List, [], ◌∷◌, ◌++◌, length, refl, sym, ◌∙◌, ap, subst, length-append, arith, if◌then◌else◌, ◌==◌, nat_lt}
+use Rattle.std.proofs.Common.{◌≡◌, ℕ, suc, ◌+◌, ◌-◌, ◌<◌, ◌≤◌, Bool, true, false, List, [], ◌∷◌, ◌++◌, length, refl, sym, ◌∙◌, ap, subst, length-append, arith, if◌then◌else◌, nat_lt}
 use Rattle.std.specs.Prelude.{filter, All}
-use Rattle.std.proofs.lemmas.Bool.{cond-true, cond-false, lt-ltb, le-ltb}
+use Rattle.std.proofs.lemmas.Bool.{lt-ltb, le-ltb}
 use Rattle.std.proofs.lemmas.List.{length_push}
-use Rattle.std.proofs.lemmas.List.Elements.{All-nil, All-cons, All-head, All-tail, All-append, All-weaker, filter-append}
-use Rattle.dump_io.specs.Lines.{lf, equals_sign, text_of, Header}
+use Rattle.std.proofs.lemmas.List.Elements.{All-nil, All-head, All-tail, All-append, All-weaker, filter-append}
+use Rattle.dump_io.specs.Lines.{Header}
 use Rattle.line_source.specs.Streams.{LastLine, ended, plain, header, last_line, ended_headers, new_headers, too_long}
 use Rattle.line_source.proofs.Walk.{step, heard_at, long_at, last_by, heard_by, long_by, last_by-append, heard_by-append, long_by-append, last_line-walk, ended_headers-walk, too_long-walk}
 
 pub last_line-append : (s p : List ℕ) → last_line (s ++ p) ≡ last_by (last_line s) p
-last_line-append s p =
-    last_line-walk (s ++ p) ∙ last_by-append ended s p ∙ ap (λ l. last_by l p) (sym (last_line-walk s))
+last_line-append s p = grind (arith, last_line-walk, last_by-append)
 
 pub ended_headers-append : (s p : List ℕ) → ended_headers (s ++ p) ≡ ended_headers s ++ heard_by (length s) (last_line s) p
-ended_headers-append s p =
-    let from : 0 + length s ≡ length s = omega arith in
-    ended_headers-walk (s ++ p) ∙ heard_by-append 0 ended s p
-    ∙ ap (λ hs. hs ++ heard_by (0 + length s) (last_by ended s) p) (sym (ended_headers-walk s))
-    ∙ ap (λ l. ended_headers s ++ heard_by (0 + length s) l p) (sym (last_line-walk s))
-    ∙ ap (λ n. ended_headers s ++ heard_by n (last_line s) p) from
+ended_headers-append s p = grind (arith, ended_headers-walk, heard_by-append, last_line-walk)
 
 pub too_long-append : (limit : ℕ) (s p : List ℕ) → too_long limit (s ++ p) ≡ too_long limit s ++ long_by limit (length s) (last_line s) p
-too_long-append limit s p =
-    let from : 0 + length s ≡ length s = omega arith in
-    too_long-walk limit (s ++ p) ∙ long_by-append limit 0 ended s p
-    ∙ ap (λ hs. hs ++ long_by limit (0 + length s) (last_by ended s) p) (sym (too_long-walk limit s))
-    ∙ ap (λ l. too_long limit s ++ long_by limit (0 + length s) l p) (sym (last_line-walk s))
-    ∙ ap (λ n. too_long limit s ++ long_by limit n (last_line s) p) from
+too_long-append limit s p = grind (arith, too_long-walk, long_by-append, last_line-walk)
 
 -- how many bytes of a header line have come
 abbrev pub held : LastLine → ℕ
@@ -34,32 +23,18 @@ held ended = 0
 held plain = 0
 held (header t) = length t
 
-held-one : (q r : Bool) (b : ℕ) → held (if q then ended else (if r then header (b ∷ []) else plain)) ≤ 1
-held-one true r b = omega arith
-held-one false true b = omega arith
-held-one false false b = omega arith
-
-held-plain : (q : Bool) → held (if q then ended else plain) ≤ 1
-held-plain true = omega arith
-held-plain false = omega arith
-
 held-push : (q : Bool) (t : List ℕ) (b : ℕ) → held (if q then ended else header (t ++ b ∷ [])) ≤ length t + 1
-held-push true t b = omega arith
-held-push false t b = omega (arith, length_push t b)
+held-push q t b = grind (arith, length_push)
 
 pub held-step : (l : LastLine) (b : ℕ) → held (step l b) ≤ held l + 1
-held-step ended b = omega (arith, held-one (b == lf) (b == equals_sign) b)
-held-step plain b = omega (arith, held-plain (b == lf))
-held-step (header t) b = held-push (b == lf) t b
+held-step l b = grind (arith, held-push)
 
 pub held-by : (l : LastLine) (p : List ℕ) → held (last_by l p) ≤ held l + length p
 held-by l [] = omega arith
 held-by l (b ∷ bs) = omega (arith, held-step l b, held-by (step l b) bs)
 
 pub held-line : (s : List ℕ) → held (last_line s) ≤ length s
-held-line s =
-    let walked : held (last_line s) ≡ held (last_by ended s) = ap held (last_line-walk s) in
-    omega (arith, walked, held-by ended s)
+held-line s = grind (arith, last_line-walk, held-by)
 
 -- a header that is heard between two offsets: its line begins at `from` or later, its LF stands at `low`
 -- or later, and ends by `high`
@@ -70,26 +45,10 @@ pub record Lies (from low high : ℕ) (h : Header) : Type 0 where
   pub upto : h.body ≤ high
 
 Lies-wider : (from low high from' low' high' : ℕ) → from' ≤ from → low' ≤ low → high ≤ high' → (h : Header) → Lies from low high h → Lies from' low' high' h
-Lies-wider from low high from' low' high' p q r h lies = record {
-  begins = omega (arith, p, lies.begins);
-  some = lies.some;
-  above = omega (arith, q, lies.above);
-  upto = omega (arith, r, lies.upto);
-}
-
-heard_at-header : (q : Bool) (n : ℕ) (t : List ℕ) (b : ℕ) → length t ≤ n →
-    All (Lies (n - length t) n (n + 1 - held (if q then ended else header (t ++ b ∷ []))))
-    (if q then record { at = n - length t; body = n + 1; text = text_of (t ++ lf ∷ []) } ∷ [] else [])
-heard_at-header true n t b fits =
-    let h : Header = record { at = n - length t; body = n + 1; text = text_of (t ++ lf ∷ []) } in
-    let lies : Lies (n - length t) n (n + 1 - 0) h = record { begins = omega arith; some = omega arith; above = omega arith; upto = omega arith } in
-    All-cons (Lies (n - length t) n (n + 1 - 0)) h [] lies (All-nil (Lies (n - length t) n (n + 1 - 0)))
-heard_at-header false n t b fits = All-nil (Lies (n - length t) n (n + 1 - length (t ++ b ∷ [])))
+Lies-wider from low high from' low' high' p q r h lies = grind arith
 
 heard_at-lies : (n : ℕ) (l : LastLine) (b : ℕ) → held l ≤ n → All (Lies (n - held l) n (n + 1 - held (step l b))) (heard_at n l b)
-heard_at-lies n ended b fits = All-nil (Lies (n - 0) n (n + 1 - held (step ended b)))
-heard_at-lies n plain b fits = All-nil (Lies (n - 0) n (n + 1 - held (step plain b)))
-heard_at-lies n (header t) b fits = heard_at-header (b == lf) n t b fits
+heard_at-lies n l b fits = grind arith
 
 pub heard_by-lies : (n : ℕ) (l : LastLine) (p : List ℕ) → held l ≤ n → All (Lies (n - held l) n (n + length p - held (last_by l p))) (heard_by n l p)
 heard_by-lies n l [] fits = All-nil (Lies (n - held l) n (n + 0 - held l))
@@ -107,14 +66,8 @@ heard_by-lies n l (b ∷ bs) fits =
     (omega (arith, more, fits)) (omega arith) (omega arith))
     (heard_by (n + 1) after bs) (heard_by-lies (n + 1) after bs (omega (arith, more, fits))))
 
-long_at-test : (q : Bool) (n : ℕ) → All (λ at. n ≤ at) (if q then n ∷ [] else [])
-long_at-test true n = All-cons (λ at. n ≤ at) n [] (omega arith) (All-nil (λ at. n ≤ at))
-long_at-test false n = All-nil (λ at. n ≤ at)
-
 long_at-from : (limit n : ℕ) (l : LastLine) → All (λ at. n - held l ≤ at) (long_at limit n l)
-long_at-from limit n ended = All-nil (λ at. n - 0 ≤ at)
-long_at-from limit n plain = All-nil (λ at. n - 0 ≤ at)
-long_at-from limit n (header t) = long_at-test (length t == limit + 1) (n - length t)
+long_at-from limit n l = grind arith
 
 pub long_by-from : (limit n : ℕ) (l : LastLine) (p : List ℕ) → held l ≤ n → All (λ at. n - held l ≤ at) (long_by limit n l p)
 long_by-from limit n l [] fits = All-nil (λ at. n - held l ≤ at)
@@ -127,15 +80,9 @@ long_by-from limit n l (b ∷ bs) fits =
     (All-weaker (λ at. n + 1 - held after ≤ at) (λ at. n - held l ≤ at) wider (long_by limit (n + 1) after bs)
     (long_by-from limit (n + 1) after bs (omega (arith, more, fits))))
 
-long_at-most : (q : Bool) (n m : ℕ) → n ≤ m → All (λ at. at ≤ m) (if q then n ∷ [] else [])
-long_at-most true n m fits = All-cons (λ at. at ≤ m) n [] fits (All-nil (λ at. at ≤ m))
-long_at-most false n m fits = All-nil (λ at. at ≤ m)
-
 -- a line that is too long is the last line, or begins before it
 long_at-upto : (limit n m : ℕ) (l : LastLine) → n - held l ≤ m → All (λ at. at ≤ m) (long_at limit n l)
-long_at-upto limit n m ended fits = All-nil (λ at. at ≤ m)
-long_at-upto limit n m plain fits = All-nil (λ at. at ≤ m)
-long_at-upto limit n m (header t) fits = long_at-most (length t == limit + 1) (n - length t) m fits
+long_at-upto limit n m l fits = grind arith
 
 pub long_by-upto : (limit n : ℕ) (l : LastLine) (p : List ℕ) → All (λ at. at ≤ n + length p - held (last_by l p)) (long_by limit n l p)
 long_by-upto limit n l [] = All-nil (λ at. at ≤ n + 0 - held l)
@@ -150,13 +97,11 @@ long_by-upto limit n l (b ∷ bs) =
 
 pub filter-all : {X : Type 0} (p : X → Bool) (xs : List X) → All (λ x. p x ≡ true) xs → filter p xs ≡ xs
 filter-all p [] all = refl
-filter-all p (x ∷ xs) all =
-    cond-true (p x) _ _ (All-head (λ x. p x ≡ true) x xs all) ∙ ap (λ r. x ∷ r) (filter-all p xs (All-tail (λ x. p x ≡ true) x xs all))
+filter-all p (x ∷ xs) all = grind (arith, filter-all p xs (All-tail (λ x. p x ≡ true) x xs all), All-head)
 
 pub filter-none : {X : Type 0} (p : X → Bool) (xs : List X) → All (λ x. p x ≡ false) xs → filter p xs ≡ []
 filter-none p [] all = refl
-filter-none p (x ∷ xs) all =
-    cond-false (p x) _ _ (All-head (λ x. p x ≡ false) x xs all) ∙ filter-none p xs (All-tail (λ x. p x ≡ false) x xs all)
+filter-none p (x ∷ xs) all = grind (arith, filter-none p xs (All-tail (λ x. p x ≡ false) x xs all), All-head)
 
 pub new_headers-walk : (s p : List ℕ) → new_headers s p ≡ heard_by (length s) (last_line s) p
 new_headers-walk s p =
@@ -171,17 +116,11 @@ new_headers-walk s p =
     let new_passes : All (λ h. test h ≡ true) new =
     All-weaker (Lies (n - held (last_line s)) n (n + length p - held (last_by (last_line s) p))) (λ h. test h ≡ true)
     (λ h lies. lt-ltb n h.body lies.above) new (heard_by-lies n (last_line s) p (held-line s)) in
-    ap (filter test) (ended_headers-append s p) ∙ filter-append test old new
-    ∙ ap (λ hs. hs ++ filter test new) (filter-none test old old_fails)
-    ∙ filter-all test new new_passes
+    cc (ended_headers-append s p, filter-append test old new, filter-none test old old_fails, filter-all test new new_passes)
 
 pub ended_headers-grow : (s p : List ℕ) → ended_headers (s ++ p) ≡ ended_headers s ++ new_headers s p
 ended_headers-grow s p = ended_headers-append s p ∙ ap (λ hs. ended_headers s ++ hs) (sym (new_headers-walk s p))
 
 pub new_headers-append : (s a b : List ℕ) → new_headers s (a ++ b) ≡ new_headers s a ++ new_headers (s ++ a) b
 new_headers-append s a b =
-    new_headers-walk s (a ++ b) ∙ heard_by-append (length s) (last_line s) a b
-    ∙ ap (λ hs. hs ++ heard_by (length s + length a) (last_by (last_line s) a) b) (sym (new_headers-walk s a))
-    ∙ ap (λ l. new_headers s a ++ heard_by (length s + length a) l b) (sym (last_line-append s a))
-    ∙ ap (λ n. new_headers s a ++ heard_by n (last_line (s ++ a)) b) (sym (length-append s a))
-    ∙ ap (λ hs. new_headers s a ++ hs) (sym (new_headers-walk (s ++ a) b))
+    cc (new_headers-walk s (a ++ b), heard_by-append (length s) (last_line s) a b, new_headers-walk s a, last_line-append s a, length-append s a, new_headers-walk (s ++ a) b)

@@ -1,6 +1,6 @@
 -- Where headers begin within a part of the stream.
-use Rattle.std.proofs.Common.{◌≡◌, ℕ, ◌+◌, ◌-◌, ◌≤◌, Bool, true, false, List, length, take, drop, get_or, length-drop, sym, ◌∙◌, ap, subst, arith, ⊎_elim}
-use Rattle.std.proofs.lemmas.Bool.{cases_lt, eq-eqb, eqb-true, both_ways}
+use Rattle.std.proofs.Common.{◌≡◌, ℕ, ◌+◌, ◌-◌, ◌≤◌, Bool, false, List, length, take, drop, get_or, length-drop, ◌∙◌, ap, subst, arith, ⊎_elim}
+use Rattle.std.proofs.lemmas.Bool.{cases_lt, eq-eqb}
 use Rattle.std.proofs.lemmas.List.{get_or-drop, take_rest}
 use Rattle.memchr.specs.Find.{Nowhere, Passes, is_byte}
 use Rattle.dump_io.specs.Lines.{equals_sign}
@@ -22,19 +22,12 @@ Nowhere-more begun bytes from m first second k low high begins =
 -- the first equals sign
 pub found-reads : (bytes : List ℕ) (from found : ℕ) → Passes (is_byte equals_sign) (take (length bytes - from) (drop from bytes)) found
     → get_or bytes (from + found) 0 ≡ equals_sign
-found-reads bytes from found passes =
-    let hay = take (length bytes - from) (drop from bytes) in
-    sym (ap (λ l. get_or l found 0) (take_rest bytes from) ∙ get_or-drop from bytes found 0) ∙ eqb-true (get_or hay found 0) equals_sign passes
+found-reads bytes from found passes = grind (arith, take_rest, get_or-drop)
 
 -- it begins no line
 pub Nowhere-past : (begun : Bool) (bytes : List ℕ) (n : ℕ) → Nowhere (BeginsHeader begun bytes) 0 n → begins_line begun bytes n ≡ false
     → Nowhere (BeginsHeader begun bytes) 0 (n + 1)
-Nowhere-past begun bytes n first other k low high begins =
-    ⊎_elim (λ below. first k low below begins)
-    (λ above.
-    let same : k ≡ n = omega (arith, above, high) in
-    both_ways (begins_line begun bytes n) other (subst (λ j. begins_line begun bytes j ≡ true) same begins.1))
-    (cases_lt k n)
+Nowhere-past begun bytes n first other k low high begins = grind arith
 
 -- a part of the bytes to their end
 pub length-rest : (bytes : List ℕ) (from : ℕ) → length (take (length bytes - from) (drop from bytes)) ≡ length bytes - from

@@ -1,7 +1,7 @@
 -- The line of a header that lies whole in a piece.
-use Rattle.std.proofs.Common.{◌≡◌, ℕ, suc, ◌+◌, ◌-◌, ◌<◌, ◌≤◌, ◌==◌, not, true, false, List, [], ◌∷◌, ◌++◌, length, take, drop, get_or, Option, Some, refl, sym, ◌∙◌, ap, subst, ⊎_elim, append_assoc, append-nil, arith}
+use Rattle.std.proofs.Common.{◌≡◌, ℕ, ◌+◌, ◌-◌, ◌<◌, ◌≤◌, ◌==◌, not, true, false, List, [], ◌∷◌, ◌++◌, length, take, drop, Option, Some, refl, sym, ◌∙◌, ap, subst, append_assoc, append-nil, arith}
 use Rattle.std.specs.Prelude.{slice_index}
-use Rattle.std.proofs.lemmas.Bool.{cases_lt, cond-false, ne_eqb, eqb-true, and_parts}
+use Rattle.std.proofs.lemmas.Bool.{cond-false, ne_eqb, and_parts}
 use Rattle.std.proofs.lemmas.List.{drop_more, length-take-le}
 use Rattle.memchr.specs.Find.{Nowhere, Passes, is_byte}
 use Rattle.dump_io.specs.Lines.{lf, equals_sign, text_of, Header}
@@ -42,18 +42,11 @@ module _ (scan : Scan) (s : List ℕ) (stands : StandsFor scan s) (line : scan.l
   module _ (rest : List ℕ) (end : ℕ) (sign : slice_index rest 0 ≡ equals_sign) (inside : end < length rest)
       (before : Nowhere (Passes (is_byte lf) rest) 0 end) (here : Passes (is_byte lf) rest end) (fits : end ≤ scan.limit) where
     some : 0 < end
-    some =
-        ⊎_elim (λ l. l)
-        (λ none. let first : end ≡ 0 = omega (arith, none) in
-        let same : equals_sign ≡ lf = sym sign ∙ ap (λ n. get_or rest n 0) (sym first) ∙ eqb-true (get_or rest end 0) lf here in
-        absurd (omega (arith, same)))
-        (cases_lt 0 end)
+    some = grind arith
 
     -- the equals sign, and what follows it
     split : take end rest ≡ equals_sign ∷ take (end - 1) (drop 1 rest)
-    split =
-        let next : end ≡ suc (end - 1) = omega (arith, some) in
-        ap (take end) (signed rest (omega (arith, inside)) sign) ∙ ap (λ n. take n (equals_sign ∷ drop 1 rest)) next
+    split = grind arith
 
     size : length (take end rest) ≡ end
     size = length-take-le end rest (omega (arith, inside))

@@ -1,5 +1,5 @@
 -- A list has no more entries than bytes.
-use Rattle.std.proofs.Common.{◌≡◌, ℕ, suc, ◌+◌, ◌≤◌, Bool, true, false, List, [], ◌∷◌, ◌++◌, length, Option, Some, None, refl, ◌∙◌, ap, arith, if◌then◌else◌, length-append}
+use Rattle.std.proofs.Common.{◌≡◌, ℕ, suc, ◌+◌, ◌≤◌, Bool, List, [], ◌∷◌, ◌++◌, length, Option, Some, None, refl, ap, arith, if◌then◌else◌, length-append}
 use Rattle.std.specs.Prelude.{codes, map, IfSome}
 use Rattle.std.specs.Option.{option_map}
 use Rattle.std.proofs.lemmas.List.{length-map}
@@ -7,14 +7,9 @@ use Rattle.link_entries.specs.Texts.{inside}
 use Rattle.link_entries.specs.Entries.{is_gap, led_by, cut, parts_from, parts_of, entry_of, entries_at}
 use Rattle.link_entries.proofs.Fronts.{inside_parts}
 
-length-led_by : (c : ℕ) (parts : List (List ℕ)) → length (led_by c parts) ≤ suc (length parts)
-length-led_by c [] = omega arith
-length-led_by c (part ∷ parts) = omega arith
-
 at_pair : (c d : ℕ) (text : List ℕ) (b : Bool) → length (cut text) ≤ suc (length text) → length (cut (d ∷ text)) ≤ suc (length (d ∷ text))
     → length (if b then [] ∷ cut text else led_by c (cut (d ∷ text))) ≤ suc (length (c ∷ d ∷ text))
-at_pair c d text true behind others = omega (arith, behind)
-at_pair c d text false behind others = omega (arith, others, length-led_by c (cut (d ∷ text)))
+at_pair c d text b behind others = grind arith
 
 -- cutting gives one part more than the text has bytes, at most
 length-cut : (text : List ℕ) → length (cut text) ≤ suc (length text)
@@ -28,13 +23,10 @@ length-parts_from at [] = refl
 length-parts_from at (text ∷ texts) = ap suc (length-parts_from (at + length text + 2) texts)
 
 length-parts_of : (at : ℕ) (inner : List ℕ) → length (parts_of at inner) ≤ suc (length inner)
-length-parts_of at [] = omega arith
-length-parts_of at (c ∷ inner) = omega (arith, length-parts_from at (cut (c ∷ inner)), length-cut (c ∷ inner))
+length-parts_of at inner = grind (arith, length-parts_from, length-cut)
 
 inner_bound : (at : ℕ) (inner text : List ℕ) → text ≡ codes "[" ++ (inner ++ codes "]") → length (map entry_of (parts_of (at + 1) inner)) ≤ length text
-inner_bound at inner text e =
-    let size : length text ≡ suc (length inner + 1) = ap length e ∙ ap suc (length-append inner (codes "]")) in
-    omega (arith, size, length-map (parts_of (at + 1) inner) entry_of, length-parts_of (at + 1) inner)
+inner_bound at inner text e = grind (arith, length-append, length-map, length-parts_of)
 
 pub length-entries : (at : ℕ) (text : List ℕ) → IfSome (entries_at at text) (λ left. length left ≤ length text)
 length-entries at text = of (inside (codes "[") (codes "]") text) refl

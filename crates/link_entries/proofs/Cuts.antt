@@ -1,9 +1,10 @@
 -- The parts of a text, from a place on.
-use Rattle.std.proofs.Common.{◌≡◌, ◌≢◌, ℕ, zero, suc, ◌+◌, ◌-◌, ◌<◌, ◌≤◌, ◌==◌, ◌&&◌, Bool, true, false, List, [], ◌∷◌, ◌++◌, length, take, drop, refl, sym, ◌∙◌, ap, subst, arith, if◌then◌else◌}
+use Rattle.std.proofs.Common.{◌≡◌, ◌≢◌, ℕ, zero, suc, ◌+◌, ◌-◌, ◌<◌, ◌≤◌, ◌==◌, false, List, [], ◌∷◌, ◌++◌, length, take, drop, refl, sym, ◌∙◌, ap, subst, arith, if◌then◌else◌}
 use Rattle.std.specs.Prelude.{slice_index}
 use Rattle.std.proofs.lemmas.Bool.{eqb-true, false_from_ne_true, ne_eqb}
+use Rattle.std.proofs.lemmas.Grind.{common_steps}
 use Rattle.std.proofs.lemmas.List.{drop_more, drop-drop, length-drop, get_or-drop, append-nil, take-append-drop}
-use Rattle.std.proofs.Math.Seq.{take-add, take-suc}
+use Rattle.std.proofs.Math.Seq.{take-add}
 use Rattle.link_entries.specs.Inner.Searching.{Holds, Nowhere}
 use Rattle.link_entries.specs.Entries.{is_gap, led_by, cut}
 
@@ -22,11 +23,7 @@ lead-append (c ∷ front) more parts = ap (led_by c) (lead-append front more par
 
 -- no gap, since the second byte is no space
 no_gap : (c d : ℕ) → (d == 32) ≡ false → is_gap c d ≡ false
-no_gap c d h = of (c == 44)
-  where
-    of : (b : Bool) → (b && (d == 32)) ≡ false
-    of true = h
-    of false = refl
+no_gap c d h = grind arith
 
 -- a byte and the next one that are no gap
 cut-byte : (c d : ℕ) (text : List ℕ) → is_gap c d ≡ false → cut (c ∷ d ∷ text) ≡ led_by c (cut (d ∷ text))
@@ -36,8 +33,7 @@ cut-byte c d text h = ap (λ b. if b then [] ∷ cut text else led_by c (cut (d 
 -- a byte that is no comma begins the first part
 cut-other : (c : ℕ) (text : List ℕ) → (c == 44) ≡ false → cut (c ∷ text) ≡ led_by c (cut text)
 unfolding cut
-cut-other c [] h = refl
-cut-other c (d ∷ text) h = ap (λ b. if b && (d == 32) then [] ∷ cut text else led_by c (cut (d ∷ text))) h
+cut-other c text h = grind arith
 
 not_space : (text : List ℕ) (k : ℕ) → (Holds 32 text k → ⊥) → (slice_index text k == 32) ≡ false
 not_space text k none = false_from_ne_true _ none
@@ -48,8 +44,7 @@ cut-free zero text fits none = refl
 cut-free (suc n) [] fits none = absurd (omega (arith, fits))
 cut-free (suc n) (c ∷ []) fits none = absurd (omega (arith, fits))
 cut-free (suc n) (c ∷ d ∷ text) fits none =
-    cut-byte c d text (no_gap c d (not_space (c ∷ d ∷ text) 1 (none 1 (omega arith) (omega arith))))
-    ∙ ap (led_by c) (cut-free n (d ∷ text) (omega (arith, fits)) (λ k low high. none (suc k) (omega arith) (omega (arith, high))))
+    cc (cut-byte c d text (no_gap c d (not_space (c ∷ d ∷ text) 1 (none 1 (omega arith) (omega arith)))), cut-free n (d ∷ text) (omega (arith, fits)) (λ k low high. none (suc k) (omega arith) (omega (arith, high))))
 
 -- bytes without a space are one part
 cut-none : (text : List ℕ) → Nowhere 32 text 0 (length text) → cut text ≡ text ∷ []
@@ -57,8 +52,7 @@ unfolding cut
 cut-none [] none = refl
 cut-none (c ∷ []) none = refl
 cut-none (c ∷ d ∷ text) none =
-    cut-byte c d text (no_gap c d (not_space (c ∷ d ∷ text) 1 (none 1 (omega arith) (omega arith))))
-    ∙ ap (led_by c) (cut-none (d ∷ text) (λ k low high. none (suc k) (omega arith) (omega (arith, high))))
+    cc (cut-byte c d text (no_gap c d (not_space (c ∷ d ∷ text) 1 (none 1 (omega arith) (omega arith)))), cut-none (d ∷ text) (λ k low high. none (suc k) (omega arith) (omega (arith, high))))
 
 -- the parts as far as a place
 abbrev pub IsCutTo : List ℕ → ℕ → Type 0
@@ -72,43 +66,22 @@ pub record IsSpace (text : List ℕ) (from k : ℕ) : Type 0 where
 
 -- what a search of the rest found
 pub found_space : (text rest : List ℕ) (from k : ℕ) → rest ≡ drop from text → (k < length rest) × Nowhere 32 rest 0 k × Holds 32 rest k → IsSpace text from k
-found_space text rest from k e found =
-    let fits : k < length (drop from text) = subst (λ l. k < length l) e found.0 in
-    record {
-      fits = omega (arith, fits, length-drop from text);
-      before = subst (λ l. Nowhere 32 l 0 k) e found.1;
-      here = subst (λ l. Holds 32 l k) e found.2;
-    }
+found_space text rest from k e found = grind (arith, length-drop)
 
 -- further on to a place
 cut_to-place : (text : List ℕ) (from n : ℕ) → IsCutTo text from → cut (drop from text) ≡ lead (take n (drop from text)) (cut (drop n (drop from text))) → IsCutTo text (from + n)
-cut_to-place text from n cut_to more =
-    let rest = drop from text in
-    let order : n + from ≡ from + n = omega arith in
-    cut_to ∙ ap (lead (take from text)) more
-    ∙ sym (lead-append (take from text) (take n rest) (cut (drop n rest)))
-    ∙ ap (λ t. lead t (cut (drop n rest))) (sym (take-add from n text))
-    ∙ ap (λ t. lead (take (from + n) text) (cut t)) (drop-drop n from text)
+cut_to-place text from n cut_to more = grind (arith, lead-append, take-add, drop-drop)
 
 -- a byte further
 cut_to-byte : (text : List ℕ) (from : ℕ) → IsCutTo text from → from < length text → (slice_index text from == 44) ≡ false → IsCutTo text (from + 1)
-cut_to-byte text from cut_to fits other =
-    let split : drop from text ≡ slice_index text from ∷ drop (from + 1) text = drop_more text from 0 fits in
-    let one : from + 1 ≡ suc from = omega arith in
-    let front : take from text ++ slice_index text from ∷ [] ≡ take (from + 1) text = sym (take-suc text from 0 fits) ∙ ap (λ n. take n text) (sym one) in
-    cut_to ∙ ap (λ t. lead (take from text) (cut t)) split
-    ∙ ap (lead (take from text)) (cut-other (slice_index text from) (drop (from + 1) text) other)
-    ∙ sym (lead-append (take from text) (slice_index text from ∷ []) (cut (drop (from + 1) text)))
-    ∙ ap (λ t. lead t (cut (drop (from + 1) text))) front
+cut_to-byte text from cut_to fits other = grind (arith, common_steps, cut-other, lead-append)
 
 space_at : (text : List ℕ) (from k : ℕ) → IsSpace text from k → slice_index text (from + k) ≡ 32
 space_at text from k space = sym (get_or-drop from text k 0) ∙ eqb-true (slice_index (drop from text) k) 32 space.here
 
 -- as far as the byte before the space
 to_before : (text : List ℕ) (from n : ℕ) → IsCutTo text from → IsSpace text from (n + 1) → IsCutTo text (from + n)
-to_before text from n cut_to space =
-    cut_to-place text from n cut_to
-    (cut-free n (drop from text) (omega (arith, space.fits, length-drop from text)) (λ k low high. space.before k low (omega (arith, high))))
+to_before text from n cut_to space = grind (arith, cut_to-place, cut-free, length-drop)
 
 -- at a gap the first part ends
 cut-gap : (text : List ℕ) (from n : ℕ) → IsCutTo text from → IsSpace text from (n + 1) → slice_index text (from + n) ≡ 44
@@ -121,10 +94,7 @@ cut-gap text from n cut_to space comma =
     let split : drop at text ≡ 44 ∷ drop (at + 1) text = drop_more text at 0 (omega (arith, space.fits)) ∙ ap (λ c. c ∷ drop (at + 1) text) comma in
     let split-2 : drop (at + 1) text ≡ 32 ∷ drop (at + 2) text =
     drop_more text (at + 1) 0 (omega (arith, space.fits)) ∙ ap (λ c. c ∷ drop (at + 1 + 1) text) (ap (slice_index text) (sym order) ∙ space_at text from (n + 1) space) ∙ ap (λ n. 32 ∷ drop n text) order-2 in
-    to_before text from n cut_to space
-    ∙ ap (λ t. lead (take at text) (cut t)) (split ∙ ap (λ t. 44 ∷ t) split-2)
-    ∙ lead-part (take at text) [] (cut (drop (at + 2) text))
-    ∙ ap (λ t. t ∷ cut (drop (at + 2) text)) (append-nil (take at text))
+    cc (to_before text from n cut_to space, lead-part (take at text) [] (cut (drop (at + 2) text)), append-nil (take at text))
 
 pub gap-at : (text : List ℕ) (from k : ℕ) → IsCutTo text from → IsSpace text from k → 0 < k → slice_index text (from + k - 1) ≡ 44
     → (from + k - 1 + 2 ≤ length text) × (cut text ≡ take (from + k - 1) text ∷ cut (drop (from + k - 1 + 2) text))
@@ -139,10 +109,7 @@ gap-at text from (suc n) cut_to space some comma =
 
 -- and goes on at a space without a comma before it
 pub cut_to-more : (text : List ℕ) (from k : ℕ) → IsCutTo text from → IsSpace text from k → (0 < k → slice_index text (from + k - 1) ≢ 44) → IsCutTo text (from + k + 1)
-cut_to-more text from zero cut_to space other =
-    let same : from + 0 ≡ from = omega arith in
-    let here : slice_index text from ≡ 32 = ap (slice_index text) (sym same) ∙ space_at text from 0 space in
-    subst (λ n. IsCutTo text (n + 1)) (sym same) (cut_to-byte text from cut_to (omega (arith, space.fits)) (ap (λ c. c == 44) here))
+cut_to-more text from zero cut_to space other = grind (arith, space_at, cut_to-byte)
 cut_to-more text from (suc n) cut_to space other =
     let one : suc n ≡ n + 1 = omega arith in
     let near : from + suc n - 1 ≡ from + n = omega arith in
@@ -155,6 +122,4 @@ cut_to-more text from (suc n) cut_to space other =
 
 -- where no space is left, the rest is one part
 pub cut-last : (text rest : List ℕ) (from : ℕ) → rest ≡ drop from text → IsCutTo text from → Nowhere 32 rest 0 (length rest) → cut text ≡ text ∷ []
-cut-last text rest from e cut_to none =
-    let all : cut (drop from text) ≡ drop from text ∷ [] = subst (λ l. cut l ≡ l ∷ []) e (cut-none rest none) in
-    cut_to ∙ ap (lead (take from text)) all ∙ lead-part (take from text) (drop from text) [] ∙ ap (λ t. t ∷ []) (take-append-drop from text)
+cut-last text rest from e cut_to none = grind (arith, cut-none, lead-part, take-append-drop)

@@ -1,11 +1,12 @@
 -- A text is of the kind that is read, and of no other.
-use Rattle.std.proofs.Common.{◌≡◌, ℕ, Bool, true, false, ◌||◌, List, [], ◌∷◌, ◌++◌, Option, Some, None, refl, sym, ◌∙◌, ap, subst, if◌then◌else◌, append_assoc, inl, inr}
-use Rattle.std.specs.Prelude.{◌⊎◌, ◌==◌, ◌↔◌, codes, nat_lt, length}
+use Rattle.std.proofs.Common.{arith, ◌≡◌, ℕ, Bool, true, false, ◌||◌, List, [], ◌∷◌, ◌++◌, Option, Some, None, refl, sym, ◌∙◌, ap, subst, if◌then◌else◌, append_assoc, inl, inr}
+use Rattle.std.specs.Prelude.{◌⊎◌, ◌↔◌, codes}
 use Rattle.std.specs.Option.{is_some, option_map_or}
 use Rattle.std.specs.List.{list_all}
 use Rattle.std.specs.Char.{is_ascii_digit}
-use Rattle.std.proofs.lemmas.Bool.{false≢true, and_parts, eqb-true}
-use Rattle.link_entries.specs.Texts.{◌>>=◌, behind, inside, is_dot, is_dotted, is_pid, is_port, is_reference, is_braced}
+use Rattle.std.proofs.lemmas.Bool.{false≢true, and_parts}
+use Rattle.std.proofs.lemmas.Grind.{common_steps}
+use Rattle.link_entries.specs.Texts.{behind, inside, is_dot, is_dotted, is_pid, is_port, is_reference, is_braced}
 use Rattle.link_entries.specs.Kinds.{Kind, Link, LinkPort, To, ToPort, ToName, From, FromPort, Other, to_opening, from_opening, IsMonitor, Spells, IsKind}
 use Rattle.link_entries.specs.Reading.{is_comma, at_last_comma, parties, to_kind, from_kind, monitor_kind, kind_of}
 use Rattle.link_entries.proofs.Fronts.{inside_around, inside_parts}
@@ -14,11 +15,7 @@ use Rattle.link_entries.proofs.Opening.{kind_opened, monitor_in, brace_is_no_pid
 
 -- ---- a reference has no comma
 no_comma : (c : ℕ) → (is_ascii_digit c || is_dot c) ≡ true → is_comma c ≡ false
-no_comma c h = of (c == 44) refl
-  where
-    of : (b : Bool) → (c == 44) ≡ b → b ≡ false
-    of false e = refl
-    of true e = absurd (false≢true (sym (ap (λ c. is_ascii_digit c || is_dot c) (eqb-true c 44 e)) ∙ h))
+no_comma c h = grind arith
 
 dotted_end : (inner : List ℕ) → list_all (λ c. is_ascii_digit c || is_dot c) inner ≡ true → at_last_comma (inner ++ codes ">") ≡ None
 unfolding at_last_comma
@@ -29,31 +26,16 @@ dotted_end (c ∷ inner) h =
 
 -- a text that stands in brackets and passes a test
 bracketed : (test : List ℕ → Bool) (front back text : List ℕ) → option_map_or test (inside front back text) false ≡ true → (inner : List ℕ) × (text ≡ front ++ (inner ++ back)) × (test inner ≡ true)
-bracketed test front back text h = of (inside front back text) refl h
-  where
-    of : (o : Option (List ℕ)) → inside front back text ≡ o → option_map_or test o false ≡ true → (inner : List ℕ) × (text ≡ front ++ (inner ++ back)) × (test inner ≡ true)
-    of None e h = absurd (false≢true h)
-    of (Some inner) e h = (inner, inside_parts front back text inner e, h)
+bracketed test front back text h = grind (arith, inside_parts)
 
 reference_end : (reference : List ℕ) → is_reference reference ≡ true → at_last_comma reference ≡ None
 unfolding is_reference
-reference_end reference h =
-    let is = bracketed is_dotted (codes "#Ref<") (codes ">") reference h in
-    let all = and_parts (nat_lt 0 (length is.0)) (list_all (λ c. is_ascii_digit c || is_dot c) is.0) is.2 in
-    let end : at_last_comma (is.0 ++ codes ">") ≡ None = dotted_end is.0 all.1 in
-    ap at_last_comma is.1
-    ∙ at_last_comma-more 35 (codes "Ref<" ++ (is.0 ++ codes ">")) refl
-    (at_last_comma-more 82 (codes "ef<" ++ (is.0 ++ codes ">")) refl
-    (at_last_comma-more 101 (codes "f<" ++ (is.0 ++ codes ">")) refl
-    (at_last_comma-more 102 (codes "<" ++ (is.0 ++ codes ">")) refl
-    (at_last_comma-more 60 (is.0 ++ codes ">") refl end))))
+reference_end reference h = grind (arith, bracketed, dotted_end, at_last_comma-more)
 
 -- ---- what a monitor says
 parties_from : (partner reference : List ℕ) → is_reference reference ≡ true → parties (partner ++ 44 ∷ reference) ≡ Some (partner, reference)
 unfolding parties
-parties_from partner reference is =
-    ap (λ (o : Option (List ℕ × List ℕ)). o >>= λ found. if is_reference found.1 then Some found else None) (at_last_comma-from partner reference (reference_end reference is))
-    ∙ ap (λ b. if b then Some (partner, reference) else None) is
+parties_from partner reference is = grind (arith, at_last_comma-from, reference_end)
 
 pub record AreParties (text : List ℕ) (found : List ℕ × List ℕ) : Type 0 where
   pub spelled : text ≡ found.0 ++ 44 ∷ found.1
@@ -61,15 +43,7 @@ pub record AreParties (text : List ℕ) (found : List ℕ × List ℕ) : Type 0 
 
 parties_are : (text : List ℕ) (found : List ℕ × List ℕ) → parties text ≡ Some found → AreParties text found
 unfolding parties
-parties_are text found h = of (at_last_comma text) refl h
-  where
-    of : (o : Option (List ℕ × List ℕ)) → at_last_comma text ≡ o → (o >>= λ found. if is_reference found.1 then Some found else None) ≡ Some found → AreParties text found
-    of None e h = cc
-    of (Some split) e h = chosen (is_reference split.1) refl h
-      where
-        chosen : (b : Bool) → is_reference split.1 ≡ b → (if b then Some split else None) ≡ Some found → AreParties text found
-        chosen true is h = let same : split ≡ found = cc in subst (AreParties text) same (record { spelled = at_last_comma-parts text split.0 split.1 e; reference_is = is })
-        chosen false is h = cc
+parties_are text found h = grind (arith, at_last_comma-parts)
 
 -- ---- what is spelled is read
 -- how a port and a text in braces begin, they are no pid
@@ -119,9 +93,7 @@ from_read is_partner text partner reference is =
 pub kind_full : (text : List ℕ) (kind : Kind) → Spells text kind → kind_of text ≡ kind
 unfolding kind_of to_kind from_kind
 kind_full text (Link pid) h = ap (λ b. if b then Link text else (if is_port text then LinkPort else monitor_kind (inside to_opening (codes "}") text) (inside from_opening (codes "}") text))) (ap is_pid h.0 ∙ h.1) ∙ ap Link h.0
-kind_full text LinkPort h =
-    ap (λ b. if b then Link text else (if is_port text then LinkPort else monitor_kind (inside to_opening (codes "}") text) (inside from_opening (codes "}") text))) (port_not_pid text h)
-    ∙ ap (λ b. if b then LinkPort else monitor_kind (inside to_opening (codes "}") text) (inside from_opening (codes "}") text)) h
+kind_full text LinkPort h = grind (arith, port_not_pid)
 kind_full text (To pid reference) h =
     to_read is_pid text pid reference h
     ∙ ap (λ b. if b then To pid reference else (if is_port pid then ToPort else (if is_braced pid then ToName reference else Other))) h.partner_is
@@ -150,42 +122,13 @@ kind_full text Other h = absurd h
 abbrev IsSound : List ℕ → Kind → Type 0
 IsSound text kind = (kind ≡ Other) ⊎ Spells text kind
 
-monitor_parts : (opening text inner : List ℕ) (found : List ℕ × List ℕ) (is_partner : List ℕ → Bool) → text ≡ opening ++ (inner ++ codes "}") → AreParties inner found → is_partner found.0 ≡ true
-    → IsMonitor opening is_partner text found.0 found.1
-monitor_parts opening text inner found is_partner e parties is =
-    record {
-      spelled = e ∙ ap (λ t. opening ++ (t ++ codes "}")) parties.spelled ∙ sym (regrouped opening found.0 found.1);
-      partner_is = is;
-      reference_is = parties.reference_is;
-    }
-
 to_sound : (text inner : List ℕ) (found : List ℕ × List ℕ) → text ≡ to_opening ++ (inner ++ codes "}") → AreParties inner found → IsSound text (to_kind found)
 unfolding to_kind
-to_sound text inner found e parties = pid (is_pid found.0) refl
-  where
-    braced : (b : Bool) → is_braced found.0 ≡ b → IsSound text (if b then ToName found.1 else Other)
-    braced true is = inr (found.0, monitor_parts to_opening text inner found is_braced e parties is)
-    braced false is = inl refl
-
-    port : (b : Bool) → is_port found.0 ≡ b → IsSound text (if b then ToPort else (if is_braced found.0 then ToName found.1 else Other))
-    port true is = inr (found.0, found.1, monitor_parts to_opening text inner found is_port e parties is)
-    port false is = braced (is_braced found.0) refl
-
-    pid : (b : Bool) → is_pid found.0 ≡ b → IsSound text (if b then To found.0 found.1 else (if is_port found.0 then ToPort else (if is_braced found.0 then ToName found.1 else Other)))
-    pid true is = inr (monitor_parts to_opening text inner found is_pid e parties is)
-    pid false is = port (is_port found.0) refl
+to_sound text inner found e parties = grind (arith, common_steps)
 
 from_sound : (text inner : List ℕ) (found : List ℕ × List ℕ) → text ≡ from_opening ++ (inner ++ codes "}") → AreParties inner found → IsSound text (from_kind found)
 unfolding from_kind
-from_sound text inner found e parties = pid (is_pid found.0) refl
-  where
-    port : (b : Bool) → is_port found.0 ≡ b → IsSound text (if b then FromPort else Other)
-    port true is = inr (found.0, found.1, monitor_parts from_opening text inner found is_port e parties is)
-    port false is = inl refl
-
-    pid : (b : Bool) → is_pid found.0 ≡ b → IsSound text (if b then From found.0 found.1 else (if is_port found.0 then FromPort else Other))
-    pid true is = inr (monitor_parts from_opening text inner found is_pid e parties is)
-    pid false is = port (is_port found.0) refl
+from_sound text inner found e parties = grind (arith, common_steps)
 
 monitor_sound : (text : List ℕ) (to from : Option (List ℕ)) → inside to_opening (codes "}") text ≡ to → inside from_opening (codes "}") text ≡ from → IsSound text (monitor_kind to from)
 unfolding monitor_kind
@@ -203,15 +146,7 @@ monitor_sound text None None e d = inl refl
 
 pub kind_sound : (text : List ℕ) → IsSound text (kind_of text)
 unfolding kind_of
-kind_sound text = pid (is_pid text) refl
-  where
-    port : (b : Bool) → is_port text ≡ b → IsSound text (if b then LinkPort else monitor_kind (inside to_opening (codes "}") text) (inside from_opening (codes "}") text))
-    port true is = inr is
-    port false is = monitor_sound text (inside to_opening (codes "}") text) (inside from_opening (codes "}") text) refl refl
-
-    pid : (b : Bool) → is_pid text ≡ b → IsSound text (if b then Link text else (if is_port text then LinkPort else monitor_kind (inside to_opening (codes "}") text) (inside from_opening (codes "}") text)))
-    pid true is = inr (refl, is)
-    pid false is = port (is_port text) refl
+kind_sound text = grind (arith, monitor_sound)
 
 spelled_other : (text : List ℕ) (kind : Kind) → kind_of text ≡ Other → Spells text kind → ⊥
 spelled_other text kind h spells = let same : kind ≡ Other = sym (kind_full text kind spells) ∙ h in subst (Spells text) same spells

@@ -1,5 +1,5 @@
 -- The texts of a text's kind lie in it as the layout of the kind tells.
-use Rattle.std.proofs.Common.{◌≡◌, ℕ, ◌+◌, ◌-◌, List, ◌++◌, length, take, refl, sym, ◌∙◌, ap, arith, length-append, append_assoc}
+use Rattle.std.proofs.Common.{◌≡◌, ℕ, ◌+◌, ◌-◌, List, ◌++◌, length, refl, sym, ◌∙◌, ap, arith, length-append, append_assoc}
 use Rattle.std.specs.Prelude.{codes}
 use Rattle.std.specs.List.{between}
 use Rattle.std.proofs.lemmas.List.{drop_at, take-append-le, take_all}
@@ -10,10 +10,7 @@ use Rattle.link_entries.proofs.KindLaws.{is_kind}
 
 -- a front, a middle and a back
 middle : (front own back : List ℕ) (from upto : ℕ) → from ≡ length front → upto ≡ length front + length own → between from upto (front ++ (own ++ back)) ≡ own
-middle front own back from upto starts ends =
-    ap (take (upto - from)) (drop_at front (own ++ back) from (sym starts))
-    ∙ take-append-le (upto - from) own back (omega (arith, starts, ends))
-    ∙ take_all (upto - from) own (omega (arith, starts, ends))
+middle front own back from upto starts ends = grind (arith, drop_at, take-append-le, take_all)
 
 -- an opening, a partner, a comma, a reference and `}`
 module _ (opening partner reference : List ℕ) where
@@ -42,10 +39,7 @@ lies text LinkPort is = record { kind = sym is; room = omega arith }
 lies text (To pid reference) is =
     let e = ((is_kind text (To pid reference)).0 is).spelled in
     record {
-      kind = ap (λ t. To (partner_in 4 (length reference) t) (reference_in (length reference) t)) e
-          ∙ ap (λ p. To p (reference_in (length reference) (whole to_opening pid reference))) (partner-lies to_opening pid reference)
-          ∙ ap (To pid) (reference-lies to_opening pid reference)
-          ∙ sym is;
+      kind = cc (partner-lies to_opening pid reference, reference-lies to_opening pid reference);
       room = omega (arith, ap length e, size to_opening pid reference);
     }
 lies text ToPort is = record { kind = sym is; room = omega arith }
@@ -59,10 +53,7 @@ lies text (ToName reference) is =
 lies text (From pid reference) is =
     let e = ((is_kind text (From pid reference)).0 is).spelled in
     record {
-      kind = ap (λ t. From (partner_in 6 (length reference) t) (reference_in (length reference) t)) e
-          ∙ ap (λ p. From p (reference_in (length reference) (whole from_opening pid reference))) (partner-lies from_opening pid reference)
-          ∙ ap (From pid) (reference-lies from_opening pid reference)
-          ∙ sym is;
+      kind = cc (partner-lies from_opening pid reference, reference-lies from_opening pid reference);
       room = omega (arith, ap length e, size from_opening pid reference);
     }
 lies text FromPort is = record { kind = sym is; room = omega arith }

@@ -1,8 +1,8 @@
 -- The first byte tells a monitor from a pid and a port.
-use Rattle.std.proofs.Common.{◌≡◌, ℕ, ◌==◌, Bool, true, false, List, [], ◌∷◌, None, refl, ◌∙◌, ap, if◌then◌else◌}
+use Rattle.std.proofs.Common.{arith, ◌≡◌, ℕ, Bool, true, false, List, [], ◌∷◌, refl, ◌∙◌, ap, if◌then◌else◌}
 use Rattle.std.specs.Prelude.{codes}
 use Rattle.std.proofs.lemmas.Bool.{eqb-true}
-use Rattle.link_entries.specs.Texts.{◌>>=◌, behind, before, inside, is_pid, is_port}
+use Rattle.link_entries.specs.Texts.{behind, inside, is_pid, is_port}
 use Rattle.link_entries.specs.Kinds.{Kind, Link, LinkPort, Other, to_opening, from_opening}
 use Rattle.link_entries.specs.Reading.{monitor_kind, kind_of}
 use Rattle.link_entries.specs.Inner.Opening.{is_opened}
@@ -21,9 +21,7 @@ monitor_in text = monitor_kind (inside to_opening (codes "}") text) (inside from
 
 by_tests : (text : List ℕ) (pid port : Bool) → is_pid text ≡ pid → is_port text ≡ port → kind_of text ≡ (if pid then Link text else (if port then LinkPort else monitor_in text))
 unfolding kind_of
-by_tests text pid port is_the_pid is_the_port =
-    ap (λ b. if b then Link text else (if is_port text then LinkPort else monitor_in text)) is_the_pid
-    ∙ ap (λ b. if pid then Link text else (if b then LinkPort else monitor_in text)) is_the_port
+by_tests text pid port is_the_pid is_the_port = grind arith
 
 -- a text that begins with a brace
 pub kind_opened : (text : List ℕ) → is_opened text ≡ true → kind_of text ≡ monitor_in text
@@ -32,17 +30,10 @@ kind_opened (c ∷ text) is =
     let brace : c ≡ 123 = eqb-true c 123 is in
     by_tests (c ∷ text) false false (ap (λ c. is_pid (c ∷ text)) brace ∙ brace_is_no_pid text) (ap (λ c. is_port (c ∷ text)) brace ∙ brace_is_no_port text)
 
-opening_none : (c : ℕ) (text rest back : List ℕ) → (c == 123) ≡ false → inside (123 ∷ rest) back (c ∷ text) ≡ None
-unfolding inside behind
-opening_none c text rest back other = ap (λ b. (if b then behind rest text else None) >>= before back) other
-
 -- and one that doesn't
 monitor_none : (text : List ℕ) → is_opened text ≡ false → monitor_in text ≡ Other
 unfolding inside behind monitor_kind
-monitor_none [] other = refl
-monitor_none (c ∷ text) other =
-    ap (λ o. monitor_kind o (inside from_opening (codes "}") (c ∷ text))) (opening_none c text (codes "to,") (codes "}") other)
-    ∙ ap (monitor_kind None) (opening_none c text (codes "from,") (codes "}") other)
+monitor_none text other = grind arith
 
 pub kind_pid : (text : List ℕ) → is_pid text ≡ true → kind_of text ≡ Link text
 kind_pid text is = by_tests text true (is_port text) is refl

@@ -1,5 +1,5 @@
 -- Sets of kinds.
-use Rattle.std.proofs.Common.{◌≡◌, ℕ, ◌<◌, Bool, true, false, ◌||◌, rules, List, [], ◌∷◌, length, get_or, map, ltb, refl, sym, ◌∙◌, ap, arith}
+use Rattle.std.proofs.Common.{◌≡◌, ℕ, ◌<◌, Bool, true, false, rules, List, [], ◌∷◌, length, get_or, map, ltb, refl, sym, ◌∙◌, ap, arith}
 use Rattle.std.specs.Prelude.{Result, Ok, Err, is_ok}
 use Rattle.std.specs.List.{list_any}
 use Rattle.std.specs.List.Sorted.{IsBinarySearchResult, IsSearchInRange, IsPartitionPoint}
@@ -40,9 +40,7 @@ cmp-swapped one two = sym (reversed (order.ghosts.cmp one two) (order.ghosts.cmp
 -- so a list has a kind where its values have it
 pub list_any-shown : (wanted : EntryKind) (kinds : List EntryKind) → list_any (λ kind. is_eq (order.ghosts.cmp kind wanted)) kinds ≡ list_any (is_same_kind (shown_kind wanted)) (map shown_kind kinds)
 list_any-shown wanted [] = refl
-list_any-shown wanted (kind ∷ kinds) =
-    ap (λ b. b || list_any (λ kind. is_eq (order.ghosts.cmp kind wanted)) kinds) (cmp-swapped wanted kind)
-    ∙ ap (λ b. is_same_kind (shown_kind wanted) (shown_kind kind) || b) (list_any-shown wanted kinds)
+list_any-shown wanted (kind ∷ kinds) = grind (arith, list_any-shown wanted kinds, cmp-swapped)
 
 -- what a search by the order says
 pub searched : (kinds : List EntryKind) (wanted : EntryKind) (r : Result ℕ ℕ) → AreInOrder kinds → IsSearchInRange r (length kinds)

@@ -1,13 +1,12 @@
 -- The list at a place, by the span that stands there.
-use Rattle.std.proofs.Common.{◌≡◌, ℕ, zero, suc, ◌+◌, ◌-◌, ◌<◌, List, [], ◌∷◌, length, get_or, drop, Some, refl, sym, ◌∙◌, ap, subst, arith}
-use Rattle.std.specs.Prelude.{All, slice_get, unwrap_or}
+use Rattle.std.proofs.Common.{◌≡◌, ℕ, zero, suc, ◌+◌, ◌-◌, ◌<◌, List, [], ◌∷◌, length, get_or, drop, Some, sym, ◌∙◌, ap, subst, arith}
+use Rattle.std.specs.Prelude.{All, slice_get}
 use Rattle.std.specs.List.{between}
-use Rattle.std.specs.Option.{option_map}
 use Rattle.std.proofs.lemmas.List.{length-map, length-take, get_or-take, get_or-drop}
 use Rattle.std.proofs.lemmas.List.Elements.{All-head, All-tail}
 use Rattle.std.proofs.lemmas.Option.{slice_get_read, slice_get-get_or, slice_get-map}
 use Rattle.link_entries.specs.Entries.{LinkEntry}
-use Rattle.link_entries.specs.Lists.{Links, no_links, links_at}
+use Rattle.link_entries.specs.Lists.{Links, links_at}
 use Rattle.link_entries.specs.Inner.Spans.{links_in_span, IsSpan, lists_in, AreSpans}
 use Rattle.link_entries.specs.declared.lists.Lists.{Lists}
 use Rattle.link_entries.specs.declared.lists.Span.{Span}
@@ -22,21 +21,14 @@ module _ (lists : Lists) (p : ℕ) (span : Span) (place : p < length (lists_in l
   span-inside = omega (arith, place, length-map lists.spans.items (links_in_span lists.entries.items))
 
   pub links-shown : links_at (lists_in lists) p ≡ links_in_span lists.entries.items span
-  links-shown =
-      let links = links_in_span lists.entries.items in
-      ap (λ o. unwrap_or o no_links)
-      (slice_get-map links lists.spans.items p ∙ ap (option_map links) (slice_get_read lists.spans.items (length lists.spans.items) p span refl span-inside at))
+  links-shown = grind (arith, slice_get-map, slice_get_read, span-inside)
 
   pub is-span : AreSpans lists → IsSpan lists.entries.items lists.sets.items span
   is-span all = subst (IsSpan lists.entries.items lists.sets.items) (sym at) (all-at (IsSpan lists.entries.items lists.sets.items) lists.spans.items p span all span-inside)
 
   -- an entry of the list is one of all
   pub number-inside : (n : ℕ) → n < length (links_at (lists_in lists) p).entries → AreSpans lists → (n < span.upto - span.from) × (span.from + n < length lists.entries.items)
-  number-inside n few all =
-      let is : IsSpan lists.entries.items lists.sets.items span = is-span all in
-      let own : n < length (between span.from span.upto lists.entries.items) = subst (λ (l : Links). n < length l.entries) links-shown few in
-      let low : n < span.upto - span.from = omega (arith, own, length-take (span.upto - span.from) (drop span.from lists.entries.items)) in
-      (low, omega (arith, low, is.ordered, is.inside))
+  number-inside n few all = grind (arith, is-span, links-shown, length-take)
 
   pub entry-shown : (n : ℕ) (entry : LinkEntry) → n < length (links_at (lists_in lists) p).entries → AreSpans lists → entry ≡ get_or lists.entries.items (span.from + n) entry
       → slice_get (links_at (lists_in lists) p).entries n ≡ Some entry

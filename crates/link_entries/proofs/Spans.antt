@@ -1,10 +1,10 @@
 -- Lists that are put one behind another, with their entries in one pool.
-use Rattle.std.proofs.Common.{◌≡◌, ℕ, zero, suc, ◌-◌, ◌≤◌, ◌<◌, Bool, false, List, [], ◌∷◌, ◌++◌, length, take, drop, map, Some, refl, sym, ◌∙◌, ap, subst, arith, length-append}
+use Rattle.std.proofs.Common.{◌≡◌, ℕ, zero, suc, ◌-◌, ◌≤◌, ◌<◌, false, List, [], ◌∷◌, ◌++◌, length, drop, map, Some, refl, sym, ◌∙◌, ap, subst, arith, length-append}
 use Rattle.std.specs.Prelude.{◌^◌, All, IsSomeAnd, IfSome, slice_get}
 use Rattle.std.specs.Option.{option_map}
 use Rattle.std.specs.List.{between}
 use Rattle.std.proofs.lemmas.List.{drop-append-le, take-append-le, drop_at, take_all, length-drop, map-append}
-use Rattle.std.proofs.lemmas.List.Elements.{All-head, All-tail, All-nil, All-cons, All-push}
+use Rattle.std.proofs.lemmas.List.Elements.{All-head, All-tail, All-weaker, All-push}
 use Rattle.link_entries.specs.Kinds.{Kind}
 use Rattle.link_entries.specs.Entries.{Part, LinkEntry, entry_of, list_parts, entries_at}
 use Rattle.link_entries.specs.Lists.{Links, links_in}
@@ -15,15 +15,11 @@ use Rattle.link_entries.specs.declared.lists.Lists.{Lists}
 use Rattle.link_entries.proofs.Counts.{length-entries}
 
 between-grown : {X : Type 0} (xs more : List X) (from upto : ℕ) → from ≤ upto → upto ≤ length xs → between from upto (xs ++ more) ≡ between from upto xs
-between-grown xs more from upto ordered within =
-    ap (take (upto - from)) (drop-append-le from xs more (omega arith))
-    ∙ take-append-le (upto - from) (drop from xs) more (omega (arith, length-drop from xs))
+between-grown xs more from upto ordered within = grind (arith, drop-append-le, take-append-le, length-drop)
 
 -- what was put behind a list
 between-behind : {X : Type 0} (xs more : List X) → between (length xs) (length (xs ++ more)) (xs ++ more) ≡ more
-between-behind xs more =
-    ap (take (length (xs ++ more) - length xs)) (drop_at xs more (length xs) refl)
-    ∙ take_all (length (xs ++ more) - length xs) more (omega (arith, length-append xs more))
+between-behind xs more = grind (arith, drop_at, take_all, length-append)
 
 still_there : {X : Type 0} (P : X → Type 0) (xs more : List X) (i : ℕ) → IsSomeAnd (slice_get xs i) P → IsSomeAnd (slice_get (xs ++ more) i) P
 still_there P [] more i h = absurd h
@@ -39,26 +35,14 @@ module _ (entries more : List LinkEntry) (sets others : List (List Kind)) where
   links-more span is = ap (λ own. let links : Links = record { unread = span.unread; entries = own } in links) (entries-more span is)
 
   IsSpan-more : (span : Span) → IsSpan entries sets span → IsSpan (entries ++ more) (sets ++ others) span
-  IsSpan-more span is = record {
-    ordered = is.ordered;
-    inside = omega (arith, is.inside, length-append entries more);
-    few = is.few;
-    found = λ many. subst (λ own. IsSomeAnd (slice_get (sets ++ others) span.kinds) (AreKindsOf own)) (sym (entries-more span is))
-        (still_there (AreKindsOf (span_entries entries span)) sets others span.kinds (is.found many));
-  }
+  IsSpan-more span is = grind (arith, length-append, entries-more, still_there)
 
   lists-more : (spans : List Span) → All (IsSpan entries sets) spans → map (links_in_span (entries ++ more)) spans ≡ map (links_in_span entries) spans
   lists-more [] all = refl
-  lists-more (span ∷ spans) all =
-      ap (λ links. links ∷ map (links_in_span (entries ++ more)) spans) (links-more span (All-head (IsSpan entries sets) span spans all))
-      ∙ ap (λ lists. links_in_span entries span ∷ lists) (lists-more spans (All-tail (IsSpan entries sets) span spans all))
+  lists-more (span ∷ spans) all = grind (arith, lists-more spans (All-tail (IsSpan entries sets) span spans all), links-more, All-head)
 
   AreSpans-more : (spans : List Span) → All (IsSpan entries sets) spans → All (IsSpan (entries ++ more) (sets ++ others)) spans
-  AreSpans-more [] all = All-nil (IsSpan (entries ++ more) (sets ++ others))
-  AreSpans-more (span ∷ spans) all =
-      All-cons (IsSpan (entries ++ more) (sets ++ others)) span spans
-      (IsSpan-more span (All-head (IsSpan entries sets) span spans all))
-      (AreSpans-more spans (All-tail (IsSpan entries sets) span spans all))
+  AreSpans-more spans all = All-weaker (IsSpan entries sets) (IsSpan (entries ++ more) (sets ++ others)) IsSpan-more spans all
 
 -- one list more
 pub HasGained-push : (before after : Lists) (span : Span) (more : List LinkEntry) (others : List (List Kind))
@@ -89,11 +73,7 @@ module _ (before after : Lists) (span : Span) (at : ℕ) (text : List ℕ) (part
   more = map entry_of parts
 
   own_entries : span_entries after.entries.items span ≡ more
-  own_entries =
-      ap (λ n. between n span.upto after.entries.items) from_is
-      ∙ ap (λ n. between (length before.entries.items) n after.entries.items) upto_is
-      ∙ ap (λ es. between (length before.entries.items) (length es) es) grown
-      ∙ between-behind before.entries.items more
+  own_entries = grind (arith, between-behind)
 
   behind_are : drop span.from after.entries.items ≡ more
   behind_are = ap (drop span.from) grown ∙ drop_at before.entries.items more span.from (sym from_is)
@@ -105,17 +85,10 @@ module _ (before after : Lists) (span : Span) (at : ℕ) (text : List ℕ) (part
   few_entries = subst (λ parts. IfSome (option_map (map entry_of) parts) (λ left. length left ≤ length text)) is (length-entries at text)
 
   own_links : links_in_span after.entries.items span ≡ links_in (entries_at at text)
-  own_links =
-      let links : Bool → List LinkEntry → Links = λ unread entries. record { unread = unread; entries = entries } in
-      ap (λ unread. links unread (span_entries after.entries.items span)) unread_is
-      ∙ ap (links false) own_entries
-      ∙ sym (ap (λ parts. links_in (option_map (map entry_of) parts)) is)
+  own_links = grind (arith, own_entries)
 
   own_kinds : 16 < span.upto - span.from → IsSomeAnd (slice_get after.sets.items span.kinds) (AreKindsOf (span_entries after.entries.items span))
-  own_kinds many =
-      let long : 16 < length (drop span.from after.entries.items) = omega (arith, many, count, ap length behind_are) in
-      subst (λ n. IsSomeAnd (slice_get after.sets.items n) (AreKindsOf (span_entries after.entries.items span))) (sym kinds_is)
-      (subst (λ entries. IsSomeAnd (slice_get after.sets.items (length before.sets.items)) (AreKindsOf entries)) (behind_are ∙ sym own_entries) (k.found long))
+  own_kinds many = grind (arith, count, behind_are, own_entries)
 
   pub HasGained-read : after.spans.items ≡ before.spans.items ++ span ∷ [] → AreSpans before → HasGained before after (links_in (entries_at at text))
   HasGained-read spans all =

@@ -1,5 +1,5 @@
 -- The first section of each process, where sections come one after another.
-use Rattle.std.proofs.Common.{◌≡◌, ℕ, zero, suc, ◌+◌, Bool, true, false, cond, not, ◌||◌, List, [], ◌∷◌, ◌++◌, take, filter, slice_get, Some, refl, sym, ◌∙◌, ap, arith, if◌then◌else◌}
+use Rattle.std.proofs.Common.{◌≡◌, ℕ, zero, suc, ◌+◌, Bool, true, false, cond, not, ◌||◌, List, [], ◌∷◌, ◌++◌, take, filter, slice_get, Some, refl, ◌∙◌, ap, arith, if◌then◌else◌}
 use Rattle.std.specs.List.{list_any, enumerate_from}
 use Rattle.std.specs.Str.{bytes_eq}
 use Rattle.std.proofs.lemmas.Bool.{false≢true}
@@ -14,13 +14,7 @@ bytes_eq-same : (x y : List ℕ) → bytes_eq x y ≡ true → x ≡ y
 bytes_eq-same x y e = (bytes_eq-Decides x y).0 e
 
 bytes_eq-swap : (x y : List ℕ) → bytes_eq x y ≡ bytes_eq y x
-bytes_eq-swap x y = by (bytes_eq x y) (bytes_eq y x) refl refl
-  where
-    by : (a b : Bool) → bytes_eq x y ≡ a → bytes_eq y x ≡ b → a ≡ b
-    by true true e f = refl
-    by false false e f = refl
-    by true false e f = absurd (false≢true (sym f ∙ (bytes_eq-Decides y x).1 (sym (bytes_eq-same x y e))))
-    by false true e f = absurd (false≢true (sym e ∙ (bytes_eq-Decides x y).1 (sym (bytes_eq-same y x f))))
+bytes_eq-swap x y = grind (arith, false≢true, bytes_eq-Decides, bytes_eq-same)
 
 -- whether one of these sections has the pid
 abbrev pub is_among : Placed → List Placed → Bool
@@ -33,26 +27,12 @@ others first sections = filter (λ other. not (has_same_pid first other)) sectio
 -- where two pids differ, the sections of the one are no sections of the other
 is_among-others : (first p : Placed) (sections : List Placed) → has_same_pid first p ≡ false → is_among p (others first sections) ≡ is_among p sections
 is_among-others first p [] differ = refl
-is_among-others first p (q ∷ sections) differ = by (has_same_pid first q) refl (is_among-others first p sections differ)
-  where
-    by : (b : Bool) → has_same_pid first q ≡ b → is_among p (others first sections) ≡ is_among p sections → is_among p (others first (q ∷ sections)) ≡ is_among p (q ∷ sections)
-    by false e rest =
-        ap (λ b. is_among p (cond (not b) (q ∷ others first sections) (others first sections))) e ∙ ap (λ b. bytes_eq (pid_of p.1) (pid_of q.1) || b) rest
-    by true e rest =
-        let same : pid_of first.1 ≡ pid_of q.1 = bytes_eq-same _ _ e in
-        let other : bytes_eq (pid_of p.1) (pid_of q.1) ≡ false =
-        ap (bytes_eq (pid_of p.1)) (sym same) ∙ bytes_eq-swap (pid_of p.1) (pid_of first.1) ∙ differ in
-        ap (λ b. is_among p (cond (not b) (q ∷ others first sections) (others first sections))) e ∙ rest ∙ ap (λ b. b || is_among p sections) (sym other)
+is_among-others first p (q ∷ sections) differ = grind (arith, is_among-others first p sections differ, bytes_eq-same, bytes_eq-swap)
 
 -- a section behind the others, where it is one of the first's or not
 others-more : (first p : Placed) (sections : List Placed) (same : Bool) → has_same_pid first p ≡ same
     → others first (sections ++ p ∷ []) ≡ (if same then others first sections else others first sections ++ p ∷ [])
-others-more first p sections same e =
-    filter-append (λ other. not (has_same_pid first other)) sections (p ∷ []) ∙ ap (λ b. others first sections ++ cond (not b) (p ∷ []) []) e ∙ ends same
-  where
-    ends : (b : Bool) → others first sections ++ cond (not b) (p ∷ []) [] ≡ (if b then others first sections else others first sections ++ p ∷ [])
-    ends true = append-nil (others first sections)
-    ends false = refl
+others-more first p sections same e = grind (arith, filter-append, append-nil)
 
 step : (first p : Placed) (firsts : List Placed) → first ∷ others first (if is_among p firsts then firsts else firsts ++ p ∷ [])
     ≡ (if is_among p (first ∷ others first firsts) then first ∷ others first firsts else (first ∷ others first firsts) ++ p ∷ [])
@@ -66,9 +46,7 @@ step first p firsts = by (has_same_pid first p) (is_among p firsts) refl refl
         ≡ (if is_among p (first ∷ others first firsts) then first ∷ others first firsts else (first ∷ others first firsts) ++ p ∷ [])
     by b c e f =
         let test : is_among p (first ∷ others first firsts) ≡ (b || c) = join b e in
-        ap (λ x. first ∷ others first (if x then firsts else firsts ++ p ∷ [])) f
-        ∙ ends b c e
-        ∙ ap (λ x. if x then first ∷ others first firsts else (first ∷ others first firsts) ++ p ∷ []) (sym test)
+        cc (ends b c e)
       where
         join : (b : Bool) → has_same_pid first p ≡ b → is_among p (first ∷ others first firsts) ≡ (b || c)
         join true e = ap (λ x. x || is_among p (others first firsts)) (own true e)
@@ -90,13 +68,8 @@ first_of_each-more (first ∷ sections) p = ap (λ l. first ∷ others first l) 
 -- the section at a place, with its place
 enumerated-at : (n : ℕ) (sections : List Section) (i : ℕ) (s : Section) → slice_get sections i ≡ Some s → slice_get (enumerate_from n sections) i ≡ Some (n + i, s)
 enumerated-at n [] i s is = cc
-enumerated-at n (first ∷ sections) zero s is =
-    let same : first ≡ s = cc in
-    let here : n ≡ n + 0 = omega arith in
-    (λ j. Some (here j, same j))
-enumerated-at n (first ∷ sections) (suc i) s is =
-    let place : n + 1 + i ≡ n + suc i = omega arith in
-    enumerated-at (n + 1) sections i s is ∙ ap (λ k. Some (k, s)) place
+enumerated-at n (first ∷ sections) zero s is = grind arith
+enumerated-at n (first ∷ sections) (suc i) s is = grind (arith, enumerated-at (n + 1) sections i s is)
 
 pub placed-at : (sections : List Section) (i : ℕ) (s : Section) → slice_get sections i ≡ Some s → slice_get (placed sections) i ≡ Some (i, s)
 placed-at sections i s is = let zero_more : 0 + i ≡ i = omega arith in enumerated-at 0 sections i s is ∙ ap (λ k. Some (k, s)) zero_more

@@ -1,71 +1,38 @@
 -- Processes are found one section after another.
-use Rattle.std.proofs.Common.{◌≡◌, ℕ, ◌+◌, ◌≤◌, Bool, true, false, cond, ◌||◌, ◌&&◌, List, [], ◌∷◌, ◌++◌, length, map, is_some, unwrap_or, Option, None, Some, refl, sym, ◌∙◌, ap, arith, if◌then◌else◌, length-append}
-use Rattle.std.specs.Prelude.{codes, position, option_map}
+use Rattle.std.proofs.Common.{◌≡◌, ℕ, ◌+◌, ◌≤◌, Bool, true, false, cond, ◌||◌, List, [], ◌∷◌, ◌++◌, length, map, is_some, Option, None, Some, refl, sym, ◌∙◌, ap, arith, if◌then◌else◌, length-append}
+use Rattle.std.specs.Prelude.{position}
 use Rattle.std.specs.List.{list_any}
 use Rattle.std.specs.Str.{bytes_eq}
 use Rattle.std.proofs.lemmas.List.{append-nil, map-append}
 use Rattle.std.proofs.lemmas.List.Sums.{length-filter, count_by-le-length}
-use Rattle.dump_sections.specs.Lookups.{has_tag}
-use Rattle.dump_sections.specs.Sections.{Section, id_of}
+use Rattle.dump_sections.specs.Sections.{Section}
 use Rattle.process_table.specs.declared.pids.PidPlace.{PidPlace}
 use Rattle.process_table.specs.declared.finding.Found.{Found}
 use Rattle.process_table.specs.Records.{Placed, is_process, named_place, pid_of, process_sections, first_of_each}
 use Rattle.process_table.specs.Inner.Finding.{named_places, has_pid, pid_in, AreFound}
-use Rattle.process_table.proofs.Positions.{position-first, position-later}
+use Rattle.process_table.proofs.Positions.{some-position}
 use Rattle.process_table.proofs.Firsts.{first_of_each-more, process_sections-more}
 
 pub pid_in-none : (s : Section) → pid_in s ≡ None → is_process s ≡ false
-pid_in-none s none = by (has_tag (codes "proc") s.text) (id_of s.text) refl refl
-  where
-    by : (b : Bool) (id : Option (List ℕ)) → has_tag (codes "proc") s.text ≡ b → id_of s.text ≡ id → is_process s ≡ false
-    by false id e f = ap (λ x. x && is_some (id_of s.text)) e
-    by true id e f = ap (λ x. x && is_some (id_of s.text)) e ∙ ap is_some (sym (ap (λ x. if x then id_of s.text else None) e) ∙ none)
+pid_in-none s none = grind arith
 
 pub pid_in-some : (s : Section) (pid : List ℕ) → pid_in s ≡ Some pid → (is_process s ≡ true) × (pid_of s ≡ pid)
-pid_in-some s pid some = by (has_tag (codes "proc") s.text) refl
-  where
-    by : (b : Bool) → has_tag (codes "proc") s.text ≡ b → (is_process s ≡ true) × (pid_of s ≡ pid)
-    by false e = let none : None ≡ Some pid = sym (ap (λ x. if x then id_of s.text else None) e) ∙ some in cc
-    by true e =
-        let id : id_of s.text ≡ Some pid = sym (ap (λ x. if x then id_of s.text else None) e) ∙ some in
-        (ap (λ x. x && is_some (id_of s.text)) e ∙ ap is_some id, ap (λ x. unwrap_or x []) id)
+pid_in-some s pid some = grind arith
 
 -- whether a pid stands there
-some-position : {X : Type 0} (p : X → Bool) (xs : List X) → is_some (position p xs) ≡ list_any p xs
-some-position p [] = refl
-some-position p (x ∷ xs) = by (p x) refl (some-position p xs)
-  where
-    of_later : (o : Option ℕ) → is_some (option_map (λ n. 1 + n) o) ≡ is_some o
-    of_later None = refl
-    of_later (Some n) = refl
-
-    by : (b : Bool) → p x ≡ b → is_some (position p xs) ≡ list_any p xs → is_some (position p (x ∷ xs)) ≡ (p x || list_any p xs)
-    by true e rest = ap is_some (position-first p x xs e) ∙ sym (ap (λ b. b || list_any p xs) e)
-    by false e rest = ap is_some (position-later p x xs e) ∙ of_later (position p xs) ∙ rest ∙ sym (ap (λ b. b || list_any p xs) e)
-
 there-is : (pid : List ℕ) (places : List PidPlace) (firsts : List Placed) → named_places places ≡ map named_place firsts
     → is_some (position (has_pid pid) places) ≡ list_any (λ (q : Placed). bytes_eq pid (pid_of q.1)) firsts
 there-is pid places firsts same =
-    some-position (has_pid pid) places ∙ of_places places ∙ ap (list_any (λ (e : List ℕ × ℕ). bytes_eq pid e.0)) same ∙ of_firsts firsts
+    cc (some-position (has_pid pid) places, of_images (λ (e : List ℕ × ℕ). bytes_eq pid e.0) (λ (place : PidPlace). (place.pid.items, place.section)) places, of_images (λ (e : List ℕ × ℕ). bytes_eq pid e.0) named_place firsts)
   where
-    of_places : (places : List PidPlace) → list_any (has_pid pid) places ≡ list_any (λ (e : List ℕ × ℕ). bytes_eq pid e.0) (named_places places)
-    of_places [] = refl
-    of_places (place ∷ places) = ap (λ b. bytes_eq pid place.pid.items || b) (of_places places)
-
-    of_firsts : (firsts : List Placed) → list_any (λ (e : List ℕ × ℕ). bytes_eq pid e.0) (map named_place firsts) ≡ list_any (λ (q : Placed). bytes_eq pid (pid_of q.1)) firsts
-    of_firsts [] = refl
-    of_firsts (first ∷ firsts) = ap (λ b. bytes_eq pid (pid_of first.1) || b) (of_firsts firsts)
+    of_images : {X Y : Type 0} (p : Y → Bool) (f : X → Y) (xs : List X) → list_any p (map f xs) ≡ list_any (λ x. p (f x)) xs
+    of_images p f [] = refl
+    of_images p f (x ∷ xs) = ap (λ b. p (f x) || b) (of_images p f xs)
 
 module _ (found : Found) (among : List Placed) (p : Placed) (are : AreFound found among) where
   -- a section that is none of a process changes nothing
   pub AreFound-passed : is_process p.1 ≡ false → AreFound found (among ++ p ∷ [])
-  AreFound-passed other =
-      let same : process_sections (among ++ p ∷ []) ≡ process_sections among =
-      process_sections-more among p ∙ ap (λ b. process_sections among ++ cond b (p ∷ []) []) other ∙ append-nil (process_sections among) in
-      record {
-        records = are.records ∙ ap (λ l. map named_place (first_of_each l)) (sym same);
-        all = are.all ∙ ap length (sym same);
-      }
+  AreFound-passed other = grind (arith, process_sections-more, append-nil)
 
   -- the sections of processes with one that was heard
   more : is_process p.1 ≡ true → process_sections (among ++ p ∷ []) ≡ process_sections among ++ p ∷ []

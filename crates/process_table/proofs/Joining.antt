@@ -1,7 +1,8 @@
 -- Processes joined of places and rows.
-use Rattle.std.proofs.Common.{◌≡◌, ℕ, zero, suc, ◌<◌, List, [], ◌∷◌, length, map, slice_get, get_or, Option, Some, None, All, refl, sym, ◌∙◌, ap, subst, arith, inl, inr, unwrap_or, position}
+use Rattle.std.proofs.Common.{◌≡◌, ℕ, zero, suc, ◌<◌, List, [], ◌∷◌, length, map, slice_get, get_or, Option, Some, None, All, refl, sym, ◌∙◌, ap, arith, unwrap_or, position}
 use Rattle.std.specs.Str.{bytes_eq}
 use Rattle.std.proofs.lemmas.List.{length-map, get_or_past}
+use Rattle.std.proofs.lemmas.Simd.{map-map}
 use Rattle.std.proofs.lemmas.Option.{unwrap_or-slice_get, slice_get_cases, slice_get-get_or}
 use Rattle.std.proofs.lemmas.List.Elements.{All-head, All-tail, All-nil, All-cons}
 use Rattle.section_rows.specs.Rows.{Kept, Row, row_at, cell_at, IsBoundedCell}
@@ -36,16 +37,14 @@ process_at-joined places rows i entry same is =
 -- so that its cells are those of the row
 pub process_at-row : (places : List PidPlace) (rows : List Row) (i : ℕ) → length rows ≡ length places → i < length places
     → process_at (all_joined (named_places places) rows) i ≡ joined (get_or (named_places places) i ([], 0)) (row_at rows i)
-process_at-row places rows i same inside =
-    process_at-joined places rows i (get_or (named_places places) i ([], 0)) same
-    (slice_get-get_or (named_places places) i ([], 0) (omega (arith, inside, length-named places)))
+process_at-row places rows i same inside = grind (arith, process_at-joined, slice_get-get_or, length-named)
 
--- the pids are those of the entries
-pub pids-all_joined : (entries : List (List ℕ × ℕ)) (rows : List Row) → length rows ≡ length entries
-    → map (λ (p : Process). p.pid) (all_joined entries rows) ≡ map (λ (e : List ℕ × ℕ). e.0) entries
-pids-all_joined [] rows same = refl
-pids-all_joined (entry ∷ entries) [] same = absurd (omega (arith, same))
-pids-all_joined (entry ∷ entries) (row ∷ rows) same = ap (λ pids. entry.0 ∷ pids) (pids-all_joined entries rows (omega (arith, same)))
+-- what the processes have of their entries
+pub map-all_joined : {X : Type 0} (f : Process → X) (g : List ℕ × ℕ → X) → ((entry : List ℕ × ℕ) (row : Row) → f (joined entry row) ≡ g entry)
+    → (entries : List (List ℕ × ℕ)) (rows : List Row) → length rows ≡ length entries → map f (all_joined entries rows) ≡ map g entries
+map-all_joined f g own [] rows same = refl
+map-all_joined f g own (entry ∷ entries) [] same = absurd (omega (arith, same))
+map-all_joined f g own (entry ∷ entries) (row ∷ rows) same = cc (own entry row, map-all_joined f g own entries rows (omega (arith, same)))
 
 -- the cell that was read
 pub cell_at-read : (rows : List Row) (i c : ℕ) (cell : Option Kept) → slice_get (row_at rows i).cells c ≡ Some cell → cell_at (row_at rows i) c ≡ cell
@@ -53,18 +52,10 @@ cell_at-read rows i c cell is = ap (λ (read : Option (Option Kept)). unwrap_or 
 
 -- each cell of a bounded row is bounded, and one that isn't there too
 cell_at-bounded : (row : Row) (c : ℕ) → All IsBoundedCell row.cells → IsBoundedCell (cell_at row c)
-cell_at-bounded row c bounded =
-    subst IsBoundedCell (sym (unwrap_or-slice_get row.cells c None))
-    (elim (slice_get_cases row.cells c).1 [ inl found ↦ bounded c None found.1 | inr past ↦ subst IsBoundedCell (sym (get_or_past row.cells c None past.0)) tt ])
+cell_at-bounded row c bounded = grind (arith, unwrap_or-slice_get, slice_get_cases, get_or_past)
 
 joined-bounded : (entry : List ℕ × ℕ) (row : Row) → All IsBoundedCell row.cells → IsBounded (joined entry row)
-joined-bounded entry row bounded = record {
-  state = cell_at-bounded row 0 bounded;
-  name = cell_at-bounded row 1 bounded;
-  queue = cell_at-bounded row 2 bounded;
-  memory = cell_at-bounded row 3 bounded;
-  links = cell_at-bounded row 4 bounded;
-}
+joined-bounded entry row bounded = grind (arith, cell_at-bounded)
 
 pub all_joined-bounded : (entries : List (List ℕ × ℕ)) (rows : List Row) → All (λ (row : Row). All IsBoundedCell row.cells) rows → All IsBounded (all_joined entries rows)
 all_joined-bounded [] rows bounded = All-nil IsBounded
@@ -79,14 +70,7 @@ pub place_of_pid : (pid : List ℕ) (places : List PidPlace) (rows : List Row) �
 place_of_pid pid places rows same =
     let test = bytes_eq pid in
     let named = named_places places in
-    sym (position-map test (λ (place : PidPlace). place.pid.items) places)
-    ∙ ap (position test) (same_pids places)
-    ∙ ap (position test) (sym (pids-all_joined named rows (same ∙ sym (length-named places))))
-    ∙ position-map test (λ (p : Process). p.pid) (all_joined named rows)
-  where
-    same_pids : (places : List PidPlace) → map (λ (place : PidPlace). place.pid.items) places ≡ map (λ (e : List ℕ × ℕ). e.0) (named_places places)
-    same_pids [] = refl
-    same_pids (place ∷ places) = ap (λ pids. place.pid.items ∷ pids) (same_pids places)
+    cc (position-map test (λ (place : PidPlace). place.pid.items) places, map-map (λ (e : List ℕ × ℕ). e.0) (λ (place : PidPlace). (place.pid.items, place.section)) places, map-all_joined (λ p. p.pid) (λ e. e.0) (λ entry row. refl) named rows (same ∙ sym (length-named places)), position-map test (λ (p : Process). p.pid) (all_joined named rows))
 
 pub count_of : (places : List PidPlace) (rows : List Row) → length rows ≡ length places → length (all_joined (named_places places) rows) ≡ length places
 count_of places rows same = length-all_joined (named_places places) rows (same ∙ sym (length-named places)) ∙ length-named places

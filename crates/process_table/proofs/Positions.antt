@@ -1,28 +1,30 @@
 -- The place of the first element that passes a test.
-use Rattle.std.proofs.Common.{◌≡◌, ℕ, suc, ◌+◌, Bool, true, false, cond, ltb, not, List, ◌∷◌, length, None, Some, refl, sym, ◌∙◌, ap, arith}
-use Rattle.std.specs.Prelude.{position, option_map}
-use Rattle.std.specs.List.{position_or_len}
-use Rattle.std.proofs.lemmas.Bool.{lt-ltb}
+use Rattle.std.proofs.Common.{◌≡◌, ℕ, Bool, true, false, List, [], ◌∷◌, ◌++◌, length, not, is_some, get_or, slice_get, None, Some, arith}
+use Rattle.std.specs.Prelude.{position}
+use Rattle.std.specs.List.{list_any}
+use Rattle.std.proofs.lemmas.Grind.{common_steps}
+use Rattle.std.proofs.lemmas.List.Folds.{position_or_len_push}
+use Rattle.std.proofs.lemmas.List.Quantifiers.{position-Some}
+use Rattle.std.proofs.lemmas.Option.{slice_get-get_or}
 
-pub position-first : {X : Type 0} (p : X → Bool) (x : X) (xs : List X) → p x ≡ true → position p (x ∷ xs) ≡ Some 0
-position-first p x xs e =
-    let here : position_or_len p (x ∷ xs) ≡ 0 = ap (λ b. cond (not b) (1 + position_or_len p xs) 0) e in
-    ap (λ n. cond (ltb n (length (x ∷ xs))) (Some n) None) here ∙ ap (λ b. cond b (Some 0) None) (lt-ltb 0 (length (x ∷ xs)) (omega arith))
+-- the element at that place
+pub position-holds : {X : Type 0} (p : X → Bool) (xs : List X) (n : ℕ) → position p xs ≡ Some n → (x : X) × (slice_get xs n ≡ Some x) × (p x ≡ true)
+position-holds p [] n is = cc
+position-holds p (x ∷ xs) n is =
+    let found = position-Some p (x ∷ xs) n x is in
+    (get_or (x ∷ xs) n x, slice_get-get_or (x ∷ xs) n x found.0, found.1)
 
-pub position-later : {X : Type 0} (p : X → Bool) (x : X) (xs : List X) → p x ≡ false → position p (x ∷ xs) ≡ option_map (λ n. 1 + n) (position p xs)
-position-later p x xs e =
-    let n = position_or_len p xs in
-    let here : position_or_len p (x ∷ xs) ≡ 1 + n = ap (λ b. cond (not b) (1 + position_or_len p xs) 0) e in
-    ap (λ n. cond (ltb n (length (x ∷ xs))) (Some n) None) here ∙ by (ltb n (length xs)) refl
-  where
-    by : (b : Bool) → ltb (position_or_len p xs) (length xs) ≡ b
-        → cond (ltb (1 + position_or_len p xs) (length (x ∷ xs))) (Some (1 + position_or_len p xs)) None ≡ option_map (λ n. 1 + n) (cond (ltb (position_or_len p xs) (length xs)) (Some (position_or_len p xs)) None)
-    by b e = ap (λ c. cond c (Some (1 + position_or_len p xs)) None) (one_less (position_or_len p xs) (length xs) b e) ∙ same b ∙ sym (ap (λ c. option_map (λ n. 1 + n) (cond c (Some (position_or_len p xs)) None)) e)
-      where
-        same : (b : Bool) → cond b (Some (1 + position_or_len p xs)) None ≡ option_map (λ n. 1 + n) (cond b (Some (position_or_len p xs)) None)
-        same true = refl
-        same false = refl
+-- one more element
+pub position-push-new : {X : Type 0} (p : X → Bool) (xs : List X) (x : X) → position p xs ≡ None → p x ≡ true → position p (xs ++ x ∷ []) ≡ Some (length xs)
+position-push-new p xs x none own = grind (arith, common_steps, position_or_len_push, Rattle.std.proofs.lemmas.List.Sums.prefix_len-le-length (λ y. not (p y)) xs)
 
-        one_less : (m n : ℕ) (b : Bool) → ltb m n ≡ b → ltb (1 + m) (suc n) ≡ b
-        one_less m n true e = grind (arith, e)
-        one_less m n false e = grind (arith, e)
+pub position-push-there : {X : Type 0} (p : X → Bool) (xs : List X) (x : X) (n : ℕ) → position p xs ≡ Some n → position p (xs ++ x ∷ []) ≡ Some n
+position-push-there p xs x n is = grind (arith, common_steps, position_or_len_push)
+
+pub position-push-other : {X : Type 0} (p : X → Bool) (xs : List X) (x : X) → p x ≡ false → position p (xs ++ x ∷ []) ≡ position p xs
+position-push-other p xs x other = grind (arith, common_steps, position_or_len_push)
+
+-- whether one passes
+pub some-position : {X : Type 0} (p : X → Bool) (xs : List X) → is_some (position p xs) ≡ list_any p xs
+some-position p [] = grind (arith, common_steps)
+some-position p (x ∷ xs) = grind (arith, common_steps, some-position p xs)

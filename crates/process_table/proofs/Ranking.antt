@@ -7,8 +7,7 @@ use Rattle.std.specs.Cmp.Lexicographic.{slice_cmp, nat_list_cmp_total}
 use Rattle.std.specs.List.Sorted.{IsSortedBy, IsBinarySearchResult, IsSearchInRange}
 use Rattle.std.specs.Map.{update}
 use Rattle.std.specs.Option.{option_map_or}
-use Rattle.std.specs.Ordering.{nat_cmp, is_lt, is_eq, ordering_reverse, MatchOrdering}
-use Rattle.std.specs.declared.cmp.Ordering.{Ordering}
+use Rattle.std.specs.Ordering.{nat_cmp, is_lt, is_eq, ordering_reverse}
 use Rattle.std.specs.declared.cmp.Ordering.TheVariants.{Less, Equal, Greater}
 use Rattle.std.specs.Str.{bytes_eq}
 use denote.Ref.{Bor}
@@ -19,85 +18,28 @@ use Rattle.std.proofs.lemmas.List.{length-map, get_or-map}
 use Rattle.std.proofs.lemmas.List.Sorted.{searchable_from_sorted}
 use Rattle.std.proofs.lemmas.Map.Entries.{btree_map_get_place, place_from_lookup}
 use Rattle.std.proofs.lemmas.Map.Keys.{Less-from_sorted}
-use Rattle.std.proofs.lemmas.Option.{get_or_from_slice_get, slice_get_within, slice_get-get_or, slice_get-map, same_Some, none-some}
+use Rattle.std.proofs.lemmas.Option.{get_or_from_slice_get, slice_get_within, slice_get-get_or, slice_get-map, same_Some}
 use Rattle.std.proofs.lemmas.Slice.Eq.{bytes_eq-Decides}
 use Rattle.process_table.specs.declared.pids.PidPlace.{PidPlace}
 use Rattle.process_table.specs.Inner.Finding.{has_pid, pid_at, AreOwn, AreNumbered, AreRanked}
-use Rattle.process_table.proofs.Positions.{position-first, position-later}
+use Rattle.process_table.proofs.Positions.{position-holds, position-push-new, position-push-there, position-push-other}
 
 -- texts that compare as equal are one
 pub same-text : (xs ys : List ℕ) → slice_cmp nat_cmp xs ys ≡ Equal → xs ≡ ys
 same-text [] [] e = refl
 same-text [] (y ∷ ys) e = cc
 same-text (x ∷ xs) [] e = cc
-same-text (x ∷ xs) (y ∷ ys) e = by (nat_cmp x y) refl (ranked x y (nat_cmp x y) refl) (same-text xs ys)
-  where
-    by : (o : Ordering) → nat_cmp x y ≡ o → MatchOrdering (nat_cmp x y) (x < y) (x ≡ y) (y < x) → (slice_cmp nat_cmp xs ys ≡ Equal → xs ≡ ys) → x ∷ xs ≡ y ∷ ys
-    by Less f rank rest = let wrong : Less ≡ Equal = sym (ap (λ o. Rattle.std.specs.Ordering.ordering_then o (slice_cmp nat_cmp xs ys)) f) ∙ e in cc
-    by Greater f rank rest = let wrong : Greater ≡ Equal = sym (ap (λ o. Rattle.std.specs.Ordering.ordering_then o (slice_cmp nat_cmp xs ys)) f) ∙ e in cc
-    by Equal f rank rest =
-        let same : x ≡ y = subst (λ o. MatchOrdering o (x < y) (x ≡ y) (y < x)) f rank in
-        ap (λ n. n ∷ xs) same ∙ ap (λ l. y ∷ l) (rest (sym (ap (λ o. Rattle.std.specs.Ordering.ordering_then o (slice_cmp nat_cmp xs ys)) f) ∙ e))
+same-text (x ∷ xs) (y ∷ ys) e = grind (arith, same-text xs ys)
 
 pub text-itself : (xs : List ℕ) → slice_cmp nat_cmp xs xs ≡ Equal
 text-itself xs = Rattle.std.proofs.lemmas.Cmp.tied_itself nat_list_cmp_total xs
-
--- the element at a place
-more-some : (o : Option ℕ) (n : ℕ) → option_map (λ k. 1 + k) o ≡ Some n → (m : ℕ) × (o ≡ Some m) × (n ≡ 1 + m)
-more-some None n is = cc
-more-some (Some m) n is = (m, refl, sym (same_Some (1 + m) n is))
-
-pub position-holds : {X : Type 0} (p : X → Bool) (xs : List X) (n : ℕ) → position p xs ≡ Some n → (x : X) × (slice_get xs n ≡ Some x) × (p x ≡ true)
-position-holds p [] n is = cc
-position-holds {X} p (x ∷ xs) n is = by (p x) refl (position-holds p xs)
-  where
-    by : (b : Bool) → p x ≡ b → ((n : ℕ) → position p xs ≡ Some n → (y : X) × (slice_get xs n ≡ Some y) × (p y ≡ true)) → (y : X) × (slice_get (x ∷ xs) n ≡ Some y) × (p y ≡ true)
-    by true e rest = let here : 0 ≡ n = same_Some 0 n (sym (position-first p x xs e) ∙ is) in (x, subst (λ k. slice_get (x ∷ xs) k ≡ Some x) here refl, e)
-    by false e rest =
-        let later = more-some (position p xs) n (sym (position-later p x xs e) ∙ is) in
-        let found = rest later.0 later.1 in
-        let place : suc later.0 ≡ n = omega (arith, later.2) in
-        (found.0, subst (λ k. slice_get (x ∷ xs) k ≡ Some found.0) place found.1, found.2)
-
--- one more element
-pub position-push-new : {X : Type 0} (p : X → Bool) (xs : List X) (x : X) → position p xs ≡ None → p x ≡ true → position p (xs ++ x ∷ []) ≡ Some (length xs)
-position-push-new p [] x none own = position-first p x [] own
-position-push-new p (y ∷ xs) x none own = by (p y) refl (position p xs) refl (position-push-new p xs x)
-  where
-    by : (b : Bool) → p y ≡ b → (o : Option ℕ) → position p xs ≡ o → (position p xs ≡ None → p x ≡ true → position p (xs ++ x ∷ []) ≡ Some (length xs))
-        → position p (y ∷ xs ++ x ∷ []) ≡ Some (length (y ∷ xs))
-    by true e o f rest = absurd (none-some 0 (sym none ∙ position-first p y xs e))
-    by false e None f rest = position-later p y (xs ++ x ∷ []) e ∙ ap (option_map (λ k. 1 + k)) (rest f own) ∙ ap Some (omega arith)
-    by false e (Some m) f rest = absurd (none-some (1 + m) (sym none ∙ position-later p y xs e ∙ ap (option_map (λ k. 1 + k)) f))
-
-pub position-push-there : {X : Type 0} (p : X → Bool) (xs : List X) (x : X) (n : ℕ) → position p xs ≡ Some n → position p (xs ++ x ∷ []) ≡ Some n
-position-push-there p [] x n is = cc
-position-push-there p (y ∷ xs) x n is = by (p y) refl (position-push-there p xs x)
-  where
-    by : (b : Bool) → p y ≡ b → ((n : ℕ) → position p xs ≡ Some n → position p (xs ++ x ∷ []) ≡ Some n) → position p (y ∷ xs ++ x ∷ []) ≡ Some n
-    by true e rest = position-first p y (xs ++ x ∷ []) e ∙ sym (position-first p y xs e) ∙ is
-    by false e rest =
-        let later = more-some (position p xs) n (sym (position-later p y xs e) ∙ is) in
-        position-later p y (xs ++ x ∷ []) e ∙ ap (option_map (λ k. 1 + k)) (rest later.0 later.1) ∙ ap Some (sym later.2)
-
-pub position-push-other : {X : Type 0} (p : X → Bool) (xs : List X) (x : X) → p x ≡ false → position p (xs ++ x ∷ []) ≡ position p xs
-position-push-other p [] x other = position-later p x [] other
-position-push-other p (y ∷ xs) x other = by (p y) refl (position-push-other p xs x)
-  where
-    by : (b : Bool) → p y ≡ b → (p x ≡ false → position p (xs ++ x ∷ []) ≡ position p xs) → position p (y ∷ xs ++ x ∷ []) ≡ position p (y ∷ xs)
-    by true e rest = position-first p y (xs ++ x ∷ []) e ∙ sym (position-first p y xs e)
-    by false e rest = position-later p y (xs ++ x ∷ []) e ∙ ap (option_map (λ k. 1 + k)) (rest other) ∙ sym (position-later p y xs e)
 
 -- what stands in a list with one more element
 push-cases : {X : Type 0} (xs : List X) (x q : X) (n : ℕ) → slice_get (xs ++ x ∷ []) n ≡ Some q → (slice_get xs n ≡ Some q) ⊎ ((n ≡ length xs) × (x ≡ q))
 push-cases [] x q zero is = inr (refl, same_Some x q is)
 push-cases [] x q (suc n) is = cc
 push-cases (y ∷ xs) x q zero is = inl is
-push-cases (y ∷ xs) x q (suc n) is =
-    elim (push-cases xs x q n is) [
-      | inl there ↦ inl there
-      | inr last ↦ inr (ap suc last.0, last.1)
-    ]
+push-cases (y ∷ xs) x q (suc n) is = grind (arith, push-cases xs x q n is)
 
 none-own : (pid : List ℕ) (place : PidPlace) → place.pid.items ≡ pid → has_pid pid place ≡ true
 none-own pid place same = (bytes_eq-Decides pid place.pid.items).1 (sym same)
@@ -154,9 +96,7 @@ module _ (numbers : BTreeMap (Bor (List ℕ)) ℕ) (places : List PidPlace) (are
   at-entry k e at = sym (are.found e.0.now) ∙ btree_map_get_place key_total numbers k e.0 e.1 ordered at
 
   pid-entry : (pid : List ℕ) (n : ℕ) → position (has_pid pid) places ≡ Some n → pid_at places n ≡ pid
-  pid-entry pid n is =
-      let found = position-holds (has_pid pid) places n is in
-      ap (λ o. option_map_or (λ (place : PidPlace). place.pid.items) o []) found.1 ∙ sym ((bytes_eq-Decides pid found.0.pid.items).0 found.2)
+  pid-entry pid n is = grind (arith, position-holds, bytes_eq-Decides)
 
   pub AreRanked-values : AreRanked places (values numbers)
   AreRanked-values = record {

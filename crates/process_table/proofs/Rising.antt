@@ -2,15 +2,15 @@
 use Rattle.std.proofs.Common.{◌≡◌, ℕ, ◌+◌, ◌-◌, ◌<◌, inl, inr, Bool, true, false, ltb, List, [], ◌∷◌, ◌++◌, length, get_or, slice_get, Option, None, Some, refl, sym, ◌∙◌, ap, subst, arith, length-append}
 use Rattle.std.specs.Prelude.{position, Result, Ok, Err}
 use Rattle.std.specs.Cmp.{IsTotalOrder}
-use Rattle.std.specs.Cmp.Lexicographic.{slice_cmp, nat_list_cmp_total}
+use Rattle.std.specs.Cmp.Lexicographic.{nat_list_cmp_total}
 use Rattle.std.specs.List.{AllWithin}
 use Rattle.std.specs.Global.{Vec}
 use Rattle.std.specs.List.Sorted.{IsSortedBy, IsStrictlySortedBy, IsBinarySearchResult, IsSearchInRange}
 use Rattle.std.specs.Option.{option_map_or}
-use Rattle.std.specs.Ordering.{nat_cmp, is_lt, ordering_reverse, ordering_then}
+use Rattle.std.specs.Ordering.{is_lt, ordering_reverse}
 use Rattle.std.specs.declared.cmp.Ordering.{Ordering}
 use Rattle.std.specs.declared.cmp.Ordering.TheVariants.{Less, Equal, Greater}
-use Rattle.std.proofs.lemmas.Bool.{false≢true, ltb-true, ltb-false}
+use Rattle.std.proofs.lemmas.Bool.{ltb-true, ltb-false}
 use Rattle.std.proofs.lemmas.Cmp.{nat_cmp_total, on_total, then_total, tied_itself}
 use Rattle.std.proofs.lemmas.List.{get_or_append_left, get_or_push}
 use Rattle.std.proofs.lemmas.List.Sorted.{searchable_from_sorted}
@@ -20,7 +20,8 @@ use Rattle.std.proofs.lemmas.Slice.Eq.{bytes_eq-Decides}
 use Rattle.process_table.specs.declared.pids.PidOrder.TheVariants.{Rising}
 use Rattle.process_table.specs.declared.pids.PidPlace.{PidPlace}
 use Rattle.process_table.specs.Inner.Finding.{has_pid, is_behind, named_places, rising_cmp, AreFoundRising, AreOrdered, AreOwn, AreRising}
-use Rattle.process_table.proofs.Ranking.{same-text, position-holds, position-push-there}
+use Rattle.process_table.proofs.Positions.{position-holds, position-push-there}
+use Rattle.process_table.proofs.Ranking.{same-text}
 use Rattle.dump_io.specs.Laws.Lists.{position-at, position-none}
 
 -- how two places compare by their pids
@@ -35,23 +36,14 @@ place_total : IsTotalOrder (λ (a : PidPlace) (b : PidPlace). rising_cmp a.pid.i
 place_total = on_total (λ (place : PidPlace). place.pid.items) rising_total
 
 Equal-same : (xs ys : List ℕ) → rising_cmp xs ys ≡ Equal → xs ≡ ys
-Equal-same xs ys e = by (nat_cmp (length xs) (length ys)) refl
-  where
-    by : (o : Ordering) → nat_cmp (length xs) (length ys) ≡ o → xs ≡ ys
-    by Less f = let wrong : Less ≡ Equal = sym (ap (λ o. ordering_then o (slice_cmp nat_cmp xs ys)) f) ∙ e in cc
-    by Equal f = same-text xs ys (sym (ap (λ o. ordering_then o (slice_cmp nat_cmp xs ys)) f) ∙ e)
-    by Greater f = let wrong : Greater ≡ Equal = sym (ap (λ o. ordering_then o (slice_cmp nat_cmp xs ys)) f) ∙ e in cc
+Equal-same xs ys e = grind (arith, same-text)
 
 same-Equal : (xs ys : List ℕ) → xs ≡ ys → rising_cmp xs ys ≡ Equal
 same-Equal xs ys same = ap (rising_cmp xs) (sym same) ∙ tied_itself rising_total xs
 
 -- pids that don't compare as equal differ
 other-differs : (pid : List ℕ) (place : PidPlace) → (rising_cmp place.pid.items pid ≡ Equal → ⊥) → has_pid pid place ≡ false
-other-differs pid place unequal = by (has_pid pid place) refl
-  where
-    by : (b : Bool) → has_pid pid place ≡ b → b ≡ false
-    by false e = refl
-    by true e = absurd (unequal (same-Equal place.pid.items pid (sym ((bytes_eq-Decides pid place.pid.items).0 e))))
+other-differs pid place unequal = grind (arith, same-Equal, bytes_eq-Decides)
 
 Less-differs : (pid : List ℕ) (place : PidPlace) → rising_cmp place.pid.items pid ≡ Less → has_pid pid place ≡ false
 Less-differs pid place less = other-differs pid place (λ equal. let clash : Less ≡ Equal = sym less ∙ equal in cc)
@@ -75,9 +67,7 @@ pub AreOrdered-rising : (places : List PidPlace) → AreRising places → AreOrd
 AreOrdered-rising places rising = record { own = AreOwn-rising places rising; kept = rising }
 
 lt-Less : (o : Ordering) → is_lt o ≡ true → o ≡ Less
-lt-Less Less e = refl
-lt-Less Equal e = absurd (false≢true e)
-lt-Less Greater e = absurd (false≢true e)
+lt-Less o e = grind arith
 
 -- a pid behind the last one comes behind all
 pub AreRising-push : (places : List PidPlace) (place : PidPlace) → AreRising places → is_behind places place.pid.items ≡ true → AreRising (places ++ place ∷ [])

@@ -56,7 +56,7 @@ pair_cases l Q case = of (front l.text)
     of None = tt
     of (Some found) = next found.0 found.1 (starts_with nat_eq (drop found.1 l.text) (codes ":"))
 
-mail_cases : (l : TextLine) (Q : List BodyRoot → Type 0)
+pub mail_cases : (l : TextLine) (Q : List BodyRoot → Type 0)
     → ((e : Element) → has_colon l.text ≡ true → whole_of (after_last is_colon l.text) ≡ Some e
     → Q (message l.at (Dist (before_last is_colon l.text)) ∷ token (l.at + length (before_last is_colon l.text) + 1) e ∷ []))
     → ((e d : Element) (n : ℕ) → whole_of (drop 1 (drop n l.text)) ≡ Some d → Q (message l.at (Term e) ∷ token (l.at + n + 1) d ∷ []))

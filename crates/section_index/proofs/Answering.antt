@@ -1,15 +1,14 @@
 -- What the answer tells of the bytes of a dump.
-use Rattle.std.proofs.Common.{◌≡◌, ℕ, ◌-◌, ◌≤◌, true, List, [], ◌∷◌, ◌++◌, length, take, drop, min, Option, None, Some, Ok, Err, Result, refl, sym, ◌∙◌, ap, subst, arith, if◌then◌else◌, ◌⊎◌, ⊎_elim, inl, inr}
+use Rattle.std.proofs.lemmas.Grind.{common_steps}
+use Rattle.std.proofs.Common.{◌≡◌, ℕ, ◌-◌, ◌≤◌, true, List, [], ◌++◌, length, take, drop, min, Option, None, Ok, Err, Result, refl, sym, ◌∙◌, ap, subst, arith, ◌⊎◌, ⊎_elim}
 use Rattle.std.specs.List.{starts_with}
-use Rattle.std.specs.Option.{option_or}
 use Rattle.std.specs.Prelude.{nat_eq, IfErr, IsErrOf}
-use Rattle.std.proofs.lemmas.Bool.{le-ltb}
 use Rattle.std.proofs.lemmas.List.{take_all, length-drop, append-nil, length-take-le}
 use Rattle.dump_io.specs.Limits.{Numbers}
 use Rattle.dump_io.specs.Lines.{Header, headers}
-use Rattle.dump_io.specs.Dumps.{Files, Now, closed, told, sized, size_of, IsOpen, IsNamed, IsAbsent, Gives}
+use Rattle.dump_io.specs.Dumps.{Files, Now, told, size_of, IsOpen, IsNamed, IsAbsent, Gives}
 use Rattle.section_index.specs.declared.opening.OpenFault.{OpenFault}
-use Rattle.section_index.specs.declared.opening.OpenFault.TheVariants.{Compressed, NotADump, Version as UnknownVersion, TooLarge, HeaderTooLong, TooManySections, HeadersTooLarge, Read, Memory}
+use Rattle.section_index.specs.declared.opening.OpenFault.TheVariants.{Read}
 use Rattle.dump_sections.specs.declared.version.Version.{Version}
 use Rattle.dump_sections.specs.Versions.{signature}
 use Rattle.section_index.specs.Opening.{header_fault, opening}
@@ -24,47 +23,22 @@ use Rattle.section_index.proofs.Grown.{Gives-whole}
 
 -- the first piece is all, or long
 pub first-piece : (all first : List ℕ) (size : ℕ) → length first ≡ min 16384 (size - 0) → length all ≡ size → IsAllOrLong first (drop (length first) all)
-first-piece all first size count whole short =
-    empty (drop (length first) all) (omega (arith, length-drop (length first) all, count, whole, short))
-  where
-    empty : (bytes : List ℕ) → length bytes ≡ 0 → bytes ≡ []
-    empty [] none = refl
-    empty (b ∷ bytes) none = absurd (omega (arith, none))
+first-piece all first size count whole short = grind (arith, common_steps, length-drop)
 
 opening-small : (bytes : List ℕ) (limits : Numbers) → length bytes ≤ limits.dump → opening bytes limits ≡ fault_of bytes limits
-opening-small bytes limits small =
-    ap (λ q. option_or (if q then Some (TooLarge (length bytes)) else None) (fault_of bytes limits)) (le-ltb limits.dump (length bytes) small)
+opening-small bytes limits small = grind arith
 
 pub answer-judged : (bytes : List ℕ) (limits : Numbers) (fault : OpenFault) → length bytes ≤ limits.dump → IsJudged limits bytes (Err fault) → IsAnswerFor bytes limits (Err fault)
-answer-judged bytes limits Read small is = tt
-answer-judged bytes limits Memory small is = tt
-answer-judged bytes limits Compressed small is = opening-small bytes limits small ∙ is
-answer-judged bytes limits NotADump small is = opening-small bytes limits small ∙ is
-answer-judged bytes limits (UnknownVersion text) small is = opening-small bytes limits small ∙ is
-answer-judged bytes limits (TooLarge size) small is = opening-small bytes limits small ∙ is
-answer-judged bytes limits (HeaderTooLong at) small is = opening-small bytes limits small ∙ is
-answer-judged bytes limits (TooManySections at) small is = opening-small bytes limits small ∙ is
-answer-judged bytes limits (HeadersTooLarge at) small is = opening-small bytes limits small ∙ is
+answer-judged bytes limits fault small is = grind (arith, opening-small)
 
 pub answer-header : (bytes : List ℕ) (limits : Numbers) (version : Version) (fault : OpenFault) → length bytes ≤ limits.dump → BeginsAs limits bytes version
     → IsHeaderFault limits bytes fault → IsAnswerFor bytes limits (Err fault)
-answer-header bytes limits version Read small accepted is = tt
-answer-header bytes limits version Memory small accepted is = tt
-answer-header bytes limits version Compressed small accepted is = opening-small bytes limits small ∙ accepted.fault ∙ is
-answer-header bytes limits version NotADump small accepted is = opening-small bytes limits small ∙ accepted.fault ∙ is
-answer-header bytes limits version (UnknownVersion text) small accepted is = opening-small bytes limits small ∙ accepted.fault ∙ is
-answer-header bytes limits version (TooLarge size) small accepted is = opening-small bytes limits small ∙ accepted.fault ∙ is
-answer-header bytes limits version (HeaderTooLong at) small accepted is = opening-small bytes limits small ∙ accepted.fault ∙ is
-answer-header bytes limits version (TooManySections at) small accepted is = opening-small bytes limits small ∙ accepted.fault ∙ is
-answer-header bytes limits version (HeadersTooLarge at) small accepted is = opening-small bytes limits small ∙ accepted.fault ∙ is
+answer-header bytes limits version fault small accepted is = grind (arith, opening-small)
 
 pub answer-index : (bytes : List ℕ) (limits : Numbers) (version : Version) (heard : List Header) (size : ℕ) → length bytes ≡ size → length bytes ≤ limits.dump
     → BeginsAs limits bytes version → heard ≡ headers bytes → header_fault bytes limits ≡ None
     → IsAnswerFor bytes limits (Ok (record { headers = heard; size = size; version = version }))
-answer-index bytes limits version heard size whole small accepted all none = (
-  opening-small bytes limits small ∙ accepted.fault ∙ none,
-  record { headers = all; size = sym whole; version = accepted.version },
-)
+answer-index bytes limits version heard size whole small accepted all none = grind (arith, opening-small)
 
 -- what was read of a file is all of it
 pub Gives-all : (bytes all : List ℕ) → length bytes ≡ length all → Gives (told all) 0 bytes → bytes ≡ all
@@ -72,9 +46,7 @@ Gives-all bytes all size first = first ∙ take_all (length bytes) all (omega (a
 
 pub built-over : (now : Now) (index : Contents) (size : ℕ) → IsOpen now → size_of now ≡ size → index.size ≡ size
     → ((bytes : List ℕ) → now ≡ told bytes → IsIndexOf bytes index) → IsBuiltOver now index
-built-over closed index size open' whole same told' = open'
-built-over (told bytes) index size open' whole same told' = told' bytes refl
-built-over (sized n) index size open' whole same told' = same ∙ sym whole
+built-over now index size open' whole same told' = grind arith
 
 -- the first piece of a file whose bytes are told
 pub record IsFirstPiece (all first : List ℕ) (size : ℕ) : Type 0 where
@@ -111,15 +83,7 @@ signed-first first limits version judged = subst (λ b. starts_with nat_eq b sig
 
 -- a refusal by the bytes isn't that the dump is too large
 pub small-by-bytes : (fault : OpenFault) → IsOfTheBeginning fault → IsNotTooLarge fault
-small-by-bytes Compressed of = tt
-small-by-bytes NotADump of = tt
-small-by-bytes (UnknownVersion text) of = tt
-small-by-bytes (TooLarge size) of = of
-small-by-bytes (HeaderTooLong at) of = tt
-small-by-bytes (TooManySections at) of = tt
-small-by-bytes (HeadersTooLarge at) of = tt
-small-by-bytes Read of = tt
-small-by-bytes Memory of = tt
+small-by-bytes fault of = grind arith
 
 -- nor is it that reading failed
 pub beginning-isnt-read : {A : Type 0} (fault : OpenFault) → IsOfTheBeginning fault → IsErrOf {T = A} (Err fault) Read → ⊥
@@ -127,15 +91,7 @@ beginning-isnt-read fault of is = let same : fault ≡ Read = cc in subst IsOfTh
 
 -- a header's refusal is neither of the two
 pub small-by-header : (fault : OpenFault) → IsOfAHeader fault → IsNotTooLarge fault
-small-by-header Compressed of = tt
-small-by-header NotADump of = tt
-small-by-header (UnknownVersion text) of = tt
-small-by-header (TooLarge size) of = of
-small-by-header (HeaderTooLong at) of = tt
-small-by-header (TooManySections at) of = tt
-small-by-header (HeadersTooLarge at) of = tt
-small-by-header Read of = tt
-small-by-header Memory of = tt
+small-by-header fault of = grind arith
 
 pub header-isnt-read : {A : Type 0} (fault : OpenFault) → IsOfAHeader fault → IsErrOf {T = A} (Err fault) Read → ⊥
 header-isnt-read fault of is = let same : fault ≡ Read = cc in subst IsOfAHeader same of
@@ -161,37 +117,17 @@ answer-rest bytes limits bounds version now fault small accepted same is why =
     (λ refused. answer-header bytes limits version fault small accepted (subst (λ l. IsHeaderFault l bytes fault) (sym same) (refused.refusal bytes is)))
     why
 
-pub too_large-of-small : (now : Now) (limits : Numbers) (fault : OpenFault) → IsNotTooLarge fault → IsTooLargeFor now limits fault
-too_large-of-small now limits Compressed small = tt
-too_large-of-small now limits NotADump small = tt
-too_large-of-small now limits (UnknownVersion text) small = tt
-too_large-of-small now limits (TooLarge size) small = absurd small
-too_large-of-small now limits (HeaderTooLong at) small = tt
-too_large-of-small now limits (TooManySections at) small = tt
-too_large-of-small now limits (HeadersTooLarge at) small = tt
-too_large-of-small now limits Read small = tt
-too_large-of-small now limits Memory small = tt
-
 pub none-too_large : (now : Now) (limits : Numbers) (answer : Result Contents OpenFault) → IfErr answer IsNotTooLarge → IfErr answer (IsTooLargeFor now limits)
-none-too_large now limits (Ok index) small = small
-none-too_large now limits (Err fault) small = too_large-of-small now limits fault small
+none-too_large now limits answer small = grind arith
 
 -- the open file, where its bytes are told by its name or as what is open
 pub told-file : (files : Option Files) (name : List ℕ) (now : Now) (bytes : List ℕ) → IsNamed files name now → IsHeld files name bytes ⊎ (now ≡ told bytes) → now ≡ told bytes
-told-file files name now bytes named (inr is) = is
-told-file None name now bytes named (inl held) = absurd held
-told-file (Some files) name now bytes named (inl held) =
-    let found : Some named.0 ≡ Some bytes = sym named.1 ∙ held in
-    let one : named.0 ≡ bytes = cc in
-    named.2 ∙ ap told one
+told-file files name now bytes named h5 = grind arith
 
 -- the file that was opened by its name is the one that is open
 pub IsClosedOrNamed-named : (files : Option Files) (name : List ℕ) (now : Now) → IsNamed files name now → IsClosedOrNamed files name now
-IsClosedOrNamed-named files name closed named = tt
-IsClosedOrNamed-named files name (told bytes) named = named
-IsClosedOrNamed-named files name (sized size) named = named
+IsClosedOrNamed-named files name now named = grind arith
 
 -- a file that was opened is there
 pub present-named : (files : Option Files) (name : List ℕ) (now : Now) → IsNamed files name now → IsAbsent files name → ⊥
-present-named None name now named gone = gone
-present-named (Some files) name now named gone = let never : ⊥ = cc (named.1, gone) in never
+present-named files name now named gone = grind arith

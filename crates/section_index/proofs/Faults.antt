@@ -1,11 +1,10 @@
 -- A fault of the scan on the first bytes of a dump is the refused of the whole dump.
-use Rattle.std.proofs.Common.{◌≡◌, ℕ, ◌+◌, ◌<◌, ◌≤◌, List, [], ◌∷◌, ◌++◌, length, Option, None, Some, refl, sym, ◌∙◌, ap, subst, append_assoc}
+use Rattle.std.proofs.Common.{arith, ◌≡◌, ℕ, ◌<◌, ◌≤◌, List, [], ◌∷◌, ◌++◌, length, Option, None, Some, refl, sym, ◌∙◌, ap, subst, append_assoc}
 use Rattle.std.specs.Prelude.{All, slice_get}
 use Rattle.std.proofs.lemmas.List.Elements.{All-nil, All-head, All-append, All-same}
 use Rattle.dump_io.specs.Limits.{Numbers}
 use Rattle.dump_io.specs.Lines.{Header, headers}
 use Rattle.line_source.specs.declared.header_sink.HeaderStop.{HeaderStop}
-use Rattle.line_source.specs.declared.header_sink.HeaderStop.TheVariants.{TooMany, PoolFull, Memory as NoMemory}
 use Rattle.line_source.specs.declared.scan_fault.ScanFault.{ScanFault}
 use Rattle.line_source.specs.declared.scan_fault.ScanFault.TheVariants.{HeaderTooLong as LineTooLong, Stop}
 use Rattle.line_source.specs.declared.header_sink.RefusedHeader.{RefusedHeader}
@@ -13,7 +12,7 @@ use Rattle.line_source.specs.Streams.{ended_headers, open_headers, new_headers, 
 use Rattle.line_source.specs.Feeding.{first_too_long, IsStop, StopsAmong}
 use Rattle.line_source.specs.Receiver.{stop_value}
 use Rattle.line_source.specs.Growth.{TooLongGrows}
-use Rattle.section_index.specs.declared.opening.OpenFault.TheVariants.{HeaderTooLong, TooManySections, HeadersTooLarge}
+use Rattle.section_index.specs.declared.opening.OpenFault.TheVariants.{HeaderTooLong}
 use Rattle.section_index.specs.Opening.{text_bytes, header_fault}
 use Rattle.section_index.specs.Inner.Receiver.{Hearing, IsStopCause, HasItsCause, KeepsTo}
 use Rattle.section_index.specs.Inner.Scanning.{stop_fault, open_fault_of, IsHeaderFault}
@@ -33,9 +32,7 @@ abbrev later : List ℕ → List ℕ → List Header
 later stream more = new_headers stream more ++ open_headers (stream ++ more)
 
 all-later : (grows : Grows) (stream more : List ℕ) → headers (stream ++ more) ≡ ended_headers stream ++ later stream more
-all-later grows stream more =
-    grows.split (stream ++ more) ∙ ap (λ hs. hs ++ open_headers (stream ++ more)) (grows.ended stream more)
-    ∙ append_assoc (ended_headers stream) (new_headers stream more) (open_headers (stream ++ more))
+all-later grows stream more = grind (arith, append_assoc)
 
 first-front : {X : Type 0} (xs ys : List X) (x : X) → slice_get xs 0 ≡ Some x → slice_get (xs ++ ys) 0 ≡ Some x
 first-front [] ys x is = cc
@@ -45,12 +42,7 @@ first-front (y ∷ xs) ys x is = is
 refused-here : (limits : Numbers) (bytes : List ℕ) (front more : List Header) (next : Header) (value : HeaderStop) (at size : ℕ) → headers bytes ≡ front ++ next ∷ more
     → text_bytes front ≤ limits.pool → IsStopCause limits front value at size → at ≡ next.at → size ≡ length next.text
     → All (λ long. next.at < long) (too_long limits.header bytes) → IsHeaderFault limits bytes (stop_fault value)
-refused-here limits bytes front more next (TooMany place) at size all room cause same long_as longs =
-    fault-surplus bytes limits front more next all cause.1 room longs ∙ ap (λ k. Some (TooManySections k)) (sym same ∙ sym cause.0)
-refused-here limits bytes front more next (PoolFull place) at size all room cause same long_as longs =
-    fault-large bytes limits front more next all cause.1 room (subst (λ n. limits.pool < text_bytes front + n) long_as cause.2) longs
-    ∙ ap (λ k. Some (HeadersTooLarge k)) (sym same ∙ sym cause.0)
-refused-here limits bytes front more next NoMemory at size all room cause same long_as longs = tt
+refused-here limits bytes front more next value at size all room cause same long_as longs = grind (arith, fault-surplus, fault-large)
 
 -- the receiver's refused has its cause
 stated : (limits : Numbers) (hearing : Hearing) (refused : RefusedHeader) → KeepsTo limits hearing → hearing.stop ≡ Some refused
@@ -72,8 +64,7 @@ long-case limits bytes piece more before after at grows heard keeps first grown 
     let front = old ++ headers_before at new in
     let same : after.heard ≡ front = grown ∙ ap (λ hs. hs ++ headers_before at new) heard in
     let whole : headers all ≡ front ++ (headers_from at new ++ rest) =
-    parts ∙ ap (λ hs. (old ++ hs) ++ rest) cut ∙ ap (λ hs. hs ++ rest) (sym (append_assoc old (headers_before at new) (headers_from at new)))
-    ∙ append_assoc front (headers_from at new) rest in
+    cc (append_assoc old (headers_before at new) (headers_from at new), append_assoc front (headers_from at new) rest) in
     let more_longs = grows.longs limits.header stream more in
     fault-long all limits at front (headers_from at new ++ rest) whole
     (subst (λ (hs : List Header). length hs ≤ limits.sections) same keeps.sections)
@@ -113,8 +104,7 @@ stop-case limits bytes piece more before after refused grows heard keeps stop am
 
 -- a refused that has a value is there
 refused-some : (stop : Option RefusedHeader) (value : HeaderStop) → stop_value stop ≡ Some value → (refused : RefusedHeader) × (stop ≡ Some refused) × (refused.value ≡ value)
-refused-some None value is = cc
-refused-some (Some refused) value is = (refused, refl, cc)
+refused-some stop value is = grind arith
 
 pub feed-refused : (limits : Numbers) (bytes piece more : List ℕ) (before after : Hearing) (fault : ScanFault) → Grows → before.heard ≡ ended_headers bytes → KeepsTo limits after
     → ((at : ℕ) → fault ≡ LineTooLong at → first_too_long limits.header (bytes ++ piece) ≡ Some at)
@@ -134,17 +124,7 @@ feed-refused limits bytes piece more before after (Stop value) grows heard keeps
 stop-last : (limits : Numbers) (bytes : List ℕ) (before after : Hearing) (refused : RefusedHeader) → Grows → before.heard ≡ ended_headers bytes → KeepsTo limits after
     → after.stop ≡ Some refused → StopsAmong before.heard after.heard refused (open_headers bytes) → too_long limits.header bytes ≡ []
     → IsHeaderFault limits bytes (stop_fault refused.value)
-stop-last limits bytes before after refused grows heard keeps stop among short =
-    let old = ended_headers bytes in
-    let next = among.next in
-    let front = old ++ among.heard in
-    let same : after.heard ≡ front = among.grown ∙ ap (λ hs. hs ++ among.heard) heard in
-    let whole : headers bytes ≡ front ++ next ∷ among.more =
-    grows.split bytes ∙ ap (λ hs. old ++ hs) among.parts ∙ sym (append_assoc old among.heard (next ∷ among.more)) in
-    refused-here limits bytes front among.more next refused.value refused.at refused.size whole
-    (subst (λ hs. text_bytes hs ≤ limits.pool) same keeps.pool)
-    (subst (λ hs. IsStopCause limits hs refused.value refused.at refused.size) same (stated limits after refused keeps stop))
-    among.at among.size (All-same (λ at. next.at < at) (too_long limits.header bytes) [] short (All-nil (λ at. next.at < at)))
+stop-last limits bytes before after refused grows heard keeps stop among short = grind (arith, append_assoc, refused-here, stated, All-same, All-nil)
 
 pub finish-refused : (limits : Numbers) (bytes : List ℕ) (before after : Hearing) (fault : ScanFault) → Grows → before.heard ≡ ended_headers bytes → KeepsTo limits after
     → IsStop fault
@@ -160,8 +140,4 @@ finish-refused limits bytes before after (Stop value) grows heard keeps only sto
 pub finish-heard : (limits : Numbers) (bytes : List ℕ) (before after : Hearing) → Grows → before.heard ≡ ended_headers bytes → KeepsTo limits after
     → after.heard ≡ before.heard ++ open_headers bytes → too_long limits.header bytes ≡ []
     → (after.heard ≡ headers bytes) × (header_fault bytes limits ≡ None)
-finish-heard limits bytes before after grows heard keeps grown short =
-    let all : after.heard ≡ headers bytes = grown ∙ ap (λ hs. hs ++ open_headers bytes) heard ∙ sym (grows.split bytes) in (
-      all,
-      fault-none bytes limits (subst (λ (hs : List Header). length hs ≤ limits.sections) all keeps.sections) (subst (λ hs. text_bytes hs ≤ limits.pool) all keeps.pool) short,
-    )
+finish-heard limits bytes before after grows heard keeps grown short = grind (arith, fault-none)

@@ -1,14 +1,15 @@
 -- The first line, by the first LF.
-use Rattle.std.proofs.Common.{◌≡◌, ℕ, suc, ◌+◌, ◌-◌, ◌<◌, ◌≤◌, Bool, true, false, not, ◌&&◌, cond, ltb, List, [], ◌∷◌, ◌++◌, length, take, drop, get_or, Option, MatchOption, None, Some, refl, sym, ◌∙◌, ap, append_assoc, append-nil, length-append, arith, if◌then◌else◌, ◌==◌, nat_eq}
+use Rattle.std.proofs.lemmas.Grind.{common_steps}
+use Rattle.std.proofs.Common.{◌≡◌, ℕ, suc, ◌+◌, ◌-◌, ◌<◌, ◌≤◌, Bool, true, false, not, cond, ltb, List, [], ◌∷◌, ◌++◌, length, take, drop, get_or, Option, MatchOption, None, Some, refl, sym, ◌∙◌, ap, append_assoc, append-nil, length-append, arith, if◌then◌else◌, ◌==◌, nat_eq}
 use Rattle.std.specs.List.{list_all, ends_with, position, position_or_len}
 use Rattle.std.specs.Cmp.Lexicographic.{pointwise}
 use Rattle.std.proofs.lemmas.Bool.{cond-true, cond-false, and_parts, not-true, false≢true, false_from_ne_true, ltb-true, ltb-false, eqb-true}
 use Rattle.std.proofs.lemmas.List.{drop_at, length_push, drop-drop, take_all, take-append-drop, drop_more, length-take-le}
 use Rattle.std.proofs.lemmas.List.Sums.{passes_at_first}
 use Rattle.std.proofs.lemmas.List.{length-drop}
-use Rattle.dump_io.specs.Lines.{lf, cr, raw_lines, lines_after, text_of}
+use Rattle.dump_io.specs.Lines.{lf, cr, text_of}
 use Rattle.line_source.specs.Streams.{has_lf, length_before_lf}
-use Rattle.dump_sections.specs.Versions.{first_in, first_line}
+use Rattle.dump_sections.specs.Versions.{first_line}
 use Rattle.section_index.specs.Inner.Beginning.{is_lf}
 
 -- bytes without an LF
@@ -22,10 +23,7 @@ IsFirstLf bytes place =
     (λ k. (k < length bytes) × (lacks_lf (take k bytes) ≡ true) × (bytes ≡ take k bytes ++ lf ∷ drop (k + 1) bytes))
 
 lacks-if : (q : Bool) (c : ℕ) (bytes : List ℕ) (n : ℕ) → not (c == lf) ≡ q → lacks_lf (take n bytes) ≡ true → lacks_lf (take (cond q (1 + n) 0) (c ∷ bytes)) ≡ true
-lacks-if true c bytes n e rest =
-    let more : 1 + n ≡ suc n = omega arith in
-    ap (λ k. lacks_lf (take k (c ∷ bytes))) more ∙ ap (λ q. q && lacks_lf (take n bytes)) e ∙ rest
-lacks-if false c bytes n e rest = refl
+lacks-if q c bytes n e rest = grind arith
 
 lacks-front : (bytes : List ℕ) → lacks_lf (take (position_or_len is_lf bytes) bytes) ≡ true
 lacks-front [] = refl
@@ -53,16 +51,9 @@ lacks-head c bytes e = not-true (c == lf) (and_parts _ _ e).0
 lacks-tail : (c : ℕ) (bytes : List ℕ) → lacks_lf (c ∷ bytes) ≡ true → lacks_lf bytes ≡ true
 lacks-tail c bytes e = (and_parts _ _ e).1
 
--- the first line begins with the bytes before the first LF
-first_in-after : (c : ℕ) (ls : List (List ℕ)) → first_in (lines_after c ls) ≡ c ∷ first_in ls
-first_in-after c [] = refl
-first_in-after c (l ∷ ls) = refl
-
 pub first_line-behind : (line more : List ℕ) → lacks_lf line ≡ true → first_line (line ++ more) ≡ line ++ first_line more
 first_line-behind [] more lacks = refl
-first_line-behind (c ∷ line) more lacks =
-    ap first_in (cond-false (c == lf) _ _ (lacks-head c line lacks)) ∙ first_in-after c (raw_lines (line ++ more))
-    ∙ ap (λ r. c ∷ r) (first_line-behind line more (lacks-tail c line lacks))
+first_line-behind (c ∷ line) more lacks = grind (arith, first_line-behind line more (lacks-tail c line lacks))
 
 last-if : (c : ℕ) → (c == lf) ≡ false → pointwise nat_eq (lf ∷ []) (c ∷ []) ≡ false
 last-if c e = grind arith
@@ -75,41 +66,28 @@ has_lf-open (c ∷ d ∷ line) lacks =
     ap (λ n. pointwise nat_eq (lf ∷ []) (drop n (c ∷ d ∷ line))) e ∙ has_lf-open (d ∷ line) (lacks-tail c (d ∷ line) lacks)
 
 has_lf-ended : (line : List ℕ) → has_lf (line ++ lf ∷ []) ≡ true
-has_lf-ended line =
-    ap (pointwise nat_eq (lf ∷ [])) (drop_at line (lf ∷ []) (length (line ++ lf ∷ []) - 1) (omega (arith, length_push line lf)))
+has_lf-ended line = grind (arith, drop_at, length_push)
 
 -- a line that ends with CR and LF ends with LF
 two-end : (bytes : List ℕ) → pointwise nat_eq (cr ∷ lf ∷ []) bytes ≡ true → (pointwise nat_eq (lf ∷ []) (drop 1 bytes) ≡ true) × (length bytes ≡ 2)
-two-end [] is = absurd (false≢true is)
-two-end (x ∷ []) is = absurd (false≢true (and_parts _ _ is).1)
-two-end (x ∷ y ∷ []) is = ((and_parts _ _ is).1, refl)
-two-end (x ∷ y ∷ z ∷ zs) is = absurd (false≢true (and_parts _ _ (and_parts _ _ is).1).1)
+two-end bytes is = grind arith
 
 has_lf-cr : (raw : List ℕ) → ends_with nat_eq raw (cr ∷ lf ∷ []) ≡ true → has_lf raw ≡ true
 has_lf-cr raw is =
     let two = two-end (drop (length raw - 2) raw) is in
     let place : length raw - 2 + 1 ≡ length raw - 1 = omega (arith, two.1, length-drop (length raw - 2) raw) in
-    ap (λ n. pointwise nat_eq (lf ∷ []) (drop n raw)) (sym place)
-    ∙ ap (pointwise nat_eq (lf ∷ [])) (sym (drop-drop 1 (length raw - 2) raw)) ∙ two.0
+    cc (drop-drop 1 (length raw - 2) raw, two.0)
 
 text_of-open : (raw : List ℕ) → has_lf raw ≡ false → text_of raw ≡ raw
-text_of-open raw e =
-    let other : ends_with nat_eq raw (cr ∷ lf ∷ []) ≡ false =
-    false_from_ne_true (ends_with nat_eq raw (cr ∷ lf ∷ [])) (λ is. false≢true (sym e ∙ has_lf-cr raw is)) in
-    cond-false (ends_with nat_eq raw (cr ∷ lf ∷ [])) _ _ other ∙ cond-false (has_lf raw) _ _ e
+text_of-open raw e = grind (arith, false_from_ne_true, false≢true, has_lf-cr, cond-false)
 
 -- a first line with its LF
 pub first_line-ended : (bytes more : List ℕ) (end : ℕ) → bytes ≡ take end bytes ++ lf ∷ drop (end + 1) bytes → lacks_lf (take end bytes) ≡ true
     → first_line (bytes ++ more) ≡ take end bytes ++ lf ∷ []
-first_line-ended bytes more end parts lacks =
-    let line = take end bytes in
-    let rest = drop (end + 1) bytes in
-    let whole : bytes ++ more ≡ line ++ lf ∷ (rest ++ more) = ap (λ b. b ++ more) parts ∙ append_assoc line (lf ∷ rest) more in
-    ap first_line whole ∙ first_line-behind line (lf ∷ (rest ++ more)) lacks
+first_line-ended bytes more end parts lacks = grind (arith, append_assoc, first_line-behind)
 
 pub before-ended : (line : List ℕ) → length_before_lf (line ++ lf ∷ []) ≡ length line
-before-ended line =
-    cond-true (has_lf (line ++ lf ∷ [])) _ _ (has_lf-ended line) ∙ (let e : length (line ++ lf ∷ []) - 1 ≡ length line = omega (arith, length_push line lf) in e)
+before-ended line = grind (arith, cond-true, has_lf-ended, length_push)
 
 -- a first line without LF is all
 pub first_line-open : (bytes : List ℕ) → lacks_lf bytes ≡ true → first_line (bytes ++ []) ≡ bytes
@@ -122,26 +100,15 @@ pub text-open : (line : List ℕ) → lacks_lf line ≡ true → text_of line �
 text-open line lacks = text_of-open line (has_lf-open line lacks)
 
 before-if : (q : Bool) (m n : ℕ) → m + 1 ≤ n → m ≤ (if q then n - 1 else n)
-before-if true m n le = omega (arith, le)
-before-if false m n le = omega (arith, le)
+before-if q m n le = grind arith
 
 -- a first line that begins with these bytes has no fewer before its LF
 pub before-behind : (line more : List ℕ) → lacks_lf line ≡ true → length line ≤ length_before_lf (line ++ more)
-before-behind line [] lacks =
-    let same : length_before_lf (line ++ []) ≡ length line = ap length_before_lf (append-nil line) ∙ before-open line lacks in
-    omega (arith, same)
-before-behind line (c ∷ more) lacks =
-    before-if (has_lf (line ++ c ∷ more)) (length line) (length (line ++ c ∷ more)) (omega (arith, length-append line (c ∷ more)))
+before-behind line more lacks = grind (arith, common_steps, append-nil, before-open, before-if, length-append)
 
 -- a first line that is longer than a limit
 pub long-ended : (bytes more : List ℕ) (end limit : ℕ) → IsFirstLf bytes (Some end) → limit < end → limit < length_before_lf (first_line (bytes ++ more))
-long-ended bytes more end limit found over =
-    let line : first_line (bytes ++ more) ≡ take end bytes ++ lf ∷ [] = first_line-ended bytes more end found.2 found.1 in
-    let size : length (take end bytes) ≡ end = length-take-le end bytes (omega (arith, found.0)) in
-    let before : length_before_lf (first_line (bytes ++ more)) ≡ length (take end bytes) = ap length_before_lf line ∙ before-ended (take end bytes) in
-    omega (arith, before, size, over)
+long-ended bytes more end limit found over = grind (arith, common_steps, first_line-ended, length-take-le, before-ended)
 
 pub long-open : (bytes more : List ℕ) (limit : ℕ) → IsFirstLf bytes None → limit < length bytes → limit < length_before_lf (first_line (bytes ++ more))
-long-open bytes more limit lacks over =
-    let line : length_before_lf (first_line (bytes ++ more)) ≡ length_before_lf (bytes ++ first_line more) = ap length_before_lf (first_line-behind bytes more lacks) in
-    omega (arith, line, over, before-behind bytes (first_line more) lacks)
+long-open bytes more limit lacks over = grind (arith, first_line-behind, before-behind)

@@ -1,5 +1,5 @@
 -- The bytes of what is open that were read, piece by piece.
-use Rattle.std.proofs.Common.{◌≡◌, ℕ, ◌+◌, true, List, [], ◌∷◌, ◌++◌, length, take, drop, refl, sym, ◌∙◌, ap, subst, arith}
+use Rattle.std.proofs.Common.{◌≡◌, ℕ, true, List, [], ◌∷◌, ◌++◌, length, take, drop, refl, sym, ◌∙◌, ap, subst, arith}
 use Rattle.std.specs.List.{starts_with}
 use Rattle.std.specs.Prelude.{nat_eq}
 use Rattle.std.specs.Cmp.Lexicographic.{pointwise}
@@ -14,9 +14,7 @@ use Rattle.section_index.specs.Inner.Reading.{IsHeaderRefusal}
 
 -- the first bytes, and the next
 pub Gives-next : (now : Now) (bytes piece : List ℕ) (at : ℕ) → at ≡ length bytes → Gives now 0 bytes → Gives now at piece → Gives now 0 (bytes ++ piece)
-Gives-next now bytes piece at place first second =
-    let behind : at ≡ 0 + length bytes = omega (arith, place) in
-    Gives-append now 0 bytes piece first (subst (λ n. Gives now n piece) behind second)
+Gives-next now bytes piece at place first second = grind (arith, Gives-append)
 
 -- the whole is its first bytes and the rest
 pub Gives-whole : (bytes all : List ℕ) → Gives (told all) 0 bytes → all ≡ bytes ++ drop (length bytes) all

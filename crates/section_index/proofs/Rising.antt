@@ -1,8 +1,8 @@
 -- The headers of a dump begin one behind another.
-use Rattle.std.proofs.Common.{◌≡◌, ℕ, ◌+◌, ◌<◌, ◌≤◌, Bool, true, false, not, cond, List, [], ◌∷◌, ◌++◌, length, map, refl, sym, ◌∙◌, ap, arith, nat_lt}
+use Rattle.std.proofs.Common.{◌≡◌, ℕ, ◌+◌, ◌<◌, ◌≤◌, Bool, true, false, not, cond, List, [], ◌∷◌, ◌++◌, length, map, refl, arith, nat_lt}
 use Rattle.std.specs.Prelude.{All, filter}
-use Rattle.std.proofs.lemmas.Bool.{cond-true, cond-false, le-ltb, ltb-false}
-use Rattle.std.proofs.lemmas.List.Elements.{All-nil, All-cons, All-head, All-tail, All-weaker}
+use Rattle.std.proofs.lemmas.Bool.{cond-true, cond-false, le-ltb, ltb-false, not-true}
+use Rattle.std.proofs.lemmas.List.Elements.{All-nil, All-cons, All-head, All-tail, All-weaker, filter_passes}
 use Rattle.dump_io.specs.Lines.{raw_lines, Line, lines_from, is_header, Header, header_of, headers}
 use Rattle.dump_io.specs.Laws.Lines.{AreLines-raw}
 use Rattle.line_source.specs.Streams.{headers_before}
@@ -16,27 +16,27 @@ headers_of n raws = map header_of (filter (λ line. is_header line.raw) (lines_f
 
 from-if : (q : Bool) (n : ℕ) (raw : List ℕ) (ls : List Line) → All (λ h. n ≤ h.at) (map header_of ls)
     → All (λ h. n ≤ h.at) (map header_of (cond q (record { at = n; raw = raw } ∷ ls) ls))
-from-if true n raw ls all = let line : Line = record { at = n; raw = raw } in All-cons (λ h. n ≤ h.at) (header_of line) (map header_of ls) (omega arith) all
-from-if false n raw ls all = all
+from-if q n raw ls all = grind arith
 
 headers_of-from : (n : ℕ) (raws : List (List ℕ)) → All (λ h. n ≤ h.at) (headers_of n raws)
 headers_of-from n [] = All-nil (λ h. n ≤ h.at)
-headers_of-from n (raw ∷ raws) =
-    from-if (is_header raw) n raw (filter (λ line. is_header line.raw) (lines_from (n + length raw) raws))
-    (All-weaker (λ h. n + length raw ≤ h.at) (λ h. n ≤ h.at) (λ h le. omega (arith, le)) (headers_of (n + length raw) raws) (headers_of-from (n + length raw) raws))
+headers_of-from n (raw ∷ raws) = grind (arith, headers_of-from (n + length raw) raws)
 
 rising-if : (q : Bool) (n : ℕ) (raw : List ℕ) (ls : List Line) → All (λ h. n < h.at) (map header_of ls) → AreRising (map header_of ls)
     → AreRising (map header_of (cond q (record { at = n; raw = raw } ∷ ls) ls))
-rising-if true n raw ls all rising = (all, rising)
-rising-if false n raw ls all rising = rising
+rising-if q n raw ls all rising = grind arith
 
 headers_of-rising : (n : ℕ) (raws : List (List ℕ)) → All (λ raw. 0 < length raw) raws → AreRising (headers_of n raws)
 headers_of-rising n [] some = tt
-headers_of-rising n (raw ∷ raws) some =
-    let first : 0 < length raw = All-head (λ raw. 0 < length raw) raw raws some in
-    rising-if (is_header raw) n raw (filter (λ line. is_header line.raw) (lines_from (n + length raw) raws))
-    (All-weaker (λ h. n + length raw ≤ h.at) (λ h. n < h.at) (λ h le. omega (arith, le, first)) (headers_of (n + length raw) raws) (headers_of-from (n + length raw) raws))
-    (headers_of-rising (n + length raw) raws (All-tail (λ raw. 0 < length raw) raw raws some))
+headers_of-rising n (raw ∷ raws) some = grind (
+  arith,
+  headers_of-rising (n + length raw) raws (All-tail (λ raw. 0 < length raw) raw raws some),
+  All-head,
+  rising-if,
+  All-weaker,
+  headers_of-from,
+  All-tail,
+)
 
 pub headers-rising : (bytes : List ℕ) → AreRising (headers bytes)
 headers-rising bytes = headers_of-rising 0 (raw_lines bytes) (AreLines-raw bytes).some
@@ -63,34 +63,25 @@ rising-apart [] ys rising = All-nil (λ h. All (λ x. h.at < x.at) ys)
 rising-apart (x ∷ xs) ys rising =
     All-cons (λ h. All (λ x. h.at < x.at) ys) x xs (All-right (λ h. x.at < h.at) xs ys rising.0) (rising-apart xs ys rising.1)
 
+-- a test that all pass, or none
+pub filter-all : {X : Type 0} (p : X → Bool) (xs : List X) → All (λ x. p x ≡ true) xs → filter p xs ≡ xs
+filter-all p [] all = refl
+filter-all p (x ∷ xs) all = grind (arith, filter-all p xs (All-tail (λ x. p x ≡ true) x xs all), cond-true, All-head, All-tail)
+
+pub filter-none : {X : Type 0} (p : X → Bool) (xs : List X) → All (λ x. p x ≡ false) xs → filter p xs ≡ []
+filter-none p [] all = refl
+filter-none p (x ∷ xs) all = grind (arith, filter-none p xs (All-tail (λ x. p x ≡ false) x xs all), cond-false, All-head, All-tail)
+
 -- a rising list is cut at an offset
 abbrev pub headers_from : ℕ → List Header → List Header
 headers_from at hs = filter (λ h. not (nat_lt h.at at)) hs
 
 pub headers_from-at : (at : ℕ) (hs : List Header) → All (λ h. at ≤ h.at) (headers_from at hs)
-headers_from-at at [] = All-nil (λ h. at ≤ h.at)
-headers_from-at at (h ∷ hs) =
-    elim (nat_lt h.at at) as (λ q. nat_lt h.at at ≡ q → All (λ x. at ≤ x.at) (cond (not q) (h ∷ headers_from at hs) (headers_from at hs)))
-    [ true ↦ λ e. headers_from-at at hs | false ↦ λ e. All-cons (λ x. at ≤ x.at) h (headers_from at hs) (ltb-false h.at at e) (headers_from-at at hs) ] refl
-
-before-none : (at : ℕ) (hs : List Header) → All (λ h. at ≤ h.at) hs → headers_before at hs ≡ []
-before-none at [] all = refl
-before-none at (h ∷ hs) all =
-    cond-false (nat_lt h.at at) _ _ (le-ltb h.at at (All-head (λ h. at ≤ h.at) h hs all)) ∙ before-none at hs (All-tail (λ h. at ≤ h.at) h hs all)
-
-from-all : (at : ℕ) (hs : List Header) → All (λ h. at ≤ h.at) hs → headers_from at hs ≡ hs
-from-all at [] all = refl
-from-all at (h ∷ hs) all =
-    cond-true (not (nat_lt h.at at)) _ _ (ap not (le-ltb h.at at (All-head (λ h. at ≤ h.at) h hs all)))
-    ∙ ap (λ r. h ∷ r) (from-all at hs (All-tail (λ h. at ≤ h.at) h hs all))
+headers_from-at at hs = grind (arith, All-weaker, ltb-false, not-true, filter_passes)
 
 cut-if : (q : Bool) (at : ℕ) (h : Header) (hs : List Header) → nat_lt h.at at ≡ q → AreRising (h ∷ hs) → hs ≡ headers_before at hs ++ headers_from at hs
     → h ∷ hs ≡ cond q (h ∷ headers_before at hs) (headers_before at hs) ++ cond (not q) (h ∷ headers_from at hs) (headers_from at hs)
-cut-if true at h hs e rising rest = ap (λ r. h ∷ r) rest
-cut-if false at h hs e rising rest =
-    let le : at ≤ h.at = ltb-false h.at at e in
-    let all : All (λ x. at ≤ x.at) hs = All-weaker (λ x. h.at < x.at) (λ x. at ≤ x.at) (λ x l. omega (arith, l, le)) hs rising.0 in
-    ap (λ r. h ∷ r) (sym (from-all at hs all)) ∙ ap (λ r. r ++ h ∷ headers_from at hs) (sym (before-none at hs all))
+cut-if q at h hs e rising rest = grind (arith, ltb-false, All-weaker, le-ltb, filter-all, filter-none)
 
 pub cut-at : (at : ℕ) (hs : List Header) → AreRising hs → hs ≡ headers_before at hs ++ headers_from at hs
 cut-at at [] rising = refl

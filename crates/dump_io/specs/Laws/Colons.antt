@@ -1,5 +1,5 @@
 -- The first colon of a text.
-use Rattle.std.proofs.Common.{◌≡◌, ℕ, ◌<◌, true, false, List, length, sym, ◌∙◌, ⊎_elim, true≢false, arith}
+use Rattle.std.proofs.Common.{◌≡◌, ℕ, ◌<◌, true, List, length, arith}
 use Rattle.std.specs.List.{position_or_len}
 use Rattle.std.proofs.lemmas.Bool.{cases_lt}
 use Rattle.std.proofs.lemmas.List.Elements.{All-from_get_or}
@@ -9,9 +9,4 @@ use Rattle.dump_io.specs.Colons.{is_colon, has_colon}
 
 -- a text that has a colon has its first one
 pub colon-within : (text : List ℕ) → has_colon text ≡ true → position_or_len is_colon text < length text
-colon-within text has =
-    let n = position_or_len is_colon text in
-    ⊎_elim (λ l. l)
-    (λ past. absurd (true≢false (sym has ∙ list_any_none is_colon text
-    (All-from_get_or (λ c. is_colon c ≡ false) text 0 (λ i l. fails_before_first is_colon text i 0 (omega (arith, l, past)))))))
-    (cases_lt n (length text))
+colon-within text has = grind (arith, list_any_none, All-from_get_or, fails_before_first, cases_lt)

@@ -1,5 +1,5 @@
 -- The raw lines are the only list that satisfies the rule of lines.
-use Rattle.std.proofs.Common.{◌≡◌, ℕ, suc, ◌-◌, ◌<◌, ◌==◌, true, false, List, [], ◌∷◌, ◌++◌, length, take, if◌then◌else◌, refl, sym, ◌∙◌, ap, subst, append-nil, arith, ⊎_elim}
+use Rattle.std.proofs.Common.{◌≡◌, ℕ, ◌-◌, ◌<◌, ◌==◌, true, false, List, [], ◌∷◌, ◌++◌, length, take, if◌then◌else◌, refl, sym, ◌∙◌, ap, subst, append-nil, arith, ⊎_elim}
 use Rattle.std.specs.Prelude.{◌≢◌, slice_index, All}
 use Rattle.std.specs.List.{concat}
 use Rattle.std.proofs.lemmas.Bool.{ne_eqb}
@@ -9,15 +9,11 @@ use Rattle.dump_io.specs.Lines.{lf, lines_after, raw_lines, HasLfLast, IsEnded, 
 
 -- all but the last of a list with at least two elements
 pub front-cons : {X : Type 0} (x y : X) (xs : List X) → take (length (x ∷ y ∷ xs) - 1) (x ∷ y ∷ xs) ≡ x ∷ take (length (y ∷ xs) - 1) (y ∷ xs)
-front-cons x y xs =
-    let e : length (x ∷ y ∷ xs) - 1 ≡ suc (length (y ∷ xs) - 1) = omega arith in
-    ap (λ n. take n (x ∷ y ∷ xs)) e
+front-cons x y xs = grind arith
 
 -- the last of a list with at least two elements
 last-cons : (c d : ℕ) (line : List ℕ) → slice_index (c ∷ d ∷ line) (length (c ∷ d ∷ line) - 1) ≡ slice_index (d ∷ line) (length (d ∷ line) - 1)
-last-cons c d line =
-    let e : length (c ∷ d ∷ line) - 1 ≡ suc (length (d ∷ line) - 1) = omega arith in
-    ap (λ n. slice_index (c ∷ d ∷ line) n) e
+last-cons c d line = grind arith
 
 -- LF stands only last in a longer line exactly when its first byte isn't LF and LF stands only last in the rest
 HasLfLast-head : (c d : ℕ) (line : List ℕ) → HasLfLast (c ∷ d ∷ line) → c ≢ lf
@@ -40,31 +36,25 @@ raw_lines-lf c bytes e = ap (λ b. if b == lf then (c ∷ []) ∷ raw_lines byte
 pub raw_lines-ended : (line more : List ℕ) → 0 < length line → HasLfLast line → IsEnded line → raw_lines (line ++ more) ≡ line ∷ raw_lines more
 raw_lines-ended [] more some inner ended = absurd (omega arith)
 raw_lines-ended (c ∷ []) more some inner ended = raw_lines-lf c more ended
-raw_lines-ended (c ∷ d ∷ line) more some inner ended =
-    raw_lines-inner c (d ∷ line ++ more) (HasLfLast-head c d line inner)
-    ∙ ap (lines_after c) (raw_lines-ended (d ∷ line) more (omega arith) (HasLfLast-tail c d line inner) (sym (last-cons c d line) ∙ ended))
+raw_lines-ended (c ∷ d ∷ line) more some inner ended = grind (arith, raw_lines-ended (d ∷ line) more (omega arith) (HasLfLast-tail c d line inner) (sym (last-cons c d line) ∙ ended), raw_lines-inner, HasLfLast-head, HasLfLast-tail, last-cons)
 
 -- a line is the one line of its bytes
 pub raw_lines-one : (line : List ℕ) → 0 < length line → HasLfLast line → raw_lines line ≡ line ∷ []
 raw_lines-one [] some inner = absurd (omega arith)
 raw_lines-one (c ∷ []) some inner = elim (c == lf) as (λ b. (if b then (c ∷ []) ∷ [] else (c ∷ []) ∷ []) ≡ (c ∷ []) ∷ []) [ true ↦ refl | false ↦ refl ]
-raw_lines-one (c ∷ d ∷ line) some inner =
-    raw_lines-inner c (d ∷ line) (HasLfLast-head c d line inner)
-    ∙ ap (lines_after c) (raw_lines-one (d ∷ line) (omega arith) (HasLfLast-tail c d line inner))
+raw_lines-one (c ∷ d ∷ line) some inner = grind (arith, raw_lines-one (d ∷ line) (omega arith) (HasLfLast-tail c d line inner), raw_lines-inner, HasLfLast-head, HasLfLast-tail)
 
 -- lines that satisfy the rule are the raw lines
 only : (lines : List (List ℕ)) → All (λ line. 0 < length line) lines → All HasLfLast lines → All IsEnded (take (length lines - 1) lines)
     → lines ≡ raw_lines (concat lines)
 only [] some inner ended = refl
 only (line ∷ []) some inner ended =
-    sym (raw_lines-one line (All-head (λ l. 0 < length l) line [] some) (All-head HasLfLast line [] inner))
-    ∙ ap raw_lines (sym (append-nil line))
+    cc (raw_lines-one line (All-head (λ l. 0 < length l) line [] some) (All-head HasLfLast line [] inner), append-nil line)
 only (line ∷ next ∷ lines) some inner ended =
     let rest = next ∷ lines in
     let fronts = take (length rest - 1) rest in
     let front = subst (λ l. All IsEnded l) (front-cons line next lines) ended in
-    ap (λ l. line ∷ l) (only (next ∷ lines) (All-tail (λ l. 0 < length l) line rest some) (All-tail HasLfLast line rest inner) (All-tail IsEnded line fronts front))
-    ∙ sym (raw_lines-ended line (concat rest) (All-head (λ l. 0 < length l) line rest some) (All-head HasLfLast line rest inner) (All-head IsEnded line fronts front))
+    cc (only (next ∷ lines) (All-tail (λ l. 0 < length l) line rest some) (All-tail HasLfLast line rest inner) (All-tail IsEnded line fronts front), raw_lines-ended line (concat rest) (All-head (λ l. 0 < length l) line rest some) (All-head HasLfLast line rest inner) (All-head IsEnded line fronts front))
 
 -- lines that satisfy the rule are the raw lines of the bytes that they are together
 pub AreLines-only : (bytes : List ℕ) (lines : List (List ℕ)) → AreLines bytes lines → lines ≡ raw_lines bytes
@@ -72,33 +62,12 @@ AreLines-only bytes lines are = only lines are.some are.lf_last are.ended ∙ ap
 
 -- the rule holds with one more line in front, and with one more byte at the front of the first line
 AreLines-line : (bytes : List ℕ) (lines : List (List ℕ)) → AreLines bytes lines → AreLines (lf ∷ bytes) ((lf ∷ []) ∷ lines)
-AreLines-line bytes [] are = record {
-  together = ap (λ l. lf ∷ l) are.together;
-  some = All-cons (λ l. 0 < length l) (lf ∷ []) [] (omega arith) are.some;
-  lf_last = All-cons HasLfLast (lf ∷ []) [] (All-nil (λ c. c ≢ lf)) are.lf_last;
-  ended = All-nil IsEnded;
-}
-AreLines-line bytes (line ∷ lines) are = record {
-  together = ap (λ l. lf ∷ l) are.together;
-  some = All-cons (λ l. 0 < length l) (lf ∷ []) (line ∷ lines) (omega arith) are.some;
-  lf_last = All-cons HasLfLast (lf ∷ []) (line ∷ lines) (All-nil (λ c. c ≢ lf)) are.lf_last;
-  ended = subst (λ l. All IsEnded l) (sym (front-cons (lf ∷ []) line lines)) (All-cons IsEnded (lf ∷ []) _ refl are.ended);
-}
+AreLines-line bytes lines are = grind arith
 
 AreLines-byte : (c : ℕ) (bytes : List ℕ) (lines : List (List ℕ)) → c ≢ lf → AreLines bytes lines → AreLines (c ∷ bytes) (lines_after c lines)
-AreLines-byte c bytes [] n are = record {
-  together = ap (λ l. c ∷ l) are.together;
-  some = All-cons (λ l. 0 < length l) (c ∷ []) [] (omega arith) are.some;
-  lf_last = All-cons HasLfLast (c ∷ []) [] (All-nil (λ b. b ≢ lf)) are.lf_last;
-  ended = All-nil IsEnded;
-}
+AreLines-byte c bytes [] n are = grind arith
 AreLines-byte c bytes ([] ∷ lines) n are = absurd (omega (arith, All-head (λ l. 0 < length l) [] lines are.some))
-AreLines-byte c bytes ((d ∷ line) ∷ []) n are = record {
-  together = ap (λ l. c ∷ l) are.together;
-  some = All-cons (λ l. 0 < length l) (c ∷ d ∷ line) [] (omega arith) (All-nil (λ l. 0 < length l));
-  lf_last = All-cons HasLfLast (c ∷ d ∷ line) [] (HasLfLast-cons c d line n (All-head HasLfLast (d ∷ line) [] are.lf_last)) (All-nil HasLfLast);
-  ended = All-nil IsEnded;
-}
+AreLines-byte c bytes ((d ∷ line) ∷ []) n are = grind (arith, All-cons, All-nil, HasLfLast-cons, All-head)
 AreLines-byte c bytes ((d ∷ line) ∷ next ∷ lines) n are =
     let front = subst (λ l. All IsEnded l) (front-cons (d ∷ line) next lines) are.ended in
     record {

@@ -1,5 +1,5 @@
 -- Lists in general: the first element that passes a test, what stands at a place, and a list that more follows.
-use Rattle.std.proofs.Common.{◌≡◌, ℕ, ◌+◌, ◌-◌, ◌<◌, ◌≤◌, Bool, true, false, cond, ltb, not, List, [], ◌∷◌, ◌++◌, length, take, drop, map, get_or, slice_get, None, Some, refl, ◌∙◌, ap, subst, length-drop, arith}
+use Rattle.std.proofs.Common.{◌≡◌, ℕ, ◌+◌, ◌<◌, ◌≤◌, Bool, true, false, cond, ltb, not, List, [], ◌∷◌, ◌++◌, length, map, get_or, slice_get, None, Some, refl, ◌∙◌, ap, subst, length-drop, arith}
 use Rattle.std.specs.Prelude.{All}
 use Rattle.std.specs.List.{between, position, position_or_len}
 use Rattle.std.proofs.lemmas.Bool.{lt-ltb, le-ltb}
@@ -29,9 +29,7 @@ position_or_len-map p f [] = refl
 position_or_len-map p f (x ∷ xs) = ap (λ n. cond (not (p (f x))) (1 + n) 0) (position_or_len-map p f xs)
 
 pub position-map : {X Y : Type 0} (p : Y → Bool) (f : X → Y) (xs : List X) → position p (map f xs) ≡ position (λ x. p (f x)) xs
-position-map p f xs =
-    ap (λ n. cond (ltb n (length (map f xs))) (Some n) None) (position_or_len-map p f xs)
-    ∙ ap (λ m. cond (ltb (position_or_len (λ x. p (f x)) xs) m) (Some (position_or_len (λ x. p (f x)) xs)) None) (length-map xs f)
+position-map p f xs = grind (arith, position_or_len-map, length-map)
 
 -- what holds of each element holds of the one at a place
 pub All-at : {X : Type 0} (P : X → Type 0) (xs : List X) (i : ℕ) (x : X) → All P xs → slice_get xs i ≡ Some x → P x
@@ -39,6 +37,4 @@ All-at P xs i x all is = subst P (get_or_from_slice_get xs i x x is) (all i x (s
 
 -- a part of a list stays when more follows the list
 pub between-grown : {X : Type 0} (xs more : List X) (from upto : ℕ) → from ≤ upto → upto ≤ length xs → between from upto (xs ++ more) ≡ between from upto xs
-between-grown xs more from upto ordered within =
-    ap (take (upto - from)) (drop-append-le from xs more (omega arith))
-    ∙ take-append-le (upto - from) (drop from xs) more (omega (arith, length-drop from xs))
+between-grown xs more from upto ordered within = grind (arith, drop-append-le, take-append-le, length-drop)

@@ -133,10 +133,7 @@ pub flat_map-more : {X : Type 0} (text : X → List ℕ) (xs : List X) (i : ℕ)
     → flat_map text (take (i + 1) xs) ≡ flat_map text (take i xs) ++ text x
 flat_map-more text [] i x is = cc
 flat_map-more text (y ∷ xs) zero x is = let same : y ≡ x = cc in ap (λ z. text z ++ []) same ∙ append-nil (text x)
-flat_map-more text (y ∷ xs) (suc i) x is =
-    let count : suc i + 1 ≡ suc (i + 1) = omega arith in
-    ap (λ n. flat_map text (take n (y ∷ xs))) count
-    ∙ ap (λ l. text y ++ l) (flat_map-more text xs i x is) ∙ sym (append_assoc (text y) (flat_map text (take i xs)) (text x))
+flat_map-more text (y ∷ xs) (suc i) x is = grind (arith, flat_map-more text xs i x is, append_assoc)
 
 -- the text at a place is put after those before it
 pub HasPut-more : {X T E : Type 0} {a b c : SinkState} {y : T} (text : X → List ℕ) (xs : List X) (i : ℕ) (x : X) → slice_get xs i ≡ Some x

@@ -1,6 +1,6 @@
-use Rattle.std.proofs.Common.{◌-◌, ◌/◌, ◌≤◌, ◌∷◌, length, drop, sym, ◌∙◌, ap, rules, arith}
+use Rattle.std.proofs.Common.{◌≤◌, length, drop, rules, arith}
 use Rattle.std.proofs.lemmas.List.{drop_all}
-use Rattle.dump_io.proofs.Digits.{text_of, text_of-all, text_of-step, text_of-last, drop-put, sixteenth}
+use Rattle.dump_io.proofs.Digits.{text_of-all, text_of-step, text_of-last, drop-put, sixteenth}
 use Rattle.dump_io.proofs.hex.put_digits.Goals as goal
 
 pub loop-at-init : goal.loop-at-init
@@ -16,10 +16,7 @@ returns-then-rest-eq0-clause-text c =
     let all = c.loop-at.invariant in
     let some = c.loop-at-test.true in
     let fits : c.loop-at.at ≤ length c.loop-at.buffer = omega (arith, all.0, c.loop-at.auto.buffer, c.requires) in
-    drop-put c.loop-at.buffer c.loop-at.at c.hex_digit.result some fits
-    ∙ ap (λ d. d ∷ drop c.loop-at.at c.loop-at.buffer) c.hex_digit.ensures
-    ∙ sym (text_of-last c.loop-at.at c.loop-at.rest (drop c.loop-at.at c.loop-at.buffer) some c.if-rest-eq0.true)
-    ∙ all.3
+    cc (drop-put c.loop-at.buffer c.loop-at.at c.hex_digit.result some fits, c.hex_digit.ensures, text_of-last c.loop-at.at c.loop-at.rest (drop c.loop-at.at c.loop-at.buffer) some c.if-rest-eq0.true, all.3)
 
 pub loop-at-preserved : goal.loop-at-preserved
 loop-at-preserved c =
@@ -30,8 +27,5 @@ loop-at-preserved c =
       omega (arith, all.0),
       sixteenth c.loop-at.rest c.loop-at.at some all.1,
       (λ lt. omega (arith, more)),
-      ap (λ l. text_of (c.loop-at.at - 1) (c.loop-at.rest / 16) l)
-          (drop-put c.loop-at.buffer c.loop-at.at c.hex_digit.result some fits
-          ∙ ap (λ d. d ∷ drop c.loop-at.at c.loop-at.buffer) c.hex_digit.ensures)
-          ∙ sym (text_of-step c.loop-at.at c.loop-at.rest (drop c.loop-at.at c.loop-at.buffer) some more) ∙ all.3,
+      cc (drop-put c.loop-at.buffer c.loop-at.at c.hex_digit.result some fits, c.hex_digit.ensures, text_of-step c.loop-at.at c.loop-at.rest (drop c.loop-at.at c.loop-at.buffer) some more, all.3),
     )

@@ -14,12 +14,7 @@ pub returns-in_err-n : goal.returns-in_err-n
 returns-in_err-n c =
     let text = c.args.text.now in
     let digit = get_or text c.loop-digit.digit-index 0 in
-    c.from_residual.ensures
-    ∙ sym (number_of-stopped c.args.base c.args.most text c.loop-digit.digit-index (omega arith) c.loop-digit-test.true (λ fits.
-    c.in_err-n.ensures (
-      fits.0,
-      subst (λ n. n * c.args.base + digit_value digit < 2 ^ 64) (sym c.loop-digit.invariant.0) fits.1,
-    )))
+    cc (c.from_residual.ensures, number_of-stopped c.args.base c.args.most text c.loop-digit.digit-index (omega arith) c.loop-digit-test.true (λ fits. c.in_err-n.ensures (fits.0, subst (λ n. n * c.args.base + digit_value digit < 2 ^ 64) (sym c.loop-digit.invariant.0) fits.1)))
 
 pub loop-digit-preserved : goal.loop-digit-preserved
 loop-digit-preserved c =

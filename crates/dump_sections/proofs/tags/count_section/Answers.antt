@@ -38,10 +38,11 @@ returns-in-Some c = record {
   counted = counted c.args.index.now c.args.i _ _ _ _ _ _ _ c.section.ensures.place c.section.ensures.tag c.requires.before.counted c.add_one.ensures;
   numbered =
       λ other.
-      c.requires.before.numbered other
-      ∙ sym (ap (place_in other) c.add_one.ensures
-      ∙ place-stays other c.section.result.tag.now (counts_of c.args.counts.now.items) c.in-Some.number
-      (ap (λ counts. place_in c.section.result.tag.now (counts_of counts)) (sym c.deref.ensures.value) ∙ sym c.number_of.ensures ∙ c.in-Some.is));
+      cc (
+        c.requires.before.numbered other,
+        c.add_one.ensures,
+        place-stays other c.section.result.tag.now (counts_of c.args.counts.now.items) c.in-Some.number (ap (λ counts. place_in c.section.result.tag.now (counts_of counts)) (sym c.deref.ensures.value) ∙ sym c.number_of.ensures ∙ c.in-Some.is),
+      );
 }
 
 pub returns-in_ok-add_tag-in-None : goal.returns-in_ok-add_tag-in-None

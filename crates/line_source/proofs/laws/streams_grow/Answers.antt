@@ -1,4 +1,4 @@
-use Rattle.line_source.proofs.LastLines.{headers-split}
+use Rattle.line_source.proofs.Walk.{headers-split}
 use Rattle.line_source.proofs.Pieces.{ended_headers-grow}
 use Rattle.line_source.proofs.Growing.{TooLongGrows-all, later-after}
 use Rattle.line_source.proofs.laws.streams_grow.Goals as goal

@@ -76,8 +76,7 @@ returns-in_err-feed_piece g c =
 pub feed_rest-requires-clause-offset : goal.feed_rest-requires-clause-offset
 feed_rest-requires-clause-offset g c =
     let begun : HasHeard c.new-scan.result c.new-receiver.result [] = record { stands = c.new-scan.ensures.stands; heard = ap (λ h. h.heard) c.new-receiver.ensures } in
-    (c.in_ok-feed_piece.ensures.heard [] begun).stands.offset
-    ∙ length-take-le c.in-Ok.count c.read_piece.new.buffer (omega (arith, c.in-Ok.ensures.count, c.read_piece.auto.buffer))
+    cc ((c.in_ok-feed_piece.ensures.heard [] begun).stands.offset, length-take-le c.in-Ok.count c.read_piece.new.buffer (omega (arith, c.in-Ok.ensures.count, c.read_piece.auto.buffer)))
 
 pub feed_rest-requires-clause-begun : goal.feed_rest-requires-clause-begun
 feed_rest-requires-clause-begun g c =

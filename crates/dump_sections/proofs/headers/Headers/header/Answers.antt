@@ -1,7 +1,6 @@
-use Rattle.std.proofs.Common.{◌<◌, ◌≤◌, length, Some, sym, ◌∙◌, ap, subst, arith}
+use Rattle.std.proofs.Common.{◌<◌, ◌≤◌, length, sym, ◌∙◌, ap, subst, arith}
 use Rattle.std.specs.List.{slice_get}
 use Rattle.std.proofs.lemmas.List.{length-map}
-use Rattle.dump_io.specs.Lines.{Header}
 use Rattle.dump_sections.specs.declared.headers.Head.{Head}
 use Rattle.dump_sections.specs.Inner.Headers.{header_in}
 use Rattle.dump_sections.proofs.Kept.{headers_in-at, AreWithin-at}
@@ -28,6 +27,4 @@ returns c =
     let within : c.args.i < length heads =
     omega (arith, c.requires, ap length c.self.view_is, length-map heads (header_in pool)) in
     let text = c.part.ensures ∙ ap (Rattle.std.specs.List.between c.index-head.result.now.from c.index-head.result.now.upto) c.as_slice.ensures.value in
-    ap (λ hs. slice_get hs c.args.i) (sym c.self.view_is)
-    ∙ headers_in-at pool heads c.args.i c.index-head.result.now within c.index-head.ensures
-    ∙ ap (λ t. Some (let h : Header = record { at = c.index-head.result.now.at; body = c.index-head.result.now.body; text = t } in h)) (sym text)
+    cc (c.self.view_is, headers_in-at pool heads c.args.i c.index-head.result.now within c.index-head.ensures)

@@ -1,5 +1,5 @@
 use Rattle.std.proofs.Common.{◌++◌, refl, sym, ◌∙◌, ap, append-nil}
-use Rattle.line_source.proofs.LastLines.{open_headers-header, open_headers-other, StopsAmong-last}
+use Rattle.line_source.proofs.Scans.{open_headers-header, open_headers-other, StopsAmong-last}
 use Rattle.line_source.proofs.line_scan.LineScan.hear_last.Goals as goal
 
 pub returns-in_err-hear_open-clause-refused : goal.returns-in_err-hear_open-clause-refused

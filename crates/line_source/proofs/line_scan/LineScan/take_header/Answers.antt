@@ -9,6 +9,7 @@ use Rattle.line_source.specs.Inner.Ends.{EndsTooLong, EndsRefused}
 use Rattle.line_source.specs.Inner.LastLine.{header_bytes}
 use Rattle.line_source.proofs.Stretches.{lacks_lf}
 use Rattle.line_source.proofs.HeaderLines.{lacks-before, header-known, EndsTooLong-here, EndsRefused-here, around-lf, up-to-lf, new_headers-line, new_headers-longer, kept-offset, kept-bytes, StandsFor-kept, StandsFor-heard, heard-kept}
+use Rattle.line_source.proofs.Scans.{Takes-stopped}
 use Rattle.line_source.proofs.line_scan.LineScan.take_header.Goals as goal
 
 pub returns-in_err-keep-in-Some : goal.returns-in_err-keep-in-Some
@@ -21,18 +22,10 @@ returns-in_err-keep-in-Some g c =
     let end = c.in-Some.end in
     let first = c.in-Some.ensures.0 in
     let heard = g.H.HeaderSink.heard c.args.into.now in
-    rw (p.1, p.2, k.fault) record {
-      within = tt;
-      offset = tt;
-      limit = ap (λ (s : Scan). s.limit) k.err;
-      stop = ap stop_value c.requires.open;
-      stands = tt;
-      heard = tt;
-      ends = λ stream stands.
-          subst (λ bytes. EndsTooLong scan.limit stream bytes heard heard (scan.offset - length t)) (take-append-drop end rest)
-          (EndsTooLong-here scan stream t (take end rest) (drop end rest) heard heard stands (header-known scan.last c.requires.header)
-          k.within_limit k.within_offset (lacks-before rest end (omega (arith, first.high)) first.before) k.over refl);
-    }
+    rw (p.1, p.2, k.fault) (Takes-stopped (ap (λ (s : Scan). s.limit) k.err) (ap stop_value c.requires.open) (λ stream stands.
+    subst (λ bytes. EndsTooLong scan.limit stream bytes heard heard (scan.offset - length t)) (take-append-drop end rest)
+    (EndsTooLong-here scan stream t (take end rest) (drop end rest) heard heard stands (header-known scan.last c.requires.header)
+    k.within_limit k.within_offset (lacks-before rest end (omega (arith, first.high)) first.before) k.over refl)))
 
 pub returns-in_err-hear-in-Some : goal.returns-in_err-hear-in-Some
 returns-in_err-hear-in-Some g c =
@@ -50,20 +43,12 @@ returns-in_err-hear-in-Some g c =
     let stop = g.H.HeaderSink.stop c.hear.new.into in
     let bytes : header_bytes c.keep.new.self.last ≡ t ++ x = kept-bytes scan c.keep.new.self x k.ok in
     let offset : c.keep.new.self.offset ≡ scan.offset + length x = kept-offset scan c.keep.new.self x k.ok in
-    rw (p.1, p.2) record {
-      within = tt;
-      offset = tt;
-      limit = ap (λ (s : Scan). s.limit) h.err ∙ ap (λ (s : Scan). s.limit) k.ok;
-      stop = ap stop_value h.hears.1;
-      stands = tt;
-      heard = tt;
-      ends = λ stream stands.
-          subst (λ bytes. EndsRefused scan.limit stream bytes before after stop) (around-lf rest end first.high c.in-Some.ensures.1)
-          (EndsRefused-here scan stream t x (drop (end + 1) rest) before after stop _ stands (header-known scan.last c.requires.header)
-          k.within_offset (lacks-before rest end (omega (arith, first.high)) first.before) k.fits h.hears.0 h.hears.1
-          (ap (λ n. n - length (header_bytes c.keep.new.self.last)) offset ∙ ap (λ b. scan.offset + length x - length b) bytes)
-          (ap (λ b. length (text_of (b ++ lf ∷ []))) bytes));
-    }
+    rw (p.1, p.2) (Takes-stopped (ap (λ (s : Scan). s.limit) h.err ∙ ap (λ (s : Scan). s.limit) k.ok) (ap stop_value h.hears.1) (λ stream stands.
+    subst (λ bytes. EndsRefused scan.limit stream bytes before after stop) (around-lf rest end first.high c.in-Some.ensures.1)
+    (EndsRefused-here scan stream t x (drop (end + 1) rest) before after stop _ stands (header-known scan.last c.requires.header)
+    k.within_offset (lacks-before rest end (omega (arith, first.high)) first.before) k.fits h.hears.0 h.hears.1
+    (ap (λ n. n - length (header_bytes c.keep.new.self.last)) offset ∙ ap (λ b. scan.offset + length x - length b) bytes)
+    (ap (λ b. length (text_of (b ++ lf ∷ []))) bytes))))
 
 pub returns-in_err-keep-in-None : goal.returns-in_err-keep-in-None
 returns-in_err-keep-in-None g c =
@@ -74,18 +59,10 @@ returns-in_err-keep-in-None g c =
     let rest = c.args.rest.now in
     let heard = g.H.HeaderSink.heard c.args.into.now in
     let lacks : lacks_lf rest ≡ true = ap lacks_lf (sym (take_all (length rest) rest (omega arith))) ∙ lacks-before rest (length rest) (omega arith) c.in-None.ensures in
-    rw (p.1, p.2, k.fault) record {
-      within = tt;
-      offset = tt;
-      limit = ap (λ (s : Scan). s.limit) k.err;
-      stop = ap stop_value c.requires.open;
-      stands = tt;
-      heard = tt;
-      ends = λ stream stands.
-          subst (λ bytes. EndsTooLong scan.limit stream bytes heard heard (scan.offset - length t)) (append-nil rest)
-          (EndsTooLong-here scan stream t rest [] heard heard stands (header-known scan.last c.requires.header)
-          k.within_limit k.within_offset lacks k.over refl);
-    }
+    rw (p.1, p.2, k.fault) (Takes-stopped (ap (λ (s : Scan). s.limit) k.err) (ap stop_value c.requires.open) (λ stream stands.
+    subst (λ bytes. EndsTooLong scan.limit stream bytes heard heard (scan.offset - length t)) (append-nil rest)
+    (EndsTooLong-here scan stream t rest [] heard heard stands (header-known scan.last c.requires.header)
+    k.within_limit k.within_offset lacks k.over refl)))
 
 pub returns-in_ok-hear-in-Some : goal.returns-in_ok-hear-in-Some
 returns-in_ok-hear-in-Some g c =

@@ -6,6 +6,7 @@ use Rattle.line_source.specs.Streams.{new_headers}
 use Rattle.line_source.specs.Receiver.{stop_value}
 use Rattle.line_source.specs.Scan.{Scan, StandsFor}
 use Rattle.line_source.proofs.WholeLines.{StandsFor-begun, silent-sign, take-sign, stands-heard, header-heard, refused-here}
+use Rattle.line_source.proofs.Scans.{Takes-stopped}
 use Rattle.line_source.proofs.line_scan.LineScan.take_line.Goals as goal
 
 pub returns-in_err-hear_line-in-Some : goal.returns-in_err-hear_line-in-Some
@@ -16,17 +17,9 @@ returns-in_err-hear_line-in-Some g c =
     let after = g.H.HeaderSink.heard c.hear_line.new.into in
     let stop = g.H.HeaderSink.stop c.hear_line.new.into in
     let found = c.in-Some.ensures in
-    rw (p.1, p.2) record {
-      within = tt;
-      offset = tt;
-      limit = ap (λ (s : Scan). s.limit) h.err;
-      stop = ap stop_value h.hears.1;
-      stands = tt;
-      heard = tt;
-      ends = λ stream stands.
-          refused-here c.args.self.now stream stands c.requires.line c.args.rest.now c.in-Some.end c.requires.sign found.inside found.before found.here found.fits
-          before after stop _ h.hears.0 h.hears.1 refl refl;
-    }
+    rw (p.1, p.2) (Takes-stopped (ap (λ (s : Scan). s.limit) h.err) (ap stop_value h.hears.1) (λ stream stands.
+    refused-here c.args.self.now stream stands c.requires.line c.args.rest.now c.in-Some.end c.requires.sign found.inside found.before found.here found.fits
+    before after stop _ h.hears.0 h.hears.1 refl refl))
 
 pub returns-in_ok-hear_line-in-Some : goal.returns-in_ok-hear_line-in-Some
 returns-in_ok-hear_line-in-Some g c =

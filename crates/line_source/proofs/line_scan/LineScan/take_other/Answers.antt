@@ -6,6 +6,7 @@ use Rattle.line_source.specs.Inner.Ends.{Ends}
 use Rattle.line_source.proofs.Pieces.{new_headers-append}
 use Rattle.line_source.proofs.Joins.{two_parts, both_parts, Ends-later}
 use Rattle.line_source.proofs.StartPlaces.{length-rest}
+use Rattle.line_source.proofs.Scans.{Takes-stopped}
 use Rattle.line_source.proofs.line_scan.LineScan.take_other.Goals as goal
 
 pub returns-in_err-taken : goal.returns-in_err-taken
@@ -22,21 +23,13 @@ returns-in_err-taken g c =
     let after = sink.heard c.take_line.new.into in
     let stop = sink.stop c.take_line.new.into in
     let fault = c.in_err-taken.field-0.0 in
-    rw (p.1, p.2) record {
-      within = tt;
-      offset = tt;
-      limit = some.limit ∙ passed.limit;
-      stop = some.stop;
-      stands = tt;
-      heard = tt;
-      ends = λ stream stands.
-          let mid = passed.stands stream stands in
-          subst (λ bytes. Ends scan.limit stream bytes before after stop fault) (both_parts rest n)
-          (Ends-later scan.limit stream (take n rest) left before before after stop fault
-          (ap (λ k. too_long k (stream ++ take n rest)) (sym passed.limit) ∙ mid.short)
-          (sym (append-nil before) ∙ ap (λ hs. before ++ hs) (sym (passed.silent stream stands)))
-          (subst (λ k. Ends k (stream ++ take n rest) left before after stop fault) passed.limit (some.ends (stream ++ take n rest) mid)));
-    }
+    rw (p.1, p.2) (Takes-stopped (some.limit ∙ passed.limit) some.stop (λ stream stands.
+    let mid = passed.stands stream stands in
+    subst (λ bytes. Ends scan.limit stream bytes before after stop fault) (both_parts rest n)
+    (Ends-later scan.limit stream (take n rest) left before before after stop fault
+    (ap (λ k. too_long k (stream ++ take n rest)) (sym passed.limit) ∙ mid.short)
+    (sym (append-nil before) ∙ ap (λ hs. before ++ hs) (sym (passed.silent stream stands)))
+    (subst (λ k. Ends k (stream ++ take n rest) left before after stop fault) passed.limit (some.ends (stream ++ take n rest) mid)))))
 
 pub returns : goal.returns
 returns g c =

@@ -1,6 +1,5 @@
 use Rattle.std.proofs.Common.{◌<◌, length, All, sym, ◌∙◌, ap, subst}
 use Rattle.dump_sections.specs.Index.{sections_in}
-use Rattle.section_rows.specs.Loading.{sections_at, large_fault}
 use Rattle.process_table.specs.Records.{ProcPlaces, records}
 use Rattle.process_table.proofs.Building.{places-records, places-within, sections_at-records}
 use Rattle.process_table.proofs.Placing.{All-records}
@@ -23,6 +22,4 @@ returns c =
     let kept =
     c.as_slice.ensures.value ∙ c.self.invariant.listed
     ∙ places-records rs c.self.inside.places.items (ap (λ (t : ProcPlaces). t.places) c.self.view_is ∙ ap (λ (t : ProcPlaces). t.places) c.requires) in
-    c.large.ensures
-    ∙ ap (large_fault c.args.limits.now.section)
-    (ap (sections_at index) kept ∙ sections_at-records index rs (All-records index))
+    cc (c.large.ensures, sections_at-records index rs (All-records index))
