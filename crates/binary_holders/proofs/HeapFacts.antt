@@ -21,12 +21,6 @@ use Rattle.binary_holders.specs.Inner.Places.{heap_place}
 
 -- ---- no two records have one pid
 
-apart-same : (x y : List ℕ) → bytes_eq x y ≡ true → x ≡ y
-apart-same x y is = (bytes_eq-Decides x y).0 is
-
-same-apart : (x y : List ℕ) → x ≡ y → bytes_eq x y ≡ true
-same-apart x y is = (bytes_eq-Decides x y).1 is
-
 not-true : (b : Bool) → not b ≡ true → b ≡ false
 not-true true is = absurd (false≢true is)
 not-true false is = refl
@@ -37,11 +31,9 @@ Apart (r ∷ rest) = All (λ other. has_same_pid r other ≡ false) rest × Apar
 
 Apart-filter : (p : Placed → Bool) (rest : List Placed) → Apart rest → Apart (filter p rest)
 Apart-filter p [] apart = tt
-Apart-filter p (r ∷ rest) apart = by (p r) (Apart-filter p rest apart.1)
-  where
-    by : (b : Bool) → Apart (filter p rest) → Apart (cond b (r ∷ filter p rest) (filter p rest))
-    by true later = (All-filter p (λ other. has_same_pid r other ≡ false) rest apart.0, later)
-    by false later = later
+Apart-filter p (r ∷ rest) apart =
+    elim (p r) as (λ b. Apart (cond b (r ∷ filter p rest) (filter p rest)))
+    [ true ↦ (All-filter p (λ other. has_same_pid r other ≡ false) rest apart.0, Apart-filter p rest apart.1) | false ↦ Apart-filter p rest apart.1 ]
 
 Apart-firsts : (sections : List Placed) → Apart (first_of_each sections)
 Apart-firsts [] = tt
@@ -74,10 +66,10 @@ apart-records index table over = record {
       sym (get_or-map (λ (q : Process). q.pid) processes k nobody [] within) ∙ ap (λ l. get_or l k []) over.pids ∙ get_or-map (λ (r : Placed). pid_of r.1) rs k none [] (omega (arith, within, count)) in
       let differ : (k : ℕ) → k < p → bytes_eq (pid p) (pid k) ≡ false =
       λ k less. false_from_ne_true (bytes_eq (pid p) (pid k)) (λ is.
-      let one : pid_of (get_or rs k none).1 ≡ pid_of (get_or rs p none).1 = sym (pids_are k (omega (arith, less, inside))) ∙ sym (apart-same (pid p) (pid k) is) ∙ pids_are p inside in
-      false≢true (sym (Apart-places rs k p none (Apart-firsts (process_sections (placed (sections_in index)))) less (omega (arith, inside, count))) ∙ same-apart _ _ one)) in
+      let one : pid_of (get_or rs k none).1 ≡ pid_of (get_or rs p none).1 = sym (pids_are k (omega (arith, less, inside))) ∙ sym ((bytes_eq-Decides (pid p) (pid k)).0 is) ∙ pids_are p inside in
+      false≢true (sym (Apart-places rs k p none (Apart-firsts (process_sections (placed (sections_in index)))) less (omega (arith, inside, count))) ∙ (bytes_eq-Decides _ _).1 one)) in
       let here : position_or_len (λ (q : Process). bytes_eq (pid p) q.pid) processes ≡ p =
-      position_or_len_is (λ (q : Process). bytes_eq (pid p) q.pid) processes p nobody (omega (arith, inside)) differ (λ _. same-apart (pid p) (pid p) refl) in
+      position_or_len_is (λ (q : Process). bytes_eq (pid p) q.pid) processes p nobody (omega (arith, inside)) differ (λ _. (bytes_eq-Decides (pid p) (pid p)).1 refl) in
       ap (λ (q : Process). position (λ (process : Process). bytes_eq q.pid process.pid) processes) (at-nobody processes p inside)
       ∙ ap (λ n. cond (nat_lt n (length processes)) (Some n) None) here ∙ ap (λ b. cond b (Some p) None) (lt-ltb p (length processes) inside);
 }
@@ -146,7 +138,7 @@ module _ (processes : List Process) (sections : List Section) (i : ℕ) (s : Sec
       others : (k : ℕ) → k < length processes → k ≢ p → bytes_eq id (get_or processes k nobody).pid ≡ false
       others k inside other =
           false_from_ne_true (bytes_eq id (get_or processes k nobody).pid) (λ is.
-          let same : id ≡ (process_at processes k).pid = apart-same id (get_or processes k nobody).pid is ∙ ap (λ (q : Process). q.pid) (sym (at-nobody processes k inside)) in
+          let same : id ≡ (process_at processes k).pid = (bytes_eq-Decides id (get_or processes k nobody).pid).0 is ∙ ap (λ (q : Process). q.pid) (sym (at-nobody processes k inside)) in
           let first : position (λ (process : Process). bytes_eq id process.pid) processes ≡ Some k =
           ap (λ l. position (λ (process : Process). bytes_eq l process.pid) processes) same ∙ apart.first k inside in
           other (same_Some k p (sym first ∙ found)))

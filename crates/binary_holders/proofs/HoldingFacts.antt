@@ -48,11 +48,11 @@ held-more binaries heaps refs held tally process so_far place heard few =
 -- each is one of so many processes
 pub named-more : (count process : ℕ) (held : List Holding) (tally : Tally) → process < count → All (NamesProcess count) held
     → All (NamesProcess count) (held ++ (if nat_lt 0 tally.count then counted process tally ∷ [] else []))
-named-more count process held tally inside named = by (nat_lt 0 tally.count)
-  where
-    by : (b : Bool) → All (NamesProcess count) (held ++ (if b then counted process tally ∷ [] else []))
-    by true = All-push (NamesProcess count) held (counted process tally) named inside
-    by false = subst (All (NamesProcess count)) (sym (append-nil held)) named
+named-more count process held tally inside named =
+    elim (nat_lt 0 tally.count) as (λ b. All (NamesProcess count) (held ++ (if b then counted process tally ∷ [] else []))) [
+      | true ↦ All-push (NamesProcess count) held (counted process tally) named inside
+      | false ↦ subst (All (NamesProcess count)) (sym (append-nil held)) named
+    ]
 
 -- a heap refers to no more binaries than the dump has bytes
 pub few-at : (dump : List ℕ) (index : Contents) (place : Option ℕ) → length (references_at dump index place) ≤ length dump

@@ -159,23 +159,19 @@ upto-all enc binaries old new now from at upto left heard past none dump is =
 -- a body refers to no more binaries than it has bytes
 few-lines : (bytes : List ℕ) → length (raw_lines bytes) ≤ length bytes
 few-lines [] = omega arith
-few-lines (c ∷ bytes) = by (c == lf) (few-lines bytes)
+few-lines (c ∷ bytes) =
+    elim (c == lf) as (λ b. length (if b then (c ∷ []) ∷ raw_lines bytes else lines_after c (raw_lines bytes)) ≤ length (c ∷ bytes))
+    [ true ↦ omega (arith, few-lines bytes) | false ↦ omega (arith, few-lines bytes, after (raw_lines bytes)) ]
   where
     after : (lines : List (List ℕ)) → length (lines_after c lines) ≤ length lines + 1
     after [] = omega arith
     after (line ∷ lines) = omega arith
 
-    by : (b : Bool) → length (raw_lines bytes) ≤ length bytes → length (if b then (c ∷ []) ∷ raw_lines bytes else lines_after c (raw_lines bytes)) ≤ length (c ∷ bytes)
-    by true few = omega (arith, few)
-    by false few = omega (arith, few, after (raw_lines bytes))
-
 few-kept : (h : List ℕ → Option ℕ) (lines : List (List ℕ)) → length (filter_map h lines) ≤ length lines
 few-kept h [] = omega arith
-few-kept h (line ∷ lines) = by (h line) (few-kept h lines)
-  where
-    by : (o : Option ℕ) → length (filter_map h lines) ≤ length lines → length (cons_option o (filter_map h lines)) ≤ length (line ∷ lines)
-    by None few = omega (arith, few)
-    by (Some n) few = omega (arith, few)
+few-kept h (line ∷ lines) =
+    elim (h line) as (λ o. length (cons_option o (filter_map h lines)) ≤ length (line ∷ lines))
+    [ None ↦ omega (arith, few-kept h lines) | Some n ↦ omega (arith, few-kept h lines) ]
 
 pub few-references : (enc : Enc) (body : List ℕ) → length (references enc body) ≤ length body
 few-references enc body = omega (arith, ap length (references-of-lines enc body), few-kept (line_reference enc) (raw_lines body), few-lines body)

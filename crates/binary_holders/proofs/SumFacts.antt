@@ -25,8 +25,7 @@ sum-differs f g (x ∷ xs) d (suc p) more inside gains agree =
 
 pub sum-filter : {X : Type 0} (p : X → Bool) (f : X → ℕ) (xs : List X) → sum_by f (filter p xs) ≡ sum_by (λ x. cond (p x) (f x) 0) xs
 sum-filter p f [] = refl
-sum-filter p f (x ∷ xs) = by (p x) (sum-filter p f xs) ∙ sym (sum_by-cons (λ x. cond (p x) (f x) 0) x xs)
-  where
-    by : (b : Bool) → sum_by f (filter p xs) ≡ sum_by (λ x. cond (p x) (f x) 0) xs → sum_by f (cond b (x ∷ filter p xs) (filter p xs)) ≡ cond b (f x) 0 + sum_by (λ x. cond (p x) (f x) 0) xs
-    by true rest = sum_by-cons f x (filter p xs) ∙ ap (λ n. f x + n) rest
-    by false rest = omega (arith, rest)
+sum-filter p f (x ∷ xs) =
+    elim (p x) as (λ b. sum_by f (cond b (x ∷ filter p xs) (filter p xs)) ≡ cond b (f x) 0 + sum_by (λ x. cond (p x) (f x) 0) xs)
+    [ true ↦ sum_by-cons f x (filter p xs) ∙ ap (λ n. f x + n) (sum-filter p f xs) | false ↦ omega (arith, sum-filter p f xs) ]
+    ∙ sym (sum_by-cons (λ x. cond (p x) (f x) 0) x xs)

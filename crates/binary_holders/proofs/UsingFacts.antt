@@ -1,8 +1,9 @@
 -- The use of the binaries of a dump, from what was found and heard.
-use Rattle.std.proofs.Common.{◌≡◌, ℕ, ◌+◌, ◌*◌, ◌<◌, ◌≤◌, Bool, true, false, cond, List, [], ◌∷◌, ◌++◌, length, map, get_or, Option, None, Some, Result, Ok, Err, if◌then◌else◌, refl, sym, ◌∙◌, ap, arith, codes}
+use Rattle.std.proofs.Common.{◌≡◌, ℕ, ◌+◌, ◌*◌, ◌<◌, ◌≤◌, Bool, true, false, cond, List, [], ◌∷◌, ◌++◌, length, map, get_or, Option, None, Some, Result, Ok, Err, if◌then◌else◌, sym, ◌∙◌, ap, arith, codes}
 use Rattle.std.specs.Prelude.{IfOk, slice_index}
 use Rattle.std.specs.List.{cons_option, count_by, filter_map}
 use Rattle.std.specs.Option.{option_map, option_and_then}
+use Rattle.std.proofs.lemmas.Simd.{map-map}
 use Rattle.std.proofs.lemmas.List.{get_or-map, length-map, same_lists}
 use Rattle.std.proofs.lemmas.List.Sums.{sum_by-cons, sum_by_push}
 use Rattle.dump_io.specs.Numbers.{hex_number}
@@ -24,10 +25,6 @@ use Rattle.binary_holders.specs.Inner.Places.{heap_place, references_at}
 use Rattle.binary_holders.specs.Inner.Rows.{AreRows, row_at}
 use Rattle.binary_holders.specs.Inner.Tallies.{HasHeard, number_at}
 use Rattle.binary_holders.proofs.TallyFacts.{at-number, no_binary}
-
-map-map : {X Y Z : Type 0} (f : Y → Z) (g : X → Y) (xs : List X) → map f (map g xs) ≡ map (λ x. f (g x)) xs
-map-map f g [] = refl
-map-map f g (x ∷ xs) = ap (λ l. f (g x) ∷ l) (map-map f g xs)
 
 -- two facts of one answer
 pub both-ok : {T E : Type 0} (r : Result T E) (P Q : T → Type 0) → IfOk r P → IfOk r Q → IfOk r (λ x. P x × Q x)
@@ -53,12 +50,9 @@ heaps-are dump index processes heaps is =
 
 few-firsts : (seen : List ℕ) (xs : List Stored) → length (firsts seen xs) ≤ length xs
 few-firsts seen [] = omega arith
-few-firsts seen (x ∷ xs) = by (is_among seen x.number) (few-firsts seen xs) (few-firsts (x.number ∷ seen) xs)
-  where
-    by : (b : Bool) → length (firsts seen xs) ≤ length xs → length (firsts (x.number ∷ seen) xs) ≤ length xs
-        → length (if b then firsts seen xs else x ∷ firsts (x.number ∷ seen) xs) ≤ length (x ∷ xs)
-    by true here later = omega (arith, here)
-    by false here later = omega (arith, later)
+few-firsts seen (x ∷ xs) =
+    elim (is_among seen x.number) as (λ b. length (if b then firsts seen xs else x ∷ firsts (x.number ∷ seen) xs) ≤ length (x ∷ xs))
+    [ true ↦ omega (arith, few-firsts seen xs) | false ↦ omega (arith, few-firsts (x.number ∷ seen) xs) ]
 
 few-binaries : (sections : List Section) → length (filter_map binary_of sections) ≤ count_by (λ (s : Section). has_tag (codes "binary") s.text) sections
 few-binaries [] = omega arith

@@ -2,7 +2,6 @@ pub mod Base64Payload
 pub mod Encodings
 pub mod HexDigits
 pub mod HexPayload
-pub mod Parts
 pub mod PayloadBytes
 pub mod Pieces
 pub mod Ranges

@@ -1,7 +1,6 @@
 -- Which records stand in front of all others with their address.
-use Rattle.std.proofs.Common.{◌≡◌, ℕ, zero, suc, ◌+◌, ◌-◌, ◌<◌, ◌≤◌, ◌==◌, ◌||◌, ◌⊎◌, inl, inr, Bool, true, false, not, eqb, List, length, get_or, set, take, refl, sym, ◌∙◌, ap, subst, arith, below_more}
-use Rattle.std.proofs.lemmas.Bool.{true≢false, cases_lt, false_from_ne_true, eq-eqb, eqb-true}
-use Rattle.std.proofs.lemmas.Bool.Decides.{eqb_tells}
+use Rattle.std.proofs.Common.{◌≡◌, ℕ, zero, suc, ◌+◌, ◌-◌, ◌<◌, ◌≤◌, ◌==◌, ◌||◌, ◌⊎◌, ⊎_elim, inl, inr, Bool, true, false, not, List, length, get_or, set, take, refl, sym, ◌∙◌, ap, subst, arith, below_more}
+use Rattle.std.proofs.lemmas.Bool.{true≢false, cases_eq, cases_lt, false_from_ne_true, eq-eqb, eqb-true}
 use Rattle.std.proofs.lemmas.Grind.{get_or-set_at}
 use Rattle.std.proofs.lemmas.List.{get_or_default, get_or-set_other, get_or-set_same, length-set, length-map, get_or-take, length-take}
 use Rattle.std.proofs.lemmas.List.Folds.{list_any_none, list_any_at}
@@ -53,21 +52,19 @@ pub begins-first : (rs : List CellRecord) (order : List ℕ) (k : ℕ) → lengt
 begins-first rs order k few is inside passes m less same =
     let here = number-at rs order k is inside in
     let there = is.complete m (omega (arith, less, here)) in
-    elsewhere there.0 there.1 there.2 (cases_lt there.0 k)
-  where
-    elsewhere : (j : ℕ) → j < length order → get_or order j m ≡ m → (j < k) ⊎ (k ≤ j) → ⊥
-    elsewhere j listed stands (inr later) =
-        let ranks = ranked rs order k j (get_or order k 0) m is later listed (get_or_default order k (get_or order k 0) 0 inside) stands in
-        omega (arith, ranks, same, less)
-    elsewhere j listed stands (inl earlier) =
-        let one = number-at rs order (k - 1) is (omega arith) in
-        let here = number-at rs order k is inside in
-        let up = ranked rs order j (k - 1) m (get_or order (k - 1) 0) is (omega arith) (omega arith) stands
-        (get_or_default order (k - 1) (get_or order (k - 1) 0) 0 (omega arith)) in
-        let down = is.sorted (k - 1) k 0 (omega arith) inside in
-        let a = lesser (address_in rs m) (address_in rs (get_or order (k - 1) 0)) m (get_or order (k - 1) 0) (omega (arith, less, here, few)) (omega (arith, one, few)) up in
-        let b = lesser (address_in rs (get_or order (k - 1) 0)) (address_in rs (get_or order k 0)) (get_or order (k - 1) 0) (get_or order k 0) (omega (arith, one, few)) (omega (arith, here, few)) down in
-        true≢false (sym passes ∙ begins-no rs order k (omega arith) (omega (arith, a, b, same)))
+    elim (cases_lt there.0 k) [
+      | inr later ↦
+          let ranks = ranked rs order k there.0 (get_or order k 0) m is later there.1 (get_or_default order k (get_or order k 0) 0 inside) there.2 in
+          omega (arith, ranks, same, less)
+      | inl earlier ↦
+          let one = number-at rs order (k - 1) is (omega arith) in
+          let up = ranked rs order there.0 (k - 1) m (get_or order (k - 1) 0) is (omega arith) (omega arith) there.2
+          (get_or_default order (k - 1) (get_or order (k - 1) 0) 0 (omega arith)) in
+          let down = is.sorted (k - 1) k 0 (omega arith) inside in
+          let a = lesser (address_in rs m) (address_in rs (get_or order (k - 1) 0)) m (get_or order (k - 1) 0) (omega (arith, less, here, few)) (omega (arith, one, few)) up in
+          let b = lesser (address_in rs (get_or order (k - 1) 0)) (address_in rs (get_or order k 0)) (get_or order (k - 1) 0) (get_or order k 0) (omega (arith, one, few)) (omega (arith, here, few)) down in
+          true≢false (sym passes ∙ begins-no rs order k (omega arith) (omega (arith, a, b, same)))
+    ]
 
 -- ---- what is first begins an address
 
@@ -88,12 +85,10 @@ begun-before rs order k is inside first fails =
     let ranks : rank (address_in rs (get_or order k 0)) (get_or order k 0) ≤ rank (address_in rs (get_or order (suc k) 0)) (get_or order (suc k) 0) =
     is.sorted k (suc k) 0 (omega arith) inside in
     let up : get_or order k 0 ≤ get_or order (suc k) 0 = omega (arith, ranks, same) in
-    by-cases same up (cases_lt (get_or order k 0) (get_or order (suc k) 0))
-  where
-    by-cases : address_in rs (get_or order k 0) ≡ address_in rs (get_or order (suc k) 0) → get_or order k 0 ≤ get_or order (suc k) 0
-        → (get_or order k 0 < get_or order (suc k) 0) ⊎ (get_or order (suc k) 0 ≤ get_or order k 0) → get_or order k 0 ≡ get_or order (suc k) 0
-    by-cases same up (inl less) = absurd (first (get_or order k 0) less same)
-    by-cases same up (inr more) = omega (arith, up, more)
+    elim (cases_lt (get_or order k 0) (get_or order (suc k) 0)) [
+      | inl lesser_one ↦ absurd (first (get_or order k 0) lesser_one same)
+      | inr more ↦ omega (arith, up, more)
+    ]
 
 begun-at : (rs : List CellRecord) (order : List ℕ) (n k : ℕ) → IsOrder rs order → k < length order → get_or order k 0 ≡ n → IsFirst rs n → IsBegun rs order n
 begun-at rs order n zero is inside stands first = record { place = 0; within = inside; stands = stands; passes = refl }
@@ -114,18 +109,11 @@ marked-none rs order firsts count none = record {
 }
 
 keeps-true : (firsts : List Bool) (i j : ℕ) → i < length firsts → get_or firsts j false ≡ true → get_or (set firsts i true) j false ≡ true
-keeps-true firsts i j inside is = by-place (eqb_tells j i)
-  where
-    by-place : ((eqb j i ≡ true) × (j ≡ i)) ⊎ ((eqb j i ≡ false) × (j ≡ i → ⊥)) → get_or (set firsts i true) j false ≡ true
-    by-place (inl same) = get_or-set_at firsts i j true false same.1 inside
-    by-place (inr other) = get_or-set_other firsts i j true false other.1 ∙ is
+keeps-true firsts i j inside is =
+    ⊎_elim (λ same. get_or-set_at firsts i j true false same inside) (λ other. get_or-set_other firsts i j true false other ∙ is) (cases_eq j i)
 
 was-true : (firsts : List Bool) (i j : ℕ) → get_or (set firsts i true) j false ≡ true → (j ≡ i) ⊎ (get_or firsts j false ≡ true)
-was-true firsts i j is = by-place (eqb_tells j i)
-  where
-    by-place : ((eqb j i ≡ true) × (j ≡ i)) ⊎ ((eqb j i ≡ false) × (j ≡ i → ⊥)) → (j ≡ i) ⊎ (get_or firsts j false ≡ true)
-    by-place (inl same) = inl same.1
-    by-place (inr other) = inr (sym (get_or-set_other firsts i j true false other.1) ∙ is)
+was-true firsts i j is = ⊎_elim (λ same. inl same) (λ other. inr (sym (get_or-set_other firsts i j true false other) ∙ is)) (cases_eq j i)
 
 pub marked-more : (rs : List CellRecord) (order : List ℕ) (firsts more : List Bool) (k : ℕ) → length rs < 4294967296 → IsOrder rs order → k < length order
     → AreMarked rs order firsts k → begins rs order k ≡ true → more ≡ set firsts (get_or order k 0) true → AreMarked rs order more (k + 1)

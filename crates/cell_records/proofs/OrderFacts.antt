@@ -1,5 +1,5 @@
 -- Numbers of records in the order of their addresses.
-use Rattle.std.proofs.Common.{◌≡◌, ℕ, ◌+◌, ◌<◌, ◌≤◌, ◌==◌, ◌⊎◌, inl, inr, true, false, ltb, List, length, get_or, map, None, Some, refl, sym, ◌∙◌, ap, subst, arith, [], ◌∷◌, ◌++◌, length-append, below_more}
+use Rattle.std.proofs.Common.{◌≡◌, ℕ, ◌+◌, ◌<◌, ◌≤◌, ◌==◌, ◌⊎◌, inl, inr, Bool, true, false, ltb, cond, List, length, get_or, map, None, Some, refl, sym, ◌∙◌, ap, subst, arith, [], ◌∷◌, ◌++◌, length-append, below_more}
 use Rattle.std.specs.Prelude.{All}
 use Rattle.std.specs.List.Sorted.{IsNonDecreasingBy, IsPartitionPoint, IsPermutation, IsSorted}
 use Rattle.std.specs.Ordering.{is_lt, ordering_then, nat_cmp}
@@ -11,10 +11,15 @@ use Rattle.std.proofs.lemmas.Bool.{true≢false, cases_lt, cases_order, false_fr
 use Rattle.std.proofs.lemmas.List.{get_or_default, get_or-map, length-map, get_or_push, get_or_append_left}
 use Rattle.std.proofs.lemmas.List.Sorted.{All-permutation, Contains-permutation, IsNonDecreasingBy-from_all_adjacent}
 use Rattle.std.proofs.lemmas.Option.{slice_get-get_or}
+use Rattle.std.specs.List.{position, position_or_len}
+use Rattle.std.proofs.lemmas.List.Sums.{position_or_len_is}
 use Rattle.cell_records.specs.declared.cells.CellRecord.{CellRecord}
 use Rattle.cell_records.specs.Order.{address_or, address_in, rank, IsOrder, record_with, IsPairOf, ArePairs, AreRanked}
 use Rattle.cell_records.specs.Inner.References.{IsFirstFrom}
-use Rattle.cell_records.proofs.FirstPlace.{position-at, position-none}
+use Rattle.cell_records.specs.Inner.Ranks.{pair_at, AreNumbered}
+use Rattle.cell_records.specs.declared.ranks.Kept.{Kept}
+use Rattle.cell_records.specs.declared.ranks.Kept.TheVariants.{Wide}
+use Rattle.std.specs.Global.{Vec}
 
 pub lesser : (a b m n : ℕ) → m < 4294967296 → n < 4294967296 → rank a m ≤ rank b n → a ≤ b
 lesser a b m n one other ranks = omega arith
@@ -25,6 +30,19 @@ by-address rs order few is i j d up inside =
     let one = is.within i d (omega arith) in
     let other = is.within j d inside in
     lesser (address_in rs (get_or order i d)) (address_in rs (get_or order j d)) (get_or order i d) (get_or order j d) (omega (arith, one)) (omega (arith, other)) (is.sorted i j d up inside)
+
+-- ---- the first element that passes a test
+
+position-at : {X : Type 0} (p : X → Bool) (xs : List X) (i : ℕ) (d : X) → ((k : ℕ) → k < i → p (get_or xs k d) ≡ false) → i < length xs → p (get_or xs i d) ≡ true
+    → position p xs ≡ Some i
+position-at p xs i d below inside passes =
+    let here : position_or_len p xs ≡ i = position_or_len_is p xs i d (omega arith) below (λ _. passes) in
+    ap (λ n. cond (ltb n (length xs)) (Some n) None) here ∙ ap (λ b. cond b (Some i) None) (lt-ltb i (length xs) inside)
+
+position-none : {X : Type 0} (p : X → Bool) (xs : List X) (d : X) → ((k : ℕ) → k < length xs → p (get_or xs k d) ≡ false) → position p xs ≡ None
+position-none p xs d below =
+    let past : position_or_len p xs ≡ length xs = position_or_len_is p xs (length xs) d (omega arith) below (λ inside. absurd (omega arith)) in
+    ap (λ n. cond (ltb n (length xs)) (Some n) None) past ∙ ap (λ b. cond b (Some (length xs)) None) (le-ltb (length xs) (length xs) (omega arith))
 
 -- ---- the first record with an address
 
@@ -78,33 +96,31 @@ ranked rs order i j m n is up inside one other =
 pub found-there : (rs : List CellRecord) (order : List ℕ) (address at n : ℕ) → IsOrder rs order → IsPointOf rs order address at → at < length order
     → n ≡ get_or order at n → address_in rs n ≡ address → record_with rs address ≡ Some n
 found-there rs order address at n is point inside read same =
-    record-first rs address n (subst (λ k. k < length rs) (sym read) (is.within at n inside)) same before
-  where
-    not_before : (m k : ℕ) → m < n → address_in rs m ≡ address → k < length order → get_or order k m ≡ m → (k < at) ⊎ (at ≤ k) → ⊥
-    not_before m k less equal within there (inl earlier) = front-differs rs order address at k m point earlier there equal
-    not_before m k less equal within there (inr later) =
-        let ranks = ranked rs order at k n m is later within (sym read) there in omega (arith, ranks, same, equal)
-
-    before : (m : ℕ) → m < n → address_in rs m ≡ address → ⊥
-    before m less equal =
-        let here : n < length rs = subst (λ k. k < length rs) (sym read) (is.within at n inside) in
-        let there = is.complete m (omega arith) in
-        not_before m there.0 less equal there.1 there.2 (cases_lt there.0 at)
+    let here : n < length rs = subst (λ k. k < length rs) (sym read) (is.within at n inside) in
+    record-first rs address n here same
+    (λ m less equal.
+    let there = is.complete m (omega arith) in
+    elim (cases_lt there.0 at) [
+      | inl earlier ↦ front-differs rs order address at there.0 m point earlier there.2 equal
+      | inr later ↦ let ranks = ranked rs order at there.0 n m is later there.1 (sym read) there.2 in omega (arith, ranks, same, equal, less)
+    ])
 
 pub other-there : (rs : List CellRecord) (order : List ℕ) (address at n : ℕ) → length rs < 4294967296 → IsOrder rs order → IsPointOf rs order address at → at < length order
     → n ≡ get_or order at n → (address_in rs n ≡ address → ⊥) → record_with rs address ≡ None
 other-there rs order address at n few is point inside read other =
-    record-none rs address (λ m within same. let there = is.complete m within in nowhere m there.0 within same there.1 there.2 (cases_lt there.0 at))
-  where
-    nowhere : (m k : ℕ) → m < length rs → address_in rs m ≡ address → k < length order → get_or order k m ≡ m → (k < at) ⊎ (at ≤ k) → ⊥
-    nowhere m k within same listed there (inl earlier) = front-differs rs order address at k m point earlier there same
-    nowhere m k within same listed there (inr later) =
-        let here : n < length rs = subst (λ k. k < length rs) (sym read) (is.within at n inside) in
-        let ranks = ranked rs order at k n m is later listed (sym read) there in
-        let up : address_in rs n ≤ address_in rs m = lesser (address_in rs n) (address_in rs m) n m (omega arith) (omega arith) ranks in
-        let behind : address ≤ address_in rs n =
-        ltb-false _ _ (subst (λ k. ltb (address_in rs k) address ≡ false) (sym read) (point.1 at n (omega arith) inside)) in
-        other (omega (arith, up, behind, same))
+    let here : n < length rs = subst (λ k. k < length rs) (sym read) (is.within at n inside) in
+    let behind : address ≤ address_in rs n =
+    ltb-false _ _ (subst (λ k. ltb (address_in rs k) address ≡ false) (sym read) (point.1 at n (omega arith) inside)) in
+    record-none rs address
+    (λ m within same.
+    let there = is.complete m within in
+    elim (cases_lt there.0 at) [
+      | inl earlier ↦ front-differs rs order address at there.0 m point earlier there.2 same
+      | inr later ↦
+          let ranks = ranked rs order at there.0 n m is later there.1 (sym read) there.2 in
+          let up : address_in rs n ≤ address_in rs m = lesser (address_in rs n) (address_in rs m) n m (omega arith) (omega arith) ranks in
+          other (omega (arith, up, behind, same))
+    ])
 
 -- ---- pairs of addresses and numbers
 
@@ -234,3 +250,23 @@ other-address rs pairs address at few are first inside other =
     let read : number ≡ get_or (numbers_of pairs) at number = sym (get_or-map (λ (p : ℕ × ℕ). p.1) pairs at (0, 0) number inside) in
     other-there rs (numbers_of pairs) address at number (omega (arith, few)) (order-of rs pairs are) (point-of rs pairs address at few are first)
     (omega (arith, inside, length-map pairs (λ (p : ℕ × ℕ). p.1))) read (λ same. other (sym (address-at rs pairs at number are.pairs_are inside) ∙ ap (address_in rs) (sym read) ∙ same))
+
+-- ---- pairs as they are kept
+
+-- pairs stand in the order of the numbers that they are kept as
+rank-rises : (base a b : ℕ) → a ≤ b → rank (pair_at base a).0 (pair_at base a).1 ≤ rank (pair_at base b).0 (pair_at base b).1
+rank-rises base a b up = omega (arith, up)
+
+pub narrow-ranked : (base : ℕ) (ranks : List ℕ) → IsNonDecreasingBy (λ n. n) ranks → IsNonDecreasingBy (λ (p : ℕ × ℕ). rank p.0 p.1) (map (pair_at base) ranks)
+narrow-ranked base ranks sorted i j d up inside =
+    let within : j < length ranks = omega (arith, inside, length-map ranks (pair_at base)) in
+    let one = get_or-map (pair_at base) ranks i 0 d (omega arith) in
+    let other = get_or-map (pair_at base) ranks j 0 d within in
+    rw (one, other) (rank-rises base (get_or ranks i 0) (get_or ranks j 0) (sorted i j 0 up within))
+
+-- each number that is kept so is one of 27 bits
+pub narrow-numbered : (base : ℕ) (ranks : List ℕ) → All (λ (p : ℕ × ℕ). p.1 < 134217728) (map (pair_at base) ranks)
+narrow-numbered base ranks = All-map (λ (p : ℕ × ℕ). p.1 < 134217728) (pair_at base) ranks (λ k d inside. omega arith)
+
+pub numbered-wide : (kept : Kept) (pairs : Vec (ℕ × ℕ)) → kept ≡ Wide pairs → AreNumbered kept → All (λ (p : ℕ × ℕ). p.1 < 134217728) pairs.items
+numbered-wide kept pairs is numbered = subst AreNumbered is numbered

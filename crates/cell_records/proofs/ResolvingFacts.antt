@@ -1,11 +1,11 @@
 -- Resolving references in place.
-use Rattle.std.proofs.Common.{◌≡◌, ℕ, ◌+◌, ◌<◌, ◌≤◌, ◌⊎◌, true, false, eqb, inl, inr, List, ◌++◌, length, get_or, set, map, Option, None, Some, refl, sym, ◌∙◌, ap, subst, arith, below_more}
+use Rattle.std.proofs.Common.{◌≡◌, ℕ, ◌+◌, ◌<◌, ◌≤◌, ◌⊎◌, ⊎_elim, inl, inr, List, ◌++◌, length, get_or, set, map, Option, None, Some, refl, sym, ◌∙◌, ap, subst, arith, below_more}
 use Rattle.std.specs.Prelude.{slice_get, All, Contains}
 use Rattle.std.specs.List.Sorted.{IsPermutation, IsNonDecreasingBy}
 use Rattle.std.proofs.lemmas.List.Sorted.{All-permutation, Contains-permutation}
 use Rattle.std.proofs.lemmas.List.Elements.{All-push, Contains-push, Contains-append_left}
 use Rattle.std.proofs.lemmas.Option.{get_or_from_slice_get, slice_get_within, slice_get-get_or}
-use Rattle.std.proofs.lemmas.Bool.Decides.{eqb_tells}
+use Rattle.std.proofs.lemmas.Bool.{cases_eq}
 use Rattle.std.proofs.lemmas.Grind.{get_or-set_at}
 use Rattle.std.proofs.lemmas.List.{get_or_default, get_or-set_other, get_or-map, length-set, length-map, same_lists, append-nil}
 use Rattle.cell_records.specs.declared.cells.CellRecord.{CellRecord}
@@ -69,67 +69,47 @@ found-settled : (rs : List CellRecord) (olds : List Slot) (address i : ℕ) (d :
     → cell_or_gone address number ≡ settled rs (get_or olds i d)
 found-settled rs olds address i d number is found = ap (cell_or_gone address) found ∙ ap (settled rs) (sym (get_or_from_slice_get olds i (slot.Gone address) d is))
 
-pub resolving-more : (rs : List CellRecord) (olds slots : List Slot) (references : List (ℕ × ℕ)) (k : ℕ) (number : Option ℕ) → k < length references → AreReferences olds references
-    → AreResolving rs olds slots references k → number ≡ record_with rs (get_or references k (0, 0)).0
-    → AreResolving rs olds (found_at slots (get_or references k (0, 0)).1 number) references (k + 1)
-resolving-more rs olds slots references k None listed are before found = record {
-  count = before.count;
-  each = before.each;
-  over = λ j e. below_more (λ j. get_or slots (get_or references j (0, 0)).1 e ≡ settled rs (get_or olds (get_or references j (0, 0)).1 e)) k
-      (λ j earlier. before.over j e earlier) (stays e (before.each i e inside)) j;
-}
-  where
-    i : ℕ
-    i = (get_or references k (0, 0)).1
+-- a further reference is settled, or stays as it was where no cell has its address
+module _ (rs : List CellRecord) (olds slots : List Slot) (references : List (ℕ × ℕ)) (k : ℕ) where
+  abbrev i : ℕ
+  i = (get_or references k (0, 0)).1
 
-    address : ℕ
-    address = (get_or references k (0, 0)).0
+  abbrev address : ℕ
+  address = (get_or references k (0, 0)).0
 
-    is : slice_get olds i ≡ Some (slot.Gone address)
-    is = are.sound k (0, 0) listed
+  pub resolving-more : (number : Option ℕ) → k < length references → AreReferences olds references → AreResolving rs olds slots references k → number ≡ record_with rs address
+      → AreResolving rs olds (found_at slots i number) references (k + 1)
+  resolving-more None listed are before found = record {
+    count = before.count;
+    each = before.each;
+    over = λ j e. below_more (λ j. get_or slots (get_or references j (0, 0)).1 e ≡ settled rs (get_or olds (get_or references j (0, 0)).1 e)) k
+        (λ j earlier. before.over j e earlier) (stays e (before.each i e (slice_get_within olds i (slot.Gone address) is))) j;
+  }
+    where
+      is : slice_get olds i ≡ Some (slot.Gone address)
+      is = are.sound k (0, 0) listed
 
-    inside : i < length olds
-    inside = slice_get_within olds i (slot.Gone address) is
+      stays : (e : Slot) → (get_or slots i e ≡ get_or olds i e) ⊎ (get_or slots i e ≡ settled rs (get_or olds i e)) → get_or slots i e ≡ settled rs (get_or olds i e)
+      stays e (inl same) = same ∙ get_or_from_slice_get olds i (slot.Gone address) e is ∙ found-settled rs olds address i e None is found
+      stays e (inr over) = over
+  resolving-more (Some number) listed are before found = record {
+    count = length-set slots i now ∙ before.count;
+    each = λ j e within. ⊎_elim (λ same. inr (here j e same)) (λ other. let was = get_or-set_other slots i j now e other in rw was (before.each j e within)) (cases_eq j i);
+    over = λ j e. below_more (λ j. get_or (set slots i now) (get_or references j (0, 0)).1 e ≡ settled rs (get_or olds (get_or references j (0, 0)).1 e)) k
+        (λ j earlier. ⊎_elim (λ same. here (get_or references j (0, 0)).1 e same)
+        (λ other. get_or-set_other slots i (get_or references j (0, 0)).1 now e other ∙ before.over j e earlier) (cases_eq (get_or references j (0, 0)).1 i)) (here i e refl) j;
+  }
+    where
+      now : Slot
+      now = slot.Cell (record { 0 = number })
 
-    stays : (e : Slot) → (get_or slots i e ≡ get_or olds i e) ⊎ (get_or slots i e ≡ settled rs (get_or olds i e)) → get_or slots i e ≡ settled rs (get_or olds i e)
-    stays e (inl same) = same ∙ get_or_from_slice_get olds i (slot.Gone address) e is ∙ found-settled rs olds address i e None is found
-    stays e (inr over) = over
-resolving-more rs olds slots references k (Some number) listed are before found = record {
-  count = length-set slots i now ∙ before.count;
-  each = λ j e within. each j e within (eqb_tells j i);
-  over = λ j e. below_more (λ j. get_or (set slots i now) (get_or references j (0, 0)).1 e ≡ settled rs (get_or olds (get_or references j (0, 0)).1 e)) k
-      (λ j earlier. over j e earlier (eqb_tells (get_or references j (0, 0)).1 i)) (here i e refl) j;
-}
-  where
-    i : ℕ
-    i = (get_or references k (0, 0)).1
+      is : slice_get olds i ≡ Some (slot.Gone address)
+      is = are.sound k (0, 0) listed
 
-    address : ℕ
-    address = (get_or references k (0, 0)).0
-
-    now : Slot
-    now = slot.Cell (record { 0 = number })
-
-    is : slice_get olds i ≡ Some (slot.Gone address)
-    is = are.sound k (0, 0) listed
-
-    within : i < length slots
-    within = let inside = slice_get_within olds i (slot.Gone address) is in omega (arith, inside, before.count)
-
-    here : (j : ℕ) (e : Slot) → j ≡ i → get_or (set slots i now) j e ≡ settled rs (get_or olds j e)
-    here j e same =
-        get_or-set_at slots i j now e same within ∙ found-settled rs olds address i e (Some number) is found ∙ ap (λ n. settled rs (get_or olds n e)) (sym same)
-
-    each : (j : ℕ) (e : Slot) → j < length olds → ((eqb j i ≡ true) × (j ≡ i)) ⊎ ((eqb j i ≡ false) × (j ≡ i → ⊥))
-        → (get_or (set slots i now) j e ≡ get_or olds j e) ⊎ (get_or (set slots i now) j e ≡ settled rs (get_or olds j e))
-    each j e listed (inl same) = inr (here j e same.1)
-    each j e listed (inr other) =
-        let was = get_or-set_other slots i j now e other.1 in rw was (before.each j e listed)
-
-    over : (j : ℕ) (e : Slot) → j < k → ((eqb (get_or references j (0, 0)).1 i ≡ true) × ((get_or references j (0, 0)).1 ≡ i)) ⊎ ((eqb (get_or references j (0, 0)).1 i ≡ false) × ((get_or references j (0, 0)).1 ≡ i → ⊥))
-        → get_or (set slots i now) (get_or references j (0, 0)).1 e ≡ settled rs (get_or olds (get_or references j (0, 0)).1 e)
-    over j e earlier (inl same) = here (get_or references j (0, 0)).1 e same.1
-    over j e earlier (inr other) = get_or-set_other slots i (get_or references j (0, 0)).1 now e other.1 ∙ before.over j e earlier
+      here : (j : ℕ) (e : Slot) → j ≡ i → get_or (set slots i now) j e ≡ settled rs (get_or olds j e)
+      here j e same =
+          get_or-set_at slots i j now e same (let inside = slice_get_within olds i (slot.Gone address) is in omega (arith, inside, before.count))
+          ∙ found-settled rs olds address i e (Some number) is found ∙ ap (λ n. settled rs (get_or olds n e)) (sym same)
 
 either : (s old now : Slot) → now ≡ old → (s ≡ old) ⊎ (s ≡ now) → s ≡ now
 either s old now same (inl was) = was ∙ sym same

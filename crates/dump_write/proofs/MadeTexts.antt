@@ -19,25 +19,25 @@ queue_number queue few = decimal_part 1 queue (omega arith) (omega (arith, few))
 address_number : (address : ℕ) → address < 16 ^ 8 → IsPart (hexadecimal address) 8
 address_number address few = hexadecimal_part 8 address (omega arith) few (omega (arith, few))
 
-link_list_part : (queue next previous : ℕ) → next ≤ 200000 → previous ≤ 200000 → IsPart (link_list queue next previous) 39
-link_list_part queue next previous n p =
-    elim (queue == 0) as (λ b. IsPart (if b then concat (codes "Link list: [<0." ∷ decimal next ∷ codes ".0>]" ∷ []) else concat (codes "Link list: [<0." ∷ decimal next ∷ codes ".0>, <0." ∷ decimal previous ∷ codes ".0>]" ∷ [])) 39) [
-      | true ↦ within (omega arith) (before (literal (codes "Link list: [<0.") refl) (before (process_number next n) (before (literal (codes ".0>]") refl) none)))
-      | false ↦ within (omega arith) (before (literal (codes "Link list: [<0.") refl) (before (process_number next n) (before (literal (codes ".0>, <0.") refl) (before (process_number previous p) (before (literal (codes ".0>]") refl) none)))))
-    ]
+-- a line that is no header, of so many bytes at most
+abbrev IsBody : List ℕ → ℕ → Type 0
+IsBody text most = IsPart text most × (begins_with_equals text ≡ false)
 
-link_list_begins : (queue next previous : ℕ) → begins_with_equals (link_list queue next previous) ≡ false
-link_list_begins queue next previous =
-    elim (queue == 0) as (λ b. begins_with_equals (if b then concat (codes "Link list: [<0." ∷ decimal next ∷ codes ".0>]" ∷ []) else concat (codes "Link list: [<0." ∷ decimal next ∷ codes ".0>, <0." ∷ decimal previous ∷ codes ".0>]" ∷ [])) ≡ false)
-    [ true ↦ refl | false ↦ refl ]
+link_list_body : (queue next previous : ℕ) → next ≤ 200000 → previous ≤ 200000 → IsBody (link_list queue next previous) 39
+link_list_body queue next previous n p =
+    elim (queue == 0) as (λ b. IsBody (if b then concat (codes "Link list: [<0." ∷ decimal next ∷ codes ".0>]" ∷ []) else concat (codes "Link list: [<0." ∷ decimal next ∷ codes ".0>, <0." ∷ decimal previous ∷ codes ".0>]" ∷ [])) 39) [
+      | true ↦ (within (omega arith) (before (literal (codes "Link list: [<0.") refl) (before (process_number next n) (before (literal (codes ".0>]") refl) none))), refl)
+      | false ↦ (within (omega arith) (before (literal (codes "Link list: [<0.") refl) (before (process_number next n) (before (literal (codes ".0>, <0.") refl) (before (process_number previous p) (before (literal (codes ".0>]") refl) none))))), refl)
+    ]
 
 proc_texts : (i queue next previous : ℕ) → i ≤ 200000 → queue < 10 → next ≤ 200000 → previous ≤ 200000 → AreTexts (proc_section i queue next previous) 1 125
 proc_texts i queue next previous few q n p =
+    let link = link_list_body queue next previous n p in
     head (before (literal (codes "=proc:<0.") refl) (before (process_number i few) (before (literal (codes ".0>") refl) none))) refl refl
     (body (literal (codes "State: Waiting") refl) refl refl
     (body (before (literal (codes "Name: p") refl) (before (process_number i few) none)) refl refl
     (body (before (literal (codes "Message queue length: ") refl) (before (queue_number queue q) none)) refl refl
-    (body (link_list_part queue next previous n p) refl (link_list_begins queue next previous)
+    (body link.0 refl link.1
     (body (literal (codes "Memory: 2000") refl) refl refl no_texts)))))
 
 stack_texts : (i : ℕ) → i ≤ 200000 → AreTexts (stack_section i) 1 38
@@ -59,22 +59,15 @@ messages_texts i queue few q =
 address_begins : (address : ℕ) (more : List ℕ) → address < 16 ^ 8 → begins_with_equals (hexadecimal address ++ more) ≡ false
 address_begins address more few = plain_is_no_header (hexadecimal address) more (hexadecimal_is_plain address (omega (arith, few)))
 
-second_cell_part : (queue heap : ℕ) → heap + 64 < 16 ^ 8 → IsPart (second_cell queue heap) 29
-second_cell_part queue heap few =
+second_cell_body : (queue heap : ℕ) → heap + 64 < 16 ^ 8 → IsBody (second_cell queue heap) 29
+second_cell_body queue heap few =
     let second = address_number (heap + 16) (omega (arith, few)) in
     let third = address_number (heap + 32) (omega (arith, few)) in
-    elim (queue == 5) as (λ b. IsPart (if b then concat (hexadecimal (heap + 16) ∷ codes ":lH" ∷ hexadecimal (heap + 32) ∷ codes "|H" ∷ hexadecimal heap ∷ [])
+    let begins = λ (more : List ℕ). address_begins (heap + 16) more (omega (arith, few)) in
+    elim (queue == 5) as (λ b. IsBody (if b then concat (hexadecimal (heap + 16) ∷ codes ":lH" ∷ hexadecimal (heap + 32) ∷ codes "|H" ∷ hexadecimal heap ∷ [])
     else concat (hexadecimal (heap + 16) ∷ codes ":lH" ∷ hexadecimal (heap + 32) ∷ codes "|N" ∷ [])) 29) [
-      | true ↦ before second (before (literal (codes ":lH") refl) (before third (before (literal (codes "|H") refl) (before (address_number heap (omega (arith, few))) none))))
-      | false ↦ within (omega arith) (before second (before (literal (codes ":lH") refl) (before third (before (literal (codes "|N") refl) none))))
-    ]
-
-second_cell_begins : (queue heap : ℕ) → heap + 64 < 16 ^ 8 → begins_with_equals (second_cell queue heap) ≡ false
-second_cell_begins queue heap few =
-    elim (queue == 5) as (λ b. begins_with_equals (if b then concat (hexadecimal (heap + 16) ∷ codes ":lH" ∷ hexadecimal (heap + 32) ∷ codes "|H" ∷ hexadecimal heap ∷ [])
-    else concat (hexadecimal (heap + 16) ∷ codes ":lH" ∷ hexadecimal (heap + 32) ∷ codes "|N" ∷ [])) ≡ false) [
-      | true ↦ address_begins (heap + 16) (concat (codes ":lH" ∷ hexadecimal (heap + 32) ∷ codes "|H" ∷ hexadecimal heap ∷ [])) (omega (arith, few))
-      | false ↦ address_begins (heap + 16) (concat (codes ":lH" ∷ hexadecimal (heap + 32) ∷ codes "|N" ∷ [])) (omega (arith, few))
+      | true ↦ (before second (before (literal (codes ":lH") refl) (before third (before (literal (codes "|H") refl) (before (address_number heap (omega (arith, few))) none)))), begins _)
+      | false ↦ (within (omega arith) (before second (before (literal (codes ":lH") refl) (before third (before (literal (codes "|N") refl) none)))), begins _)
     ]
 
 cells_texts : (i queue heap : ℕ) → i ≤ 200000 → queue < 10 → heap + 64 < 16 ^ 8 → AreTexts (cells i queue heap) 0 128
@@ -84,9 +77,10 @@ cells_texts i queue heap few q low =
     let tuple = address_number (heap + 32) (omega (arith, low)) in
     let map = address_number (heap + 48) (omega (arith, low)) in
     let binary = address_number (heap + 64) (omega (arith, low)) in
+    let next = second_cell_body queue heap low in
     body (before first (before (literal (codes ":lI") refl) (before (queue_number queue q) (before (literal (codes "|H") refl) (before second none))))) refl
     (address_begins heap (concat (codes ":lI" ∷ decimal queue ∷ codes "|H" ∷ hexadecimal (heap + 16) ∷ [])) (omega (arith, low)))
-    (body (second_cell_part queue heap low) refl (second_cell_begins queue heap low)
+    (body next.0 refl next.1
     (body (before tuple (before (literal (codes ":t2:H") refl) (before map (before (literal (codes ",H") refl) (before binary none))))) refl
     (address_begins (heap + 32) (concat (codes ":t2:H" ∷ hexadecimal (heap + 48) ∷ codes ",H" ∷ hexadecimal (heap + 64) ∷ [])) (omega (arith, low)))
     (body (before map (before (literal (codes ":Mf1:H10:I") refl) (before (process_number i few) none))) refl

@@ -1,5 +1,5 @@
 -- The first of some terms: its head is read, and behind it stand its own terms and the others.
-use Rattle.std.proofs.Common.{◌≡◌, ℕ, suc, true, false, List, [], ◌++◌, Result, Ok, Err, refl, sym, ap, ◌∙◌, arith, append_assoc}
+use Rattle.std.proofs.Common.{◌≡◌, ℕ, suc, List, [], ◌++◌, Ok, Err, refl, sym, ap, ◌∙◌, arith, append_assoc}
 use Rattle.etf_terms.specs.Depth.{depth, deepest}
 use Rattle.etf_terms.specs.Heads.{Head, kids}
 use Rattle.etf_terms.specs.Table.{head_layout}
@@ -7,7 +7,7 @@ use Rattle.etf_terms.specs.Terms.{node, Terms, none, more, count, AreTerms}
 use Rattle.etf_terms.specs.Inner.Parts.{parsed, head_of}
 use Rattle.etf_terms.specs.Inner.Walks.{reading}
 use Rattle.etf_terms.proofs.Readings.{laid-reading}
-use Rattle.etf_terms.proofs.Joins.{head-is}
+use Rattle.etf_terms.proofs.Joins.{head-is, same-ok, not-err}
 
 pub record First (head : Head) (own others : Terms) (bytes behind : List ℕ) : Type 0 where
   pub front : List ℕ
@@ -34,28 +34,14 @@ first-of h ks us bytes front behind r are =
       are_others = are.4;
     }
 
-abbrev head_in : Head → Result (Head × List ℕ) ℕ → Head
-head_in other (Ok x) = x.0
-head_in other (Err left) = other
-
-abbrev rest_in : Result (Head × List ℕ) ℕ → List ℕ
-rest_in (Ok x) = x.1
-rest_in (Err left) = []
-
 -- a head is read in one way
 pub same-head : (bytes : List ℕ) (h k : Head) (r s : List ℕ) → head_of bytes ≡ Ok (h, r) → head_of bytes ≡ Ok (k, s) → (h ≡ k) × (r ≡ s)
-same-head bytes h k r s p q =
-    let same = sym p ∙ q in (ap (head_in h) same, ap rest_in same)
+same-head bytes h k r s p q = same-ok h k r s (sym p ∙ q)
 
 pub not-both : (bytes : List ℕ) (h : Head) (r : List ℕ) (left : ℕ) → head_of bytes ≡ Ok (h, r) → head_of bytes ≡ Err left → ⊥
-not-both bytes h r left p q = never (h, r) left (sym p ∙ q) where
-  never : (x : Head × List ℕ) (left : ℕ) → Ok x ≡ Err left → ⊥
-  never x left e = cc
+not-both bytes h r left p q = not-err (h, r) left (sym p ∙ q)
 
 -- ---- a head has terms, or it has none
-
-pub true≢false : true ≡ false → ⊥
-true≢false e = cc
 
 pub depth-own : (h : Head) (ks : Terms) → (count ks ≡ 0 → ⊥) → depth (node h ks) ≡ suc (deepest ks)
 depth-own h none some = absurd (some refl)

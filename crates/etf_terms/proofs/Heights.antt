@@ -1,5 +1,6 @@
 -- How many heads are open at once, step by step.
 use Rattle.std.proofs.Common.{◌≡◌, ℕ, suc, ◌+◌, ◌-◌, ◌≤◌, ◌==◌, ◌⊎◌, ⊎_elim, Bool, true, false, cond, max, List, [], ◌∷◌, ◌++◌, length, Ok, Err, refl, sym, ap, ◌∙◌, subst, arith, append-nil, length-append}
+use Rattle.std.proofs.lemmas.Bool.{true≢false}
 use Rattle.std.proofs.lemmas.Bool.Decides.{eqb_tells}
 use Rattle.etf_terms.specs.Depth.{depth, deepest}
 use Rattle.etf_terms.specs.Heads.{Head, kids}
@@ -8,7 +9,7 @@ use Rattle.etf_terms.specs.Table.{head_layout}
 use Rattle.etf_terms.specs.Terms.{Term, node, Terms, none, more, count, IsTerm, AreTerms}
 use Rattle.etf_terms.specs.Inner.Awaiting.{opened, Awaits, Goes}
 use Rattle.etf_terms.specs.Inner.Parts.{head_of}
-use Rattle.etf_terms.proofs.Firsts.{depth-own, depth-leaf, no-terms, true≢false, first-of, same-head, not-both}
+use Rattle.etf_terms.proofs.Firsts.{depth-own, depth-leaf, no-terms, first-of, same-head, not-both}
 
 -- ---- a term is no deeper than it has bytes
 
@@ -31,14 +32,10 @@ mutual
 
 -- ---- a head that wants no more
 
-closes-terms : (n : ℕ) (ns rest : List ℕ) (most : ℕ) (terms : Terms) (front behind : List ℕ) (below : ℕ) → n ≡ 0 → rest ≡ front ++ behind
-    → AreTerms front terms → count terms ≡ n → most ≡ max (suc (length ns) + deepest terms) below → Awaits ns behind below → Goes (suc (length ns)) most ns rest
-closes-terms n ns rest most none front behind below ended r are counts m s =
-    record { later = below; awaits = subst (λ l. Awaits ns l below) (sym (r ∙ ap (λ l. l ++ behind) are)) s; reaches = omega (arith, m) }
-closes-terms n ns rest most (more u us) front behind below ended r are counts m s = absurd (omega (arith, ended, counts))
-
 pub closes-one : (n : ℕ) (ns rest : List ℕ) (most : ℕ) → n ≡ 0 → Awaits (n ∷ ns) rest most → Goes (suc (length ns)) most ns rest
-closes-one n ns rest most ended s = closes-terms n ns rest most s.0 s.1 s.2 s.3 ended s.4 s.5 s.6 s.7 s.8
+closes-one n ns rest most ended (none, front, behind, below, r, are, counts, m, s) =
+    record { later = below; awaits = subst (λ l. Awaits ns l below) (sym (r ∙ ap (λ l. l ++ behind) are)) s; reaches = omega (arith, m) }
+closes-one n ns rest most ended (more u us, front, behind, below, r, are, counts, m, s) = absurd (omega (arith, ended, counts))
 
 -- ---- a head that wants one more
 
@@ -86,11 +83,10 @@ opens-by false h ks us m ns own others behind most below is are_own count_own ar
       reaches = omega (arith, most_is);
     }
 
-opens-terms : (n : ℕ) (ns rest : List ℕ) (most : ℕ) (terms : Terms) (front behind : List ℕ) (below : ℕ) (h : Head) (after : List ℕ) → (n ≡ 0 → ⊥) → head_of rest ≡ Ok (h, after)
-    → rest ≡ front ++ behind → AreTerms front terms → count terms ≡ n → most ≡ max (suc (length ns) + deepest terms) below → Awaits ns behind below
+pub opens-one : (n : ℕ) (ns rest : List ℕ) (most : ℕ) (h : Head) (after : List ℕ) → (n ≡ 0 → ⊥) → head_of rest ≡ Ok (h, after) → Awaits (n ∷ ns) rest most
     → Goes (suc (length ns)) most (opened (kids h) ((n - 1) ∷ ns)) after
-opens-terms n ns rest most none front behind below h after wants read r are counts m s = absurd (wants (sym counts))
-opens-terms n ns rest most (more (node k ks) us) front behind below h after wants read r are counts m s =
+opens-one n ns rest most h after wants read (none, front, behind, below, r, are, counts, m, s) = absurd (wants (sym counts))
+opens-one n ns rest most h after wants read (more (node k ks) us, front, behind, below, r, are, counts, m, s) =
     let f = first-of k ks us rest front behind r are in
     let same = same-head rest k h (f.front ++ (f.rest ++ behind)) after f.read read in
     let left : count us ≡ n - 1 = omega (arith, counts) in
@@ -98,19 +94,11 @@ opens-terms n ns rest most (more (node k ks) us) front behind below h after want
     (subst (Goes (suc (length ns)) most (opened (kids k) ((n - 1) ∷ ns))) same.1
     (opens-by (kids k == 0) k ks us (n - 1) ns f.front f.rest behind most below (eqb_tells (kids k) 0) f.are_own f.count_own f.are_others left m s))
 
-pub opens-one : (n : ℕ) (ns rest : List ℕ) (most : ℕ) (h : Head) (after : List ℕ) → (n ≡ 0 → ⊥) → head_of rest ≡ Ok (h, after) → Awaits (n ∷ ns) rest most
-    → Goes (suc (length ns)) most (opened (kids h) ((n - 1) ∷ ns)) after
-opens-one n ns rest most h after wants read s = opens-terms n ns rest most s.0 s.1 s.2 s.3 h after wants read s.4 s.5 s.6 s.7 s.8
-
-off-terms : (n : ℕ) (rest : List ℕ) (terms : Terms) (front behind : List ℕ) (left : ℕ) → (n ≡ 0 → ⊥) → head_of rest ≡ Err left → rest ≡ front ++ behind
-    → AreTerms front terms → count terms ≡ n → ⊥
-off-terms n rest none front behind left wants off r are counts = wants (sym counts)
-off-terms n rest (more (node k ks) us) front behind left wants off r are counts =
+pub off-none : (n : ℕ) (ns rest : List ℕ) (most left : ℕ) → (n ≡ 0 → ⊥) → head_of rest ≡ Err left → Awaits (n ∷ ns) rest most → ⊥
+off-none n ns rest most left wants off (none, front, behind, below, r, are, counts, m, s) = wants (sym counts)
+off-none n ns rest most left wants off (more (node k ks) us, front, behind, below, r, are, counts, m, s) =
     let f = first-of k ks us rest front behind r are in
     not-both rest k (f.front ++ (f.rest ++ behind)) left f.read off
-
-pub off-none : (n : ℕ) (ns rest : List ℕ) (most left : ℕ) → (n ≡ 0 → ⊥) → head_of rest ≡ Err left → Awaits (n ∷ ns) rest most → ⊥
-off-none n ns rest most left wants off s = off-terms n rest s.0 s.1 s.2 left wants off s.4 s.5 s.6
 
 -- ---- the whole
 

@@ -3,11 +3,11 @@ use Rattle.std.proofs.Common.{◌≡◌, ℕ, zero, suc, ◌+◌, ◌-◌, ◌<�
 use Rattle.etf_terms.specs.Heads.{Head, kids}
 use Rattle.etf_terms.specs.Layouts.{Layout, end, byte}
 use Rattle.etf_terms.specs.Table.{is_tag, row, head_layout}
-use Rattle.etf_terms.specs.Inner.Parts.{Parsed, parsed, head_of}
+use Rattle.etf_terms.specs.Inner.Parts.{parsed, head_of}
 use Rattle.etf_terms.specs.Inner.Walks.{Reading, Got, Off, reading}
 use Rattle.etf_terms.specs.Walks.{Lost, walk_terms}
 use Rattle.etf_terms.proofs.Readings.{walk-first, walk-reading, walk_on}
-use Rattle.etf_terms.proofs.Joins.{head-is}
+use Rattle.etf_terms.proofs.Joins.{head-is, same-ok}
 
 -- what is behind a reading is no longer than the bytes
 behind : Reading → List ℕ → Type 0
@@ -53,25 +53,12 @@ head-shorter (b ∷ bytes) =
     shorter-cond (is_tag b) (reading (row b) bytes) (b ∷ bytes) (b ∷ bytes) (shorter-more (reading (row b) bytes) b bytes (reading-behind (row b) bytes))
 
 parsed-got : (r : Reading) (h : Head) (rest : List ℕ) → parsed r ≡ Ok (h, rest) → r ≡ Got h rest
-parsed-got (Got g left) h rest e =
-    let heads : g ≡ h = ap (head_in g) e in
-    let rests : left ≡ rest = ap rest_in e in
-    ap (λ x. Got x left) heads ∙ ap (Got h) rests where
-      head_in : Head → Parsed Head → Head
-      head_in other (Ok x) = x.0
-      head_in other (Err left) = other
-
-      rest_in : Parsed Head → List ℕ
-      rest_in (Ok x) = x.1
-      rest_in (Err left) = []
+parsed-got (Got g left) h rest e = let same = same-ok g h left rest e in cc
 parsed-got (Off left) h rest e = cc
 
 parsed-off : (r : Reading) (left : ℕ) → parsed r ≡ Err left → (rest : List ℕ) × (r ≡ Off rest) × (length rest ≡ left)
 parsed-off (Got g rest) left e = cc
-parsed-off (Off rest) left e = (rest, refl, ap left_in e) where
-  left_in : Parsed Head → ℕ
-  left_in (Ok x) = 0
-  left_in (Err left) = left
+parsed-off (Off rest) left e = (rest, refl, cc)
 
 pub head-is_shorter : (bytes : List ℕ) (h : Head) (rest : List ℕ) → head_of bytes ≡ Ok (h, rest) → length rest < length bytes
 unfolding shorter

@@ -1,7 +1,7 @@
 -- What is laid out is read, and what is read is laid out so.
 use Rattle.std.proofs.Common.{◌≡◌, ℕ, zero, suc, ◌+◌, Bool, true, false, cond, List, [], ◌∷◌, ◌++◌, refl, sym, ap, ◌∙◌}
 use Rattle.std.proofs.lemmas.Bool.{cond-true}
-use Rattle.etf_terms.specs.Heads.{Head, Nil, kids}
+use Rattle.etf_terms.specs.Heads.{Head, kids}
 use Rattle.etf_terms.specs.Layouts.{Layout, end, byte, IsLaid}
 use Rattle.etf_terms.specs.Table.{head_layout}
 use Rattle.etf_terms.specs.Inner.Walks.{Reading, Got, Off, reading}
@@ -16,19 +16,11 @@ laid-reading (byte test next) [] rest h p = absurd p
 laid-reading (byte test next) (b ∷ front) rest h p =
     cond-true (test b) (reading (next b) (front ++ rest)) (Off (b ∷ (front ++ rest))) p.0 ∙ laid-reading (next b) front rest h p.1
 
-abbrev head_in : Reading → Head
-head_in (Got h rest) = h
-head_in (Off rest) = Nil
-
-abbrev rest_in : Reading → List ℕ
-rest_in (Got h rest) = rest
-rest_in (Off rest) = rest
-
 -- two heads at the front of the same bytes are one
 pub one-head : (l : Layout) (f g r s : List ℕ) (h k : Head) → IsLaid l f h → IsLaid l g k → f ++ r ≡ g ++ s → (h ≡ k) × (r ≡ s)
 one-head l f g r s h k p q e =
     let same : Got h r ≡ Got k s = sym (laid-reading l f r h p) ∙ ap (reading l) e ∙ laid-reading l g s k q in
-    (ap head_in same, ap rest_in same)
+    (cc, cc)
 
 -- ---- walks
 

@@ -1,5 +1,6 @@
 -- Each step of the writing, as one equation on what is still to come.
 use Rattle.std.proofs.Common.{◌≡◌, ℕ, suc, ◌+◌, ◌<◌, ◌≤◌, ◌==◌, ◌⊎◌, ⊎_elim, Bool, true, false, cond, max, List, [], ◌∷◌, ◌++◌, length, Ok, Err, refl, sym, ap, ◌∙◌, subst, arith, append_assoc, append-nil, Bor}
+use Rattle.std.proofs.lemmas.Bool.{true≢false}
 use Rattle.std.proofs.lemmas.Bool.Decides.{eqb_tells}
 use Rattle.dump_io.specs.Sinks.{SinkState, Puts, GainedFront}
 use Rattle.dump_io.specs.Laws.Puts.{HasPut-none, HasPut-both, HasPut-done, Puts-behind, Puts-stopped}
@@ -12,7 +13,7 @@ use Rattle.etf_terms.specs.Terms.{Term, node, Terms, none, more, count, IsTerm, 
 use Rattle.etf_terms.specs.Text.{kind_of, closing, own_text, inner, text}
 use Rattle.etf_terms.specs.Inner.Parts.{head_of}
 use Rattle.etf_terms.specs.Inner.Standing.{entry_of, entered, ended, next_of, Stands, IsPart, Moves}
-use Rattle.etf_terms.proofs.Firsts.{first-of, regroup, same-head, not-both, true≢false, depth-own, no-terms}
+use Rattle.etf_terms.proofs.Firsts.{first-of, regroup, same-head, not-both, depth-own, no-terms}
 
 -- ---- an entry that wants no more
 
@@ -21,14 +22,10 @@ pub record Closes (room : ℕ) (e : Entry) (es : List Entry) (rest to_come : Lis
   pub splits : to_come ≡ closing e.kind e.kids ++ below
   pub stands : Stands room es rest below
 
-closes-none : (room : ℕ) (e : Entry) (es : List Entry) (rest to_come : List ℕ) (terms : Terms) (front behind below : List ℕ) → e.kids ≤ e.next → rest ≡ front ++ behind
-    → AreTerms front terms → count terms + e.next ≡ e.kids → to_come ≡ inner e.kind e.kids e.next terms ++ below → Stands room es behind below → Closes room e es rest to_come
-closes-none room e es rest to_come none front behind below ended r are counts t s =
-    record { below = below; splits = t; stands = subst (λ l. Stands room es l below) (sym (r ∙ ap (λ l. l ++ behind) are)) s }
-closes-none room e es rest to_come (more u us) front behind below ended r are counts t s = absurd (omega (arith, ended, counts))
-
 pub closes : (room : ℕ) (e : Entry) (es : List Entry) (rest to_come : List ℕ) → e.kids ≤ e.next → Stands room (e ∷ es) rest to_come → Closes room e es rest to_come
-closes room e es rest to_come ended s = closes-none room e es rest to_come s.0 s.1 s.2 s.3 ended s.4 s.5 s.6 s.7 s.9
+closes room e es rest to_come ended (none, front, behind, below, r, are, counts, t, fits, s) =
+    record { below = below; splits = t; stands = subst (λ l. Stands room es l below) (sym (r ∙ ap (λ l. l ++ behind) are)) s }
+closes room e es rest to_come ended (more u us, front, behind, below, r, are, counts, t, fits, s) = absurd (omega (arith, ended, counts))
 
 -- ---- an entry that wants one more
 
@@ -53,7 +50,7 @@ enters-by room false h ks es own others later is are counts fits s =
     let own_fits : suc (length es) + deepest ks ≤ room = omega (arith, fits, deep) in
     (inner (kind_of h) (kids h) 0 ks ++ later, refl, (ks, own, others, later, refl, are, all, refl, own_fits, s))
 
-pub record Opens (room : ℕ) (e : Entry) (es : List Entry) (rest to_come : List ℕ) : Type 0 where
+record Opens (room : ℕ) (e : Entry) (es : List Entry) (rest to_come : List ℕ) : Type 0 where
   pub head : Head
   pub behind : List ℕ
   pub read : head_of rest ≡ Ok (head, behind)
@@ -62,11 +59,9 @@ pub record Opens (room : ℕ) (e : Entry) (es : List Entry) (rest to_come : List
   pub stands : Stands room (entered head (next_of e ∷ es)) behind later
   pub fits : 0 < kids head → suc (suc (length es)) ≤ room
 
-opens-more : (room : ℕ) (e : Entry) (es : List Entry) (rest to_come : List ℕ) (terms : Terms) (front behind below : List ℕ) → e.next < e.kids → rest ≡ front ++ behind
-    → AreTerms front terms → count terms + e.next ≡ e.kids → to_come ≡ inner e.kind e.kids e.next terms ++ below → suc (length es) + deepest terms ≤ room → Stands room es behind below
-    → Opens room e es rest to_come
-opens-more room e es rest to_come none front behind below wants r are counts t fits s = absurd (omega (arith, wants, counts))
-opens-more room e es rest to_come (more (node h ks) us) front behind below wants r are counts t fits s =
+opens : (room : ℕ) (e : Entry) (es : List Entry) (rest to_come : List ℕ) → e.next < e.kids → Stands room (e ∷ es) rest to_come → Opens room e es rest to_come
+opens room e es rest to_come wants (none, front, behind, below, r, are, counts, t, fits, s) = absurd (omega (arith, wants, counts))
+opens room e es rest to_come wants (more (node h ks) us, front, behind, below, r, are, counts, t, fits, s) =
     let f = first-of h ks us rest front behind r are in
     let left : count us + (e.next + 1) ≡ e.kids = omega (arith, counts) in
     let own_fits : suc (length es) + depth (node h ks) ≤ room = omega (arith, fits) in
@@ -86,9 +81,6 @@ opens-more room e es rest to_come (more (node h ks) us) front behind below wants
           let deep = depth-own h ks (λ none_left. omega (arith, some, f.count_own, none_left)) in
           omega (arith, own_fits, deep);
     }
-
-pub opens : (room : ℕ) (e : Entry) (es : List Entry) (rest to_come : List ℕ) → e.next < e.kids → Stands room (e ∷ es) rest to_come → Opens room e es rest to_come
-opens room e es rest to_come wants s = opens-more room e es rest to_come s.0 s.1 s.2 s.3 wants s.4 s.5 s.6 s.7 s.8 s.9
 
 -- the same, where the head was read
 pub opened : (room : ℕ) (e : Entry) (es : List Entry) (rest to_come : List ℕ) (h : Head) (behind : List ℕ) → e.next < e.kids → head_of rest ≡ Ok (h, behind) → Stands room (e ∷ es) rest to_come

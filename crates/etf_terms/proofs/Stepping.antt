@@ -106,71 +106,57 @@ one-of bytes c = one-of-terms c.terms bytes c.count c.are where
 
 -- ---- what a walk that is done went over
 
-pub record WentOver (l : Layout) (n : ℕ) (bytes rest : List ℕ) : Type 0 where
+pub record WentOver (P : List ℕ → Type 0) (bytes rest : List ℕ) : Type 0 where
   pub taken : List ℕ
   pub split : bytes ≡ taken ++ rest
-  pub follows : Follows l n taken
-
-pub record WentOverTerms (n : ℕ) (bytes rest : List ℕ) : Type 0 where
-  pub taken : List ℕ
-  pub split : bytes ≡ taken ++ rest
-  pub counted : Counted n taken
-
-abbrev rest_of : Walked → List ℕ
-rest_of (Done rest) = rest
-rest_of (Lost rest) = rest
-
-abbrev is_done : Walked → Bool
-is_done (Done rest) = true
-is_done (Lost rest) = false
+  pub over : P taken
 
 pub not-done : (xs ys : List ℕ) → Lost xs ≡ Done ys → ⊥
-not-done xs ys e = let no_way : false ≡ true = ap is_done e in cc
+not-done xs ys e = cc
 
 pub same-rest : (xs ys : List ℕ) → Lost xs ≡ Lost ys → xs ≡ ys
-same-rest xs ys e = ap rest_of e
+same-rest xs ys e = cc
 
 pub same-done : (xs ys : List ℕ) → Done xs ≡ Done ys → xs ≡ ys
-same-done xs ys e = ap rest_of e
+same-done xs ys e = cc
 
 done-cond : (t : Bool) (w : Walked) (xs rest : List ℕ) → cond t w (Lost xs) ≡ Done rest → (t ≡ true) × (w ≡ Done rest)
 done-cond true w xs rest e = (refl, e)
 done-cond false w xs rest e = absurd (not-done xs rest e)
 
 -- where nothing more is wanted
-done-none : (bytes rest : List ℕ) → Done bytes ≡ Done rest → WentOverTerms 0 bytes rest
-done-none bytes rest e = record { taken = []; split = same-done bytes rest e; counted = counted-none }
+done-none : (bytes rest : List ℕ) → Done bytes ≡ Done rest → WentOver (Counted 0) bytes rest
+done-none bytes rest e = record { taken = []; split = same-done bytes rest e; over = counted-none }
 
-done-terms : (n : ℕ) (b : ℕ) (bytes rest : List ℕ) → ((l : Layout) (m : ℕ) → walk l m bytes ≡ Done rest → WentOver l m bytes rest)
-    → walk_terms n (b ∷ bytes) ≡ Done rest → WentOverTerms n (b ∷ bytes) rest
+-- the byte in front passes, and the others are gone over
+done-byte : (test : ℕ → Bool) (next : ℕ → Layout) (n b : ℕ) (bytes rest : List ℕ) → ((l : Layout) (m : ℕ) → walk l m bytes ≡ Done rest → WentOver (Follows l m) bytes rest)
+    → cond (test b) (walk (next b) n bytes) (Lost (b ∷ bytes)) ≡ Done rest → WentOver (Follows (byte test next) n) (b ∷ bytes) rest
+done-byte test next n b bytes rest later e =
+    let step = done-cond (test b) (walk (next b) n bytes) (b ∷ bytes) rest e in
+    let went = later (next b) n step.1 in
+    record { taken = b ∷ went.taken; split = ap (λ l. b ∷ l) went.split; over = follows-byte test next b n went.taken step.0 went.over }
+
+done-terms : (n : ℕ) (b : ℕ) (bytes rest : List ℕ) → ((l : Layout) (m : ℕ) → walk l m bytes ≡ Done rest → WentOver (Follows l m) bytes rest)
+    → walk_terms n (b ∷ bytes) ≡ Done rest → WentOver (Counted n) (b ∷ bytes) rest
 done-terms zero b bytes rest later e = done-none (b ∷ bytes) rest e
 done-terms (suc n) b bytes rest later e =
-    let step = done-cond (is_tag b) (walk (row b) n bytes) (b ∷ bytes) rest e in
-    let over = later (row b) n step.1 in
-    record {
-      taken = b ∷ over.taken;
-      split = ap (λ l. b ∷ l) over.split;
-      counted = counted-more n (b ∷ over.taken) (follows-byte is_tag row b n over.taken step.0 over.follows);
-    }
+    let went = done-byte is_tag row n b bytes rest later e in record { taken = went.taken; split = went.split; over = counted-more n went.taken went.over }
 
-done-terms_end : (n : ℕ) (rest : List ℕ) → at_end n ≡ Done rest → WentOverTerms n [] rest
+done-terms_end : (n : ℕ) (rest : List ℕ) → at_end n ≡ Done rest → WentOver (Counted n) [] rest
 done-terms_end zero rest e = done-none [] rest e
 done-terms_end (suc n) rest e = absurd (not-done [] rest e)
 
-done-end : (h : Head) (n : ℕ) (bytes rest : List ℕ) → WentOverTerms (kids h + n) bytes rest → WentOver (end h) n bytes rest
-done-end h n bytes rest w = record { taken = w.taken; split = w.split; follows = follows-end h n w.taken w.counted }
+done-end : (h : Head) (n : ℕ) (bytes rest : List ℕ) → WentOver (Counted (kids h + n)) bytes rest → WentOver (Follows (end h) n) bytes rest
+done-end h n bytes rest w = record { taken = w.taken; split = w.split; over = follows-end h n w.taken w.over }
 
-pub done-walk : (bytes : List ℕ) (l : Layout) (n : ℕ) (rest : List ℕ) → walk l n bytes ≡ Done rest → WentOver l n bytes rest
+done-walk : (bytes : List ℕ) (l : Layout) (n : ℕ) (rest : List ℕ) → walk l n bytes ≡ Done rest → WentOver (Follows l n) bytes rest
 done-walk [] (end h) n rest e = done-end h n [] rest (done-terms_end (kids h + n) rest e)
 done-walk (b ∷ bytes) (end h) n rest e =
     done-end h n (b ∷ bytes) rest (done-terms (kids h + n) b bytes rest (λ l m. done-walk bytes l m rest) e)
 done-walk [] (byte test next) n rest e = absurd (not-done [] rest e)
-done-walk (b ∷ bytes) (byte test next) n rest e =
-    let step = done-cond (test b) (walk (next b) n bytes) (b ∷ bytes) rest e in
-    let over = done-walk bytes (next b) n rest step.1 in
-    record { taken = b ∷ over.taken; split = ap (λ l. b ∷ l) over.split; follows = follows-byte test next b n over.taken step.0 over.follows }
+done-walk (b ∷ bytes) (byte test next) n rest e = done-byte test next n b bytes rest (λ l m. done-walk bytes l m rest) e
 
-pub done-walk_terms : (n : ℕ) (bytes rest : List ℕ) → walk_terms n bytes ≡ Done rest → WentOverTerms n bytes rest
+pub done-walk_terms : (n : ℕ) (bytes rest : List ℕ) → walk_terms n bytes ≡ Done rest → WentOver (Counted n) bytes rest
 done-walk_terms n [] rest e = done-terms_end n rest e
 done-walk_terms n (b ∷ bytes) rest e = done-terms n b bytes rest (λ l m. done-walk bytes l m rest) e
 
@@ -182,6 +168,6 @@ term-is_done bytes t p = ap (walk_terms 1) (sym (append-nil bytes)) ∙ term-wal
 
 pub done-is_term : (bytes : List ℕ) → walk_terms 1 bytes ≡ Done [] → (t : Term) × IsTerm bytes t
 done-is_term bytes e =
-    let over = done-walk_terms 1 bytes [] e in
-    let found = one-of over.taken over.counted in
-    (found.0, subst (λ l. IsTerm l found.0) (sym (over.split ∙ append-nil over.taken)) found.1)
+    let went = done-walk_terms 1 bytes [] e in
+    let found = one-of went.taken went.over in
+    (found.0, subst (λ l. IsTerm l found.0) (sym (went.split ∙ append-nil went.taken)) found.1)

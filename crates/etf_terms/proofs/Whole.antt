@@ -7,7 +7,7 @@ use Rattle.etf_terms.specs.Place.{IsPlace}
 use Rattle.etf_terms.specs.Terms.{Term, IsTerm, IsExternal}
 use Rattle.etf_terms.specs.Walks.{Walked, Done, Lost, bad_place, left_of, walk_terms}
 use Rattle.etf_terms.proofs.Stepping.{term-is_done, done-is_term, not-done}
-use Rattle.etf_terms.proofs.Placing.{Stops, stops-lost, stops-done, place-of, place-first}
+use Rattle.etf_terms.proofs.Placing.{Stops, stops-lost, stops-done, place-of, place-first, done-more}
 
 -- ---- the bytes behind 131
 
@@ -36,9 +36,6 @@ place-left : (bytes rest : List ℕ) → Stops bytes rest → IsPlace (131 ∷ b
 place-left bytes rest s =
     let sizes : length bytes ≡ length s.taken + length rest = ap length s.split ∙ length-append s.taken rest in
     place-of bytes rest (suc (length bytes) - length rest) s (omega (arith, sizes))
-
-done-more : (b : ℕ) (rest : List ℕ) → Done [] ≡ Done (b ∷ rest) → ⊥
-done-more b rest e = cc
 
 judged-walk : (bytes : List ℕ) (w : Walked) → walk_terms 1 bytes ≡ w → IsJudged (131 ∷ bytes) (option_map (λ left. suc (length bytes) - left) (left_of w))
 judged-walk bytes (Done []) e = let found = done-is_term bytes e in (found.0, is_external bytes found.0 found.1)

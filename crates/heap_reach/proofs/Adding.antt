@@ -1,15 +1,36 @@
 -- Marking a cell and putting it on the list.
-use Rattle.std.proofs.Common.{◌≡◌, ℕ, ◌<◌, Bool, true, false, ◌||◌, ◌⊎◌, nat_eq, List, [], ◌∷◌, ◌++◌, length, get_or, set, MatchOption, Option, None, Some, option_to_list, refl, sym, ◌∙◌, ap, subst, inl, inr, arith}
+use Rattle.std.proofs.Common.{◌≡◌, ℕ, zero, suc, ◌<◌, ◌≤◌, Bool, true, false, ◌||◌, ◌⊎◌, nat_eq, List, [], ◌∷◌, ◌++◌, length, get_or, set, MatchOption, Option, None, Some, option_to_list, refl, sym, ◌∙◌, ap, subst, inl, inr, arith}
 use Rattle.std.specs.Prelude.{reverse}
-use Rattle.std.specs.List.{IsDistinct}
+use Rattle.std.specs.List.{list_any, IsDistinct, AllByRecursion}
 use Rattle.std.proofs.lemmas.List.{length-set, length-reverse, get_or-set_same, get_or-set_other, reverse-append}
-use Rattle.std.proofs.lemmas.Bool.{cases_eq, eq-eqb, false≢true, or_cases, or_right, eqb-true}
+use Rattle.std.proofs.lemmas.Bool.{cases_eq, eq-eqb, false≢true, or_cases, or_parts, or_right, eqb-true}
+use Rattle.std.proofs.lemmas.Map.Steps.{length-le_from_distinct_below}
 use Rattle.heap_reach.specs.Reached.{IsIn}
 use Rattle.heap_reach.specs.Inner.Frontiers.{Frontier, is_on, IsTied, Adds}
-use Rattle.heap_reach.proofs.Waiting.{below-marked, distinct-more, length-waiting}
 
 pub reverse-push : (items : List ℕ) (c : ℕ) → reverse (items ++ c ∷ []) ≡ c ∷ reverse items
 reverse-push items c = reverse-append items (c ∷ [])
+
+-- ---- no more cells wait than there are marks
+
+none_passes : (p : ℕ → Bool) (xs : List ℕ) → list_any p xs ≡ false → AllByRecursion (λ y. p y ≡ false) xs
+none_passes p [] none = tt
+none_passes p (x ∷ xs) none = let parts = or_parts (p x) (list_any p xs) none in (parts.0, none_passes p xs parts.1)
+
+-- one more number that isn't among them
+distinct-more : (c : ℕ) (cs : List ℕ) → is_on c cs ≡ false → IsDistinct nat_eq cs → IsDistinct nat_eq (c ∷ cs)
+unfolding IsDistinct
+distinct-more c cs other distinct = (none_passes (nat_eq c) cs other, distinct)
+
+below-marked : (marks : List Bool) (n : ℕ) → IsIn marks n → n < length marks
+below-marked [] zero is = absurd (false≢true is)
+below-marked [] (suc n) is = absurd (false≢true is)
+below-marked (b ∷ marks) zero is = omega arith
+below-marked (b ∷ marks) (suc n) is = omega (arith, below-marked marks n is)
+
+length-waiting : (marks : List Bool) (waiting : List ℕ) → IsDistinct nat_eq waiting → ((n : ℕ) → is_on n waiting ≡ true → IsIn marks n) → length waiting ≤ length marks
+length-waiting marks waiting distinct marked =
+    length-le_from_distinct_below waiting (length marks) distinct (λ n on. below-marked marks n (marked n on))
 
 -- ---- a mark is set
 

@@ -10,13 +10,13 @@ use Rattle.heap_reach.proofs.Spreading.{reached-closed}
 
 -- ---- how many of the first n numbers are in a set
 
+one-most : (b : Bool) → one_if b ≤ 1
+one-most true = omega arith
+one-most false = omega arith
+
 count-most : (p : ℕ → Bool) (n : ℕ) → count_below p n ≤ n
 count-most p zero = omega arith
 count-most p (suc n) = omega (arith, count-most p n, one-most (p n))
-  where
-    one-most : (b : Bool) → one_if b ≤ 1
-    one-most true = omega arith
-    one-most false = omega arith
 
 -- one more number of a smaller and a greater set
 count-step : (a b : Bool) (x y : ℕ) → x ≤ y → (a ≡ true → b ≡ true) → (x + one_if a < y + one_if b) ⊎ ((x + one_if a ≤ y + one_if b) × (b ≡ true → a ≡ true))
@@ -62,10 +62,6 @@ count-all p (suc n) many k lt =
       | inr past ↦ let same : n ≡ k = omega (arith, lt, past) in subst (λ j. p j ≡ true) same (last (p n) many)
     ]
   where
-    one-most : (b : Bool) → one_if b ≤ 1
-    one-most true = omega arith
-    one-most false = omega arith
-
     last : (b : Bool) → suc n ≤ count_below p n + one_if b → b ≡ true
     last true all = refl
     last false all = absurd (omega (arith, all, count-most p n))

@@ -1,9 +1,9 @@
 -- Whether a cell leads to another, as a test; and only cells of the heap lead, to cells of the heap.
-use Rattle.std.proofs.Common.{◌≡◌, ℕ, zero, suc, ◌<◌, ◌==◌, Bool, true, false, ◌&&◌, List, [], ◌∷◌, length, map, Option, None, Some, refl, ◌∙◌, ap, inl, inr}
+use Rattle.std.proofs.Common.{◌≡◌, ℕ, zero, suc, ◌<◌, ◌==◌, Bool, true, false, List, [], ◌∷◌, length, map, Option, None, Some, refl, ◌∙◌, ap, inl, inr}
 use Rattle.std.specs.Prelude.{slice_get}
 use Rattle.std.specs.List.{list_any}
 use Rattle.std.specs.Option.{option_and_then, option_map, option_map_or}
-use Rattle.std.proofs.lemmas.Bool.{and_parts, eq-eqb, eqb-true, false≢true, or_cases, or_left, or_right}
+use Rattle.std.proofs.lemmas.Bool.{and_from, and_parts, eq-eqb, eqb-true, false≢true, or_cases, or_left, or_right}
 use Rattle.std.proofs.lemmas.List.Quantifiers.{position-Some}
 use Rattle.std.proofs.lemmas.Map.Keys.{any_passes_from_place}
 use Rattle.std.proofs.lemmas.Option.{none-some, same_Some, slice_get_within}
@@ -29,10 +29,6 @@ any-place test (x ∷ xs) is =
       | inl here ↦ (0, x, refl, here)
       | inr later ↦ let r = any-place test xs later in (suc r.0, r.1, r.2, r.3)
     ]
-
-and_both : (a b : Bool) → a ≡ true → b ≡ true → (a && b) ≡ true
-and_both true b one two = two
-and_both false b one two = one
 
 pub is_at-true : (n : ℕ) (t : Target) → is_at n t ≡ true → t ≡ At n
 is_at-true n Plain is = absurd (false≢true is)
@@ -64,7 +60,7 @@ module _ (cells : List Cell) where
 
   bin-tested : (address n : ℕ) → IsBinAt cells address n → is_bin_at cells address n ≡ true
   bin-tested address n bin =
-      and_both (option_map_or (λ m. m == n) (number_at cells address) false) (option_map_or is_bin (form_at cells n) false)
+      and_from (option_map_or (λ m. m == n) (number_at cells address) false) (option_map_or is_bin (form_at cells n) false)
       (ap (λ o. option_map_or (λ m. m == n) o false) bin.seat ∙ eq-eqb n n refl) (kind-some (form_at cells n) bin.bin)
 
   tested-bin : (address n : ℕ) → is_bin_at cells address n ≡ true → IsBinAt cells address n

@@ -7,4 +7,3 @@ pub mod Ordered
 pub mod Rooted
 pub mod Slots
 pub mod Spreading
-pub mod Waiting

@@ -1,5 +1,5 @@
 -- The definitions at small examples, computed.
-use Rattle.std.proofs.Common.{◌≡◌, ℕ, true, false, List, [], ◌∷◌, Some, refl}
+use Rattle.std.proofs.Common.{◌≡◌, ℕ, true, false, List, [], ◌∷◌, map, Some, refl}
 use Rattle.std.specs.Prelude.{codes}
 use Rattle.std.specs.Fmt.{digits}
 use Rattle.term_forms.specs.Elements.{Element, Nil, Small, Atom, Pid, Port, Ref}
@@ -42,21 +42,10 @@ one = Small (codes "1")
 abbrev two : Element
 two = Small (codes "2")
 
--- a list of one element
-abbrev single : List Cell
-single = at 16 (Cons one Nil) ∷ []
-
-single-1 : text single 1 ≡ codes "[...]"
+-- a list of one element, by budgets
+single : map (text (at 16 (Cons one Nil) ∷ [])) (1 ∷ 2 ∷ 3 ∷ []) ≡ codes "[...]" ∷ codes "[1|...]" ∷ codes "[1]" ∷ []
 unfolding unfolded unfold_by digits
-single-1 = refl
-
-single-2 : text single 2 ≡ codes "[1|...]"
-unfolding unfolded unfold_by digits
-single-2 = refl
-
-single-3 : text single 3 ≡ codes "[1]"
-unfolding unfolded unfold_by digits
-single-3 = refl
+single = refl
 
 -- a cell that is met twice is shown twice
 shared : text (at 16 (Tuple (Ref 32 ∷ Ref 32 ∷ [])) ∷ at 32 (Cons one Nil) ∷ []) 10 ≡ codes "{[1],[1]}"
@@ -67,21 +56,13 @@ shared = refl
 abbrev ring : List Cell
 ring = at 16 (Cons one (Ref 16)) ∷ []
 
-ring-judged-3 : judged ring 3 ≡ Bad 16 OnPath
+ring-judged : map (judged ring) (2 ∷ 3 ∷ []) ≡ Clean ∷ Bad 16 OnPath ∷ []
 unfolding unfolded unfold_by
-ring-judged-3 = refl
+ring-judged = refl
 
-ring-judged-2 : judged ring 2 ≡ Clean
-unfolding unfolded unfold_by
-ring-judged-2 = refl
-
-ring-2 : text ring 2 ≡ codes "[1|...]"
+ring-text : map (text ring) (2 ∷ 3 ∷ []) ≡ codes "[1|...]" ∷ codes "[1|!onpath:10]" ∷ []
 unfolding unfolded unfold_by digits
-ring-2 = refl
-
-ring-3 : text ring 3 ≡ codes "[1|!onpath:10]"
-unfolding unfolded unfold_by digits
-ring-3 = refl
+ring-text = refl
 
 missing : text (at 16 (Tuple (Ref 153 ∷ two ∷ [])) ∷ []) 10 ≡ codes "{!missing:99,2}"
 unfolding unfolded unfold_by digits
@@ -91,17 +72,13 @@ missing = refl
 abbrev circle : List Cell
 circle = at 16 (Cons one (Ref 32)) ∷ at 32 (Cons two (Ref 48)) ∷ at 48 (Cons (Small (codes "3")) (Ref 16)) ∷ []
 
-circle-6 : text circle 6 ≡ codes "[1,2,3|...]"
+circle-text : text circle 6 ≡ codes "[1,2,3|...]"
 unfolding unfolded unfold_by digits
-circle-6 = refl
+circle-text = refl
 
-circle-judged-6 : judged circle 6 ≡ Clean
+circle-judged : map (judged circle) (6 ∷ 7 ∷ []) ≡ Clean ∷ Bad 16 OnPath ∷ []
 unfolding unfolded unfold_by
-circle-judged-6 = refl
-
-circle-judged-7 : judged circle 7 ≡ Bad 16 OnPath
-unfolding unfolded unfold_by
-circle-judged-7 = refl
+circle-judged = refl
 
 -- a tail that is another term
 tail : text (at 16 (Cons one two) ∷ []) 3 ≡ codes "[1|2]"
@@ -112,69 +89,31 @@ tail = refl
 abbrev doubled : List Cell
 doubled = at 16 (Tuple (Ref 32 ∷ Ref 32 ∷ [])) ∷ at 32 (Tuple (Ref 48 ∷ Ref 48 ∷ [])) ∷ at 48 (Tuple []) ∷ []
 
-doubled-2 : text doubled 2 ≡ codes "{{...},...}"
+doubled-text : map (text doubled) (2 ∷ 3 ∷ 7 ∷ []) ≡ codes "{{...},...}" ∷ codes "{{{},...},...}" ∷ codes "{{{},{}},{{},{}}}" ∷ []
 unfolding unfolded unfold_by digits
-doubled-2 = refl
-
-doubled-3 : text doubled 3 ≡ codes "{{{},...},...}"
-unfolding unfolded unfold_by digits
-doubled-3 = refl
-
-doubled-7 : text doubled 7 ≡ codes "{{{},{}},{{},{}}}"
-unfolding unfolded unfold_by digits
-doubled-7 = refl
+doubled-text = refl
 
 -- a flat map of two pairs
 abbrev flat : List Cell
 flat = at 16 (Flat (Ref 32) (one ∷ two ∷ [])) ∷ at 32 (Tuple (Atom (codes "a") ∷ Atom (codes "b") ∷ [])) ∷ []
 
-flat-1 : text flat 1 ≡ codes "#{...}"
+flat-text : map (text flat) (1 ∷ 2 ∷ 3 ∷ 4 ∷ 5 ∷ [])
+    ≡ codes "#{...}" ∷ codes "#{a=>...}" ∷ codes "#{a=>1,...}" ∷ codes "#{a=>1,b=>...}" ∷ codes "#{a=>1,b=>2}" ∷ []
 unfolding unfolded unfold_by digits
-flat-1 = refl
-
-flat-2 : text flat 2 ≡ codes "#{a=>...}"
-unfolding unfolded unfold_by digits
-flat-2 = refl
-
-flat-3 : text flat 3 ≡ codes "#{a=>1,...}"
-unfolding unfolded unfold_by digits
-flat-3 = refl
-
-flat-4 : text flat 4 ≡ codes "#{a=>1,b=>...}"
-unfolding unfolded unfold_by digits
-flat-4 = refl
-
-flat-5 : text flat 5 ≡ codes "#{a=>1,b=>2}"
-unfolding unfolded unfold_by digits
-flat-5 = refl
+flat-text = refl
 
 -- the keys of a flat map of one value: which ones are bad, and where
 abbrev keyed : Element → HeapForm → Verdict
 keyed keys other = judged (at 16 (Flat keys (one ∷ [])) ∷ at 32 other ∷ []) 10
 
-keys-count : keyed (Ref 32) (Tuple (one ∷ two ∷ [])) ≡ Bad 32 Malformed
+keys-tuples : map (λ keys. keyed keys (Tuple (one ∷ []))) (Ref 48 ∷ one ∷ Ref 16 ∷ []) ≡ Bad 48 Missing ∷ Bad 16 Malformed ∷ Bad 16 OnPath ∷ []
 unfolding unfolded unfold_by
-keys-count = refl
+keys-tuples = refl
 
-keys-form : keyed (Ref 32) (Cons one Nil) ≡ Bad 32 Malformed
+-- by their count and form, and good ones with a key that leads back to the map
+keys-forms : map (keyed (Ref 32)) (Tuple (one ∷ two ∷ []) ∷ Cons one Nil ∷ Tuple (Ref 16 ∷ []) ∷ []) ≡ Bad 32 Malformed ∷ Bad 32 Malformed ∷ Bad 16 OnPath ∷ []
 unfolding unfolded unfold_by
-keys-form = refl
-
-keys-missing : keyed (Ref 48) (Tuple (one ∷ [])) ≡ Bad 48 Missing
-unfolding unfolded unfold_by
-keys-missing = refl
-
-keys-immediate : keyed one (Tuple (one ∷ [])) ≡ Bad 16 Malformed
-unfolding unfolded unfold_by
-keys-immediate = refl
-
-keys-itself : keyed (Ref 16) (Tuple (one ∷ [])) ≡ Bad 16 OnPath
-unfolding unfolded unfold_by
-keys-itself = refl
-
-keys-good : keyed (Ref 32) (Tuple (Ref 16 ∷ [])) ≡ Bad 16 OnPath
-unfolding unfolded unfold_by
-keys-good = refl
+keys-forms = refl
 
 -- the keys' tuple is no ancestor of the values, nor of the keys
 keys-tuple : judged (at 16 (Flat (Ref 32) (Ref 32 ∷ [])) ∷ at 32 (Tuple (Ref 32 ∷ [])) ∷ []) 10 ≡ Bad 32 OnPath
@@ -205,33 +144,10 @@ hash =
     at 16 (Hash 2 (Ref 32 ∷ Ref 48 ∷ [])) ∷ at 32 (Cons (Atom (codes "a")) one) ∷ at 48 (Node (Ref 64 ∷ []))
     ∷ at 64 (Tuple (Ref 80 ∷ [])) ∷ at 80 (Cons (Atom (codes "b")) two) ∷ []
 
-hash-1 : text hash 1 ≡ codes "#{...}"
+hash-text : map (text hash) (1 ∷ 2 ∷ 3 ∷ 4 ∷ 7 ∷ 8 ∷ 9 ∷ [])
+    ≡ codes "#{...}" ∷ codes "#{...}" ∷ codes "#{a=>...}" ∷ codes "#{a=>1,...}" ∷ codes "#{a=>1,...}" ∷ codes "#{a=>1,b=>...}" ∷ codes "#{a=>1,b=>2}" ∷ []
 unfolding unfolded unfold_by digits
-hash-1 = refl
-
-hash-2 : text hash 2 ≡ codes "#{...}"
-unfolding unfolded unfold_by digits
-hash-2 = refl
-
-hash-3 : text hash 3 ≡ codes "#{a=>...}"
-unfolding unfolded unfold_by digits
-hash-3 = refl
-
-hash-4 : text hash 4 ≡ codes "#{a=>1,...}"
-unfolding unfolded unfold_by digits
-hash-4 = refl
-
-hash-7 : text hash 7 ≡ codes "#{a=>1,...}"
-unfolding unfolded unfold_by digits
-hash-7 = refl
-
-hash-8 : text hash 8 ≡ codes "#{a=>1,b=>...}"
-unfolding unfolded unfold_by digits
-hash-8 = refl
-
-hash-9 : text hash 9 ≡ codes "#{a=>1,b=>2}"
-unfolding unfolded unfold_by digits
-hash-9 = refl
+hash-text = refl
 
 hash-empty : text (at 16 (Hash 2 (Ref 32 ∷ [])) ∷ at 32 (Node []) ∷ []) 10 ≡ codes "#{}"
 unfolding unfolded unfold_by digits
@@ -241,42 +157,27 @@ marked-item : text (at 16 (Hash 1 (one ∷ Ref 32 ∷ [])) ∷ at 32 (Cons (Atom
 unfolding unfolded unfold_by digits
 marked-item = refl
 
-item-judged-1 : judged (at 16 (Hash 1 (one ∷ [])) ∷ []) 1 ≡ Clean
+-- a node is no term, and an item is looked at only if a node is left for it
+judged-1 : judged (at 16 (Hash 1 (one ∷ [])) ∷ []) 1 ≡ Clean
 unfolding unfolded unfold_by
-item-judged-1 = refl
+judged-1 = refl
 
--- a child of a hash map that comes back to it, or to the child itself
-abbrev hashed : HeapForm → Verdict
-hashed child = judged (at 16 (Hash 1 (Ref 32 ∷ [])) ∷ at 32 child ∷ []) 10
-
-hash-node : hashed (Node (Ref 16 ∷ [])) ≡ Bad 16 OnPath
-unfolding unfolded unfold_by
-hash-node = refl
-
-hash-node-itself : hashed (Node (Ref 32 ∷ [])) ≡ Bad 32 OnPath
-unfolding unfolded unfold_by
-hash-node-itself = refl
-
-hash-key : hashed (Cons (Ref 16) one) ≡ Bad 16 OnPath
-unfolding unfolded unfold_by
-hash-key = refl
-
-hash-value : hashed (Cons one (Ref 32)) ≡ Bad 32 OnPath
-unfolding unfolded unfold_by
-hash-value = refl
-
-hash-itself : judged (at 16 (Hash 1 (Ref 16 ∷ [])) ∷ []) 10 ≡ Bad 16 OnPath
-unfolding unfolded unfold_by
-hash-itself = refl
-
--- a node is no term, and a hash map is no item
 node-term : judged (at 16 (Node (Ref 32 ∷ [])) ∷ []) 1 ≡ Bad 16 Malformed
 unfolding unfolded unfold_by
 node-term = refl
 
-hash-hash : hashed (Hash 1 []) ≡ Bad 32 Malformed
+-- a child of a hash map that comes back to it, or to the child itself, and a hash map, which is no item
+abbrev hashed : HeapForm → Verdict
+hashed child = judged (at 16 (Hash 1 (Ref 32 ∷ [])) ∷ at 32 child ∷ []) 10
+
+hash-children : map hashed (Node (Ref 16 ∷ []) ∷ Node (Ref 32 ∷ []) ∷ Cons (Ref 16) one ∷ Cons one (Ref 32) ∷ Hash 1 [] ∷ [])
+    ≡ Bad 16 OnPath ∷ Bad 32 OnPath ∷ Bad 16 OnPath ∷ Bad 32 OnPath ∷ Bad 32 Malformed ∷ []
 unfolding unfolded unfold_by
-hash-hash = refl
+hash-children = refl
+
+hash-itself : judged (at 16 (Hash 1 (Ref 16 ∷ [])) ∷ []) 10 ≡ Bad 16 OnPath
+unfolding unfolded unfold_by
+hash-itself = refl
 
 -- the texts of leaves, and whole answers, where no bytes of a binary are known
 
@@ -303,10 +204,7 @@ previewed : show (leaf_text Hex (at 16 (RefBin 2304 0 2) ∷ []) (entry 0 2 (Som
 unfolding unfolded unfold_by digits
 previewed = refl
 
-unmarked : answer Hex [] ring (Ref 16) 3 false ≡ codes "! onpath 10"
+-- unmarked and marked
+answers : map (answer Hex [] ring (Ref 16) 3) (false ∷ true ∷ []) ≡ codes "! onpath 10" ∷ codes "[1|!onpath:10]" ∷ []
 unfolding unfolded unfold_by digits
-unmarked = refl
-
-marked : answer Hex [] ring (Ref 16) 3 true ≡ codes "[1|!onpath:10]"
-unfolding unfolded unfold_by digits
-marked = refl
+answers = refl

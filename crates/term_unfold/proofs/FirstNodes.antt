@@ -1,5 +1,5 @@
 -- The text within n nodes depends on the first n nodes alone.
-use Rattle.std.proofs.Common.{◌≡◌, ℕ, zero, suc, Bool, true, false, List, [], ◌∷◌, ◌++◌, take, map, refl, sym, ◌∙◌, ap, subst, append_assoc, append-nil}
+use Rattle.std.proofs.Common.{◌≡◌, ℕ, zero, suc, Bool, true, false, List, [], ◌∷◌, ◌++◌, take, map, refl, sym, ◌∙◌, ap, subst, append_assoc, append-nil, arith}
 use Rattle.std.specs.Prelude.{codes}
 use Rattle.std.proofs.lemmas.List.{take-map, map-append}
 use Rattle.term_unfold.specs.declared.node.NodeKind.{NodeKind}
@@ -98,9 +98,6 @@ Agree n xs ys = take n xs ≡ take n ys
 agree-behind : (n : ℕ) (vs ws cs ds es fs : List Face) → Agree n ((vs ++ ws) ++ cs) ((ds ++ es) ++ fs) → Agree n (vs ++ (ws ++ cs)) (ds ++ (es ++ fs))
 agree-behind n vs ws cs ds es fs h = ap (take n) (sym (append_assoc vs ws cs)) ∙ h ∙ ap (take n) (append_assoc ds es fs)
 
-count-suc : (m n : ℕ) → suc m ≡ suc n → m ≡ n
-count-suc m n h = cc
-
 -- a first face that is the same
 agree-first : (n : ℕ) (x y : Face) (xs ys : List Face) → Agree (suc n) (x ∷ xs) (y ∷ ys) → (x ≡ y) × Agree n xs ys
 agree-first n x y xs ys h =
@@ -131,9 +128,6 @@ at-kind P n k j size other xs ys h same =
 
 agree-only : (n : ℕ) (vs ws xs ys : List Face) → Agree n ((vs ++ []) ++ xs) ((ws ++ []) ++ ys) → Agree n (vs ++ xs) (ws ++ ys)
 agree-only n vs ws xs ys h = ap (λ l. take n (l ++ xs)) (sym (append-nil vs)) ∙ h ∙ ap (λ l. take n (l ++ ys)) (append-nil ws)
-
-no-count : {X : Type 0} (n : ℕ) → 0 ≡ suc n → X
-no-count n h = cc
 
 same-leaf_tail : (b c : Bool) (text other : List ℕ) (m : ℕ) (xs ys : List Face) → b ≡ c → text ≡ other → take m xs ≡ take m ys → Same (leaf_tail b text m) (leaf_tail c other m) xs ys
 same-leaf_tail true true text other m xs ys b t rest = record { shown = refl; rest = rest }
@@ -193,12 +187,6 @@ mutual
 
   same-head : (leaf : Value → List ℕ) (ts us : Trees) (m : ℕ) (xs ys : List Face) → (count ts ≡ 2) × AreTerms ts → (count us ≡ 2) × AreTerms us
       → Agree m (faces_all leaf ts ++ xs) (faces_all leaf us ++ ys) → Same (head_text leaf ts m) (head_text leaf us m) xs ys
-  same-head leaf none us m xs ys a b h = no-count 1 a.0
-  same-head leaf (more t none) us m xs ys a b h = no-count 0 (count-suc 0 1 a.0)
-  same-head leaf (more t (more v (more x rest))) us m xs ys a b h = no-count (count rest) (sym (count-suc (suc (count rest)) 0 (count-suc (suc (suc (count rest))) 1 a.0)))
-  same-head leaf (more t (more v none)) none m xs ys a b h = no-count 1 b.0
-  same-head leaf (more t (more v none)) (more u none) m xs ys a b h = no-count 0 (count-suc 0 1 b.0)
-  same-head leaf (more t (more v none)) (more u (more w (more x rest))) m xs ys a b h = no-count (count rest) (sym (count-suc (suc (count rest)) 0 (count-suc (suc (suc (count rest))) 1 b.0)))
   same-head leaf (more t (more v none)) (more u (more w none)) zero xs ys a b h = record { shown = refl; rest = refl }
   same-head leaf (more t (more v none)) (more u (more w none)) (suc m) xs ys a b h =
       let after = faces_all leaf (more v none) in
@@ -206,6 +194,7 @@ mutual
       same-then (node_text leaf t m) (node_text leaf u m) (tail_text leaf (more v none)) (tail_text leaf (more w none)) (after ++ xs) (other ++ ys) xs ys
       (same-node leaf t u m (after ++ xs) (other ++ ys) a.1.0 b.1.0 (agree-behind (suc m) (faces leaf t) after xs (faces leaf u) other ys h))
       (λ k rest. same-tail leaf v w k xs ys a.1.1.0 b.1.1.0 (agree-only k (faces leaf v) (faces leaf w) xs ys rest))
+  same-head leaf ts us m xs ys a b h = absurd (omega (arith, a.0, b.0))
 
   same-tail : (leaf : Value → List ℕ) (t u : Tree) (m : ℕ) (xs ys : List Face) → IsTerm t → IsTerm u → Agree m (faces leaf t ++ xs) (faces leaf u ++ ys)
       → Same (tail_text leaf (more t none) m) (tail_text leaf (more u none) m) xs ys
@@ -247,49 +236,45 @@ mutual
   same-elements : (leaf : Value → List ℕ) (came : Bool) (ts us : Trees) (m : ℕ) (xs ys : List Face) → AreTerms ts → AreTerms us → count ts ≡ count us
       → Agree m (faces_all leaf ts ++ xs) (faces_all leaf us ++ ys) → Same (elements_text leaf came ts m) (elements_text leaf came us m) xs ys
   same-elements leaf came none none m xs ys a b size h = record { shown = refl; rest = h }
-  same-elements leaf came none (more u us) m xs ys a b size h = no-count (count us) size
-  same-elements leaf came (more t ts) none m xs ys a b size h = no-count (count ts) (sym size)
   same-elements leaf came (more t ts) (more u us) zero xs ys a b size h = record { shown = refl; rest = refl }
   same-elements leaf came (more t ts) (more u us) (suc m) xs ys a b size h =
       same-led (comma came) (node_text leaf t m then elements_text leaf true ts) (node_text leaf u m then elements_text leaf true us) xs ys
       (same-then (node_text leaf t m) (node_text leaf u m) (elements_text leaf true ts) (elements_text leaf true us) (faces_all leaf ts ++ xs) (faces_all leaf us ++ ys) xs ys
       (same-node leaf t u m (faces_all leaf ts ++ xs) (faces_all leaf us ++ ys) a.0 b.0 (agree-behind (suc m) (faces leaf t) (faces_all leaf ts) xs (faces leaf u) (faces_all leaf us) ys h))
-      (λ k rest. same-elements leaf true ts us k xs ys a.1 b.1 (count-suc (count ts) (count us) size) rest))
+      (λ k rest. same-elements leaf true ts us k xs ys a.1 b.1 (omega (arith, size)) rest))
+  same-elements leaf came ts us m xs ys a b size h = absurd (omega (arith, size))
 
   same-keys : (leaf : Value → List ℕ) (came : Bool) (ts us : Trees) (m : ℕ) (xs ys : List Face) → AreTerms ts → AreTerms us → count ts ≡ count us
       → Agree m (faces_all leaf ts ++ xs) (faces_all leaf us ++ ys) → Same (keys_text leaf came ts m) (keys_text leaf came us m) xs ys
   same-keys leaf came none none m xs ys a b size h = record { shown = refl; rest = h }
-  same-keys leaf came none (more u us) m xs ys a b size h = no-count (count us) size
-  same-keys leaf came (more t ts) none m xs ys a b size h = no-count (count ts) (sym size)
   same-keys leaf came (more t ts) (more u us) zero xs ys a b size h = record { shown = refl; rest = refl }
   same-keys leaf came (more t ts) (more u us) (suc m) xs ys a b size h =
       same-led (comma came) (node_text leaf t m then values_text leaf ts) (node_text leaf u m then values_text leaf us) xs ys
       (same-then (node_text leaf t m) (node_text leaf u m) (values_text leaf ts) (values_text leaf us) (faces_all leaf ts ++ xs) (faces_all leaf us ++ ys) xs ys
       (same-node leaf t u m (faces_all leaf ts ++ xs) (faces_all leaf us ++ ys) a.0 b.0 (agree-behind (suc m) (faces leaf t) (faces_all leaf ts) xs (faces leaf u) (faces_all leaf us) ys h))
-      (λ k rest. same-values leaf ts us k xs ys a.1 b.1 (count-suc (count ts) (count us) size) rest))
+      (λ k rest. same-values leaf ts us k xs ys a.1 b.1 (omega (arith, size)) rest))
+  same-keys leaf came ts us m xs ys a b size h = absurd (omega (arith, size))
 
   same-values : (leaf : Value → List ℕ) (ts us : Trees) (m : ℕ) (xs ys : List Face) → AreTerms ts → AreTerms us → count ts ≡ count us
       → Agree m (faces_all leaf ts ++ xs) (faces_all leaf us ++ ys) → Same (values_text leaf ts m) (values_text leaf us m) xs ys
   same-values leaf none none m xs ys a b size h = record { shown = refl; rest = h }
-  same-values leaf none (more u us) m xs ys a b size h = no-count (count us) size
-  same-values leaf (more t ts) none m xs ys a b size h = no-count (count ts) (sym size)
   same-values leaf (more t ts) (more u us) zero xs ys a b size h = record { shown = refl; rest = refl }
   same-values leaf (more t ts) (more u us) (suc m) xs ys a b size h =
       same-led (codes "=>") (node_text leaf t m then keys_text leaf true ts) (node_text leaf u m then keys_text leaf true us) xs ys
       (same-then (node_text leaf t m) (node_text leaf u m) (keys_text leaf true ts) (keys_text leaf true us) (faces_all leaf ts ++ xs) (faces_all leaf us ++ ys) xs ys
       (same-node leaf t u m (faces_all leaf ts ++ xs) (faces_all leaf us ++ ys) a.0 b.0 (agree-behind (suc m) (faces leaf t) (faces_all leaf ts) xs (faces leaf u) (faces_all leaf us) ys h))
-      (λ k rest. same-keys leaf true ts us k xs ys a.1 b.1 (count-suc (count ts) (count us) size) rest))
+      (λ k rest. same-keys leaf true ts us k xs ys a.1 b.1 (omega (arith, size)) rest))
+  same-values leaf ts us m xs ys a b size h = absurd (omega (arith, size))
 
   same-items : (leaf : Value → List ℕ) (came : Bool) (ts us : Trees) (m : ℕ) (xs ys : List Face) → AreItems ts → AreItems us → count ts ≡ count us
       → Agree m (faces_all leaf ts ++ xs) (faces_all leaf us ++ ys) → SameItems (items_text leaf came ts m) (items_text leaf came us m) xs ys
   same-items leaf came none none m xs ys a b size h = record { shown = refl; rest = h }
-  same-items leaf came none (more u us) m xs ys a b size h = no-count (count us) size
-  same-items leaf came (more t ts) none m xs ys a b size h = no-count (count ts) (sym size)
   same-items leaf came (more t ts) (more u us) zero xs ys a b size h = record { shown = refl; rest = refl }
   same-items leaf came (more t ts) (more u us) (suc m) xs ys a b size h =
       same-followed (item_text leaf came t m) (item_text leaf came u m) (λ c. items_text leaf c ts) (λ c. items_text leaf c us) (faces_all leaf ts ++ xs) (faces_all leaf us ++ ys) xs ys
       (same-item leaf came t u m (faces_all leaf ts ++ xs) (faces_all leaf us ++ ys) a.0 b.0 (agree-behind (suc m) (faces leaf t) (faces_all leaf ts) xs (faces leaf u) (faces_all leaf us) ys h))
-      (λ c k rest. same-items leaf c ts us k xs ys a.1 b.1 (count-suc (count ts) (count us) size) rest)
+      (λ c k rest. same-items leaf c ts us k xs ys a.1 b.1 (omega (arith, size)) rest)
+  same-items leaf came ts us m xs ys a b size h = absurd (omega (arith, size))
 
   same-item : (leaf : Value → List ℕ) (came : Bool) (t u : Tree) (m : ℕ) (xs ys : List Face) → IsItem t → IsItem u → Agree (suc m) (faces leaf t ++ xs) (faces leaf u ++ ys)
       → SameItems (item_text leaf came t m) (item_text leaf came u m) xs ys
@@ -312,12 +297,6 @@ mutual
 
   same-pair : (leaf : Value → List ℕ) (came : Bool) (ts us : Trees) (m : ℕ) (xs ys : List Face) → (count ts ≡ 2) × AreTerms ts → (count us ≡ 2) × AreTerms us
       → Agree m (faces_all leaf ts ++ xs) (faces_all leaf us ++ ys) → SameItems (pair_text leaf came ts m) (pair_text leaf came us m) xs ys
-  same-pair leaf came none us m xs ys a b h = no-count 1 a.0
-  same-pair leaf came (more t none) us m xs ys a b h = no-count 0 (count-suc 0 1 a.0)
-  same-pair leaf came (more t (more v (more x rest))) us m xs ys a b h = no-count (count rest) (sym (count-suc (suc (count rest)) 0 (count-suc (suc (suc (count rest))) 1 a.0)))
-  same-pair leaf came (more t (more v none)) none m xs ys a b h = no-count 1 b.0
-  same-pair leaf came (more t (more v none)) (more u none) m xs ys a b h = no-count 0 (count-suc 0 1 b.0)
-  same-pair leaf came (more t (more v none)) (more u (more w (more x rest))) m xs ys a b h = no-count (count rest) (sym (count-suc (suc (count rest)) 0 (count-suc (suc (suc (count rest))) 1 b.0)))
   same-pair leaf came (more t (more v none)) (more u (more w none)) zero xs ys a b h = record { shown = refl; rest = refl }
   same-pair leaf came (more t (more v none)) (more u (more w none)) (suc m) xs ys a b h =
       let after = faces_all leaf (more v none) in
@@ -326,6 +305,7 @@ mutual
       (same-node leaf t u m (after ++ xs) (other ++ ys) a.1.0 b.1.0 (agree-behind (suc m) (faces leaf t) after xs (faces leaf u) other ys h))
       (λ k rest. same-value leaf v w k xs ys
       (λ n is. same-node leaf v w n xs ys a.1.1.0 b.1.1.0 (subst (λ k. Agree k (faces leaf v ++ xs) (faces leaf w ++ ys)) is (agree-only k (faces leaf v) (faces leaf w) xs ys rest))))
+  same-pair leaf came ts us m xs ys a b h = absurd (omega (arith, a.0, b.0))
 
 pub first_nodes : (leaf : Value → List ℕ) (t u : Tree) (n : ℕ) → IsTerm t → IsTerm u → take n (nodes_of leaf t) ≡ take n (nodes_of leaf u) → show leaf t n ≡ show leaf u n
 first_nodes leaf t u zero a b h = refl

@@ -7,7 +7,7 @@ use Rattle.std.proofs.lemmas.List.Sums.{sum_by-cons}
 use Rattle.std.proofs.lemmas.Option.{slice_get-map, slice_get-get_or}
 use Rattle.std.proofs.Math.Nat.{div-add-mod}
 use Rattle.term_forms.specs.Elements.{Element, Nil}
-use Rattle.term_forms.specs.Forms.{HeapForm, Cons, Tuple, Flat, Hash, Node}
+use Rattle.term_forms.specs.Forms.{HeapForm, Tuple, Hash, Node}
 use Rattle.heap_cells.specs.Cells.{Cell, cell_weight, weight_of, elements_in}
 use Rattle.cell_records.specs.declared.cells.CellIx.{CellIx}
 use Rattle.cell_records.specs.declared.cells.Slot.{Slot}
@@ -67,27 +67,16 @@ item-kid heap ix place bounded cell has are within =
     }
 
 pub members-are : (form : Option HeapForm) → HasMembers form → members_in form ≡ elements_in form
-members-are None (inl h) = cc
-members-are None (inr (inl h)) = cc
-members-are None (inr (inr h)) = cc
 members-are (Some (Hash size children)) h = refl
 members-are (Some (Tuple elements)) h = refl
 members-are (Some (Node children)) h = refl
-members-are (Some (Cons head tail)) (inl h) = cc
-members-are (Some (Cons head tail)) (inr (inl h)) = cc
-members-are (Some (Cons head tail)) (inr (inr h)) = cc
-members-are (Some (Flat keys values)) (inl h) = cc
-members-are (Some (Flat keys values)) (inr (inl h)) = cc
-members-are (Some (Flat keys values)) (inr (inr h)) = cc
-members-are (Some form) (inl h) = cc
-members-are (Some form) (inr (inl h)) = cc
-members-are (Some form) (inr (inr h)) = cc
-
--- the first two of some children
+members-are form (inl h) = cc
+members-are form (inr (inl h)) = cc
+members-are form (inr (inr h)) = cc
 
 -- keys and values
 
-abbrev double : ℕ → ℕ
+abbrev pub double : ℕ → ℕ
 double zero = zero
 double (suc i) = suc (suc (double i))
 
@@ -125,10 +114,10 @@ behind-first (e ∷ es) i =
     let next : suc i ≡ i + 1 = omega arith in
     ap (slice_get (terms (e ∷ es))) next
 
-even : (place : ℕ) → place % 2 ≡ 0 → place ≡ double (place / 2)
+pub even : (place : ℕ) → place % 2 ≡ 0 → place ≡ double (place / 2)
 even place h = omega (arith, h, double-twice (place / 2), div-add-mod place 2)
 
-odd : (place : ℕ) → 0 < place % 2 → place ≡ suc (double (place / 2))
+pub odd : (place : ℕ) → 0 < place % 2 → place ≡ suc (double (place / 2))
 odd place h = omega (arith, h, double-twice (place / 2), div-add-mod place 2)
 
 none-at : (ks vs : List Element) (place : ℕ) → (slice_get (pairs ks vs) (double (place / 2)) ≡ None) × (slice_get (pairs ks vs) (suc (double (place / 2))) ≡ None)

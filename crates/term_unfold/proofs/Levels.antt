@@ -21,7 +21,7 @@ use Rattle.term_unfold.specs.Unfolding.{trees, grown, unfold_by, unfolded}
 
 -- a path is no longer than the heap
 
-none_passes : (p : ℕ → Bool) (xs : List ℕ) → list_any p xs ≡ false → AllByRecursion (λ y. p y ≡ false) xs
+pub none_passes : (p : ℕ → Bool) (xs : List ℕ) → list_any p xs ≡ false → AllByRecursion (λ y. p y ≡ false) xs
 none_passes p [] h = tt
 none_passes p (x ∷ xs) h = let parts = or_parts (p x) (list_any p xs) h in (parts.0, none_passes p xs parts.1)
 

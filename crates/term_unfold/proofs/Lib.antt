@@ -4,7 +4,6 @@ pub mod HexTexts
 pub mod InnerNodes
 pub mod FirstNodes
 pub mod Levels
-pub mod Lines
 pub mod Opens
 pub mod Placed
 pub mod Previewed

@@ -19,7 +19,7 @@ use Rattle.term_unfold.specs.Inner.Kids.{kids_of, members_in, found_elements, fl
 use Rattle.term_unfold.specs.Inner.Openings.{element_of, is_item_child, is_nil_term, is_list, IsOpened}
 use Rattle.term_unfold.specs.Inner.Rest.{closing, list_rest, is_value, flat_rest, term_rest, pair_rest, item_rest, run, run_items, resume, rest, to_show, to_list, bracket, cell_text, own_text, HasItems}
 use Rattle.term_unfold.specs.Rules.{Child, Term, Item, terms, items, pairs}
-use Rattle.term_unfold.specs.Text.{Shown, shown, ◌then◌, Stand, Cut, At, Listed, listed, go_on, ◌followed◌, closed, comma, bad_text, is_nil, leaf_tail, barred, node_text, head_text, tail_text, elements_text, keys_text, values_text, items_text, item_text, pair_text, value_text}
+use Rattle.term_unfold.specs.Text.{Shown, shown, led, ◌then◌, Stand, Cut, At, Listed, listed, go_on, ◌followed◌, closed, comma, bad_text, is_nil, leaf_tail, barred, node_text, head_text, tail_text, elements_text, keys_text, values_text, items_text, item_text, pair_text, value_text}
 use Rattle.term_unfold.specs.Trees.{Value, Immediate, OfCell, Tree, Leaf, Bad, Branch, Trees, none, more}
 use Rattle.term_unfold.specs.Unfolding.{trees, unfolded}
 use Rattle.term_unfold.proofs.Turning.{run-then, run-led, run-barred, left-more, left-none, term-at, item-at, HasChild}
@@ -71,42 +71,41 @@ run-at s f g h = ap (λ l. s.text ++ l) h
 is_value-next : (n : ℕ) (b : Bool) → is_value n ≡ b → is_value (n + 1) ≡ not b
 is_value-next n b h = ap is_value (add-one n) ∙ ap not h
 
+-- what comes before the child is written, then the child, and then what is left
+step-term : (leaf : Value → List ℕ) (heap : List Cell) (c : Bool) (e : Entry) (es : List Entry) (child : Child) (m : ℕ) (k : NodeKind) (front : List ℕ) (later : ℕ → Shown)
+    → e.kind ≡ k → is_item k ≡ false → HasChild heap e child
+    → term_rest leaf k e.came e.next (more (unfolded heap (path_of heap (next_of c e ∷ es)) child) (left_of heap (next_of c e) es)) (suc m)
+    ≡ led front (node_text leaf (unfolded heap (path_of heap (next_of c e ∷ es)) child) m then later)
+    → ((n : ℕ) → later n ≡ term_rest leaf k c (e.next + 1) (left_of heap (next_of c e) es) n)
+    → rest leaf heap (e ∷ es) (suc m) ≡ front ++ to_show leaf heap (next_of c e ∷ es) child m
+step-term leaf heap c e es child m k front later is term has now behind =
+    let s = node_text leaf (unfolded heap (path_of heap (next_of c e ∷ es)) child) m in
+    term-at leaf heap e es e.came (suc m) k is term ∙ ap (λ l. run (term_rest leaf k e.came e.next l (suc m)) (rest leaf heap es)) (left-more heap c e es child has)
+    ∙ ap (λ x. run x (rest leaf heap es)) now ∙ run-led front (s then later) (rest leaf heap es)
+    ∙ ap (λ l. front ++ l) (run-then s later (rest leaf heap es)
+    ∙ run-at s (λ n. run (later n) (rest leaf heap es)) (rest leaf heap (next_of c e ∷ es))
+    (ap (λ x. run x (rest leaf heap es)) (behind s.left) ∙ sym (term-at leaf heap (next_of c e) es c s.left k is term)))
+
 pub step-tuple : (leaf : Value → List ℕ) (heap : List Cell) (e : Entry) (es : List Entry) (child : Child) (m : ℕ) → e.kind ≡ kinds.Tuple → HasChild heap e child
     → rest leaf heap (e ∷ es) (suc m) ≡ comma e.came ++ to_show leaf heap (next_of true e ∷ es) child m
 step-tuple leaf heap e es child m is has =
-    let t = unfolded heap (path_of heap (next_of true e ∷ es)) child in
-    let ts = left_of heap (next_of true e) es in
-    let s = node_text leaf t m in
-    term-at leaf heap e es e.came (suc m) kinds.Tuple is refl ∙ ap (λ l. run (elements_text leaf e.came l (suc m)) (rest leaf heap es)) (left-more heap true e es child has)
-    ∙ run-led (comma e.came) (s then elements_text leaf true ts) (rest leaf heap es)
-    ∙ ap (λ l. comma e.came ++ l) (run-then s (elements_text leaf true ts) (rest leaf heap es)
-    ∙ run-at s (λ n. run (elements_text leaf true ts n) (rest leaf heap es)) (rest leaf heap (next_of true e ∷ es)) (sym (term-at leaf heap (next_of true e) es true s.left kinds.Tuple is refl)))
+    step-term leaf heap true e es child m kinds.Tuple (comma e.came) (elements_text leaf true (left_of heap (next_of true e) es)) is refl has refl (λ n. refl)
 
 pub step-key : (leaf : Value → List ℕ) (heap : List Cell) (e : Entry) (es : List Entry) (child : Child) (m : ℕ) → e.kind ≡ kinds.Flat → is_value e.next ≡ false → HasChild heap e child
     → rest leaf heap (e ∷ es) (suc m) ≡ comma e.came ++ to_show leaf heap (next_of true e ∷ es) child m
 step-key leaf heap e es child m is key has =
-    let t = unfolded heap (path_of heap (next_of true e ∷ es)) child in
     let ts = left_of heap (next_of true e) es in
-    let s = node_text leaf t m in
-    term-at leaf heap e es e.came (suc m) kinds.Flat is refl ∙ ap (λ l. run (flat_rest leaf (is_value e.next) e.came l (suc m)) (rest leaf heap es)) (left-more heap true e es child has)
-    ∙ ap (λ b. run (flat_rest leaf b e.came (more t ts) (suc m)) (rest leaf heap es)) key
-    ∙ run-led (comma e.came) (s then values_text leaf ts) (rest leaf heap es)
-    ∙ ap (λ l. comma e.came ++ l) (run-then s (values_text leaf ts) (rest leaf heap es)
-    ∙ run-at s (λ n. run (values_text leaf ts n) (rest leaf heap es)) (rest leaf heap (next_of true e ∷ es))
-    (sym (term-at leaf heap (next_of true e) es true s.left kinds.Flat is refl ∙ ap (λ b. run (flat_rest leaf b true ts s.left) (rest leaf heap es)) (is_value-next e.next false key))))
+    step-term leaf heap true e es child m kinds.Flat (comma e.came) (values_text leaf ts) is refl has
+    (ap (λ b. flat_rest leaf b e.came (more (unfolded heap (path_of heap (next_of true e ∷ es)) child) ts) (suc m)) key)
+    (λ n. ap (λ b. flat_rest leaf b true ts n) (sym (is_value-next e.next false key)))
 
 pub step-value : (leaf : Value → List ℕ) (heap : List Cell) (e : Entry) (es : List Entry) (child : Child) (m : ℕ) → e.kind ≡ kinds.Flat → is_value e.next ≡ true → HasChild heap e child
     → rest leaf heap (e ∷ es) (suc m) ≡ codes "=>" ++ to_show leaf heap (next_of true e ∷ es) child m
 step-value leaf heap e es child m is value has =
-    let t = unfolded heap (path_of heap (next_of true e ∷ es)) child in
     let ts = left_of heap (next_of true e) es in
-    let s = node_text leaf t m in
-    term-at leaf heap e es e.came (suc m) kinds.Flat is refl ∙ ap (λ l. run (flat_rest leaf (is_value e.next) e.came l (suc m)) (rest leaf heap es)) (left-more heap true e es child has)
-    ∙ ap (λ b. run (flat_rest leaf b e.came (more t ts) (suc m)) (rest leaf heap es)) value
-    ∙ run-led (codes "=>") (s then keys_text leaf true ts) (rest leaf heap es)
-    ∙ ap (λ l. codes "=>" ++ l) (run-then s (keys_text leaf true ts) (rest leaf heap es)
-    ∙ run-at s (λ n. run (keys_text leaf true ts n) (rest leaf heap es)) (rest leaf heap (next_of true e ∷ es))
-    (sym (term-at leaf heap (next_of true e) es true s.left kinds.Flat is refl ∙ ap (λ b. run (flat_rest leaf b true ts s.left) (rest leaf heap es)) (is_value-next e.next true value))))
+    step-term leaf heap true e es child m kinds.Flat (codes "=>") (keys_text leaf true ts) is refl has
+    (ap (λ b. flat_rest leaf b e.came (more (unfolded heap (path_of heap (next_of true e ∷ es)) child) ts) (suc m)) value)
+    (λ n. ap (λ b. flat_rest leaf b true ts n) (sym (is_value-next e.next true value)))
 
 list-later : (leaf : Value → List ℕ) (n : ℕ) (ts : Trees) (m : ℕ) → list_rest leaf false (suc n) ts m ≡ tail_text leaf ts m
 list-later leaf n none m = refl
@@ -115,16 +114,11 @@ list-later leaf n (more t ts) m = refl
 pub step-head : (leaf : Value → List ℕ) (heap : List Cell) (e : Entry) (es : List Entry) (child : Child) (m : ℕ) → e.kind ≡ kinds.Cons → e.next ≡ 0 → HasChild heap e child
     → rest leaf heap (e ∷ es) (suc m) ≡ to_show leaf heap (next_of false e ∷ es) child m
 step-head leaf heap e es child m is at has =
-    let t = unfolded heap (path_of heap (next_of false e ∷ es)) child in
     let ts = left_of heap (next_of false e) es in
-    let s = node_text leaf t m in
-    let next : e.next + 1 ≡ suc 0 = omega (arith, at) in
-    term-at leaf heap e es e.came (suc m) kinds.Cons is refl ∙ ap (λ l. run (list_rest leaf e.came e.next l (suc m)) (rest leaf heap es)) (left-more heap false e es child has)
-    ∙ ap (λ n. run (list_rest leaf e.came n (more t ts) (suc m)) (rest leaf heap es)) at
-    ∙ run-then s (tail_text leaf ts) (rest leaf heap es)
-    ∙ run-at s (λ n. run (tail_text leaf ts n) (rest leaf heap es)) (rest leaf heap (next_of false e ∷ es))
-    (sym (term-at leaf heap (next_of false e) es false s.left kinds.Cons is refl ∙ ap (λ n. run (list_rest leaf false n ts s.left) (rest leaf heap es)) next
-    ∙ ap (λ x. run x (rest leaf heap es)) (list-later leaf 0 ts s.left)))
+    let next : suc 0 ≡ e.next + 1 = omega (arith, at) in
+    step-term leaf heap false e es child m kinds.Cons [] (tail_text leaf ts) is refl has
+    (ap (λ n. list_rest leaf e.came n (more (unfolded heap (path_of heap (next_of false e ∷ es)) child) ts) (suc m)) at)
+    (λ n. sym (list-later leaf 0 ts n) ∙ ap (λ k. list_rest leaf false k ts n) next)
 
 -- behind a tail a list has no child
 
@@ -133,14 +127,12 @@ two-left [] n = refl
 two-left (x ∷ []) n = refl
 two-left (x ∷ y ∷ es) n = refl
 
-cons-kids : (heap : List Cell) (e : Entry) → e.kind ≡ kinds.Cons → kids_of heap e.kind (number e.cell) ≡ terms (take 2 (elements_at heap (number e.cell)))
-cons-kids heap e is = ap (λ k. kids_of heap k (number e.cell)) is
-
-tail-last : (heap : List Cell) (came : Bool) (e : Entry) (es : List Entry) (n : ℕ) → e.kind ≡ kinds.Cons → e.next ≡ suc n → left_of heap (next_of came e) es ≡ none
-tail-last heap came e es n is at =
+second-last : (heap : List Cell) (came : Bool) (e : Entry) (es : List Entry) (n : ℕ) → kids_of heap e.kind (number e.cell) ≡ terms (take 2 (elements_at heap (number e.cell))) → e.next ≡ suc n
+    → left_of heap (next_of came e) es ≡ none
+second-last heap came e es n kids at =
     let next : e.next + 1 ≡ suc (suc n) = omega (arith, at) in
     left-none heap (next_of came e) es
-    (ap (λ l. slice_get l (e.next + 1)) (cons-kids heap e is) ∙ ap (slice_get (terms (take 2 (elements_at heap (number e.cell))))) next ∙ two-left (elements_at heap (number e.cell)) n)
+    (ap (λ l. slice_get l (e.next + 1)) kids ∙ ap (slice_get (terms (take 2 (elements_at heap (number e.cell))))) next ∙ two-left (elements_at heap (number e.cell)) n)
 
 list-none : (leaf : Value → List ℕ) (came : Bool) (next m : ℕ) → list_rest leaf came next none m ≡ shown (closing came) m
 list-none leaf came zero m = refl
@@ -150,7 +142,7 @@ list-none leaf came (suc next) m = refl
 behind-tail : (leaf : Value → List ℕ) (heap : List Cell) (came : Bool) (e : Entry) (es : List Entry) (n m : ℕ) → e.kind ≡ kinds.Cons → e.next ≡ suc n
     → rest leaf heap (next_of came e ∷ es) m ≡ closing came ++ rest leaf heap es m
 behind-tail leaf heap came e es n m is at =
-    term-at leaf heap (next_of came e) es came m kinds.Cons is refl ∙ ap (λ l. run (list_rest leaf came (e.next + 1) l m) (rest leaf heap es)) (tail-last heap came e es n is at)
+    term-at leaf heap (next_of came e) es came m kinds.Cons is refl ∙ ap (λ l. run (list_rest leaf came (e.next + 1) l m) (rest leaf heap es)) (second-last heap came e es n (ap (λ k. kids_of heap k (number e.cell)) is) at)
     ∙ ap (λ s. run s (rest leaf heap es)) (list-none leaf came (e.next + 1) m)
 
 -- a list in front of its tail
@@ -243,15 +235,6 @@ pair-none : (leaf : Value → List ℕ) (came : Bool) (next m : ℕ) → pair_re
 pair-none leaf came zero m = refl
 pair-none leaf came (suc next) m = refl
 
-pair-kids : (heap : List Cell) (e : Entry) → e.kind ≡ kinds.Pair → kids_of heap e.kind (number e.cell) ≡ terms (take 2 (elements_at heap (number e.cell)))
-pair-kids heap e is = ap (λ k. kids_of heap k (number e.cell)) is
-
-value-last : (heap : List Cell) (came : Bool) (e : Entry) (es : List Entry) (n : ℕ) → e.kind ≡ kinds.Pair → e.next ≡ suc n → left_of heap (next_of came e) es ≡ none
-value-last heap came e es n is at =
-    let next : e.next + 1 ≡ suc (suc n) = omega (arith, at) in
-    left-none heap (next_of came e) es
-    (ap (λ l. slice_get l (e.next + 1)) (pair-kids heap e is) ∙ ap (slice_get (terms (take 2 (elements_at heap (number e.cell))))) next ∙ two-left (elements_at heap (number e.cell)) n)
-
 pub step-pair_key : (leaf : Value → List ℕ) (heap : List Cell) (e : Entry) (es : List Entry) (child : Child) (m : ℕ) → e.kind ≡ kinds.Pair → e.next ≡ 0 → HasChild heap e child
     → rest leaf heap (e ∷ es) (suc m) ≡ comma e.came ++ to_show leaf heap (next_of true e ∷ es) child m
 step-pair_key leaf heap e es child m is at has =
@@ -277,7 +260,7 @@ step-pair_value leaf heap e es child n m is at has =
     ∙ ap (λ k. run_items (pair_rest leaf e.came k (more t ts) (suc m)) (resume leaf heap es)) at
     ∙ append_assoc (codes "=>") s.text (resume leaf heap es (At true s.left))
     ∙ ap (λ l. codes "=>" ++ (s.text ++ l)) (sym (item-at leaf heap (next_of true e) es true s.left kinds.Pair is refl
-    ∙ ap (λ l. run_items (pair_rest leaf true (e.next + 1) l s.left) (resume leaf heap es)) (value-last heap true e es n is at)
+    ∙ ap (λ l. run_items (pair_rest leaf true (e.next + 1) l s.left) (resume leaf heap es)) (second-last heap true e es n (ap (λ k. kids_of heap k (number e.cell)) is) at)
     ∙ ap (λ x. run_items x (resume leaf heap es)) (pair-none leaf true (e.next + 1) s.left)))
 
 -- items: a map ends behind them, and an inner node hands on where they stand

@@ -1,14 +1,31 @@
 -- What ties marks, stack and line, under each step.
 use Rattle.std.proofs.Common.{◌≡◌, ℕ, ◌-◌, ◌<◌, ◌≤◌, Bool, true, false, ◌||◌, eqb, List, [], ◌∷◌, ◌++◌, length, get_or, set, refl, sym, ◌∙◌, ap, subst, inl, inr, arith, length-append}
 use Rattle.std.specs.Prelude.{reverse}
+use Rattle.std.specs.List.{IsDistinct}
 use Rattle.std.proofs.lemmas.List.{length-set, length-map, length-reverse, get_or-set_same, get_or-set_other, get_or_at, set_at, reverse-append, reverse-reverse}
 use Rattle.std.proofs.lemmas.Grind.{reverse_onto}
-use Rattle.std.proofs.lemmas.Bool.{cases_eq, eq-eqb, ne_eqb}
+use Rattle.std.proofs.lemmas.Bool.{cases_eq, eq-eqb, eqb-true, false≢true, ne_eqb, or_cases}
+use Rattle.std.proofs.lemmas.Map.Steps.{length-le_from_distinct_below}
 use Rattle.heap_cells.specs.Targets.{number}
 use Rattle.term_unfold.specs.declared.path.Entry.{Entry}
 use Rattle.term_unfold.specs.Inner.Entries.{Entered, numbers_of, altered, IsLine, IsTied}
 use Rattle.term_unfold.specs.Rules.{is_on}
-use Rattle.term_unfold.proofs.Lines.{length-line}
+use Rattle.term_unfold.proofs.Levels.{none_passes}
+
+-- a line of numbers has no more cells than there are
+
+distinct : (n : ℕ) (path : List ℕ) → IsLine n path → IsDistinct eqb path
+unfolding IsDistinct
+distinct n [] h = tt
+distinct n (c ∷ cs) h = (none_passes (eqb c) cs h.1, distinct n cs h.2)
+
+below-line : (n q : ℕ) (path : List ℕ) → IsLine n path → is_on q path ≡ true → q < n
+below-line n q [] h on = absurd (false≢true on)
+below-line n q (c ∷ cs) h on =
+    elim (or_cases (eqb q c) (is_on q cs) on) [ inl e ↦ subst (λ x. x < n) (sym (eqb-true q c e)) h.0 | inr e ↦ below-line n q cs h.2 e ]
+
+length-line : (n : ℕ) (path : List ℕ) → IsLine n path → length path ≤ n
+length-line n path h = length-le_from_distinct_below path n (distinct n path h) (λ q. below-line n q path h)
 
 -- one more mark and one more cell
 is_on-push : (marks : List Bool) (path : List ℕ) (c d : ℕ) → c < length marks → (d < length marks → get_or marks d false ≡ is_on d path) → d < length marks

@@ -1,7 +1,6 @@
 -- What the open cells still have to write, step by step.
-use Rattle.std.proofs.Common.{◌≡◌, ℕ, zero, suc, ◌+◌, ◌<◌, ◌%◌, ◌/◌, Bool, true, false, not, cond, List, [], ◌∷◌, ◌++◌, Some, None, refl, sym, ◌∙◌, ap, append_assoc, arith}
+use Rattle.std.proofs.Common.{◌≡◌, ℕ, zero, suc, ◌<◌, ◌%◌, ◌/◌, Bool, true, false, not, cond, List, [], ◌∷◌, ◌++◌, Some, None, refl, sym, ◌∙◌, ap, append_assoc}
 use Rattle.std.specs.Prelude.{codes, slice_get}
-use Rattle.std.proofs.Math.Nat.{div-add-mod}
 use Rattle.heap_cells.specs.Cells.{Cell}
 use Rattle.heap_cells.specs.Targets.{number}
 use Rattle.term_unfold.specs.declared.node.NodeKind.{NodeKind}
@@ -15,6 +14,7 @@ use Rattle.term_unfold.specs.Rules.{Child}
 use Rattle.term_unfold.specs.Text.{Shown, led, ◌then◌, Cut, At, closed, comma, barred, elements_text, items_text}
 use Rattle.term_unfold.specs.Trees.{Value, Tree, none, more}
 use Rattle.term_unfold.specs.Unfolding.{trees, unfolded}
+use Rattle.term_unfold.proofs.Kidded.{double, even, odd}
 use Rattle.term_unfold.proofs.Visited.{drop-at_get, drop-past_get}
 
 -- texts and what follows them
@@ -67,10 +67,6 @@ outside-item e es k is item = ap (λ x. cond (is_item x) (outside es) es) is ∙
 
 pub outside-term : (e : Entry) (es : List Entry) (k : NodeKind) → e.kind ≡ k → is_item k ≡ false → outside (e ∷ es) ≡ es
 outside-term e es k is term = ap (λ x. cond (is_item x) (outside es) es) is ∙ ap (λ b. cond b (outside es) es) term
-
--- no child is left
-
--- a child is left that isn't visited
 
 -- a cut behind a front, down to the map
 cut-down : (leaf : Value → List ℕ) (heap : List Cell) (entries : List Entry) (front : List ℕ) → (front ++ codes "...") ++ resume leaf heap entries Cut ≡ (front ++ codes "...}") ++ rest leaf heap (outside entries) 0
@@ -129,14 +125,6 @@ cut-pair_value leaf heap e es child n is at has =
 
 -- which children of a flat map are values
 
-abbrev double : ℕ → ℕ
-double zero = zero
-double (suc i) = suc (suc (double i))
-
-double-twice : (i : ℕ) → double i ≡ i + i
-double-twice zero = refl
-double-twice (suc i) = omega (arith, double-twice i)
-
 not-not : (b : Bool) → not (not b) ≡ b
 not-not true = refl
 not-not false = refl
@@ -146,11 +134,7 @@ double-key zero = refl
 double-key (suc i) = not-not (is_value (double i)) ∙ double-key i
 
 pub even-key : (n : ℕ) → n % 2 ≡ 0 → is_value n ≡ false
-even-key n h =
-    let is : n ≡ double (n / 2) = omega (arith, h, double-twice (n / 2), div-add-mod n 2) in
-    ap is_value is ∙ double-key (n / 2)
+even-key n h = ap is_value (even n h) ∙ double-key (n / 2)
 
 pub odd-value : (n : ℕ) → 0 < n % 2 → is_value n ≡ true
-odd-value n h =
-    let is : n ≡ suc (double (n / 2)) = omega (arith, h, double-twice (n / 2), div-add-mod n 2) in
-    ap is_value is ∙ ap not (double-key (n / 2))
+odd-value n h = ap is_value (odd n h) ∙ ap not (double-key (n / 2))

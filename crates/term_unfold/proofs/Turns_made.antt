@@ -1,22 +1,25 @@
 -- Turns, by what the walk writes and where it stands then.
 use Rattle.std.proofs.Common.{◌≡◌, ℕ, suc, ◌+◌, ◌<◌, ◌≤◌, Bool, true, false, cond, List, [], ◌∷◌, ◌++◌, length, drop, refl, sym, ◌∙◌, ap, subst, append_assoc, append-nil, arith}
+use Rattle.std.specs.Borrow.{Bor}
+use Rattle.std.proofs.lemmas.List.{length-drop}
 use Rattle.heap_cells.specs.Cells.{Cell}
+use Rattle.heap_cells.specs.HeapMap.{HeapMap}
 use Rattle.cell_records.specs.declared.cells.Why.{Why}
+use Rattle.term_unfold.specs.declared.children.Child.{Child as Kid}
 use Rattle.term_unfold.specs.declared.openings.Opened.{Opened}
 use Rattle.term_unfold.specs.declared.openings.Opened.TheVariants as opened
 use Rattle.term_unfold.specs.declared.path.Entry.{Entry}
-use Rattle.term_unfold.specs.declared.turns.Turn.{Turn}
 use Rattle.term_unfold.specs.Inner.Coming.{entered_by}
-use Rattle.term_unfold.specs.Inner.Entries.{path_of, next_of, stepped, outside, is_item}
+use Rattle.term_unfold.specs.Inner.Entries.{Entered, path_of, next_of, stepped, outside, is_item}
+use Rattle.term_unfold.specs.Inner.Kids.{child_shown}
 use Rattle.term_unfold.specs.Inner.Openings.{is_item_child, IsOpened}
-use Rattle.term_unfold.specs.Inner.Rest.{rest, to_show, own_text, turn_text, LeafWithin, IsTurn, HasItems}
+use Rattle.term_unfold.specs.Inner.Rest.{rest, to_show, own_text, LeafWithin, IsTurn, HasItems, AtChild}
 use Rattle.term_unfold.specs.Rules.{Child}
 use Rattle.term_unfold.specs.Text.{comma}
 use Rattle.term_unfold.specs.Trees.{Value}
-use Rattle.term_unfold.proofs.Turning.{HasChild}
 use Rattle.term_unfold.proofs.Stepping.{show-opened, step-items, list-bad, list-opened, items-child}
 
-pub leaf-within : (heap : List Cell) (path : List ℕ) (child : Child) (o : Opened) → IsOpened heap path child o → LeafWithin heap o
+leaf-within : (heap : List Cell) (path : List ℕ) (child : Child) (o : Opened) → IsOpened heap path child o → LeafWithin heap o
 leaf-within heap path child (opened.Leaf ix) is = is.cell
 leaf-within heap path child o is = tt
 
@@ -28,107 +31,83 @@ stepped-length : (came : Bool) (entries : List Entry) → length (stepped came e
 stepped-length came [] = refl
 stepped-length came (e ∷ es) = refl
 
-advanced-more : (o : Opened) (b came : Bool) (before after : List Entry) → after ≡ entered_by o b (stepped came before) → length after ≤ length before + 1
+pub advanced-more : (o : Opened) (b came : Bool) (before after : List Entry) → after ≡ entered_by o b (stepped came before) → length after ≤ length before + 1
 advanced-more o b came before after is = omega (arith, ap length is, entered-more o b (stepped came before), stepped-length came before)
 
-at-top : (P : List Entry → Type 0) (before : List Entry) (e : Entry) → before ≡ e ∷ drop 1 before → P before → P (e ∷ drop 1 before)
-at-top P before e top p = subst P top p
-
--- a text in front, and the child's own text
-pub IsTurn-own : (heap : List Cell) (before after : List Entry) (child : Child) (turn : Turn) (e : Entry) (front : List ℕ) (came : Bool) → before ≡ e ∷ drop 1 before → length before ≤ length heap
-    → is_item_child child ≡ false → IsOpened heap (path_of heap before) child turn.opened → turn.front.now ≡ front → turn.own ≡ true → after ≡ entered_by turn.opened false (stepped came before)
-    → ((leaf : Value → List ℕ) (m : ℕ) → rest leaf heap (e ∷ drop 1 before) (suc m) ≡ front ++ to_show leaf heap (next_of came e ∷ drop 1 before) child m)
-    → IsTurn heap before after child turn
-IsTurn-own heap before after child turn e front came top few term opens front_is own_is now leads =
-    let es = drop 1 before in
-    let few_top = at-top (λ es. length es ≤ length heap) before e top few in
-    let opens_top = at-top (λ es. IsOpened heap (path_of heap es) child turn.opened) before e top opens in
-    record {
-      text = λ leaf m.
-          let own = own_text leaf heap child turn.opened in
-          let now_top : after ≡ entered_by turn.opened false (next_of came e ∷ es) = now ∙ ap (λ es. entered_by turn.opened false (stepped came es)) top in
-          let last = rest leaf heap (entered_by turn.opened false (next_of came e ∷ es)) m in
-          ap (λ es. rest leaf heap es (suc m)) top ∙ leads leaf m
-          ∙ ap (λ l. front ++ l) (show-opened leaf heap (next_of came e ∷ es) child turn.opened m few_top term opens_top)
-          ∙ sym (append_assoc front own last)
-          ∙ ap (λ l. (l ++ own) ++ last) (sym front_is)
-          ∙ ap (λ b. (turn.front.now ++ cond b own []) ++ last) (sym own_is)
-          ∙ ap (λ es. turn_text leaf heap child turn ++ rest leaf heap es m) (sym now_top);
-      more = advanced-more turn.opened false came before after now;
-      cell = leaf-within heap (path_of heap before) child turn.opened opens;
-    }
-
--- a text in front alone
-pub IsTurn-none : (heap : List Cell) (before after : List Entry) (child : Child) (turn : Turn) (e : Entry) (front : List ℕ) → before ≡ e ∷ drop 1 before
-    → IsOpened heap (path_of heap before) child turn.opened → turn.front.now ≡ front → turn.own ≡ false → length after ≤ length before + 1
-    → ((leaf : Value → List ℕ) (m : ℕ) → rest leaf heap (e ∷ drop 1 before) (suc m) ≡ front ++ rest leaf heap after m)
-    → IsTurn heap before after child turn
-IsTurn-none heap before after child turn e front top opens front_is own_is more leads =
-    record {
-      text = λ leaf m.
-          let own = own_text leaf heap child turn.opened in
-          let last = rest leaf heap after m in
-          ap (λ es. rest leaf heap es (suc m)) top ∙ leads leaf m
-          ∙ ap (λ l. l ++ last) (sym front_is ∙ sym (append-nil turn.front.now))
-          ∙ ap (λ b. (turn.front.now ++ cond b own []) ++ last) (sym own_is);
-      more = more;
-      cell = leaf-within heap (path_of heap before) child turn.opened opens;
-    }
-
-pub few-top : (heap : List Cell) (before : List Entry) (e : Entry) → before ≡ e ∷ drop 1 before → length before ≤ length heap → length (e ∷ drop 1 before) ≤ length heap
-few-top heap before e top few = at-top (λ es. length es ≤ length heap) before e top few
-
-pub opens-top : (heap : List Cell) (before : List Entry) (e : Entry) (child : Child) (o : Opened) → before ≡ e ∷ drop 1 before → IsOpened heap (path_of heap before) child o → IsOpened heap (path_of heap (e ∷ drop 1 before)) child o
-opens-top heap before e child o top opens = at-top (λ es. IsOpened heap (path_of heap es) child o) before e top opens
-
-pub advanced-top : (o : Opened) (b came : Bool) (before after : List Entry) (e : Entry) → before ≡ e ∷ drop 1 before → after ≡ entered_by o b (stepped came before) → after ≡ entered_by o b (next_of came e ∷ drop 1 before)
-advanced-top o b came before after e top now = now ∙ ap (λ es. entered_by o b (stepped came es)) top
-
-pub advanced-few : (o : Opened) (b came : Bool) (before after : List Entry) → after ≡ entered_by o b (stepped came before) → length after ≤ length before + 1
-advanced-few o b came before after now = advanced-more o b came before after now
-
-popped-few : (before after : List Entry) → after ≡ drop 1 before → length (drop 1 before) ≤ length before → length after ≤ length before + 1
-popped-few before after now less = omega (arith, ap length now, less)
-
-drop-less : (entries : List Entry) → length (drop 1 entries) ≤ length entries
-drop-less [] = omega arith
-drop-less (e ∷ es) = omega arith
-
 pub popped-more : (before after : List Entry) → after ≡ drop 1 before → length after ≤ length before + 1
-popped-more before after now = popped-few before after now (drop-less before)
+popped-more before after now = omega (arith, ap length now, length-drop 1 before)
 
--- a bad item
-pub IsTurn-bad : (heap : List Cell) (before after : List Entry) (child : Child) (turn : Turn) (e : Entry) (address : ℕ) (why : Why) → before ≡ e ∷ drop 1 before → length before ≤ length heap → HasItems e.kind → HasChild heap e child
-    → IsOpened heap (path_of heap before) child turn.opened → turn.opened ≡ opened.Bad address why → turn.front.now ≡ comma e.came → turn.own ≡ true → after ≡ entered_by turn.opened false (stepped true before)
-    → IsTurn heap before after child turn
-IsTurn-bad heap before after child turn e address why top few has at opens is front_is own_is now =
-    let es = drop 1 before in
-    let few_top = few-top heap before e top few in
-    let opens_bad = subst (λ o. IsOpened heap (path_of heap (e ∷ es)) child o) is (opens-top heap before e child turn.opened top opens) in
-    record {
-      text = λ leaf m.
-          let own = own_text leaf heap child turn.opened in
-          let after_is : after ≡ next_of true e ∷ es = now ∙ ap (λ es. entered_by turn.opened false (stepped true es)) top ∙ ap (λ o. entered_by o false (next_of true e ∷ es)) is in
-          let last = rest leaf heap (next_of true e ∷ es) m in
-          ap (λ es. rest leaf heap es (suc m)) top ∙ step-items leaf heap true e es child m has at
-          ∙ list-bad leaf heap (next_of true e ∷ es) e.came child address why m few_top opens_bad
-          ∙ ap (λ o. (comma e.came ++ own_text leaf heap child o) ++ last) (sym is)
-          ∙ ap (λ l. (l ++ own) ++ last) (sym front_is)
-          ∙ ap (λ b. (turn.front.now ++ cond b own []) ++ last) (sym own_is)
-          ∙ ap (λ es. turn_text leaf heap child turn ++ rest leaf heap es m) (sym after_is);
-      more = advanced-more turn.opened false true before after now;
-      cell = leaf-within heap (path_of heap before) child turn.opened opens;
-    }
+module _ (heap : HeapMap) (path : Entered) (e : Entry) (kid : Kid) (o : Opened) (at : AtChild heap path e kid o) where
+  pub few-top : length (e ∷ drop 1 path.entries) ≤ length heap.cells
+  few-top = subst (λ es. length es ≤ length heap.cells) at.top at.few
 
--- another item
-pub items-turn : (leaf : Value → List ℕ) (heap : List Cell) (before after : List Entry) (child : Child) (o : Opened) (e : Entry) (m : ℕ) → before ≡ e ∷ drop 1 before → length before ≤ length heap → HasItems e.kind → HasChild heap e child
-    → IsOpened heap (path_of heap before) child o → ((address : ℕ) (why : Why) → o ≡ opened.Bad address why → ⊥) → after ≡ entered_by o e.came (stepped e.came before)
-    → rest leaf heap (e ∷ drop 1 before) (suc m) ≡ rest leaf heap after m
-items-turn leaf heap before after child o e m top few has at opens good now =
-    let es = drop 1 before in
-    step-items leaf heap e.came e es child m has at
-    ∙ list-opened leaf heap e.came e es child o m (few-top heap before e top few) (items-child heap e child has at) (opens-top heap before e child o top opens) good
-    ∙ ap (λ es. rest leaf heap es m) (sym (advanced-top o e.came e.came before after e top now))
+  pub opens-top : IsOpened heap.cells (path_of heap.cells (e ∷ drop 1 path.entries)) (child_shown heap.cells kid) o
+  opens-top = subst (λ es. IsOpened heap.cells (path_of heap.cells es) (child_shown heap.cells kid) o) at.top at.opens.found_is
+
+  pub advanced-top : (after : List Entry) (b came : Bool) → after ≡ entered_by o b (stepped came path.entries) → after ≡ entered_by o b (next_of came e ∷ drop 1 path.entries)
+  advanced-top after b came now = now ∙ ap (λ es. entered_by o b (stepped came es)) at.top
+
+  -- a text in front, and the child's own text
+  pub IsTurn-own : (after : List Entry) (front : Bor (List ℕ)) (words : List ℕ) (came : Bool) → is_item_child (child_shown heap.cells kid) ≡ false → front.now ≡ words
+      → after ≡ entered_by o false (stepped came path.entries)
+      → ((leaf : Value → List ℕ) (m : ℕ) → rest leaf heap.cells (e ∷ drop 1 path.entries) (suc m) ≡ words ++ to_show leaf heap.cells (next_of came e ∷ drop 1 path.entries) (child_shown heap.cells kid) m)
+      → IsTurn heap.cells path.entries after (child_shown heap.cells kid) (record { front = front; own = true; opened = o })
+  IsTurn-own after front words came term front_is now leads =
+      let es = drop 1 path.entries in
+      let child = child_shown heap.cells kid in
+      record {
+        text = λ leaf m.
+            let own = own_text leaf heap.cells child o in
+            let last = rest leaf heap.cells (entered_by o false (next_of came e ∷ es)) m in
+            ap (λ es. rest leaf heap.cells es (suc m)) at.top ∙ leads leaf m
+            ∙ ap (λ l. words ++ l) (show-opened leaf heap.cells (next_of came e ∷ es) child o m few-top term opens-top)
+            ∙ sym (append_assoc words own last) ∙ ap (λ l. (l ++ own) ++ last) (sym front_is)
+            ∙ ap (λ es. (front.now ++ own) ++ rest leaf heap.cells es m) (sym (advanced-top after false came now));
+        more = advanced-more o false came path.entries after now;
+        cell = leaf-within heap.cells (path_of heap.cells path.entries) child o at.opens.found_is;
+      }
+
+  -- a text in front alone
+  pub IsTurn-none : (after : List Entry) (front : Bor (List ℕ)) (words : List ℕ) → front.now ≡ words → length after ≤ length path.entries + 1
+      → ((leaf : Value → List ℕ) (m : ℕ) → rest leaf heap.cells (e ∷ drop 1 path.entries) (suc m) ≡ words ++ rest leaf heap.cells after m)
+      → IsTurn heap.cells path.entries after (child_shown heap.cells kid) (record { front = front; own = false; opened = o })
+  IsTurn-none after front words front_is more leads =
+      record {
+        text = λ leaf m.
+            ap (λ es. rest leaf heap.cells es (suc m)) at.top ∙ leads leaf m ∙ ap (λ l. l ++ rest leaf heap.cells after m) (sym front_is ∙ sym (append-nil front.now));
+        more = more;
+        cell = leaf-within heap.cells (path_of heap.cells path.entries) (child_shown heap.cells kid) o at.opens.found_is;
+      }
+
+  -- a bad item
+  pub IsTurn-bad : (after : List Entry) (front : Bor (List ℕ)) (address : ℕ) (why : Why) → HasItems e.kind → o ≡ opened.Bad address why → front.now ≡ comma e.came
+      → after ≡ entered_by o false (stepped true path.entries) → IsTurn heap.cells path.entries after (child_shown heap.cells kid) (record { front = front; own = true; opened = o })
+  IsTurn-bad after front address why has is front_is now =
+      let es = drop 1 path.entries in
+      let child = child_shown heap.cells kid in
+      record {
+        text = λ leaf m.
+            let last = rest leaf heap.cells (next_of true e ∷ es) m in
+            ap (λ es. rest leaf heap.cells es (suc m)) at.top ∙ step-items leaf heap.cells true e es child m has at.at
+            ∙ list-bad leaf heap.cells (next_of true e ∷ es) e.came child address why m few-top (subst (IsOpened heap.cells (path_of heap.cells (e ∷ es)) child) is opens-top)
+            ∙ ap (λ o. (comma e.came ++ own_text leaf heap.cells child o) ++ last) (sym is)
+            ∙ ap (λ l. (l ++ own_text leaf heap.cells child o) ++ last) (sym front_is)
+            ∙ ap (λ es. (front.now ++ own_text leaf heap.cells child o) ++ rest leaf heap.cells es m)
+            (sym (advanced-top after false true now ∙ ap (λ o. entered_by o false (next_of true e ∷ es)) is));
+        more = advanced-more o false true path.entries after now;
+        cell = leaf-within heap.cells (path_of heap.cells path.entries) child o at.opens.found_is;
+      }
+
+  -- another item
+  pub IsTurn-item : (after : List Entry) (front : Bor (List ℕ)) → HasItems e.kind → ((address : ℕ) (why : Why) → o ≡ opened.Bad address why → ⊥) → front.now ≡ []
+      → after ≡ entered_by o e.came (stepped e.came path.entries) → IsTurn heap.cells path.entries after (child_shown heap.cells kid) (record { front = front; own = false; opened = o })
+  IsTurn-item after front has good front_is now =
+      let es = drop 1 path.entries in
+      let child = child_shown heap.cells kid in
+      IsTurn-none after front [] front_is (advanced-more o e.came e.came path.entries after now)
+      (λ leaf m. step-items leaf heap.cells e.came e es child m has at.at
+      ∙ list-opened leaf heap.cells e.came e es child o m few-top (items-child heap.cells e child has at.at) opens-top good
+      ∙ ap (λ es. rest leaf heap.cells es m) (sym (advanced-top after e.came e.came now)))
 
 -- fewer cells are open outside of a node
 
@@ -144,3 +123,11 @@ pub outside-fewer : (before after : List Entry) (e : Entry) → before ≡ e ∷
 outside-fewer before after e top now =
     let left : after ≡ cond (is_item e.kind) (outside (drop 1 before)) (drop 1 before) = now ∙ ap outside top in
     omega (arith, ap length left, ap length top, outside-some (is_item e.kind) (drop 1 before) (outside-less (drop 1 before)))
+
+-- a node is cut: what stands for all that is left of it was written, and the walk is outside of it
+pub cut-turn : (leaf : Value → List ℕ) (heap : List Cell) (before after inner : List Entry) (e : Entry) (front written : List ℕ) → before ≡ e ∷ drop 1 before → after ≡ outside before
+    → outside (e ∷ drop 1 before) ≡ inner → written ≡ front → rest leaf heap (e ∷ drop 1 before) 0 ≡ front ++ rest leaf heap inner 0
+    → rest leaf heap before 0 ≡ written ++ rest leaf heap after 0
+cut-turn leaf heap before after inner e front written top left out is cuts =
+    ap (λ es. rest leaf heap es 0) top ∙ cuts ∙ ap (λ l. l ++ rest leaf heap inner 0) (sym is)
+    ∙ ap (λ es. written ++ rest leaf heap es 0) (sym (left ∙ ap outside top ∙ out))

@@ -2,7 +2,7 @@ use Rattle.std.proofs.Common.{◌<◌, ◌^◌, ◌≤◌, rules, length, take, 
 use Rattle.std.proofs.lemmas.List.{length-take-le}
 use Rattle.std.proofs.lemmas.Bool.{false≢true}
 use Rattle.binary_payloads.specs.Payload.{IsPayloadOf}
-use Rattle.binary_payloads.proofs.Parts.{payload_of-size, cover_within, cover_read, range_read, part_by}
+use Rattle.binary_payloads.proofs.Ranges.{payload_of-size, cover_within, cover_read, range_read, part_by}
 use Rattle.binary_payloads.proofs.covering.payload_part.Goals as goal
 
 pub range_cover-cover-requires-clause-small : goal.range_cover-cover-requires-clause-small

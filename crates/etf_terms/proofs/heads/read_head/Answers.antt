@@ -1,9 +1,9 @@
-use Rattle.std.proofs.Common.{◌∙◌, arith, rules}
+use Rattle.std.proofs.Common.{arith, rules}
 use Rattle.etf_terms.specs.Heads.{Small, Int, Atom, Tuple, Chars, Linked, Bin, Pairs}
 use Rattle.etf_terms.specs.Layouts.{end}
 use Rattle.etf_terms.specs.Table.{is_tag, row}
-use Rattle.etf_terms.specs.Inner.Parts.{head_of, pid103_of, pid88_of}
-use Rattle.etf_terms.proofs.Joins.{any-join, big110-join, big111-join, bind-ok, bits-join, closure-join, export-join, float-join, number4-join, pid103-join, pid88-join, port102-join, port120-join, port89-join, ref114-join, ref90-join, sized1-join, sized2-join, sized4-join}
+use Rattle.etf_terms.specs.Inner.Parts.{head_of}
+use Rattle.etf_terms.proofs.Joins.{any-joins, big110-joins, big111-joins, bits-joins, closure-joins, export-joins, float-joins, number4-joins, pid103-joins, pid88-joins, port102-joins, port120-joins, port89-joins, ref114-joins, ref90-joins, row-joins, sized1-joins, sized2-joins, sized4-joins}
 use Rattle.etf_terms.proofs.TagRows.{empty, Gives-row, no-row}
 use Rattle.etf_terms.proofs.heads.read_head.Goals as goal
 
@@ -12,103 +12,103 @@ returns-in-empty c = empty c.args.bytes.now (omega arith)
 
 pub returns-in-70 : goal.returns-in-70
 unfolding head_of is_tag row
-returns-in-70 c = Gives-row c.args.bytes.now 70 c.float.result _ (omega arith) (search rules) (float-join _) c.float.ensures
+returns-in-70 c = Gives-row c.args.bytes.now 70 c.float.result _ (omega arith) (search rules) (row-joins float-joins _) c.float.ensures
 
 pub returns-in-77 : goal.returns-in-77
 unfolding head_of is_tag row
-returns-in-77 c = Gives-row c.args.bytes.now 77 c.bits.result _ (omega arith) (search rules) (bits-join _) c.bits.ensures
+returns-in-77 c = Gives-row c.args.bytes.now 77 c.bits.result _ (omega arith) (search rules) (row-joins bits-joins _) c.bits.ensures
 
 pub returns-in-88 : goal.returns-in-88
 unfolding head_of is_tag row
-returns-in-88 c = Gives-row c.args.bytes.now 88 c.pid88.result _ (omega arith) (search rules) (pid88-join end _ ∙ bind-ok (pid88_of _)) c.pid88.ensures
+returns-in-88 c = Gives-row c.args.bytes.now 88 c.pid88.result _ (omega arith) (search rules) (row-joins pid88-joins _) c.pid88.ensures
 
 pub returns-in-89 : goal.returns-in-89
 unfolding head_of is_tag row
-returns-in-89 c = Gives-row c.args.bytes.now 89 c.port89.result _ (omega arith) (search rules) (port89-join _) c.port89.ensures
+returns-in-89 c = Gives-row c.args.bytes.now 89 c.port89.result _ (omega arith) (search rules) (row-joins port89-joins _) c.port89.ensures
 
 pub returns-in-90 : goal.returns-in-90
 unfolding head_of is_tag row
-returns-in-90 c = Gives-row c.args.bytes.now 90 c.ref90.result _ (omega arith) (search rules) (ref90-join _) c.ref90.ensures
+returns-in-90 c = Gives-row c.args.bytes.now 90 c.ref90.result _ (omega arith) (search rules) (row-joins ref90-joins _) c.ref90.ensures
 
 pub returns-in-97 : goal.returns-in-97
 unfolding head_of is_tag row
-returns-in-97 c = Gives-row c.args.bytes.now 97 c.small_int.result _ (omega arith) (search rules) (any-join (λ b. end (Small b)) _) c.small_int.ensures
+returns-in-97 c = Gives-row c.args.bytes.now 97 c.small_int.result _ (omega arith) (search rules) (any-joins.join (λ b. end (Small b)) _) c.small_int.ensures
 
 pub returns-in-98 : goal.returns-in-98
 unfolding head_of is_tag row
-returns-in-98 c = Gives-row c.args.bytes.now 98 c.int.result _ (omega arith) (search rules) (number4-join (λ n. end (Int n)) _) c.int.ensures
+returns-in-98 c = Gives-row c.args.bytes.now 98 c.int.result _ (omega arith) (search rules) (number4-joins.join (λ n. end (Int n)) _) c.int.ensures
 
 pub returns-in-100 : goal.returns-in-100
 unfolding head_of is_tag row
-returns-in-100 c = Gives-row c.args.bytes.now 100 c.long_atom.result _ (omega arith) (search rules) (sized2-join (λ name. end (Atom name)) _) c.long_atom.ensures
+returns-in-100 c = Gives-row c.args.bytes.now 100 c.long_atom.result _ (omega arith) (search rules) (sized2-joins.join (λ name. end (Atom name)) _) c.long_atom.ensures
 
 pub returns-in-102 : goal.returns-in-102
 unfolding head_of is_tag row
-returns-in-102 c = Gives-row c.args.bytes.now 102 c.port102.result _ (omega arith) (search rules) (port102-join _) c.port102.ensures
+returns-in-102 c = Gives-row c.args.bytes.now 102 c.port102.result _ (omega arith) (search rules) (row-joins port102-joins _) c.port102.ensures
 
 pub returns-in-103 : goal.returns-in-103
 unfolding head_of is_tag row
-returns-in-103 c = Gives-row c.args.bytes.now 103 c.pid103.result _ (omega arith) (search rules) (pid103-join end _ ∙ bind-ok (pid103_of _)) c.pid103.ensures
+returns-in-103 c = Gives-row c.args.bytes.now 103 c.pid103.result _ (omega arith) (search rules) (row-joins pid103-joins _) c.pid103.ensures
 
 pub returns-in-104 : goal.returns-in-104
 unfolding head_of is_tag row
-returns-in-104 c = Gives-row c.args.bytes.now 104 c.small_tuple.result _ (omega arith) (search rules) (any-join (λ n. end (Tuple n)) _) c.small_tuple.ensures
+returns-in-104 c = Gives-row c.args.bytes.now 104 c.small_tuple.result _ (omega arith) (search rules) (any-joins.join (λ n. end (Tuple n)) _) c.small_tuple.ensures
 
 pub returns-in-105 : goal.returns-in-105
 unfolding head_of is_tag row
-returns-in-105 c = Gives-row c.args.bytes.now 105 c.large_tuple.result _ (omega arith) (search rules) (number4-join (λ n. end (Tuple n)) _) c.large_tuple.ensures
+returns-in-105 c = Gives-row c.args.bytes.now 105 c.large_tuple.result _ (omega arith) (search rules) (number4-joins.join (λ n. end (Tuple n)) _) c.large_tuple.ensures
 
 pub returns-in-107 : goal.returns-in-107
 unfolding head_of is_tag row
-returns-in-107 c = Gives-row c.args.bytes.now 107 c.chars.result _ (omega arith) (search rules) (sized2-join (λ chars. end (Chars chars)) _) c.chars.ensures
+returns-in-107 c = Gives-row c.args.bytes.now 107 c.chars.result _ (omega arith) (search rules) (sized2-joins.join (λ chars. end (Chars chars)) _) c.chars.ensures
 
 pub returns-in-108 : goal.returns-in-108
 unfolding head_of is_tag row
-returns-in-108 c = Gives-row c.args.bytes.now 108 c.linked.result _ (omega arith) (search rules) (number4-join (λ n. end (Linked n)) _) c.linked.ensures
+returns-in-108 c = Gives-row c.args.bytes.now 108 c.linked.result _ (omega arith) (search rules) (number4-joins.join (λ n. end (Linked n)) _) c.linked.ensures
 
 pub returns-in-109 : goal.returns-in-109
 unfolding head_of is_tag row
-returns-in-109 c = Gives-row c.args.bytes.now 109 c.bin.result _ (omega arith) (search rules) (sized4-join (λ bin. end (Bin bin)) _) c.bin.ensures
+returns-in-109 c = Gives-row c.args.bytes.now 109 c.bin.result _ (omega arith) (search rules) (sized4-joins.join (λ bin. end (Bin bin)) _) c.bin.ensures
 
 pub returns-in-110 : goal.returns-in-110
 unfolding head_of is_tag row
-returns-in-110 c = Gives-row c.args.bytes.now 110 c.big110.result _ (omega arith) (search rules) (big110-join _) c.big110.ensures
+returns-in-110 c = Gives-row c.args.bytes.now 110 c.big110.result _ (omega arith) (search rules) (row-joins big110-joins _) c.big110.ensures
 
 pub returns-in-111 : goal.returns-in-111
 unfolding head_of is_tag row
-returns-in-111 c = Gives-row c.args.bytes.now 111 c.big111.result _ (omega arith) (search rules) (big111-join _) c.big111.ensures
+returns-in-111 c = Gives-row c.args.bytes.now 111 c.big111.result _ (omega arith) (search rules) (row-joins big111-joins _) c.big111.ensures
 
 pub returns-in-112 : goal.returns-in-112
 unfolding head_of is_tag row
-returns-in-112 c = Gives-row c.args.bytes.now 112 c.closure.result _ (omega arith) (search rules) (closure-join _) c.closure.ensures
+returns-in-112 c = Gives-row c.args.bytes.now 112 c.closure.result _ (omega arith) (search rules) (row-joins closure-joins _) c.closure.ensures
 
 pub returns-in-113 : goal.returns-in-113
 unfolding head_of is_tag row
-returns-in-113 c = Gives-row c.args.bytes.now 113 c.export.result _ (omega arith) (search rules) (export-join _) c.export.ensures
+returns-in-113 c = Gives-row c.args.bytes.now 113 c.export.result _ (omega arith) (search rules) (row-joins export-joins _) c.export.ensures
 
 pub returns-in-114 : goal.returns-in-114
 unfolding head_of is_tag row
-returns-in-114 c = Gives-row c.args.bytes.now 114 c.ref114.result _ (omega arith) (search rules) (ref114-join _) c.ref114.ensures
+returns-in-114 c = Gives-row c.args.bytes.now 114 c.ref114.result _ (omega arith) (search rules) (row-joins ref114-joins _) c.ref114.ensures
 
 pub returns-in-115 : goal.returns-in-115
 unfolding head_of is_tag row
-returns-in-115 c = Gives-row c.args.bytes.now 115 c.short_atom.result _ (omega arith) (search rules) (sized1-join (λ name. end (Atom name)) _) c.short_atom.ensures
+returns-in-115 c = Gives-row c.args.bytes.now 115 c.short_atom.result _ (omega arith) (search rules) (sized1-joins.join (λ name. end (Atom name)) _) c.short_atom.ensures
 
 pub returns-in-116 : goal.returns-in-116
 unfolding head_of is_tag row
-returns-in-116 c = Gives-row c.args.bytes.now 116 c.pairs.result _ (omega arith) (search rules) (number4-join (λ n. end (Pairs n)) _) c.pairs.ensures
+returns-in-116 c = Gives-row c.args.bytes.now 116 c.pairs.result _ (omega arith) (search rules) (number4-joins.join (λ n. end (Pairs n)) _) c.pairs.ensures
 
 pub returns-in-118 : goal.returns-in-118
 unfolding head_of is_tag row
-returns-in-118 c = Gives-row c.args.bytes.now 118 c.long_atom-in-118.result _ (omega arith) (search rules) (sized2-join (λ name. end (Atom name)) _) c.long_atom-in-118.ensures
+returns-in-118 c = Gives-row c.args.bytes.now 118 c.long_atom-in-118.result _ (omega arith) (search rules) (sized2-joins.join (λ name. end (Atom name)) _) c.long_atom-in-118.ensures
 
 pub returns-in-119 : goal.returns-in-119
 unfolding head_of is_tag row
-returns-in-119 c = Gives-row c.args.bytes.now 119 c.short_atom-in-119.result _ (omega arith) (search rules) (sized1-join (λ name. end (Atom name)) _) c.short_atom-in-119.ensures
+returns-in-119 c = Gives-row c.args.bytes.now 119 c.short_atom-in-119.result _ (omega arith) (search rules) (sized1-joins.join (λ name. end (Atom name)) _) c.short_atom-in-119.ensures
 
 pub returns-in-120 : goal.returns-in-120
 unfolding head_of is_tag row
-returns-in-120 c = Gives-row c.args.bytes.now 120 c.port120.result _ (omega arith) (search rules) (port120-join _) c.port120.ensures
+returns-in-120 c = Gives-row c.args.bytes.now 120 c.port120.result _ (omega arith) (search rules) (row-joins port120-joins _) c.port120.ensures
 
 pub returns-in-len1-up : goal.returns-in-len1-up
 unfolding is_tag

@@ -18,9 +18,7 @@ returns-in_default c =
 
 pub returns-in-List : goal.returns-in-List
 returns-in-List c =
-    let heap = c.args.heap.now.cells in
-    let n = number c.args.ix in
-    let off = term-at heap _ n (sym c.is_open.ensures.on ∙ c.if-is_open.false) c.requires.serves.bounded.distinct c.requires.cell in
+    let off = term-at _ _ _ (sym c.is_open.ensures.on ∙ c.if-is_open.false) c.requires.serves.bounded.distinct c.requires.cell in
     record {
       found_is = record { cell = c.requires.cell; fits = refl; opens = off ∙ form-list _ _ _ _ (sym c.kind.ensures ∙ c.in-Some.is ∙ ap Some c.in-List.is) };
       enters = c.is_open.ensures.line c.if-is_open.false;
@@ -28,9 +26,7 @@ returns-in-List c =
 
 pub returns-in-Tuple : goal.returns-in-Tuple
 returns-in-Tuple c =
-    let heap = c.args.heap.now.cells in
-    let n = number c.args.ix in
-    let off = term-at heap _ n (sym c.is_open.ensures.on ∙ c.if-is_open.false) c.requires.serves.bounded.distinct c.requires.cell in
+    let off = term-at _ _ _ (sym c.is_open.ensures.on ∙ c.if-is_open.false) c.requires.serves.bounded.distinct c.requires.cell in
     record {
       found_is = record { cell = c.requires.cell; fits = refl; opens = off ∙ form-tuple _ _ _ _ (sym c.kind.ensures ∙ c.in-Some.is ∙ ap Some c.in-Tuple.is) };
       enters = c.is_open.ensures.line c.if-is_open.false;
@@ -38,9 +34,7 @@ returns-in-Tuple c =
 
 pub returns-in-Hash : goal.returns-in-Hash
 returns-in-Hash c =
-    let heap = c.args.heap.now.cells in
-    let n = number c.args.ix in
-    let off = term-at heap _ n (sym c.is_open.ensures.on ∙ c.if-is_open.false) c.requires.serves.bounded.distinct c.requires.cell in
+    let off = term-at _ _ _ (sym c.is_open.ensures.on ∙ c.if-is_open.false) c.requires.serves.bounded.distinct c.requires.cell in
     record {
       found_is = record { cell = c.requires.cell; fits = refl; opens = off ∙ form-hash _ _ _ _ (sym c.kind.ensures ∙ c.in-Some.is ∙ ap Some c.in-Hash.is) };
       enters = c.is_open.ensures.line c.if-is_open.false;
@@ -58,11 +52,9 @@ returns-in-Node c =
 
 pub returns-in_default-kind : goal.returns-in_default-kind
 returns-in_default-kind c =
-    let heap = c.args.heap.now.cells in
-    let n = number c.args.ix in
-    let off = term-at heap _ n (sym c.is_open.ensures.on ∙ c.if-is_open.false) c.requires.serves.bounded.distinct c.requires.cell in
+    let off = term-at _ _ _ (sym c.is_open.ensures.on ∙ c.if-is_open.false) c.requires.serves.bounded.distinct c.requires.cell in
     let none = c.in_default-kind in
-    let leaf = form-leaf heap _ _ c.in-Some.kind _ (sym c.kind.ensures ∙ c.in-Some.is) none.not-List none.not-Tuple none.not-Flat none.not-Hash none.not-Node in
+    let leaf = form-leaf _ _ _ c.in-Some.kind _ (sym c.kind.ensures ∙ c.in-Some.is) none.not-List none.not-Tuple none.not-Flat none.not-Hash none.not-Node in
     record {
       found_is = record { cell = c.requires.cell; form = leaf.leaf_form; form_is = leaf.form_is; opens = off ∙ leaf.opens };
       enters = tt;

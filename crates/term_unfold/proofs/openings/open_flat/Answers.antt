@@ -12,11 +12,9 @@ use Rattle.term_unfold.proofs.openings.open_flat.Goals as goal
 
 pub returns-then-kids-lt2 : goal.returns-then-kids-lt2
 returns-then-kids-lt2 c =
-    let heap = c.args.heap.now.cells in
-    let n = number c.args.ix in
-    let off = term-at heap _ n c.requires.off c.requires.serves.bounded.distinct c.requires.cell in
+    let off = term-at _ _ _ c.requires.off c.requires.serves.bounded.distinct c.requires.cell in
     record {
-      found_is = record { cell = c.requires.cell; fits = refl; opens = off ∙ flat-empty heap _ _ _ c.requires.flat (omega (arith, c.if-kids-lt2.true, c.kids.ensures)) };
+      found_is = record { cell = c.requires.cell; fits = refl; opens = off ∙ flat-empty _ _ _ _ c.requires.flat (omega (arith, c.if-kids-lt2.true, c.kids.ensures)) };
       enters = c.requires.line;
     }
 

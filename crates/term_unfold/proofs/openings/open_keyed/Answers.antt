@@ -36,24 +36,18 @@ returns-in-None c = flat-no_keys c.args.heap.now.cells _ (number c.args.keys) _ 
 
 pub returns-in-Keys : goal.returns-in-Keys
 returns-in-Keys c =
-    let heap = c.args.heap.now.cells in
-    let k = number c.args.keys in
-    let n = number c.args.ix in
-    let others = off-longer (address_of heap n) _ _ (off-other heap k n c.requires.serves.bounded.distinct c.requires.keys c.requires.cell
+    let others = off-longer _ _ _ (off-other _ _ _ c.requires.serves.bounded.distinct c.requires.keys c.requires.cell
     (λ e. c.if-number.false (c.number.ensures ∙ e ∙ sym c.number-2.ensures))) (sym c.is_open.ensures.on ∙ c.if-is_open.false) in
     record {
-      found_is = record { cell = c.requires.cell; fits = refl; opens = term-at heap _ (number c.args.ix) c.requires.off c.requires.serves.bounded.distinct c.requires.cell ∙ flat-keyed heap _ _ k _ _ _ c.requires.flat c.requires.some c.requires.leads others c.in-Keys.ensures.are };
+      found_is = record { cell = c.requires.cell; fits = refl; opens = term-at _ _ _ c.requires.off c.requires.serves.bounded.distinct c.requires.cell ∙ flat-keyed _ _ _ _ _ _ _ c.requires.flat c.requires.some c.requires.leads others c.in-Keys.ensures.are };
       enters = c.requires.line;
     }
 
 pub returns-in-Bad : goal.returns-in-Bad
 returns-in-Bad c =
-    let heap = c.args.heap.now.cells in
-    let k = number c.args.keys in
-    let n = number c.args.ix in
-    let others = off-longer (address_of heap n) _ _ (off-other heap k n c.requires.serves.bounded.distinct c.requires.keys c.requires.cell
+    let others = off-longer _ _ _ (off-other _ _ _ c.requires.serves.bounded.distinct c.requires.keys c.requires.cell
     (λ e. c.if-number.false (c.number.ensures ∙ e ∙ sym c.number-2.ensures))) (sym c.is_open.ensures.on ∙ c.if-is_open.false) in
     record {
-      found_is = term-at heap _ (number c.args.ix) c.requires.off c.requires.serves.bounded.distinct c.requires.cell ∙ flat-bad heap _ _ k _ _ _ c.requires.flat c.requires.some c.requires.leads others c.in-Bad.ensures;
+      found_is = term-at _ _ _ c.requires.off c.requires.serves.bounded.distinct c.requires.cell ∙ flat-bad _ _ _ _ _ _ _ c.requires.flat c.requires.some c.requires.leads others c.in-Bad.ensures;
       enters = tt;
     }

@@ -1,7 +1,6 @@
 use Rattle.std.proofs.Common.{true, drop, refl, ap, arith}
 use Rattle.std.specs.Prelude.{codes}
 use Rattle.term_unfold.specs.Inner.Entries.{Entered}
-use Rattle.term_unfold.specs.Inner.Kids.{child_shown}
 use Rattle.term_unfold.specs.Text.{comma}
 use Rattle.term_unfold.proofs.Turning.{even-key, odd-value}
 use Rattle.term_unfold.proofs.Stepping.{step-key, step-value, map-term}
@@ -10,22 +9,14 @@ use Rattle.term_unfold.proofs.turns.turn_flat.Goals as goal
 
 pub returns-then-entry-eq0-clause-turn : goal.returns-then-entry-eq0-clause-turn
 returns-then-entry-eq0-clause-turn c =
-    let heap = c.args.heap.now.cells in
-    let before = c.args.path.now.entries in
-    let es = drop 1 before in
     let e = c.args.entry in
-    let child = child_shown heap c.args.child in
     let at = c.requires.at in
-    IsTurn-own heap before c.advance.new.path.entries child _ e (comma e.came) true at.top at.few (map-term heap e child c.requires.kind at.at) at.opens.found_is c.comma_text.ensures refl (ap (λ (p : Entered). p.entries) c.advance.ensures)
-    (λ leaf m. step-key leaf heap e es child m c.requires.kind (even-key e.next c.if-entry-eq0.true) at.at)
+    IsTurn-own _ _ _ _ _ at _ _ (comma e.came) true (map-term _ e _ c.requires.kind at.at) c.comma_text.ensures (ap (λ (p : Entered). p.entries) c.advance.ensures)
+    (λ leaf m. step-key leaf _ e (drop 1 c.args.path.now.entries) _ m c.requires.kind (even-key e.next c.if-entry-eq0.true) at.at)
 
 pub returns-clause-turn : goal.returns-clause-turn
 returns-clause-turn c =
-    let heap = c.args.heap.now.cells in
-    let before = c.args.path.now.entries in
-    let es = drop 1 before in
     let e = c.args.entry in
-    let child = child_shown heap c.args.child in
     let at = c.requires.at in
-    IsTurn-own heap before c.advance.new.path.entries child _ e (codes "=>") true at.top at.few (map-term heap e child c.requires.kind at.at) at.opens.found_is refl refl (ap (λ (p : Entered). p.entries) c.advance.ensures)
-    (λ leaf m. step-value leaf heap e es child m c.requires.kind (odd-value e.next (omega (arith, c.if-entry-eq0.false))) at.at)
+    IsTurn-own _ _ _ _ _ at _ _ (codes "=>") true (map-term _ e _ c.requires.kind at.at) refl (ap (λ (p : Entered). p.entries) c.advance.ensures)
+    (λ leaf m. step-value leaf _ e (drop 1 c.args.path.now.entries) _ m c.requires.kind (odd-value e.next (omega (arith, c.if-entry-eq0.false))) at.at)

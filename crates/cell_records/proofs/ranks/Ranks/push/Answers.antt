@@ -1,7 +1,7 @@
 use Rattle.std.proofs.Common.{ℕ, ◌<◌, sym, subst}
 use Rattle.std.specs.Prelude.{All}
 use Rattle.std.proofs.lemmas.List.Elements.{All-push}
-use Rattle.cell_records.proofs.RanksFacts.{narrow-numbered}
+use Rattle.cell_records.proofs.OrderFacts.{narrow-numbered}
 use Rattle.cell_records.proofs.ranks.Ranks.push.Goals as goal
 
 pub invariant_of-self-in-None : goal.invariant_of-self-in-None

@@ -1,8 +1,7 @@
 use Rattle.std.proofs.Common.{◌<◌, ℕ}
 use Rattle.std.proofs.lemmas.List.Sorted.{IsPermutation-map, IsNonDecreasingBy-from_sort, All-permutation}
 use Rattle.cell_records.specs.Inner.Ranks.{pair_at}
-use Rattle.cell_records.proofs.OrderFacts.{pairs-ranked}
-use Rattle.cell_records.proofs.RanksFacts.{narrow-ranked, numbered-wide}
+use Rattle.cell_records.proofs.OrderFacts.{narrow-ranked, numbered-wide, pairs-ranked}
 use Rattle.cell_records.proofs.ranks.Ranks.sort.Goals as goal
 use Rattle.cell_records.proofs.ranks.Ranks.sort.Goals.{in-Narrow, in-Wide}
 
