@@ -1,6 +1,6 @@
 -- What an audit is written of is what it says of the dump.
 use Rattle.std.proofs.Common.{◌≡◌, ℕ, Bool, List, [], ◌∷◌, map, Option, None, Some, Result, Ok, Err, refl, ◌∙◌, ap, inl, inr, if◌then◌else◌}
-use Rattle.std.specs.Prelude.{IfOk}
+use Rattle.std.specs.Prelude.{IfOk, IsTrue}
 use Rattle.std.specs.Option.{option_map}
 use Rattle.dump_io.specs.Dumps.{DeviceState, told}
 use Rattle.dump_io.specs.Limits.{Numbers}
@@ -10,15 +10,13 @@ use Rattle.dump_sections.specs.Laws.{index-is}
 use Rattle.dump_sections.specs.declared.bodies.BodyFault.{BodyFault}
 use Rattle.process_table.specs.Processes.{Process, process_table}
 use Rattle.dump_audit.specs.Findings.{Audit, audit_of, findings}
-use Rattle.json_report.specs.Trees.{audit_tree, json_text}
-use Rattle.audit_text.specs.Findings.{audit_report}
 use Rattle.audit_bodies.specs.declared.loading.AuditBodies.{AuditBodies}
-use Rattle.audit_bodies.specs.Mailboxes.{audited_sections, mail_in, mailbox_places, mails}
+use Rattle.audit_bodies.specs.Mailboxes.{mail_in, mailbox_places, mails}
 use Rattle.dump_command.specs.Audits.{audit_in, status_of}
 use Rattle.dump_audit.specs.declared.finding.Finding.{Finding}
-use Rattle.command_words.specs.Command.{Command, audit, audit_json}
-use Rattle.dump_command.specs.Report.{bodies, report, report_status}
-use Rattle.dump_command.specs.Inner.Audits.{audit_status, audit_text, json_of, loaded_audit}
+use Rattle.command_words.specs.Command.{Command, audit}
+use Rattle.dump_command.specs.Report.{bodies, finds, report, report_status}
+use Rattle.dump_command.specs.Inner.Loads.{audit_status, loaded_audit}
 use Rattle.dump_command.specs.Inner.Reading.{ReadsFor}
 use Rattle.dump_command.specs.Inner.Runs.{IsEnding}
 use Rattle.dump_command.specs.Inner.Stops.{or_stop}
@@ -42,55 +40,25 @@ audit-told bytes index processes limit full counts of table counted =
     ∙ ap (λ ps. audit_of (index_of bytes) ps limit counts) table
     ∙ ap (λ m. audit_of (index_of bytes) (process_table bytes).processes limit m) (counted ∙ ap (λ m. if full then Some m else None) (mails-told bytes index of))
 
--- a status of an audit is 0, or 3 where it has a finding
-abbrev EndsByFinding : Command → Type 0
-EndsByFinding cmd = (found : List Finding) → IsEnding cmd (status_of found)
-
 -- the bodies of an audit were loaded, or weren't; what is written of it is told by a function of the audit
-ReadsFor-shown : (cmd : Command) (show : Audit → List ℕ) (limit : ℕ) (full : Bool) (limits : Numbers) (index : Contents) (before after : DeviceState) (loaded : Result AuditBodies BodyFault)
-    → IsOfBodies cmd limits index → EndsByFinding cmd
+pub ReadsFor-shown : (cmd : Command) (show : Audit → List ℕ) (limit : ℕ) (full : Bool) (limits : Numbers) (index : Contents) (before after : DeviceState) (loaded : Result AuditBodies BodyFault)
+    → IsOfBodies cmd limits index → IsTrue (finds cmd)
     → ((bytes : List ℕ) → (show (audit_in limit full bytes) ≡ report cmd bytes) × (status_of (findings (audit_in limit full bytes)) ≡ report_status cmd bytes))
     → Loads (bodies cmd (sections_in index)) limits.section before after loaded
     → IfOk loaded (λ read. (bytes : List ℕ) → before.now ≡ told bytes → read.procs ≡ process_table bytes)
     → IfOk loaded (λ read. (bytes : List ℕ) → before.now ≡ told bytes → option_map (λ counts. counts.items) read.mails
     ≡ (if full then Some (map (mail_in bytes (state_of index.headers) (sections_in index)) (mailbox_places (sections_in index))) else None))
     → ReadsFor cmd limits index before after (λ read. show (loaded_audit limit index read)) (audit_status limit index) (or_stop loaded)
-ReadsFor-shown cmd show limit full limits index before after (Ok read) of ends reports loads table counts =
+ReadsFor-shown cmd show limit full limits index before after (Ok read) of seeks reports loads table counts =
     ReadsFor-bodies cmd limits index before after (λ r. show (loaded_audit limit index r)) (audit_status limit index) (Ok read) of loads (
       ends (findings (loaded_audit limit index read)),
       λ bytes all.
           let told = audit-told bytes index _ limit full _ all.of (ap (λ t. t.processes) (table bytes all.opened)) (counts bytes all.opened) in
           (ap show told ∙ (reports bytes).0, ap (λ a. status_of (findings a)) told ∙ (reports bytes).1),
     )
-ReadsFor-shown cmd show limit full limits index before after (Err fault) of ends reports loads table counts =
+  where
+    ends : (found : List Finding) → IsEnding cmd (status_of found)
+    ends [] = inl refl
+    ends (f ∷ fs) = inr (refl, seeks)
+ReadsFor-shown cmd show limit full limits index before after (Err fault) of seeks reports loads table counts =
     ReadsFor-bodies cmd limits index before after (λ r. show (loaded_audit limit index r)) (audit_status limit index) (Err fault) of loads tt
-
-ends-audit : (file : List ℕ) (limit : ℕ) (full : Bool) → EndsByFinding (audit file limit full)
-ends-audit file limit full [] = inl refl
-ends-audit file limit full (f ∷ fs) = inr (refl, refl)
-
-ends-json : (file : List ℕ) (limit : ℕ) (full : Bool) → EndsByFinding (audit_json file limit full)
-ends-json file limit full [] = inl refl
-ends-json file limit full (f ∷ fs) = inr (refl, refl)
-
--- in the form of a report
-pub ReadsFor-audit : (file : List ℕ) (limit : ℕ) (full : Bool) (limits : Numbers) (index : Contents) (before after : DeviceState) (loaded : Result AuditBodies BodyFault)
-    → Loads (audited_sections full (sections_in index)) limits.section before after loaded
-    → IfOk loaded (λ read. (bytes : List ℕ) → before.now ≡ told bytes → read.procs ≡ process_table bytes)
-    → IfOk loaded (λ read. (bytes : List ℕ) → before.now ≡ told bytes → option_map (λ counts. counts.items) read.mails
-    ≡ (if full then Some (map (mail_in bytes (state_of index.headers) (sections_in index)) (mailbox_places (sections_in index))) else None))
-    → ReadsFor (audit file limit full) limits index before after (audit_text limit index) (audit_status limit index) (or_stop loaded)
-ReadsFor-audit file limit full limits index before after loaded =
-    ReadsFor-shown (audit file limit full) audit_report limit full limits index before after loaded
-    (record { there = refl; held = λ _. refl; taken = λ _. refl }) (ends-audit file limit full) (λ _. (refl, refl))
-
--- and as one JSON text
-pub ReadsFor-json : (file : List ℕ) (limit : ℕ) (full : Bool) (limits : Numbers) (index : Contents) (before after : DeviceState) (loaded : Result AuditBodies BodyFault)
-    → Loads (audited_sections full (sections_in index)) limits.section before after loaded
-    → IfOk loaded (λ read. (bytes : List ℕ) → before.now ≡ told bytes → read.procs ≡ process_table bytes)
-    → IfOk loaded (λ read. (bytes : List ℕ) → before.now ≡ told bytes → option_map (λ counts. counts.items) read.mails
-    ≡ (if full then Some (map (mail_in bytes (state_of index.headers) (sections_in index)) (mailbox_places (sections_in index))) else None))
-    → ReadsFor (audit_json file limit full) limits index before after (json_of limit index) (audit_status limit index) (or_stop loaded)
-ReadsFor-json file limit full limits index before after loaded =
-    ReadsFor-shown (audit_json file limit full) (λ a. json_text (audit_tree a)) limit full limits index before after loaded
-    (record { there = refl; held = λ _. refl; taken = λ _. refl }) (ends-json file limit full) (λ _. (refl, refl))

@@ -24,9 +24,8 @@ use Rattle.command_words.specs.Command.{binary}
 use Rattle.dump_command.specs.Report.{one_of, refusal_listed, reread, too_large}
 use Rattle.section_rows.specs.Loading.{bodies_length}
 use Rattle.dump_command.specs.Terms.{bad_binary, bad_cause, binary_at, binary_cause}
-use Rattle.dump_command.specs.Inner.Opened.{IsIndexed}
-use Rattle.dump_command.specs.Inner.Reading.{IsHalted, Takes}
-use Rattle.dump_command.specs.Inner.TermStops.{stop_of_binary}
+use Rattle.dump_command.specs.Inner.Reading.{IsIndexed, IsHalted, Takes}
+use Rattle.dump_command.specs.Inner.Stops.{stop_of_binary}
 use Rattle.dump_command.proofs.Places.{found-at, not-found}
 use Rattle.dump_command.proofs.Runs.{sections-index}
 

@@ -1,50 +1,191 @@
--- What the load of a process's heap gives, and what a command over it has read.
-use Rattle.std.proofs.Common.{◌≡◌, ℕ, ◌+◌, ◌*◌, ◌<◌, ◌≤◌, Bool, if◌then◌else◌, List, [], ◌++◌, Option, None, Some, Ok, Err, length, refl, sym, ◌∙◌, ap, subst, arith}
-use Rattle.std.specs.Prelude.{IsErrOf, IsSome, is_some, position}
-use Rattle.std.specs.Option.{option_map, option_or}
-use Rattle.std.proofs.lemmas.Bool.{lt-ltb, le-ltb}
+-- What the load of a process's heap gives, and what the commands over it have read.
+use Rattle.dump_sections.specs.declared.bodies.BodyFault.TheVariants as body_faults
+use Rattle.heap_cells.specs.declared.faults.HeapFault.TheVariants as heap_faults
+use Rattle.binary_refs.specs.declared.faults.PreviewFault.TheVariants as preview_faults
+use Rattle.std.proofs.Common.{◌≡◌, ℕ, ◌+◌, true, false, if◌then◌else◌, List, [], ◌∷◌, ◌++◌, Option, None, Some, Err, codes, refl, sym, ◌∙◌, ap, arith, ◌*◌, ◌<◌, ◌≤◌, Bool, Ok, length, subst, ◌-◌, take, Result}
+use Rattle.std.specs.Prelude.{nat_lt, IsErrOf, IsSome, is_some, position, MatchResult, IfOk, unwrap_or}
+use Rattle.std.specs.Option.{option_map, option_or, option_and_then}
+use Rattle.std.specs.List.{flat_map}
+use Rattle.std.specs.Global.{Vec}
 use Rattle.std.proofs.lemmas.List.Sums.{sum_by-append}
+use Rattle.std.proofs.lemmas.Bool.{lt-ltb, le-ltb}
+use Rattle.dump_sections.specs.Bodies.{body_length}
+use Rattle.dump_sections.specs.Index.{Contents, IsIndexOf, sections_in, index_of}
+use Rattle.dump_sections.specs.Laws.{index-is}
+use Rattle.dump_sections.specs.Lookups.{has_tag, is_named}
+use Rattle.dump_sections.specs.Sections.{Section, sections}
+use Rattle.heap_cells.specs.Cells.{cells_of, own_count, weight, Cell}
+use Rattle.heap_cells.specs.HeapMap.{HeapMap, number_at, form_at}
+use Rattle.heap_cells.specs.Loading.{body_in, body_size, enc_of, heap_section, literals_section, section_fault, IsMapOf, too_large as heap_too_large, section_in, IsAnswerFor, IsCauseOf}
+use Rattle.heap_cells.specs.declared.faults.HeapFault.{HeapFault}
+use Rattle.report_text.specs.declared.refusals.Refusal.{Refusal}
+use Rattle.report_text.specs.declared.refusals.Refusal.TheVariants.{SectionTooLarge, TooDense}
+use Rattle.section_rows.specs.Loading.{bodies_length, first_large, AreRefused}
 use Rattle.dump_io.specs.Dumps.{Now, DeviceState, told, DeviceFailed, ReadsAtMost}
 use Rattle.dump_io.specs.Limits.{Numbers}
-use Rattle.dump_sections.specs.Bodies.{body_length}
-use Rattle.dump_sections.specs.Index.{Contents, IsIndexOf, index_of, sections_in}
-use Rattle.dump_sections.specs.Laws.{index-is}
-use Rattle.dump_sections.specs.Lookups.{is_named}
-use Rattle.dump_sections.specs.Sections.{Section, sections}
 use Rattle.dump_sections.specs.declared.bodies.BodyFault.{BodyFault}
-use Rattle.dump_sections.specs.declared.bodies.BodyFault.TheVariants as body_faults
-use Rattle.section_rows.specs.Loading.{bodies_length, first_large, AreRefused}
-use Rattle.heap_cells.specs.Cells.{weight}
-use Rattle.heap_cells.specs.HeapMap.{HeapMap, number_at}
-use Rattle.heap_cells.specs.Loading.{body_in, body_size, enc_of, heap_section, literals_section, section_fault, section_in, IsAnswerFor, IsCauseOf}
-use Rattle.heap_cells.specs.declared.faults.HeapFault.{HeapFault}
-use Rattle.heap_cells.specs.declared.faults.HeapFault.TheVariants as heap_faults
 use Rattle.binary_refs.specs.Previews.{binaries, previews_of}
 use Rattle.binary_refs.specs.Loading.{IsCauseOf as IsPreviewCause}
 use Rattle.binary_refs.specs.declared.entries.Entry.{Entry}
 use Rattle.binary_refs.specs.declared.faults.PreviewFault.{PreviewFault}
-use Rattle.binary_refs.specs.declared.faults.PreviewFault.TheVariants as preview_faults
 use Rattle.term_forms.specs.Elements.{Element}
 use Rattle.term_unfold.specs.Walks.{answer, walk}
-use Rattle.report_text.specs.declared.refusals.Refusal.{Refusal}
-use Rattle.report_text.specs.declared.refusals.Refusal.TheVariants.{TooDense}
 use Rattle.root_views.specs.declared.kinds.RootKind.{RootKind}
 use Rattle.root_views.specs.Kinds.{roots_in, roots_tag}
-use Rattle.term_text.specs.Roots.{answer_over, roots_report, term_report}
-use Rattle.command_words.specs.Command.{Command, roots, term}
-use Rattle.dump_command.specs.Report.{bodies, heap_bodies, no_process, no_subject, one_of, refusal_held, refusal_listed, reread, too_large}
-use Rattle.dump_command.specs.Terms.{address_cause, answer_in, base_of, binary_count, dense_cause, heap_map, named_section, no_address, previews_in, roots_of, roots_over, roots_section, term_of, too_dense}
-use Rattle.dump_command.specs.Inner.Heaps.{heap_listed, HoldsHeap, IsHeapless}
-use Rattle.dump_command.specs.Inner.Opened.{IsIndexed}
-use Rattle.dump_command.specs.Inner.Reading.{IsHalted, Takes}
-use Rattle.dump_command.specs.Inner.Stops.{stop_of_body}
-use Rattle.dump_command.specs.Inner.TermStops.{Judges, stop_of_heap, stop_of_previews}
-use Rattle.dump_command.specs.declared.stop.Stop.{Stop}
+use Rattle.term_text.specs.Roots.{answer_over, roots_report, term_report, ext_report}
+use Rattle.command_words.specs.Command.{Command, roots, term, reach, cells, ext}
+use Rattle.heap_reach.specs.Rounds.{reached_by}
+use Rattle.heap_reach.specs.Unreached.{ascending, count_below, missed_below}
+use Rattle.root_views.specs.declared.kinds.RootKind.TheVariants.{Stack, Dict, Mail}
+use Rattle.term_text.specs.Reach.{terms_of, totals_line, unreached_line}
+use Rattle.term_text.specs.Cells.{cells_report, cells_text}
+use Rattle.dump_command.specs.Report.{heap_bodies, one_of, too_large, bodies, no_process, no_subject, refusal_held, refusal_listed, reread, root_bodies}
+use Rattle.dump_command.specs.Terms.{heap_body, heap_map, heap_of, literals_body, literals_of, payloads_of, address_cause, answer_in, base_of, binary_count, dense_cause, named_section, no_address, previews_in, roots_of, roots_over, roots_section, term_of, too_dense, reach_of, root_terms, terms_in, ext_of, external_at, external_cause, external_in, no_external}
+use Rattle.dump_command.specs.Inner.Stops.{stop_of_heap, Judges, stop_of_previews, stop_of_body}
 use Rattle.dump_command.specs.declared.stop.Stop.TheVariants.{Refused}
-use Rattle.dump_command.proofs.Heaps.{bytes-heap, cells-index, dense-small, enc-index, fault-heap, heap-small, heap-too-large, own-index, too_large-append, weight-index}
+use Rattle.dump_command.specs.Inner.Reading.{heap_listed, HoldsHeap, IsHeapless, IsIndexed, IsHalted, Takes, ReadsFor}
+use Rattle.dump_command.specs.declared.stop.Stop.{Stop}
+use Rattle.dump_command.specs.Inner.Loads.{roots_at, reach_text, terms_loaded, ArePlaces, HoldsRoots, IsUnread}
+use Rattle.dump_command.specs.declared.commands.reach.RootPlaces.{RootPlaces}
+use Rattle.dump_command.specs.declared.commands.reach.RootBodies.{RootBodies}
+use Rattle.dump_command.specs.declared.commands.reach.Loaded.{Loaded}
+use Rattle.dump_command.proofs.Reading.{bytes-one, none-map, refused, body_fault, is_some-map, StopsFor-judged, StopsFor-large, StopsFor-too, Takes-listed, HasRead-listed, IsHalted-held}
 use Rattle.dump_command.proofs.Places.{section-found}
-use Rattle.dump_command.proofs.Reading.{body_fault, is_some-map, refused, StopsFor-judged, StopsFor-large, StopsFor-too, Takes-listed}
 use Rattle.dump_command.proofs.Runs.{sections-index}
+
+pub heap-found : (pid : List ℕ) (index : Contents) → heap_section index pid ≡ heap_of pid (sections_in index)
+heap-found pid index = section-found (λ s. is_named (codes "proc_heap") (Some pid) s.text) index _ refl
+
+pub literals-found : (index : Contents) → literals_section index ≡ literals_of (sections_in index)
+literals-found index = section-found (λ s. has_tag (codes "literals") s.text) index _ refl
+
+-- ---- how many bytes they have
+
+pub bytes-heap : (pid : List ℕ) (index : Contents)
+    → bodies_length (heap_bodies pid (sections_in index)) ≡ body_size (heap_section index pid) + body_size (literals_section index)
+bytes-heap pid index =
+    let heap = heap_of pid (sections_in index) in
+    let literals = literals_of (sections_in index) in
+    omega (
+      arith,
+      sum_by-append body_length (one_of heap) (one_of literals),
+      bytes-one heap,
+      bytes-one literals,
+      ap body_size (heap-found pid index),
+      ap body_size (literals-found index),
+    )
+
+-- ---- which of them is too large
+
+-- of bodies in a row the first that is too large is refused
+pub too_large-append : (limit : ℕ) (xs ys : List Section) → too_large limit (xs ++ ys) ≡ option_or (too_large limit xs) (too_large limit ys)
+too_large-append limit [] ys = refl
+too_large-append limit (s ∷ xs) ys =
+    elim (nat_lt limit (body_length s)) as (λ b. option_map refused (if b then Some s else first_large limit (xs ++ ys))
+    ≡ option_or (option_map refused (if b then Some s else first_large limit xs)) (too_large limit ys)) [
+      | true ↦ refl
+      | false ↦ too_large-append limit xs ys
+    ]
+
+fault-one : (limit : ℕ) (found : Option Section) → option_map stop_of_heap (heap_too_large limit found) ≡ option_map Refused (too_large limit (one_of found))
+fault-one limit None = refl
+fault-one limit (Some s) =
+    elim (nat_lt limit (body_length s))
+    as (λ b. option_map stop_of_heap (if b then Some (heap_faults.SectionTooLarge s.at (body_length s)) else None)
+    ≡ option_map Refused (option_map refused (if b then Some s else first_large limit []))) [ true ↦ refl | false ↦ refl ]
+
+map-or : {X Y : Type 0} (f : X → Y) (first second : Option X) → option_map f (option_or first second) ≡ option_or (option_map f first) (option_map f second)
+map-or f None second = refl
+map-or f (Some x) second = refl
+
+-- the refusal of a section of the heap stops the command as that of a body
+pub fault-heap : (limit : ℕ) (pid : List ℕ) (index : Contents)
+    → option_map stop_of_heap (section_fault limit index pid) ≡ option_map Refused (too_large limit (heap_bodies pid (sections_in index)))
+fault-heap limit pid index =
+    let heap = heap_of pid (sections_in index) in
+    let literals = literals_of (sections_in index) in
+    ap (λ h. option_map stop_of_heap (option_or (heap_too_large limit h) (heap_too_large limit (literals_section index)))) (heap-found pid index)
+    ∙ ap (λ l. option_map stop_of_heap (option_or (heap_too_large limit heap) (heap_too_large limit l))) (literals-found index)
+    ∙ map-or stop_of_heap (heap_too_large limit heap) (heap_too_large limit literals)
+    ∙ ap (λ o. option_or o (option_map stop_of_heap (heap_too_large limit literals))) (fault-one limit heap)
+    ∙ ap (λ o. option_or (option_map Refused (too_large limit (one_of heap))) o) (fault-one limit literals)
+    ∙ sym (map-or Refused (too_large limit (one_of heap)) (too_large limit (one_of literals)))
+    ∙ ap (option_map Refused) (sym (too_large-append limit (one_of heap) (one_of literals)))
+
+some-refused : (cause : Option Refusal) (why : Refusal) → option_map Refused cause ≡ Some (Refused why) → cause ≡ Some why
+some-refused None why is = absurd (let no : ⊥ = cc (is) in no)
+some-refused (Some other) why is = let same : other ≡ why = cc (is) in ap Some same
+
+pub heap-too-large : (limit : ℕ) (pid : List ℕ) (index : Contents) (at len : ℕ) → section_fault limit index pid ≡ Some (heap_faults.SectionTooLarge at len)
+    → too_large limit (heap_bodies pid (sections_in index)) ≡ Some (SectionTooLarge at len)
+heap-too-large limit pid index at len is =
+    some-refused (too_large limit (heap_bodies pid (sections_in index))) (SectionTooLarge at len)
+    (sym (fault-heap limit pid index) ∙ ap (option_map stop_of_heap) is)
+
+pub heap-small : (limit : ℕ) (pid : List ℕ) (index : Contents) → section_fault limit index pid ≡ None → too_large limit (heap_bodies pid (sections_in index)) ≡ None
+heap-small limit pid index is =
+    none-map Refused (too_large limit (heap_bodies pid (sections_in index))) (sym (fault-heap limit pid index) ∙ ap (option_map stop_of_heap) is)
+
+section-of : (fault : Option HeapFault) (at len : ℕ) → option_map stop_of_heap fault ≡ Some (Refused (SectionTooLarge at len))
+    → fault ≡ Some (heap_faults.SectionTooLarge at len)
+section-of (Some (heap_faults.SectionTooLarge a l)) at len is =
+    let same_at : a ≡ at = cc (is) in
+    let same_len : l ≡ len = cc (is) in
+    ap (λ n. Some (heap_faults.SectionTooLarge n l)) same_at ∙ ap (λ n. Some (heap_faults.SectionTooLarge at n)) same_len
+section-of fault at len is = absurd (let no : ⊥ = cc (is) in no)
+
+-- where the heap is too dense none of its sections is too large
+pub dense-small : (limit : ℕ) (pid : List ℕ) (index : Contents) (count : ℕ)
+    → ((fault : HeapFault) → section_fault limit index pid ≡ Some fault → IsErrOf {T = HeapMap} (Err (heap_faults.TooDense count)) fault)
+    → (found : Option Section) → first_large limit (heap_bodies pid (sections_in index)) ≡ found
+    → too_large limit (heap_bodies pid (sections_in index)) ≡ None
+dense-small limit pid index count says None is = ap (option_map refused) is
+dense-small limit pid index count says (Some s) is =
+    let one : section_fault limit index pid ≡ Some (heap_faults.SectionTooLarge s.at (body_length s)) =
+    section-of (section_fault limit index pid) s.at (body_length s) (fault-heap limit pid index ∙ ap (λ o. option_map Refused (option_map refused o)) is) in
+    let other = says (heap_faults.SectionTooLarge s.at (body_length s)) one in
+    absurd (let no : ⊥ = cc (other) in no)
+
+-- ---- what they hold
+
+pub payloads-index : (bytes : List ℕ) (index : Contents) → IsIndexOf bytes index → enc_of index.version ≡ payloads_of bytes
+payloads-index bytes index of = ap (λ i. enc_of i.version) (index-is bytes index of)
+
+pub heap_body-index : (pid bytes : List ℕ) (index : Contents) → IsIndexOf bytes index → body_in bytes (heap_section index pid) ≡ heap_body pid bytes
+heap_body-index pid bytes index of = ap (body_in bytes) (heap-found pid index ∙ ap (heap_of pid) (sections-index bytes index of))
+
+pub literals_body-index : (bytes : List ℕ) (index : Contents) → IsIndexOf bytes index → body_in bytes (literals_section index) ≡ literals_body bytes
+literals_body-index bytes index of = ap (body_in bytes) (literals-found index ∙ ap literals_of (sections-index bytes index of))
+
+pub enc-index : (pid bytes : List ℕ) (index : Contents) (heap : HeapMap) → IsIndexOf bytes index → heap.enc ≡ enc_of index.version → heap.enc ≡ (heap_map pid bytes).enc
+enc-index pid bytes index heap of is = is ∙ payloads-index bytes index of
+
+pub cells-index : (pid bytes : List ℕ) (index : Contents) (heap : HeapMap) → IsIndexOf bytes index
+    → IsMapOf (enc_of index.version) (body_in bytes (heap_section index pid)) (body_in bytes (literals_section index)) heap
+    → heap.cells ≡ (heap_map pid bytes).cells
+cells-index pid bytes index heap of map =
+    map.cells
+    ∙ ap (λ e. cells_of e (body_in bytes (heap_section index pid)) (body_in bytes (literals_section index))) (payloads-index bytes index of)
+    ∙ ap (λ h. cells_of (payloads_of bytes) h (body_in bytes (literals_section index))) (heap_body-index pid bytes index of)
+    ∙ ap (cells_of (payloads_of bytes) (heap_body pid bytes)) (literals_body-index bytes index of)
+
+pub own-index : (pid bytes : List ℕ) (index : Contents) (heap : HeapMap) → IsIndexOf bytes index
+    → IsMapOf (enc_of index.version) (body_in bytes (heap_section index pid)) (body_in bytes (literals_section index)) heap
+    → heap.own ≡ (heap_map pid bytes).own
+own-index pid bytes index heap of map =
+    map.own
+    ∙ ap (λ e. own_count e (body_in bytes (heap_section index pid))) (payloads-index bytes index of)
+    ∙ ap (own_count (payloads_of bytes)) (heap_body-index pid bytes index of)
+
+pub weight-index : (pid bytes : List ℕ) (index : Contents) → IsIndexOf bytes index
+    → weight (enc_of index.version) (body_in bytes (heap_section index pid)) (body_in bytes (literals_section index))
+    ≡ weight (payloads_of bytes) (heap_body pid bytes) (literals_body bytes)
+weight-index pid bytes index of =
+    ap (λ e. weight e (body_in bytes (heap_section index pid)) (body_in bytes (literals_section index))) (payloads-index bytes index of)
+    ∙ ap (λ h. weight (payloads_of bytes) h (body_in bytes (literals_section index))) (heap_body-index pid bytes index of)
+    ∙ ap (weight (payloads_of bytes) (heap_body pid bytes)) (literals_body-index bytes index of)
+
+-- ---- what the load of a process's heap gives, and what a command over it has read
 
 -- ---- whether the heap is too dense
 
@@ -72,10 +213,6 @@ too_dense-within limit pid bytes index of within =
 pub record IsClear (pid : List ℕ) (before : List Section) (limits : Numbers) (index : Contents) : Type 0 where
   pub listed : heap_listed pid before limits (sections_in index) ≡ too_large limits.section (heap_bodies pid (sections_in index))
 
-small-first : (first : Option Section) → None ≡ option_map body_fault first → option_map refused first ≡ None
-small-first None is = refl
-small-first (Some s) is = absurd (let no : ⊥ = cc (is) in no)
-
 module _ (pid : List ℕ) (before : List Section) (limits : Numbers) (index : Contents) where
   -- the process isn't there
   pub IsHeapless-judged : (old new : DeviceState) (stop : Stop) → Judges {T = ℕ} (no_process pid (sections_in index)) (Err stop) → IsHeapless pid before limits index old new stop
@@ -101,7 +238,7 @@ module _ (pid : List ℕ) (before : List Section) (limits : Numbers) (index : Co
   pub IsClear-judged : no_process pid (sections_in index) ≡ None → None ≡ option_map body_fault (first_large limits.section before) → IsClear pid before limits index
   IsClear-judged there is =
       record {
-        listed = listed-there there ∙ ap (λ o. option_or o (too_large limits.section (heap_bodies pid (sections_in index)))) (small-first (first_large limits.section before) is);
+        listed = listed-there there ∙ ap (λ o. option_or (option_map refused o) (too_large limits.section (heap_bodies pid (sections_in index)))) (none-map body_fault (first_large limits.section before) (sym is));
       }
 
 module _ (pid : List ℕ) (before : List Section) (limits : Numbers) (index : Contents) (clear : IsClear pid before limits index) where
@@ -209,7 +346,7 @@ module _ (cmd : Command) (pid : List ℕ) (before : List Section) (limits : Numb
         → Takes cmd limits index old new
     Takes-previews count most reads few =
         Takes-listed cmd limits index old new count (none-listed old.now heap holds) reads
-        (λ bytes all. omega (arith, few, most bytes, bytes-loaded bytes all.of, ap (λ cells. length (binaries cells)) (holds.cells bytes all)))
+        (λ bytes all. omega (arith, few, most bytes, bytes-loaded bytes all.of, ap (λ cs. length (binaries cs)) (holds.cells bytes all)))
 
 -- the previews weren't loaded
 pub IsHalted-previews : (cmd : Command) (limits : Numbers) (index : Contents) (before after last last' : DeviceState) (fault : PreviewFault) → Takes cmd limits index before after
@@ -221,17 +358,13 @@ both-none : (first second : Option Refusal) → option_or first second ≡ None 
 both-none None second none = (refl, none)
 both-none (Some why) second none = absurd (let no : ⊥ = cc (none) in no)
 
-small-fault : (first : Option Section) → option_map refused first ≡ None → option_map body_fault first ≡ None
-small-fault None is = refl
-small-fault (Some s) is = absurd (let no : ⊥ = cc (is) in no)
-
 -- the body that is read behind the heap isn't too large
 pub small-before : (pid : List ℕ) (before : List Section) (limits : Numbers) (index : Contents) (now : Now) (heap : HeapMap) → HoldsHeap pid before limits index now heap
-    → too_large limits.section before ≡ None
+    → first_large limits.section before ≡ None
 small-before pid before limits index now heap holds =
     let bodies = heap_bodies pid (sections_in index) in
     let small = both-none (no_process pid (sections_in index)) (too_large limits.section (before ++ bodies)) holds.listed in
-    (both-none (too_large limits.section before) (too_large limits.section bodies) (sym (too_large-append limits.section before bodies) ∙ small.1)).0
+    none-map refused (first_large limits.section before) (both-none (too_large limits.section before) (too_large limits.section bodies) (sym (too_large-append limits.section before bodies) ∙ small.1)).0
 
 -- and it wasn't read
 pub IsHalted-last : (cmd : Command) (pid : List ℕ) (before : List Section) (limits : Numbers) (index : Contents) (now : Now) (heap : HeapMap) (old new last last' : DeviceState) (fault : BodyFault)
@@ -240,7 +373,7 @@ pub IsHalted-last : (cmd : Command) (pid : List ℕ) (before : List Section) (li
 IsHalted-last cmd pid before limits index now heap old new last last' body_faults.Read takes holds cause later = record { takes = takes; cause = later cause.0 }
 IsHalted-last cmd pid before limits index now heap old new last last' body_faults.Memory takes holds cause later = record { takes = takes; cause = tt }
 IsHalted-last cmd pid before limits index now heap old new last last' (body_faults.SectionTooLarge at len) takes holds cause later =
-    absurd (let no : ⊥ = cc (small-fault (first_large limits.section before) (small-before pid before limits index now heap holds), cause) in no)
+    absurd (let no : ⊥ = cc (ap (option_map body_fault) (small-before pid before limits index now heap holds), cause) in no)
 
 -- ---- what is told of a heap that was loaded
 
@@ -250,7 +383,7 @@ module _ (pid : List ℕ) (before : List Section) (limits : Numbers) (index : Co
   pub term-held : (file : List ℕ) (addr nodes : ℕ) (marked : Bool) → refusal_held (term file pid addr nodes marked) bytes limits ≡ address_cause addr (number_at heap.cells addr)
   term-held file addr nodes marked =
       ap (λ o. option_or o (no_address addr pid bytes)) (holds.sparse bytes all)
-      ∙ ap (λ cells. address_cause addr (number_at cells addr)) (sym (holds.cells bytes all))
+      ∙ ap (λ cs. address_cause addr (number_at cs addr)) (sym (holds.cells bytes all))
 
   -- with its previews it answers as the process in the dump
   answer-told : (previews : List Entry) (nodes : ℕ) (marked : Bool) → previews ≡ previews_of bytes index heap.enc heap.cells
@@ -262,7 +395,7 @@ module _ (pid : List ℕ) (before : List Section) (limits : Numbers) (index : Co
       ∙ ap (previews_of bytes (index_of bytes) right.enc) (holds.cells bytes all) in
       ap (λ enc. λ (e : Element). answer enc previews heap.cells e nodes marked) (holds.enc bytes all)
       ∙ ap (λ vs. λ (e : Element). answer right.enc vs heap.cells e nodes marked) known
-      ∙ ap (λ cells. λ (e : Element). answer right.enc (previews_in bytes right) cells e nodes marked) (holds.cells bytes all)
+      ∙ ap (λ cs. λ (e : Element). answer right.enc (previews_in bytes right) cs e nodes marked) (holds.cells bytes all)
 
   pub term-told : (previews : List Entry) (addr nodes : ℕ) (marked : Bool) → previews ≡ previews_of bytes index heap.enc heap.cells
       → term_report (answer_over (walk heap previews) nodes marked) addr ≡ term_of pid addr nodes marked bytes
@@ -297,3 +430,132 @@ pub roots-found : (kind : RootKind) (pid tag : List ℕ) (index : Contents) (pla
     → place ≡ position (λ s. is_named tag (Some pid) s.text) (sections_in index) → section_in index place ≡ roots_section kind pid (sections_in index)
 roots-found kind pid tag index place tagged is =
     section-found (λ s. is_named tag (Some pid) s.text) index place (sym is) ∙ ap (λ t. named_section t pid (sections_in index)) tagged
+
+-- ---- what a command has read that tells what the roots of a heap reach
+
+-- ---- the command
+
+pub IsOfHeap-reach : (file pid : List ℕ) (limits : Numbers) (index : Contents) (places : RootPlaces) → ArePlaces pid index places → IsOfHeap (reach file pid) pid (roots_at index places) limits index
+IsOfHeap-reach file pid limits index places of =
+    record {
+      subject = refl;
+      loads = ap (λ ss. ss ++ heap_bodies pid (sections_in index)) (sym (at-roots pid index places of));
+      few = λ bytes. omega arith;
+      dense = λ bytes why is. is;
+    }
+  where
+    at-roots : (pid : List ℕ) (index : Contents) (places : RootPlaces) → ArePlaces pid index places → roots_at index places ≡ root_bodies pid (sections_in index)
+    at-roots pid index places of =
+        ap (λ s. (one_of s ++ one_of (section_in index places.dict)) ++ one_of (section_in index places.mail)) of.stack
+        ∙ ap (λ s. (one_of (roots_section Stack pid (sections_in index)) ++ one_of s) ++ one_of (section_in index places.mail)) of.dict
+        ∙ ap (λ s. (one_of (roots_section Stack pid (sections_in index)) ++ one_of (roots_section Dict pid (sections_in index))) ++ one_of s) of.mail
+
+-- the bodies with the roots weren't read
+pub IsHalted-roots : (cmd : Command) (pid : List ℕ) (before : List Section) (limits : Numbers) (index : Contents) (now : Now) (heap : HeapMap) (old new last last' : DeviceState) (fault : BodyFault)
+    → Takes cmd limits index old new → HoldsHeap pid before limits index now heap → IsUnread (first_large limits.section before) last last' fault → (DeviceFailed last last' → DeviceFailed old new)
+    → IsHalted cmd limits index old new (stop_of_body fault)
+IsHalted-roots cmd pid before limits index now heap old new last last' body_faults.Read takes holds cause later = record { takes = takes; cause = later cause }
+IsHalted-roots cmd pid before limits index now heap old new last last' body_faults.Memory takes holds cause later = record { takes = takes; cause = tt }
+IsHalted-roots cmd pid before limits index now heap old new last last' (body_faults.SectionTooLarge at len) takes holds cause later =
+    absurd (let no : ⊥ = cc (ap is_some (small-before pid before limits index now heap holds), cause) in no)
+
+-- three calls add what three bodies hold, each behind what came before
+pub added-three : {R B X : Type 0} (Is : R → List X → Type 0) (f g h : B → List X) (a b c d : R) (first second third x y z : B)
+    → first ≡ x → second ≡ y → third ≡ z → Is a []
+    → ((xs : List X) → Is a xs → Is b (xs ++ f first)) → ((xs : List X) → Is b xs → Is c (xs ++ g second)) → ((xs : List X) → Is c xs → Is d (xs ++ h third))
+    → Is d ((f x ++ g y) ++ h z)
+added-three Is f g h a b c d first second third x y z one two three none add_first add_second add_third =
+    subst (Is d) (ap (λ v. (f v ++ g second) ++ h third) one ∙ ap (λ v. (f x ++ g v) ++ h third) two ∙ ap (λ v. (f x ++ g y) ++ h v) three)
+    (add_third (f first ++ g second) (add_second (f first) (add_first [] none)))
+
+-- ---- what is told
+
+-- the report by the cells of a heap, how many of them are its own, and the roots
+abbrev told_of : List Cell → ℕ → List Element → List ℕ
+told_of cs own elements =
+    let set : ℕ → Bool = reached_by cs elements in
+    flat_map unreached_line (ascending (missed_below cs set own)) ++ totals_line own (count_below set own) (count_below set (length cs) - count_below set own)
+
+module _ (pid : List ℕ) (limits : Numbers) (index : Contents) (now : Now) (bytes : List ℕ) (all : IsIndexed bytes limits index now) where
+  -- the terms of one body
+  terms-told : (kind : RootKind) (place : Option ℕ) (body : List ℕ) → section_in index place ≡ roots_section kind pid (sections_in index)
+      → body ≡ body_in bytes (section_in index place) → terms_of (roots_in kind body) ≡ terms_in kind pid bytes
+  terms-told kind place body here held =
+      ap (λ b. terms_of (roots_in kind b)) (held ∙ ap (body_in bytes) (here ∙ ap (roots_section kind pid) (sections-index bytes index all.of)))
+
+  -- those of all three
+  all-told : (places : RootPlaces) (roots : RootBodies) → ArePlaces pid index places → HoldsRoots index (told bytes) places roots → terms_loaded roots ≡ root_terms pid bytes
+  all-told places loaded of held =
+      ap (λ ts. (ts ++ terms_of (roots_in Dict loaded.dict.bytes.items)) ++ terms_of (roots_in Mail loaded.mail.bytes.items)) (terms-told Stack places.stack loaded.stack.bytes.items of.stack held.stack)
+      ∙ ap (λ ts. (terms_in Stack pid bytes ++ ts) ++ terms_of (roots_in Mail loaded.mail.bytes.items)) (terms-told Dict places.dict loaded.dict.bytes.items of.dict held.dict)
+      ∙ ap (λ ts. (terms_in Stack pid bytes ++ terms_in Dict pid bytes) ++ ts) (terms-told Mail places.mail loaded.mail.bytes.items of.mail held.mail)
+
+  pub reach-told : (before : List Section) (places : RootPlaces) (loaded : Loaded) → HoldsHeap pid before limits index now loaded.heap → ArePlaces pid index places
+      → HoldsRoots index (told bytes) places loaded.roots → reach_text loaded ≡ reach_of pid bytes
+  reach-told before places loaded holds of held =
+      ap (λ cs. told_of cs loaded.heap.own (terms_loaded loaded.roots)) (holds.cells bytes all)
+      ∙ ap (λ own. told_of (heap_map pid bytes).cells own (terms_loaded loaded.roots)) (holds.own bytes all)
+      ∙ ap (told_of (heap_map pid bytes).cells (heap_map pid bytes).own) (all-told places loaded.roots of held)
+
+-- ---- what the load of a heap gives whose cells are listed
+
+IsOfHeap-cells : (file pid : List ℕ) (limits : Numbers) (index : Contents) → IsOfHeap (cells file pid) pid [] limits index
+IsOfHeap-cells file pid limits index = record { subject = refl; loads = refl; few = λ bytes. omega arith; dense = λ bytes why is. is }
+
+pub reads-cells : (file pid : List ℕ) (limits : Numbers) (index : Contents) (before after : DeviceState) (result : Result HeapMap Stop)
+    → ReadsAtMost before after (body_size (heap_section index pid) + body_size (literals_section index))
+    → (IsSome (heap_listed pid [] limits (sections_in index)) → ReadsAtMost before after 0)
+    → MatchResult result (HoldsHeap pid [] limits index before.now) (IsHeapless pid [] limits index before after)
+    → ReadsFor (cells file pid) limits index before after cells_report (λ _. 0) result
+reads-cells file pid limits index before after (Ok heap) reads unread holds =
+    let of = IsOfHeap-cells file pid limits index in
+    HasRead-listed (cells file pid) limits index before after (cells_report heap) (Takes-heap _ _ _ _ _ of before after heap holds reads) (none-listed _ _ _ _ _ of before.now heap holds)
+    (λ bytes all. (
+      holds.sparse bytes all,
+      ap (λ own. cells_text (take own heap.cells)) (holds.own bytes all) ∙ ap (λ cs. cells_text (take (heap_map pid bytes).own cs)) (holds.cells bytes all),
+      refl,
+    ))
+reads-cells file pid limits index before after (Err stop) reads unread cause = IsHalted-heap _ _ _ _ _ (IsOfHeap-cells file pid limits index) before after stop reads unread cause
+
+-- ---- what the load of an external term gives
+
+pub IsOfHeap-ext : (file pid : List ℕ) (addr : ℕ) (limits : Numbers) (index : Contents) → IsOfHeap (ext file pid addr) pid [] limits index
+IsOfHeap-ext file pid addr limits index =
+    record { subject = refl; loads = refl; few = λ bytes. omega arith; dense = λ bytes why is. ap (λ o. option_or o (no_external addr (heap_map pid bytes))) is }
+
+-- a heap that was loaded, and is that of the dump
+module _ (pid : List ℕ) (addr : ℕ) (limits : Numbers) (index : Contents) (now : Now) (heap : HeapMap) (holds : HoldsHeap pid [] limits index now heap)
+    (bytes : List ℕ) (all : IsIndexed bytes limits index now) where
+  -- its cell at the address is that of the dump
+  external-index : external_at addr heap ≡ external_at addr (heap_map pid bytes)
+  external-index =
+      ap (λ e. option_and_then (external_in e) (option_and_then (form_at heap.cells) (number_at heap.cells addr))) (holds.enc bytes all)
+      ∙ ap (λ cs. option_and_then (external_in (heap_map pid bytes).enc) (option_and_then (form_at cs) (number_at cs addr))) (holds.cells bytes all)
+
+  -- the command is refused for that cell alone
+  pub ext-held : (file : List ℕ) → refusal_held (ext file pid addr) bytes limits ≡ no_external addr heap
+  ext-held file =
+      ap (λ o. option_or o (no_external addr (heap_map pid bytes))) (holds.sparse bytes all)
+      ∙ ap (λ cs. option_or (address_cause addr (number_at cs addr)) (external_cause addr (external_at addr (heap_map pid bytes)))) (sym (holds.cells bytes all))
+      ∙ ap (λ found. option_or (address_cause addr (number_at heap.cells addr)) (external_cause addr found)) (sym external-index)
+
+  -- and its report is that of the bytes that were decoded
+  pub ext-told : (payload : Vec ℕ) → external_at addr heap ≡ Some payload.items → ext_report payload.items ≡ ext_of pid addr bytes
+  ext-told payload found = ap (λ o. ext_report (unwrap_or o [])) (sym found ∙ external-index)
+
+pub reads-ext : (file pid : List ℕ) (addr : ℕ) (limits : Numbers) (index : Contents) (before after : DeviceState) (heap : HeapMap) (result : Result (Vec ℕ) Stop)
+    → ReadsAtMost before after (body_size (heap_section index pid) + body_size (literals_section index)) → HoldsHeap pid [] limits index before.now heap
+    → Judges (no_external addr heap) result → IfOk result (λ payload. external_at addr heap ≡ Some payload.items)
+    → ReadsFor (ext file pid addr) limits index before after (λ payload. ext_report payload.items) (λ _. 0) result
+reads-ext file pid addr limits index before after heap (Ok payload) reads holds judged found =
+    let of = IsOfHeap-ext file pid addr limits index in
+    HasRead-listed (ext file pid addr) limits index before after (ext_report payload.items) (Takes-heap _ _ _ _ _ of before after heap holds reads) (none-listed _ _ _ _ _ of before.now heap holds)
+    (λ bytes all. (
+      ext-held pid addr limits index before.now heap holds bytes all file ∙ judged,
+      ext-told pid addr limits index before.now heap holds bytes all payload found,
+      refl,
+    ))
+reads-ext file pid addr limits index before after heap (Err stop) reads holds judged found =
+    let of = IsOfHeap-ext file pid addr limits index in
+    IsHalted-held (ext file pid addr) limits index before after (Vec ℕ) (no_external addr heap) stop (Takes-heap _ _ _ _ _ of before after heap holds reads) (none-listed _ _ _ _ _ of before.now heap holds)
+    (λ bytes all. ext-held pid addr limits index before.now heap holds bytes all file) judged

@@ -20,8 +20,7 @@ use Rattle.command_words.specs.Command.{Command, binaries, holders}
 use Rattle.dump_command.specs.Holders.{binaries_listing, binaries_over, fronts_bytes, heaps_bytes, holders_listing, holders_over, pids_of}
 use Rattle.dump_command.specs.Report.{bodies, no_subject, refusal_held, refusal_listed, reread, too_large}
 use Rattle.dump_command.specs.Terms.{binary_at, binary_cause}
-use Rattle.dump_command.specs.Inner.Opened.{IsIndexed}
-use Rattle.dump_command.specs.Inner.Reading.{IsHalted, Takes}
+use Rattle.dump_command.specs.Inner.Reading.{IsIndexed, IsHalted, Takes}
 use Rattle.dump_command.specs.Inner.Stops.{stop_of_body, stop_of_holders}
 use Rattle.dump_command.proofs.Reading.{is_some-map, refused, StopsFor-bodies, Takes-listed}
 use Rattle.dump_command.proofs.Runs.{sections-index}

@@ -1,5 +1,5 @@
 -- What a dump that was opened says, and one that wasn't.
-use Rattle.std.proofs.Common.{◌≡◌, ◌⊎◌, ℕ, ◌≤◌, List, length, Option, None, Some, Ok, Err, refl, sym, ◌∙◌, ap, inl, inr, arith}
+use Rattle.std.proofs.Common.{◌≡◌, ◌⊎◌, ℕ, ◌≤◌, List, length, Option, None, Some, Ok, Err, refl, sym, ◌∙◌, ap, subst, inl, inr, arith}
 use Rattle.std.specs.Prelude.{IsErrOf}
 use Rattle.dump_io.specs.Dumps.{Files, Now, closed, told, sized, size_of, IsAbsent, DeviceState, DeviceFailed}
 use Rattle.dump_io.specs.Limits.{Numbers}
@@ -7,37 +7,26 @@ use Rattle.dump_sections.specs.Index.{Contents, IsBuiltOver}
 use Rattle.section_index.specs.Answers.{IsAnswerFor, IsClosedOrNamed, IsFileOf, IsHeld, ReadsFile}
 use Rattle.section_index.specs.declared.opening.OpenFault.{OpenFault}
 use Rattle.section_index.specs.declared.opening.OpenFault.TheVariants.{Read, Memory}
-use Rattle.dump_command.specs.Inner.Opened.{HasOpened, IsUnopened}
+use Rattle.dump_command.specs.Inner.Reading.{HasOpened, IsUnopened, IsUnopenedFor}
 use Rattle.dump_command.specs.Inner.Stops.{stop_of_opening}
 
--- the file that is open has the size of the file of that name
-size-named : (files : Files) (name : List ℕ) (now : Now) (bytes : List ℕ) → files name ≡ Some bytes → IsClosedOrNamed (Some files) name now → size_of now ≤ length bytes
-size-named files name closed bytes is named = omega arith
-size-named files name (told all) bytes is named =
-    let same : named.0 ≡ bytes = cc (named.1, is) in omega (arith, ap size_of named.2, ap length same)
-size-named files name (sized size) bytes is named =
-    let same : named.0 ≡ bytes = cc (named.1, is) in omega (arith, ap size_of named.2, ap length same)
+-- what is open, if anything is, is the file of that name
+named-is : (told_files : Option Files) (name : List ℕ) (now : Now) (bytes : List ℕ) → IsClosedOrNamed told_files name now
+    → IsHeld told_files name bytes ⊎ (now ≡ told bytes) → (now ≡ closed) ⊎ (now ≡ told bytes)
+named-is told_files name now bytes named (inr is) = inr is
+named-is None name now bytes named (inl is) = absurd is
+named-is (Some files) name closed bytes named (inl is) = inl refl
+named-is (Some files) name now bytes named (inl is) = let same : named.0 ≡ bytes = cc (named.1, is) in inr (named.2 ∙ ap told same)
 
-size-file : (told_files : Option Files) (name : List ℕ) (now : Now) (bytes : List ℕ) → IsClosedOrNamed told_files name now
-    → IsHeld told_files name bytes ⊎ (now ≡ told bytes) → size_of now ≤ length bytes
-size-file None name now bytes named (inl is) = absurd is
-size-file (Some files) name now bytes named (inl is) = size-named files name now bytes is named
-size-file told_files name now bytes named (inr is) = omega (arith, ap size_of is)
+-- it has the size of that file
+size-file : (now : Now) (bytes : List ℕ) → (now ≡ closed) ⊎ (now ≡ told bytes) → size_of now ≤ length bytes
+size-file now bytes (inl is) = omega (arith, ap size_of is)
+size-file now bytes (inr is) = omega (arith, ap size_of is)
 
--- over an index that was built the file of that name is open
-told-named : (files : Files) (name : List ℕ) (now : Now) (bytes : List ℕ) (index : Contents) → files name ≡ Some bytes
-    → IsClosedOrNamed (Some files) name now → IsBuiltOver now index → now ≡ told bytes
-told-named files name closed bytes index is named over = absurd over
-told-named files name (told all) bytes index is named over =
-    let same : named.0 ≡ bytes = cc (named.1, is) in named.2 ∙ ap told same
-told-named files name (sized size) bytes index is named over =
-    let same : named.0 ≡ bytes = cc (named.1, is) in named.2 ∙ ap told same
-
-told-file : (told_files : Option Files) (name : List ℕ) (now : Now) (bytes : List ℕ) (index : Contents)
-    → IsClosedOrNamed told_files name now → IsBuiltOver now index → IsHeld told_files name bytes ⊎ (now ≡ told bytes) → now ≡ told bytes
-told-file None name now bytes index named over (inl is) = absurd is
-told-file (Some files) name now bytes index named over (inl is) = told-named files name now bytes index is named over
-told-file told_files name now bytes index named over (inr is) = is
+-- over an index that was built it is open
+told-file : (now : Now) (bytes : List ℕ) (index : Contents) → IsBuiltOver now index → (now ≡ closed) ⊎ (now ≡ told bytes) → now ≡ told bytes
+told-file now bytes index over (inl is) = absurd (subst (λ n. IsBuiltOver n index) is over)
+told-file now bytes index over (inr is) = is
 
 -- where no file has the name none is open
 closed-absent : (told_files : Option Files) (name : List ℕ) (now : Now) → IsClosedOrNamed told_files name now → IsAbsent told_files name → now ≡ closed
@@ -61,9 +50,9 @@ HasOpened-built name limits before after index reads answer absent over =
           record {
             accepted = right.0;
             of = right.1;
-            opened = told-file before.files name after.now bytes index reads.now over file;
+            opened = told-file after.now bytes index over (named-is before.files name after.now bytes reads.now file);
           };
-      taken = λ bytes file. omega (arith, reads.taken_most, size-file before.files name after.now bytes reads.now file);
+      taken = λ bytes file. omega (arith, reads.taken_most, size-file after.now bytes (named-is before.files name after.now bytes reads.now file));
     }
 
 -- no index was built
@@ -72,25 +61,18 @@ pub IsUnopened-built : (name : List ℕ) (limits : Numbers) (before after : Devi
     → (IsAbsent before.files name → IsErrOf {T = Contents} (Err fault) Read)
     → (IsErrOf {T = Contents} (Err fault) Read → DeviceFailed before after ⊎ IsAbsent before.files name)
     → IsUnopened name limits before after (stop_of_opening fault)
-IsUnopened-built name limits before after Read reads answer absent read =
-    record {
-      cause = read refl;
-      gone = closed-absent before.files name after.now reads.now;
-      taken = λ bytes file. omega (arith, reads.taken_most, size-file before.files name after.now bytes reads.now file);
-    }
-IsUnopened-built name limits before after Memory reads answer absent read =
-    record {
-      cause = tt;
-      gone = closed-absent before.files name after.now reads.now;
-      taken = λ bytes file. omega (arith, reads.taken_most, size-file before.files name after.now bytes reads.now file);
-    }
 IsUnopened-built name limits before after fault reads answer absent read =
     record {
-      cause = record {
-        proper = tt;
-        there = λ gone. let no : ⊥ = cc (absent gone) in no;
-        told = λ bytes file. (fault, answer bytes file, refl);
-      };
+      cause = by fault answer absent read;
       gone = closed-absent before.files name after.now reads.now;
-      taken = λ bytes file. omega (arith, reads.taken_most, size-file before.files name after.now bytes reads.now file);
+      taken = λ bytes file. omega (arith, reads.taken_most, size-file after.now bytes (named-is before.files name after.now bytes reads.now file));
     }
+  where
+    by : (fault : OpenFault) → ((bytes : List ℕ) → IsFileOf before after name bytes → IsAnswerFor bytes limits (Err fault))
+        → (IsAbsent before.files name → IsErrOf {T = Contents} (Err fault) Read)
+        → (IsErrOf {T = Contents} (Err fault) Read → DeviceFailed before after ⊎ IsAbsent before.files name)
+        → IsUnopenedFor name limits before after (stop_of_opening fault)
+    by Read answer absent read = read refl
+    by Memory answer absent read = tt
+    by fault answer absent read =
+        record { proper = tt; there = λ gone. let no : ⊥ = cc (absent gone) in no; told = λ bytes file. (fault, answer bytes file, refl) }

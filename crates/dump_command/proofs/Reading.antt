@@ -1,28 +1,41 @@
 -- What a command reads of the dump that is open, by the clauses of what it calls.
-use Rattle.std.proofs.Common.{◌≡◌, ℕ, ◌≤◌, List, Option, None, Some, Result, Ok, Err, refl, sym, ◌∙◌, ap, subst, inl, arith}
+use Rattle.dump_sections.specs.declared.bodies.BodyFault.TheVariants as body_faults
+use Rattle.std.proofs.Common.{◌≡◌, ℕ, ◌≤◌, List, Option, None, Some, Result, Ok, Err, refl, sym, ◌∙◌, ap, subst, inl, arith, [], ◌⊎◌, Bool, true, false, if◌then◌else◌, codes, inr, length}
 use Rattle.std.specs.Prelude.{IfErr, IfOk, IsErrAnd, IsSome, MatchResult, OnOk, is_some}
 use Rattle.std.specs.Option.{option_map, option_or}
+use Rattle.std.specs.Str.{bytes_eq}
 use Rattle.std.proofs.lemmas.Result.{IfOk-weaker}
-use Rattle.dump_io.specs.Dumps.{DeviceState, told, ReadsAtMost}
-use Rattle.dump_io.specs.Laws.Reads.{ReadsAtMost-none}
+use Rattle.std.proofs.lemmas.List.Sums.{sum_by-cons}
+use Rattle.std.proofs.lemmas.Slice.Eq.{bytes_eq-Decides}
+use Rattle.dump_io.specs.Dumps.{DeviceState, told, ReadsAtMost, DeviceFailed}
+use Rattle.dump_io.specs.Laws.Reads.{ReadsAtMost-none, ReadsAtMost-within}
 use Rattle.dump_io.specs.Limits.{Numbers}
 use Rattle.dump_sections.specs.Bodies.{body_length}
-use Rattle.dump_sections.specs.Index.{Contents, sections_in}
+use Rattle.dump_sections.specs.Index.{Contents, sections_in, IsBuiltOver, IsIndexOf}
 use Rattle.dump_sections.specs.Sections.{Section, sections}
 use Rattle.dump_sections.specs.declared.bodies.BodyFault.{BodyFault}
-use Rattle.dump_sections.specs.declared.bodies.BodyFault.TheVariants as body_faults
 use Rattle.section_rows.specs.Loading.{bodies_length, first_large, AreRefused}
 use Rattle.report_text.specs.declared.refusals.Refusal.{Refusal}
 use Rattle.report_text.specs.declared.refusals.Refusal.TheVariants.{SectionTooLarge}
-use Rattle.command_words.specs.Command.{Command}
-use Rattle.dump_command.specs.Report.{bodies, no_subject, refusal_held, refusal_listed, report, report_status, reread, too_large}
-use Rattle.dump_command.specs.Inner.Opened.{IsIndexed}
-use Rattle.dump_command.specs.Inner.Reading.{HasRead, IsHalted, ReadsFor, StopsFor, Takes}
+use Rattle.command_words.specs.Command.{Command, info}
+use Rattle.heap_cells.specs.Loading.{body_in, body_size, IsBodyIn, section_in}
+use Rattle.report_text.specs.Tables.{fields_report}
+use Rattle.dump_io.specs.Sinks.{SinkState, Puts}
+use Rattle.dump_io.specs.Lines.{headers}
+use Rattle.dump_sections.specs.Versions.{first_id, version_named}
+use Rattle.dump_sections.specs.Tags.{tag_counts, tags_in}
+use Rattle.dump_sections.specs.declared.version.Version.{Version}
+use Rattle.dump_sections.specs.declared.version.Version.TheVariants.{V03, V04, V05}
+use Rattle.report_text.specs.Reports.{info_report, version_text}
+use Rattle.dump_command.specs.Report.{bodies, no_subject, refusal_held, refusal_listed, report, report_status, reread, too_large, fields_of, one_of, first_section, tags_of, body_of}
+use Rattle.dump_command.specs.Inner.Reading.{IsIndexed, HasRead, IsHalted, ReadsFor, StopsFor, Takes, Tells}
 use Rattle.dump_command.specs.Inner.Runs.{IsEnding}
-use Rattle.dump_command.specs.Inner.Stops.{or_stop, stop_of_body}
-use Rattle.dump_command.specs.Inner.TermStops.{Judges}
+use Rattle.dump_command.specs.Inner.Stops.{or_stop, stop_of_body, Judges}
 use Rattle.dump_command.specs.declared.stop.Stop.{Stop}
 use Rattle.dump_command.specs.declared.stop.Stop.TheVariants.{Refused, NotRead, NotWritten, NoMemory}
+use Rattle.dump_command.specs.Terms.{base_of}
+use Rattle.dump_command.specs.Inner.Loads.{fields_text}
+use Rattle.dump_command.specs.declared.commands.subjects.Body.{Body}
 use Rattle.dump_command.proofs.Runs.{sections-index}
 
 -- ---- what stops a command
@@ -32,6 +45,10 @@ refused s = SectionTooLarge s.at (body_length s)
 
 abbrev pub body_fault : Section → BodyFault
 body_fault s = body_faults.SectionTooLarge s.at (body_length s)
+
+pub none-map : {X Y : Type 0} (f : X → Y) (o : Option X) → option_map f o ≡ None → o ≡ None
+none-map f None is = refl
+none-map f (Some x) is = absurd (let no : ⊥ = cc is in no)
 
 pub is_some-map : {X Y : Type 0} (f : X → Y) (o : Option X) → is_some (option_map f o) ≡ is_some o
 is_some-map f None = refl
@@ -186,3 +203,105 @@ module _ (cmd : Command) (limits : Numbers) (index : Contents) (before after : D
   ReadsFor-whole text whole loaded of loads is right =
       ReadsFor-bodies text (λ _. 0) loaded of loads
       (IfOk-weaker loaded _ _ (λ t is. (inl refl, λ bytes all. (ap text (is bytes all.opened) ∙ (right bytes).0, (right bytes).1))) is)
+
+-- ---- what a command has read that loads the body of one section
+
+pub bytes-one : (found : Option Section) → body_size found ≡ bodies_length (one_of found)
+bytes-one None = omega arith
+bytes-one (Some s) = omega (arith, sum_by-cons body_length s [])
+
+-- the body of the section that was found was loaded, or not
+pub Loads-found : {D T : Type 0} (state : D → DeviceState) (b c : D) (found : Option Section) (limit : ℕ) (loaded : Result T BodyFault)
+    → ReadsAtMost (state b) (state c) (body_size found) → (IsSome (first_large limit (one_of found)) → c ≡ b) → OnOk loaded (first_large limit (one_of found) ≡ None)
+    → IfErr loaded (AreRefused (one_of found) limit (state b) (state c)) → Loads (one_of found) limit (state b) (state c) loaded
+Loads-found state b c found limit loaded reads unread small fault =
+    Loads-told state b c (one_of found) limit loaded (ReadsAtMost-within (omega (arith, bytes-one found)) reads) unread small fault
+
+-- the command loads this section alone
+module _ (cmd : Command) (limits : Numbers) (index : Contents) (before after : DeviceState) (of : IsOfBodies cmd limits index)
+    (found : Option Section) (is : bodies cmd (sections_in index) ≡ one_of found) where
+  pub ReadsFor-found : (text : Body → List ℕ) (loaded : Result Body BodyFault) → Loads (one_of found) limits.section before after loaded
+      → IfOk loaded (λ body. IsBodyIn before.now found body.bytes.items) → IfOk loaded (λ body. body.base ≡ base_of found)
+      → ((body : Body) (bytes : List ℕ) → IsIndexed bytes limits index before.now → body.base ≡ base_of found → body.bytes.items ≡ body_in bytes found
+      → (text body ≡ report cmd bytes) × (0 ≡ report_status cmd bytes))
+      → ReadsFor cmd limits index before after text (λ _. 0) (or_stop loaded)
+  ReadsFor-found text (Ok body) loads held based right =
+      ReadsFor-bodies cmd limits index before after text (λ _. 0) (Ok body) of (subst (λ ss. Loads ss limits.section before after (Ok body)) (sym is) loads)
+      (inl refl, λ bytes all. right body bytes all based (subst (λ n. IsBodyIn n found body.bytes.items) all.opened held))
+  ReadsFor-found text (Err fault) loads held based right =
+      ReadsFor-bodies cmd limits index before after text (λ _. 0) (Err fault) of (subst (λ ss. Loads {T = Body} ss limits.section before after (Err fault)) (sym is) loads) tt
+
+-- its report is of the fields of that section
+pub ReadsFor-fields : (cmd : Command) (limits : Numbers) (index : Contents) (before after : DeviceState) (of : IsOfBodies cmd limits index) (found : Option Section)
+    (pick : List Section → Option Section) (loaded : Result Body BodyFault) → found ≡ pick (sections_in index) → ((ss : List Section) → bodies cmd ss ≡ one_of (pick ss))
+    → ((bytes : List ℕ) → (fields_of bytes (pick (sections bytes)) ≡ report cmd bytes) × (0 ≡ report_status cmd bytes))
+    → Loads (one_of found) limits.section before after loaded
+    → IfOk loaded (λ body. IsBodyIn before.now found body.bytes.items) → IfOk loaded (λ body. body.base ≡ base_of found)
+    → ReadsFor cmd limits index before after fields_text (λ _. 0) (or_stop loaded)
+ReadsFor-fields cmd limits index before after of found pick loaded here is right loads held based =
+    ReadsFor-found cmd limits index before after of found (is (sections_in index) ∙ ap one_of (sym here)) fields_text loaded loads held based
+    (λ body bytes all base items. (
+      ap (λ b. fields_report b body.bytes.items) base ∙ ap (fields_report (base_of found)) items
+          ∙ ap (fields_of bytes) (here ∙ ap pick (sections-index bytes index all.of)) ∙ (right bytes).0,
+      (right bytes).1,
+    ))
+
+-- ---- what the exits of functions leave, by the clauses of the last call
+
+-- a fault behind a call that reads is one of both
+pub failed-later : {a b : DeviceState} {count : ℕ} (c : DeviceState) → ReadsAtMost a b count → DeviceFailed b c → DeviceFailed a c
+failed-later c reads rose = omega (arith, reads.later, rose)
+
+-- what is open behind it is what was open before
+pub over-still : {a b : DeviceState} {count : ℕ} (index : Contents) → ReadsAtMost a b count → IsBuiltOver a.now index → IsBuiltOver b.now index
+over-still index reads over = subst (λ n. IsBuiltOver n index) (sym reads.same_now) over
+
+-- ---- a report
+
+-- its text was written
+pub Tells-put : {T E : Type 0} {a b : SinkState} {text : List ℕ} {x : T} → Puts {E = E} a b text (Ok x) → Tells a b text 0 (Ok 0)
+Tells-put puts = (refl, puts.writes.whole)
+
+-- it broke off
+pub Tells-stopped : {T E : Type 0} {a b : SinkState} {text : List ℕ} {e : E} (status : ℕ) (result : Result ℕ Stop)
+    → IsErrAnd result (λ stop. stop ≡ NotWritten) → Puts {T = T} a b text (Err e) → Tells a b text status result
+Tells-stopped status (Ok value) is puts = absurd is
+Tells-stopped {a = a} {b = b} {text = text} status (Err stop) is puts =
+    subst (λ s. Tells a b text status (Err s)) (sym is) (puts.writes.front, puts.failed)
+
+-- there was no memory for it
+pub Tells-kept : (a : SinkState) (text : List ℕ) (status : ℕ) (result : Result ℕ Stop) → IsErrAnd result (λ stop. stop ≡ NoMemory) → Tells a a text status result
+Tells-kept a text status (Ok value) is = absurd is
+Tells-kept a text status (Err stop) is = subst (λ s. Tells a a text status (Err s)) (sym is) refl
+
+-- ---- what the report of `info` is written of is what it says of the dump
+
+chosen : (a b c : Bool) (version : Version) → (if a then Some V03 else (if b then Some V04 else (if c then Some V05 else None))) ≡ Some version
+    → ((a ≡ true) × (version ≡ V03)) ⊎ ((b ≡ true) × (version ≡ V04)) ⊎ ((c ≡ true) × (version ≡ V05))
+chosen true b c version is = inl (refl, let e : version ≡ V03 = cc in e)
+chosen false true c version is = inr (inl (refl, let e : version ≡ V04 = cc in e))
+chosen false false true version is = inr (inr (refl, let e : version ≡ V05 = cc in e))
+chosen false false false version is = absurd (let no_version : ⊥ = cc in no_version)
+
+-- the text of a version is its name
+version_text-named : (id : List ℕ) (version : Version) → version_named id ≡ Some version → version_text version ≡ id
+version_text-named id version is =
+    elim (chosen (bytes_eq id (codes "0.3")) (bytes_eq id (codes "0.4")) (bytes_eq id (codes "0.5")) version is) [
+      | inl p ↦ ap version_text p.1 ∙ sym ((bytes_eq-Decides id (codes "0.3")).0 p.0)
+      | inr rest ↦ elim rest [
+        | inl p ↦ ap version_text p.1 ∙ sym ((bytes_eq-Decides id (codes "0.4")).0 p.0)
+        | inr p ↦ ap version_text p.1 ∙ sym ((bytes_eq-Decides id (codes "0.5")).0 p.0)
+      ]
+    ]
+
+pub info_text-report : (file bytes : List ℕ) (index : Contents) (body : List ℕ) → IsIndexOf bytes index → body ≡ body_in bytes (section_in index (Some 0))
+    → info_report (version_text index.version) index.headers index.size (tag_counts (tags_in index)) body ≡ report (info file) bytes
+info_text-report file bytes index body of held =
+    let same = sections-index bytes index of in
+    let tags = tag_counts (tags_in index) in
+    ap (λ v. info_report v index.headers index.size tags body) (version_text-named (first_id bytes) index.version of.version)
+    ∙ ap (λ hs. info_report (first_id bytes) hs index.size tags body) of.headers
+    ∙ ap (λ n. info_report (first_id bytes) (headers bytes) n tags body) of.size
+    ∙ ap (λ ss. info_report (first_id bytes) (headers bytes) (length bytes) (tag_counts (tags_of ss)) body) same
+    ∙ ap (λ b. info_report (first_id bytes) (headers bytes) (length bytes) (tag_counts (tags_of (sections bytes))) b)
+    (held ∙ ap (λ ss. body_of bytes (first_section ss)) same)

@@ -17,8 +17,7 @@ use Rattle.report_text.specs.declared.refusals.Refusal.TheVariants.{SectionTooLa
 use Rattle.command_words.specs.Command.{redact}
 use Rattle.dump_command.specs.Report.{refusal}
 use Rattle.dump_command.specs.Run.{HasStopped, IsDumpOf, IsLeftOf}
-use Rattle.dump_command.specs.Inner.Opened.{HasOpened}
-use Rattle.dump_command.specs.Inner.Reading.{Takes}
+use Rattle.dump_command.specs.Inner.Reading.{HasOpened, Takes}
 use Rattle.dump_command.specs.Inner.Runs.{Runs}
 use Rattle.dump_command.specs.Inner.Stops.{redact_end}
 use Rattle.dump_command.proofs.Runs.{through, IsThrough}

@@ -1,36 +1,153 @@
--- The heaps of a redacted dump differ in the characters of their binaries alone.
-use Rattle.std.proofs.Common.{◌≡◌, ◌⊎◌, ℕ, ◌+◌, ◌-◌, Bool, true, false, List, [], ◌∷◌, ◌++◌, length, map, codes, Option, None, Some, if◌then◌else◌, refl, sym, ◌∙◌, ap, subst, inl, inr}
-use Rattle.std.specs.Prelude.{All, ◌==◌, cond, find, min, option_and_then, option_map}
-use Rattle.std.specs.List.{between, cons_option, filter_map, list_any}
+-- The findings, the heaps and the trees of a redacted dump differ in the characters of binaries on heaps alone.
+use Rattle.term_unfold.specs.declared.node.NodeKind.TheVariants as kinds
+use Rattle.std.proofs.Common.{◌≡◌, ℕ, Bool, true, false, List, [], ◌∷◌, map, codes, Option, None, Some, if◌then◌else◌, refl, sym, ◌∙◌, ap, ◌⊎◌, ◌+◌, ◌-◌, ◌++◌, length, subst, inl, inr, zero, suc, take}
+use Rattle.std.specs.Prelude.{All, ◌&&◌, is_some, get_or, ◌==◌, cond, find, min, option_and_then, option_map, nat_lt, not}
 use Rattle.std.specs.Option.{option_eq}
 use Rattle.std.specs.Str.{bytes_eq}
-use Rattle.std.proofs.lemmas.List.{length-drop, length-map, length-take, map-append}
-use Rattle.std.proofs.lemmas.List.Elements.{All-head, All-tail}
+use Rattle.std.specs.List.{between, cons_option, filter_map, list_any, position_or_len, slice_get, take-map}
+use Rattle.std.proofs.lemmas.List.Elements.{All-nil, All-cons, All-head, All-tail, All-filter, filter_passes}
+use Rattle.std.proofs.lemmas.List.Quantifiers.{position-Some}
+use Rattle.std.proofs.lemmas.Option.{unwrap_or-slice_get, slice_get-map}
 use Rattle.std.proofs.lemmas.Slice.Eq.{bytes_eq-Decides}
-use Rattle.dump_io.specs.Lines.{Line, lines_from, raw_lines, text_of}
+use Rattle.std.proofs.lemmas.List.{length-drop, length-map, length-take, map-append}
+use Rattle.dump_io.specs.Lines.{headers, Line, lines_from, raw_lines, text_of}
+use Rattle.dump_sections.specs.Index.{index_of, state_of}
 use Rattle.dump_sections.specs.Lookups.{has_tag, is_named}
-use Rattle.dump_sections.specs.Sections.{Section, sections, id_of, tag_of}
+use Rattle.dump_sections.specs.Sections.{Section, section, sections, id_of, tag_of}
+use Rattle.dump_sections.specs.declared.index.State.{State}
+use Rattle.section_rows.specs.Rows.{body_of}
+use Rattle.process_table.specs.Processes.{Process, ProcessTable, process_in, process_table}
+use Rattle.process_table.specs.Records.{Placed, first_of_each, is_process, placed, process_sections, records, repeated}
+use Rattle.audit_bodies.specs.Mailboxes.{mail_in, mailbox_place, mailbox_places, mails, pids_in, section_in}
+use Rattle.root_views.specs.Roots.{message_count}
+use Rattle.dump_audit.specs.Findings.{audit_of, findings, is_cut}
+use Rattle.dump_audit.specs.Laws.{all-numbered}
 use Rattle.binary_payloads.specs.declared.enc.Enc.{Enc}
-use Rattle.term_forms.specs.Forms.{HeapForm, HeapBin}
+use Rattle.dump_redact.specs.Bodies.{redacted_body, heap_line}
+use Rattle.dump_redact.specs.Laws.{IsRedacted, KeepsIndex, KeepsOthers, KeepsSections, KeepsState, RedactsSections, KeepsLength, RedactsLines}
+use Rattle.heap_cells.specs.Loading.{enc_of, body_in}
+use Rattle.dump_redact.specs.Redacted.{part_of, redacted, version_of, bin_chars, without}
+use Rattle.term_forms.specs.Forms.{HeapForm, HeapBin, Cons, Tuple, RefBin, SubBin, Flat, Node}
 use Rattle.term_forms.specs.ReadingForms.{form_of}
 use Rattle.term_forms.specs.Words.{led_of}
 use Rattle.heap_cells.specs.Cells.{Cell, addresses, cell_of, cells_of, first_cells, line_cells, own_count, spelled_cell}
-use Rattle.heap_cells.specs.HeapMap.{HeapMap}
-use Rattle.heap_cells.specs.Loading.{body_in, enc_of}
-use Rattle.dump_redact.specs.Bodies.{heap_line, redacted_body}
-use Rattle.dump_redact.specs.Laws.{IsRedacted, KeepsIndex, KeepsLength, KeepsSections, RedactsLines, RedactsSections}
+use Rattle.heap_cells.specs.HeapMap.{HeapMap, form_at, number_at}
 use Rattle.dump_redact.specs.Payloads.{KeepsBinaries}
-use Rattle.dump_redact.specs.Redacted.{bin_chars, part_of, redacted, without}
-use Rattle.dump_command.proofs.SameFindings.{left-holds}
-use Rattle.dump_command.specs.Laws.{KeepsAddresses, KeepsHeaps, blank_cell, blank_form, blank_heap}
-use Rattle.dump_command.specs.Terms.{heap_body, heap_map, heap_of, heap_with, literals_body, literals_of, payloads_of}
+use Rattle.term_forms.specs.Elements.{Element, Ref}
+use Rattle.cell_records.specs.declared.cells.Why.TheVariants.{Missing, Malformed, OnPath}
+use Rattle.binary_refs.specs.declared.entries.Entry.{Entry}
+use Rattle.term_unfold.specs.Leaves.{leaf_text}
+use Rattle.term_unfold.specs.Rules.{Child, Term, Item, Opening, leaf, bad, node, is_on, unless_on, terms, items, pairs, flat_opening, form_opening, cell_opening, term_opening, opening}
+use Rattle.term_unfold.specs.Trees.{Value, OfCell, Tree, Leaf, Bad, Branch, Trees, none, more, pre, pre_all, seen, or_else, first_bad, verdict}
+use Rattle.term_unfold.specs.Unfolding.{trees, grown, unfold_by, unfolded, unfolding_of}
+use Rattle.root_views.specs.declared.kinds.RootKind.{RootKind}
+use Rattle.root_views.specs.declared.kinds.RootKind.TheVariants.{Stack}
+use Rattle.root_views.specs.Kinds.{roots_in, roots_tag}
+use Rattle.dump_command.specs.Laws.{KeepsFindings, KeepsProcesses, KeepsAddresses, KeepsHeaps, blank_cell, blank_form, blank_heap, KeepsLeaves, KeepsRoots, KeepsTrees, KeepsVerdicts, blank_tree, blank_trees, blank_value, is_binary}
+use Rattle.dump_command.specs.Terms.{heap_body, heap_map, heap_of, heap_with, literals_body, literals_of, payloads_of, previews_in, roots_section}
+
+-- ---- lists
+
+map-same : {X Y : Type 0} (f g : X → Y) (xs : List X) → All (λ x. f x ≡ g x) xs → map f xs ≡ map g xs
+map-same f g [] same = refl
+map-same f g (x ∷ xs) same =
+    ap (λ y. y ∷ map f xs) (All-head (λ x. f x ≡ g x) x xs same) ∙ ap (λ ys. g x ∷ ys) (map-same f g xs (All-tail (λ x. f x ≡ g x) x xs same))
+
+all-firsts : (P : Placed → Type 0) (ps : List Placed) → All P ps → All P (first_of_each ps)
+all-firsts P [] all = All-nil P
+all-firsts P (p ∷ ps) all =
+    All-cons P p _ (All-head P p ps all) (All-filter _ P (first_of_each ps) (all-firsts P ps (All-tail P p ps all)))
+
+-- ---- sections in which no payload stands
+
+pub left-holds : (a b : Bool) → (a && b) ≡ true → a ≡ true
+left-holds true b is = refl
+left-holds false b is = is
+
+pub tag-other : (tag text : List ℕ) → part_of tag ≡ part_of [] → has_tag tag text ≡ true → part_of (tag_of text) ≡ part_of []
+tag-other tag text other has = ap part_of ((bytes_eq-Decides (tag_of text) tag).0 has) ∙ other
+
+process-other : (s : Section) → is_process s ≡ true → part_of (tag_of s.text) ≡ part_of []
+process-other s is = tag-other (codes "proc") s.text refl (left-holds (has_tag (codes "proc") s.text) (is_some (id_of s.text)) is)
+
+mail-other : (pid : List ℕ) (s : Section) → is_named (codes "proc_messages") (Some pid) s.text ≡ true → part_of (tag_of s.text) ≡ part_of []
+mail-other pid s is =
+    tag-other (codes "proc_messages") s.text refl (left-holds (has_tag (codes "proc_messages") s.text) (option_eq bytes_eq (id_of s.text) (Some pid)) is)
+
+module _ (enc : Enc) (before after : List ℕ) (others : KeepsOthers) where
+  pub same-body : (s : Section) → IsRedacted enc before after s → part_of (tag_of s.text) ≡ part_of [] → body_of after s ≡ body_of before s
+  same-body s is other = is.body ∙ ap (λ p. redacted_body enc p (body_of before s)) other ∙ others enc (body_of before s)
+
+  -- ---- the processes
+
+  module _ (ss : List Section) (all : All (IsRedacted enc before after) ss) where
+    same-bodies : All (λ p. body_of after p.1 ≡ body_of before p.1) (records ss)
+    same-bodies =
+        let placed_all : All (λ p. IsRedacted enc before after p.1) (placed ss) = all-numbered (IsRedacted enc before after) 0 ss all in
+        let kept = All-filter (λ p. is_process p.1) (λ p. IsRedacted enc before after p.1) (placed ss) placed_all in
+        let passed = filter_passes (λ p. is_process p.1) (placed ss) in
+        all-firsts (λ p. body_of after p.1 ≡ body_of before p.1) (process_sections (placed ss))
+        (λ k d l. let s = (get_or (process_sections (placed ss)) k d).1 in same-body s (kept k d l) (process-other s (passed k d l)))
+
+    same-processes : map (λ p. process_in p (body_of after p.1)) (records ss) ≡ map (λ p. process_in p (body_of before p.1)) (records ss)
+    same-processes =
+        map-same (λ p. process_in p (body_of after p.1)) (λ p. process_in p (body_of before p.1)) (records ss)
+        (λ k d l. ap (process_in (get_or (records ss) k d)) (same-bodies k d l))
+
+    -- ---- the messages
+
+    mailbox-body : (pid : List ℕ) (place : ℕ) → mailbox_place ss pid ≡ Some place → body_of after (section_in ss place) ≡ body_of before (section_in ss place)
+    mailbox-body pid place is =
+        let test : Section → Bool = λ s. is_named (codes "proc_messages") (Some pid) s.text in
+        let there = position-Some test ss place (section 0 0 0 []) is in
+        let at : section_in ss place ≡ get_or ss place (section 0 0 0 []) = unwrap_or-slice_get ss place (section 0 0 0 []) in
+        ap (body_of after) at
+        ∙ same-body (get_or ss place (section 0 0 0 [])) (all place (section 0 0 0 []) there.0) (mail-other pid (get_or ss place (section 0 0 0 [])) there.1)
+        ∙ ap (body_of before) (sym at)
+
+    same-mail : (state : State) (pid : List ℕ) (place : Option ℕ) → mailbox_place ss pid ≡ place → mail_in after state ss place ≡ mail_in before state ss place
+    same-mail state pid None is = refl
+    same-mail state pid (Some place) is = ap (λ body. if is_cut state place then None else Some (message_count body)) (mailbox-body pid place is)
+
+    same-mails : (state : State) (pids : List (List ℕ)) → map (mail_in after state ss) (map (mailbox_place ss) pids) ≡ map (mail_in before state ss) (map (mailbox_place ss) pids)
+    same-mails state [] = refl
+    same-mails state (pid ∷ pids) =
+        ap (λ m. m ∷ map (mail_in after state ss) (map (mailbox_place ss) pids)) (same-mail state pid (mailbox_place ss pid) refl)
+        ∙ ap (λ ms. mail_in before state ss (mailbox_place ss pid) ∷ ms) (same-mails state pids)
+
+-- ---- the dump
+
+abbrev table_with : List Process → ℕ → ProcessTable
+table_with processes times = record { processes = processes; repeated = times }
+
+module _ (same : KeepsSections) (redacts : RedactsSections) (others : KeepsOthers) where
+  pub keeps-processes : KeepsProcesses
+  keeps-processes bytes =
+      ap (λ ss. table_with (map (λ p. process_in p (body_of (redacted bytes) p.1)) (records ss)) (repeated ss)) (same bytes)
+      ∙ ap (λ ps. table_with ps (repeated (sections bytes)))
+      (same-processes (enc_of (version_of bytes)) bytes (redacted bytes) others (sections bytes) (redacts bytes))
+
+  module _ (state : KeepsState) (index : KeepsIndex) where
+    keeps-mails : (bytes : List ℕ) → mails (redacted bytes) ≡ mails bytes
+    keeps-mails bytes =
+        ap (λ s. map (mail_in (redacted bytes) s (sections (redacted bytes))) (mailbox_places (sections (redacted bytes)))) (state bytes)
+        ∙ ap (λ ss. map (mail_in (redacted bytes) (state_of (headers bytes)) ss) (mailbox_places ss)) (same bytes)
+        ∙ same-mails (enc_of (version_of bytes)) bytes (redacted bytes) others (sections bytes) (redacts bytes) (state_of (headers bytes)) (pids_in (sections bytes))
+
+    pub keeps-findings : KeepsFindings
+    keeps-findings bytes limit full =
+        ap (λ i. findings (audit_of i (process_table (redacted bytes)).processes limit (if full then Some (mails (redacted bytes)) else None))) (index bytes)
+        ∙ ap (λ t. findings (audit_of (index_of bytes) t.processes limit (if full then Some (mails (redacted bytes)) else None))) (keeps-processes bytes)
+        ∙ ap (λ m. findings (audit_of (index_of bytes) (process_table bytes).processes limit (if full then Some m else None))) (keeps-mails bytes)
+
+-- ---- the heaps of a redacted dump differ in the characters of their binaries alone
 
 -- ---- the first of a list that passes a test
 
 pub found-is : {X : Type 0} (R : X → Type 0) (P : Option X → Type 0) (test : X → Bool) (xs : List X) → P None → ((x : X) → R x → test x ≡ true → P (Some x)) → All R xs
     → P (find test xs)
-found-is R P test [] none some all = none
-found-is R P test (x ∷ xs) none some all = by (test x) refl (found-is R P test xs none some (All-tail R x xs all))
+found-is R P test [] absent some all = absent
+found-is R P test (x ∷ xs) absent some all = by (test x) refl (found-is R P test xs absent some (All-tail R x xs all))
   where
     by : (b : Bool) → test x ≡ b → P (find test xs) → P (find test (x ∷ xs))
     by true e rest = subst (λ b. P (cond b (Some x) (find test xs))) (sym e) (some x (All-head R x xs all) e)
@@ -58,7 +175,7 @@ module _ (enc : Enc) where
 
   -- a line in which no payload stands
   unchanged : (raw : List ℕ) → chars_of (led_of (text_of raw)) ≡ None → heap_line enc raw ≡ raw
-  unchanged raw none = ap (without enc raw) none
+  unchanged raw absent = ap (without enc raw) absent
 
   module _ (keeps : KeepsBinaries enc) where
     line-cell : (raw : List ℕ) → led_cell (heap_line enc raw) ≡ option_map (blank_cell enc) (led_cell raw)
@@ -195,3 +312,269 @@ module _ (sized : KeepsLength) (same : KeepsSections) (index : KeepsIndex) (reda
 
   pub keeps-addresses : KeepsAddresses
   keeps-addresses bytes pid = ap (λ h. addresses h.cells) (keeps-heaps bytes pid) ∙ same-addresses (payloads_of bytes) (heap_map pid bytes).cells
+
+-- ---- the trees of a redacted dump's terms differ in the characters of binaries on the heap alone
+
+-- ---- what the maps of a heap open, by the number of a cell and its form: the rules of map_nodes in the words of this crate, which
+-- doesn't stand on it
+
+-- a flat map at an address, by the cell of its keys
+abbrev keyed_by : ℕ → ℕ → List Element → Option HeapForm → Opening
+keyed_by k a values (Some (Tuple elements)) = if length elements == length values then node a kinds.Flat (pairs elements values) else bad k Malformed
+keyed_by k a values form = bad k Malformed
+
+-- the same by the number of that cell
+abbrev keyed_at : List Cell → ℕ → ℕ → List Element → Option ℕ → Opening
+keyed_at heap k a values None = bad k Missing
+keyed_at heap k a values (Some n) = keyed_by k a values (form_at heap n)
+
+-- an item of a hash map, by its cell
+abbrev item_by : ℕ → Option HeapForm → Opening
+item_by a (Some (Cons head tail)) = node a kinds.Pair (terms (head ∷ tail ∷ []))
+item_by a (Some (Tuple elements)) = node a kinds.Inner (items a elements)
+item_by a (Some (Node children)) = node a kinds.Inner (items a children)
+item_by a form = bad a Malformed
+
+-- the same by the number of that cell
+abbrev item_at : List Cell → ℕ → Option ℕ → Opening
+item_at heap a None = bad a Missing
+item_at heap a (Some n) = item_by a (form_at heap n)
+
+-- a flat map with a value, whose keys element is a reference
+module _ (heap : List Cell) (path : List ℕ) (a k : ℕ) (value : Element) (values : List Element) where
+  abbrev FlatIs : Type 0
+  FlatIs = flat_opening heap path a (Ref k) (value ∷ values) ≡ unless_on (a ∷ path) (Ref k) (keyed_at heap k a (value ∷ values) (number_at heap k))
+
+  flat-tuple : (n : ℕ) (elements : List Element) → number_at heap k ≡ Some n → form_at heap n ≡ Some (Tuple elements)
+      → (fits : Bool) → (length elements == length (value ∷ values)) ≡ fits → FlatIs
+  flat-tuple n elements e f true fits = rw (e, f, fits) refl
+  flat-tuple n elements e f false fits = rw (e, f, fits) refl
+
+  flat-form : (n : ℕ) → number_at heap k ≡ Some n → (form : Option HeapForm) → form_at heap n ≡ form → FlatIs
+  flat-form n e (Some (Tuple elements)) f = flat-tuple n elements e f (length elements == length (value ∷ values)) refl
+  flat-form n e form f = rw (e, f) refl
+
+  flat-number : (found : Option ℕ) → number_at heap k ≡ found → FlatIs
+  flat-number None e = rw e refl
+  flat-number (Some n) e = flat-form n e (form_at heap n) refl
+
+  flat-is : FlatIs
+  flat-is = flat-number (number_at heap k) refl
+
+-- an item of a hash map that is a reference
+module _ (heap : List Cell) (path : List ℕ) (parent a : ℕ) where
+  abbrev ItemIs : Type 0
+  ItemIs = opening heap path (Item parent (Ref a)) ≡ unless_on path (Ref a) (item_at heap a (number_at heap a))
+
+  item-form : (n : ℕ) → number_at heap a ≡ Some n → (form : Option HeapForm) → form_at heap n ≡ form → ItemIs
+  item-form n e None f = rw (e, f) refl
+  item-form n e (Some (Cons head tail)) f = rw (e, f) refl
+  item-form n e form f = rw (e, f) refl
+
+  item-number : (found : Option ℕ) → number_at heap a ≡ found → ItemIs
+  item-number None e = rw e refl
+  item-number (Some n) e = item-form n e (form_at heap n) refl
+
+  item-is : ItemIs
+  item-is = item-number (number_at heap a) refl
+
+module _ (enc : Enc) where
+  -- ---- cells by their addresses
+
+  abbrev blanked : List Cell → List Cell
+  blanked heap = map (blank_cell enc) heap
+
+  first-same : (a : ℕ) (heap : List Cell) → position_or_len (λ (c : Cell). c.address == a) (blanked heap) ≡ position_or_len (λ (c : Cell). c.address == a) heap
+  first-same a [] = refl
+  first-same a (c ∷ cs) = ap (λ n. cond (not (c.address == a)) (1 + n) 0) (first-same a cs)
+
+  number-same : (heap : List Cell) (a : ℕ) → number_at (blanked heap) a ≡ number_at heap a
+  number-same heap a =
+      let n = position_or_len (λ (c : Cell). c.address == a) heap in
+      ap (λ m. cond (nat_lt m (length (blanked heap))) (Some m) None) (first-same a heap)
+      ∙ ap (λ m. cond (nat_lt n m) (Some n) None) (length-map heap (blank_cell enc))
+
+  cell-form : (found : Option Cell) → option_and_then (λ (c : Cell). c.form) (option_map (blank_cell enc) found) ≡ option_map (blank_form enc) (option_and_then (λ (c : Cell). c.form) found)
+  cell-form None = refl
+  cell-form (Some c) = refl
+
+  form-same : (heap : List Cell) (n : ℕ) → form_at (blanked heap) n ≡ option_map (blank_form enc) (form_at heap n)
+  form-same heap n = ap (option_and_then (λ (c : Cell). c.form)) (slice_get-map (blank_cell enc) heap n) ∙ cell-form (slice_get heap n)
+
+  -- the form of the cell that has the address
+  abbrev form_with : List Cell → ℕ → Option (Option HeapForm)
+  form_with heap a = option_map (form_at heap) (number_at heap a)
+
+  with-number : (heap : List Cell) (found : Option ℕ) → option_map (form_at (blanked heap)) found ≡ option_map (option_map (blank_form enc)) (option_map (form_at heap) found)
+  with-number heap None = refl
+  with-number heap (Some n) = ap Some (form-same heap n)
+
+  with-same : (heap : List Cell) (a : ℕ) → form_with (blanked heap) a ≡ option_map (option_map (blank_form enc)) (form_with heap a)
+  with-same heap a = ap (option_map (form_at (blanked heap))) (number-same heap a) ∙ with-number heap (number_at heap a)
+
+  -- ---- what a child opens
+
+  abbrev blank_opening : Opening → Opening
+  blank_opening (leaf value) = leaf (blank_value enc value)
+  blank_opening (bad a why) = bad a why
+  blank_opening (node a kind children) = node a kind children
+
+  unless-same : (path : List ℕ) (e : Element) (off : Opening) → unless_on path e (blank_opening off) ≡ blank_opening (unless_on path e off)
+  unless-same path (Ref a) off =
+      elim (is_on a path) as (λ b. (if b then bad a OnPath else blank_opening off) ≡ blank_opening (if b then bad a OnPath else off)) [
+        | true ↦ refl
+        | false ↦ refl
+      ]
+  unless-same path e off = refl
+
+  -- what a map opens is no leaf
+  keyed-blank : (k a : ℕ) (values : List Element) (form : Option HeapForm) → keyed_by k a values (option_map (blank_form enc) form) ≡ blank_opening (keyed_by k a values form)
+  keyed-blank k a values (Some (Tuple elements)) =
+      elim (length elements == length values) as (λ b. (if b then node a kinds.Flat (pairs elements values) else bad k Malformed) ≡ blank_opening (if b then node a kinds.Flat (pairs elements values) else bad k Malformed)) [
+        | true ↦ refl
+        | false ↦ refl
+      ]
+  keyed-blank k a values form = refl
+
+  keyed-opens : (heap : List Cell) (k a : ℕ) (values : List Element) (found : Option ℕ) → keyed_at (blanked heap) k a values found ≡ blank_opening (keyed_at heap k a values found)
+  keyed-opens heap k a values None = refl
+  keyed-opens heap k a values (Some n) = ap (keyed_by k a values) (form-same heap n) ∙ keyed-blank k a values (form_at heap n)
+
+  item-blank : (a : ℕ) (form : Option HeapForm) → item_by a (option_map (blank_form enc) form) ≡ blank_opening (item_by a form)
+  item-blank a None = refl
+  item-blank a (Some (Cons head tail)) = refl
+  item-blank a form = refl
+
+  item_at-opens : (heap : List Cell) (a : ℕ) (found : Option ℕ) → item_at (blanked heap) a found ≡ blank_opening (item_at heap a found)
+  item_at-opens heap a None = refl
+  item_at-opens heap a (Some n) = ap (item_by a) (form-same heap n) ∙ item-blank a (form_at heap n)
+
+  flat-same : (heap : List Cell) (path : List ℕ) (a : ℕ) (keys : Element) (values : List Element)
+      → flat_opening (blanked heap) path a keys values ≡ blank_opening (flat_opening heap path a keys values)
+  flat-same heap path a keys [] = refl
+  flat-same heap path a (Ref k) (value ∷ values) =
+      let off = keyed_at heap k a (value ∷ values) (number_at heap k) in
+      flat-is (blanked heap) path a k value values
+      ∙ ap (unless_on (a ∷ path) (Ref k)) (ap (keyed_at (blanked heap) k a (value ∷ values)) (number-same heap k) ∙ keyed-opens heap k a (value ∷ values) (number_at heap k))
+      ∙ unless-same (a ∷ path) (Ref k) off
+      ∙ ap blank_opening (sym (flat-is heap path a k value values))
+  flat-same heap path a keys (value ∷ values) = refl
+
+  form-opens : (heap : List Cell) (path : List ℕ) (a : ℕ) (form : Option HeapForm)
+      → form_opening (blanked heap) path a (option_map (blank_form enc) form) ≡ blank_opening (form_opening heap path a form)
+  form-opens heap path a (Some (Flat keys values)) = flat-same heap path a keys values
+  form-opens heap path a form = refl
+
+  cell-opens : (heap : List Cell) (path : List ℕ) (a : ℕ) (found : Option (Option HeapForm))
+      → cell_opening (blanked heap) path a (option_map (option_map (blank_form enc)) found) ≡ blank_opening (cell_opening heap path a found)
+  cell-opens heap path a None = refl
+  cell-opens heap path a (Some form) = form-opens heap path a form
+
+  term-opens : (heap : List Cell) (path : List ℕ) (e : Element) → term_opening (blanked heap) path e ≡ blank_opening (term_opening heap path e)
+  term-opens heap path (Ref a) = ap (cell_opening (blanked heap) path a) (with-same heap a) ∙ cell-opens heap path a (form_with heap a)
+  term-opens heap path e = refl
+
+  item-opens : (heap : List Cell) (path : List ℕ) (parent : ℕ) (e : Element) → opening (blanked heap) path (Item parent e) ≡ blank_opening (opening heap path (Item parent e))
+  item-opens heap path parent (Ref a) =
+      item-is (blanked heap) path parent a
+      ∙ ap (unless_on path (Ref a)) (ap (item_at (blanked heap) a) (number-same heap a) ∙ item_at-opens heap a (number_at heap a))
+      ∙ unless-same path (Ref a) (item_at heap a (number_at heap a))
+      ∙ ap blank_opening (sym (item-is heap path parent a))
+  item-opens heap path parent e = refl
+
+  opens-same : (heap : List Cell) (path : List ℕ) (child : Child) → opening (blanked heap) path child ≡ blank_opening (opening heap path child)
+  opens-same heap path (Term e) = ap (unless_on path e) (term-opens heap path e) ∙ unless-same path e (term_opening heap path e)
+  opens-same heap path (Item parent e) = item-opens heap path parent e
+
+  -- ---- the trees
+
+  trees-same : (new old : Child → Tree) → ((child : Child) → new child ≡ blank_tree enc (old child)) → (children : List Child) → trees new children ≡ blank_trees enc (trees old children)
+  trees-same new old same [] = refl
+  trees-same new old same (child ∷ children) =
+      ap (λ t. more t (trees new children)) (same child) ∙ ap (more (blank_tree enc (old child))) (trees-same new old same children)
+
+  grown-same : (new old : ℕ → Child → Tree) → ((a : ℕ) (child : Child) → new a child ≡ blank_tree enc (old a child)) → (off : Opening)
+      → grown new (blank_opening off) ≡ blank_tree enc (grown old off)
+  grown-same new old same (leaf value) = refl
+  grown-same new old same (bad a why) = refl
+  grown-same new old same (node a kind children) = ap (Branch kind) (trees-same (new a) (old a) (same a) children)
+
+  levels-same : (levels : ℕ) (heap : List Cell) (path : List ℕ) (child : Child) → unfold_by levels (blanked heap) path child ≡ blank_tree enc (unfold_by levels heap path child)
+  unfolding unfold_by
+  levels-same zero heap path child = refl
+  levels-same (suc levels) heap path child =
+      ap (grown (λ a. unfold_by levels (blanked heap) (a ∷ path))) (opens-same heap path child)
+      ∙ grown-same (λ a. unfold_by levels (blanked heap) (a ∷ path)) (λ a. unfold_by levels heap (a ∷ path)) (λ a below. levels-same levels heap (a ∷ path) below) (opening heap path child)
+
+  pub unfolds-same : (heap : List Cell) (path : List ℕ) (child : Child) → unfolded (blanked heap) path child ≡ blank_tree enc (unfolded heap path child)
+  unfolding unfolded
+  unfolds-same heap path child =
+      ap (λ n. unfold_by (suc n - length path) (blanked heap) path child) (length-map heap (blank_cell enc)) ∙ levels-same (suc (length heap) - length path) heap path child
+
+  -- ---- verdicts
+
+  mutual
+    pre-same : (t : Tree) → pre (blank_tree enc t) ≡ map (blank_tree enc) (pre t)
+    pre-same (Leaf value) = refl
+    pre-same (Bad address why) = refl
+    pre-same (Branch kind children) = ap (λ l. Branch kind (blank_trees enc children) ∷ l) (pre_all-same children)
+
+    pre_all-same : (ts : Trees) → pre_all (blank_trees enc ts) ≡ map (blank_tree enc) (pre_all ts)
+    pre_all-same none = refl
+    pre_all-same (more t ts) =
+        ap (λ l. l ++ pre_all (blank_trees enc ts)) (pre-same t) ∙ ap (λ l. map (blank_tree enc) (pre t) ++ l) (pre_all-same ts)
+        ∙ sym (map-append (blank_tree enc) (pre t) (pre_all ts))
+
+  seen-same : (t : Tree) → seen (blank_tree enc t) ≡ seen t
+  seen-same (Leaf value) = refl
+  seen-same t = refl
+
+  first_bad-same : (ts : List Tree) → first_bad (map (blank_tree enc) ts) ≡ first_bad ts
+  first_bad-same [] = refl
+  first_bad-same (t ∷ ts) = ap (λ v. or_else v (first_bad (map (blank_tree enc) ts))) (seen-same t) ∙ ap (or_else (seen t)) (first_bad-same ts)
+
+  pub verdict-same : (t : Tree) (n : ℕ) → verdict (blank_tree enc t) n ≡ verdict t n
+  verdict-same t n = ap (λ l. first_bad (take n l)) (pre-same t) ∙ ap first_bad (take-map (blank_tree enc) n (pre t)) ∙ first_bad-same (take n (pre t))
+
+  -- ---- the texts of leaves
+
+  text-same : (new old : List Cell) (after before : List Entry) (value : Value) → is_binary value ≡ false → leaf_text enc new after (blank_value enc value) ≡ leaf_text enc old before value
+  text-same new old after before (OfCell a (HeapBin size chars)) is = absurd (let no : ⊥ = cc is in no)
+  text-same new old after before (OfCell a (RefBin address offset size)) is = absurd (let no : ⊥ = cc is in no)
+  text-same new old after before (OfCell a (SubBin address offset size)) is = absurd (let no : ⊥ = cc is in no)
+  text-same new old after before value is = refl
+
+-- ---- the dump
+
+module _ (heaps : KeepsHeaps) where
+  pub keeps-trees : KeepsTrees
+  keeps-trees bytes pid root =
+      ap (λ (h : HeapMap). unfolding_of h.cells root) (heaps bytes pid) ∙ unfolds-same (payloads_of bytes) (heap_map pid bytes).cells [] (Term root)
+
+  pub keeps-verdicts : KeepsVerdicts
+  keeps-verdicts bytes pid root nodes =
+      ap (λ t. verdict t nodes) (keeps-trees bytes pid root) ∙ verdict-same (payloads_of bytes) (unfolding_of (heap_map pid bytes).cells root) nodes
+
+  pub keeps-leaves : KeepsLeaves
+  keeps-leaves bytes pid value is =
+      let new = heap_map pid (redacted bytes) in
+      let old = heap_map pid bytes in
+      ap (λ e. leaf_text e new.cells (previews_in (redacted bytes) new) (blank_value (payloads_of bytes) value)) (ap (λ (h : HeapMap). h.enc) (heaps bytes pid))
+      ∙ text-same (payloads_of bytes) new.cells old.cells (previews_in (redacted bytes) new) (previews_in bytes old) value is
+
+kind-other : (kind : RootKind) → part_of (roots_tag kind) ≡ part_of []
+kind-other Stack = refl
+kind-other kind = refl
+
+module _ (same : KeepsSections) (redacts : RedactsSections) (others : KeepsOthers) where
+  pub keeps-roots : KeepsRoots
+  keeps-roots kind bytes pid =
+      let enc = enc_of (version_of bytes) in
+      let tag = roots_tag kind in
+      let test : Section → Bool = λ s. is_named tag (Some pid) s.text in
+      ap (λ ss. roots_in kind (body_in (redacted bytes) (roots_section kind pid ss))) (same bytes)
+      ∙ ap (roots_in kind) (
+      found-is (IsRedacted enc bytes (redacted bytes)) (λ found. body_in (redacted bytes) found ≡ body_in bytes found) test (sections bytes) refl
+      (λ s is passes. same-body enc bytes (redacted bytes) others s is
+      (tag-other tag s.text (kind-other kind) (left-holds (has_tag tag s.text) (option_eq bytes_eq (id_of s.text) (Some pid)) passes))) (redacts bytes)
+      )

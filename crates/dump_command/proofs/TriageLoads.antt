@@ -22,15 +22,13 @@ use Rattle.command_words.specs.Command.{triage}
 use Rattle.process_table.specs.Processes.{process_table}
 use Rattle.dump_command.specs.Report.{first_section, memory_section, one_of, refusal_listed, report, told_in, triage_sections}
 use Rattle.dump_command.specs.Triage.{Told, triage_over}
-use Rattle.dump_command.specs.Inner.Opened.{IsIndexed}
-use Rattle.dump_command.specs.Inner.Reading.{HasRead, IsHalted, Takes}
+use Rattle.dump_command.specs.Inner.Reading.{IsIndexed, HasRead, IsHalted, Takes}
 use Rattle.dump_command.specs.Inner.Stops.{stop_of_body}
 use Rattle.dump_command.specs.declared.stop.Stop.TheVariants.{NoMemory}
-use Rattle.dump_command.specs.Inner.TriageLoads.{shown_bodies, triage_text, AreFound, HoldsBodies, ReadsBodies}
+use Rattle.dump_command.specs.Inner.Loads.{shown_bodies, triage_text, AreFound, HoldsBodies, ReadsBodies}
 use Rattle.dump_command.specs.declared.commands.triage.Places.{Places}
 use Rattle.dump_command.specs.declared.commands.triage.Loaded.{Loaded}
-use Rattle.dump_command.proofs.FoundLoads.{bytes-one}
-use Rattle.dump_command.proofs.Reading.{body_fault, refused, HasRead-listed, StopsFor-large, Takes-listed, Takes-none}
+use Rattle.dump_command.proofs.Reading.{bytes-one, body_fault, refused, HasRead-listed, StopsFor-large, Takes-listed, Takes-none}
 use Rattle.dump_command.proofs.Runs.{sections-index}
 
 -- bodies of which none is too large aren't read where the device fails or memory lacks

@@ -97,17 +97,12 @@ KeepsTrees = (bytes pid : List ℕ) (root : Element) → tree_in pid root (redac
 abbrev pub KeepsVerdicts : Type 0
 KeepsVerdicts = (bytes pid : List ℕ) (root : Element) (nodes : ℕ) → verdict (tree_in pid root (redacted bytes)) nodes ≡ verdict (tree_in pid root bytes) nodes
 
--- a form that is a heap binary, a reference to a binary or a sub binary
-abbrev pub is_binary_form : HeapForm → Bool
-is_binary_form (HeapBin size chars) = true
-is_binary_form (RefBin address offset size) = true
-is_binary_form (SubBin address offset size) = true
-is_binary_form form = false
-
--- a leaf that holds such a form
+-- a leaf that holds a heap binary, a reference to a binary or a sub binary
 abbrev pub is_binary : Value → Bool
-is_binary (Immediate element) = false
-is_binary (OfCell a form) = is_binary_form form
+is_binary (OfCell a (HeapBin size chars)) = true
+is_binary (OfCell a (RefBin address offset size)) = true
+is_binary (OfCell a (SubBin address offset size)) = true
+is_binary value = false
 
 -- the text of a leaf over a heap and its previews
 abbrev pub text_over : Walk → Value → List ℕ

@@ -16,6 +16,7 @@ use Rattle.report_text.specs.declared.refusals.Refusal.TheVariants.{Open, NoProc
 use Rattle.root_views.specs.declared.kinds.RootKind.TheVariants.{Stack, Dict, Mail}
 use Rattle.report_text.specs.Reports.{index_report, info_report}
 use Rattle.report_text.specs.Tables.{fields_report, procs_report, rows_report}
+use Rattle.term_text.specs.Cells.{cells_report}
 use Rattle.dump_trial.specs.Tallies.{trial_report}
 use Rattle.report_text.specs.Links.{links_report}
 use Rattle.audit_text.specs.Findings.{audit_report}
@@ -37,7 +38,7 @@ use Rattle.command_words.specs.Command.{Command, index, info, procs, proc, memor
 use Rattle.heap_cells.specs.Loading.{body_in}
 use Rattle.dump_command.specs.Holders.{binaries_listing, fronts_bytes, heaps_bytes, holders_listing}
 use Rattle.dump_command.specs.Triage.{Told, triage_over}
-use Rattle.dump_command.specs.Terms.{base_of, binary_at, binary_cause, bad_binary, binary_count, binary_of, ext_of, heap_listing, heap_map, heap_of, literals_of, no_address, no_external, reach_of, roots_of, roots_section, term_of, too_dense}
+use Rattle.dump_command.specs.Terms.{base_of, binary_at, binary_cause, bad_binary, binary_count, binary_of, ext_of, heap_map, heap_of, literals_of, no_address, no_external, reach_of, roots_of, roots_section, term_of, too_dense}
 
 -- the first of these sections
 abbrev pub first_section : List Section → Section
@@ -128,7 +129,7 @@ report (roots kind file pid nodes marked) bytes = roots_of kind pid nodes marked
 report (term file pid addr nodes marked) bytes = term_of pid addr nodes marked bytes
 report (ext file pid addr) bytes = ext_of pid addr bytes
 report (reach file pid) bytes = reach_of pid bytes
-report (cells file pid) bytes = heap_listing pid bytes
+report (cells file pid) bytes = cells_report (heap_map pid bytes)
 report (binary file addr) bytes = binary_of addr bytes
 report (binaries file) bytes = binaries_listing bytes
 report (holders file addr) bytes = holders_listing addr bytes
@@ -213,12 +214,7 @@ reread (holders file addr) bytes = loaded_bytes (holders file addr) bytes + heap
 reread (redact file) bytes = length bytes
 reread cmd bytes = loaded_bytes cmd bytes
 
--- nothing if there is a refusal
-abbrev pub unless_refused : Option Refusal → ℕ → ℕ
-unless_refused None count = count
-unless_refused (Some why) count = 0
-
 -- the most bytes that a command takes from the device: those of the dump and, unless it
 -- is refused before it reads a body, those that it takes after the pass over the dump
 abbrev pub allowance : Command → List ℕ → Numbers → ℕ
-allowance cmd bytes limits = length bytes + unless_refused (refusal_unread cmd bytes limits) (reread cmd bytes)
+allowance cmd bytes limits = length bytes + (if is_some (refusal_unread cmd bytes limits) then 0 else reread cmd bytes)

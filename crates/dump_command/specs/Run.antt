@@ -1,6 +1,6 @@
 -- What a run leaves, by the status with which it ends. `before` and `after` are the device around it, `out` and `out'` the sink
 -- of the report, and `err` and `err'` that of the lines on refusals.
-use Rattle.std.specs.Prelude.{◌≡◌, ◌⊎◌, ℕ, ◌≤◌, List, [], Option, None, Some, IsSomeAnd, IsTrue, codes}
+use Rattle.std.specs.Prelude.{◌≡◌, ◌⊎◌, ℕ, ◌≤◌, List, [], Option, None, Some, IsSomeAnd, MatchOption, IsTrue, codes}
 use Rattle.dump_io.specs.Counts.{plus_capped}
 use Rattle.dump_io.specs.Dumps.{closed, IsAbsent, DeviceState, DeviceFailed}
 use Rattle.dump_io.specs.Limits.{Numbers}
@@ -11,32 +11,17 @@ use Rattle.report_text.specs.Refusals.{refusal_line}
 use Rattle.command_words.specs.Command.{Command, redact, file_of}
 use Rattle.dump_command.specs.Report.{report, report_status, finds, refusal, allowance}
 
--- these are the bytes on which a command reports: those of its file, and none if it has no file
-abbrev pub IsInputOf : DeviceState → DeviceState → Option (List ℕ) → List ℕ → Type 0
-IsInputOf before after None bytes = bytes ≡ []
-IsInputOf before after (Some name) bytes = IsFileOf before after name bytes
-
--- these are the bytes on which this command reports
+-- these are the bytes on which this command reports: those of its file, and none if it has no file
 abbrev pub IsDumpOf : DeviceState → DeviceState → Command → List ℕ → Type 0
-IsDumpOf before after cmd bytes = IsInputOf before after (file_of cmd) bytes
-
--- the device tells its files, and none has the name of the file that is to be opened
-abbrev pub IsMissingFrom : DeviceState → Option (List ℕ) → Type 0
-IsMissingFrom before None = ⊥
-IsMissingFrom before (Some name) = IsAbsent before.files name
+IsDumpOf before after cmd bytes = MatchOption (file_of cmd) (bytes ≡ []) (λ name. IsFileOf before after name bytes)
 
 -- the device tells its files, and none has the name of the command's file
 abbrev pub IsMissing : DeviceState → Command → Type 0
-IsMissing before cmd = IsMissingFrom before (file_of cmd)
+IsMissing before cmd = IsSomeAnd (file_of cmd) (IsAbsent before.files)
 
--- the dump wasn't read: the device failed, or has no such file
-abbrev pub IsUnreadFrom : DeviceState → DeviceState → Option (List ℕ) → Type 0
-IsUnreadFrom before after None = ⊥
-IsUnreadFrom before after (Some name) = DeviceFailed before after ⊎ IsAbsent before.files name
-
--- the command's dump wasn't read
+-- the command's dump wasn't read: the device failed, or has no such file
 abbrev pub IsUnread : DeviceState → DeviceState → Command → Type 0
-IsUnread before after cmd = IsUnreadFrom before after (file_of cmd)
+IsUnread before after cmd = IsSomeAnd (file_of cmd) (λ name. DeviceFailed before after ⊎ IsAbsent before.files name)
 
 -- the whole report on these bytes was written, for which
 -- nothing is refused, and the status is that of the report

@@ -21,7 +21,6 @@ use Rattle.report_text.specs.declared.refusals.Refusal.{Refusal}
 use Rattle.report_text.specs.declared.refusals.Refusal.TheVariants.{TooDense, NoAddress, NotExt, BadExt, NoBinary, BadBinary}
 use Rattle.root_views.specs.declared.kinds.RootKind.{RootKind}
 use Rattle.root_views.specs.declared.kinds.RootKind.TheVariants.{Stack, Dict, Mail}
-use Rattle.term_text.specs.Cells.{cells_report}
 use Rattle.term_text.specs.Reach.{reach_report, terms_of}
 use Rattle.root_views.specs.Kinds.{roots_in, roots_tag}
 use Rattle.term_text.specs.Roots.{answer_over, binary_report, ext_report, roots_report, term_report}
@@ -29,10 +28,6 @@ use Rattle.term_text.specs.Roots.{answer_over, binary_report, ext_report, roots_
 -- the first section with this tag of the process with this pid
 abbrev pub named_section : List ℕ → List ℕ → List Section → Option Section
 named_section tag pid sections = find (λ s. is_named tag (Some pid) s.text) sections
-
--- the first section with this tag
-abbrev pub tagged_section : List ℕ → List Section → Option Section
-tagged_section tag sections = find (λ s. has_tag tag s.text) sections
 
 -- the section with the roots of a process: its stack, its dictionary or its mailbox
 abbrev pub roots_section : RootKind → List ℕ → List Section → Option Section
@@ -44,7 +39,7 @@ heap_of pid sections = named_section (codes "proc_heap") pid sections
 
 -- the section with the literals, to which every heap may refer
 abbrev pub literals_of : List Section → Option Section
-literals_of sections = tagged_section (codes "literals") sections
+literals_of sections = find (λ s. has_tag (codes "literals") s.text) sections
 
 -- how the payloads of a dump are written
 abbrev pub payloads_of : List ℕ → Enc
@@ -156,10 +151,6 @@ reached pid bytes = reached_by (heap_map pid bytes).cells (root_terms pid bytes)
 -- the report of what the roots of a process reach
 abbrev pub reach_of : List ℕ → List ℕ → List ℕ
 reach_of pid bytes = reach_report (heap_map pid bytes) (reached pid bytes)
-
--- the report of what is on the heap of a process
-abbrev pub heap_listing : List ℕ → List ℕ → List ℕ
-heap_listing pid bytes = cells_report (heap_map pid bytes)
 
 -- how many references to binaries the heap of a process has
 abbrev pub binary_count : List ℕ → List ℕ → ℕ

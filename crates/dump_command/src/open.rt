@@ -1,6 +1,6 @@
 // Opening a dump for a command.
 ghost use Rattle.std.specs.Prelude.{MatchResult};
-ghost use Rattle.dump_command.specs.Inner.Opened.{HasOpened, IsUnopened};
+ghost use Rattle.dump_command.specs.Inner.Reading.{HasOpened, IsUnopened};
 
 use crate::stop::Stop;
 use dump_io::{Dumps, Limits};

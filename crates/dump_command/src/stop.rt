@@ -1,6 +1,6 @@
 // Why a command ended without its whole report.
 ghost use Rattle.std.specs.Prelude.{◌≡◌};
-ghost use Rattle.dump_command.specs.Inner.Stops.{or_stop};
+ghost use Rattle.dump_command.specs.Inner.Stops.{or_stop, stop_of_opening, stop_of_body, stop_of_heap, stop_of_previews, stop_of_holders, stop_of_redact, stop_of_json};
 
 use binary_holders::HolderFault;
 use binary_refs::PreviewFault;
@@ -27,8 +27,6 @@ pub(crate) enum Stop {
 }
 
 impl From<OpenFault> for Stop {
-    ghost use Rattle.dump_command.specs.Inner.Stops.{stop_of_opening};
-
     ghost from_gives = { λ fault stop. stop ≡ stop_of_opening fault };
 
     fn from(fault: OpenFault) -> Stop {
@@ -41,8 +39,6 @@ impl From<OpenFault> for Stop {
 }
 
 impl From<BodyFault> for Stop {
-    ghost use Rattle.dump_command.specs.Inner.Stops.{stop_of_body};
-
     ghost from_gives = { λ fault stop. stop ≡ stop_of_body fault };
 
     fn from(fault: BodyFault) -> Stop {
@@ -64,8 +60,6 @@ pub(crate) fn or_stop<T>(loaded: Result<T, BodyFault>) -> Result<T, Stop>
 }
 
 impl From<HeapFault> for Stop {
-    ghost use Rattle.dump_command.specs.Inner.TermStops.{stop_of_heap};
-
     ghost from_gives = { λ fault stop. stop ≡ stop_of_heap fault };
 
     fn from(fault: HeapFault) -> Stop {
@@ -81,8 +75,6 @@ impl From<HeapFault> for Stop {
 }
 
 impl From<PreviewFault> for Stop {
-    ghost use Rattle.dump_command.specs.Inner.TermStops.{stop_of_previews};
-
     ghost from_gives = { λ fault stop. stop ≡ stop_of_previews fault };
 
     fn from(fault: PreviewFault) -> Stop {
@@ -94,8 +86,6 @@ impl From<PreviewFault> for Stop {
 }
 
 impl From<HolderFault> for Stop {
-    ghost use Rattle.dump_command.specs.Inner.Stops.{stop_of_holders};
-
     ghost from_gives = { λ fault stop. stop ≡ stop_of_holders fault };
 
     fn from(fault: HolderFault) -> Stop {
@@ -107,8 +97,6 @@ impl From<HolderFault> for Stop {
 }
 
 impl From<RedactFault> for Stop {
-    ghost use Rattle.dump_command.specs.Inner.Stops.{stop_of_redact};
-
     ghost from_gives = { λ fault stop. stop ≡ stop_of_redact fault };
 
     fn from(fault: RedactFault) -> Stop {
@@ -124,8 +112,6 @@ impl From<RedactFault> for Stop {
 }
 
 impl From<JsonFault> for Stop {
-    ghost use Rattle.dump_command.specs.Inner.Stops.{stop_of_json};
-
     ghost from_gives = { λ fault stop. stop ≡ stop_of_json fault };
 
     fn from(fault: JsonFault) -> Stop {

@@ -3,7 +3,7 @@ use Rattle.std.proofs.Common.{◌≡◌, ℕ, ◌+◌, ◌^◌, ◌<◌, ◌≤�
 use Rattle.std.specs.Prelude.{IfErr, IsErr}
 use Rattle.dump_io.specs.Dumps.{told, DeviceState, DeviceFailed, ReadsAtMost}
 use Rattle.dump_io.specs.Sinks.{SinkState, grown, WritesAll, Puts}
-use Rattle.dump_io.specs.Laws.Puts.{WritesAll-then, WritesAll-stopped, WritesAll-failed, grown-nil, grown-next}
+use Rattle.dump_io.specs.Laws.Puts.{WritesAll-then, WritesAll-stopped, grown-nil, grown-next}
 use Rattle.dump_io.specs.Laws.Reads.{ReadsAtMost-none, ReadsAtMost-both, ReadsAtMost-within}
 use Rattle.dump_redact.specs.declared.faults.RedactFault.{RedactFault}
 use Rattle.dump_redact.specs.declared.faults.RedactFault.TheVariants.{SectionTooLarge, Read, Write, Memory}
@@ -15,15 +15,6 @@ break-behind a b c s t u (SectionTooLarge at len) reads writes is = is
 break-behind a b c s t u Read reads writes is = omega (arith, reads, is)
 break-behind a b c s t u Write reads writes is = omega (arith, writes, is)
 break-behind a b c s t u Memory reads writes is = tt
-
--- nothing was copied
-pub HasCopied-none : {a : DeviceState} {s : SinkState} (text : List ℕ → List ℕ) → a.taken < 2 ^ 64
-    → ((dump : List ℕ) → a.now ≡ told dump → text dump ≡ []) → HasCopied a a s s 0 text
-HasCopied-none {s = s} text small none = record {
-  reads = ReadsAtMost-none 0 small;
-  later = omega arith;
-  gained = λ dump is. sym (ap (grown s.written) (none dump is) ∙ grown-nil s.written);
-}
 
 -- bytes were read
 pub HasCopied-read : {a b : DeviceState} {s : SinkState} {most : ℕ}
@@ -112,18 +103,6 @@ Copies-broken {T = T} {a = a} {b = b} {c = c} {s = s} {t = t} {u = u} {text = te
 pub HasCopied-done : {T : Type 0} {a b : DeviceState} {s t : SinkState} {most : ℕ} {text : List ℕ → List ℕ} {x : T}
     → Copies a b s t most text (Ok x) → HasCopied a b s t most text
 HasCopied-done copies = record { reads = copies.reads; later = copies.later; gained = λ dump is. (copies.writes dump is).whole }
-
--- a failure that is handed on
-pub Copies-as : {T U : Type 0} {a b : DeviceState} {s t : SinkState} {most : ℕ} {text : List ℕ → List ℕ} {e : RedactFault}
-    → Copies {T = U} a b s t most text (Err e) → Copies {T = T} a b s t most text (Err e)
-Copies-as {T = T} {e = e} copies = record {
-  reads = copies.reads;
-  later = copies.later;
-  writes = λ dump is.
-      let failed : IsErr {T = T} {E = RedactFault} (Err e) = refl in
-      WritesAll-failed failed (copies.writes dump is);
-  fault = copies.fault;
-}
 
 -- bytes that were read are written as something else
 pub Copies-piece : {T : Type 0} {a b : DeviceState} {s t : SinkState} {most : ℕ} {bytes : List ℕ} {result : Result T RedactFault} (whole : List ℕ → List ℕ)

@@ -22,10 +22,10 @@ use Rattle.dump_redact.specs.Bodies.{binary_lines, redacted_body}
 use Rattle.dump_redact.specs.Redacted.{blank, blank_from, payload_in, without}
 use Rattle.dump_redact.specs.Inner.Copying.{blank_line, copied, stretch_behind}
 use Rattle.dump_redact.specs.Inner.Places.{IsLeadOf}
-use Rattle.dump_redact.proofs.Pieces.{length-part, piece-take, piece-drop, piece-long}
+use Rattle.dump_redact.proofs.Offsets.{length-part, piece-take, piece-drop, piece-long}
 use Rattle.dump_redact.proofs.Places.{LedIsRead}
 use Rattle.dump_redact.proofs.Stretches.{copied-append}
-use Rattle.dump_redact.proofs.Texts.{kept, text-kept, blank_from-front}
+use Rattle.dump_redact.proofs.Alike.{kept, text-kept, blank_from-front}
 
 -- ---- what a front of 17 bytes says of a body
 

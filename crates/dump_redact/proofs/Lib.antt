@@ -1,22 +1,10 @@
-pub mod Absent
-pub mod Alike
-pub mod Base64Zeros
-pub mod Binaries
-pub mod Blanks
-pub mod Copies
 mod Examples
-pub mod Heads
-pub mod HexZeros
-pub mod InTurn
-pub mod Judging
+pub mod Alike
+pub mod Copies
 pub mod Leads
-pub mod Marks
-pub mod Pieces
+pub mod Offsets
 pub mod Places
 pub mod PlainLines
-pub mod Offsets
 pub mod Sections
-pub mod Stays
-pub mod Steps
 pub mod Stretches
-pub mod Texts
+pub mod Zeros

@@ -1,30 +1,120 @@
--- Where the sections of a dump begin and end, and what is made of a piece with some of them.
-use Rattle.std.proofs.Common.{◌≡◌, ℕ, zero, suc, ◌+◌, ◌-◌, ◌<◌, ◌≤◌, List, [], ◌∷◌, ◌++◌, length, take, drop, slice_get, Some, refl, sym, ◌∙◌, ap, ap₂, subst, arith, append_assoc}
-use Rattle.std.specs.Prelude.{All, unwrap_or}
+-- Pieces of a dump: where its sections begin and end, which is too large, and what is made of some of them.
+use Rattle.std.proofs.Common.{◌≡◌, ℕ, zero, suc, ◌+◌, ◌<◌, Bool, true, false, cond, ◌&&◌, List, [], ◌∷◌, length, drop, slice_get, get_or, Option, None, Some, if◌then◌else◌, refl, sym, ◌∙◌, ap, arith, nat_lt, ◌-◌, ◌≤◌, take, ◌⊎◌, inl, inr, subst, ◌++◌, ap₂, append_assoc}
+use Rattle.std.specs.Prelude.{option_map, unwrap_or, min, All}
+use Rattle.std.specs.Option.{option_or}
 use Rattle.std.specs.List.{between}
-use Rattle.std.proofs.lemmas.List.{take_all, take_at, drop_at, drop-drop}
-use Rattle.std.proofs.lemmas.Option.{get_or_from_slice_get, slice_get_within}
-use borrow.Rule.Slice.PartMut.{put_mid}
-use Rattle.dump_io.specs.Dumps.{Now, closed, told, sized, IsOpen, size_of}
-use Rattle.dump_io.specs.Lines.{Header, headers}
-use Rattle.dump_sections.specs.Bodies.{section_at}
-use Rattle.dump_sections.specs.Index.{Contents, AreBounded, IsIndexOf, IsBuiltOver, sections_in}
+use Rattle.std.proofs.lemmas.Option.{slice_get-get_or, get_or_from_slice_get, slice_get_within}
+use Rattle.std.proofs.lemmas.Bool.{cases_lt}
+use Rattle.std.proofs.lemmas.List.{length-take-le, take-take, drop-take, drop-drop, take_all, take_at, drop_at}
+use Rattle.std.proofs.lemmas.List.Edits.{length-between}
+use Rattle.dump_sections.specs.Bodies.{body_length, section_at}
+use Rattle.dump_sections.specs.Index.{Contents, sections_in, AreBounded, IsIndexOf, IsBuiltOver}
 use Rattle.dump_sections.specs.Sections.{Section, section, sections, sections_of, next_at, tag_of}
+use Rattle.dump_io.specs.Dumps.{Now, told, size_of, Gives, closed, sized, IsOpen}
+use borrow.Rule.Slice.PartMut.{put_mid}
+use Rattle.dump_io.specs.Lines.{Header, headers}
 use Rattle.dump_sections.specs.Tiling.{Tile}
 use Rattle.dump_sections.specs.declared.version.Version.TheVariants.{V05}
 use Rattle.binary_payloads.specs.declared.enc.Enc.{Enc}
+use Rattle.heap_cells.specs.Loading.{enc_of}
+use Rattle.dump_redact.specs.declared.faults.RedactFault.{RedactFault}
+use Rattle.dump_redact.specs.declared.faults.RedactFault.TheVariants.{SectionTooLarge}
+use Rattle.dump_redact.specs.Refusals.{is_heap, heap_sections, first_large, large_fault}
+use Rattle.dump_redact.specs.Inner.Places.{fault_at, offset_of, text_between, text_of_section, redacted_between}
 use Rattle.dump_redact.specs.declared.parts.Part.{Part}
 use Rattle.dump_redact.specs.declared.parts.Part.TheVariants.{Other}
 use Rattle.dump_redact.specs.Bodies.{redacted_body}
 use Rattle.dump_redact.specs.Laws.{IsRedacted}
-use Rattle.heap_cells.specs.Loading.{enc_of}
 use Rattle.dump_redact.specs.Redacted.{redacted, version_of, part_of}
-use Rattle.dump_redact.specs.Inner.Places.{offset_of, text_between, text_of_section, redacted_between}
-use Rattle.dump_redact.proofs.Heads.{keeps-length}
-use Rattle.dump_redact.proofs.Judging.{place-at}
-use Rattle.dump_redact.proofs.Pieces.{length-part}
+use Rattle.dump_redact.proofs.Alike.{keeps-length}
 use Rattle.dump_redact.proofs.Sections.{redacts-sections, keeps-others}
 use Rattle.dump_redact.proofs.Stretches.{between-join}
+
+abbrev fault_of : Section → RedactFault
+fault_of s = SectionTooLarge s.at (body_length s)
+
+-- the refusal among the sections of heaps, of which the first may be one more
+abbrev fault_in : ℕ → Bool → Section → List Section → Option RedactFault
+fault_in limit heap s heaps = option_map fault_of (first_large limit (cond heap (s ∷ heaps) heaps))
+
+-- the first section is refused, or else those behind it decide
+pub one-more : (limit : ℕ) (s : Section) (sections : List Section) → large_fault limit (s ∷ sections) ≡ option_or (fault_at limit s) (large_fault limit sections)
+one-more limit s sections = by (is_heap s) (nat_lt limit (body_length s)) refl
+  where
+    heaps : List Section
+    heaps = heap_sections sections
+
+    by : (heap more : Bool) → nat_lt limit (body_length s) ≡ more
+        → fault_in limit heap s heaps ≡ option_or (if heap && more then Some (fault_of s) else None) (option_map fault_of (first_large limit heaps))
+    by false more h = refl
+    by true true h = ap (λ b. option_map fault_of (cond b (Some s) (first_large limit heaps))) h
+    by true false h = ap (λ b. option_map fault_of (cond b (Some s) (first_large limit heaps))) h
+
+-- the sections from a place on
+pub drop-at : (sections : List Section) (i : ℕ) (s : Section) → slice_get sections i ≡ Some s → drop i sections ≡ s ∷ drop (i + 1) sections
+drop-at [] i s is = cc
+drop-at (first ∷ sections) zero s is = let same : first ≡ s = cc in ap (λ x. x ∷ sections) same
+drop-at (first ∷ sections) (suc i) s is =
+    let place : suc i + 1 ≡ suc (i + 1) = omega arith in
+    drop-at sections i s is ∙ ap (λ n. s ∷ drop n (first ∷ sections)) (sym place)
+
+-- the section at a place is refused, or those behind it decide
+module _ (limit : ℕ) (sections : List Section) (i : ℕ) (s : Section) (is : slice_get sections i ≡ Some s) where
+  left : large_fault limit (drop i sections) ≡ option_or (fault_at limit s) (large_fault limit (drop (i + 1) sections))
+  left = ap (large_fault limit) (drop-at sections i s is) ∙ one-more limit s (drop (i + 1) sections)
+
+  pub found-here : (fault : RedactFault) → fault_at limit s ≡ Some fault → large_fault limit (drop i sections) ≡ Some fault
+  found-here fault found = left ∙ ap (λ o. option_or o (large_fault limit (drop (i + 1) sections))) found
+
+  pub passed-here : fault_at limit s ≡ None → large_fault limit (drop i sections) ≡ large_fault limit (drop (i + 1) sections)
+  passed-here none = left ∙ ap (λ o. option_or o (large_fault limit (drop (i + 1) sections))) none
+
+-- the section at a place is one of the list
+pub place-at : (index : Contents) (i : ℕ) → i < length (sections_in index) → slice_get (sections_in index) i ≡ Some (section_at index i)
+place-at index i inside =
+    let there : slice_get (sections_in index) i ≡ Some (get_or (sections_in index) i (section 0 0 0 [])) = slice_get-get_or (sections_in index) i (section 0 0 0 []) inside in
+    there ∙ ap (λ o. Some (unwrap_or o (section 0 0 0 []))) (sym there)
+
+-- ---- pieces of what is open
+
+-- a file that is told has as many bytes as its size
+pub told-size : (now : Now) (dump : List ℕ) (upto : ℕ) → now ≡ told dump → upto ≤ size_of now → upto ≤ length dump
+told-size now dump upto is within = subst (λ n. upto ≤ size_of n) is within
+
+-- a piece that was read is what the dump has there
+pub piece-told : (now : Now) (from count : ℕ) (buffer dump : List ℕ) → now ≡ told dump → Gives now from (take count buffer) → count ≤ length buffer
+    → take count buffer ≡ between from (from + count) dump
+piece-told now from count buffer dump is gives within =
+    let read : take count buffer ≡ take (length (take count buffer)) (drop from dump) = subst (λ n. Gives n from (take count buffer)) is gives in
+    let size : length (take count buffer) ≡ from + count - from = omega (arith, length-take-le count buffer within) in
+    read ∙ ap (λ n. take n (drop from dump)) size
+
+pub length-part : (dump : List ℕ) (from upto : ℕ) → upto ≤ length dump → length (between from upto dump) ≡ upto - from
+length-part dump from upto within = length-between dump from upto within
+
+-- a piece is a front of what lies between two offsets, and the rest follows
+pub piece-take : (dump : List ℕ) (from count upto : ℕ) → from + count ≤ upto → between from (from + count) dump ≡ take count (between from upto dump)
+piece-take dump from count upto within =
+    let size : from + count - from ≡ count = omega arith in
+    ap (λ n. take n (drop from dump)) size ∙ sym (take-take count (upto - from) (drop from dump) (omega (arith, within)))
+
+pub piece-drop : (dump : List ℕ) (from count upto : ℕ) → from + count ≤ upto → drop count (between from upto dump) ≡ between (from + count) upto dump
+piece-drop dump from count upto within =
+    let size : upto - from ≡ count + (upto - (from + count)) = omega (arith, within) in
+    ap (λ n. drop count (take n (drop from dump))) size
+    ∙ drop-take count (upto - (from + count)) (drop from dump)
+    ∙ ap (take (upto - (from + count))) (drop-drop count from dump)
+
+-- a piece has 17 bytes, or it is all there is
+pub piece-long : (room size count total : ℕ) → 17 ≤ room → count ≡ min room size → total ≡ size → (17 ≤ count) ⊎ (count ≡ total)
+piece-long room size count total big is all =
+    by (cases_lt room size)
+  where
+    by : (room < size) ⊎ (size ≤ room) → (17 ≤ count) ⊎ (count ≡ total)
+    by (inl less) = inl (omega (arith, less, is, big))
+    by (inr more) = inr (omega (arith, more, is, all))
+
+-- ---- where the sections of a dump begin and end, and what is made of a piece with some of them
 
 -- what is open has the size of the index that was built over it
 pub built-size : (now : Now) (index : Contents) → IsBuiltOver now index → IsOpen now × (index.size ≡ size_of now)

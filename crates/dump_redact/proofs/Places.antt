@@ -1,13 +1,23 @@
 -- Where a payload stands in a line's text depends on what stands before it alone.
-use Rattle.std.proofs.Common.{◌≡◌, ℕ, List, [], ◌∷◌, ◌++◌, drop, codes, Option, Some, None, ◌⊎◌, inl, inr, ◌↔◌, option_and_then, option_map, refl, sym, ◌∙◌, ap, subst, append_assoc}
+use Rattle.std.proofs.Common.{◌≡◌, ℕ, List, [], ◌∷◌, ◌++◌, drop, codes, Option, Some, None, ◌⊎◌, inl, inr, ◌↔◌, option_and_then, option_map, refl, sym, ◌∙◌, ap, subst, append_assoc, map, ◌-◌, Bool, true, false, length, ap₂, arith, length-append}
+use Rattle.std.specs.List.{concat}
 use Rattle.std.proofs.lemmas.Option.{some_pair_parts}
+use Rattle.std.proofs.lemmas.Bool.{cond-false}
 use Rattle.binary_payloads.specs.declared.enc.Enc.{Enc}
 use Rattle.term_forms.specs.Words.{colon, led_of, IsLed}
 use Rattle.term_forms.specs.Forms.{HeapForm, Cons, Tuple, Float, Long, Pid, Port, Ext, HeapBin, RefBin, SubBin, Flat, Hash, Node, IsForm}
 use Rattle.term_forms.specs.ReadingForms.{form_of}
+use Rattle.dump_io.specs.Lines.{text_of, raw_lines, is_header}
+use Rattle.dump_sections.specs.declared.version.Version.{Version}
+use Rattle.dump_sections.specs.declared.version.Version.TheVariants.{V03, V04, V05}
+use Rattle.binary_payloads.specs.declared.enc.Enc.TheVariants.{Hex, Base64}
+use Rattle.heap_cells.specs.Loading.{enc_of}
 use Rattle.dump_redact.specs.declared.parts.Part.{Part}
 use Rattle.dump_redact.specs.declared.parts.Part.TheVariants.{Heap, Binary, Other}
-use Rattle.dump_redact.specs.Redacted.{bin_chars, payload_in}
+use Rattle.dump_redact.specs.Redacted.{bin_chars, payload_in, blank, without, later, blank_from, redacted_line, redacted_lines, next_part, redacted_in, redacted, version_of}
+use Rattle.dump_redact.specs.Bodies.{heap_line}
+use Rattle.dump_redact.specs.Payloads.{KeepsPayloads, KeepsBinaries}
+use Rattle.dump_redact.proofs.Alike.{blanked, line-is_header, line-header, raw_lines-redacted, version-redacted}
 
 -- the laws of term_forms that are taken from its functions
 abbrev pub LedIsRead : Type 0
@@ -123,3 +133,88 @@ pub placed : LedIsRead → (enc : Enc) → FormIsRead enc → (part : Part) (tex
 placed law enc forms Heap text chars h = heap-placed law enc forms text chars (led_of text) refl h
 placed law enc forms Binary text chars h = binary-placed law enc text chars (led_of text) refl h
 placed law enc forms Other text chars h = cc
+
+-- ---- a redacted heap line is read again
+
+pub binaries : LedIsRead → (enc : Enc) → FormIsRead enc → KeepsPayloads enc → KeepsBinaries enc
+binaries law enc forms keeps raw address size spelled chars e f =
+    let text = text_of raw in
+    let zeros = map (blank enc) chars in
+    let led : IsLed text address spelled = (law text address spelled).0 e in
+    let form = (forms spelled (HeapBin size chars)).0 f in
+    let sized : IsLed form.0 size chars = form.2 in
+    let hex = sized.0 in
+    let head = codes "Yh" ++ (hex ++ colon ∷ []) in
+    let front = led.0 ++ (colon ∷ head) in
+    let inner : (l : List ℕ) → head ++ l ≡ codes "Yh" ++ (hex ++ colon ∷ l) = λ l. ap (λ m. codes "Yh" ++ m) (append_assoc hex (colon ∷ []) l) in
+    let outer : (l : List ℕ) → front ++ l ≡ led.0 ++ colon ∷ (head ++ l) = λ l. append_assoc led.0 (colon ∷ head) l in
+    let parts : text ≡ front ++ chars =
+    led.2 ∙ ap (λ l. led.0 ++ colon ∷ l) (form.1 ∙ ap (λ l. codes "Yh" ++ l) sized.2 ∙ sym (inner chars)) ∙ sym (outer chars) in
+    let found : payload_in enc Heap text ≡ Some chars = ap (option_and_then (λ led. bin_chars (form_of enc led.1))) e ∙ ap bin_chars f in
+    let is : text_of (heap_line enc raw) ≡ front ++ zeros = ap (λ o. text_of (without enc raw o)) found ∙ (blanked enc raw front chars parts).text in (
+      head ++ zeros,
+      ap led_of is ∙ (law (front ++ zeros) address (head ++ zeros)).1 (led.0, led.1, outer zeros),
+      (forms (head ++ zeros) (HeapBin size zeros)).1 (hex ++ colon ∷ zeros, inner zeros, (hex, sized.1, refl), keeps chars size form.3),
+    )
+
+-- ---- what is redacted stays when it is redacted again
+
+-- ---- a line that is no header
+
+ends : (enc : Enc) (part : Part) (new front zeros : List ℕ) → text_of new ≡ front ++ zeros → blank_from enc (length front) new ≡ new
+    → (payload_in enc part (front ++ zeros) ≡ None) ⊎ (payload_in enc part (front ++ zeros) ≡ Some zeros)
+    → without enc new (payload_in enc part (text_of new)) ≡ new
+ends enc part new front zeros text again (inl none) = ap (without enc new) (ap (payload_in enc part) text ∙ none)
+ends enc part new front zeros text again (inr some) =
+    let place : length (text_of new) - length zeros ≡ length front = omega (arith, ap length text, length-append front zeros) in
+    ap (without enc new) (ap (payload_in enc part) text ∙ some) ∙ ap (λ n. blank_from enc n new) place ∙ again
+
+without-stays : LedIsRead → (enc : Enc) → FormIsRead enc → (part : Part) (raw : List ℕ) (found : Option (List ℕ)) → payload_in enc part (text_of raw) ≡ found
+    → without enc (without enc raw found) (payload_in enc part (text_of (without enc raw found))) ≡ without enc raw found
+without-stays law enc forms part raw None h = ap (without enc raw) h
+without-stays law enc forms part raw (Some chars) h =
+    let place = placed law enc forms part (text_of raw) chars h in
+    let is = blanked enc raw place.front chars place.parts in
+    ends enc part (without enc raw (Some chars)) place.front (map (blank enc) chars) is.text is.again (place.again (map (blank enc) chars))
+
+line-by : LedIsRead → (enc : Enc) → FormIsRead enc → (part : Part) (raw : List ℕ) (b : Bool) → is_header raw ≡ b
+    → redacted_line enc part (redacted_line enc part raw) ≡ redacted_line enc part raw
+line-by law enc forms part raw true h = ap (redacted_line enc part) (line-header enc part raw h)
+line-by law enc forms part raw false h =
+    let new = redacted_line enc part raw in
+    let plain = without enc raw (payload_in enc part (text_of raw)) in
+    let is : new ≡ plain = cond-false (is_header raw) raw plain h in
+    cond-false (is_header new) new (without enc new (payload_in enc part (text_of new))) (line-is_header enc part raw ∙ h)
+    ∙ ap (λ l. without enc l (payload_in enc part (text_of l))) is
+    ∙ without-stays law enc forms part raw (payload_in enc part (text_of raw)) refl
+    ∙ sym is
+
+next-by : (enc : Enc) (part : Part) (raw : List ℕ) (b : Bool) → is_header raw ≡ b → next_part part (redacted_line enc part raw) ≡ next_part part raw
+next-by enc part raw true h = ap (next_part part) (line-header enc part raw h)
+next-by enc part raw false h =
+    cond-false (is_header (redacted_line enc part raw)) _ (later part) (line-is_header enc part raw ∙ h) ∙ sym (cond-false (is_header raw) _ (later part) h)
+
+-- ---- lines, and dumps
+
+lines-stay : LedIsRead → (enc : Enc) → FormIsRead enc → (part : Part) (raws : List (List ℕ))
+    → redacted_lines enc part (redacted_lines enc part raws) ≡ redacted_lines enc part raws
+lines-stay law enc forms part [] = refl
+lines-stay law enc forms part (raw ∷ raws) =
+    let behind = redacted_lines enc (next_part part raw) raws in
+    ap₂ (λ l ls. l ∷ ls) (line-by law enc forms part raw (is_header raw) refl)
+    (ap (λ p. redacted_lines enc p behind) (next-by enc part raw (is_header raw) refl) ∙ lines-stay law enc forms (next_part part raw) raws)
+
+part-stays : LedIsRead → (enc : Enc) → FormIsRead enc → (part : Part) (bytes : List ℕ) → redacted_in enc part (redacted_in enc part bytes) ≡ redacted_in enc part bytes
+part-stays law enc forms part bytes =
+    ap (λ raws. concat (redacted_lines enc part raws)) (raw_lines-redacted enc part bytes) ∙ ap concat (lines-stay law enc forms part (raw_lines bytes))
+
+version-forms : FormIsRead Hex → FormIsRead Base64 → (version : Version) → FormIsRead (enc_of version)
+version-forms hex base64 V03 = hex
+version-forms hex base64 V04 = hex
+version-forms hex base64 V05 = base64
+
+pub stays : LedIsRead → FormIsRead Hex → FormIsRead Base64 → (bytes : List ℕ) → redacted (redacted bytes) ≡ redacted bytes
+stays law hex base64 bytes =
+    let enc = enc_of (version_of bytes) in
+    ap (λ v. redacted_in (enc_of v) Other (redacted bytes)) (version-redacted enc bytes)
+    ∙ part-stays law enc (version-forms hex base64 (version_of bytes)) Other bytes

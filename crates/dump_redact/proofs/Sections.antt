@@ -1,24 +1,71 @@
--- The sections of a redacted dump: each is redacted by itself.
-use Rattle.std.proofs.Common.{◌≡◌, ℕ, ◌+◌, ◌-◌, ◌<◌, Bool, true, false, List, [], ◌∷◌, ◌++◌, length, take, drop, if◌then◌else◌, refl, sym, ◌∙◌, ap, subst, arith, length-append, append-nil, append_assoc}
-use Rattle.std.specs.Prelude.{slice_get, All}
+-- Each section of a redacted dump is redacted by itself.
+use Rattle.std.proofs.Common.{◌≡◌, ℕ, false, List, [], ◌∷◌, ◌++◌, map, refl, ◌∙◌, ap, ap₂, ◌+◌, ◌-◌, ◌<◌, Bool, true, length, take, drop, if◌then◌else◌, sym, subst, arith, length-append, append-nil, append_assoc}
+use Rattle.std.specs.Prelude.{All, slice_get}
 use Rattle.std.specs.List.{concat, between}
-use Rattle.std.proofs.lemmas.Bool.{cond-true}
+use Rattle.std.proofs.lemmas.Bool.{cond-false, cond-true}
+use Rattle.std.proofs.lemmas.List.Elements.{All-head, All-tail, All-nil, All-cons}
 use Rattle.std.proofs.lemmas.List.{take_at, drop_at, drop-drop}
-use Rattle.std.proofs.lemmas.List.Elements.{All-nil, All-cons, All-head, All-tail}
-use Rattle.dump_io.specs.Lines.{AreLines, HasLfLast, IsEnded, raw_lines, lines_from, text_of, is_header, Header, Line}
+use Rattle.dump_io.specs.Lines.{text_of, is_header, AreLines, HasLfLast, IsEnded, raw_lines, lines_from, Header, Line}
+use Rattle.dump_sections.specs.Sections.{tag_of, section, sections, sections_of, next_at}
+use Rattle.binary_payloads.specs.declared.enc.Enc.{Enc}
 use Rattle.dump_io.specs.Laws.Lines.{AreLines-raw, front-cons, raw_lines-ended, raw_lines-one}
 use Rattle.dump_sections.specs.TilingLaws.{headers_in}
-use Rattle.dump_sections.specs.Sections.{section, sections, sections_of, next_at, tag_of}
-use Rattle.binary_payloads.specs.declared.enc.Enc.{Enc}
+use Rattle.heap_cells.specs.Loading.{enc_of}
 use Rattle.dump_redact.specs.declared.parts.Part.{Part}
 use Rattle.dump_redact.specs.declared.parts.Part.TheVariants.{Heap, Binary, Other}
-use Rattle.dump_redact.specs.Bodies.{body_lines, redacted_body}
+use Rattle.dump_redact.specs.Redacted.{later, part_of, next_part, payload_in, without, redacted_line, redacted_lines, redacted, version_of}
+use Rattle.dump_redact.specs.Bodies.{heap_line, body_lines, redacted_body}
 use Rattle.dump_redact.specs.Laws.{IsRedacted}
-use Rattle.heap_cells.specs.Loading.{enc_of}
-use Rattle.dump_redact.specs.Redacted.{later, part_of, next_part, payload_in, redacted_line, redacted_lines, redacted, version_of}
-use Rattle.dump_redact.proofs.Alike.{AllAlike, Alike-length, Alike-refl, concat-alike, raw_lines-of}
-use Rattle.dump_redact.proofs.Heads.{heads-cons, without-alike, line-alike, lines-alike, line-header}
-use Rattle.dump_redact.proofs.InTurn.{AreInBody, bodies, in_turn, part_behind}
+use Rattle.dump_redact.proofs.Alike.{AllAlike, Alike-length, concat-alike, mark, raw_lines-of, heads-cons, without-alike, line-alike, lines-alike, line-header}
+
+-- no line of the body of a section is a header
+abbrev pub AreInBody : List (List ℕ) → Type 0
+AreInBody raws = All (λ raw. is_header raw ≡ false) raws
+
+-- the part in which a line stands that follows these
+abbrev pub part_behind : Part → List (List ℕ) → Part
+part_behind part [] = part
+part_behind part (raw ∷ raws) = part_behind (next_part part raw) raws
+
+head : (raw : List ℕ) (raws : List (List ℕ)) → AreInBody (raw ∷ raws) → is_header raw ≡ false
+head raw raws h = All-head (λ raw. is_header raw ≡ false) raw raws h
+
+rest : (raw : List ℕ) (raws : List (List ℕ)) → AreInBody (raw ∷ raws) → AreInBody raws
+rest raw raws h = All-tail (λ raw. is_header raw ≡ false) raw raws h
+
+plain : (enc : Enc) (part : Part) (raw : List ℕ) → is_header raw ≡ false → redacted_line enc part raw ≡ without enc raw (payload_in enc part (text_of raw))
+plain enc part raw h = cond-false (is_header raw) raw _ h
+
+after : (part : Part) (raw : List ℕ) → is_header raw ≡ false → next_part part raw ≡ later part
+after part raw h = cond-false (is_header raw) (part_of (tag_of (text_of raw))) (later part) h
+
+step : (enc : Enc) (part : Part) (raw : List ℕ) (raws : List (List ℕ)) → is_header raw ≡ false
+    → redacted_lines enc part (raw ∷ raws) ≡ without enc raw (payload_in enc part (text_of raw)) ∷ redacted_lines enc (later part) raws
+step enc part raw raws h = ap₂ (λ l p. l ∷ redacted_lines enc p raws) (plain enc part raw h) (after part raw h)
+
+others : (enc : Enc) (raws : List (List ℕ)) → AreInBody raws → redacted_lines enc Other raws ≡ raws
+others enc [] h = refl
+others enc (raw ∷ raws) h = step enc Other raw raws (head raw raws h) ∙ ap (λ l. raw ∷ l) (others enc raws (rest raw raws h))
+
+heaps : (enc : Enc) (raws : List (List ℕ)) → AreInBody raws → redacted_lines enc Heap raws ≡ map (heap_line enc) raws
+heaps enc [] h = refl
+heaps enc (raw ∷ raws) h = step enc Heap raw raws (head raw raws h) ∙ ap (λ l. heap_line enc raw ∷ l) (heaps enc raws (rest raw raws h))
+
+-- the lines of a body are redacted by its part alone
+pub bodies : (enc : Enc) (part : Part) (raws : List (List ℕ)) → AreInBody raws → redacted_lines enc part raws ≡ body_lines enc part raws
+bodies enc Heap raws h = heaps enc raws h
+bodies enc Other raws h = others enc raws h
+bodies enc Binary [] h = refl
+bodies enc Binary (raw ∷ raws) h =
+    step enc Binary raw raws (head raw raws h) ∙ ap (λ l. without enc raw (payload_in enc Binary (text_of raw)) ∷ l) (others enc raws (rest raw raws h))
+
+-- lines that are cut in two are redacted one part after the other
+pub in_turn : (enc : Enc) (part : Part) (front more : List (List ℕ))
+    → redacted_lines enc part (front ++ more) ≡ redacted_lines enc part front ++ redacted_lines enc (part_behind part front) more
+in_turn enc part [] more = refl
+in_turn enc part (raw ∷ front) more = ap (λ l. redacted_line enc part raw ∷ l) (in_turn enc (next_part part raw) front more)
+
+-- ---- the sections of a redacted dump: each is redacted by itself
 
 -- ---- lines up to the next header, and those from it on
 
@@ -216,17 +263,12 @@ redacts-sections bytes =
 
 -- ---- the lines of a redacted body
 
-all-alike : (raws : List (List ℕ)) → AllAlike raws raws
-all-alike [] = tt
-all-alike (raw ∷ raws) = (Alike-refl raw, all-alike raws)
-
 body_lines-alike : (enc : Enc) (part : Part) (raws : List (List ℕ)) → AllAlike (body_lines enc part raws) raws
-body_lines-alike enc Heap [] = tt
-body_lines-alike enc Heap (raw ∷ raws) = (without-alike enc raw (payload_in enc Heap (text_of raw)), body_lines-alike enc Heap raws)
-body_lines-alike enc Binary [] = tt
-body_lines-alike enc Binary (raw ∷ raws) = (without-alike enc raw (payload_in enc Binary (text_of raw)), all-alike raws)
-body_lines-alike enc Other [] = tt
-body_lines-alike enc Other (raw ∷ raws) = all-alike (raw ∷ raws)
+body_lines-alike enc Heap [] = refl
+body_lines-alike enc Heap (raw ∷ raws) = ap₂ (λ l ls. l ∷ ls) (without-alike enc raw (payload_in enc Heap (text_of raw))) (body_lines-alike enc Heap raws)
+body_lines-alike enc Binary [] = refl
+body_lines-alike enc Binary (raw ∷ raws) = ap (λ l. l ∷ map (map mark) raws) (without-alike enc raw (payload_in enc Binary (text_of raw)))
+body_lines-alike enc Other raws = refl
 
 pub redacts-lines : (enc : Enc) (part : Part) (body : List ℕ) → raw_lines (redacted_body enc part body) ≡ body_lines enc part (raw_lines body)
 redacts-lines enc part body = raw_lines-of body (body_lines enc part (raw_lines body)) (body_lines-alike enc part (raw_lines body))

@@ -1,17 +1,29 @@
--- Bytes that are copied in two parts.
-use Rattle.std.proofs.Common.{◌≡◌, ℕ, ◌+◌, ◌-◌, ◌≤◌, ◌==◌, true, false, List, [], ◌∷◌, ◌++◌, length, take, drop, map, suc, if◌then◌else◌, refl, sym, ◌∙◌, ap, arith}
+-- Bytes that are copied in two parts, and a line that is made blank.
+use Rattle.std.proofs.Common.{◌≡◌, ℕ, ◌<◌, ◌≤◌, List, length, take, sym, ◌∙◌, arith, ◌+◌, ◌-◌, ◌==◌, true, false, [], ◌∷◌, ◌++◌, drop, map, if◌then◌else◌, refl, ap, subst}
 use Rattle.std.specs.Prelude.{◌≢◌, All}
 use Rattle.std.specs.List.{between}
-use Rattle.std.proofs.lemmas.Bool.{ne_eqb}
-use Rattle.std.proofs.lemmas.List.{drop-drop}
-use Rattle.std.proofs.lemmas.List.Elements.{All-head, All-tail}
-use Rattle.dump_io.specs.Laws.Reads.{take-two}
+use Rattle.std.proofs.lemmas.Bool.{eq-eqb, ne_eqb, eqb-true}
+use Rattle.std.proofs.lemmas.List.{get_or-take, length-take-le, drop-drop, drop_more, take-append-drop}
+use Rattle.std.proofs.lemmas.List.Elements.{All-from_get_or, All-head, All-tail}
+use Rattle.std.proofs.Math.Seq.{take-length}
+use Rattle.memchr.specs.Find.{Passes, is_byte, Nowhere}
 use Rattle.dump_io.specs.Lines.{lf}
+use Rattle.dump_io.specs.Laws.Reads.{take-two}
 use Rattle.binary_payloads.specs.declared.enc.Enc.{Enc}
 use Rattle.dump_redact.specs.declared.copying.Stretch.{Stretch}
 use Rattle.dump_redact.specs.declared.copying.Stretch.TheVariants.{Plain, Payload}
 use Rattle.dump_redact.specs.Redacted.{blank}
 use Rattle.dump_redact.specs.Inner.Copying.{blank_line, copied, stretch_behind}
+
+-- LF doesn't stand among the first n bytes
+pub lf_free : (bytes : List ℕ) (n : ℕ) → n ≤ length bytes → Nowhere (Passes (is_byte lf) bytes) 0 n → All (λ c. c ≢ lf) (take n bytes)
+lf_free bytes n fits none =
+    All-from_get_or (λ c. c ≢ lf) (take n bytes) 0 (λ i l same.
+    let len : length (take n bytes) ≡ n = length-take-le n bytes fits in
+    let inside : i < n = omega (arith, l, len) in
+    none i (omega arith) inside (eq-eqb _ _ (sym (get_or-take n bytes i 0 inside) ∙ same)))
+
+-- ---- bytes that are copied in two parts
 
 -- ---- parts of bytes between two offsets
 
@@ -43,16 +55,6 @@ behind-append (Payload enc) [] ys = refl
 behind-append (Payload enc) (c ∷ xs) ys =
     elim (c == lf) as (λ b. (if b then Plain else stretch_behind (Payload enc) (xs ++ ys)) ≡ stretch_behind (if b then Plain else stretch_behind (Payload enc) xs) ys)
     [ true ↦ refl | false ↦ behind-append (Payload enc) xs ys ]
-
-blank-length : (enc : Enc) (xs : List ℕ) → length (blank_line enc xs) ≡ length xs
-blank-length enc [] = refl
-blank-length enc (c ∷ xs) =
-    elim (c == lf) as (λ b. length (if b then c ∷ xs else blank enc c ∷ blank_line enc xs) ≡ length (c ∷ xs))
-    [ true ↦ refl | false ↦ ap (suc) (blank-length enc xs) ]
-
-pub length-copied : (stretch : Stretch) (xs : List ℕ) → length (copied stretch xs) ≡ length xs
-length-copied Plain xs = refl
-length-copied (Payload enc) xs = blank-length enc xs
 
 -- bytes without an LF
 pub blank-free : (enc : Enc) (xs : List ℕ) → All (λ c. c ≢ lf) xs → blank_line enc xs ≡ map (blank enc) xs
@@ -92,3 +94,37 @@ module _ (first next : Stretch) (dump : List ℕ) (from at upto : ℕ) (low : fr
       ap (λ s. stretch_behind s (between at upto dump)) is
       ∙ sym (behind-append first (between from at dump) (between at upto dump))
       ∙ ap (stretch_behind first) (between-join dump from at upto low high)
+
+-- ---- a line that is made blank, by the place of its LF
+
+module _ (enc : Enc) (chars : List ℕ) (k : ℕ) (fits : k < length chars) (none : Nowhere (Passes (is_byte lf) chars) 0 k) (here : Passes (is_byte lf) chars k) where
+  -- the bytes before the LF, and those from it on
+  parts : chars ≡ take k chars ++ lf ∷ drop (k + 1) chars
+  parts =
+      let at : drop k chars ≡ lf ∷ drop (k + 1) chars =
+      drop_more chars k 0 fits ∙ ap (λ c. c ∷ drop (k + 1) chars) (eqb-true _ _ here) in
+      sym (take-append-drop k chars) ∙ ap (λ l. take k chars ++ l) at
+
+  free : All (λ c. c ≢ lf) (take k chars)
+  free = lf_free chars k (omega (arith, fits)) none
+
+  pub ended-text : map (blank enc) (take k chars) ++ drop k chars ≡ blank_line enc chars
+  ended-text =
+      let at : drop k chars ≡ lf ∷ drop (k + 1) chars =
+      drop_more chars k 0 fits ∙ ap (λ c. c ∷ drop (k + 1) chars) (eqb-true _ _ here) in
+      ap (λ l. map (blank enc) (take k chars) ++ l) at
+      ∙ sym (blank-ended enc (take k chars) (drop (k + 1) chars) free)
+      ∙ ap (blank_line enc) (sym parts)
+
+  pub ended-behind : Plain ≡ stretch_behind (Payload enc) chars
+  ended-behind = sym (behind-ended enc (take k chars) (drop (k + 1) chars) free) ∙ ap (stretch_behind (Payload enc)) (sym parts)
+
+module _ (enc : Enc) (chars : List ℕ) (none : Nowhere (Passes (is_byte lf) chars) 0 (length chars)) where
+  all-free : All (λ c. c ≢ lf) chars
+  all-free = subst (λ l. All (λ c. c ≢ lf) l) (take-length chars) (lf_free chars (length chars) (omega arith) none)
+
+  pub open-text : map (blank enc) chars ≡ blank_line enc chars
+  open-text = sym (blank-free enc chars all-free)
+
+  pub open-behind : Payload enc ≡ stretch_behind (Payload enc) chars
+  open-behind = sym (behind-free enc chars all-free)

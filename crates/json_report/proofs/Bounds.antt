@@ -1,28 +1,295 @@
 -- The numbers of what an audit finds have 64 bits, and what it finds is no more than the dump has bytes.
-use Rattle.std.proofs.Common.{◌≡◌, ℕ, suc, ◌+◌, ◌<◌, ◌≤◌, ◌^◌, ◌&&◌, Bool, true, false, List, [], ◌∷◌, ◌++◌, length, map, Option, None, Some, refl, subst, arith, if◌then◌else◌}
-use Rattle.std.specs.Prelude.{All, IfSome, ◌==◌, flat_map, nat_le, nat_lt, slice_get, slice_index_or}
+use Rattle.std.proofs.Common.{◌≡◌, ℕ, suc, ◌+◌, ◌-◌, ◌≤◌, ◌==◌, ◌&&◌, Bool, true, false, List, [], ◌∷◌, length, map, take, drop, Option, None, Some, cond, if◌then◌else◌, refl, ap, ◌∙◌, arith, ◌<◌, not, subst, ◌^◌, ◌++◌}
+use Rattle.std.specs.Prelude.{All, IfSome, codes, find, nat_eq, filter, slice_get, unwrap_or, flat_map, nat_le, nat_lt, slice_index_or}
+use Rattle.std.specs.List.{ends_with, position_or_len, between, enumerate_from, cons_option, filter_map, list_all, starts_with}
+use Rattle.std.specs.Option.{option_and_then, option_map, option_flatten, option_to_list}
 use Rattle.std.specs.Char.{digit_value}
-use Rattle.std.specs.List.{cons_option, enumerate_from, filter_map, list_all}
-use Rattle.std.specs.Option.{option_and_then, option_flatten, option_map, option_to_list}
 use Rattle.std.specs.Str.Parse.{digits_value}
+use Rattle.std.proofs.lemmas.List.{length-drop, length-map, length-take, length-append}
+use Rattle.std.proofs.lemmas.List.Elements.{All-nil, All-cons, All-head, All-map, All-tail, All-filter, All-append}
+use Rattle.std.proofs.lemmas.Option.{IfSome_then, get_or_from_slice_get, slice_get_within}
+use Rattle.std.proofs.lemmas.Slice.Eq.{bytes_eq-Decides}
 use Rattle.std.proofs.lemmas.Bool.{ltb-true}
-use Rattle.std.proofs.lemmas.List.{length-append}
-use Rattle.std.proofs.lemmas.List.Elements.{All-nil, All-cons, All-append, All-head, All-tail}
-use Rattle.std.proofs.lemmas.Option.{get_or_from_slice_get, slice_get_within}
+use Rattle.dump_io.specs.Colons.{has_colon, is_colon}
+use Rattle.dump_io.specs.Lines.{cr, lf, lines_after, lines_from, raw_lines, text_of}
+use Rattle.field_lines.specs.Fields.{find_line, has_key, key_of, place_of as line_place, value_of, without_space}
+use Rattle.field_lines.specs.Lines.{TextLine, text_line, text_lines}
+use Rattle.section_rows.specs.Rows.{Kept, field_kept, kept, body_of}
+use Rattle.link_entries.specs.Entries.{LinkEntry, cut, entries_at, entry_of, is_gap, led_by, parts_from, parts_of}
+use Rattle.link_entries.specs.Lists.{links_in}
+use Rattle.link_entries.specs.Texts.{before, behind, inside, is_local}
+use Rattle.link_graph.specs.Graph.{links_of}
+use Rattle.dump_sections.specs.Sections.{Section, section, sections}
+use Rattle.dump_sections.specs.Tiling.{Tile}
+use Rattle.process_table.specs.Records.{Placed, first_of_each, has_same_pid, is_process, placed, process_sections, records}
+use Rattle.dump_audit.specs.Laws.{all-numbered}
 use Rattle.dump_io.specs.Numbers.{dec_number}
 use Rattle.dump_sections.specs.Bodies.{section_at}
-use Rattle.section_rows.specs.Rows.{Kept}
-use Rattle.process_table.specs.Processes.{Process, process_at}
-use Rattle.process_table.specs.Records.{Placed}
+use Rattle.process_table.specs.Processes.{Process, process_at, process_in, process_table}
 use Rattle.link_entries.specs.Kinds.{Kind, Link, To, From}
-use Rattle.link_entries.specs.Entries.{LinkEntry}
-use Rattle.link_entries.specs.Texts.{is_local}
-use Rattle.link_graph.specs.Graph.{links_of}
-use Rattle.dump_audit.specs.Findings.{Audit, count_findings, entry_finding, entry_findings, gone, is_dumped, mail_of, one_sided, partner_finding, place_of, process_findings, queue_findings, section_offset, stated_findings}
+use Rattle.dump_audit.specs.Findings.{Audit, count_findings, entry_finding, entry_findings, gone, is_dumped, mail_of, one_sided, partner_finding, place_of, process_findings, queue_findings, section_offset, stated_findings, audit_of, findings}
 use Rattle.dump_audit.specs.declared.finding.Finding.{Finding}
 use Rattle.dump_audit.specs.declared.finding.Finding.TheVariants.{UnreadLinks, UnreadQueue, Mailbox, QueueCount}
-use Rattle.json_report.specs.Laws.{AreCounts, Has64Bits}
-use Rattle.json_report.proofs.Stands.{Stands, links-within, total}
+use Rattle.dump_sections.specs.Index.{index_of}
+use Rattle.dump_sections.specs.Versions.{signature}
+use Rattle.json_report.specs.Laws.{AreCounts, Has64Bits, AreOfFile, ReadsBack}
+use Rattle.json_report.proofs.ReadingBack.{reads-back}
+
+-- ---- lists
+
+-- what is counted of each element, together
+abbrev pub total : {X : Type 0} → (X → ℕ) → List X → ℕ
+total w [] = 0
+total w (x ∷ xs) = w x + total w xs
+
+right-holds : (a b : Bool) → (a && b) ≡ true → b ≡ true
+right-holds true b is = is
+right-holds false b is = absurd cc
+
+-- what a search finds passes its test
+pick : {X : Type 0} (P : X → Type 0) (test : X → Bool) (x : X) (xs : List X) (b : Bool) → test x ≡ b → P x
+    → IfSome (find test xs) (λ y. P y × (test y ≡ true)) → IfSome (cond b (Some x) (find test xs)) (λ y. P y × (test y ≡ true))
+pick P test x xs true is here later = (here, is)
+pick P test x xs false is here later = later
+
+found : {X : Type 0} (P : X → Type 0) (test : X → Bool) (xs : List X) → All P xs → IfSome (find test xs) (λ x. P x × (test x ≡ true))
+found P test [] all = tt
+found P test (x ∷ xs) all = pick P test x xs (test x) refl (All-head P x xs all) (found P test xs (All-tail P x xs all))
+
+-- ---- lines
+
+total-after : (c : ℕ) (lines : List (List ℕ)) → total length (lines_after c lines) ≡ suc (total length lines)
+total-after c [] = refl
+total-after c (line ∷ lines) = omega arith
+
+total-pair : (c : ℕ) (bytes : List ℕ) (b : Bool) → total length (raw_lines bytes) ≡ length bytes
+    → total length (if b then (c ∷ []) ∷ raw_lines bytes else lines_after c (raw_lines bytes)) ≡ suc (length bytes)
+total-pair c bytes true rest = omega (arith, rest)
+total-pair c bytes false rest = total-after c (raw_lines bytes) ∙ ap suc rest
+
+-- the raw lines are as long as the bytes
+total-lines : (bytes : List ℕ) → total length (raw_lines bytes) ≡ length bytes
+total-lines [] = refl
+total-lines (c ∷ bytes) = total-pair c bytes (c == lf) (total-lines bytes)
+
+length-cut : (n : ℕ) (raw : List ℕ) → length (take n raw) ≤ length raw
+length-cut n raw = omega (arith, length-take n raw)
+
+length-chosen : (raw : List ℕ) (a b : Bool) → length (if a then take (length raw - 2) raw else (if b then take (length raw - 1) raw else raw)) ≤ length raw
+length-chosen raw true b = length-cut (length raw - 2) raw
+length-chosen raw false true = length-cut (length raw - 1) raw
+length-chosen raw false false = omega arith
+
+length-text_of : (raw : List ℕ) → length (text_of raw) ≤ length raw
+length-text_of raw = length-chosen raw (ends_with nat_eq raw (cr ∷ lf ∷ [])) (ends_with nat_eq raw (lf ∷ []))
+
+lines-inside : (at : ℕ) (raws : List (List ℕ)) → All (λ line. line.at + length line.text ≤ at + total length raws) (map text_line (lines_from at raws))
+lines-inside at [] = All-nil (λ line. line.at + length line.text ≤ at + 0)
+lines-inside at (raw ∷ raws) =
+    let rest = lines-inside (at + length raw) raws in
+    All-cons (λ line. line.at + length line.text ≤ at + total length (raw ∷ raws)) _ _ (omega (arith, length-text_of raw)) (λ k d l. omega (arith, rest k d l))
+
+-- the text of each line of a body ends in it
+text-inside : (body : List ℕ) → All (λ line. line.at + length line.text ≤ length body) (text_lines body)
+text-inside body = let all = lines-inside 0 (raw_lines body) in λ k d l. omega (arith, all k d l, total-lines body)
+
+-- ---- fields
+
+length-without_space : (text : List ℕ) → length (without_space text) ≤ length text
+length-without_space [] = omega arith
+length-without_space (c ∷ text) = of (c == 32)
+  where
+    of : (b : Bool) → length (if b then text else c ∷ text) ≤ length (c ∷ text)
+    of true = omega arith
+    of false = omega arith
+
+-- a key and a value together are no longer than their line
+length-parts : (text : List ℕ) → length (key_of text) + length (value_of text) ≤ length text
+length-parts text =
+    let n = position_or_len is_colon text in
+    omega (arith, length-take n text, length-drop (n + 1) text, length-without_space (drop (n + 1) text))
+
+-- a field stands in a body of so many bytes that begins at this offset, and isn't all of it
+pub record Stands (base size : ℕ) (k : Kept) : Type 0 where
+  pub line : k.at ≤ base + size
+  pub value : k.value_at + length k.text ≤ base + size
+  pub short : length k.text + 3 ≤ size
+
+kept-stands : (base : ℕ) (body key : List ℕ) (line : Option TextLine) → 3 ≤ length key
+    → IfSome line (λ l. (l.at + length l.text ≤ length body) × (has_key key l ≡ true))
+    → IfSome (option_map (λ l. kept (base + l.at) (base + (line_place l).from) (value_of l.text)) line) (Stands base (length body))
+kept-stands base body key None long there = tt
+kept-stands base body key (Some l) long there =
+    let parts = length-parts l.text in
+    let same = ap length ((bytes_eq-Decides (key_of l.text) key).0 (right-holds (has_colon l.text) _ there.1)) in
+    record {
+      line = omega (arith, there.0);
+      value = omega (arith, there.0, parts);
+      short = omega (arith, there.0, parts, same, long);
+    }
+
+-- each field with a key of three bytes or more does
+pub field-stands : (base : ℕ) (body key : List ℕ) → 3 ≤ length key → IfSome (field_kept base body key) (Stands base (length body))
+field-stands base body key long =
+    kept-stands base body key (find_line body key) long
+    (found (λ l. l.at + length l.text ≤ length body) (has_key key) (text_lines body) (text-inside body))
+
+-- ---- entries
+
+-- how many bytes parts have with a gap behind each
+abbrev spread : List (List ℕ) → ℕ
+spread texts = total (λ t. length t + 2) texts
+
+spread-led_by : (c : ℕ) (parts : List (List ℕ)) → 2 ≤ spread parts → spread (led_by c parts) ≡ suc (spread parts)
+spread-led_by c [] some = absurd (omega (arith, some))
+spread-led_by c (part ∷ parts) some = omega arith
+
+spread-pair : (c d : ℕ) (text : List ℕ) (b : Bool) → spread (cut text) ≡ length text + 2 → spread (cut (d ∷ text)) ≡ length (d ∷ text) + 2
+    → spread (if b then [] ∷ cut text else led_by c (cut (d ∷ text))) ≡ length (c ∷ d ∷ text) + 2
+spread-pair c d text true behind others = omega (arith, behind)
+spread-pair c d text false behind others = spread-led_by c (cut (d ∷ text)) (omega (arith, others)) ∙ omega (arith, others)
+
+spread-cut : (text : List ℕ) → spread (cut text) ≡ length text + 2
+unfolding cut
+spread-cut [] = refl
+spread-cut (c ∷ []) = refl
+spread-cut (c ∷ d ∷ text) = spread-pair c d text (is_gap c d) (spread-cut text) (spread-cut (d ∷ text))
+
+parts-inside : (at : ℕ) (texts : List (List ℕ)) → All (λ part. part.at + 2 ≤ at + spread texts) (parts_from at texts)
+parts-inside at [] = All-nil (λ part. part.at + 2 ≤ at + 0)
+parts-inside at (text ∷ texts) =
+    let rest = parts-inside (at + length text + 2) texts in
+    All-cons (λ part. part.at + 2 ≤ at + spread (text ∷ texts)) _ _ (omega arith) (λ k d l. omega (arith, rest k d l))
+
+parts-few : (at : ℕ) (texts : List (List ℕ)) → length (parts_from at texts) + length (parts_from at texts) ≤ spread texts
+parts-few at [] = omega arith
+parts-few at (text ∷ texts) = omega (arith, parts-few (at + length text + 2) texts)
+
+-- entries that stand before an end, and are no more than so many
+pub record AreWithin (end most : ℕ) (entries : List LinkEntry) : Type 0 where
+  pub places : All (λ e. e.at ≤ end) entries
+  pub few : length entries ≤ most
+
+entries-within : (at : ℕ) (inner : List ℕ) → AreWithin (at + length inner) (length inner + 2) (map entry_of (parts_of at inner))
+entries-within at [] = record { places = All-nil (λ e. e.at ≤ at + 0); few = omega arith }
+entries-within at (c ∷ inner) =
+    let texts = cut (c ∷ inner) in
+    let within = parts-inside at texts in
+    let long = spread-cut (c ∷ inner) in
+    record {
+      places = All-map (λ e. e.at ≤ at + length (c ∷ inner)) entry_of (parts_from at texts) (λ k d l. omega (arith, within k d l, long));
+      few = omega (arith, parts-few at texts, long, length-map (parts_from at texts) entry_of);
+    }
+
+-- what stands in brackets is two bytes shorter
+length-before : (text : List ℕ) → IfSome (before (codes "]") text) (λ inner. length inner + 1 ≤ length text)
+unfolding before
+length-before [] = tt
+length-before (c ∷ text) = of (ends_with nat_eq (c ∷ text) (codes "]"))
+  where
+    of : (b : Bool) → IfSome (if b then Some (take (length (c ∷ text) - length (codes "]")) (c ∷ text)) else None) (λ inner. length inner + 1 ≤ length (c ∷ text))
+    of true = omega (arith, length-take (length (c ∷ text) - length (codes "]")) (c ∷ text))
+    of false = tt
+
+length-inside : (text : List ℕ) → IfSome (inside (codes "[") (codes "]") text) (λ inner. length inner + 2 ≤ length text)
+unfolding inside behind
+length-inside [] = tt
+length-inside (c ∷ text) = of (c == 91)
+  where
+    of : (b : Bool) → IfSome (option_and_then (before (codes "]")) (if b then Some text else None)) (λ inner. length inner + 2 ≤ length (c ∷ text))
+    of true = IfSome_then (before (codes "]") text) (length-before text) (λ inner short. omega (arith, short))
+    of false = tt
+
+in-brackets : (at : ℕ) (text : List ℕ) (inner : Option (List ℕ)) → IfSome inner (λ i. length i + 2 ≤ length text)
+    → IfSome (option_map (map entry_of) (option_map (parts_of (at + 1)) inner)) (AreWithin (at + length text) (length text))
+in-brackets at text None short = tt
+in-brackets at text (Some inner) short =
+    let within = entries-within (at + 1) inner in
+    record {
+      places = λ k d l. omega (arith, within.places k d l, short);
+      few = omega (arith, within.few, short);
+    }
+
+links-in : (end most : ℕ) (entries : Option (List LinkEntry)) → IfSome entries (AreWithin end most) → AreWithin end most (links_in entries).entries
+links-in end most None within = record { places = All-nil (λ e. e.at ≤ end); few = omega arith }
+links-in end most (Some entries) within = within
+
+-- the entries of a link list stand in its text
+pub links-within : (list : Kept) → AreWithin (list.value_at + length list.text) (length list.text) (links_of (Some list)).entries
+links-within list =
+    links-in _ _ (entries_at list.value_at list.text) (in-brackets list.value_at list.text (inside (codes "[") (codes "]") list.text) (length-inside list.text))
+
+-- ---- the sections of a dump, of which each has bytes of its own
+
+-- how many bytes a section has
+abbrev pub span : Section → ℕ
+span s = s.end - s.at
+
+-- a section has its header in front of its body, and ends by the size
+pub record LiesIn (size : ℕ) (s : Section) : Type 0 where
+  pub header : s.at < s.body
+  pub body : s.body ≤ s.end
+  pub end : s.end ≤ size
+
+Tile-rises : (from size : ℕ) (ss : List Section) → Tile from size ss → from ≤ size
+Tile-rises from size [] tiled = omega (arith, tiled)
+Tile-rises from size (s ∷ ss) tiled = omega (arith, tiled.0, tiled.1, tiled.2, Tile-rises s.end size ss tiled.3)
+
+-- together the sections have the bytes between the first and the end
+pub total-spans : (from size : ℕ) (ss : List Section) → Tile from size ss → from + total span ss ≡ size
+total-spans from size [] tiled = omega (arith, tiled)
+total-spans from size (s ∷ ss) tiled = omega (arith, tiled.0, tiled.1, tiled.2, total-spans s.end size ss tiled.3)
+
+pub all-lie : (from size : ℕ) (ss : List Section) → Tile from size ss → All (LiesIn size) ss
+all-lie from size [] tiled = All-nil (LiesIn size)
+all-lie from size (s ∷ ss) tiled =
+    All-cons (LiesIn size) s ss (record { header = tiled.1; body = tiled.2; end = Tile-rises s.end size ss tiled.3 }) (all-lie s.end size ss tiled.3)
+
+-- where the section at a place begins, or where there is none
+at-or-none : (size : ℕ) (s : Option Section) → ((x : Section) → s ≡ Some x → LiesIn size x) → (unwrap_or s (section 0 0 0 [])).at ≤ size
+at-or-none size None lies = omega arith
+at-or-none size (Some s) lies = let in_it = lies s refl in omega (arith, in_it.header, in_it.body, in_it.end)
+
+pub place-lies : (size : ℕ) (ss : List Section) (i : ℕ) → All (LiesIn size) ss → (unwrap_or (slice_get ss i) (section 0 0 0 [])).at ≤ size
+place-lies size ss i all = at-or-none size (slice_get ss i) (λ s at. subst (LiesIn size) (get_or_from_slice_get ss i s s at) (all i s (slice_get_within ss i s at)))
+
+-- the body of a section has its bytes
+pub length-between : (from upto : ℕ) (bytes : List ℕ) → length (between from upto bytes) ≤ upto - from
+length-between from upto bytes = omega (arith, length-take (upto - from) (drop from bytes), length-drop from bytes)
+
+-- ---- records
+
+total-numbered : {X : Type 0} (w : X → ℕ) (n : ℕ) (xs : List X) → total (λ p. w p.1) (enumerate_from n xs) ≡ total w xs
+total-numbered w n [] = refl
+total-numbered w n (x ∷ xs) = ap (λ m. w x + m) (total-numbered w (n + 1) xs)
+
+total-kept : {X : Type 0} (w : X → ℕ) (x : X) (xs ys : List X) (b : Bool) → total w ys ≤ total w xs → total w (cond b (x ∷ ys) ys) ≤ total w (x ∷ xs)
+total-kept w x xs ys true less = omega (arith, less)
+total-kept w x xs ys false less = omega (arith, less)
+
+total-filter : {X : Type 0} (w : X → ℕ) (test : X → Bool) (xs : List X) → total w (filter test xs) ≤ total w xs
+total-filter w test [] = omega arith
+total-filter w test (x ∷ xs) = total-kept w x xs (filter test xs) (test x) (total-filter w test xs)
+
+total-firsts : (w : Placed → ℕ) (ps : List Placed) → total w (first_of_each ps) ≤ total w ps
+total-firsts w [] = omega arith
+total-firsts w (p ∷ ps) = omega (arith, total-filter w (λ other. not (has_same_pid p other)) (first_of_each ps), total-firsts w ps)
+
+-- the records of the process table have no more than all sections
+pub total-records : (w : Section → ℕ) (ss : List Section) → total (λ p. w p.1) (records ss) ≤ total w ss
+total-records w ss =
+    omega (arith, total-firsts (λ p. w p.1) (process_sections (placed ss)), total-filter (λ p. w p.1) (λ p. is_process p.1) (placed ss), total-numbered w 0 ss)
+
+all-firsts : (P : Placed → Type 0) (ps : List Placed) → All P ps → All P (first_of_each ps)
+all-firsts P [] all = All-nil P
+all-firsts P (p ∷ ps) all =
+    All-cons P p _ (All-head P p ps all) (All-filter _ P (first_of_each ps) (all-firsts P ps (All-tail P p ps all)))
+
+pub all-records : (P : Section → Type 0) (ss : List Section) → All P ss → All (λ p. P p.1) (records ss)
+all-records P ss all =
+    all-firsts (λ p. P p.1) (process_sections (placed ss)) (All-filter (λ p. is_process p.1) (λ p. P p.1) (placed ss) (all-numbered P 0 ss all))
+
+-- ---- the numbers of what an audit finds have 64 bits, and what it finds is no more than the dump has bytes
 
 -- ---- lists of findings
 
@@ -179,3 +446,30 @@ module _ (a : Audit) (begins : (place : ℕ) → (section_at a.index place).at <
   all-small weight made n (p ∷ ps) all =
       both (weight p) (total weight ps) (process_findings a (n, made p)) _ (All-head (λ p. (i : ℕ) → AreSmall (weight p) (process_findings a (i, made p))) p ps all n)
       (all-small weight made (n + 1) ps (All-tail (λ p. (i : ℕ) → AreSmall (weight p) (process_findings a (i, made p))) p ps all))
+
+-- ---- what an audit finds in the dump of a file
+
+module _ (tiles : (bytes : List ℕ) → starts_with nat_eq bytes signature ≡ true → Tile 0 (length bytes) (sections bytes)) where
+  found-small : (bytes : List ℕ) (limit : ℕ) (mails : Option (List (Option ℕ))) → AreOfFile bytes → AreCounts mails
+      → AreSmall (length bytes) (findings (audit_of (index_of bytes) (process_table bytes).processes limit mails))
+  found-small bytes limit mails file counted =
+      let a = audit_of (index_of bytes) (process_table bytes).processes limit mails in
+      let ss = sections bytes in
+      let tiled = tiles bytes file.begins in
+      let all = all-lie 0 (length bytes) ss tiled in
+      let begins : (place : ℕ) → (section_at a.index place).at < 2 ^ 64 = λ place. omega (arith, place-lies (length bytes) ss place all, file.size) in
+      more _ (length bytes) _ (omega (arith, total-records span ss, total-spans 0 (length bytes) ss tiled))
+      (all-small a begins counted (λ p. span p.1) (λ p. process_in p (body_of bytes p.1)) 0 (records ss)
+      (λ k d l i.
+      let p = slice_index_or (records ss) k d in
+      let lies = all-records (LiesIn (length bytes)) ss all k d l in
+      let body = body_of bytes p.1 in
+      let short = length-between p.1.body p.1.end bytes in
+      more (length body) (span p.1) _ (omega (arith, lies.header, lies.body, short))
+      (process-small a begins counted i p.1.body (length body) (process_in p body) (omega (arith, lies.body, lies.end, short, file.size))
+      (field-stands p.1.body body (codes "Link list") (omega arith)) (field-stands p.1.body body (codes "Message queue length") (omega arith)))))
+
+  pub all-read-back : ReadsBack
+  all-read-back bytes limit mails file counted =
+      let small = found-small bytes limit mails file counted in
+      reads-back (index_of bytes) (process_table bytes).processes _ (omega (arith, small.few, file.size)) small.bits

@@ -1,16 +1,18 @@
 -- The text of a tree is read back as that tree.
-use Rattle.std.proofs.Common.{◌≡◌, ℕ, suc, ◌<◌, ◌≤◌, ◌^◌, false, ◌||◌, List, [], ◌∷◌, length, map, Some, codes, option_map, option_and_then, refl, sym, ap, ◌∙◌, arith, append-nil}
+use Rattle.json.specs.Json as json
+use Rattle.std.proofs.Common.{◌≡◌, ℕ, suc, ◌+◌, ◌<◌, List, [], ◌∷◌, length, get_or, map, drop, drop-cons, refl, sym, ap, ◌∙◌, subst, arith, ◌≤◌, ◌^◌, false, ◌||◌, Some, codes, option_map, option_and_then, append-nil}
 use Rattle.std.specs.Prelude.{All, unwrap_or}
 use Rattle.std.proofs.lemmas.List.Elements.{All-head, All-tail}
-use Rattle.json.specs.Json as json
+use Rattle.serde.specs.Event.{Log}
+use Rattle.serde_json.specs.Data.{Data, number, string, array, object, Members, no_members, put}
+use Rattle.serde_json.specs.Events.{SendsItems, SendsValue, items_len, members_len}
+use Rattle.serde_json.specs.View.{items_of}
 use Rattle.json.specs.Tree.{json_tokens, HasNumbers, ItemsHaveNumbers, MembersHaveNumbers, depth, items_depth, members_depth}
 use Rattle.json.proofs.Printed.Decimals.{IsNumber-decimal}
 use Rattle.json.proofs.Printed.Tokens.{tokens-print}
 use Rattle.json.proofs.Printed.Trees.{value-json_tokens, ArePrintable-json_tokens}
-use Rattle.serde_json.specs.Data.{Data, number, string, array, object, Members, no_members, put}
 use Rattle.serde_json.specs.Read.{read, of_json, of_items, of_members, max_depth}
-use Rattle.serde_json.specs.View.{items_of}
-use Rattle.serde_json.specs.Written.{outline, items_outline, members_outline, compact_text, has_float, items_have_float, members_have_float}
+use Rattle.serde_json.specs.Written.{outline, items_outline, members_outline, compact_text, has_float, items_have_float}
 use Rattle.serde_json.proofs.Numbers.{number_of-decimal}
 use Rattle.serde_json.proofs.Texts.{print-outline}
 use Rattle.dump_sections.specs.Index.{Contents, state_of}
@@ -18,15 +20,31 @@ use Rattle.process_table.specs.Processes.{Process}
 use Rattle.dump_audit.specs.declared.finding.Finding.{Finding}
 use Rattle.dump_audit.specs.declared.finding.Finding.TheVariants.{LinkOneSided, MonitorTo, MonitorFrom, Mailbox, UnreadLinks, UnreadQueue, LinkGone, ToGone, FromGone, QueueCount}
 use Rattle.dump_audit.specs.FindingNames.{pid_at, partner_at, reference_at}
+use Rattle.json_report.specs.Trees.{members, characters, num, text, process_object, link_object, monitor_object, mailbox_object, count_object, finding_object, state_text, tree_object, finding_tree}
 use Rattle.json_report.specs.Laws.{Has64Bits, IsReadBack}
-use Rattle.json_report.specs.Trees.{characters, num, text, members, process_object, link_object, monitor_object, mailbox_object, count_object, finding_object, state_text, tree_object, finding_tree}
+
+pub members_len-members : (ms : List (List ℕ × Data)) → members_len (members ms) ≡ length ms
+members_len-members [] = refl
+members_len-members ((key, value) ∷ ms) = ap suc (members_len-members ms)
+
+pub items_len-items_of : (ds : List Data) → items_len (items_of ds) ≡ length ds
+items_len-items_of [] = refl
+items_len-items_of (d ∷ ds) = ap suc (items_len-items_of ds)
+
+-- an item, and then those behind it
+pub SendsItems-more : {A : Type 0} (object : A → Data) (xs : List A) (i : ℕ) (d : A) (old mid end : Log) → i < length xs
+    → SendsValue (object (get_or xs i d)) old mid → SendsItems (items_of (map object (drop (i + 1) xs))) mid end → SendsItems (items_of (map object (drop i xs))) old end
+SendsItems-more show xs i d old mid end inside here later =
+    let behind : suc i ≡ i + 1 = omega arith in
+    subst (λ ys. SendsItems (items_of (map show ys)) old end) (sym (drop-cons xs i d inside ∙ ap (λ n. get_or xs i d ∷ drop n xs) behind)) (mid, here, later)
+
+-- ---- the text of a tree is read back as that tree
 
 -- a value of at most this depth whose parts are read back
 pub record IsPlain (n : ℕ) (d : Data) : Type 0 where
   pub numbers : HasNumbers (outline d)
   pub reads : of_json (outline d) ≡ Some d
   pub shallow : depth (outline d) ≤ n
-  pub whole : has_float d ≡ false
 
 read-back : (d : Data) → IsPlain max_depth d → read (compact_text d) ≡ Some d
 read-back d plain =
@@ -40,10 +58,10 @@ read-back d plain =
 -- ---- numbers and texts
 
 plain-num : (n : ℕ) → n < 2 ^ 64 → IsPlain 0 (num n)
-plain-num n fits = record { numbers = IsNumber-decimal n fits; reads = ap (option_map number) (number_of-decimal n fits); shallow = omega arith; whole = refl }
+plain-num n fits = record { numbers = IsNumber-decimal n fits; reads = ap (option_map number) (number_of-decimal n fits); shallow = omega arith }
 
 plain-string : (s : List ℕ) → IsPlain 0 (string s)
-plain-string s = record { numbers = tt; reads = refl; shallow = omega arith; whole = refl }
+plain-string s = record { numbers = tt; reads = refl; shallow = omega arith }
 
 -- ---- objects
 
@@ -56,30 +74,21 @@ abbrev put_all : List (List ℕ × Data) → Members → Members
 put_all [] found = found
 put_all (m ∷ ms) found = put_all ms (put m.0 m.1 found)
 
-numbers-members : (n : ℕ) (ms : List (List ℕ × Data)) → ArePlain n ms → MembersHaveNumbers (members_outline (members ms))
-numbers-members n [] p = tt
-numbers-members n (m ∷ ms) p = (p.0.numbers, numbers-members n ms p.1)
+plain-members : (n : ℕ) (ms : List (List ℕ × Data)) → ArePlain n ms → MembersHaveNumbers (members_outline (members ms)) × (members_depth (members_outline (members ms)) ≤ n)
+plain-members n [] p = (tt, omega arith)
+plain-members n (m ∷ ms) p = let rest = plain-members n ms p.1 in ((p.0.numbers, rest.0), omega (arith, p.0.shallow, rest.1))
 
 reads-members : (n : ℕ) (ms : List (List ℕ × Data)) (found : Members) → ArePlain n ms → of_members (members_outline (members ms)) found ≡ Some (put_all ms found)
 reads-members n [] found p = refl
 reads-members n (m ∷ ms) found p =
     ap (option_and_then (λ d. of_members (members_outline (members ms)) (put m.0 d found))) p.0.reads ∙ reads-members n ms (put m.0 m.1 found) p.1
 
-shallow-members : (n : ℕ) (ms : List (List ℕ × Data)) → ArePlain n ms → members_depth (members_outline (members ms)) ≤ n
-shallow-members n [] p = omega arith
-shallow-members n (m ∷ ms) p = omega (arith, p.0.shallow, shallow-members n ms p.1)
-
-whole-members : (n : ℕ) (ms : List (List ℕ × Data)) → ArePlain n ms → members_have_float (members ms) ≡ false
-whole-members n [] p = refl
-whole-members n (m ∷ ms) p = ap (λ b. b || members_have_float (members ms)) p.0.whole ∙ whole-members n ms p.1
-
 -- an object whose keys stand in their order
 plain-object : (n : ℕ) (ms : List (List ℕ × Data)) → ArePlain n ms → put_all ms no_members ≡ members ms → IsPlain (suc n) (object (members ms))
 plain-object n ms p ordered = record {
-  numbers = numbers-members n ms p;
+  numbers = (plain-members n ms p).0;
   reads = ap (option_map object) (reads-members n ms no_members p ∙ ap Some ordered);
-  shallow = omega (arith, shallow-members n ms p);
-  whole = whole-members n ms p;
+  shallow = omega (arith, (plain-members n ms p).1);
 }
 
 -- ---- arrays
@@ -88,28 +97,19 @@ abbrev AllPlain : ℕ → List Data → Type 0
 AllPlain n [] = Unit {0}
 AllPlain n (d ∷ ds) = IsPlain n d × AllPlain n ds
 
-numbers-items : (n : ℕ) (ds : List Data) → AllPlain n ds → ItemsHaveNumbers (items_outline (items_of ds))
-numbers-items n [] p = tt
-numbers-items n (d ∷ ds) p = (p.0.numbers, numbers-items n ds p.1)
+plain-items : (n : ℕ) (ds : List Data) → AllPlain n ds → ItemsHaveNumbers (items_outline (items_of ds)) × (items_depth (items_outline (items_of ds)) ≤ n)
+plain-items n [] p = (tt, omega arith)
+plain-items n (d ∷ ds) p = let rest = plain-items n ds p.1 in ((p.0.numbers, rest.0), omega (arith, p.0.shallow, rest.1))
 
 reads-items : (n : ℕ) (ds : List Data) → AllPlain n ds → of_items (items_outline (items_of ds)) ≡ Some (items_of ds)
 reads-items n [] p = refl
 reads-items n (d ∷ ds) p = rw (p.0.reads, reads-items n ds p.1)
 
-shallow-items : (n : ℕ) (ds : List Data) → AllPlain n ds → items_depth (items_outline (items_of ds)) ≤ n
-shallow-items n [] p = omega arith
-shallow-items n (d ∷ ds) p = omega (arith, p.0.shallow, shallow-items n ds p.1)
-
-whole-items : (n : ℕ) (ds : List Data) → AllPlain n ds → items_have_float (items_of ds) ≡ false
-whole-items n [] p = refl
-whole-items n (d ∷ ds) p = ap (λ b. b || items_have_float (items_of ds)) p.0.whole ∙ whole-items n ds p.1
-
 plain-array : (n : ℕ) (ds : List Data) → AllPlain n ds → IsPlain (suc n) (array (items_of ds))
 plain-array n ds p = record {
-  numbers = numbers-items n ds p;
+  numbers = (plain-items n ds p).0;
   reads = ap (option_map array) (reads-items n ds p);
-  shallow = omega (arith, shallow-items n ds p);
-  whole = whole-items n ds p;
+  shallow = omega (arith, (plain-items n ds p).1);
 }
 
 -- ---- findings
@@ -165,7 +165,7 @@ plain-findings ps (f ∷ found) b = (plain-finding ps f (All-head Has64Bits f fo
 
 -- the same with room for more depth
 plain-deeper : (m n : ℕ) (d : Data) → m ≤ n → IsPlain m d → IsPlain n d
-plain-deeper m n d le p = record { numbers = p.numbers; reads = p.reads; shallow = omega (arith, le, p.shallow); whole = p.whole }
+plain-deeper m n d le p = record { numbers = p.numbers; reads = p.reads; shallow = omega (arith, le, p.shallow) }
 
 -- a tree of findings whose numbers have 64 bits, with any state
 pub plain-tree : (ps : List Process) (found : List Finding) (state : List ℕ) → length found < 2 ^ 64 → All Has64Bits found

@@ -1,9 +1,10 @@
 // The members of an object, and how they are sent to a serializer.
-ghost use Rattle.std.specs.Prelude.{◌≡◌, string_bytes, IfOk, IfSome, OnOk};
+ghost use Rattle.std.specs.Prelude.{◌≡◌, map, string_bytes, IfOk, IfSome, OnOk};
 ghost use Rattle.serde.specs.Event.{Logs, text};
+ghost use Rattle.serde_json.specs.Data.{object};
 ghost use Rattle.serde_json.specs.Events.{SendsValue};
-ghost use Rattle.json_report.specs.Inner.Members.{shown_object, shown_told};
-ghost use Rattle.json_report.specs.Trees.{characters};
+ghost use Rattle.json_report.specs.Inner.Members.{shown_member, shown_told};
+ghost use Rattle.json_report.specs.Trees.{characters, members as members_of};
 
 use serde::Serializer;
 use std::alloc::{AllocError, Global};
@@ -69,7 +70,7 @@ pub(crate) fn send_object<S: Serializer>(
     alloc: Global,
     members: &[Member<'_>],
 ) -> Result<(), S::Error>
-    ensures { OnOk result (SendsValue (shown_object members.now) (S.written out.old) (S.written out.new)) }
+    ensures { OnOk result (SendsValue (object (members_of (map shown_member members.now))) (S.written out.old) (S.written out.new)) }
 {
     out.begin_map(Some(members.len()))?;
     for (key, told) in members {

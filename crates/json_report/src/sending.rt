@@ -1,11 +1,13 @@
 // Sending what an audit found to a serializer.
-ghost use Rattle.std.specs.Prelude.{◌≡◌, All, OnOk};
+ghost use Rattle.std.specs.Prelude.{◌≡◌, map, All, OnOk};
+ghost use Rattle.serde_json.specs.Data.{array};
 ghost use Rattle.serde_json.specs.Events.{SendsValue};
+ghost use Rattle.serde_json.specs.View.{items_of};
 ghost use Rattle.link_graph.specs.Graph.{graph_of};
 ghost use Rattle.dump_audit.specs.Fitting.{Fits};
-ghost use Rattle.json_report.specs.Inner.Members.{found_array};
 ghost use Rattle.json_report.specs.Inner.Parts.{parts, tree_of};
 ghost use Rattle.json_report.specs.Laws.{Has64Bits};
+ghost use Rattle.json_report.specs.Trees.{finding_object};
 
 use crate::found::Found;
 use crate::objects::send_finding;
@@ -25,7 +27,7 @@ fn send_findings<S: Serializer>(
 ) -> Result<(), S::Error>
     requires graph { graph.now ≡ graph_of procs.now.processes }
     requires fits { All (Fits procs.now.processes) findings.now }
-    ensures objects { OnOk result (SendsValue (found_array procs.now.processes findings.now) (S.written out.old) (S.written out.new)) }
+    ensures objects { OnOk result (SendsValue (array (items_of (map (finding_object procs.now.processes) findings.now))) (S.written out.old) (S.written out.new)) }
     ensures bits { OnOk result (All Has64Bits findings.now) }
 {
     out.begin_seq(Some(findings.len()))?;

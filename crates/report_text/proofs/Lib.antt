@@ -1,2 +1,1 @@
-pub mod LinkFacts
 pub mod TableFacts

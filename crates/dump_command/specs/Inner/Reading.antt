@@ -1,18 +1,60 @@
--- What a command reads of the open dump, and what it leaves of its report.
-use Rattle.std.specs.Prelude.{◌≡◌, ℕ, ◌≤◌, List, Option, None, Some, Result, Ok, Err, IsSome, MatchResult}
+-- What is known of a dump that was opened, what a command reads of it, and what it leaves of its report.
+use Rattle.std.specs.Prelude.{◌≡◌, ◌⊎◌, ℕ, ◌≤◌, List, length, Option, None, Some, Result, Ok, Err, IsSome, MatchResult, ◌++◌}
 use Rattle.std.specs.Option.{option_or}
-use Rattle.dump_io.specs.Dumps.{DeviceState, DeviceFailed, ReadsAtMost}
+use Rattle.dump_io.specs.Counts.{plus_capped}
+use Rattle.dump_io.specs.Dumps.{Now, closed, told, IsAbsent, DeviceState, DeviceFailed, ReadsAtMost}
 use Rattle.dump_io.specs.Limits.{Numbers}
-use Rattle.dump_io.specs.Sinks.{SinkState, SinkFailed, IsKept, Gained, GainedFront}
-use Rattle.dump_sections.specs.Index.{Contents, sections_in}
+use Rattle.dump_sections.specs.Index.{Contents, IsBuiltOver, IsIndexOf, sections_in}
+use Rattle.section_index.specs.Answers.{IsFileOf}
+use Rattle.section_index.specs.Opening.{IsAccepted, IsRefusedFor}
+use Rattle.section_index.specs.declared.opening.OpenFault.{OpenFault}
 use Rattle.report_text.specs.declared.refusals.Refusal.{Refusal}
+use Rattle.report_text.specs.declared.refusals.Refusal.TheVariants.{Open}
 use Rattle.report_text.specs.Refusals.{IsRefusal}
+use Rattle.dump_io.specs.Sinks.{SinkState, SinkFailed, IsKept, Gained, GainedFront}
 use Rattle.command_words.specs.Command.{Command}
-use Rattle.dump_command.specs.Report.{report, report_status, refusal_held, refusal_listed, reread}
-use Rattle.dump_command.specs.Inner.Opened.{IsIndexed}
-use Rattle.dump_command.specs.Inner.Runs.{IsEnding}
+use Rattle.dump_sections.specs.Sections.{Section}
+use Rattle.heap_cells.specs.HeapMap.{HeapMap}
 use Rattle.dump_command.specs.declared.stop.Stop.{Stop}
 use Rattle.dump_command.specs.declared.stop.Stop.TheVariants.{Refused, NotRead, NotWritten, NoMemory}
+use Rattle.dump_command.specs.Report.{report, report_status, refusal_held, refusal_listed, reread, heap_bodies, no_process, too_large}
+use Rattle.dump_command.specs.Inner.Runs.{IsEnding}
+use Rattle.dump_command.specs.Terms.{heap_map, too_dense}
+
+-- these bytes are accepted and open, and this is their index
+pub record IsIndexed (bytes : List ℕ) (limits : Numbers) (index : Contents) (now : Now) : Type 0 where
+  pub accepted : IsAccepted bytes limits
+  pub of : IsIndexOf bytes index
+  pub opened : now ≡ told bytes
+
+-- the dump with this name was opened and accepted, and this is its index
+pub record HasOpened (name : List ℕ) (limits : Numbers) (before after : DeviceState) (index : Contents) : Type 0 where
+  pub there : IsAbsent before.files name → ⊥
+  pub same_files : after.files ≡ before.files
+  pub later : before.faults ≤ after.faults
+  pub over : IsBuiltOver after.now index
+  pub told : (bytes : List ℕ) → IsFileOf before after name bytes → IsIndexed bytes limits index after.now
+  pub taken : (bytes : List ℕ) → IsFileOf before after name bytes → after.taken ≤ plus_capped before.taken (length bytes)
+
+-- the dump with this name is refused
+pub record IsRefusedAs (name : List ℕ) (limits : Numbers) (before after : DeviceState) (why : Refusal) : Type 0 where
+  pub proper : IsRefusal why
+  pub there : IsAbsent before.files name → ⊥
+  pub told : (bytes : List ℕ) → IsFileOf before after name bytes → (fault : OpenFault) × IsRefusedFor bytes limits fault × (why ≡ Open fault)
+
+abbrev pub IsUnopenedFor : List ℕ → Numbers → DeviceState → DeviceState → Stop → Type 0
+IsUnopenedFor name limits before after (Refused why) = IsRefusedAs name limits before after why
+IsUnopenedFor name limits before after NotRead = DeviceFailed before after ⊎ IsAbsent before.files name
+IsUnopenedFor name limits before after NotWritten = ⊥
+IsUnopenedFor name limits before after NoMemory = Unit {0}
+
+-- why the dump with this name wasn't opened
+pub record IsUnopened (name : List ℕ) (limits : Numbers) (before after : DeviceState) (stop : Stop) : Type 0 where
+  pub cause : IsUnopenedFor name limits before after stop
+  pub gone : IsAbsent before.files name → after.now ≡ closed
+  pub taken : (bytes : List ℕ) → IsFileOf before after name bytes → after.taken ≤ plus_capped before.taken (length bytes)
+
+-- ---- what a command reads of the open dump, and what it leaves of its report
 
 -- why a command on an accepted dump with this index is refused: the first cause that holds
 abbrev pub refusal_over : Command → Contents → List ℕ → Numbers → Option Refusal
@@ -58,3 +100,24 @@ Tells before after text status (Err (Refused why)) = ⊥
 Tells before after text status (Err NotRead) = ⊥
 Tells before after text status (Err NotWritten) = GainedFront before after text × SinkFailed before after
 Tells before after text status (Err NoMemory) = IsKept before after
+
+-- ---- what is known of the heap of a process that a command loads, and why it isn't loaded
+
+-- why a command that loads these bodies and then the heap of a process is refused before it reads any of them
+abbrev pub heap_listed : List ℕ → List Section → Numbers → List Section → Option Refusal
+heap_listed pid before limits sections = option_or (no_process pid sections) (too_large limits.section (before ++ heap_bodies pid sections))
+
+-- the heap of a process was loaded: no refusal comes before it, and it is that of the dump
+pub record HoldsHeap (pid : List ℕ) (before : List Section) (limits : Numbers) (index : Contents) (now : Now) (heap : HeapMap) : Type 0 where
+  pub listed : heap_listed pid before limits (sections_in index) ≡ None
+  pub sparse : (bytes : List ℕ) → IsIndexed bytes limits index now → too_dense limits.dense pid bytes ≡ None
+  pub enc : (bytes : List ℕ) → IsIndexed bytes limits index now → heap.enc ≡ (heap_map pid bytes).enc
+  pub cells : (bytes : List ℕ) → IsIndexed bytes limits index now → heap.cells ≡ (heap_map pid bytes).cells
+  pub own : (bytes : List ℕ) → IsIndexed bytes limits index now → heap.own ≡ (heap_map pid bytes).own
+
+-- why it wasn't loaded: a refusal before any body is read, a heap that
+-- is too dense, or the device failed; memory may be lacking at any time
+abbrev pub IsHeapless : List ℕ → List Section → Numbers → Contents → DeviceState → DeviceState → Stop → Type 0
+IsHeapless pid before limits index old new stop =
+    StopsFor old new (λ why. (bytes : List ℕ) → IsIndexed bytes limits index old.now
+    → option_or (heap_listed pid before limits (sections_in index)) (too_dense limits.dense pid bytes) ≡ Some why) stop

@@ -1,5 +1,5 @@
 -- What the run of a command leaves before its line on `err` is written.
-use Rattle.std.specs.Prelude.{◌≡◌, ◌⊎◌, ℕ, List, None, Some, Result, Ok, Err, IsTrue}
+use Rattle.std.specs.Prelude.{◌≡◌, ◌⊎◌, ℕ, List, None, Some, Result, Ok, Err, IsTrue, ◌^◌, ◌<◌}
 use Rattle.dump_io.specs.Dumps.{closed, DeviceState}
 use Rattle.dump_io.specs.Limits.{Numbers}
 use Rattle.dump_io.specs.Sinks.{SinkState, SinkFailed, IsKept, GainedFront}
@@ -50,3 +50,9 @@ pub record Runs (cmd : Command) (limits : Numbers) (before after : DeviceState) 
 pub record RunsOn {D : Type 0} (state : D → DeviceState) (cmd : Command) (limits : Numbers) (old new : D) (out out' : SinkState) (ended : Result ℕ Stop) : Type 0 where
   pub runs : Runs cmd limits (state old) (state new) out out' ended
   pub idle : file_of cmd ≡ None → new ≡ old
+
+-- ---- what a command that opens no file leaves
+
+-- it leaves this whatever the limits and the device are, which it isn't given, so that nothing is taken
+abbrev pub RunsAlone : Command → SinkState → SinkState → Result ℕ Stop → Type 0
+RunsAlone cmd out out' ended = (limits : Numbers) (before after : DeviceState) → before.taken < 2 ^ 64 → after.taken ≡ before.taken → Runs cmd limits before after out out' ended

@@ -6,7 +6,7 @@ ghost use Rattle.dump_audit.specs.Fitting.{Fits};
 ghost use Rattle.link_graph.specs.Graph.{graph_of};
 ghost use Rattle.command_words.specs.Command.{audit};
 ghost use Rattle.dump_command.specs.Audits.{status_of};
-ghost use Rattle.dump_command.specs.Inner.Audits.{audit_status, audit_text, loaded_audit};
+ghost use Rattle.dump_command.specs.Inner.Loads.{audit_status, audit_text, loaded_audit};
 
 use crate::open::Opened;
 use crate::report::Report;

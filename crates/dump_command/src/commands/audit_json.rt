@@ -1,7 +1,7 @@
 // `audit-json`: the findings of an audit as one JSON text.
 ghost use Rattle.audit_bodies.specs.Bodies.{IsAuditable};
 ghost use Rattle.command_words.specs.Command.{audit_json};
-ghost use Rattle.dump_command.specs.Inner.Audits.{audit_status, json_of};
+ghost use Rattle.dump_command.specs.Inner.Loads.{audit_status, json_of};
 
 use super::audit::{find, status};
 use crate::open::Opened;

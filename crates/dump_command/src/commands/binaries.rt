@@ -1,6 +1,8 @@
 // `binaries`: which processes hold how much of the binaries outside the heaps.
 ghost use Rattle.command_words.specs.Command.{binaries};
-ghost use Rattle.dump_command.specs.Inner.Holders.{binaries_text, AreNamed};
+ghost use Rattle.binary_holders.specs.Usage.{shown_use};
+ghost use Rattle.glance_text.specs.Holders.{binaries_report};
+ghost use Rattle.dump_command.specs.Inner.Loads.{AreNamed};
 
 use crate::open::Opened;
 use crate::report::Report;
@@ -28,7 +30,7 @@ impl Report for Binaries<'_> {
 
     ghost command = { λ c. binaries c.file.now };
 
-    ghost text = { λ _ index loaded. binaries_text index loaded };
+    ghost text = { λ _ index loaded. binaries_report index loaded.procs.processes (shown_use loaded.found) };
 
     ghost fits = { λ _ index loaded. AreNamed index loaded.procs loaded.found.held.items };
 

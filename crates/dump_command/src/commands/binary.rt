@@ -1,8 +1,8 @@
 // `binary`: the bytes of a binary.
 ghost use Rattle.std.specs.Prelude.{◌≡◌};
 ghost use Rattle.command_words.specs.Command.{binary};
-ghost use Rattle.dump_command.specs.Inner.TermLoads.{binary_text};
-ghost use Rattle.dump_command.specs.Inner.TermStops.{stop_of_binary};
+ghost use Rattle.term_text.specs.Roots.{binary_report};
+ghost use Rattle.dump_command.specs.Inner.Stops.{stop_of_binary};
 
 use crate::open::Opened;
 use crate::report::Report;
@@ -40,7 +40,7 @@ impl Report for Binary<'_> {
 
     ghost command = { λ c. binary c.file.now c.addr };
 
-    ghost text = { λ c _ bytes. binary_text c.addr bytes };
+    ghost text = { λ c _ bytes. binary_report c.addr bytes.items };
 
     fn file(&self) -> &str {
         self.file

@@ -4,8 +4,8 @@ ghost use Rattle.stored_binaries.specs.Payloads.{bytes_in};
 ghost use Rattle.etf_terms.specs.Walks.{bad_place};
 ghost use Rattle.command_words.specs.Command.{ext};
 ghost use Rattle.dump_command.specs.Terms.{external_at, no_external};
-ghost use Rattle.dump_command.specs.Inner.TermLoads.{ext_text};
-ghost use Rattle.dump_command.specs.Inner.TermStops.{Judges};
+ghost use Rattle.term_text.specs.Roots.{ext_report};
+ghost use Rattle.dump_command.specs.Inner.Stops.{Judges};
 
 use crate::commands::subjects::{find_cell, load_heap};
 use crate::open::Opened;
@@ -67,7 +67,7 @@ impl Report for Ext<'_> {
 
     ghost command = { λ c. ext c.file.now c.pid.now c.addr };
 
-    ghost text = { λ _ _ bytes. ext_text bytes };
+    ghost text = { λ _ _ bytes. ext_report bytes.items };
 
     ghost fits = { λ _ _ bytes. bad_place bytes.items ≡ None };
 

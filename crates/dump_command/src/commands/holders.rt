@@ -1,6 +1,7 @@
 // `holders`: which processes hold a binary.
 ghost use Rattle.command_words.specs.Command.{holders};
-ghost use Rattle.dump_command.specs.Inner.Holders.{holders_text, AreNamed};
+ghost use Rattle.glance_text.specs.Holders.{holders_report};
+ghost use Rattle.dump_command.specs.Inner.Loads.{AreNamed};
 
 use crate::commands::subjects::find_binary;
 use crate::open::Opened;
@@ -30,7 +31,7 @@ impl Report for Holders<'_> {
 
     ghost command = { λ c. holders c.file.now c.addr };
 
-    ghost text = { λ _ index loaded. holders_text index loaded };
+    ghost text = { λ _ index loaded. holders_report index loaded.procs.processes loaded.held.items };
 
     ghost fits = { λ _ index loaded. AreNamed index loaded.procs loaded.held.items };
 

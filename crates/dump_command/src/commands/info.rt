@@ -1,6 +1,6 @@
 // `info`: version, size, counts, slogan, tags and state of a dump.
 ghost use Rattle.command_words.specs.Command.{info};
-ghost use Rattle.dump_command.specs.Inner.Info.{info_text};
+ghost use Rattle.dump_command.specs.Inner.Loads.{info_text};
 
 use crate::commands::subjects::{Body, read_found};
 use crate::open::Opened;

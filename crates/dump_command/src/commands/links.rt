@@ -1,6 +1,6 @@
 // `links`: the links and monitors of all processes.
 ghost use Rattle.command_words.specs.Command.{links};
-ghost use Rattle.dump_command.specs.Inner.Audits.{links_text};
+ghost use Rattle.report_text.specs.Links.{links_report};
 
 use crate::open::Opened;
 use crate::report::Report;
@@ -21,7 +21,7 @@ impl Report for Links<'_> {
 
     ghost command = { λ c. links c.file.now };
 
-    ghost text = { λ _ _ procs. links_text procs };
+    ghost text = { λ _ _ procs. links_report procs.processes };
 
     fn file(&self) -> &str {
         self.file

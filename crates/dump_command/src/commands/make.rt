@@ -1,7 +1,7 @@
 // `make`: a made dump. No file is opened.
 ghost use Rattle.std.specs.Prelude.{◌≤◌};
 ghost use Rattle.command_words.specs.Command.{make};
-ghost use Rattle.dump_command.specs.Inner.Alone.{RunsAlone};
+ghost use Rattle.dump_command.specs.Inner.Runs.{RunsAlone};
 
 use crate::status::DONE;
 use crate::stop::Stop;

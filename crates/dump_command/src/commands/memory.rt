@@ -1,6 +1,6 @@
 // `memory`: the fields of the first section on memory.
 ghost use Rattle.command_words.specs.Command.{memory};
-ghost use Rattle.dump_command.specs.Inner.Fields.{fields_text, HasPlaces};
+ghost use Rattle.dump_command.specs.Inner.Loads.{fields_text, HasPlaces};
 
 use crate::commands::subjects::{Body, read_found};
 use crate::open::Opened;

@@ -1,6 +1,6 @@
 // `proc`: the fields of a process.
 ghost use Rattle.command_words.specs.Command.{proc};
-ghost use Rattle.dump_command.specs.Inner.Fields.{fields_text, HasPlaces};
+ghost use Rattle.dump_command.specs.Inner.Loads.{fields_text, HasPlaces};
 
 use crate::commands::subjects::{Body, find_process, read_found};
 use crate::open::Opened;

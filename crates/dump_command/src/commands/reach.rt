@@ -7,7 +7,7 @@ ghost use Rattle.heap_cells.specs.Loading.{section_in};
 ghost use Rattle.heap_reach.specs.Rounds.{IsReachOf};
 ghost use Rattle.command_words.specs.Command.{reach};
 ghost use Rattle.dump_command.specs.Terms.{roots_section};
-ghost use Rattle.dump_command.specs.Inner.ReachLoads.{reach_text, roots_at, terms_loaded, ArePlaces, AreWithin, HoldsRoots, IsUnread};
+ghost use Rattle.dump_command.specs.Inner.Loads.{reach_text, roots_at, terms_loaded, ArePlaces, AreWithin, HoldsRoots, IsUnread};
 
 use crate::commands::subjects::{Body, large_body, load_behind, read_found};
 use crate::open::Opened;

@@ -2,8 +2,7 @@
 ghost use Rattle.std.specs.Prelude.{◌≡◌, ◌<◌};
 ghost use Rattle.binary_refs.specs.Previews.{AreFor};
 ghost use Rattle.command_words.specs.Command.{roots};
-ghost use Rattle.dump_command.specs.Inner.Fields.{HasPlaces};
-ghost use Rattle.dump_command.specs.Inner.TermLoads.{roots_text};
+ghost use Rattle.dump_command.specs.Inner.Loads.{HasPlaces, roots_text};
 
 use crate::commands::subjects::{Body, load_heap, read_found};
 use crate::open::Opened;

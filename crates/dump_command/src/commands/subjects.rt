@@ -10,9 +10,9 @@ ghost use Rattle.dump_sections.specs.Sections.{Section};
 ghost use Rattle.section_rows.specs.Loading.{first_large, large_fault, AreRefused};
 ghost use Rattle.dump_command.specs.Report.{no_process, one_of, process_section};
 ghost use Rattle.dump_command.specs.Terms.{address_cause, base_of, binary_at, binary_cause};
-ghost use Rattle.dump_command.specs.Inner.Heaps.{heap_listed, HoldsHeap, IsHeapless};
-ghost use Rattle.dump_command.specs.Inner.Fields.{HasPlaces};
-ghost use Rattle.dump_command.specs.Inner.TermStops.{Judges};
+ghost use Rattle.dump_command.specs.Inner.Reading.{heap_listed, HoldsHeap, IsHeapless};
+ghost use Rattle.dump_command.specs.Inner.Loads.{HasPlaces};
+ghost use Rattle.dump_command.specs.Inner.Stops.{Judges};
 
 use crate::open::Opened;
 use crate::stop::Stop;

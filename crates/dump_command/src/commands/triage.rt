@@ -4,7 +4,7 @@ ghost use Rattle.dump_sections.specs.Index.{sections_in, IsBuiltOver};
 ghost use Rattle.section_rows.specs.Loading.{large_fault};
 ghost use Rattle.command_words.specs.Command.{triage};
 ghost use Rattle.dump_command.specs.Report.{triage_sections};
-ghost use Rattle.dump_command.specs.Inner.TriageLoads.{triage_text, AreFound, Fits, ReadsBodies};
+ghost use Rattle.dump_command.specs.Inner.Loads.{triage_text, AreFound, Fits, ReadsBodies};
 
 use crate::commands::subjects::{Body, large_body, read_found};
 use crate::open::Opened;

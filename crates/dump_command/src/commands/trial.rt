@@ -1,7 +1,7 @@
 // `trial`: how much there is in a made dump, and what is bad or one-sided in it. No file is opened.
 ghost use Rattle.std.specs.Prelude.{◌≤◌};
 ghost use Rattle.command_words.specs.Command.{trial};
-ghost use Rattle.dump_command.specs.Inner.Alone.{RunsAlone};
+ghost use Rattle.dump_command.specs.Inner.Runs.{RunsAlone};
 
 use crate::status::DONE;
 use crate::stop::Stop;

@@ -1,6 +1,6 @@
 use Rattle.std.proofs.Common.{refl, sym, ◌∙◌, ap, rules}
 use Rattle.command_words.specs.Command.{shown, cells, ext, proc, reach, term}
-use Rattle.dump_command.proofs.Words.{runs-file, runs-alone}
+use Rattle.dump_command.proofs.Runs.{runs-file, runs-alone}
 use Rattle.dump_command.proofs.commands.run_command.Goals as goal
 
 pub returns-in-Index : goal.returns-in-Index

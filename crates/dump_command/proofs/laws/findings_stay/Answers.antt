@@ -1,4 +1,4 @@
-use Rattle.dump_command.proofs.SameFindings.{keeps-processes, keeps-findings}
+use Rattle.dump_command.proofs.SameHeaps.{keeps-processes, keeps-findings}
 use Rattle.dump_command.proofs.laws.findings_stay.Goals as goal
 
 pub returns-clause-processes : goal.returns-clause-processes

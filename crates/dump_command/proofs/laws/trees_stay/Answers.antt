@@ -1,4 +1,4 @@
-use Rattle.dump_command.proofs.SameTrees.{keeps-leaves, keeps-roots, keeps-trees, keeps-verdicts}
+use Rattle.dump_command.proofs.SameHeaps.{keeps-leaves, keeps-roots, keeps-trees, keeps-verdicts}
 use Rattle.dump_command.proofs.laws.trees_stay.Goals as goal
 
 pub returns-clause-roots : goal.returns-clause-roots

@@ -1,5 +1,5 @@
 use Rattle.std.proofs.Common.{sym}
-use Rattle.dump_command.proofs.Endings.{IsProper-ended, IsRunOf-ended, IsRunOf-same, IsRunOf-complete}
+use Rattle.dump_command.proofs.Runs.{IsProper-ended, IsRunOf-ended, IsRunOf-same, IsRunOf-complete}
 use Rattle.dump_command.proofs.runner.run.Goals as goal
 
 pub end-requires : goal.end-requires

@@ -8,7 +8,7 @@ use Rattle.dump_redact.specs.Bodies.{redacted_body}
 use Rattle.dump_redact.specs.Inner.Copying.{copied}
 use Rattle.dump_redact.proofs.Copies.{HasCopied-read, HasCopied-done, Copies-put, Copies-piece, Copies-failed, Copies-broken, Copies-last, break-read}
 use Rattle.dump_redact.proofs.Leads.{near-piece}
-use Rattle.dump_redact.proofs.Pieces.{told-size, piece-told, length-part}
+use Rattle.dump_redact.proofs.Offsets.{told-size, piece-told, length-part}
 use Rattle.dump_redact.proofs.Sections.{length-body}
 use Rattle.dump_redact.proofs.bodies.put_binary.Goals as goal
 

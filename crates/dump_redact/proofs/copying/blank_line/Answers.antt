@@ -1,5 +1,5 @@
 use Rattle.std.proofs.Common.{◌∙◌, ap, ◌++◌, drop}
-use Rattle.dump_redact.proofs.Blanks.{ended-text, ended-behind, open-text, open-behind}
+use Rattle.dump_redact.proofs.Stretches.{ended-text, ended-behind, open-text, open-behind}
 use Rattle.dump_redact.proofs.copying.blank_line.Goals as goal
 
 pub returns-in-Some-clause-text : goal.returns-in-Some-clause-text

@@ -2,7 +2,7 @@ use Rattle.std.proofs.Common.{◌+◌, ◌≤◌, length, ◌∙◌, ap, arith}
 use Rattle.std.specs.List.{between}
 use Rattle.dump_redact.specs.Inner.Copying.{copied, stretch_behind}
 use Rattle.dump_redact.proofs.Copies.{Copies-done, Copies-piece, HasCopied-done}
-use Rattle.dump_redact.proofs.Pieces.{piece-told}
+use Rattle.dump_redact.proofs.Offsets.{piece-told}
 use Rattle.dump_redact.proofs.copying.copy_piece.Goals as goal
 
 pub returns-clause-copies : goal.returns-clause-copies

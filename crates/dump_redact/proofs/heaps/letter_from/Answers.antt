@@ -2,7 +2,7 @@ use Rattle.std.proofs.Common.{◌≡◌, ◌+◌, ◌-◌, length, drop, take, s
 use Rattle.std.proofs.lemmas.List.{take_all, length-drop}
 use Rattle.memchr.specs.Find.{Passes, is_byte, Nowhere}
 use Rattle.dump_redact.specs.Inner.Places.{AreMarksFrom}
-use Rattle.dump_redact.proofs.Marks.{without-letter}
+use Rattle.dump_redact.proofs.PlainLines.{without-letter}
 use Rattle.dump_redact.proofs.heaps.letter_from.Goals as goal
 
 pub returns-in-Some-clause-marks : goal.returns-in-Some-clause-marks

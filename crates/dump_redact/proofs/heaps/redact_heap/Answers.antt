@@ -4,8 +4,7 @@ use borrow.Rule.Slice.PartMut.{put_mid}
 use Rattle.dump_io.specs.Lines.{raw_lines}
 use Rattle.dump_redact.specs.declared.parts.Part.TheVariants.{Heap}
 use Rattle.dump_redact.specs.Bodies.{heap_line, redacted_body}
-use Rattle.dump_redact.proofs.PlainLines.{passed}
-use Rattle.dump_redact.proofs.Steps.{IsDone, one-line}
+use Rattle.dump_redact.proofs.PlainLines.{passed, IsDone, one-line}
 use Rattle.dump_redact.proofs.heaps.redact_heap.Goals as goal
 
 pub loop-at-preserved : goal.loop-at-preserved

@@ -1,5 +1,5 @@
 use Rattle.std.proofs.Common.{length, ◌-◌}
-use Rattle.dump_redact.proofs.Steps.{IsDone}
+use Rattle.dump_redact.proofs.PlainLines.{IsDone}
 use Rattle.dump_redact.proofs.heaps.redact_heap.Given as goal
 
 abbrev pub invariant-loop-at : goal.invariant-loop-at

@@ -1,7 +1,6 @@
 use Rattle.binary_payloads.specs.declared.enc.Enc.TheVariants.{Hex, Base64}
-use Rattle.dump_redact.proofs.HexZeros.{hex-stays}
-use Rattle.dump_redact.proofs.Base64Zeros.{base64-stays}
-use Rattle.dump_redact.proofs.Binaries.{binaries}
+use Rattle.dump_redact.proofs.Zeros.{hex-stays, base64-stays}
+use Rattle.dump_redact.proofs.Places.{binaries}
 use Rattle.dump_redact.proofs.laws.binaries_stay.Goals as goal
 
 pub returns-clause-hex : goal.returns-clause-hex

@@ -1,5 +1,4 @@
-use Rattle.dump_redact.proofs.HexZeros.{hex-stays}
-use Rattle.dump_redact.proofs.Base64Zeros.{base64-stays}
+use Rattle.dump_redact.proofs.Zeros.{hex-stays, base64-stays}
 use Rattle.dump_redact.proofs.laws.payloads_stay.Goals as goal
 
 pub returns-clause-hex : goal.returns-clause-hex

@@ -1,4 +1,4 @@
-use Rattle.dump_redact.proofs.Stays.{stays}
+use Rattle.dump_redact.proofs.Places.{stays}
 use Rattle.dump_redact.proofs.laws.redacted_stays.Goals as goal
 
 pub returns : goal.returns

@@ -1,6 +1,6 @@
 use Rattle.std.proofs.Common.{ap}
 use Rattle.dump_sections.specs.Index.{state_of}
-use Rattle.dump_redact.proofs.Heads.{keeps-length, keeps-headers, keeps-sections, keeps-index}
+use Rattle.dump_redact.proofs.Alike.{keeps-length, keeps-headers, keeps-sections, keeps-index}
 use Rattle.dump_redact.proofs.laws.sections_stay.Goals as goal
 
 pub returns-clause-length : goal.returns-clause-length

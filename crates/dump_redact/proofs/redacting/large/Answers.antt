@@ -1,8 +1,7 @@
 use Rattle.std.proofs.Common.{◌<◌, length, sym, ◌∙◌, arith}
 use Rattle.dump_sections.specs.Bodies.{section_at}
 use Rattle.dump_sections.specs.Index.{sections_in}
-use Rattle.dump_redact.proofs.Judging.{found-here, passed-here, place-at}
-use Rattle.dump_redact.proofs.Offsets.{size-some}
+use Rattle.dump_redact.proofs.Offsets.{found-here, passed-here, place-at, size-some}
 use Rattle.dump_redact.proofs.redacting.large.Goals as goal
 
 pub returns-in-Some-clause-refusal : goal.returns-in-Some-clause-refusal

@@ -1,31 +1,12 @@
-use Rattle.std.proofs.Common.{◌≡◌, ℕ, ◌^◌, ◌<◌, List, ◌++◌, length, sym, ◌∙◌, ap, arith, rules}
+use Rattle.std.proofs.Common.{◌≡◌, ℕ, List, ◌++◌, length, ◌∙◌, ap, arith}
 use Rattle.std.specs.List.{between}
-use Rattle.std.proofs.lemmas.List.Edits.{between_none}
 use Rattle.std.proofs.lemmas.Result.{err_from_is_err_and}
-use Rattle.dump_io.specs.Laws.Puts.{grown-nil}
-use Rattle.dump_io.specs.Laws.Reads.{ReadsAtMost-none}
-use Rattle.dump_io.specs.Sinks.{grown}
 use Rattle.dump_redact.specs.Redacted.{redacted}
 use Rattle.dump_redact.specs.Inner.Places.{offset_of, text_between}
 use Rattle.dump_redact.proofs.Copies.{HasCopied-then, Copies-broken, Copies-done, Copies-text}
 use Rattle.dump_redact.proofs.Offsets.{built-told, offset-rise, offset-end, offset-within, whole-text}
 use Rattle.dump_redact.proofs.Stretches.{between-join}
 use Rattle.dump_redact.proofs.redacting.put_dump.Goals as goal
-
-pub loop-i-init : goal.loop-i-init
-loop-i-init g c =
-    let d = g.D.Dumps in
-    let index = c.args.index.now in
-    let w = (g.K.Sink.state c.args.sink.now).written in
-    let small : (d.state c.args.dumps.now).taken < 2 ^ 64 = search rules in
-    record {
-      place = omega arith;
-      copied = record {
-        reads = ReadsAtMost-none _ small;
-        later = omega arith;
-        gained = λ dump is. sym (ap (grown w) (between_none (redacted dump) (offset_of index 0)) ∙ grown-nil w);
-      };
-    }
 
 pub loop-i-preserved : goal.loop-i-preserved
 loop-i-preserved g c =

@@ -4,9 +4,8 @@ use Rattle.dump_io.specs.Laws.Reads.{ReadsAtMost-none}
 use Rattle.dump_redact.specs.Redacted.{redacted}
 use Rattle.dump_redact.specs.Inner.Places.{offset_of}
 use Rattle.dump_redact.proofs.Copies.{Copies-failed, break-memory}
-use Rattle.dump_redact.proofs.Heads.{keeps-length}
-use Rattle.dump_redact.proofs.Offsets.{built-told, offset-less, offset-within}
-use Rattle.dump_redact.proofs.Pieces.{length-part}
+use Rattle.dump_redact.proofs.Alike.{keeps-length}
+use Rattle.dump_redact.proofs.Offsets.{built-told, offset-less, offset-within, length-part}
 use Rattle.dump_redact.proofs.redacting.put_heap.Goals as goal
 
 pub returns-in_err-make_room : goal.returns-in_err-make_room

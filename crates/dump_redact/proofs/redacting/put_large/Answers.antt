@@ -7,13 +7,8 @@ use Rattle.heap_cells.specs.Loading.{enc_of}
 use Rattle.dump_redact.specs.Redacted.{redacted, part_of}
 use Rattle.dump_redact.specs.Inner.Places.{length_between, text_between, text_of_section}
 use Rattle.dump_redact.proofs.Copies.{Copies-text}
-use Rattle.dump_redact.proofs.Offsets.{built-size, built-told, at-offset, end-offset, section-text, other-text}
+use Rattle.dump_redact.proofs.Offsets.{built-told, at-offset, end-offset, section-text, other-text}
 use Rattle.dump_redact.proofs.redacting.put_large.Goals as goal
-
-pub put_binary-requires-clause-held : goal.put_binary-requires-clause-held
-put_binary-requires-clause-held g c =
-    let size = built-size (g.D.Dumps.state c.args.dumps.now).now c.args.index.now c.requires.over in
-    (size.0, omega (arith, size.1, c.section-section.ensures.within))
 
 pub put_binary-requires-clause-some : goal.put_binary-requires-clause-some
 put_binary-requires-clause-some g c =
@@ -23,14 +18,6 @@ put_binary-requires-clause-some g c =
     let body : s.body ≡ c.section-section.result.body = ap (λ (x : Section). x.body) found.at_place in
     let end : s.end ≡ c.section-section.result.end = ap (λ (x : Section). x.end) found.at_place in
     omega (arith, at, body, end, found.short, c.requires.room, c.requires.large, at-offset c.args.index.now c.args.i c.requires.place, end-offset c.args.index.now c.args.i c.requires.place)
-
-pub put_binary-requires-clause-near : goal.put_binary-requires-clause-near
-put_binary-requires-clause-near g c = omega (arith, c.section-section.ensures.short, c.requires.room)
-
-pub copy-requires-clause-held : goal.copy-requires-clause-held
-copy-requires-clause-held g c =
-    let size = built-size (g.D.Dumps.state c.args.dumps.now).now c.args.index.now c.requires.over in
-    (size.0, omega (arith, size.1, c.section-section.ensures.within))
 
 pub returns-in-Binary : goal.returns-in-Binary
 returns-in-Binary g c =

@@ -1,14 +1,11 @@
-use Rattle.std.proofs.Common.{◌≡◌, ◌+◌, ◌≤◌, length, ◌∙◌, ap₂, arith}
-use Rattle.std.specs.List.{between}
-use Rattle.std.proofs.lemmas.List.{length-take-le}
+use Rattle.std.proofs.Common.{◌≤◌, length, arith}
 use Rattle.std.proofs.lemmas.Result.{err_from_is_err_and}
 use Rattle.dump_io.specs.Laws.Reads.{ReadsAtMost-within}
 use Rattle.dump_redact.specs.Redacted.{redacted}
-use Rattle.dump_redact.specs.Inner.Places.{offset_of, text_between}
-use Rattle.dump_redact.proofs.Copies.{Copies-failed, Copies-piece, break-read}
-use Rattle.dump_redact.proofs.Heads.{keeps-length}
-use Rattle.dump_redact.proofs.Offsets.{built-size, built-told, offset-rise, offset-less, offset-within}
-use Rattle.dump_redact.proofs.Pieces.{piece-told, length-part}
+use Rattle.dump_redact.specs.Inner.Places.{offset_of}
+use Rattle.dump_redact.proofs.Copies.{Copies-failed, break-read}
+use Rattle.dump_redact.proofs.Alike.{keeps-length}
+use Rattle.dump_redact.proofs.Offsets.{built-size, built-told, offset-rise, offset-less, offset-within, length-part}
 use Rattle.dump_redact.proofs.redacting.put_sections.Goals as goal
 
 pub read_piece-requires-clause-held : goal.read_piece-requires-clause-held
@@ -21,14 +18,6 @@ pub read_piece-requires-clause-ordered : goal.read_piece-requires-clause-ordered
 read_piece-requires-clause-ordered g c =
     let rise = offset-rise c.args.index.now c.offset-upto.ensures.bounded c.args.i c.args.next (omega (arith, c.requires.some)) c.requires.within in
     omega (arith, c.offset-from.ensures.value, c.offset-upto.ensures.value, rise)
-
-pub redact_sections-requires-clause-size : goal.redact_sections-requires-clause-size
-redact_sections-requires-clause-size g c =
-    let count = c.in_ok-count.count in
-    let buffer = c.read_piece.new.buffer in
-    let read = c.in_ok-count.ensures in
-    let within : count ≤ length buffer = omega (arith, c.read_piece.auto.buffer, read.count) in
-    omega (arith, length-take-le count buffer within, read.count, c.requires.room, c.offset-from.ensures.value, c.offset-upto.ensures.value)
 
 pub returns-in_err-count : goal.returns-in_err-count
 returns-in_err-count g c =
@@ -44,21 +33,3 @@ returns-in_err-count g c =
     let of = built-told (d.state c.args.dumps.now).now index dump c.requires.over is in
     let inside : offset_of index next ≤ length (redacted dump) = omega (arith, keeps-length dump, of.size, offset-within index bounded next c.requires.within) in
     omega (arith, length-part (redacted dump) (offset_of index i) (offset_of index next) inside, offset-less index bounded i next c.requires.some c.requires.within)))
-
-pub returns : goal.returns
-returns g c =
-    let now = (g.D.Dumps.state c.args.dumps.now).now in
-    let index = c.args.index.now in
-    let i = c.args.i in
-    let next = c.args.next in
-    let from = c.offset-from.result in
-    let count = c.in_ok-count.count in
-    let buffer = c.read_piece.new.buffer in
-    let read = c.in_ok-count.ensures in
-    let within : count ≤ length buffer = omega (arith, c.read_piece.auto.buffer, read.count) in
-    let rise = offset-rise index c.offset-upto.ensures.bounded i next (omega (arith, c.requires.some)) c.requires.within in
-    let ends : from + count ≡ offset_of index next = omega (arith, read.count, c.requires.room, c.offset-from.ensures.value, c.offset-upto.ensures.value, rise) in
-    Copies-piece (λ dump. text_between index i next (redacted dump)) (ReadsAtMost-within (omega (arith, c.offset-from.ensures.value, c.offset-upto.ensures.value)) read.reads)
-    c.put_bytes.ensures.puts c.put_bytes.ensures.fault (λ dump is.
-    c.redact_sections.ensures dump (built-told now index dump c.requires.over is)
-    (piece-told now from count buffer dump is read.piece within ∙ ap₂ (λ a e. between a e dump) c.offset-from.ensures.value ends))

@@ -1,7 +1,7 @@
 use Rattle.std.proofs.Common.{◌<◌, length, sym, arith}
 use Rattle.dump_io.specs.Laws.Puts.{grown-nil}
 use Rattle.dump_redact.specs.Redacted.{redacted}
-use Rattle.dump_redact.proofs.Heads.{keeps-length}
+use Rattle.dump_redact.proofs.Alike.{keeps-length}
 use Rattle.dump_redact.proofs.Offsets.{built-told}
 use Rattle.dump_redact.proofs.redacting.redact.Goals as goal
 

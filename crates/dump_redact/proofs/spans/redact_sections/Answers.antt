@@ -1,4 +1,4 @@
-use Rattle.std.proofs.Common.{◌≡◌, ◌+◌, ◌-◌, ◌<◌, ◌++◌, length, append-nil, refl, sym, ◌∙◌, ap, arith}
+use Rattle.std.proofs.Common.{◌≡◌, ◌+◌, ◌-◌, ◌<◌, ◌++◌, length, append-nil, ◌∙◌, ap, arith}
 use Rattle.std.proofs.lemmas.List.Edits.{between_none}
 use Rattle.dump_sections.specs.Bodies.{section_at}
 use Rattle.dump_sections.specs.Sections.{tag_of}
@@ -7,17 +7,6 @@ use Rattle.dump_redact.specs.Redacted.{part_of, redacted}
 use Rattle.dump_redact.specs.Inner.Places.{offset_of, text_between, redacted_between}
 use Rattle.dump_redact.proofs.Offsets.{at-offset, end-offset, offset-rise, one-more-section}
 use Rattle.dump_redact.proofs.spans.redact_sections.Goals as goal
-
-pub loop-k-init : goal.loop-k-init
-loop-k-init c =
-    let index = c.args.index.now in
-    let i = c.args.i in
-    record {
-      low = omega arith;
-      high = omega (arith, c.requires.some);
-      size = refl;
-      redacts = λ dump of is. is ∙ ap (λ l. l ++ text_between index i c.args.next dump) (sym (between_none (redacted dump) (offset_of index i)));
-    }
 
 pub redact_section-requires-clause-begins : goal.redact_section-requires-clause-begins
 redact_section-requires-clause-begins c =

@@ -1,4 +1,4 @@
-use Rattle.json_report.proofs.Files.{all-read-back}
+use Rattle.json_report.proofs.Bounds.{all-read-back}
 use Rattle.json_report.proofs.laws.text_reads_back.Goals as goal
 
 pub returns : goal.returns

@@ -5,7 +5,7 @@ use Rattle.serde.specs.Event.{Logs, map_begins}
 use Rattle.serde_json.specs.Events.{SendsMembers}
 use Rattle.json_report.specs.Inner.Members.{shown_member}
 use Rattle.json_report.specs.Trees.{members}
-use Rattle.json_report.proofs.Counts.{members_len-members}
+use Rattle.json_report.proofs.ReadingBack.{members_len-members}
 use Rattle.json_report.proofs.members.send_object.Goals as goal
 
 pub returns : goal.returns

@@ -8,7 +8,7 @@ use Rattle.serde_json.specs.Events.{SendsItems}
 use Rattle.serde_json.specs.View.{items_of}
 use Rattle.json_report.specs.Trees.{finding_object}
 use Rattle.json_report.specs.Laws.{Has64Bits}
-use Rattle.json_report.proofs.Counts.{SendsItems-more, items_len-items_of}
+use Rattle.json_report.proofs.ReadingBack.{SendsItems-more, items_len-items_of}
 use Rattle.json_report.proofs.sending.send_findings.Goals as goal
 
 pub loop-finding-preserved : goal.loop-finding-preserved

@@ -1,12 +1,18 @@
-use Rattle.std.proofs.Common.{◌≡◌, ◌+◌, ◌<◌, length, take, ◌∙◌, ap, arith}
+use Rattle.std.proofs.Common.{◌≡◌, ◌+◌, ◌<◌, length, take, ◌∙◌, ap, arith, ℕ, List, [], ◌∷◌, ◌++◌, sym}
 use Rattle.std.specs.List.{sum_by}
 use Rattle.std.proofs.lemmas.List.Sums.{sum_by_push}
-use Rattle.process_table.specs.Processes.{process_at}
+use Rattle.std.proofs.lemmas.List.{take_more}
+use Rattle.std.proofs.lemmas.Option.{unwrap_or-slice_get}
+use Rattle.process_table.specs.Processes.{process_at, Process, nobody}
 use Rattle.link_entries.specs.Lists.{links_at}
-use Rattle.report_text.specs.Links.{entry_count}
 use Rattle.link_graph.specs.Laws.{links-at}
-use Rattle.report_text.proofs.LinkFacts.{take-process}
+use Rattle.report_text.specs.Links.{entry_count}
 use Rattle.report_text.proofs.link_report.entry_total.Goals as goal
+
+-- one process more
+take-process : (processes : List Process) (p : ℕ) → p < length processes → take (p + 1) processes ≡ take p processes ++ process_at processes p ∷ []
+take-process processes p inside =
+    take_more processes p nobody inside ∙ ap (λ process. take p processes ++ process ∷ []) (sym (unwrap_or-slice_get processes p nobody))
 
 pub loop-p-preserved : goal.loop-p-preserved
 loop-p-preserved c =

@@ -1,11 +1,7 @@
-use Rattle.std.proofs.Common.{arith}
-use Rattle.dump_io.specs.Laws.Puts.{HasPut-none, HasPut-more, Puts-broken, Puts-all}
+use Rattle.dump_io.specs.Laws.Puts.{HasPut-more, Puts-broken}
 use Rattle.link_entries.specs.Lists.{links_at}
 use Rattle.report_text.specs.Links.{entry_line}
 use Rattle.report_text.proofs.link_report.put_entries.Goals as goal
-
-pub loop-n-init : goal.loop-n-init
-loop-n-init g c = HasPut-none
 
 pub loop-n-preserved : goal.loop-n-preserved
 loop-n-preserved g c =
@@ -14,7 +10,3 @@ loop-n-preserved g c =
 pub returns-in_err-put_entry : goal.returns-in_err-put_entry
 returns-in_err-put_entry g c =
     Puts-broken (entry_line c.args.pid.now) (links_at c.args.graph.now c.args.p).entries c.loop-n.n _ c.entry.ensures c.loop-n.invariant c.from_residual.ensures.0 c.in_err-put_entry.ensures
-
-pub returns : goal.returns
-returns g c =
-    Puts-all (entry_line c.args.pid.now) (links_at c.args.graph.now c.args.p).entries c.loop-n.n (omega (arith, c.count-n-end.ensures, c.loop-n-test.false)) c.loop-n.invariant

@@ -1,11 +1,8 @@
 use Rattle.std.proofs.Common.{◌<◌, length, arith}
-use Rattle.dump_io.specs.Laws.Puts.{HasPut-none, HasPut-more, Puts-broken, Puts-all}
+use Rattle.dump_io.specs.Laws.Puts.{HasPut-more, Puts-broken}
 use Rattle.report_text.specs.Tables.{row_line}
 use Rattle.report_text.proofs.TableFacts.{row_at-there}
 use Rattle.report_text.proofs.table_report.put_all.Goals as goal
-
-pub loop-i-init : goal.loop-i-init
-loop-i-init g c = HasPut-none
 
 pub loop-i-preserved : goal.loop-i-preserved
 loop-i-preserved g c =
@@ -18,6 +15,3 @@ returns-in_err-put_row g c =
     let rows = c.args.rows.now.rows in
     let within : c.loop-i.i < length rows = omega (arith, c.len-i-end.ensures.value, c.loop-i-test.true) in
     Puts-broken row_line rows c.loop-i.i _ (row_at-there rows c.loop-i.i within) c.loop-i.invariant c.from_residual.ensures.0 c.in_err-put_row.ensures
-
-pub returns : goal.returns
-returns g c = Puts-all row_line c.args.rows.now.rows c.loop-i.i (omega (arith, c.len-i-end.ensures.value, c.loop-i-test.false)) c.loop-i.invariant

@@ -1,14 +1,11 @@
 use Rattle.std.proofs.Common.{◌≡◌, ◌<◌, [], ◌∷◌, length, ap, arith}
 use Rattle.std.specs.List.{concat}
-use Rattle.dump_io.specs.Laws.Puts.{HasPut-none, HasPut-more, Puts-broken, Puts-all, Puts-as}
+use Rattle.dump_io.specs.Laws.Puts.{HasPut-more, Puts-broken, Puts-all, Puts-as}
 use Rattle.section_rows.specs.Rows.{row_at, cell_at}
 use Rattle.report_lines.specs.Lines.{tab}
 use Rattle.report_text.specs.Tables.{next_cell}
 use Rattle.report_text.proofs.TableFacts.{cell_at-there, even-row}
 use Rattle.report_text.proofs.table_report.put_cells.Goals as goal
-
-pub loop-c-init : goal.loop-c-init
-loop-c-init g c = HasPut-none
 
 pub loop-c-preserved : goal.loop-c-preserved
 loop-c-preserved g c =

@@ -1,9 +1,16 @@
-use Rattle.std.proofs.Common.{◌<◌, ◌++◌, length, take, drop, sym, ◌∙◌, ap, rules, arith, length-drop}
+use Rattle.std.proofs.Common.{◌<◌, ◌++◌, length, take, drop, sym, ◌∙◌, ap, rules, arith, length-drop, ◌≡◌, ℕ, suc, List}
 use Rattle.std.proofs.lemmas.List.{append_assoc}
 use Rattle.dump_io.specs.Laws.Puts.{HasPut-then, Puts-behind, Puts-stopped, Puts-as}
 use Rattle.term_text.specs.Roots.{hex_line, hex_lines, line_count}
-use Rattle.term_text.proofs.HexFacts.{hex-step}
 use Rattle.term_text.proofs.binary_report.put_hex_lines.Goals as goal
+
+-- the lines behind the first are those of the bytes behind the first 32
+count-step : (bytes : List ℕ) → 0 < length bytes → line_count bytes ≡ suc (line_count (drop 32 bytes))
+count-step bytes some = omega (arith, some, length-drop 32 bytes)
+
+hex-step : (bytes : List ℕ) → 0 < length bytes
+    → hex_lines (line_count bytes) bytes ≡ hex_line (take 32 bytes) ++ hex_lines (line_count (drop 32 bytes)) (drop 32 bytes)
+hex-step bytes some = ap (λ n. hex_lines n bytes) (count-step bytes some)
 
 pub loop-rest-preserved : goal.loop-rest-preserved
 loop-rest-preserved g c =

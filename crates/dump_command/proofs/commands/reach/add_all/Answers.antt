@@ -3,7 +3,7 @@ use Rattle.heap_reach.specs.Rounds.{IsReachOf}
 use Rattle.root_views.specs.declared.kinds.RootKind.TheVariants.{Stack, Dict, Mail}
 use Rattle.root_views.specs.Kinds.{roots_in}
 use Rattle.term_text.specs.Reach.{terms_of}
-use Rattle.dump_command.proofs.Reaching.{added-three}
+use Rattle.dump_command.proofs.HeapLoads.{added-three}
 use Rattle.dump_command.proofs.commands.reach.add_all.Goals as goal
 
 pub returns-clause-heap : goal.returns-clause-heap

@@ -4,7 +4,7 @@ use Rattle.process_table.specs.Records.{record_sections}
 use Rattle.heap_cells.specs.Loading.{section_in, IsBodyIn}
 use Rattle.table_sections.specs.Tables.{listed, table_of, IsOver}
 use Rattle.dump_command.specs.Report.{memory_section, one_of}
-use Rattle.dump_command.proofs.Exits.{failed-later, over-still}
+use Rattle.dump_command.proofs.Reading.{failed-later, over-still}
 use Rattle.dump_command.proofs.TriageLoads.{reads-first, reads-memory, reads-procs, reads-tables, not-read, AreSmall-all, IsUnread-small}
 use Rattle.dump_command.proofs.commands.triage.read_bodies.Goals as goal
 

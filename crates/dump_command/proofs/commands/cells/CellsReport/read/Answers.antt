@@ -1,4 +1,4 @@
-use Rattle.dump_command.proofs.CellLoads.{reads-cells}
+use Rattle.dump_command.proofs.HeapLoads.{reads-cells}
 use Rattle.dump_command.proofs.Reading.{ReadsAtMost-same}
 use Rattle.dump_command.proofs.commands.cells.CellsReport.read.Goals as goal
 

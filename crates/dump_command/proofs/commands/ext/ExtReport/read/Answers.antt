@@ -1,5 +1,4 @@
-use Rattle.dump_command.proofs.Externals.{reads-ext, IsOfHeap-ext}
-use Rattle.dump_command.proofs.HeapLoads.{IsHalted-heap}
+use Rattle.dump_command.proofs.HeapLoads.{reads-ext, IsOfHeap-ext, IsHalted-heap}
 use Rattle.dump_command.proofs.Reading.{ReadsAtMost-same, ReadsFor-halted}
 use Rattle.dump_command.proofs.commands.ext.ExtReport.read.Goals as goal
 

@@ -1,9 +1,8 @@
 use Rattle.std.proofs.Common.{Some, refl}
 use Rattle.heap_cells.specs.Loading.{section_in}
 use Rattle.command_words.specs.Command.{info}
-use Rattle.dump_command.specs.Inner.Info.{info_text}
-use Rattle.dump_command.proofs.FoundLoads.{Loads-found, ReadsFor-found}
-use Rattle.dump_command.proofs.Info.{info_text-report}
+use Rattle.dump_command.specs.Inner.Loads.{info_text}
+use Rattle.dump_command.proofs.Reading.{Loads-found, ReadsFor-found, info_text-report}
 use Rattle.dump_command.proofs.commands.info.InfoReport.read.Goals as goal
 
 pub returns-clause-reads : goal.returns-clause-reads

@@ -2,7 +2,7 @@ use Rattle.std.proofs.Common.{codes, refl, sym}
 use Rattle.dump_sections.specs.Lookups.{has_tag}
 use Rattle.command_words.specs.Command.{memory}
 use Rattle.dump_command.specs.Report.{memory_section}
-use Rattle.dump_command.proofs.FoundLoads.{Loads-found, ReadsFor-fields}
+use Rattle.dump_command.proofs.Reading.{Loads-found, ReadsFor-fields}
 use Rattle.dump_command.proofs.Places.{section-found}
 use Rattle.dump_command.proofs.commands.memory.MemoryReport.read.Goals as goal
 

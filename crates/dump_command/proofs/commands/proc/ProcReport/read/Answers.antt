@@ -2,8 +2,7 @@ use Rattle.std.proofs.Common.{ℕ, Some, refl, sym, rules}
 use Rattle.heap_cells.specs.Loading.{section_in}
 use Rattle.command_words.specs.Command.{proc}
 use Rattle.dump_command.specs.Report.{process_section}
-use Rattle.dump_command.proofs.FoundLoads.{Loads-found, ReadsFor-fields}
-use Rattle.dump_command.proofs.Reading.{IsHalted-subject, ReadsFor-halted}
+use Rattle.dump_command.proofs.Reading.{Loads-found, ReadsFor-fields, IsHalted-subject, ReadsFor-halted}
 use Rattle.dump_command.proofs.commands.proc.ProcReport.read.Goals as goal
 
 pub returns-in_err-place-clause-reads : goal.returns-in_err-place-clause-reads

@@ -1,8 +1,7 @@
 use Rattle.std.proofs.Common.{refl, ◌∙◌, subst, arith}
 use Rattle.dump_io.specs.Laws.Reads.{ReadsAtMost-then}
-use Rattle.dump_command.specs.Inner.ReachLoads.{roots_at, HoldsRoots}
-use Rattle.dump_command.proofs.HeapLoads.{none-listed, IsHalted-heap, Takes-all}
-use Rattle.dump_command.proofs.Reaching.{reach-told, IsHalted-roots, IsOfHeap-reach}
+use Rattle.dump_command.specs.Inner.Loads.{roots_at, HoldsRoots}
+use Rattle.dump_command.proofs.HeapLoads.{none-listed, IsHalted-heap, Takes-all, reach-told, IsHalted-roots, IsOfHeap-reach}
 use Rattle.dump_command.proofs.Reading.{HasRead-listed, ReadsAtMost-same, ReadsFor-halted}
 use Rattle.dump_command.proofs.commands.reach.ReachReport.read.Goals as goal
 

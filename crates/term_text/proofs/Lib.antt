@@ -1,3 +1,0 @@
-pub mod CellFacts
-pub mod HexFacts
-pub mod ReachFacts
