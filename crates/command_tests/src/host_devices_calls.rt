@@ -99,15 +99,18 @@ fn pieces_of_64_kib_and_more(rt: HostRuntime) -> Result<(), Fail> {
         step: 1_000_000,
     };
     let mut sink = StdSink::new(rt.alloc(), wide)?;
-    let mut all = vec![in rt.alloc(); b'a'; BUFFER]?;
-    assert_eq!(rt; sink.write(all.as_slice())?, BUFFER);
+    let mut all = Vec::from_slice(rt.alloc(), b"0123456789")?;
+    write_all(&mut sink, all.as_slice())?;
+    let piece = vec![in rt.alloc(); b'a'; 2 * BUFFER + 10]?;
+    all.extend_from_slice(piece.as_slice())?;
+    // The buffer is filled first, and then 64 KiB go past it.
+    let (filled, rest) = piece.split_at(BUFFER - 10);
+    assert_eq!(rt; sink.write(piece.as_slice())?, filled.len());
     assert!(rt; took(&taken, b""));
-    let more = vec![in rt.alloc(); b'b'; BUFFER + 10]?;
-    assert_eq!(rt; sink.write(more.as_slice())?, BUFFER);
-    assert!(rt; took(&taken, all.as_slice()));
-    write_all(&mut sink, &more[BUFFER..])?;
+    assert_eq!(rt; sink.write(rest)?, BUFFER);
+    assert!(rt; took(&taken, &all[..2 * BUFFER]));
+    write_all(&mut sink, &rest[BUFFER..])?;
     sink.flush()?;
-    all.extend_from_slice(more.as_slice())?;
     assert!(rt; took(&taken, all.as_slice()));
     Ok(())
 }

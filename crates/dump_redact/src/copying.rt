@@ -13,7 +13,7 @@ use std::alloc::{AllocError, Global};
 use term_forms::Enc;
 
 // The most bytes in a piece.
-const PIECE: usize = 16_384;
+const PIECE: usize = 131_072;
 
 // How bytes are copied.
 #[derive(Clone, Copy)]

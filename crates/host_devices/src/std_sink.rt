@@ -12,9 +12,10 @@ use std::io::Write;
 const GATHERED: usize = 65_536;
 
 /// A stream of the machine. The sink buffers what is written and passes it on once 64 KiB have
-/// accumulated, and on `flush`. It doesn't tell what was written, and counts each error as a fault,
-/// including a write that takes nothing. After a fault it passes on nothing more, and each later call
-/// fails. Until then, what the stream got and what is buffered are all that was taken, in order.
+/// accumulated, and on `flush`; while nothing is buffered, whole multiples of 64 KiB go past the buffer.
+/// It doesn't tell what was written, and counts each error as a fault, including a write that takes
+/// nothing. After a fault it passes on nothing more, and each later call fails. Until then, what the
+/// stream got and what is buffered are all that was taken, in order.
 #[derive(Drop)]
 pub struct StdSink<W: Write + Drop> {
     stream: W,
@@ -26,7 +27,7 @@ pub struct StdSink<W: Write + Drop> {
 }
 
 impl<W: Write + Drop> StdSink<W> {
-    ghost use Rattle.host_devices.specs.Devices.{count_of, held_by, is_broken_in, stream_of};
+    ghost use Rattle.host_devices.specs.Devices.{count_of, held_by, is_broken_in, sink_state_of, stream_of};
 
     /// A sink over a stream. Its buffer is all the memory that it takes.
     pub fn new(alloc: Global, stream: W) -> Result<StdSink<W>, AllocError>
@@ -66,6 +67,25 @@ impl<W: Write + Drop> StdSink<W> {
         Err(Failed)
     }
 
+    // Passes on a piece past the buffer, which is empty.
+    fn pass_on(&mut self, piece: &[u8]) -> Result<usize, Failed>
+        requires some { 0 < length piece.now }
+        requires empty { self.old.gathered.items ≡ [] }
+        requires sound { is_broken_in self.old ≡ false }
+        ensures takes { TakesSome (sink_state_of self.old) (sink_state_of self.new) piece.now result }
+        ensures count { count_of self.new ≡ (if is_err result then plus_capped (count_of self.old) 1 else count_of self.old) }
+        ensures broken { is_broken_in self.new ≡ is_err result }
+        ensures all { IfOk result (λ n. n ≡ length piece.now) }
+        ensures held { OnOk result (Appends (held_by self.old) (held_by self.new) piece.now) }
+    {
+        if self.stream.write_all(piece).is_ok() {
+            return Ok(piece.len());
+        }
+        self.is_broken = true;
+        self.faults.rise();
+        Err(Failed)
+    }
+
     fn hand_on(&mut self) -> bool
         ensures gathered { self.new.gathered ≡ self.old.gathered }
         ensures broken { self.new.is_broken ≡ self.old.is_broken }
@@ -95,6 +115,9 @@ impl<W: Write + Drop> Sink for StdSink<W> {
     {
         if self.is_broken || self.gathered.len() == GATHERED {
             self.flush()?;
+        }
+        if self.gathered.is_empty() && piece.len() >= GATHERED {
+            return self.pass_on(&piece[..piece.len() / GATHERED * GATHERED]);
         }
         let n = piece.len().min(GATHERED - self.gathered.len());
         self.gathered.extend_from_slice(&piece[..n]).unwrap();
