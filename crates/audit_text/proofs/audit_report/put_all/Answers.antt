@@ -1,10 +1,7 @@
 use Rattle.std.proofs.lemmas.Option.{slice_get-get_or}
-use Rattle.dump_io.specs.Laws.Puts.{HasPut-none, HasPut-more, Puts-broken, Puts-all}
+use Rattle.dump_io.specs.Laws.Puts.{HasPut-more, Puts-broken}
 use Rattle.audit_text.specs.Findings.{finding_line}
 use Rattle.audit_text.proofs.audit_report.put_all.Goals as goal
-
-pub loop-finding-init : goal.loop-finding-init
-loop-finding-init g c = HasPut-none
 
 pub loop-finding-preserved : goal.loop-finding-preserved
 loop-finding-preserved g c =
@@ -19,6 +16,3 @@ returns-in_err-put_finding g c =
     let i = c.loop-finding.finding-index in
     Puts-broken (finding_line c.args.procs.now.processes) findings i _ (slice_get-get_or findings i _ c.loop-finding-test.true)
     c.loop-finding.invariant c.from_residual.ensures.0 c.in_err-put_finding.ensures
-
-pub returns : goal.returns
-returns g c = Puts-all (finding_line c.args.procs.now.processes) c.args.findings.now c.loop-finding.finding-index c.loop-finding-test.false c.loop-finding.invariant

@@ -1,10 +1,7 @@
 use Rattle.std.proofs.lemmas.Option.{slice_get-get_or}
-use Rattle.dump_io.specs.Laws.Puts.{HasPut-none, HasPut-more, Puts-broken, Puts-all}
+use Rattle.dump_io.specs.Laws.Puts.{HasPut-more, Puts-broken}
 use Rattle.glance_text.specs.Holders.{stored_line}
 use Rattle.glance_text.proofs.holder_report.put_all_stored.Goals as goal
-
-pub loop-row-init : goal.loop-row-init
-loop-row-init g c = HasPut-none
 
 pub loop-row-preserved : goal.loop-row-preserved
 loop-row-preserved g c =
@@ -19,6 +16,3 @@ returns-in_err-put_stored g c =
     let i = c.loop-row.row-index in
     Puts-broken stored_line rows i _ (slice_get-get_or rows i _ c.loop-row-test.true) c.loop-row.invariant c.from_residual.ensures.0
     c.in_err-put_stored.ensures
-
-pub returns : goal.returns
-returns g c = Puts-all stored_line c.args.rows.now c.loop-row.row-index c.loop-row-test.false c.loop-row.invariant

@@ -1,10 +1,7 @@
 use Rattle.std.proofs.lemmas.Option.{slice_get-get_or}
-use Rattle.dump_io.specs.Laws.Puts.{HasPut-none, HasPut-more, Puts-broken, Puts-all}
+use Rattle.dump_io.specs.Laws.Puts.{HasPut-more, Puts-broken}
 use Rattle.glance_text.specs.Holders.{holder_line}
 use Rattle.glance_text.proofs.holder_report.put_each.Goals as goal
-
-pub loop-held-init : goal.loop-held-init
-loop-held-init g c = HasPut-none
 
 pub loop-held-preserved : goal.loop-held-preserved
 loop-held-preserved g c =
@@ -20,8 +17,3 @@ returns-in_err-put_holder g c =
     let i = c.loop-held.held-index in
     Puts-broken line rows i _ (slice_get-get_or rows i _ c.loop-held-test.true) c.loop-held.invariant c.from_residual.ensures.0
     c.in_err-put_holder.ensures
-
-pub returns : goal.returns
-returns g c =
-    let line = holder_line c.args.index.now c.args.procs.now.processes in
-    Puts-all line c.args.rows.now c.loop-held.held-index c.loop-held-test.false c.loop-held.invariant

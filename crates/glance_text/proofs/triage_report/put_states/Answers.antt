@@ -1,10 +1,7 @@
 use Rattle.std.proofs.lemmas.Option.{slice_get-get_or}
-use Rattle.dump_io.specs.Laws.Puts.{HasPut-none, HasPut-more, Puts-broken, Puts-all}
+use Rattle.dump_io.specs.Laws.Puts.{HasPut-more, Puts-broken}
 use Rattle.glance_text.specs.Triage.{state_count_line}
 use Rattle.glance_text.proofs.triage_report.put_states.Goals as goal
-
-pub loop-row-init : goal.loop-row-init
-loop-row-init g c = HasPut-none
 
 pub loop-row-preserved : goal.loop-row-preserved
 loop-row-preserved g c =
@@ -17,6 +14,3 @@ returns-in_err-put_state_count g c =
     let rows = c.args.rows.now in
     let i = c.loop-row.row-index in
     Puts-broken (state_count_line c.args.procs.now.processes) rows i _ (slice_get-get_or rows i _ c.loop-row-test.true) c.loop-row.invariant c.from_residual.ensures.0 c.in_err-put_state_count.ensures
-
-pub returns : goal.returns
-returns g c = Puts-all (state_count_line c.args.procs.now.processes) c.args.rows.now c.loop-row.row-index c.loop-row-test.false c.loop-row.invariant

@@ -1,10 +1,7 @@
 use Rattle.std.proofs.lemmas.Option.{slice_get-get_or}
-use Rattle.dump_io.specs.Laws.Puts.{HasPut-none, HasPut-more, Puts-broken, Puts-all}
+use Rattle.dump_io.specs.Laws.Puts.{HasPut-more, Puts-broken}
 use Rattle.glance_text.specs.Triage.{table_words_line}
 use Rattle.glance_text.proofs.triage_report.put_tables.Goals as goal
-
-pub loop-row-init : goal.loop-row-init
-loop-row-init g c = HasPut-none
 
 pub loop-row-preserved : goal.loop-row-preserved
 loop-row-preserved g c =
@@ -17,6 +14,3 @@ returns-in_err-put_table_words g c =
     let rows = c.args.rows.now in
     let i = c.loop-row.row-index in
     Puts-broken (table_words_line c.args.tables.now.rows) rows i _ (slice_get-get_or rows i _ c.loop-row-test.true) c.loop-row.invariant c.from_residual.ensures.0 c.in_err-put_table_words.ensures
-
-pub returns : goal.returns
-returns g c = Puts-all (table_words_line c.args.tables.now.rows) c.args.rows.now c.loop-row.row-index c.loop-row-test.false c.loop-row.invariant
