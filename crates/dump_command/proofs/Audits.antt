@@ -14,7 +14,7 @@ use Rattle.audit_bodies.specs.declared.loading.AuditBodies.{AuditBodies}
 use Rattle.audit_bodies.specs.Mailboxes.{mail_in, mailbox_places, mails}
 use Rattle.dump_command.specs.Audits.{audit_in, status_of}
 use Rattle.dump_audit.specs.declared.finding.Finding.{Finding}
-use Rattle.command_words.specs.Command.{Command, audit}
+use Rattle.command_words.specs.Command.{Command}
 use Rattle.dump_command.specs.Report.{bodies, finds, report, report_status}
 use Rattle.dump_command.specs.Inner.Loads.{audit_status, loaded_audit}
 use Rattle.dump_command.specs.Inner.Reading.{ReadsFor}
