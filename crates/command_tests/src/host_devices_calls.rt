@@ -102,15 +102,18 @@ fn pieces_of_64_kib_and_more(rt: HostRuntime) -> Result<(), Fail> {
     let mut all = Vec::from_slice(rt.alloc(), b"0123456789")?;
     write_all(&mut sink, all.as_slice())?;
     let piece = vec![in rt.alloc(); b'a'; 2 * BUFFER + 10]?;
-    all.extend_from_slice(piece.as_slice())?;
     // The buffer is filled first, and then 64 KiB go past it.
     let (filled, rest) = piece.split_at(BUFFER - 10);
     assert_eq!(rt; sink.write(piece.as_slice())?, filled.len());
     assert!(rt; took(&taken, b""));
-    assert_eq!(rt; sink.write(rest)?, BUFFER);
-    assert!(rt; took(&taken, &all[..2 * BUFFER]));
-    write_all(&mut sink, &rest[BUFFER..])?;
+    let (passed, left) = rest.split_at(BUFFER);
+    assert_eq!(rt; sink.write(rest)?, passed.len());
+    all.extend_from_slice(filled)?;
+    all.extend_from_slice(passed)?;
+    assert!(rt; took(&taken, all.as_slice()));
+    write_all(&mut sink, left)?;
     sink.flush()?;
+    all.extend_from_slice(left)?;
     assert!(rt; took(&taken, all.as_slice()));
     Ok(())
 }
