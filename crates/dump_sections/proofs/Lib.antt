@@ -1,6 +1,7 @@
 pub mod ByMarks
 pub mod Counts
 pub mod Cutting
+pub mod Finding
 pub mod Kept
 pub mod Parts
 pub mod Places

@@ -1,9 +1,8 @@
--- The body of a section, and why it isn't loaded.
-use Rattle.std.specs.Prelude.{◌≡◌, ℕ, ◌-◌, ◌<◌, List, [], slice_get, unwrap_or}
+-- Sections by their places, and their bodies.
+use Rattle.std.specs.Prelude.{◌≡◌, ℕ, ◌-◌, List, [], slice_get, Option, Some, unwrap_or, option_map}
 use Rattle.std.specs.List.{between}
-use Rattle.dump_io.specs.Dumps.{Now, closed, told, sized, DeviceState, DeviceFailed}
-use Rattle.dump_sections.specs.declared.bodies.BodyFault.{BodyFault}
-use Rattle.dump_sections.specs.declared.bodies.BodyFault.TheVariants.{SectionTooLarge, Read, Memory}
+use Rattle.std.specs.Option.{option_map_or}
+use Rattle.dump_io.specs.Dumps.{Now, closed, told, sized}
 use Rattle.dump_sections.specs.Index.{Contents, sections_in}
 use Rattle.dump_sections.specs.Sections.{Section, section}
 
@@ -11,20 +10,31 @@ use Rattle.dump_sections.specs.Sections.{Section, section}
 abbrev pub section_at : Contents → ℕ → Section
 section_at index i = unwrap_or (slice_get (sections_in index) i) (section 0 0 0 [])
 
+-- the section at a place, if there is one
+abbrev pub section_in : Contents → Option ℕ → Option Section
+section_in index place = option_map (section_at index) place
+
 -- how many bytes the body of a section has
 abbrev pub body_length : Section → ℕ
 body_length section = section.end - section.body
 
--- these are the bytes of the section's body, if the device tells the bytes of what is open
-abbrev pub IsBodyOf : Now → Section → List ℕ → Type 0
-IsBodyOf closed section bytes = ⊥
-IsBodyOf (told dump) section bytes = bytes ≡ between section.body section.end dump
-IsBodyOf (sized size) section bytes = Unit {0}
+-- the body of a section in the bytes of a dump
+abbrev pub body_of : List ℕ → Section → List ℕ
+body_of dump section = between section.body section.end dump
 
--- why a body isn't loaded: it has more bytes than the limit,
--- or the device failed; memory may be lacking at any time
-abbrev pub IsCauseOf : Section → ℕ → DeviceState → DeviceState → BodyFault → Type 0
-IsCauseOf section limit before after (SectionTooLarge at len) =
-    (at ≡ section.at) × (len ≡ body_length section) × (limit < body_length section)
-IsCauseOf section limit before after Read = DeviceFailed before after
-IsCauseOf section limit before after Memory = Unit {0}
+-- the same for a section that may be missing, which counts as empty
+abbrev pub body_size : Option Section → ℕ
+body_size found = option_map_or body_length found 0
+
+abbrev pub body_in : List ℕ → Option Section → List ℕ
+body_in dump found = option_map_or (body_of dump) found []
+
+-- these are the bytes of the body, if the device tells the bytes of what is open
+abbrev pub IsBodyIn : Now → Option Section → List ℕ → Type 0
+IsBodyIn closed found bytes = ⊥
+IsBodyIn (told dump) found bytes = bytes ≡ body_in dump found
+IsBodyIn (sized size) found bytes = Unit {0}
+
+-- the same for a section that is there
+abbrev pub IsBodyOf : Now → Section → List ℕ → Type 0
+IsBodyOf now section bytes = IsBodyIn now (Some section) bytes

@@ -3,6 +3,8 @@ pub mod Cuts
 pub mod Index
 pub mod Inner
 pub mod Laws
+pub mod Loading
+pub mod LoadingLaws
 pub mod Lookups
 pub mod Sections
 pub mod Tags

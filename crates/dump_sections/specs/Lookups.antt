@@ -1,9 +1,9 @@
--- What sections are looked up by.
-use Rattle.std.specs.Prelude.{ℕ, Bool, ◌&&◌, nat_eq, List, Option, Some}
+-- Looking sections up by their tags and ids.
+use Rattle.std.specs.Prelude.{ℕ, Bool, ◌&&◌, nat_eq, List, find, Option, Some}
 use Rattle.std.specs.Option.{option_eq, option_and_then}
 use Rattle.std.specs.Str.{bytes_eq}
 use Rattle.dump_io.specs.Numbers.{hex_number}
-use Rattle.dump_sections.specs.Sections.{tag_of, id_of}
+use Rattle.dump_sections.specs.Sections.{Section, tag_of, id_of}
 
 -- whether a header's text has this tag, with or without an id
 abbrev pub has_tag : List ℕ → List ℕ → Bool
@@ -16,3 +16,15 @@ is_named tag id text = has_tag tag text && option_eq bytes_eq (id_of text) id
 -- whether it has this tag and an id that is this number in hex
 abbrev pub has_hex : List ℕ → ℕ → List ℕ → Bool
 has_hex tag n text = has_tag tag text && option_eq nat_eq (option_and_then hex_number (id_of text)) (Some n)
+
+-- the first section with this tag
+abbrev pub first_tagged : List ℕ → List Section → Option Section
+first_tagged tag sections = find (λ s. has_tag tag s.text) sections
+
+-- the first section with exactly this tag and this id
+abbrev pub first_named : List ℕ → List ℕ → List Section → Option Section
+first_named tag id sections = find (λ s. is_named tag (Some id) s.text) sections
+
+-- the first section with this tag and an id that is this number in hex
+abbrev pub first_hex : List ℕ → ℕ → List Section → Option Section
+first_hex tag n sections = find (λ s. has_hex tag n s.text) sections

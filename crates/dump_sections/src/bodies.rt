@@ -1,9 +1,10 @@
-// Reading the body of a section.
-ghost use Rattle.std.specs.Prelude.{◌≡◌, ◌+◌, ◌<◌, ◌≤◌, ◌⊎◌, length, IfOk, OnOk, IfErr, IsErrOf};
+// Judging and reading the bodies of sections.
+ghost use Rattle.std.specs.Prelude.{◌≡◌, [], ◌∷◌, ◌+◌, ◌<◌, ◌≤◌, ◌⊎◌, length, None, All, IfOk, OnOk, IfErr, IsErrOf};
 ghost use Rattle.dump_io.specs.Dumps.{IsOpen, size_of, Gives, DeviceFailed, ReadsAtMost};
 ghost use Rattle.dump_io.specs.Limits.{usual};
-ghost use Rattle.dump_sections.specs.Bodies.{section_at, body_length, IsBodyOf, IsCauseOf};
+ghost use Rattle.dump_sections.specs.Bodies.{section_at, body_length, IsBodyOf};
 ghost use Rattle.dump_sections.specs.Index.{IsBuiltOver};
+ghost use Rattle.dump_sections.specs.Loading.{sections_at, large_fault, AreRefused};
 
 use crate::index::Index;
 use dump_io::{Dumps, Limits, read_full};
@@ -23,6 +24,39 @@ pub enum BodyFault {
     /// There was no memory for the body.
     #[error("out of memory")]
     Memory,
+}
+
+/// The refusal of the section at place `i`, from 0, if its body has more
+/// bytes than the limit on a section's body. Nothing is read.
+pub fn large_body(index: &Index, i: usize, limits: &Limits) -> Option<BodyFault>
+    requires { i < length index.now.headers }
+    ensures fault { result ≡ large_fault limits.now.section (section_at index.now i ∷ []) }
+    ensures small { result ≡ None → body_length (section_at index.now i) ≤ usual.section }
+{
+    let section = index.extent(i);
+    let len = section.end - section.body;
+    if len > u64::from(limits.section()) {
+        return Some(BodyFault::SectionTooLarge {
+            at: section.at,
+            len,
+        });
+    }
+    None
+}
+
+/// The refusal of the first of the sections at these places whose body has more bytes than the limit
+/// on a section's body. Returns `None` exactly when each body is within the limit. Nothing is read.
+pub fn large(index: &Index, places: &[usize], limits: &Limits) -> Option<BodyFault>
+    requires { All (λ i. i < length index.now.headers) places.now }
+    ensures { result ≡ large_fault limits.now.section (sections_at index.now places.now) }
+{
+    for i in places {
+        let fault = large_body(index, *i, limits);
+        if fault.is_some() {
+            return fault;
+        }
+    }
+    None
 }
 
 // Reads `len` bytes of the open file from an offset on.
@@ -68,20 +102,16 @@ pub fn read_body<D: Dumps>(
     ensures length { IfOk result (λ body. length body.items ≡ body_length (section_at index.now i)) }
     ensures small { IfOk result (λ body. length body.items ≤ usual.section) }
     ensures loaded { OnOk result (body_length (section_at index.now i) ≤ limits.now.section) }
-    ensures fault { IfErr result (IsCauseOf (section_at index.now i) limits.now.section (D.state dumps.old) (D.state dumps.new)) }
+    ensures fault { IfErr result (AreRefused (section_at index.now i ∷ []) limits.now.section (D.state dumps.old) (D.state dumps.new)) }
 
     // A body that is too large is always refused as such, whatever the device does.
     ensures too_large { let section = section_at index.now i in limits.now.section < body_length section
         → IsErrOf result (BodyFault.SectionTooLarge section.at (body_length section)) }
     ensures unread { limits.now.section < body_length (section_at index.now i) → dumps.new ≡ dumps.old }
 {
-    let section = index.extent(i);
-    let len = section.end - section.body;
-    if len > u64::from(limits.section()) {
-        return Err(BodyFault::SectionTooLarge {
-            at: section.at,
-            len,
-        });
+    if let Some(fault) = large_body(index, i, limits) {
+        return Err(fault);
     }
-    read_part(alloc, dumps, section.body, len as usize)
+    let section = index.extent(i);
+    read_part(alloc, dumps, section.body, (section.end - section.body) as usize)
 }

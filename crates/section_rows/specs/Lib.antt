@@ -1,5 +1,3 @@
 pub mod Inner
-pub mod Laws
-pub mod Loading
 pub mod Rows
 pub mod Shown

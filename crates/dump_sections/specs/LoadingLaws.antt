@@ -6,7 +6,7 @@ use Rattle.dump_sections.specs.Bodies.{body_length}
 use Rattle.dump_sections.specs.Sections.{Section}
 use Rattle.dump_sections.specs.declared.bodies.BodyFault.{BodyFault}
 use Rattle.dump_sections.specs.declared.bodies.BodyFault.TheVariants.{SectionTooLarge}
-use Rattle.section_rows.specs.Loading.{first_large, large_fault}
+use Rattle.dump_sections.specs.Loading.{first_large, large_fault}
 
 -- the refusal of a section whose body is too large
 abbrev fault_of : Section → BodyFault
