@@ -11,8 +11,8 @@ use Rattle.dump_sections.specs.Index.{Contents, sections_in}
 use Rattle.dump_sections.specs.Sections.{Section}
 use Rattle.dump_sections.specs.declared.bodies.BodyFault.{BodyFault}
 use Rattle.dump_sections.specs.declared.bodies.BodyFault.TheVariants.{SectionTooLarge, Read, Memory}
-use Rattle.section_rows.specs.Laws.{large-append}
-use Rattle.section_rows.specs.Loading.{first_large, large_fault, AreRefused, IsUnread}
+use Rattle.dump_sections.specs.LoadingLaws.{large-append}
+use Rattle.dump_sections.specs.Loading.{first_large, large_fault, AreRefused, IsUnread}
 use Rattle.process_table.specs.Processes.{IsOver, Process, ProcessTable}
 use Rattle.process_table.specs.Records.{Placed, ProcPlaces, named_place, pid_of, proc_places, record_sections, records}
 use Rattle.audit_bodies.specs.Mailboxes.{audited_sections, mailbox_place, mailbox_places, mailboxes_at, pids_in}

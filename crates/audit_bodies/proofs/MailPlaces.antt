@@ -12,7 +12,7 @@ use Rattle.dump_sections.specs.Index.{Contents, sections_in}
 use Rattle.dump_sections.specs.declared.bodies.BodyFault.{BodyFault}
 use Rattle.dump_sections.specs.declared.bodies.BodyFault.TheVariants.{SectionTooLarge}
 use Rattle.dump_sections.specs.Sections.{Section}
-use Rattle.section_rows.specs.Loading.{bodies_length, first_large, large_fault, sections_at}
+use Rattle.dump_sections.specs.Loading.{bodies_length, first_large, large_fault, sections_at}
 use Rattle.audit_bodies.specs.Mailboxes.{mailboxes_at, section_in}
 use Rattle.audit_bodies.specs.Inner.Mailboxes.{IsSmall}
 

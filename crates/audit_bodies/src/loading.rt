@@ -3,7 +3,7 @@ ghost use Rattle.std.specs.Prelude.{◌≡◌, ℕ, List, [], ◌++◌, length, 
 ghost use Rattle.std.specs.Option.{option_map};
 ghost use Rattle.dump_io.specs.Dumps.{told, ReadsAtMost};
 ghost use Rattle.dump_sections.specs.Index.{IsBuiltOver, sections_in, state_of};
-ghost use Rattle.section_rows.specs.Loading.{bodies_length, first_large, large_fault, sections_at, AreRefused, IsUnread};
+ghost use Rattle.dump_sections.specs.Loading.{bodies_length, first_large, large_fault, sections_at, AreRefused, IsUnread};
 ghost use Rattle.process_table.specs.Processes.{process_table};
 ghost use Rattle.process_table.specs.Records.{proc_places, record_sections};
 ghost use Rattle.audit_bodies.specs.Mailboxes.{audited_sections, mail_in, mailbox_places, mailboxes_at};
@@ -14,9 +14,8 @@ ghost use Rattle.audit_bodies.specs.Inner.Mailboxes.{IsWithin};
 use crate::mailboxes::{mailboxes, present};
 use crate::messages::count_messages;
 use dump_io::{Dumps, Limits};
-use dump_sections::{BodyFault, Index};
+use dump_sections::{BodyFault, Index, large};
 use process_table::{ProcSections, Procs};
-use section_rows::large;
 use std::alloc::{AllocError, Global};
 
 // The bodies of an audit, from the index: the sections of the processes; for a

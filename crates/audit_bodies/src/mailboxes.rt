@@ -1,7 +1,7 @@
 // The mailboxes of processes: the first of the sections with messages of each pid.
 ghost use Rattle.std.specs.Prelude.{◌≡◌, ◌<◌, length, map, All, IfOk};
 ghost use Rattle.dump_sections.specs.Index.{sections_in};
-ghost use Rattle.section_rows.specs.Loading.{sections_at};
+ghost use Rattle.dump_sections.specs.Loading.{sections_at};
 ghost use Rattle.audit_bodies.specs.Mailboxes.{mailbox_place, mailboxes_at};
 ghost use Rattle.audit_bodies.specs.Inner.Mailboxes.{IsWithin};
 

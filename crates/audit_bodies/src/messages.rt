@@ -3,7 +3,7 @@ ghost use Rattle.std.specs.Prelude.{◌≡◌, ℕ, List, [], ◌∷◌, ◌<◌
 ghost use Rattle.dump_io.specs.Dumps.{told, ReadsAtMost};
 ghost use Rattle.dump_sections.specs.Bodies.{section_at, body_length};
 ghost use Rattle.dump_sections.specs.Index.{IsBuiltOver, sections_in, state_of};
-ghost use Rattle.section_rows.specs.Loading.{bodies_length, IsUnread};
+ghost use Rattle.dump_sections.specs.Loading.{bodies_length, IsUnread};
 ghost use Rattle.dump_audit.specs.Findings.{is_cut};
 ghost use Rattle.audit_bodies.specs.Mailboxes.{mail_at, mail_in, mailboxes_at};
 ghost use Rattle.audit_bodies.specs.Inner.Mailboxes.{IsSmall, IsWithin};

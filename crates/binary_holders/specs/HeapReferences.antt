@@ -5,7 +5,8 @@ use Rattle.dump_sections.specs.Index.{Contents}
 use Rattle.binary_payloads.specs.declared.enc.Enc.{Enc}
 use Rattle.term_forms.specs.Forms.{HeapForm, RefBin}
 use Rattle.heap_cells.specs.Cells.{line_cells}
-use Rattle.heap_cells.specs.Loading.{enc_of, heap_section, body_in}
+use Rattle.heap_cells.specs.Loading.{enc_of, heap_section}
+use Rattle.dump_sections.specs.Bodies.{body_in}
 
 -- the number of the binary to which a form refers, if it is a reference to a binary
 abbrev pub referred : Option HeapForm → Option ℕ

@@ -4,7 +4,8 @@ use Rattle.std.specs.List.{count_by, sum_by}
 use Rattle.dump_io.specs.Dumps.{DeviceState, DeviceFailed}
 use Rattle.dump_sections.specs.Index.{Contents, sections_in}
 use Rattle.dump_sections.specs.Lookups.{has_tag}
-use Rattle.heap_cells.specs.Loading.{heap_section, body_size}
+use Rattle.heap_cells.specs.Loading.{heap_section}
+use Rattle.dump_sections.specs.Bodies.{body_size}
 use Rattle.binary_holders.specs.declared.faults.HolderFault.{HolderFault}
 use Rattle.binary_holders.specs.declared.faults.HolderFault.TheVariants.{Read, Memory}
 use Rattle.binary_holders.specs.declared.rows.BinaryRow.{BinaryRow}

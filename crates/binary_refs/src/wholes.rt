@@ -2,9 +2,9 @@
 ghost use Rattle.std.specs.Prelude.{◌≡◌, ℕ, ◌<◌, List, length, Some, None, IfSome, IfOk, IfErr, OnOk, IsErrOf};
 ghost use Rattle.std.specs.Option.{option_copied};
 ghost use Rattle.dump_io.specs.Dumps.{told, ReadsAtMost};
-ghost use Rattle.dump_sections.specs.Bodies.{section_at, body_length};
+ghost use Rattle.dump_sections.specs.Bodies.{section_at, body_length, body_in};
 ghost use Rattle.dump_sections.specs.Index.{IsBuiltOver};
-ghost use Rattle.heap_cells.specs.Loading.{body_in, enc_of};
+ghost use Rattle.heap_cells.specs.Loading.{enc_of};
 ghost use Rattle.stored_binaries.specs.StoredBinaries.{binary_section};
 ghost use Rattle.stored_binaries.specs.Payloads.{bytes_in};
 ghost use Rattle.binary_refs.specs.Wholes.{first_text, bytes_of_body, whole_bytes, IsBadFor, IsBinCauseOf, found_length, refused};

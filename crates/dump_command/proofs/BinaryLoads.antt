@@ -22,7 +22,7 @@ use Rattle.binary_refs.specs.declared.faults.BinFault.TheVariants as faults
 use Rattle.report_text.specs.declared.refusals.Refusal.TheVariants.{SectionTooLarge, BadBinary}
 use Rattle.command_words.specs.Command.{binary}
 use Rattle.dump_command.specs.Report.{one_of, refusal_listed, reread, too_large}
-use Rattle.section_rows.specs.Loading.{bodies_length}
+use Rattle.dump_sections.specs.Loading.{bodies_length}
 use Rattle.dump_command.specs.Terms.{bad_binary, bad_cause, binary_at, binary_cause}
 use Rattle.dump_command.specs.Inner.Reading.{IsIndexed, IsHalted, Takes}
 use Rattle.dump_command.specs.Inner.Stops.{stop_of_binary}

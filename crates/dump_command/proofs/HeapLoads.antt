@@ -9,18 +9,18 @@ use Rattle.std.specs.List.{flat_map}
 use Rattle.std.specs.Global.{Vec}
 use Rattle.std.proofs.lemmas.List.Sums.{sum_by-append}
 use Rattle.std.proofs.lemmas.Bool.{lt-ltb, le-ltb}
-use Rattle.dump_sections.specs.Bodies.{body_length}
+use Rattle.dump_sections.specs.Bodies.{body_length, body_in, body_size, section_in}
 use Rattle.dump_sections.specs.Index.{Contents, IsIndexOf, sections_in, index_of}
 use Rattle.dump_sections.specs.Laws.{index-is}
 use Rattle.dump_sections.specs.Lookups.{has_tag, is_named}
 use Rattle.dump_sections.specs.Sections.{Section, sections}
 use Rattle.heap_cells.specs.Cells.{cells_of, own_count, weight, Cell}
 use Rattle.heap_cells.specs.HeapMap.{HeapMap, number_at, form_at}
-use Rattle.heap_cells.specs.Loading.{body_in, body_size, enc_of, heap_section, literals_section, section_fault, IsMapOf, too_large as heap_too_large, section_in, IsAnswerFor, IsCauseOf}
+use Rattle.heap_cells.specs.Loading.{enc_of, heap_section, literals_section, section_fault, IsMapOf, too_large as heap_too_large, IsAnswerFor, IsCauseOf}
 use Rattle.heap_cells.specs.declared.faults.HeapFault.{HeapFault}
 use Rattle.report_text.specs.declared.refusals.Refusal.{Refusal}
 use Rattle.report_text.specs.declared.refusals.Refusal.TheVariants.{SectionTooLarge, TooDense}
-use Rattle.section_rows.specs.Loading.{bodies_length, first_large, AreRefused}
+use Rattle.dump_sections.specs.Loading.{bodies_length, first_large, AreRefused}
 use Rattle.dump_io.specs.Dumps.{Now, DeviceState, told, DeviceFailed, ReadsAtMost}
 use Rattle.dump_io.specs.Limits.{Numbers}
 use Rattle.dump_sections.specs.declared.bodies.BodyFault.{BodyFault}

@@ -8,7 +8,7 @@ use Rattle.dump_sections.specs.Index.{Contents, IsIndexOf, index_of, sections_in
 use Rattle.dump_sections.specs.Laws.{index-is}
 use Rattle.dump_sections.specs.Sections.{Section, sections}
 use Rattle.dump_sections.specs.declared.bodies.BodyFault.{BodyFault}
-use Rattle.section_rows.specs.Loading.{bodies_length, first_large, AreRefused}
+use Rattle.dump_sections.specs.Loading.{bodies_length, first_large, AreRefused}
 use Rattle.process_table.specs.Processes.{Process, ProcessTable, process_table}
 use Rattle.process_table.specs.Records.{record_sections}
 use Rattle.binary_holders.specs.Usage.{Usage, fronts_length, heaps_length, holders_in, usage_of, IsCauseOf}

@@ -2,7 +2,7 @@
 use Rattle.std.proofs.Common.{◌≡◌, ℕ, Bool, true, false, List, [], length, Option, None, Some, sym, ◌∙◌, ap, inl, inr}
 use Rattle.dump_sections.specs.Index.{Contents, sections_in}
 use Rattle.dump_sections.specs.Sections.{Section, section}
-use Rattle.heap_cells.specs.Loading.{section_in}
+use Rattle.dump_sections.specs.Bodies.{section_in}
 use Rattle.std.specs.Prelude.{cond, find, nat_lt, position}
 use Rattle.std.specs.List.{slice_get, position_or_len}
 use Rattle.std.specs.Option.{unwrap_or}

@@ -10,15 +10,14 @@ use Rattle.std.proofs.lemmas.Slice.Eq.{bytes_eq-Decides}
 use Rattle.dump_io.specs.Dumps.{DeviceState, told, ReadsAtMost, DeviceFailed}
 use Rattle.dump_io.specs.Laws.Reads.{ReadsAtMost-none, ReadsAtMost-within}
 use Rattle.dump_io.specs.Limits.{Numbers}
-use Rattle.dump_sections.specs.Bodies.{body_length}
+use Rattle.dump_sections.specs.Bodies.{body_length, body_in, body_size, IsBodyIn, section_in}
 use Rattle.dump_sections.specs.Index.{Contents, sections_in, IsBuiltOver, IsIndexOf}
 use Rattle.dump_sections.specs.Sections.{Section, sections}
 use Rattle.dump_sections.specs.declared.bodies.BodyFault.{BodyFault}
-use Rattle.section_rows.specs.Loading.{bodies_length, first_large, AreRefused}
+use Rattle.dump_sections.specs.Loading.{bodies_length, first_large, AreRefused}
 use Rattle.report_text.specs.declared.refusals.Refusal.{Refusal}
 use Rattle.report_text.specs.declared.refusals.Refusal.TheVariants.{SectionTooLarge}
 use Rattle.command_words.specs.Command.{Command, info}
-use Rattle.heap_cells.specs.Loading.{body_in, body_size, IsBodyIn, section_in}
 use Rattle.report_text.specs.Tables.{fields_report}
 use Rattle.dump_io.specs.Sinks.{SinkState, Puts}
 use Rattle.dump_io.specs.Lines.{headers}

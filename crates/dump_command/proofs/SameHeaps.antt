@@ -15,7 +15,7 @@ use Rattle.dump_sections.specs.Index.{index_of, state_of}
 use Rattle.dump_sections.specs.Lookups.{has_tag, is_named}
 use Rattle.dump_sections.specs.Sections.{Section, section, sections, id_of, tag_of}
 use Rattle.dump_sections.specs.declared.index.State.{State}
-use Rattle.section_rows.specs.Rows.{body_of}
+use Rattle.dump_sections.specs.Bodies.{body_of, body_in}
 use Rattle.process_table.specs.Processes.{Process, ProcessTable, process_in, process_table}
 use Rattle.process_table.specs.Records.{Placed, first_of_each, is_process, placed, process_sections, records, repeated}
 use Rattle.audit_bodies.specs.Mailboxes.{mail_in, mailbox_place, mailbox_places, mails, pids_in, section_in}
@@ -25,7 +25,7 @@ use Rattle.dump_audit.specs.Laws.{all-numbered}
 use Rattle.binary_payloads.specs.declared.enc.Enc.{Enc}
 use Rattle.dump_redact.specs.Bodies.{redacted_body, heap_line}
 use Rattle.dump_redact.specs.Laws.{IsRedacted, KeepsIndex, KeepsOthers, KeepsSections, KeepsState, RedactsSections, KeepsLength, RedactsLines}
-use Rattle.heap_cells.specs.Loading.{enc_of, body_in}
+use Rattle.heap_cells.specs.Loading.{enc_of}
 use Rattle.dump_redact.specs.Redacted.{part_of, redacted, version_of, bin_chars, without}
 use Rattle.term_forms.specs.Forms.{HeapForm, HeapBin, Cons, Tuple, RefBin, SubBin, Flat, Node}
 use Rattle.term_forms.specs.ReadingForms.{form_of}

@@ -6,18 +6,17 @@ use Rattle.std.proofs.lemmas.List.Sums.{sum_by-append, sum_by-cons}
 use Rattle.dump_io.specs.Dumps.{DeviceState, DeviceFailed, ReadsAtMost}
 use Rattle.dump_io.specs.Laws.Reads.{ReadsAtMost-then, ReadsAtMost-within}
 use Rattle.dump_io.specs.Limits.{Numbers}
-use Rattle.dump_sections.specs.Bodies.{body_length}
+use Rattle.dump_sections.specs.Bodies.{body_length, body_in, body_size, section_in}
 use Rattle.dump_sections.specs.Index.{Contents, index_of, sections_in}
 use Rattle.dump_sections.specs.Laws.{index-is}
 use Rattle.dump_sections.specs.Sections.{Section}
 use Rattle.dump_sections.specs.declared.bodies.BodyFault.{BodyFault}
 use Rattle.dump_sections.specs.declared.bodies.BodyFault.TheVariants as body_faults
-use Rattle.section_rows.specs.Laws.{large-append, small-both}
-use Rattle.section_rows.specs.Loading.{bodies_length, first_large, large_fault, AreRefused, IsUnread}
+use Rattle.dump_sections.specs.LoadingLaws.{large-append, small-both}
+use Rattle.dump_sections.specs.Loading.{bodies_length, first_large, large_fault, AreRefused, IsUnread}
 use Rattle.process_table.specs.Records.{record_sections}
 use Rattle.table_sections.specs.declared.kinds.TableKind.TheVariants.{Ets}
 use Rattle.table_sections.specs.Tables.{listed}
-use Rattle.heap_cells.specs.Loading.{body_in, body_size, section_in}
 use Rattle.command_words.specs.Command.{triage}
 use Rattle.process_table.specs.Processes.{process_table}
 use Rattle.dump_command.specs.Report.{first_section, memory_section, one_of, refusal_listed, report, told_in, triage_sections}

@@ -7,7 +7,7 @@ use Rattle.term_forms.specs.Forms.{HeapForm, HeapBin, RefBin, SubBin}
 use Rattle.root_views.specs.Roots.{BodyRoot}
 use Rattle.heap_cells.specs.Cells.{Cell, addresses}
 use Rattle.heap_cells.specs.HeapMap.{HeapMap}
-use Rattle.heap_cells.specs.Loading.{body_in}
+use Rattle.dump_sections.specs.Bodies.{body_in}
 use Rattle.term_unfold.specs.Leaves.{leaf_text}
 use Rattle.term_unfold.specs.Trees.{Value, Immediate, OfCell, Tree, Leaf, Bad, Branch, Trees, none, more, verdict}
 use Rattle.term_unfold.specs.Unfolding.{unfolding_of}

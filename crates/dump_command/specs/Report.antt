@@ -5,7 +5,7 @@ use Rattle.std.specs.List.{between}
 use Rattle.std.specs.Option.{option_map, option_or, option_and}
 use Rattle.dump_io.specs.Limits.{Numbers}
 use Rattle.dump_io.specs.Lines.{headers}
-use Rattle.dump_sections.specs.Bodies.{body_length}
+use Rattle.dump_sections.specs.Bodies.{body_length, body_in}
 use Rattle.dump_sections.specs.Index.{index_of}
 use Rattle.dump_sections.specs.Versions.{first_id}
 use Rattle.section_index.specs.Opening.{opening}
@@ -25,7 +25,7 @@ use Rattle.json_report.specs.Trees.{audit_tree, json_text}
 use Rattle.process_table.specs.Processes.{process_table}
 use Rattle.process_table.specs.Records.{record_sections}
 use Rattle.dump_sections.specs.Lookups.{has_tag, is_named}
-use Rattle.section_rows.specs.Loading.{bodies_length, first_large}
+use Rattle.dump_sections.specs.Loading.{bodies_length, first_large}
 use Rattle.table_sections.specs.declared.kinds.TableKind.TheVariants.{Ets}
 use Rattle.table_sections.specs.Tables.{listed, table_of}
 use Rattle.dump_write.specs.Made.{made}
@@ -35,7 +35,6 @@ use Rattle.dump_redact.specs.Refusals.{heap_sections}
 use Rattle.audit_bodies.specs.Mailboxes.{audited_sections}
 use Rattle.dump_command.specs.Audits.{audit_in, status_of}
 use Rattle.command_words.specs.Command.{Command, index, info, procs, proc, memory, table, roots, term, ext, reach, cells, binary, binaries, holders, triage, links, redact, audit, audit_json, make, trial, file_of}
-use Rattle.heap_cells.specs.Loading.{body_in}
 use Rattle.dump_command.specs.Holders.{binaries_listing, fronts_bytes, heaps_bytes, holders_listing}
 use Rattle.dump_command.specs.Triage.{Told, triage_over}
 use Rattle.dump_command.specs.Terms.{base_of, binary_at, binary_cause, bad_binary, binary_count, binary_of, ext_of, heap_map, heap_of, literals_of, no_address, no_external, reach_of, roots_of, roots_section, term_of, too_dense}

@@ -10,7 +10,8 @@ use Rattle.term_forms.specs.Forms.{HeapForm, Ext}
 use Rattle.heap_cells.specs.Cells.{cells_of, own_count, weight}
 use Rattle.etf_terms.specs.Walks.{bad_place}
 use Rattle.heap_cells.specs.HeapMap.{HeapMap, form_at, number_at}
-use Rattle.heap_cells.specs.Loading.{body_in, enc_of}
+use Rattle.heap_cells.specs.Loading.{enc_of}
+use Rattle.dump_sections.specs.Bodies.{body_in}
 use Rattle.heap_reach.specs.Rounds.{reached_by}
 use Rattle.binary_refs.specs.declared.entries.Entry.{Entry}
 use Rattle.binary_refs.specs.Previews.{binaries, previews_of}

@@ -1,12 +1,12 @@
 -- Laws of the definitions, each with its proof, for the proofs of callers: bodies that are judged in a row.
-use Rattle.std.proofs.Common.{◌≡◌, ℕ, true, false, List, [], ◌∷◌, ◌++◌, Option, None, Some, refl, sym, ◌∙◌}
+use Rattle.std.proofs.Common.{◌≡◌, ℕ, ◌+◌, true, false, List, [], ◌∷◌, ◌++◌, Option, None, Some, refl, sym, ◌∙◌, arith}
 use Rattle.std.specs.Prelude.{cond, nat_lt}
-use Rattle.std.specs.Option.{option_map, option_or}
-use Rattle.dump_sections.specs.Bodies.{body_length}
+use Rattle.std.specs.Option.{option_map, option_or, option_to_list}
+use Rattle.dump_sections.specs.Bodies.{body_length, body_size}
 use Rattle.dump_sections.specs.Sections.{Section}
 use Rattle.dump_sections.specs.declared.bodies.BodyFault.{BodyFault}
 use Rattle.dump_sections.specs.declared.bodies.BodyFault.TheVariants.{SectionTooLarge}
-use Rattle.dump_sections.specs.Loading.{first_large, large_fault}
+use Rattle.dump_sections.specs.Loading.{bodies_length, first_large, large_fault}
 
 -- the refusal of a section whose body is too large
 abbrev fault_of : Section → BodyFault
@@ -26,3 +26,10 @@ small-both limit xs ys none = by (large_fault limit xs) (large_fault limit ys) (
     by : (o p : Option BodyFault) → option_or o p ≡ None → (o ≡ None) × (p ≡ None)
     by None p is = (refl, is)
     by (Some fault) p is = absurd (let no : ⊥ = cc (is) in no)
+
+-- how many bytes two bodies have, either of which may be missing
+pub bodies-two : (one other : Option Section) → bodies_length (option_to_list one ++ option_to_list other) ≡ body_size one + body_size other
+bodies-two None None = refl
+bodies-two None (Some other) = omega arith
+bodies-two (Some one) None = omega arith
+bodies-two (Some one) (Some other) = omega arith

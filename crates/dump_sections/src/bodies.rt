@@ -1,8 +1,9 @@
 // Judging and reading the bodies of sections.
-ghost use Rattle.std.specs.Prelude.{◌≡◌, [], ◌∷◌, ◌+◌, ◌<◌, ◌≤◌, ◌⊎◌, length, None, All, IfOk, OnOk, IfErr, IsErrOf};
+ghost use Rattle.std.specs.Prelude.{◌≡◌, [], ◌∷◌, ◌+◌, ◌<◌, ◌≤◌, ◌⊎◌, length, None, All, IfSome, IfOk, OnOk, IfErr, IsErrOf};
+ghost use Rattle.std.specs.Option.{option_to_list};
 ghost use Rattle.dump_io.specs.Dumps.{IsOpen, size_of, Gives, DeviceFailed, ReadsAtMost};
 ghost use Rattle.dump_io.specs.Limits.{usual};
-ghost use Rattle.dump_sections.specs.Bodies.{section_at, body_length, IsBodyOf};
+ghost use Rattle.dump_sections.specs.Bodies.{section_at, section_in, body_length, body_size, IsBodyOf};
 ghost use Rattle.dump_sections.specs.Index.{IsBuiltOver};
 ghost use Rattle.dump_sections.specs.Loading.{sections_at, large_fault, AreRefused};
 
@@ -26,14 +27,15 @@ pub enum BodyFault {
     Memory,
 }
 
-/// The refusal of the section at place `i`, from 0, if its body has more
-/// bytes than the limit on a section's body. Nothing is read.
-pub fn large_body(index: &Index, i: usize, limits: &Limits) -> Option<BodyFault>
-    requires { i < length index.now.headers }
-    ensures fault { result ≡ large_fault limits.now.section (section_at index.now i ∷ []) }
-    ensures small { result ≡ None → body_length (section_at index.now i) ≤ usual.section }
+/// The refusal of the section at a place, from 0, if its body has more bytes than the
+/// limit on a section's body. A missing section counts as empty. Nothing is read.
+pub fn large_body(index: &Index, place: Option<usize>, limits: &Limits) -> Option<BodyFault>
+    requires { IfSome place (λ i. i < length index.now.headers) }
+    ensures fault { result ≡ large_fault limits.now.section (option_to_list (section_in index.now place)) }
+    ensures small { result ≡ None → body_size (section_in index.now place) ≤ limits.now.section }
+    ensures usual { result ≡ None → body_size (section_in index.now place) ≤ usual.section }
 {
-    let section = index.extent(i);
+    let section = index.extent(place?);
     let len = section.end - section.body;
     if len > u64::from(limits.section()) {
         return Some(BodyFault::SectionTooLarge {
@@ -51,7 +53,7 @@ pub fn large(index: &Index, places: &[usize], limits: &Limits) -> Option<BodyFau
     ensures { result ≡ large_fault limits.now.section (sections_at index.now places.now) }
 {
     for i in places {
-        let fault = large_body(index, *i, limits);
+        let fault = large_body(index, Some(*i), limits);
         if fault.is_some() {
             return fault;
         }
@@ -109,7 +111,7 @@ pub fn read_body<D: Dumps>(
         → IsErrOf result (BodyFault.SectionTooLarge section.at (body_length section)) }
     ensures unread { limits.now.section < body_length (section_at index.now i) → dumps.new ≡ dumps.old }
 {
-    if let Some(fault) = large_body(index, i, limits) {
+    if let Some(fault) = large_body(index, Some(i), limits) {
         return Err(fault);
     }
     let section = index.extent(i);

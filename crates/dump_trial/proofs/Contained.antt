@@ -6,11 +6,11 @@ use Rattle.std.proofs.lemmas.Bool.{cond-false, le-ltb}
 use Rattle.std.proofs.lemmas.List.Elements.{All-nil, All-cons, All-head, All-tail, All-filter, All-map}
 use Rattle.dump_io.specs.Limits.{usual}
 use Rattle.dump_sections.specs.Sections.{Section}
-use Rattle.dump_sections.specs.Bodies.{body_length, section_at}
+use Rattle.dump_sections.specs.Bodies.{body_length, section_at, section_in}
 use Rattle.dump_sections.specs.Index.{Contents, sections_in}
-use Rattle.section_rows.specs.Loading.{first_large}
+use Rattle.dump_sections.specs.Loading.{first_large}
 use Rattle.process_table.specs.Records.{Placed, is_process, first_of_each, has_same_pid, placed, process_sections, records, record_sections}
-use Rattle.heap_cells.specs.Loading.{section_in, too_large}
+use Rattle.heap_cells.specs.Loading.{too_large}
 
 -- the body of a section is within the usual limit
 abbrev pub IsSmall : Section → Type 0

@@ -5,7 +5,7 @@ use Rattle.dump_sections.specs.Index.{Contents, sections_in}
 use Rattle.dump_sections.specs.Lookups.{is_named}
 use Rattle.dump_sections.specs.Sections.{Section}
 use Rattle.first_sections.specs.Firsts.{Firsts}
-use Rattle.heap_cells.specs.Loading.{section_in}
+use Rattle.dump_sections.specs.Bodies.{section_in}
 use Rattle.dump_trial.specs.Inner.Finding.{firsts}
 
 -- the section of an id

@@ -9,15 +9,15 @@ use Rattle.section_index.specs.declared.opening.OpenFault.{OpenFault}
 use Rattle.section_index.specs.declared.opening.OpenFault.TheVariants as opening_faults
 use Rattle.dump_sections.specs.declared.bodies.BodyFault.{BodyFault}
 use Rattle.dump_sections.specs.declared.bodies.BodyFault.TheVariants as body_faults
-use Rattle.dump_sections.specs.Bodies.{body_length, IsCauseOf}
+use Rattle.dump_sections.specs.Bodies.{body_length, IsCauseOf, body_in}
 use Rattle.dump_sections.specs.Index.{Contents, sections_in}
 use Rattle.section_index.specs.Answers.{IsAnswerFor}
 use Rattle.section_index.specs.Opening.{IsAccepted, IsRefusedFor}
 use Rattle.dump_sections.specs.Sections.{Section}
-use Rattle.section_rows.specs.Loading.{AreRefused}
+use Rattle.dump_sections.specs.Loading.{AreRefused}
 use Rattle.process_table.specs.Records.{record_sections}
 use Rattle.heap_cells.specs.Cells.{weight}
-use Rattle.heap_cells.specs.Loading.{enc_of, heap_section, literals_section, body_in, section_fault, too_large}
+use Rattle.heap_cells.specs.Loading.{enc_of, heap_section, literals_section, section_fault, too_large}
 use Rattle.heap_cells.specs.Loading as heaps
 use Rattle.heap_cells.specs.declared.faults.HeapFault.{HeapFault}
 use Rattle.heap_cells.specs.declared.faults.HeapFault.TheVariants as heap_faults

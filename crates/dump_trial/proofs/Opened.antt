@@ -12,15 +12,15 @@ use Rattle.dump_io.specs.declared.file.DumpFile.{DumpFile}
 use Rattle.dump_io.specs.Limits.{Numbers}
 use Rattle.dump_sections.specs.declared.bodies.BodyFault.{BodyFault}
 use Rattle.dump_sections.specs.declared.bodies.BodyFault.TheVariants as body_faults
-use Rattle.dump_sections.specs.Bodies.{IsCauseOf}
+use Rattle.dump_sections.specs.Bodies.{IsCauseOf, section_in, body_in}
 use Rattle.dump_sections.specs.Index.{Contents, IsIndexOf, sections_in}
 use Rattle.dump_sections.specs.Laws.{index-is}
 use Rattle.dump_sections.specs.Sections.{Section}
-use Rattle.section_rows.specs.Loading.{AreRefused}
+use Rattle.dump_sections.specs.Loading.{AreRefused}
 use Rattle.process_table.specs.Records.{record_sections}
 use Rattle.heap_cells.specs.declared.faults.HeapFault.{HeapFault}
 use Rattle.heap_cells.specs.declared.faults.HeapFault.TheVariants as heap_faults
-use Rattle.heap_cells.specs.Loading.{enc_of, section_in, body_in, heap_section, literals_section, bodies_fault, section_fault}
+use Rattle.heap_cells.specs.Loading.{enc_of, heap_section, literals_section, bodies_fault, section_fault}
 use Rattle.heap_cells.specs.Loading as heaps
 use Rattle.root_views.specs.declared.kinds.RootKind.{RootKind}
 use Rattle.dump_trial.specs.Trial.{root_body, root_section}

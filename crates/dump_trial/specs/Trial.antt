@@ -6,7 +6,8 @@ use Rattle.dump_sections.specs.Lookups.{is_named}
 use Rattle.dump_sections.specs.Sections.{Section, sections}
 use Rattle.process_table.specs.Processes.{Process, process_table}
 use Rattle.heap_cells.specs.Cells.{Cell, cells_of}
-use Rattle.heap_cells.specs.Loading.{enc_of, section_in, heap_section, literals_section, body_in}
+use Rattle.heap_cells.specs.Loading.{enc_of, heap_section, literals_section}
+use Rattle.dump_sections.specs.Bodies.{section_in, body_in}
 use Rattle.root_views.specs.Roots.{BodyRoot}
 use Rattle.dump_audit.specs.Findings.{audit_of, findings}
 use Rattle.dump_write.specs.Made.{made}

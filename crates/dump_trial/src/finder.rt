@@ -1,6 +1,7 @@
 // Where the heaps and the roots of processes are.
 ghost use Rattle.std.specs.Prelude.{◌≡◌, ◌<◌, length, codes, IfOk, IfSome};
-ghost use Rattle.heap_cells.specs.Loading.{section_in, heap_section, literals_section};
+ghost use Rattle.heap_cells.specs.Loading.{heap_section, literals_section};
+ghost use Rattle.dump_sections.specs.Bodies.{section_in};
 ghost use Rattle.root_views.specs.Kinds.{roots_tag};
 ghost use Rattle.root_views.specs.declared.kinds.RootKind.TheVariants.{Stack, Dict, Mail};
 ghost use Rattle.dump_trial.specs.Trial.{root_section};

@@ -8,7 +8,7 @@ use Rattle.dump_io.specs.Laws.Lines.{AreLines-raw}
 use Rattle.dump_io.specs.Lines.{cr, lf, raw_lines, lines_from, text_of}
 use Rattle.field_lines.specs.Lines.{TextLine, text_line, text_lines}
 use Rattle.heap_cells.specs.Cells.{Cell, spelled_cell, cell_of, line_cells, elements_in, cell_weight, weight_of, weight}
-use Rattle.heap_cells.specs.Loading.{body_in}
+use Rattle.dump_sections.specs.Bodies.{body_in}
 use Rattle.dump_sections.specs.Sections.{Section}
 use Rattle.binary_payloads.specs.declared.enc.Enc.{Enc}
 use Rattle.binary_payloads.specs.declared.enc.Enc.TheVariants.{Hex, Base64}

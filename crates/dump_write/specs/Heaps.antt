@@ -1,7 +1,8 @@
 -- How much a dump's heap weighs when it is loaded.
 use Rattle.std.specs.Prelude.{ℕ, List}
 use Rattle.heap_cells.specs.Cells.{weight}
-use Rattle.heap_cells.specs.Loading.{enc_of, heap_section, literals_section, body_in}
+use Rattle.heap_cells.specs.Loading.{enc_of, heap_section, literals_section}
+use Rattle.dump_sections.specs.Bodies.{body_in}
 use Rattle.dump_sections.specs.Index.{Contents}
 
 -- how many heap lines and elements the heap of a pid has in a dump, from its index:

@@ -5,16 +5,19 @@ ghost use Rattle.term_forms.specs.SeenForms.{heap_form};
 ghost use Rattle.heap_cells.specs.Cells.{kind_of};
 ghost use Rattle.heap_cells.specs.HeapMap.{IsBounded, address_at, form_at, elements_at, IsSpelled};
 ghost use Rattle.dump_io.specs.Dumps.{ReadsAtMost, told};
-ghost use Rattle.dump_sections.specs.Index.{IsBuiltOver};
+ghost use Rattle.dump_sections.specs.Index.{IsBuiltOver, sections_in};
 ghost use Rattle.heap_cells.specs.declared.faults.HeapFault.{HeapFault};
-ghost use Rattle.heap_cells.specs.Loading.{enc_of, heap_section, literals_section, section_in, body_size, body_in, bodies_fault, section_fault, IsAnswerFor, IsCauseOf, IsOfTheTexts};
+ghost use Rattle.dump_sections.specs.Loading.{bodies_length};
+ghost use Rattle.heap_cells.specs.Loading.{enc_of, heap_section, literals_section, two_bodies, heap_bodies, bodies_fault, IsAnswerFor, IsCauseOf};
+ghost use Rattle.heap_cells.specs.Inner.Faults.{IsOfTheTexts};
+ghost use Rattle.dump_sections.specs.Bodies.{section_in, body_in};
 ghost use Rattle.heap_cells.specs.Targets.{number, target, slot_target, kid_target, KeepsElement, IsSeatOf, IsSeatWithin, IsWithin};
 
 use crate::cells::{Kid, Seat};
 use crate::faults::HeapFault;
 use crate::gathering::gather_all;
 use crate::kids::kid_of;
-use crate::loading::{judge_size, read_texts};
+use crate::loading::{large_bodies, read_texts};
 use crate::texts::{Texts, part};
 use cell_records::{Arena, CellIx, Indexed, Kind, Slot, index_cells, number_of, resolve, slots_of};
 use dump_io::{Dumps, Limits};
@@ -78,18 +81,18 @@ impl Heap {
     ) -> Result<Heap, HeapFault>
         requires over { IsBuiltOver (D.state dumps.old).now index.now }
         ensures reads { ReadsAtMost (D.state dumps.old) (D.state dumps.new)
-            (body_size (heap_section index.now pid.now) + body_size (literals_section index.now)) }
+            (bodies_length (heap_bodies pid.now (sections_in index.now))) }
 
         // If the device tells the bytes, the heap is that of the two bodies, or they are too dense.
         ensures answer { (dump : List ℕ) → (D.state dumps.old).now ≡ told dump
-            → IsAnswerFor (enc_of index.now.version) (body_in dump (heap_section index.now pid.now)) (body_in dump (literals_section index.now)) limits.now.dense result }
+            → IsAnswerFor (enc_of index.now.version) (body_in dump (heap_section pid.now (sections_in index.now))) (body_in dump (literals_section (sections_in index.now))) limits.now.dense result }
         ensures enc { IfOk result (λ heap. heap.enc ≡ enc_of index.now.version) }
-        ensures fault { IfErr result (IsCauseOf (section_fault limits.now.section index.now pid.now) limits.now.dense (D.state dumps.old) (D.state dumps.new)) }
+        ensures fault { IfErr result (IsCauseOf (bodies_fault limits.now.section (heap_bodies pid.now (sections_in index.now))) limits.now.dense (D.state dumps.old) (D.state dumps.new)) }
 
         // A body that is too large is always refused as such, whatever the device does.
-        ensures loaded { OnOk result (section_fault limits.now.section index.now pid.now ≡ None) }
-        ensures too_large { (fault : HeapFault) → section_fault limits.now.section index.now pid.now ≡ Some fault → IsErrOf result fault }
-        ensures unread { IsSome (section_fault limits.now.section index.now pid.now) → dumps.new ≡ dumps.old }
+        ensures loaded { OnOk result (bodies_fault limits.now.section (heap_bodies pid.now (sections_in index.now)) ≡ None) }
+        ensures too_large { (fault : HeapFault) → bodies_fault limits.now.section (heap_bodies pid.now (sections_in index.now)) ≡ Some fault → IsErrOf result fault }
+        ensures unread { IsSome (bodies_fault limits.now.section (heap_bodies pid.now (sections_in index.now))) → dumps.new ≡ dumps.old }
     {
         let heap = index.first(b"proc_heap", Some(pid));
         let literals = index.first_tag(b"literals");
@@ -110,19 +113,20 @@ impl Heap {
         requires heap { IfSome heap (λ i. i < length index.now.headers) }
         requires literals { IfSome literals (λ i. i < length index.now.headers) }
         ensures reads { ReadsAtMost (D.state dumps.old) (D.state dumps.new)
-            (body_size (section_in index.now heap) + body_size (section_in index.now literals)) }
+            (bodies_length (two_bodies (section_in index.now heap) (section_in index.now literals))) }
         ensures answer { (dump : List ℕ) → (D.state dumps.old).now ≡ told dump
             → IsAnswerFor (enc_of index.now.version) (body_in dump (section_in index.now heap)) (body_in dump (section_in index.now literals)) limits.now.dense result }
         ensures enc { IfOk result (λ heap. heap.enc ≡ enc_of index.now.version) }
-        ensures fault { IfErr result (IsCauseOf (bodies_fault limits.now.section (section_in index.now heap) (section_in index.now literals)) limits.now.dense
+        ensures fault { IfErr result (IsCauseOf (bodies_fault limits.now.section (two_bodies (section_in index.now heap) (section_in index.now literals))) limits.now.dense
             (D.state dumps.old) (D.state dumps.new)) }
-        ensures loaded { OnOk result (bodies_fault limits.now.section (section_in index.now heap) (section_in index.now literals) ≡ None) }
-        ensures too_large { (fault : HeapFault) → bodies_fault limits.now.section (section_in index.now heap) (section_in index.now literals) ≡ Some fault
+        ensures loaded { OnOk result (bodies_fault limits.now.section (two_bodies (section_in index.now heap) (section_in index.now literals)) ≡ None) }
+        ensures too_large { (fault : HeapFault) → bodies_fault limits.now.section (two_bodies (section_in index.now heap) (section_in index.now literals)) ≡ Some fault
             → IsErrOf result fault }
-        ensures unread { IsSome (bodies_fault limits.now.section (section_in index.now heap) (section_in index.now literals)) → dumps.new ≡ dumps.old }
+        ensures unread { IsSome (bodies_fault limits.now.section (two_bodies (section_in index.now heap) (section_in index.now literals))) → dumps.new ≡ dumps.old }
     {
-        judge_size(index, heap, limits)?;
-        judge_size(index, literals, limits)?;
+        if let Some(fault) = large_bodies(index, heap, literals, limits) {
+            return Err(HeapFault::from(fault));
+        }
         let texts = read_texts(alloc, dumps, index, heap, literals, limits)?;
         Heap::new(alloc, texts, limits.dense())
     }

@@ -1,13 +1,16 @@
 // Judging and reading the bodies of a heap.
-ghost use Rattle.std.specs.Prelude.{◌≡◌, ◌+◌, ◌<◌, ◌≤◌, length, IfOk, IfErr, IfSome};
+ghost use Rattle.std.specs.Prelude.{◌≡◌, ◌+◌, ◌<◌, ◌≤◌, length, None, IfOk, IfErr, IfSome};
 ghost use Rattle.dump_io.specs.Dumps.{ReadsAtMost};
 ghost use Rattle.dump_sections.specs.Index.{IsBuiltOver};
-ghost use Rattle.heap_cells.specs.Loading.{enc_of, section_in, body_size, too_large, refused, IsBodyIn, IsReadFault};
+ghost use Rattle.dump_sections.specs.Loading.{large_fault};
+ghost use Rattle.heap_cells.specs.Loading.{enc_of, two_bodies};
+ghost use Rattle.heap_cells.specs.Inner.Faults.{IsReadFault};
+ghost use Rattle.dump_sections.specs.Bodies.{section_in, body_size, IsBodyIn};
 
 use crate::faults::HeapFault;
 use crate::texts::Texts;
 use dump_io::{Dumps, Limits};
-use dump_sections::{Index, Version, read_body};
+use dump_sections::{BodyFault, Index, Version, large_body, read_body};
 use std::alloc::Global;
 use term_forms::Enc;
 
@@ -21,27 +24,24 @@ pub fn enc_of(version: Version) -> Enc
     }
 }
 
-// Refuses a section whose body has more bytes than the limit. A missing section counts as empty.
-pub(crate) fn judge_size(
+// The refusal of the first of two bodies that has more bytes than the limit. A missing section counts as empty.
+pub(crate) fn large_bodies(
     index: &Index,
-    place: Option<usize>,
+    heap: Option<usize>,
+    literals: Option<usize>,
     limits: &Limits,
-) -> Result<(), HeapFault>
-    requires { IfSome place (λ i. i < length index.now.headers) }
-    ensures { result ≡ refused (too_large limits.now.section (section_in index.now place)) }
+) -> Option<BodyFault>
+    requires heap { IfSome heap (λ i. i < length index.now.headers) }
+    requires literals { IfSome literals (λ i. i < length index.now.headers) }
+    ensures fault { result ≡ large_fault limits.now.section (two_bodies (section_in index.now heap) (section_in index.now literals)) }
+    ensures small_heap { result ≡ None → body_size (section_in index.now heap) ≤ limits.now.section }
+    ensures small_literals { result ≡ None → body_size (section_in index.now literals) ≤ limits.now.section }
 {
-    let Some(i) = place else {
-        return Ok(());
-    };
-    let section = index.section(i);
-    let len = section.end - section.body;
-    if len > u64::from(limits.section()) {
-        return Err(HeapFault::SectionTooLarge {
-            at: section.at,
-            len,
-        });
+    let fault = large_body(index, heap, limits);
+    if fault.is_some() {
+        return fault;
     }
-    Ok(())
+    large_body(index, literals, limits)
 }
 
 // The body of a section, which is within the limit. A missing section counts as empty.

@@ -14,7 +14,7 @@ use Rattle.dump_io.specs.Colons.{has_colon, is_colon}
 use Rattle.dump_io.specs.Lines.{cr, lf, lines_after, lines_from, raw_lines, text_of}
 use Rattle.field_lines.specs.Fields.{find_line, has_key, key_of, place_of as line_place, value_of, without_space}
 use Rattle.field_lines.specs.Lines.{TextLine, text_line, text_lines}
-use Rattle.section_rows.specs.Rows.{Kept, field_kept, kept, body_of}
+use Rattle.section_rows.specs.Rows.{Kept, field_kept, kept}
 use Rattle.link_entries.specs.Entries.{LinkEntry, cut, entries_at, entry_of, is_gap, led_by, parts_from, parts_of}
 use Rattle.link_entries.specs.Lists.{links_in}
 use Rattle.link_entries.specs.Texts.{before, behind, inside, is_local}
@@ -24,7 +24,7 @@ use Rattle.dump_sections.specs.Tiling.{Tile}
 use Rattle.process_table.specs.Records.{Placed, first_of_each, has_same_pid, is_process, placed, process_sections, records}
 use Rattle.dump_audit.specs.Laws.{all-numbered}
 use Rattle.dump_io.specs.Numbers.{dec_number}
-use Rattle.dump_sections.specs.Bodies.{section_at}
+use Rattle.dump_sections.specs.Bodies.{section_at, body_of}
 use Rattle.process_table.specs.Processes.{Process, process_at, process_in, process_table}
 use Rattle.link_entries.specs.Kinds.{Kind, Link, To, From}
 use Rattle.dump_audit.specs.Findings.{Audit, count_findings, entry_finding, entry_findings, gone, is_dumped, mail_of, one_sided, partner_finding, place_of, process_findings, queue_findings, section_offset, stated_findings, audit_of, findings}

@@ -9,8 +9,9 @@ use Rattle.dump_io.specs.Dumps.{Now, told}
 use Rattle.dump_sections.specs.Index.{Contents, sections_in, IsBuiltOver}
 use Rattle.dump_sections.specs.Lookups.{is_named}
 use Rattle.dump_sections.specs.Sections.{Section, sections}
-use Rattle.section_rows.specs.Loading.{sections_at}
-use Rattle.section_rows.specs.Rows.{Row, rows_of, body_of}
+use Rattle.dump_sections.specs.Loading.{sections_at}
+use Rattle.section_rows.specs.Rows.{Row, rows_of}
+use Rattle.dump_sections.specs.Bodies.{body_of}
 use Rattle.process_table.specs.declared.pids.PidPlace.{PidPlace}
 use Rattle.process_table.specs.Records.{Placed, ProcPlaces, is_process, named_place, proc_places, pid_of, records, record_sections, repeated}
 use Rattle.process_table.specs.Processes.{Process, ProcessTable, process_in, process_table, IsIn, IsOver}

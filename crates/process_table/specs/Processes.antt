@@ -1,11 +1,11 @@
 -- The process table of a dump.
 use Rattle.std.specs.Prelude.{◌≡◌, ℕ, ◌<◌, ◌≤◌, true, List, [], length, map, slice_get, Option, Some, None, All, codes, unwrap_or}
 use Rattle.dump_io.specs.Limits.{usual}
-use Rattle.dump_sections.specs.Bodies.{section_at}
+use Rattle.dump_sections.specs.Bodies.{section_at, body_of}
 use Rattle.dump_sections.specs.Index.{Contents, sections_in}
 use Rattle.dump_sections.specs.Lookups.{is_named}
 use Rattle.dump_sections.specs.Sections.{sections}
-use Rattle.section_rows.specs.Rows.{Kept, IsBoundedCell, body_of, field_kept}
+use Rattle.section_rows.specs.Rows.{Kept, IsBoundedCell, field_kept}
 use Rattle.process_table.specs.Records.{Placed, records, repeated, pid_of}
 
 -- a process: the place of its section among those of the dump, from 0, its pid, and, of the

@@ -2,15 +2,14 @@
 ghost use Rattle.std.specs.Prelude.{◌≡◌, ◌<◌, ◌≤◌, length, slice_get, Some, IfOk};
 ghost use Rattle.dump_io.specs.Limits.{usual};
 ghost use Rattle.dump_sections.specs.Index.{sections_in};
-ghost use Rattle.section_rows.specs.Loading.{large_fault};
+ghost use Rattle.dump_sections.specs.Loading.{large_fault};
 ghost use Rattle.process_table.specs.Records.{proc_places, record_sections};
 ghost use Rattle.process_table.specs.Inner.Finding.{named_places, sections_of, AreOrdered};
 
 use crate::finding::find;
 use crate::pids::{PidOrder, PidPlace};
 use dump_io::Limits;
-use dump_sections::{BodyFault, Index};
-use section_rows::large;
+use dump_sections::{BodyFault, Index, large};
 use std::alloc::{AllocError, Global};
 use std::marker::Model;
 

@@ -2,7 +2,7 @@
 use Rattle.std.proofs.Common.{◌≡◌, [], ◌∷◌, None, Some, map, refl}
 use Rattle.std.specs.Prelude.{codes}
 use Rattle.dump_sections.specs.Sections.{section}
-use Rattle.section_rows.specs.Loading.{first_large}
+use Rattle.dump_sections.specs.Loading.{first_large}
 use Rattle.section_rows.specs.Rows.{kept, tag, id, field, cell_of}
 
 -- a value's offset is that of the value, and the first of two fields counts

@@ -7,12 +7,12 @@ use Rattle.std.proofs.lemmas.List.Elements.{All-nil, All-cons}
 use Rattle.dump_sections.specs.declared.bodies.BodyFault.TheVariants.{SectionTooLarge}
 use Rattle.std.proofs.lemmas.List.Sums.{sum_by_push, sum_by-take-le}
 use Rattle.dump_io.specs.Dumps.{Now, told}
-use Rattle.dump_sections.specs.Bodies.{section_at, body_length, IsBodyOf}
+use Rattle.dump_sections.specs.Bodies.{section_at, body_length, IsBodyOf, body_of}
 use Rattle.dump_sections.specs.Index.{Contents}
 use Rattle.dump_sections.specs.Sections.{Section}
 use Rattle.section_rows.specs.declared.store.Store.{Store}
-use Rattle.section_rows.specs.Rows.{Column, Row, row_of, rows_of, body_of}
-use Rattle.section_rows.specs.Loading.{sections_at, bodies_length, first_large, large_fault}
+use Rattle.section_rows.specs.Rows.{Column, Row, row_of, rows_of}
+use Rattle.dump_sections.specs.Loading.{sections_at, bodies_length, first_large, large_fault}
 use Rattle.section_rows.specs.Inner.Gains.{GainsRow, HoldsRows}
 use Rattle.section_rows.specs.Inner.Places.{rows_in}
 

@@ -1,8 +1,8 @@
 -- What is kept of sections: a row for each, with its offset in the file and a cell for each column.
 use Rattle.std.specs.Prelude.{◌≡◌, ℕ, ◌+◌, ◌≤◌, List, [], length, map, slice_get, Option, None, Some, option_map, unwrap_or, IfSome, All}
-use Rattle.std.specs.List.{between}
 use Rattle.dump_io.specs.Limits.{usual}
 use Rattle.field_lines.specs.Fields.{find_line, place_of, value_of}
+use Rattle.dump_sections.specs.Bodies.{body_of}
 use Rattle.dump_sections.specs.Sections.{Section, tag_of, id_of}
 
 -- a text of a section: the offsets in the file of its line and of the text itself, and the text
@@ -47,10 +47,6 @@ pub record Row : Type 0 where
 -- the row of a section with this body
 abbrev pub row_of : List Column → Section → List ℕ → Row
 row_of columns s body = record { at = s.at; cells = map (cell_of s body) columns }
-
--- the body of a section of a dump with these bytes
-abbrev pub body_of : List ℕ → Section → List ℕ
-body_of bytes s = between s.body s.end bytes
 
 -- the rows of these sections of a dump
 abbrev pub rows_of : List ℕ → List Column → List Section → List Row

@@ -12,5 +12,4 @@ mod rows;
 mod store;
 
 pub use columns::{Column, Kept};
-pub use loading::large;
 pub use rows::SectionRows;

@@ -1,9 +1,9 @@
 // Loading the bodies of sections one after another, and keeping what the columns ask for.
-ghost use Rattle.std.specs.Prelude.{◌≡◌, ◌<◌, ◌≤◌, length, map, All, IfOk, OnOk, IfErr, None};
+ghost use Rattle.std.specs.Prelude.{◌≡◌, ◌<◌, ◌≤◌, length, map, All, IfOk, OnOk, IfErr};
 ghost use Rattle.dump_io.specs.Dumps.{ReadsAtMost};
 ghost use Rattle.dump_sections.specs.Bodies.{section_at, body_length};
 ghost use Rattle.dump_sections.specs.Index.{IsBuiltOver};
-ghost use Rattle.section_rows.specs.Loading.{sections_at, bodies_length, large_fault, IsUnread};
+ghost use Rattle.dump_sections.specs.Loading.{sections_at, bodies_length, IsUnread};
 ghost use Rattle.section_rows.specs.Shown.{shown_column};
 ghost use Rattle.section_rows.specs.Inner.Gains.{GainsRow, HoldsRows};
 ghost use Rattle.section_rows.specs.Inner.Lent.{IsLent, shown_section};
@@ -14,25 +14,6 @@ use crate::store::Store;
 use dump_io::{Dumps, Limits};
 use dump_sections::{BodyFault, Index, Section, read_body};
 use std::alloc::Global;
-
-/// The refusal of the first of the sections at these places whose body has more bytes than the limit
-/// on a section's body. Returns `None` exactly when each body is within the limit. Nothing is read.
-pub fn large(index: &Index, sections: &[usize], limits: &Limits) -> Option<BodyFault>
-    requires { All (λ i. i < length index.now.headers) sections.now }
-    ensures { result ≡ large_fault limits.now.section (sections_at index.now sections.now) }
-{
-    for i in sections {
-        let section = index.extent(*i);
-        let len = section.end - section.body;
-        if len > u64::from(limits.section()) {
-            return Some(BodyFault::SectionTooLarge {
-                at: section.at,
-                len,
-            });
-        }
-    }
-    None
-}
 
 // The section at a place, which ends within the largest dump, as the file does.
 fn lent(index: &Index, i: usize) -> Section<'_>

@@ -2,15 +2,15 @@
 ghost use Rattle.std.specs.Prelude.{◌≡◌, ℕ, List, ◌<◌, length, map, slice_get, Some, None, All, IfOk, OnOk, IfErr, IsErrOf, IfSome, IsSome};
 ghost use Rattle.dump_io.specs.Dumps.{told, ReadsAtMost};
 ghost use Rattle.dump_sections.specs.Index.{IsBuiltOver};
-ghost use Rattle.section_rows.specs.Loading.{sections_at, bodies_length, first_large, large_fault, AreRefused};
+ghost use Rattle.dump_sections.specs.Loading.{sections_at, bodies_length, first_large, large_fault, AreRefused};
 ghost use Rattle.section_rows.specs.Rows.{row_at, rows_of, AreEven, AreBounded};
 ghost use Rattle.section_rows.specs.Shown.{shown_cell, shown_column};
 
 use crate::columns::{Column, Kept};
-use crate::loading::{large, load_rows};
+use crate::loading::load_rows;
 use crate::store::Store;
 use dump_io::{Dumps, Limits};
-use dump_sections::{BodyFault, Index};
+use dump_sections::{BodyFault, Index, large};
 use std::alloc::Global;
 use std::marker::Model;
 

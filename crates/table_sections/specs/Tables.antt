@@ -2,7 +2,7 @@
 use Rattle.std.specs.Prelude.{◌≡◌, ℕ, ◌<◌, List, length, map, filter, All}
 use Rattle.dump_sections.specs.Index.{Contents, sections_in}
 use Rattle.dump_sections.specs.Sections.{Section, sections}
-use Rattle.section_rows.specs.Loading.{sections_at}
+use Rattle.dump_sections.specs.Loading.{sections_at}
 use Rattle.section_rows.specs.Rows.{Table, rows_of}
 use Rattle.table_sections.specs.declared.kinds.TableKind.{TableKind}
 use Rattle.table_sections.specs.Kinds.{columns_of, lists}

@@ -2,13 +2,12 @@
 ghost use Rattle.std.specs.Prelude.{◌≡◌, ◌<◌, length, map, IfOk, All};
 ghost use Rattle.dump_sections.specs.Bodies.{section_at};
 ghost use Rattle.dump_sections.specs.Index.{sections_in};
-ghost use Rattle.section_rows.specs.Loading.{large_fault};
+ghost use Rattle.dump_sections.specs.Loading.{large_fault};
 ghost use Rattle.table_sections.specs.Tables.{listed, AreListed};
 
 use crate::kinds::{TableKind, lists};
 use dump_io::Limits;
-use dump_sections::{BodyFault, Index};
-use section_rows::large;
+use dump_sections::{BodyFault, Index, large};
 use std::alloc::{AllocError, Global};
 use std::marker::Model;
 

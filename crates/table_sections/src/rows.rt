@@ -3,7 +3,7 @@ ghost use Rattle.std.specs.Prelude.{◌≡◌, ℕ, List, ◌<◌, length, None,
 ghost use Rattle.std.specs.Option.{option_copied};
 ghost use Rattle.dump_io.specs.Dumps.{told, ReadsAtMost};
 ghost use Rattle.dump_sections.specs.Index.{IsBuiltOver, sections_in};
-ghost use Rattle.section_rows.specs.Loading.{bodies_length, first_large, AreRefused};
+ghost use Rattle.dump_sections.specs.Loading.{bodies_length, first_large, AreRefused};
 ghost use Rattle.section_rows.specs.Rows.{row_at, cell_at, text_in, AreEven};
 ghost use Rattle.table_sections.specs.Tables.{listed, table_of, AreListed, IsOver};
 

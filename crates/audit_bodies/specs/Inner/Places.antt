@@ -1,7 +1,7 @@
 -- Where the bodies of an audit are.
 use Rattle.std.specs.Prelude.{◌≡◌, ◌<◌, Bool, [], length, All, if◌then◌else◌}
 use Rattle.dump_sections.specs.Index.{Contents, sections_in}
-use Rattle.section_rows.specs.Loading.{sections_at}
+use Rattle.dump_sections.specs.Loading.{sections_at}
 use Rattle.process_table.specs.Records.{proc_places}
 use Rattle.audit_bodies.specs.Mailboxes.{mailbox_places, mailboxes_at}
 use Rattle.audit_bodies.specs.Inner.Mailboxes.{IsWithin}

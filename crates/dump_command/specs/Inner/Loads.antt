@@ -21,11 +21,11 @@ use Rattle.dump_sections.specs.Sections.{Section}
 use Rattle.dump_sections.specs.declared.bodies.BodyFault.{BodyFault}
 use Rattle.dump_sections.specs.declared.bodies.BodyFault.TheVariants.{SectionTooLarge, Read, Memory}
 use Rattle.term_forms.specs.Elements.{Element}
-use Rattle.heap_cells.specs.Loading.{section_in, IsBodyIn}
+use Rattle.dump_sections.specs.Bodies.{section_in, IsBodyIn}
 use Rattle.heap_reach.specs.Rounds.{reached_by}
 use Rattle.root_views.specs.declared.kinds.RootKind.TheVariants.{Stack, Dict, Mail}
 use Rattle.term_text.specs.Reach.{reach_report, terms_of}
-use Rattle.section_rows.specs.Loading.{bodies_length, IsUnread as IsUnreadBody}
+use Rattle.dump_sections.specs.Loading.{bodies_length, IsUnread as IsUnreadBody}
 use Rattle.process_table.specs.Records.{proc_places}
 use Rattle.table_sections.specs.declared.kinds.TableKind.TheVariants.{Ets}
 use Rattle.table_sections.specs.Tables.{table_of, AreListed, IsOver}

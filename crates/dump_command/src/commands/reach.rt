@@ -2,8 +2,8 @@
 ghost use Rattle.std.specs.Prelude.{◌≡◌, ◌<◌, [], length, IfOk, IfErr, IfSome};
 ghost use Rattle.dump_io.specs.Dumps.{ReadsAtMost};
 ghost use Rattle.dump_sections.specs.Index.{sections_in, IsBuiltOver};
-ghost use Rattle.section_rows.specs.Loading.{bodies_length, first_large, large_fault};
-ghost use Rattle.heap_cells.specs.Loading.{section_in};
+ghost use Rattle.dump_sections.specs.Loading.{bodies_length, first_large, large_fault};
+ghost use Rattle.dump_sections.specs.Bodies.{section_in};
 ghost use Rattle.heap_reach.specs.Rounds.{IsReachOf};
 ghost use Rattle.command_words.specs.Command.{reach};
 ghost use Rattle.dump_command.specs.Terms.{roots_section};

@@ -3,11 +3,11 @@
 ghost use Rattle.std.specs.Prelude.{◌≡◌, ◌+◌, ◌<◌, List, length, None, Some, IfOk, IfErr, IfSome, IsSome, OnOk, MatchResult};
 ghost use Rattle.dump_io.specs.Dumps.{ReadsAtMost};
 ghost use Rattle.heap_cells.specs.HeapMap.{number_at};
-ghost use Rattle.heap_cells.specs.Loading.{body_size, heap_section, literals_section, section_in, IsBodyIn};
-ghost use Rattle.dump_sections.specs.Bodies.{section_at};
+ghost use Rattle.heap_cells.specs.Loading.{heap_section, literals_section};
+ghost use Rattle.dump_sections.specs.Bodies.{section_at, body_size, section_in, IsBodyIn};
 ghost use Rattle.dump_sections.specs.Index.{IsBuiltOver, sections_in};
 ghost use Rattle.dump_sections.specs.Sections.{Section};
-ghost use Rattle.section_rows.specs.Loading.{first_large, large_fault, AreRefused};
+ghost use Rattle.dump_sections.specs.Loading.{first_large, large_fault, AreRefused};
 ghost use Rattle.dump_command.specs.Report.{no_process, one_of, process_section};
 ghost use Rattle.dump_command.specs.Terms.{address_cause, base_of, binary_at, binary_cause};
 ghost use Rattle.dump_command.specs.Inner.Reading.{heap_listed, HoldsHeap, IsHeapless};
@@ -17,10 +17,9 @@ ghost use Rattle.dump_command.specs.Inner.Stops.{Judges};
 use crate::open::Opened;
 use crate::stop::Stop;
 use dump_io::{Dumps, Text};
-use dump_sections::{BodyFault, read_body};
+use dump_sections::{BodyFault, read_body, large};
 use heap_cells::{Heap, Seat};
 use report_text::Refusal;
-use section_rows::large;
 
 /// The place of the section of a process. A pid without such a section is refused.
 pub(crate) fn find_process(at: &Opened<'_>, pid: &[u8]) -> Result<usize, Stop>

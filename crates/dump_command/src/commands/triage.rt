@@ -1,7 +1,7 @@
 // `triage`: what to read first of a dump.
 ghost use Rattle.std.specs.Prelude.{◌≡◌, ◌≤◌, length, None, IfOk};
 ghost use Rattle.dump_sections.specs.Index.{sections_in, IsBuiltOver};
-ghost use Rattle.section_rows.specs.Loading.{large_fault};
+ghost use Rattle.dump_sections.specs.Loading.{large_fault};
 ghost use Rattle.command_words.specs.Command.{triage};
 ghost use Rattle.dump_command.specs.Report.{triage_sections};
 ghost use Rattle.dump_command.specs.Inner.Loads.{triage_text, AreFound, Fits, ReadsBodies};

@@ -1,7 +1,7 @@
 use Rattle.std.proofs.Common.{sym, ◌∙◌, ap}
 use Rattle.std.specs.Prelude.{is_some}
 use Rattle.dump_sections.specs.Index.{sections_in}
-use Rattle.section_rows.specs.Loading.{large_fault, sections_at}
+use Rattle.dump_sections.specs.Loading.{large_fault, sections_at}
 use Rattle.process_table.specs.Records.{record_sections}
 use Rattle.audit_bodies.specs.Mailboxes.{mailboxes_at}
 use Rattle.audit_bodies.proofs.Loads.{large-first, large-second}

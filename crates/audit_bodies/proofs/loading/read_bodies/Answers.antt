@@ -6,8 +6,8 @@ use Rattle.std.proofs.lemmas.List.Sums.{sum_by-append}
 use Rattle.dump_io.specs.Laws.Reads.{ReadsAtMost-both, ReadsAtMost-within}
 use Rattle.dump_sections.specs.Bodies.{body_length}
 use Rattle.dump_sections.specs.Index.{sections_in, state_of}
-use Rattle.section_rows.specs.Laws.{small-both}
-use Rattle.section_rows.specs.Loading.{bodies_length}
+use Rattle.dump_sections.specs.LoadingLaws.{small-both}
+use Rattle.dump_sections.specs.Loading.{bodies_length}
 use Rattle.process_table.specs.Records.{record_sections}
 use Rattle.audit_bodies.specs.Mailboxes.{mail_in, mailboxes_at}
 use Rattle.audit_bodies.specs.Inner.Mailboxes.{IsSmall}

@@ -1,6 +1,6 @@
 use Rattle.std.proofs.Common.{◌<◌, [], ◌∷◌, length, All, None, sym, ◌∙◌, ap, subst}
 use Rattle.std.proofs.lemmas.List.Elements.{All-append, All-cons, All-nil}
-use Rattle.section_rows.specs.Loading.{sections_at}
+use Rattle.dump_sections.specs.Loading.{sections_at}
 use Rattle.audit_bodies.specs.Inner.Mailboxes.{IsWithin}
 use Rattle.audit_bodies.proofs.MailPlaces.{present-passed, present-taken}
 use Rattle.audit_bodies.proofs.mailboxes.present.Goals as goal

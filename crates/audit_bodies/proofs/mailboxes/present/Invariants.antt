@@ -1,6 +1,6 @@
 use Rattle.std.proofs.Common.{◌≡◌, ◌<◌, length, take, All}
 use Rattle.dump_sections.specs.Index.{sections_in}
-use Rattle.section_rows.specs.Loading.{sections_at}
+use Rattle.dump_sections.specs.Loading.{sections_at}
 use Rattle.audit_bodies.specs.Mailboxes.{mailboxes_at}
 use Rattle.audit_bodies.proofs.mailboxes.present.Given as goal
 

@@ -1,7 +1,7 @@
 use Rattle.std.proofs.Common.{◌≡◌, ℕ, List, length, map, take}
 use Rattle.dump_io.specs.Dumps.{told, ReadsAtMost}
 use Rattle.dump_sections.specs.Index.{sections_in, state_of}
-use Rattle.section_rows.specs.Loading.{bodies_length}
+use Rattle.dump_sections.specs.Loading.{bodies_length}
 use Rattle.audit_bodies.specs.Mailboxes.{mail_in, mailboxes_at}
 use Rattle.audit_bodies.proofs.messages.count_messages.Given as goal
 

@@ -1,6 +1,6 @@
 use Rattle.std.proofs.Common.{◌≡◌, ◌<◌, length, All, sym, ◌∙◌, ap, subst}
 use Rattle.dump_sections.specs.Index.{sections_in}
-use Rattle.section_rows.specs.Loading.{sections_at}
+use Rattle.dump_sections.specs.Loading.{sections_at}
 use Rattle.process_table.specs.Records.{records, record_sections}
 use Rattle.process_table.proofs.Building.{sections_at-records, places-within}
 use Rattle.process_table.proofs.procs.load_fields.Goals as goal

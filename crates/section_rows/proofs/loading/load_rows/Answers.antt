@@ -2,7 +2,7 @@ use Rattle.std.proofs.Common.{map, take, get_or, sym, subst}
 use Rattle.dump_io.specs.Dumps.{Now, ReadsAtMost}
 use Rattle.dump_io.specs.Laws.Reads.{ReadsAtMost-then, ReadsAtMost-both}
 use Rattle.dump_sections.specs.Bodies.{section_at}
-use Rattle.section_rows.specs.Loading.{sections_at}
+use Rattle.dump_sections.specs.Loading.{sections_at}
 use Rattle.section_rows.specs.Shown.{shown_column}
 use Rattle.section_rows.specs.Inner.Gains.{GainsRow, HoldsRows}
 use Rattle.section_rows.proofs.Loaded.{HoldsRows-more, sections-more, bodies-more, bodies-upto}

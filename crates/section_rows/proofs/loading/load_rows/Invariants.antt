@@ -1,6 +1,6 @@
 use Rattle.std.proofs.Common.{map, take}
 use Rattle.dump_io.specs.Dumps.{ReadsAtMost}
-use Rattle.section_rows.specs.Loading.{sections_at, bodies_length}
+use Rattle.dump_sections.specs.Loading.{sections_at, bodies_length}
 use Rattle.section_rows.specs.Shown.{shown_column}
 use Rattle.section_rows.specs.Inner.Gains.{HoldsRows}
 use Rattle.section_rows.proofs.loading.load_rows.Given as goal

@@ -3,7 +3,7 @@ use Rattle.std.specs.Prelude.{is_some}
 use Rattle.std.proofs.lemmas.Result.{IfErr-weaker}
 use Rattle.dump_io.specs.Dumps.{ReadsAtMost}
 use Rattle.dump_sections.specs.Index.{sections_in}
-use Rattle.section_rows.specs.Loading.{bodies_length, first_large, large_fault}
+use Rattle.dump_sections.specs.Loading.{bodies_length, first_large, large_fault}
 use Rattle.audit_bodies.specs.Mailboxes.{audited_sections}
 use Rattle.audit_bodies.proofs.Loads.{AreRefused-large, AreRefused-small, bodies-found, none-large, on-ok}
 use Rattle.audit_bodies.proofs.loading.AuditBodies.load.Goals as goal

@@ -1,4 +1,4 @@
-use Rattle.heap_cells.specs.Loading.{section_in}
+use Rattle.dump_sections.specs.Bodies.{section_in}
 use Rattle.dump_command.specs.Report.{one_of}
 use Rattle.dump_command.proofs.commands.subjects.load_heap.Goals as goal
 

@@ -1,9 +1,9 @@
 use Rattle.std.proofs.Common.{Some, ◌∙◌, ap}
 use Rattle.std.specs.Option.{option_or}
 use Rattle.dump_sections.specs.Index.{sections_in}
-use Rattle.section_rows.specs.Loading.{large_fault}
+use Rattle.dump_sections.specs.Loading.{large_fault}
 use Rattle.process_table.specs.Records.{record_sections}
-use Rattle.heap_cells.specs.Loading.{section_in}
+use Rattle.dump_sections.specs.Bodies.{section_in}
 use Rattle.dump_command.specs.Report.{one_of}
 use Rattle.dump_command.proofs.TriageLoads.{large-triage}
 use Rattle.dump_command.proofs.commands.triage.large_section.Goals as goal

@@ -1,7 +1,7 @@
 use Rattle.std.proofs.Common.{Some, ◌∙◌, ap, subst}
 use Rattle.dump_sections.specs.Index.{sections_in}
 use Rattle.process_table.specs.Records.{record_sections}
-use Rattle.heap_cells.specs.Loading.{section_in, IsBodyIn}
+use Rattle.dump_sections.specs.Bodies.{section_in, IsBodyIn}
 use Rattle.table_sections.specs.Tables.{listed, table_of, IsOver}
 use Rattle.dump_command.specs.Report.{memory_section, one_of}
 use Rattle.dump_command.proofs.Reading.{failed-later, over-still}

@@ -1,5 +1,5 @@
 use Rattle.std.proofs.Common.{sym, ◌∙◌, ap}
-use Rattle.heap_cells.specs.Loading.{section_in}
+use Rattle.dump_sections.specs.Bodies.{section_in}
 use Rattle.dump_trial.proofs.Opened.{root-at}
 use Rattle.dump_trial.proofs.held.Held.root_body.Goals as goal
 

@@ -1,5 +1,5 @@
 use Rattle.std.proofs.Common.{Some, refl}
-use Rattle.heap_cells.specs.Loading.{section_in}
+use Rattle.dump_sections.specs.Bodies.{section_in}
 use Rattle.command_words.specs.Command.{info}
 use Rattle.dump_command.specs.Inner.Loads.{info_text}
 use Rattle.dump_command.proofs.Reading.{Loads-found, ReadsFor-found, info_text-report}

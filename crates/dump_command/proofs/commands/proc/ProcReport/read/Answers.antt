@@ -1,5 +1,5 @@
 use Rattle.std.proofs.Common.{ℕ, Some, refl, sym, rules}
-use Rattle.heap_cells.specs.Loading.{section_in}
+use Rattle.dump_sections.specs.Bodies.{section_in}
 use Rattle.command_words.specs.Command.{proc}
 use Rattle.dump_command.specs.Report.{process_section}
 use Rattle.dump_command.proofs.Reading.{Loads-found, ReadsFor-fields, IsHalted-subject, ReadsFor-halted}

@@ -1,7 +1,7 @@
 use Rattle.std.proofs.Common.{refl, ◌∙◌, subst, arith}
 use Rattle.dump_io.specs.Dumps.{told}
 use Rattle.dump_io.specs.Laws.Reads.{ReadsAtMost-then}
-use Rattle.heap_cells.specs.Loading.{section_in, IsBodyIn}
+use Rattle.dump_sections.specs.Bodies.{section_in, IsBodyIn}
 use Rattle.dump_command.proofs.Reading.{bytes-one, HasRead-listed, ReadsAtMost-same, ReadsFor-halted}
 use Rattle.dump_command.proofs.HeapLoads.{none-listed, roots-found, roots-told, IsHalted-heap, IsHalted-last, IsHalted-previews, IsOfHeap-roots, Takes-previews}
 use Rattle.dump_command.proofs.commands.roots.RootsReport.read.Goals as goal
