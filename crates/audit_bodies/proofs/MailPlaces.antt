@@ -7,13 +7,13 @@ use Rattle.std.proofs.lemmas.List.{map-append, take_more, take-append-drop}
 use Rattle.std.proofs.lemmas.List.Sums.{sum_by-append}
 use Rattle.std.proofs.lemmas.List.Elements.{All-nil, All-cons, filter_map-append}
 use Rattle.std.proofs.lemmas.Option.{get_or_from_slice_get, slice_get_within}
-use Rattle.dump_sections.specs.Bodies.{body_length, section_at}
+use Rattle.dump_sections.specs.Bodies.{body_length, section_at, at_place}
 use Rattle.dump_sections.specs.Index.{Contents, sections_in}
 use Rattle.dump_sections.specs.declared.bodies.BodyFault.{BodyFault}
 use Rattle.dump_sections.specs.declared.bodies.BodyFault.TheVariants.{SectionTooLarge}
 use Rattle.dump_sections.specs.Sections.{Section}
 use Rattle.dump_sections.specs.Loading.{bodies_length, first_large, large_fault, sections_at}
-use Rattle.audit_bodies.specs.Mailboxes.{mailboxes_at, section_in}
+use Rattle.audit_bodies.specs.Mailboxes.{mailboxes_at}
 use Rattle.audit_bodies.specs.Inner.Mailboxes.{IsSmall}
 
 -- ---- lists
@@ -35,7 +35,7 @@ fault_of s = SectionTooLarge s.at (body_length s)
 bodies-append : (sections : List Section) (xs ys : List (Option ℕ))
     → bodies_length (mailboxes_at sections (xs ++ ys)) ≡ bodies_length (mailboxes_at sections xs) + bodies_length (mailboxes_at sections ys)
 bodies-append sections xs ys =
-    ap bodies_length (filter_map-append (option_map (section_in sections)) xs ys) ∙ sum_by-append body_length (mailboxes_at sections xs) (mailboxes_at sections ys)
+    ap bodies_length (filter_map-append (option_map (at_place sections)) xs ys) ∙ sum_by-append body_length (mailboxes_at sections xs) (mailboxes_at sections ys)
 
 module _ (sections : List Section) (places : List (Option ℕ)) (i : ℕ) (d : Option ℕ) (inside : i < length places) where
   pub bodies-more : bodies_length (mailboxes_at sections (take (i + 1) places)) ≡ bodies_length (mailboxes_at sections (take i places)) + bodies_length (mailboxes_at sections (get_or places i d ∷ []))
@@ -55,7 +55,7 @@ module _ (index : Contents) (places : List (Option ℕ)) (i : ℕ) (inside : i <
   mailboxes-more : mailboxes_at (sections_in index) (take (i + 1) places) ≡ mailboxes_at (sections_in index) (take i places) ++ mailboxes_at (sections_in index) (get_or places i None ∷ [])
   mailboxes-more =
       ap (mailboxes_at (sections_in index)) (take_more places i None inside)
-      ∙ filter_map-append (option_map (section_in (sections_in index))) (take i places) (get_or places i None ∷ [])
+      ∙ filter_map-append (option_map (at_place (sections_in index))) (take i places) (get_or places i None ∷ [])
 
   pub present-passed : (present : List ℕ) → get_or places i None ≡ None → sections_at index present ≡ mailboxes_at (sections_in index) (take i places)
       → sections_at index present ≡ mailboxes_at (sections_in index) (take (i + 1) places)

@@ -1,19 +1,16 @@
 -- The bodies that an audit loads: those of the processes, and in a full audit their mailboxes.
-use Rattle.std.specs.Prelude.{ℕ, Bool, List, [], ◌++◌, map, position, slice_get, Option, None, Some, codes, unwrap_or, if◌then◌else◌}
-use Rattle.std.specs.List.{between, filter_map}
+use Rattle.std.specs.Prelude.{ℕ, Bool, List, [], ◌++◌, map, position, Option, None, Some, codes, if◌then◌else◌}
+use Rattle.std.specs.List.{filter_map}
 use Rattle.std.specs.Option.{option_and_then, option_map}
 use Rattle.dump_io.specs.Lines.{headers}
+use Rattle.dump_sections.specs.Bodies.{at_place, body_of}
 use Rattle.dump_sections.specs.Index.{state_of}
 use Rattle.dump_sections.specs.Lookups.{is_named}
-use Rattle.dump_sections.specs.Sections.{Section, section, sections}
+use Rattle.dump_sections.specs.Sections.{Section, sections}
 use Rattle.dump_sections.specs.declared.index.State.{State}
 use Rattle.process_table.specs.Records.{record_sections, records, pid_of}
 use Rattle.root_views.specs.Roots.{message_count}
 use Rattle.dump_audit.specs.Findings.{is_cut}
-
--- the section at a place; past the last one, an empty section
-abbrev pub section_in : List Section → ℕ → Section
-section_in sections place = unwrap_or (slice_get sections place) (section 0 0 0 [])
 
 -- the place of a process's mailbox: the first of the sections with messages whose id is its pid
 abbrev pub mailbox_place : List Section → List ℕ → Option ℕ
@@ -29,13 +26,12 @@ mailbox_places sections = map (mailbox_place sections) (pids_in sections)
 
 -- the mailboxes at these places, in their order
 abbrev pub mailboxes_at : List Section → List (Option ℕ) → List Section
-mailboxes_at sections places = filter_map (option_map (section_in sections)) places
+mailboxes_at sections places = filter_map (option_map (at_place sections)) places
 
 -- how many messages the mailbox at a place has, unless the dump is truncated in it
 abbrev pub mail_at : List ℕ → State → List Section → ℕ → Option ℕ
 mail_at bytes state sections place =
-    if is_cut state place then None
-    else Some (message_count (between (section_in sections place).body (section_in sections place).end bytes))
+    if is_cut state place then None else Some (message_count (body_of bytes (at_place sections place)))
 
 -- the same if there is a mailbox
 abbrev pub mail_in : List ℕ → State → List Section → Option ℕ → Option ℕ

@@ -2,7 +2,7 @@
 use Rattle.std.proofs.Common.{◌≡◌, ℕ, ◌≤◌, Bool, true, false, if◌then◌else◌, List, [], Option, None, Some, Err, codes, refl, sym, ◌∙◌, ap, subst, arith}
 use Rattle.std.specs.Prelude.{nat_lt, position, IfSome, IsErrOf, IsSome}
 use Rattle.std.specs.List.{slice_get}
-use Rattle.std.specs.Option.{option_and_then, option_map, option_or}
+use Rattle.std.specs.Option.{option_and_then, option_map, option_or, option_to_list}
 use Rattle.std.specs.Global.{Vec}
 use Rattle.std.proofs.lemmas.Bool.{lt-ltb}
 use Rattle.std.proofs.lemmas.List.Sums.{sum_by-cons}
@@ -21,7 +21,7 @@ use Rattle.binary_refs.specs.declared.faults.BinFault.{BinFault}
 use Rattle.binary_refs.specs.declared.faults.BinFault.TheVariants as faults
 use Rattle.report_text.specs.declared.refusals.Refusal.TheVariants.{SectionTooLarge, BadBinary}
 use Rattle.command_words.specs.Command.{binary}
-use Rattle.dump_command.specs.Report.{one_of, refusal_listed, reread, too_large}
+use Rattle.dump_command.specs.Report.{refusal_listed, reread, too_large}
 use Rattle.dump_sections.specs.Loading.{bodies_length}
 use Rattle.dump_command.specs.Terms.{bad_binary, bad_cause, binary_at, binary_cause}
 use Rattle.dump_command.specs.Inner.Reading.{IsIndexed, IsHalted, Takes}
@@ -42,7 +42,7 @@ found-place addr index (Some i) is =
 pub binary-found : (addr : ℕ) (index : Contents) → binary_section index addr ≡ binary_at addr (sections_in index)
 binary-found addr index = found-place addr index _ refl
 
-bytes-found : (found : Option Section) → found_length found ≡ bodies_length (one_of found)
+bytes-found : (found : Option Section) → found_length found ≡ bodies_length (option_to_list found)
 bytes-found None = refl
 bytes-found (Some s) = omega (arith, sum_by-cons body_length s [])
 
@@ -56,7 +56,7 @@ there-small false s none = refl
 
 -- where neither refusal before the read holds the section is there and isn't too large
 pub found-small : (limit addr : ℕ) (found : Option Section) → refused limit found ≡ None
-    → (binary_cause addr found ≡ None) × (too_large limit (one_of found) ≡ None)
+    → (binary_cause addr found ≡ None) × (too_large limit (option_to_list found) ≡ None)
 found-small limit addr None none = absurd (let no : ⊥ = cc (none) in no)
 found-small limit addr (Some s) none =
     (refl, ap (λ b. option_map (λ (x : Section). SectionTooLarge x.at (body_length x)) (if b then Some s else None)) (there-small (nat_lt limit (body_length s)) s none))
@@ -66,12 +66,12 @@ pub listed-binary : (file : List ℕ) (addr : ℕ) (limits : Numbers) (index : C
     → refusal_listed (binary file addr) (sections_in index) limits ≡ None
 listed-binary file addr limits index none =
     let both = found-small limits.section addr (binary_section index addr) none in
-    ap (λ f. option_or (binary_cause addr f) (too_large limits.section (one_of f))) (sym (binary-found addr index))
-    ∙ ap (λ o. option_or o (too_large limits.section (one_of (binary_section index addr)))) both.0 ∙ both.1
+    ap (λ f. option_or (binary_cause addr f) (too_large limits.section (option_to_list f))) (sym (binary-found addr index))
+    ∙ ap (λ o. option_or o (too_large limits.section (option_to_list (binary_section index addr)))) both.0 ∙ both.1
 
 -- where one does nothing was read
 unread-found : {P : Type 0} (limit addr : ℕ) (found : Option Section) → IfSome (refused limit found) (λ fault. P)
-    → IsSome (option_or (binary_cause addr found) (too_large limit (one_of found))) → P
+    → IsSome (option_or (binary_cause addr found) (too_large limit (option_to_list found))) → P
 unread-found limit addr None unread some = unread
 unread-found {P} limit addr (Some s) unread some =
     (elim (nat_lt limit (body_length s))
@@ -83,7 +83,7 @@ pub unread-binary : {P : Type 0} (file : List ℕ) (addr : ℕ) (limits : Number
     → IsSome (refusal_listed (binary file addr) (sections_in index) limits) → P
 unread-binary file addr limits index unread some =
     unread-found limits.section addr (binary_section index addr) unread
-    (subst IsSome (ap (λ f. option_or (binary_cause addr f) (too_large limits.section (one_of f))) (sym (binary-found addr index))) some)
+    (subst IsSome (ap (λ f. option_or (binary_cause addr f) (too_large limits.section (option_to_list f))) (sym (binary-found addr index))) some)
 
 -- what is taken is the body
 pub few-binary : (file : List ℕ) (addr : ℕ) (limits : Numbers) (index : Contents) (now : Now) (bytes : List ℕ) → IsIndexed bytes limits index now
@@ -93,7 +93,7 @@ few-binary file addr limits index now bytes all =
       arith,
       ap (λ f. found_length f) (binary-found addr index),
       bytes-found (binary_at addr (sections_in index)),
-      ap (λ ss. bodies_length (one_of (binary_at addr ss))) (sections-index bytes index all.of),
+      ap (λ ss. bodies_length (option_to_list (binary_at addr ss))) (sections-index bytes index all.of),
     )
 
 -- a malformed binary is refused as such where neither refusal before the read holds
@@ -119,7 +119,7 @@ IsHalted-binary file addr limits index before after faults.NoBinary takes cause 
       takes = takes;
       cause = (
         tt,
-        λ bytes all. ap (λ f. option_or (option_or (binary_cause addr f) (too_large limits.section (one_of f))) (bad_binary addr bytes))
+        λ bytes all. ap (λ f. option_or (option_or (binary_cause addr f) (too_large limits.section (option_to_list f))) (bad_binary addr bytes))
             (sym (binary-found addr index) ∙ cause),
       );
     }
@@ -129,7 +129,7 @@ IsHalted-binary file addr limits index before after (faults.SectionTooLarge at l
       takes = takes;
       cause = (
         tt,
-        λ bytes all. ap (λ f. option_or (option_or (binary_cause addr f) (too_large limits.section (one_of f))) (bad_binary addr bytes))
+        λ bytes all. ap (λ f. option_or (option_or (binary_cause addr f) (too_large limits.section (option_to_list f))) (bad_binary addr bytes))
             (sym (binary-found addr index) ∙ cause.1)
             ∙ ap (λ b. option_or (option_map (λ (x : Section). SectionTooLarge x.at (body_length x)) (if b then Some s else None)) (bad_binary addr bytes))
             (lt-ltb limits.section (body_length s) cause.4)

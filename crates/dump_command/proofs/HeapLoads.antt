@@ -4,7 +4,7 @@ use Rattle.heap_cells.specs.declared.faults.HeapFault.TheVariants as heap_faults
 use Rattle.binary_refs.specs.declared.faults.PreviewFault.TheVariants as preview_faults
 use Rattle.std.proofs.Common.{◌≡◌, ℕ, ◌+◌, true, false, if◌then◌else◌, List, [], ◌∷◌, ◌++◌, Option, None, Some, Err, codes, refl, sym, ◌∙◌, ap, arith, ◌*◌, ◌<◌, ◌≤◌, Bool, Ok, length, subst, ◌-◌, take, Result}
 use Rattle.std.specs.Prelude.{nat_lt, IsErrOf, IsSome, is_some, position, MatchResult, IfOk, unwrap_or}
-use Rattle.std.specs.Option.{option_map, option_or, option_and_then}
+use Rattle.std.specs.Option.{option_map, option_or, option_and_then, option_to_list}
 use Rattle.std.specs.List.{flat_map}
 use Rattle.std.specs.Global.{Vec}
 use Rattle.std.proofs.lemmas.List.Sums.{sum_by-append}
@@ -12,11 +12,11 @@ use Rattle.std.proofs.lemmas.Bool.{lt-ltb, le-ltb}
 use Rattle.dump_sections.specs.Bodies.{body_length, body_in, body_size, section_in}
 use Rattle.dump_sections.specs.Index.{Contents, IsIndexOf, sections_in, index_of}
 use Rattle.dump_sections.specs.Laws.{index-is}
-use Rattle.dump_sections.specs.Lookups.{has_tag, is_named}
+use Rattle.dump_sections.specs.Lookups.{has_tag, is_named, first_named}
 use Rattle.dump_sections.specs.Sections.{Section, sections}
 use Rattle.heap_cells.specs.Cells.{cells_of, own_count, weight, Cell}
 use Rattle.heap_cells.specs.HeapMap.{HeapMap, number_at, form_at}
-use Rattle.heap_cells.specs.Loading.{enc_of, heap_section, literals_section, section_fault, IsMapOf, too_large as heap_too_large, IsAnswerFor, IsCauseOf}
+use Rattle.heap_cells.specs.Loading.{enc_of, heap_section, literals_section, section_fault, IsMapOf, too_large as heap_too_large, IsAnswerFor, IsCauseOf, heap_bodies}
 use Rattle.heap_cells.specs.declared.faults.HeapFault.{HeapFault}
 use Rattle.report_text.specs.declared.refusals.Refusal.{Refusal}
 use Rattle.report_text.specs.declared.refusals.Refusal.TheVariants.{SectionTooLarge, TooDense}
@@ -39,8 +39,8 @@ use Rattle.heap_reach.specs.Unreached.{ascending, count_below, missed_below}
 use Rattle.root_views.specs.declared.kinds.RootKind.TheVariants.{Stack, Dict, Mail}
 use Rattle.term_text.specs.Reach.{terms_of, totals_line, unreached_line}
 use Rattle.term_text.specs.Cells.{cells_report, cells_text}
-use Rattle.dump_command.specs.Report.{heap_bodies, one_of, too_large, bodies, no_process, no_subject, refusal_held, refusal_listed, reread, root_bodies}
-use Rattle.dump_command.specs.Terms.{heap_body, heap_map, heap_of, literals_body, literals_of, payloads_of, address_cause, answer_in, base_of, binary_count, dense_cause, named_section, no_address, previews_in, roots_of, roots_over, roots_section, term_of, too_dense, reach_of, root_terms, terms_in, ext_of, external_at, external_cause, external_in, no_external}
+use Rattle.dump_command.specs.Report.{too_large, bodies, no_process, no_subject, refusal_held, refusal_listed, reread, root_bodies}
+use Rattle.dump_command.specs.Terms.{heap_body, heap_map, literals_body, payloads_of, address_cause, answer_in, base_of, binary_count, dense_cause, no_address, previews_in, roots_of, roots_over, roots_section, term_of, too_dense, reach_of, root_terms, terms_in, ext_of, external_at, external_cause, external_in, no_external}
 use Rattle.dump_command.specs.Inner.Stops.{stop_of_heap, Judges, stop_of_previews, stop_of_body}
 use Rattle.dump_command.specs.declared.stop.Stop.TheVariants.{Refused}
 use Rattle.dump_command.specs.Inner.Reading.{heap_listed, HoldsHeap, IsHeapless, IsIndexed, IsHalted, Takes, ReadsFor}
@@ -49,31 +49,9 @@ use Rattle.dump_command.specs.Inner.Loads.{roots_at, reach_text, terms_loaded, A
 use Rattle.dump_command.specs.declared.commands.reach.RootPlaces.{RootPlaces}
 use Rattle.dump_command.specs.declared.commands.reach.RootBodies.{RootBodies}
 use Rattle.dump_command.specs.declared.commands.reach.Loaded.{Loaded}
-use Rattle.dump_command.proofs.Reading.{bytes-one, none-map, refused, body_fault, is_some-map, StopsFor-judged, StopsFor-large, StopsFor-too, Takes-listed, HasRead-listed, IsHalted-held}
-use Rattle.dump_command.proofs.Places.{section-found}
+use Rattle.dump_command.proofs.Reading.{none-map, refused, body_fault, is_some-map, StopsFor-judged, StopsFor-large, StopsFor-too, Takes-listed, HasRead-listed, IsHalted-held}
+use Rattle.dump_sections.specs.LoadingLaws.{bodies-one}
 use Rattle.dump_command.proofs.Runs.{sections-index}
-
-pub heap-found : (pid : List ℕ) (index : Contents) → heap_section index pid ≡ heap_of pid (sections_in index)
-heap-found pid index = section-found (λ s. is_named (codes "proc_heap") (Some pid) s.text) index _ refl
-
-pub literals-found : (index : Contents) → literals_section index ≡ literals_of (sections_in index)
-literals-found index = section-found (λ s. has_tag (codes "literals") s.text) index _ refl
-
--- ---- how many bytes they have
-
-pub bytes-heap : (pid : List ℕ) (index : Contents)
-    → bodies_length (heap_bodies pid (sections_in index)) ≡ body_size (heap_section index pid) + body_size (literals_section index)
-bytes-heap pid index =
-    let heap = heap_of pid (sections_in index) in
-    let literals = literals_of (sections_in index) in
-    omega (
-      arith,
-      sum_by-append body_length (one_of heap) (one_of literals),
-      bytes-one heap,
-      bytes-one literals,
-      ap body_size (heap-found pid index),
-      ap body_size (literals-found index),
-    )
 
 -- ---- which of them is too large
 
@@ -87,42 +65,29 @@ too_large-append limit (s ∷ xs) ys =
       | false ↦ too_large-append limit xs ys
     ]
 
-fault-one : (limit : ℕ) (found : Option Section) → option_map stop_of_heap (heap_too_large limit found) ≡ option_map Refused (too_large limit (one_of found))
-fault-one limit None = refl
-fault-one limit (Some s) =
-    elim (nat_lt limit (body_length s))
-    as (λ b. option_map stop_of_heap (if b then Some (heap_faults.SectionTooLarge s.at (body_length s)) else None)
-    ≡ option_map Refused (option_map refused (if b then Some s else first_large limit []))) [ true ↦ refl | false ↦ refl ]
-
-map-or : {X Y : Type 0} (f : X → Y) (first second : Option X) → option_map f (option_or first second) ≡ option_or (option_map f first) (option_map f second)
-map-or f None second = refl
-map-or f (Some x) second = refl
-
 -- the refusal of a section of the heap stops the command as that of a body
+fault-bodies : (limit : ℕ) (bodies : List Section) → option_map stop_of_heap (bodies_fault limit bodies) ≡ option_map Refused (too_large limit bodies)
+fault-bodies limit bodies = by (first_large limit bodies)
+  where
+    by : (found : Option Section) → option_map stop_of_heap (option_map heap_fault_of (option_map body_fault found)) ≡ option_map Refused (option_map refused found)
+    by None = refl
+    by (Some s) = refl
+
 pub fault-heap : (limit : ℕ) (pid : List ℕ) (index : Contents)
-    → option_map stop_of_heap (section_fault limit index pid) ≡ option_map Refused (too_large limit (heap_bodies pid (sections_in index)))
-fault-heap limit pid index =
-    let heap = heap_of pid (sections_in index) in
-    let literals = literals_of (sections_in index) in
-    ap (λ h. option_map stop_of_heap (option_or (heap_too_large limit h) (heap_too_large limit (literals_section index)))) (heap-found pid index)
-    ∙ ap (λ l. option_map stop_of_heap (option_or (heap_too_large limit heap) (heap_too_large limit l))) (literals-found index)
-    ∙ map-or stop_of_heap (heap_too_large limit heap) (heap_too_large limit literals)
-    ∙ ap (λ o. option_or o (option_map stop_of_heap (heap_too_large limit literals))) (fault-one limit heap)
-    ∙ ap (λ o. option_or (option_map Refused (too_large limit (one_of heap))) o) (fault-one limit literals)
-    ∙ sym (map-or Refused (too_large limit (one_of heap)) (too_large limit (one_of literals)))
-    ∙ ap (option_map Refused) (sym (too_large-append limit (one_of heap) (one_of literals)))
+    → option_map stop_of_heap (bodies_fault limit (heap_bodies pid (sections_in index))) ≡ option_map Refused (too_large limit (heap_bodies pid (sections_in index)))
+fault-heap limit pid index = fault-bodies limit (heap_bodies pid (sections_in index))
 
 some-refused : (cause : Option Refusal) (why : Refusal) → option_map Refused cause ≡ Some (Refused why) → cause ≡ Some why
 some-refused None why is = absurd (let no : ⊥ = cc (is) in no)
 some-refused (Some other) why is = let same : other ≡ why = cc (is) in ap Some same
 
-pub heap-too-large : (limit : ℕ) (pid : List ℕ) (index : Contents) (at len : ℕ) → section_fault limit index pid ≡ Some (heap_faults.SectionTooLarge at len)
+pub heap-too-large : (limit : ℕ) (pid : List ℕ) (index : Contents) (at len : ℕ) → bodies_fault limit (heap_bodies pid (sections_in index)) ≡ Some (heap_faults.SectionTooLarge at len)
     → too_large limit (heap_bodies pid (sections_in index)) ≡ Some (SectionTooLarge at len)
 heap-too-large limit pid index at len is =
     some-refused (too_large limit (heap_bodies pid (sections_in index))) (SectionTooLarge at len)
     (sym (fault-heap limit pid index) ∙ ap (option_map stop_of_heap) is)
 
-pub heap-small : (limit : ℕ) (pid : List ℕ) (index : Contents) → section_fault limit index pid ≡ None → too_large limit (heap_bodies pid (sections_in index)) ≡ None
+pub heap-small : (limit : ℕ) (pid : List ℕ) (index : Contents) → bodies_fault limit (heap_bodies pid (sections_in index)) ≡ None → too_large limit (heap_bodies pid (sections_in index)) ≡ None
 heap-small limit pid index is =
     none-map Refused (too_large limit (heap_bodies pid (sections_in index))) (sym (fault-heap limit pid index) ∙ ap (option_map stop_of_heap) is)
 
@@ -136,13 +101,13 @@ section-of fault at len is = absurd (let no : ⊥ = cc (is) in no)
 
 -- where the heap is too dense none of its sections is too large
 pub dense-small : (limit : ℕ) (pid : List ℕ) (index : Contents) (count : ℕ)
-    → ((fault : HeapFault) → section_fault limit index pid ≡ Some fault → IsErrOf {T = HeapMap} (Err (heap_faults.TooDense count)) fault)
+    → ((fault : HeapFault) → bodies_fault limit (heap_bodies pid (sections_in index)) ≡ Some fault → IsErrOf {T = HeapMap} (Err (heap_faults.TooDense count)) fault)
     → (found : Option Section) → first_large limit (heap_bodies pid (sections_in index)) ≡ found
     → too_large limit (heap_bodies pid (sections_in index)) ≡ None
 dense-small limit pid index count says None is = ap (option_map refused) is
 dense-small limit pid index count says (Some s) is =
-    let one : section_fault limit index pid ≡ Some (heap_faults.SectionTooLarge s.at (body_length s)) =
-    section-of (section_fault limit index pid) s.at (body_length s) (fault-heap limit pid index ∙ ap (λ o. option_map Refused (option_map refused o)) is) in
+    let one : bodies_fault limit (heap_bodies pid (sections_in index)) ≡ Some (heap_faults.SectionTooLarge s.at (body_length s)) =
+    section-of (bodies_fault limit (heap_bodies pid (sections_in index))) s.at (body_length s) (fault-heap limit pid index ∙ ap (λ o. option_map Refused (option_map refused o)) is) in
     let other = says (heap_faults.SectionTooLarge s.at (body_length s)) one in
     absurd (let no : ⊥ = cc (other) in no)
 
@@ -151,38 +116,38 @@ dense-small limit pid index count says (Some s) is =
 pub payloads-index : (bytes : List ℕ) (index : Contents) → IsIndexOf bytes index → enc_of index.version ≡ payloads_of bytes
 payloads-index bytes index of = ap (λ i. enc_of i.version) (index-is bytes index of)
 
-pub heap_body-index : (pid bytes : List ℕ) (index : Contents) → IsIndexOf bytes index → body_in bytes (heap_section index pid) ≡ heap_body pid bytes
-heap_body-index pid bytes index of = ap (body_in bytes) (heap-found pid index ∙ ap (heap_of pid) (sections-index bytes index of))
+pub heap_body-index : (pid bytes : List ℕ) (index : Contents) → IsIndexOf bytes index → body_in bytes (heap_section pid (sections_in index)) ≡ heap_body pid bytes
+heap_body-index pid bytes index of = ap (λ ss. body_in bytes (heap_section pid ss)) (sections-index bytes index of)
 
-pub literals_body-index : (bytes : List ℕ) (index : Contents) → IsIndexOf bytes index → body_in bytes (literals_section index) ≡ literals_body bytes
-literals_body-index bytes index of = ap (body_in bytes) (literals-found index ∙ ap literals_of (sections-index bytes index of))
+pub literals_body-index : (bytes : List ℕ) (index : Contents) → IsIndexOf bytes index → body_in bytes (literals_section (sections_in index)) ≡ literals_body bytes
+literals_body-index bytes index of = ap (λ ss. body_in bytes (literals_section ss)) (sections-index bytes index of)
 
 pub enc-index : (pid bytes : List ℕ) (index : Contents) (heap : HeapMap) → IsIndexOf bytes index → heap.enc ≡ enc_of index.version → heap.enc ≡ (heap_map pid bytes).enc
 enc-index pid bytes index heap of is = is ∙ payloads-index bytes index of
 
 pub cells-index : (pid bytes : List ℕ) (index : Contents) (heap : HeapMap) → IsIndexOf bytes index
-    → IsMapOf (enc_of index.version) (body_in bytes (heap_section index pid)) (body_in bytes (literals_section index)) heap
+    → IsMapOf (enc_of index.version) (body_in bytes (heap_section pid (sections_in index))) (body_in bytes (literals_section (sections_in index))) heap
     → heap.cells ≡ (heap_map pid bytes).cells
 cells-index pid bytes index heap of map =
     map.cells
-    ∙ ap (λ e. cells_of e (body_in bytes (heap_section index pid)) (body_in bytes (literals_section index))) (payloads-index bytes index of)
-    ∙ ap (λ h. cells_of (payloads_of bytes) h (body_in bytes (literals_section index))) (heap_body-index pid bytes index of)
+    ∙ ap (λ e. cells_of e (body_in bytes (heap_section pid (sections_in index))) (body_in bytes (literals_section (sections_in index)))) (payloads-index bytes index of)
+    ∙ ap (λ h. cells_of (payloads_of bytes) h (body_in bytes (literals_section (sections_in index)))) (heap_body-index pid bytes index of)
     ∙ ap (cells_of (payloads_of bytes) (heap_body pid bytes)) (literals_body-index bytes index of)
 
 pub own-index : (pid bytes : List ℕ) (index : Contents) (heap : HeapMap) → IsIndexOf bytes index
-    → IsMapOf (enc_of index.version) (body_in bytes (heap_section index pid)) (body_in bytes (literals_section index)) heap
+    → IsMapOf (enc_of index.version) (body_in bytes (heap_section pid (sections_in index))) (body_in bytes (literals_section (sections_in index))) heap
     → heap.own ≡ (heap_map pid bytes).own
 own-index pid bytes index heap of map =
     map.own
-    ∙ ap (λ e. own_count e (body_in bytes (heap_section index pid))) (payloads-index bytes index of)
+    ∙ ap (λ e. own_count e (body_in bytes (heap_section pid (sections_in index)))) (payloads-index bytes index of)
     ∙ ap (own_count (payloads_of bytes)) (heap_body-index pid bytes index of)
 
 pub weight-index : (pid bytes : List ℕ) (index : Contents) → IsIndexOf bytes index
-    → weight (enc_of index.version) (body_in bytes (heap_section index pid)) (body_in bytes (literals_section index))
+    → weight (enc_of index.version) (body_in bytes (heap_section pid (sections_in index))) (body_in bytes (literals_section (sections_in index)))
     ≡ weight (payloads_of bytes) (heap_body pid bytes) (literals_body bytes)
 weight-index pid bytes index of =
-    ap (λ e. weight e (body_in bytes (heap_section index pid)) (body_in bytes (literals_section index))) (payloads-index bytes index of)
-    ∙ ap (λ h. weight (payloads_of bytes) h (body_in bytes (literals_section index))) (heap_body-index pid bytes index of)
+    ap (λ e. weight e (body_in bytes (heap_section pid (sections_in index))) (body_in bytes (literals_section (sections_in index)))) (payloads-index bytes index of)
+    ∙ ap (λ h. weight (payloads_of bytes) h (body_in bytes (literals_section (sections_in index)))) (heap_body-index pid bytes index of)
     ∙ ap (weight (payloads_of bytes) (heap_body pid bytes)) (literals_body-index bytes index of)
 
 -- ---- what the load of a process's heap gives, and what a command over it has read
@@ -196,13 +161,13 @@ dense-within : (limit count : ℕ) → count ≤ limit → dense_cause limit cou
 dense-within limit count within = ap (λ b. if b then Some (TooDense count) else None) (le-ltb limit count within)
 
 too_dense-over : (limit count : ℕ) (pid bytes : List ℕ) (index : Contents) → IsIndexOf bytes index
-    → count ≡ weight (enc_of index.version) (body_in bytes (heap_section index pid)) (body_in bytes (literals_section index)) → limit < count
+    → count ≡ weight (enc_of index.version) (body_in bytes (heap_section pid (sections_in index))) (body_in bytes (literals_section (sections_in index))) → limit < count
     → too_dense limit pid bytes ≡ Some (TooDense count)
 too_dense-over limit count pid bytes index of is over =
     ap (dense_cause limit) (sym (is ∙ weight-index pid bytes index of)) ∙ dense-over limit count over
 
 too_dense-within : (limit : ℕ) (pid bytes : List ℕ) (index : Contents) → IsIndexOf bytes index
-    → weight (enc_of index.version) (body_in bytes (heap_section index pid)) (body_in bytes (literals_section index)) ≤ limit
+    → weight (enc_of index.version) (body_in bytes (heap_section pid (sections_in index))) (body_in bytes (literals_section (sections_in index))) ≤ limit
     → too_dense limit pid bytes ≡ None
 too_dense-within limit pid bytes index of within =
     ap (dense_cause limit) (sym (weight-index pid bytes index of)) ∙ dense-within limit _ within
@@ -243,10 +208,10 @@ module _ (pid : List ℕ) (before : List Section) (limits : Numbers) (index : Co
 
 module _ (pid : List ℕ) (before : List Section) (limits : Numbers) (index : Contents) (clear : IsClear pid before limits index) where
   -- the heap itself wasn't loaded: a body that is too large stands before a heap that is too dense
-  pub IsHeapless-heap : (old new : DeviceState) (fault : HeapFault) → IsCauseOf (section_fault limits.section index pid) limits.dense old new fault
-      → ((f : HeapFault) → section_fault limits.section index pid ≡ Some f → IsErrOf {T = HeapMap} (Err fault) f)
+  pub IsHeapless-heap : (old new : DeviceState) (fault : HeapFault) → IsCauseOf (bodies_fault limits.section (heap_bodies pid (sections_in index))) limits.dense old new fault
+      → ((f : HeapFault) → bodies_fault limits.section (heap_bodies pid (sections_in index)) ≡ Some f → IsErrOf {T = HeapMap} (Err fault) f)
       → ((bytes : List ℕ) → old.now ≡ told bytes
-      → IsAnswerFor (enc_of index.version) (body_in bytes (heap_section index pid)) (body_in bytes (literals_section index)) limits.dense (Err fault))
+      → IsAnswerFor (enc_of index.version) (body_in bytes (heap_section pid (sections_in index))) (body_in bytes (literals_section (sections_in index))) limits.dense (Err fault))
       → IsHeapless pid before limits index old new (stop_of_heap fault)
   IsHeapless-heap old new heap_faults.Read cause first answers = cause
   IsHeapless-heap old new heap_faults.Memory cause first answers = tt
@@ -263,8 +228,8 @@ module _ (pid : List ℕ) (before : List Section) (limits : Numbers) (index : Co
   )
 
   -- the heap was loaded
-  pub HoldsHeap-loaded : (now : Now) (heap : HeapMap) → section_fault limits.section index pid ≡ None → heap.enc ≡ enc_of index.version
-      → ((bytes : List ℕ) → now ≡ told bytes → IsAnswerFor (enc_of index.version) (body_in bytes (heap_section index pid)) (body_in bytes (literals_section index)) limits.dense (Ok heap))
+  pub HoldsHeap-loaded : (now : Now) (heap : HeapMap) → bodies_fault limits.section (heap_bodies pid (sections_in index)) ≡ None → heap.enc ≡ enc_of index.version
+      → ((bytes : List ℕ) → now ≡ told bytes → IsAnswerFor (enc_of index.version) (body_in bytes (heap_section pid (sections_in index))) (body_in bytes (literals_section (sections_in index))) limits.dense (Ok heap))
       → HoldsHeap pid before limits index now heap
   HoldsHeap-loaded now heap loaded enc answers =
       record {
@@ -276,9 +241,9 @@ module _ (pid : List ℕ) (before : List Section) (limits : Numbers) (index : Co
       }
 
   -- where a refusal stands before the bodies the load of the heap reads nothing
-  pub IsSome-fault : IsSome (heap_listed pid before limits (sections_in index)) → IsSome (section_fault limits.section index pid)
+  pub IsSome-fault : IsSome (heap_listed pid before limits (sections_in index)) → IsSome (bodies_fault limits.section (heap_bodies pid (sections_in index)))
   IsSome-fault some =
-      sym (is_some-map stop_of_heap (section_fault limits.section index pid)) ∙ ap is_some (fault-heap limits.section pid index)
+      sym (is_some-map stop_of_heap (bodies_fault limits.section (heap_bodies pid (sections_in index)))) ∙ ap is_some (fault-heap limits.section pid index)
       ∙ is_some-map Refused (too_large limits.section (heap_bodies pid (sections_in index))) ∙ ap is_some (sym clear.listed) ∙ some
 
 -- ---- a command over the heap
@@ -303,23 +268,22 @@ module _ (cmd : Command) (pid : List ℕ) (before : List Section) (limits : Numb
 
   -- the bodies in the dump have as many bytes as those before the heap and those of the heap
   bytes-loaded : (bytes : List ℕ) → IsIndexOf bytes index → bodies_length (bodies cmd (sections bytes))
-      ≡ bodies_length before + (body_size (heap_section index pid) + body_size (literals_section index))
+      ≡ bodies_length before + bodies_length (heap_bodies pid (sections_in index))
   bytes-loaded bytes is =
       omega (
         arith,
         ap (λ ss. bodies_length (bodies cmd ss)) (sections-index bytes index is),
         ap (λ ss. bodies_length ss) of.loads,
         sum_by-append body_length before (heap_bodies pid (sections_in index)),
-        bytes-heap pid index,
       )
 
   -- the heap wasn't loaded
-  pub IsHalted-heap : (old new : DeviceState) (stop : Stop) → ReadsAtMost old new (body_size (heap_section index pid) + body_size (literals_section index))
+  pub IsHalted-heap : (old new : DeviceState) (stop : Stop) → ReadsAtMost old new (bodies_length (heap_bodies pid (sections_in index)))
       → (IsSome (heap_listed pid before limits (sections_in index)) → ReadsAtMost old new 0) → IsHeapless pid before limits index old new stop → IsHalted cmd limits index old new stop
   IsHalted-heap old new stop reads unread cause =
       record {
         takes = record {
-          bytes = body_size (heap_section index pid) + body_size (literals_section index);
+          bytes = bodies_length (heap_bodies pid (sections_in index));
           reads = reads;
           few = λ bytes all. omega (arith, of.few bytes, bytes-loaded bytes all.of);
           unread = λ some. unread (subst IsSome listed-heap some);
@@ -333,16 +297,16 @@ module _ (cmd : Command) (pid : List ℕ) (before : List Section) (limits : Numb
   none-listed now heap holds = listed-heap ∙ holds.listed
 
   module _ (old new : DeviceState) (heap : HeapMap) (holds : HoldsHeap pid before limits index old.now heap) where
-    pub Takes-heap : ReadsAtMost old new (body_size (heap_section index pid) + body_size (literals_section index)) → Takes cmd limits index old new
+    pub Takes-heap : ReadsAtMost old new (bodies_length (heap_bodies pid (sections_in index))) → Takes cmd limits index old new
     Takes-heap reads = Takes-listed cmd limits index old new _ (none-listed old.now heap holds) reads (λ bytes all. omega (arith, of.few bytes, bytes-loaded bytes all.of))
 
     -- and so were the bodies before it
-    pub Takes-all : (count : ℕ) → ReadsAtMost old new count → count ≤ bodies_length before + (body_size (heap_section index pid) + body_size (literals_section index)) → Takes cmd limits index old new
+    pub Takes-all : (count : ℕ) → ReadsAtMost old new count → count ≤ bodies_length before + bodies_length (heap_bodies pid (sections_in index)) → Takes cmd limits index old new
     Takes-all count reads few = Takes-listed cmd limits index old new count (none-listed old.now heap holds) reads (λ bytes all. omega (arith, few, of.few bytes, bytes-loaded bytes all.of))
 
     -- and so were the previews of its references to binaries
     pub Takes-previews : (count : ℕ) → ((bytes : List ℕ) → bodies_length (bodies cmd (sections bytes)) + 128 * binary_count pid bytes ≤ reread cmd bytes) → ReadsAtMost old new count
-        → count ≤ bodies_length before + (body_size (heap_section index pid) + body_size (literals_section index)) + 128 * length (binaries heap.cells)
+        → count ≤ bodies_length before + bodies_length (heap_bodies pid (sections_in index)) + 128 * length (binaries heap.cells)
         → Takes cmd limits index old new
     Takes-previews count most reads few =
         Takes-listed cmd limits index old new count (none-listed old.now heap holds) reads
@@ -417,19 +381,18 @@ IsOfHeap-term file pid addr nodes marked limits index =
     record { subject = refl; loads = refl; few = λ bytes. omega arith; dense = λ bytes why is. ap (λ o. option_or o (no_address addr pid bytes)) is }
 
 pub IsOfHeap-roots : (kind : RootKind) (file pid : List ℕ) (nodes : ℕ) (marked : Bool) (limits : Numbers) (index : Contents) (found : Option Section)
-    → found ≡ roots_section kind pid (sections_in index) → IsOfHeap (roots kind file pid nodes marked) pid (one_of found) limits index
+    → found ≡ roots_section kind pid (sections_in index) → IsOfHeap (roots kind file pid nodes marked) pid (option_to_list found) limits index
 IsOfHeap-roots kind file pid nodes marked limits index found here =
     record {
       subject = refl;
-      loads = ap (λ f. one_of f ++ heap_bodies pid (sections_in index)) (sym here);
+      loads = ap (λ f. option_to_list f ++ heap_bodies pid (sections_in index)) (sym here);
       few = λ bytes. omega arith;
       dense = λ bytes why is. is;
     }
 
 pub roots-found : (kind : RootKind) (pid tag : List ℕ) (index : Contents) (place : Option ℕ) → tag ≡ roots_tag kind
-    → place ≡ position (λ s. is_named tag (Some pid) s.text) (sections_in index) → section_in index place ≡ roots_section kind pid (sections_in index)
-roots-found kind pid tag index place tagged is =
-    section-found (λ s. is_named tag (Some pid) s.text) index place (sym is) ∙ ap (λ t. named_section t pid (sections_in index)) tagged
+    → section_in index place ≡ first_named tag pid (sections_in index) → section_in index place ≡ roots_section kind pid (sections_in index)
+roots-found kind pid tag index place tagged is = is ∙ ap (λ t. first_named t pid (sections_in index)) tagged
 
 -- ---- what a command has read that tells what the roots of a heap reach
 
@@ -446,9 +409,9 @@ IsOfHeap-reach file pid limits index places of =
   where
     at-roots : (pid : List ℕ) (index : Contents) (places : RootPlaces) → ArePlaces pid index places → roots_at index places ≡ root_bodies pid (sections_in index)
     at-roots pid index places of =
-        ap (λ s. (one_of s ++ one_of (section_in index places.dict)) ++ one_of (section_in index places.mail)) of.stack
-        ∙ ap (λ s. (one_of (roots_section Stack pid (sections_in index)) ++ one_of s) ++ one_of (section_in index places.mail)) of.dict
-        ∙ ap (λ s. (one_of (roots_section Stack pid (sections_in index)) ++ one_of (roots_section Dict pid (sections_in index))) ++ one_of s) of.mail
+        ap (λ s. (option_to_list s ++ option_to_list (section_in index places.dict)) ++ option_to_list (section_in index places.mail)) of.stack
+        ∙ ap (λ s. (option_to_list (roots_section Stack pid (sections_in index)) ++ option_to_list s) ++ option_to_list (section_in index places.mail)) of.dict
+        ∙ ap (λ s. (option_to_list (roots_section Stack pid (sections_in index)) ++ option_to_list (roots_section Dict pid (sections_in index))) ++ option_to_list s) of.mail
 
 -- the bodies with the roots weren't read
 pub IsHalted-roots : (cmd : Command) (pid : List ℕ) (before : List Section) (limits : Numbers) (index : Contents) (now : Now) (heap : HeapMap) (old new last last' : DeviceState) (fault : BodyFault)
@@ -503,7 +466,7 @@ IsOfHeap-cells : (file pid : List ℕ) (limits : Numbers) (index : Contents) →
 IsOfHeap-cells file pid limits index = record { subject = refl; loads = refl; few = λ bytes. omega arith; dense = λ bytes why is. is }
 
 pub reads-cells : (file pid : List ℕ) (limits : Numbers) (index : Contents) (before after : DeviceState) (result : Result HeapMap Stop)
-    → ReadsAtMost before after (body_size (heap_section index pid) + body_size (literals_section index))
+    → ReadsAtMost before after (bodies_length (heap_bodies pid (sections_in index)))
     → (IsSome (heap_listed pid [] limits (sections_in index)) → ReadsAtMost before after 0)
     → MatchResult result (HoldsHeap pid [] limits index before.now) (IsHeapless pid [] limits index before after)
     → ReadsFor (cells file pid) limits index before after cells_report (λ _. 0) result
@@ -544,7 +507,7 @@ module _ (pid : List ℕ) (addr : ℕ) (limits : Numbers) (index : Contents) (no
   ext-told payload found = ap (λ o. ext_report (unwrap_or o [])) (sym found ∙ external-index)
 
 pub reads-ext : (file pid : List ℕ) (addr : ℕ) (limits : Numbers) (index : Contents) (before after : DeviceState) (heap : HeapMap) (result : Result (Vec ℕ) Stop)
-    → ReadsAtMost before after (body_size (heap_section index pid) + body_size (literals_section index)) → HoldsHeap pid [] limits index before.now heap
+    → ReadsAtMost before after (bodies_length (heap_bodies pid (sections_in index))) → HoldsHeap pid [] limits index before.now heap
     → Judges (no_external addr heap) result → IfOk result (λ payload. external_at addr heap ≡ Some payload.items)
     → ReadsFor (ext file pid addr) limits index before after (λ payload. ext_report payload.items) (λ _. 0) result
 reads-ext file pid addr limits index before after heap (Ok payload) reads holds judged found =

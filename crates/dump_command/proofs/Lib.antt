@@ -4,7 +4,6 @@ pub mod HeapLoads
 pub mod HolderLoads
 pub mod Messages
 pub mod Opened
-pub mod Places
 pub mod Reading
 pub mod Redacting
 pub mod Runs

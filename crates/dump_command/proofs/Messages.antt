@@ -16,7 +16,8 @@ use Rattle.dump_sections.specs.declared.index.State.{State}
 use Rattle.term_forms.specs.Elements.{Element}
 use Rattle.term_forms.specs.Reading.{front, whole_of}
 use Rattle.root_views.specs.Roots.{BodyRoot, Content, Dist, Term, Unread, behind_colon, dist_roots, has_text, is_message, mail_line, message, message_count, pair_roots, root_lines, token}
-use Rattle.audit_bodies.specs.Mailboxes.{mail_in, mailbox_places, mails, section_in}
+use Rattle.audit_bodies.specs.Mailboxes.{mail_in, mailbox_places, mails}
+use Rattle.dump_sections.specs.Bodies.{at_place}
 use Rattle.dump_audit.specs.Findings.{is_cut}
 use Rattle.json_report.specs.Laws.{AreCounts, ReadsBack}
 use Rattle.dump_command.specs.Audits.{AuditsReadBack}
@@ -104,11 +105,11 @@ mail-short : (bytes : List ℕ) (state : State) (ss : List Section) (place : Opt
 mail-short bytes state ss None = tt
 mail-short bytes state ss (Some place) = of (is_cut state place)
   where
-    of : (b : Bool) → IfSome (if b then None else Some (message_count (between (section_in ss place).body (section_in ss place).end bytes))) (λ n. n ≤ length bytes)
+    of : (b : Bool) → IfSome (if b then None else Some (message_count (between (at_place ss place).body (at_place ss place).end bytes))) (λ n. n ≤ length bytes)
     of true = tt
     of false =
-        let body = between (section_in ss place).body (section_in ss place).end bytes in
-        omega (arith, messages-short body, length-between (section_in ss place).body (section_in ss place).end bytes)
+        let body = between (at_place ss place).body (at_place ss place).end bytes in
+        omega (arith, messages-short body, length-between (at_place ss place).body (at_place ss place).end bytes)
 
 mail-small : (bytes : List ℕ) (state : State) (ss : List Section) (place : Option ℕ) → length bytes < 2 ^ 64 → IfSome (mail_in bytes state ss place) (λ n. n < 2 ^ 64)
 mail-small bytes state ss place size = IfSome_then (mail_in bytes state ss place) (mail-short bytes state ss place) (λ n short. omega (arith, short, size))

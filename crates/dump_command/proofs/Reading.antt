@@ -2,7 +2,7 @@
 use Rattle.dump_sections.specs.declared.bodies.BodyFault.TheVariants as body_faults
 use Rattle.std.proofs.Common.{◌≡◌, ℕ, ◌≤◌, List, Option, None, Some, Result, Ok, Err, refl, sym, ◌∙◌, ap, subst, inl, arith, [], ◌⊎◌, Bool, true, false, if◌then◌else◌, codes, inr, length}
 use Rattle.std.specs.Prelude.{IfErr, IfOk, IsErrAnd, IsSome, MatchResult, OnOk, is_some}
-use Rattle.std.specs.Option.{option_map, option_or}
+use Rattle.std.specs.Option.{option_map, option_or, option_to_list}
 use Rattle.std.specs.Str.{bytes_eq}
 use Rattle.std.proofs.lemmas.Result.{IfOk-weaker}
 use Rattle.std.proofs.lemmas.List.Sums.{sum_by-cons}
@@ -10,7 +10,7 @@ use Rattle.std.proofs.lemmas.Slice.Eq.{bytes_eq-Decides}
 use Rattle.dump_io.specs.Dumps.{DeviceState, told, ReadsAtMost, DeviceFailed}
 use Rattle.dump_io.specs.Laws.Reads.{ReadsAtMost-none, ReadsAtMost-within}
 use Rattle.dump_io.specs.Limits.{Numbers}
-use Rattle.dump_sections.specs.Bodies.{body_length, body_in, body_size, IsBodyIn, section_in}
+use Rattle.dump_sections.specs.Bodies.{body_length, body_in, body_size, IsBodyIn, section_in, body_of}
 use Rattle.dump_sections.specs.Index.{Contents, sections_in, IsBuiltOver, IsIndexOf}
 use Rattle.dump_sections.specs.Sections.{Section, sections}
 use Rattle.dump_sections.specs.declared.bodies.BodyFault.{BodyFault}
@@ -26,7 +26,7 @@ use Rattle.dump_sections.specs.Tags.{tag_counts, tags_in}
 use Rattle.dump_sections.specs.declared.version.Version.{Version}
 use Rattle.dump_sections.specs.declared.version.Version.TheVariants.{V03, V04, V05}
 use Rattle.report_text.specs.Reports.{info_report, version_text}
-use Rattle.dump_command.specs.Report.{bodies, no_subject, refusal_held, refusal_listed, report, report_status, reread, too_large, fields_of, one_of, first_section, tags_of, body_of}
+use Rattle.dump_command.specs.Report.{bodies, no_subject, refusal_held, refusal_listed, report, report_status, reread, too_large, fields_of, first_section, tags_of}
 use Rattle.dump_command.specs.Inner.Reading.{IsIndexed, HasRead, IsHalted, ReadsFor, StopsFor, Takes, Tells}
 use Rattle.dump_command.specs.Inner.Runs.{IsEnding}
 use Rattle.dump_command.specs.Inner.Stops.{or_stop, stop_of_body, Judges}
@@ -205,21 +205,17 @@ module _ (cmd : Command) (limits : Numbers) (index : Contents) (before after : D
 
 -- ---- what a command has read that loads the body of one section
 
-pub bytes-one : (found : Option Section) → body_size found ≡ bodies_length (one_of found)
-bytes-one None = omega arith
-bytes-one (Some s) = omega (arith, sum_by-cons body_length s [])
-
 -- the body of the section that was found was loaded, or not
 pub Loads-found : {D T : Type 0} (state : D → DeviceState) (b c : D) (found : Option Section) (limit : ℕ) (loaded : Result T BodyFault)
-    → ReadsAtMost (state b) (state c) (body_size found) → (IsSome (first_large limit (one_of found)) → c ≡ b) → OnOk loaded (first_large limit (one_of found) ≡ None)
-    → IfErr loaded (AreRefused (one_of found) limit (state b) (state c)) → Loads (one_of found) limit (state b) (state c) loaded
+    → ReadsAtMost (state b) (state c) (body_size found) → (IsSome (first_large limit (option_to_list found)) → c ≡ b) → OnOk loaded (first_large limit (option_to_list found) ≡ None)
+    → IfErr loaded (AreRefused (option_to_list found) limit (state b) (state c)) → Loads (option_to_list found) limit (state b) (state c) loaded
 Loads-found state b c found limit loaded reads unread small fault =
-    Loads-told state b c (one_of found) limit loaded (ReadsAtMost-within (omega (arith, bytes-one found)) reads) unread small fault
+    Loads-told state b c (option_to_list found) limit loaded (ReadsAtMost-within (omega (arith, bodies-one found)) reads) unread small fault
 
 -- the command loads this section alone
 module _ (cmd : Command) (limits : Numbers) (index : Contents) (before after : DeviceState) (of : IsOfBodies cmd limits index)
-    (found : Option Section) (is : bodies cmd (sections_in index) ≡ one_of found) where
-  pub ReadsFor-found : (text : Body → List ℕ) (loaded : Result Body BodyFault) → Loads (one_of found) limits.section before after loaded
+    (found : Option Section) (is : bodies cmd (sections_in index) ≡ option_to_list found) where
+  pub ReadsFor-found : (text : Body → List ℕ) (loaded : Result Body BodyFault) → Loads (option_to_list found) limits.section before after loaded
       → IfOk loaded (λ body. IsBodyIn before.now found body.bytes.items) → IfOk loaded (λ body. body.base ≡ base_of found)
       → ((body : Body) (bytes : List ℕ) → IsIndexed bytes limits index before.now → body.base ≡ base_of found → body.bytes.items ≡ body_in bytes found
       → (text body ≡ report cmd bytes) × (0 ≡ report_status cmd bytes))
@@ -232,13 +228,13 @@ module _ (cmd : Command) (limits : Numbers) (index : Contents) (before after : D
 
 -- its report is of the fields of that section
 pub ReadsFor-fields : (cmd : Command) (limits : Numbers) (index : Contents) (before after : DeviceState) (of : IsOfBodies cmd limits index) (found : Option Section)
-    (pick : List Section → Option Section) (loaded : Result Body BodyFault) → found ≡ pick (sections_in index) → ((ss : List Section) → bodies cmd ss ≡ one_of (pick ss))
+    (pick : List Section → Option Section) (loaded : Result Body BodyFault) → found ≡ pick (sections_in index) → ((ss : List Section) → bodies cmd ss ≡ option_to_list (pick ss))
     → ((bytes : List ℕ) → (fields_of bytes (pick (sections bytes)) ≡ report cmd bytes) × (0 ≡ report_status cmd bytes))
-    → Loads (one_of found) limits.section before after loaded
+    → Loads (option_to_list found) limits.section before after loaded
     → IfOk loaded (λ body. IsBodyIn before.now found body.bytes.items) → IfOk loaded (λ body. body.base ≡ base_of found)
     → ReadsFor cmd limits index before after fields_text (λ _. 0) (or_stop loaded)
 ReadsFor-fields cmd limits index before after of found pick loaded here is right loads held based =
-    ReadsFor-found cmd limits index before after of found (is (sections_in index) ∙ ap one_of (sym here)) fields_text loaded loads held based
+    ReadsFor-found cmd limits index before after of found (is (sections_in index) ∙ ap option_to_list (sym here)) fields_text loaded loads held based
     (λ body bytes all base items. (
       ap (λ b. fields_report b body.bytes.items) base ∙ ap (fields_report (base_of found)) items
           ∙ ap (fields_of bytes) (here ∙ ap pick (sections-index bytes index all.of)) ∙ (right bytes).0,

@@ -15,17 +15,17 @@ use Rattle.dump_sections.specs.Index.{index_of, state_of}
 use Rattle.dump_sections.specs.Lookups.{has_tag, is_named}
 use Rattle.dump_sections.specs.Sections.{Section, section, sections, id_of, tag_of}
 use Rattle.dump_sections.specs.declared.index.State.{State}
-use Rattle.dump_sections.specs.Bodies.{body_of, body_in}
+use Rattle.dump_sections.specs.Bodies.{body_of, body_in, at_place}
 use Rattle.process_table.specs.Processes.{Process, ProcessTable, process_in, process_table}
 use Rattle.process_table.specs.Records.{Placed, first_of_each, is_process, placed, process_sections, records, repeated}
-use Rattle.audit_bodies.specs.Mailboxes.{mail_in, mailbox_place, mailbox_places, mails, pids_in, section_in}
+use Rattle.audit_bodies.specs.Mailboxes.{mail_in, mailbox_place, mailbox_places, mails, pids_in}
 use Rattle.root_views.specs.Roots.{message_count}
 use Rattle.dump_audit.specs.Findings.{audit_of, findings, is_cut}
 use Rattle.dump_audit.specs.Laws.{all-numbered}
 use Rattle.binary_payloads.specs.declared.enc.Enc.{Enc}
 use Rattle.dump_redact.specs.Bodies.{redacted_body, heap_line}
 use Rattle.dump_redact.specs.Laws.{IsRedacted, KeepsIndex, KeepsOthers, KeepsSections, KeepsState, RedactsSections, KeepsLength, RedactsLines}
-use Rattle.heap_cells.specs.Loading.{enc_of}
+use Rattle.heap_cells.specs.Loading.{enc_of, heap_section, literals_section}
 use Rattle.dump_redact.specs.Redacted.{part_of, redacted, version_of, bin_chars, without}
 use Rattle.term_forms.specs.Forms.{HeapForm, HeapBin, Cons, Tuple, RefBin, SubBin, Flat, Node}
 use Rattle.term_forms.specs.ReadingForms.{form_of}
@@ -44,7 +44,7 @@ use Rattle.root_views.specs.declared.kinds.RootKind.{RootKind}
 use Rattle.root_views.specs.declared.kinds.RootKind.TheVariants.{Stack}
 use Rattle.root_views.specs.Kinds.{roots_in, roots_tag}
 use Rattle.dump_command.specs.Laws.{KeepsFindings, KeepsProcesses, KeepsAddresses, KeepsHeaps, blank_cell, blank_form, blank_heap, KeepsLeaves, KeepsRoots, KeepsTrees, KeepsVerdicts, blank_tree, blank_trees, blank_value, is_binary}
-use Rattle.dump_command.specs.Terms.{heap_body, heap_map, heap_of, heap_with, literals_body, literals_of, payloads_of, previews_in, roots_section}
+use Rattle.dump_command.specs.Terms.{heap_body, heap_map, heap_with, literals_body, payloads_of, previews_in, roots_section}
 
 -- ---- lists
 
@@ -96,11 +96,11 @@ module _ (enc : Enc) (before after : List ℕ) (others : KeepsOthers) where
 
     -- ---- the messages
 
-    mailbox-body : (pid : List ℕ) (place : ℕ) → mailbox_place ss pid ≡ Some place → body_of after (section_in ss place) ≡ body_of before (section_in ss place)
+    mailbox-body : (pid : List ℕ) (place : ℕ) → mailbox_place ss pid ≡ Some place → body_of after (at_place ss place) ≡ body_of before (at_place ss place)
     mailbox-body pid place is =
         let test : Section → Bool = λ s. is_named (codes "proc_messages") (Some pid) s.text in
         let there = position-Some test ss place (section 0 0 0 []) is in
-        let at : section_in ss place ≡ get_or ss place (section 0 0 0 []) = unwrap_or-slice_get ss place (section 0 0 0 []) in
+        let at : at_place ss place ≡ get_or ss place (section 0 0 0 []) = unwrap_or-slice_get ss place (section 0 0 0 []) in
         ap (body_of after) at
         ∙ same-body (get_or ss place (section 0 0 0 [])) (all place (section 0 0 0 []) there.0) (mail-other pid (get_or ss place (section 0 0 0 [])) there.1)
         ∙ ap (body_of before) (sym at)
@@ -267,12 +267,12 @@ module _ (enc : Enc) where
         tag-heap : (tag text : List ℕ) → part_of tag ≡ part_of (codes "proc_heap") → has_tag tag text ≡ true → part_of (tag_of text) ≡ part_of (codes "proc_heap")
         tag-heap tag text heap has = ap part_of ((bytes_eq-Decides (tag_of text) tag).0 has) ∙ heap
 
-        own-body : (pid : List ℕ) → body_in after (heap_of pid ss) ≡ redacted_heap (body_in before (heap_of pid ss))
+        own-body : (pid : List ℕ) → body_in after (heap_section pid ss) ≡ redacted_heap (body_in before (heap_section pid ss))
         own-body pid =
             heap-body (λ s. is_named (codes "proc_heap") (Some pid) s.text)
             (λ s is. tag-heap (codes "proc_heap") s.text refl (left-holds (has_tag (codes "proc_heap") s.text) (option_eq bytes_eq (id_of s.text) (Some pid)) is))
 
-        shared-body : body_in after (literals_of ss) ≡ redacted_heap (body_in before (literals_of ss))
+        shared-body : body_in after (literals_section ss) ≡ redacted_heap (body_in before (literals_section ss))
         shared-body = heap-body (λ s. has_tag (codes "literals") s.text) (λ s is. tag-heap (codes "literals") s.text refl is)
 
         abbrev with_parts : List Cell → ℕ → ℕ → ℕ → HeapMap
@@ -280,20 +280,20 @@ module _ (enc : Enc) where
             record { cells = cells; own = own; enc = enc; heap_size = heap_size; literals_size = literals_size }
 
         same-heap : (pid : List ℕ)
-            → heap_with enc (body_in after (heap_of pid ss)) (body_in after (literals_of ss))
-            ≡ blank_heap (heap_with enc (body_in before (heap_of pid ss)) (body_in before (literals_of ss)))
+            → heap_with enc (body_in after (heap_section pid ss)) (body_in after (literals_section ss))
+            ≡ blank_heap (heap_with enc (body_in before (heap_section pid ss)) (body_in before (literals_section ss)))
         same-heap pid =
-            let heap = body_in before (heap_of pid ss) in
-            let literals = body_in before (literals_of ss) in
-            let heap_after = body_in after (heap_of pid ss) in
-            let literals_after = body_in after (literals_of ss) in
+            let heap = body_in before (heap_section pid ss) in
+            let literals = body_in before (literals_section ss) in
+            let heap_after = body_in after (heap_section pid ss) in
+            let literals_after = body_in after (literals_section ss) in
             let cells : cells_of enc heap_after literals_after ≡ map (blank_cell enc) (cells_of enc heap literals) =
             ap (λ h. cells_of enc h literals_after) (own-body pid) ∙ ap (cells_of enc (redacted_heap heap)) shared-body ∙ blank-cells heap literals in
             let own : own_count enc heap_after ≡ own_count enc heap = ap (own_count enc) (own-body pid) ∙ blank-own heap in
             ap (λ cs. with_parts cs (own_count enc heap_after) (length heap_after) (length literals_after)) cells
             ∙ ap (λ n. with_parts (map (blank_cell enc) (cells_of enc heap literals)) n (length heap_after) (length literals_after)) own
-            ∙ ap (λ n. with_parts (map (blank_cell enc) (cells_of enc heap literals)) (own_count enc heap) n (length literals_after)) (same-size (heap_of pid ss))
-            ∙ ap (λ n. with_parts (map (blank_cell enc) (cells_of enc heap literals)) (own_count enc heap) (length heap) n) (same-size (literals_of ss))
+            ∙ ap (λ n. with_parts (map (blank_cell enc) (cells_of enc heap literals)) (own_count enc heap) n (length literals_after)) (same-size (heap_section pid ss))
+            ∙ ap (λ n. with_parts (map (blank_cell enc) (cells_of enc heap literals)) (own_count enc heap) (length heap) n) (same-size (literals_section ss))
 
 -- ---- the dump
 
@@ -306,7 +306,7 @@ module _ (sized : KeepsLength) (same : KeepsSections) (index : KeepsIndex) (reda
   keeps-heaps bytes pid =
       let enc = payloads_of bytes in
       ap (λ i. heap_with (enc_of i.version) (heap_body pid (redacted bytes)) (literals_body (redacted bytes))) (index bytes)
-      ∙ ap (λ ss. heap_with enc (body_in (redacted bytes) (heap_of pid ss)) (body_in (redacted bytes) (literals_of ss))) (same bytes)
+      ∙ ap (λ ss. heap_with enc (body_in (redacted bytes) (heap_section pid ss)) (body_in (redacted bytes) (literals_section ss))) (same bytes)
       ∙ same-heap enc (binaries enc) lines bytes (redacted bytes) (sized bytes) (sections bytes)
       (redacts bytes) pid
 

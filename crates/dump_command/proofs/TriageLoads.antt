@@ -1,7 +1,7 @@
 -- What a command has read that tells what stands out in a dump.
 use Rattle.std.proofs.Common.{◌≡◌, ℕ, ◌+◌, List, [], ◌∷◌, ◌++◌, Option, None, Some, Result, Ok, Err, refl, sym, ◌∙◌, ap, subst, inl, inr, arith}
 use Rattle.std.specs.Prelude.{IsErrAnd}
-use Rattle.std.specs.Option.{option_map, option_or}
+use Rattle.std.specs.Option.{option_map, option_or, option_to_list}
 use Rattle.std.proofs.lemmas.List.Sums.{sum_by-append, sum_by-cons}
 use Rattle.dump_io.specs.Dumps.{DeviceState, DeviceFailed, ReadsAtMost}
 use Rattle.dump_io.specs.Laws.Reads.{ReadsAtMost-then, ReadsAtMost-within}
@@ -12,14 +12,14 @@ use Rattle.dump_sections.specs.Laws.{index-is}
 use Rattle.dump_sections.specs.Sections.{Section}
 use Rattle.dump_sections.specs.declared.bodies.BodyFault.{BodyFault}
 use Rattle.dump_sections.specs.declared.bodies.BodyFault.TheVariants as body_faults
-use Rattle.dump_sections.specs.LoadingLaws.{large-append, small-both}
+use Rattle.dump_sections.specs.LoadingLaws.{large-append, small-both, bodies-one}
 use Rattle.dump_sections.specs.Loading.{bodies_length, first_large, large_fault, AreRefused, IsUnread}
 use Rattle.process_table.specs.Records.{record_sections}
 use Rattle.table_sections.specs.declared.kinds.TableKind.TheVariants.{Ets}
 use Rattle.table_sections.specs.Tables.{listed}
 use Rattle.command_words.specs.Command.{triage}
 use Rattle.process_table.specs.Processes.{process_table}
-use Rattle.dump_command.specs.Report.{first_section, memory_section, one_of, refusal_listed, report, told_in, triage_sections}
+use Rattle.dump_command.specs.Report.{first_section, memory_section, refusal_listed, report, told_in, triage_sections}
 use Rattle.dump_command.specs.Triage.{Told, triage_over}
 use Rattle.dump_command.specs.Inner.Reading.{IsIndexed, HasRead, IsHalted, Takes}
 use Rattle.dump_command.specs.Inner.Stops.{stop_of_body}
@@ -27,7 +27,7 @@ use Rattle.dump_command.specs.declared.stop.Stop.TheVariants.{NoMemory}
 use Rattle.dump_command.specs.Inner.Loads.{shown_bodies, triage_text, AreFound, HoldsBodies, ReadsBodies}
 use Rattle.dump_command.specs.declared.commands.triage.Places.{Places}
 use Rattle.dump_command.specs.declared.commands.triage.Loaded.{Loaded}
-use Rattle.dump_command.proofs.Reading.{bytes-one, body_fault, refused, HasRead-listed, StopsFor-large, Takes-listed, Takes-none}
+use Rattle.dump_command.proofs.Reading.{body_fault, refused, HasRead-listed, StopsFor-large, Takes-listed, Takes-none}
 use Rattle.dump_command.proofs.Runs.{sections-index}
 
 -- bodies of which none is too large aren't read where the device fails or memory lacks
@@ -41,30 +41,30 @@ IsUnread-small limit ss before after step step' (body_faults.SectionTooLarge at 
 
 -- the first section and the first one on memory, and these with those of the processes
 abbrev heads : List Section → List Section
-heads ss = first_section ss ∷ one_of (memory_section ss)
+heads ss = first_section ss ∷ option_to_list (memory_section ss)
 
 abbrev fronts : List Section → List Section
 fronts ss = heads ss ++ record_sections ss
 
 -- the first that is too large
 pub large-triage : (limit : ℕ) (index : Contents) (places : Places) → AreFound index places
-    → option_or (option_or (option_or (large_fault limit (one_of (section_in index (Some 0)))) (large_fault limit (one_of (section_in index places.memory))))
+    → option_or (option_or (option_or (large_fault limit (option_to_list (section_in index (Some 0)))) (large_fault limit (option_to_list (section_in index places.memory))))
     (large_fault limit (record_sections (sections_in index)))) (large_fault limit (listed places.tables.kind (sections_in index)))
     ≡ large_fault limit (triage_sections (sections_in index))
 large-triage limit index places found =
     let ss = sections_in index in
     let first = large_fault limit (first_section ss ∷ []) in
     let procs = large_fault limit (record_sections ss) in
-    ap (λ s. option_or (option_or (option_or first (large_fault limit (one_of s))) procs) (large_fault limit (listed places.tables.kind ss))) found.memory
-    ∙ ap (λ k. option_or (option_or (option_or first (large_fault limit (one_of (memory_section ss)))) procs) (large_fault limit (listed k ss))) found.kind
-    ∙ ap (λ o. option_or (option_or o procs) (large_fault limit (listed Ets ss))) (sym (large-append limit (first_section ss ∷ []) (one_of (memory_section ss))))
+    ap (λ s. option_or (option_or (option_or first (large_fault limit (option_to_list s))) procs) (large_fault limit (listed places.tables.kind ss))) found.memory
+    ∙ ap (λ k. option_or (option_or (option_or first (large_fault limit (option_to_list (memory_section ss)))) procs) (large_fault limit (listed k ss))) found.kind
+    ∙ ap (λ o. option_or (option_or o procs) (large_fault limit (listed Ets ss))) (sym (large-append limit (first_section ss ∷ []) (option_to_list (memory_section ss))))
     ∙ ap (λ o. option_or o (large_fault limit (listed Ets ss))) (sym (large-append limit (heads ss) (record_sections ss)))
     ∙ sym (large-append limit (fronts ss) (listed Ets ss))
 
 -- none of them is too large
 pub record AreSmall (limit : ℕ) (index : Contents) (places : Places) : Type 0 where
-  pub first : large_fault limit (one_of (section_in index (Some 0))) ≡ None
-  pub memory : large_fault limit (one_of (section_in index places.memory)) ≡ None
+  pub first : large_fault limit (option_to_list (section_in index (Some 0))) ≡ None
+  pub memory : large_fault limit (option_to_list (section_in index places.memory)) ≡ None
   pub procs : large_fault limit (record_sections (sections_in index)) ≡ None
   pub tables : large_fault limit (listed places.tables.kind (sections_in index)) ≡ None
 
@@ -74,10 +74,10 @@ AreSmall-all limit index places found none =
     let ss = sections_in index in
     let last = small-both limit (fronts ss) (listed Ets ss) none in
     let third = small-both limit (heads ss) (record_sections ss) last.0 in
-    let second = small-both limit (first_section ss ∷ []) (one_of (memory_section ss)) third.0 in
+    let second = small-both limit (first_section ss ∷ []) (option_to_list (memory_section ss)) third.0 in
     record {
       first = second.0;
-      memory = ap (λ s. large_fault limit (one_of s)) found.memory ∙ second.1;
+      memory = ap (λ s. large_fault limit (option_to_list s)) found.memory ∙ second.1;
       procs = third.1;
       tables = ap (λ k. large_fault limit (listed k ss)) found.kind ∙ last.1;
     }
@@ -92,9 +92,9 @@ triage-length index places found =
       arith,
       sum_by-append body_length (fronts ss) (listed Ets ss),
       sum_by-append body_length (heads ss) (record_sections ss),
-      sum_by-cons body_length (first_section ss) (one_of (memory_section ss)),
-      bytes-one (section_in index places.memory),
-      ap (λ s. bodies_length (one_of s)) found.memory,
+      sum_by-cons body_length (first_section ss) (option_to_list (memory_section ss)),
+      bodies-one (section_in index places.memory),
+      ap (λ s. bodies_length (option_to_list s)) found.memory,
       ap (λ k. bodies_length (listed k ss)) found.kind,
     )
 

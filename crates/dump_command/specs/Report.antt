@@ -37,52 +37,44 @@ use Rattle.dump_command.specs.Audits.{audit_in, status_of}
 use Rattle.command_words.specs.Command.{Command, index, info, procs, proc, memory, table, roots, term, ext, reach, cells, binary, binaries, holders, triage, links, redact, audit, audit_json, make, trial, file_of}
 use Rattle.dump_command.specs.Holders.{binaries_listing, fronts_bytes, heaps_bytes, holders_listing}
 use Rattle.dump_command.specs.Triage.{Told, triage_over}
-use Rattle.dump_command.specs.Terms.{base_of, binary_at, binary_cause, bad_binary, binary_count, binary_of, ext_of, heap_map, heap_of, literals_of, no_address, no_external, reach_of, roots_of, roots_section, term_of, too_dense}
+use Rattle.dump_command.specs.Terms.{base_of, binary_at, binary_cause, bad_binary, binary_count, binary_of, ext_of, heap_map, no_address, no_external, reach_of, roots_of, roots_section, term_of, too_dense}
+use Rattle.heap_cells.specs.Loading.{heap_section, literals_section}
 
 -- the first of these sections
 abbrev pub first_section : List Section → Section
-first_section sections = unwrap_or (slice_get sections 0) (section 0 0 0 [])
+first_section sections = at_place sections 0
 
 -- the first section of the process with this pid, if there is one
 abbrev pub process_section : List ℕ → List Section → Option Section
-process_section pid sections = find (λ s. is_named (codes "proc") (Some pid) s.text) sections
+process_section pid sections = first_named (codes "proc") pid sections
 
 -- the first section on memory, if there is one
 abbrev pub memory_section : List Section → Option Section
-memory_section sections = find (λ s. has_tag (codes "memory") s.text) sections
-
--- a section, if there is one
-abbrev pub one_of : Option Section → List Section
-one_of None = []
-one_of (Some s) = s ∷ []
-
--- the heap of a process, and the literals
-abbrev pub heap_bodies : List ℕ → List Section → List Section
-heap_bodies pid sections = one_of (heap_of pid sections) ++ one_of (literals_of sections)
+memory_section sections = first_tagged (codes "memory") sections
 
 -- the stack, the dictionary and the mailbox of a process
 abbrev pub root_bodies : List ℕ → List Section → List Section
-root_bodies pid sections = (one_of (roots_section Stack pid sections) ++ one_of (roots_section Dict pid sections)) ++ one_of (roots_section Mail pid sections)
+root_bodies pid sections = (option_to_list (roots_section Stack pid sections) ++ option_to_list (roots_section Dict pid sections)) ++ option_to_list (roots_section Mail pid sections)
 
 -- the first section, the first one on memory, those of the processes and those of the ETS tables
 abbrev pub triage_sections : List Section → List Section
 triage_sections sections =
-    ((first_section sections ∷ one_of (memory_section sections)) ++ record_sections sections) ++ listed Ets sections
+    ((first_section sections ∷ option_to_list (memory_section sections)) ++ record_sections sections) ++ listed Ets sections
 
 -- the bodies that a command loads, in the order in which they are judged and read
 abbrev pub bodies : Command → List Section → List Section
 bodies (index file) sections = []
 bodies (info file) sections = first_section sections ∷ []
 bodies (procs file) sections = record_sections sections
-bodies (proc file pid) sections = one_of (process_section pid sections)
-bodies (memory file) sections = one_of (memory_section sections)
+bodies (proc file pid) sections = option_to_list (process_section pid sections)
+bodies (memory file) sections = option_to_list (memory_section sections)
 bodies (table kind file) sections = listed kind sections
-bodies (roots kind file pid nodes marked) sections = one_of (roots_section kind pid sections) ++ heap_bodies pid sections
+bodies (roots kind file pid nodes marked) sections = option_to_list (roots_section kind pid sections) ++ heap_bodies pid sections
 bodies (term file pid addr nodes marked) sections = heap_bodies pid sections
 bodies (ext file pid addr) sections = heap_bodies pid sections
 bodies (reach file pid) sections = root_bodies pid sections ++ heap_bodies pid sections
 bodies (cells file pid) sections = heap_bodies pid sections
-bodies (binary file addr) sections = one_of (binary_at addr sections)
+bodies (binary file addr) sections = option_to_list (binary_at addr sections)
 bodies (binaries file) sections = record_sections sections
 bodies (holders file addr) sections = record_sections sections
 bodies (triage file most) sections = triage_sections sections
@@ -92,14 +84,6 @@ bodies (audit file limit full) sections = audited_sections full sections
 bodies (audit_json file limit full) sections = audited_sections full sections
 bodies (make seed count) sections = []
 bodies (trial seed count) sections = []
-
--- the bytes of a section's body
-abbrev pub body_of : List ℕ → Section → List ℕ
-body_of bytes section = between section.body section.end bytes
-
--- the tags of these sections
-abbrev pub tags_of : List Section → List (List ℕ)
-tags_of sections = map (λ s. tag_of s.text) sections
 
 -- the fields of a section, and no rows if there is none
 abbrev pub fields_of : List ℕ → Option Section → List ℕ
@@ -118,7 +102,7 @@ told_in bytes sections = record {
 abbrev pub report : Command → List ℕ → List ℕ
 report (index file) bytes = index_report (headers bytes) (length bytes)
 report (info file) bytes =
-    info_report (first_id bytes) (headers bytes) (length bytes) (tag_counts (tags_of (sections bytes)))
+    info_report (first_id bytes) (headers bytes) (length bytes) (tag_counts (tags_in (index_of bytes)))
     (body_of bytes (first_section (sections bytes)))
 report (procs file) bytes = procs_report (process_table bytes)
 report (proc file pid) bytes = fields_of bytes (process_section pid (sections bytes))

@@ -26,21 +26,9 @@ use Rattle.term_text.specs.Reach.{reach_report, terms_of}
 use Rattle.root_views.specs.Kinds.{roots_in, roots_tag}
 use Rattle.term_text.specs.Roots.{answer_over, binary_report, ext_report, roots_report, term_report}
 
--- the first section with this tag of the process with this pid
-abbrev pub named_section : List ℕ → List ℕ → List Section → Option Section
-named_section tag pid sections = find (λ s. is_named tag (Some pid) s.text) sections
-
 -- the section with the roots of a process: its stack, its dictionary or its mailbox
 abbrev pub roots_section : RootKind → List ℕ → List Section → Option Section
-roots_section kind pid sections = named_section (roots_tag kind) pid sections
-
--- the section with the heap of the process with this pid
-abbrev pub heap_of : List ℕ → List Section → Option Section
-heap_of pid sections = named_section (codes "proc_heap") pid sections
-
--- the section with the literals, to which every heap may refer
-abbrev pub literals_of : List Section → Option Section
-literals_of sections = find (λ s. has_tag (codes "literals") s.text) sections
+roots_section kind pid sections = first_named (roots_tag kind) pid sections
 
 -- how the payloads of a dump are written
 abbrev pub payloads_of : List ℕ → Enc
@@ -48,11 +36,11 @@ payloads_of bytes = enc_of (index_of bytes).version
 
 -- the body of the heap of the process with this pid
 abbrev pub heap_body : List ℕ → List ℕ → List ℕ
-heap_body pid bytes = body_in bytes (heap_of pid (sections bytes))
+heap_body pid bytes = body_in bytes (heap_section pid (sections bytes))
 
 -- the body of the literals
 abbrev pub literals_body : List ℕ → List ℕ
-literals_body bytes = body_in bytes (literals_of (sections bytes))
+literals_body bytes = body_in bytes (literals_section (sections bytes))
 
 -- the heap with these bodies
 abbrev pub heap_with : Enc → List ℕ → List ℕ → HeapMap
@@ -83,8 +71,7 @@ answer_in pid nodes marked bytes e = answer_over (walk_of pid bytes) nodes marke
 
 -- where a body begins in the file
 abbrev pub base_of : Option Section → ℕ
-base_of None = 0
-base_of (Some s) = s.body
+base_of found = option_map_or (λ s. s.body) found 0
 
 -- the roots of a body, over a heap and its previews
 abbrev pub roots_over : (Element → List ℕ) → RootKind → List ℕ → Option Section → List ℕ
@@ -159,7 +146,7 @@ binary_count pid bytes = length (binaries (heap_map pid bytes).cells)
 
 -- the first `binary` section whose id is the address in hex
 abbrev pub binary_at : ℕ → List Section → Option Section
-binary_at addr sections = find (λ s. has_hex (codes "binary") addr s.text) sections
+binary_at addr sections = first_hex (codes "binary") addr sections
 
 -- the report of the binary at an address, with the bytes that its section writes
 abbrev pub binary_of : ℕ → List ℕ → List ℕ

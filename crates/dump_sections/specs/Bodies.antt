@@ -7,8 +7,12 @@ use Rattle.dump_sections.specs.Index.{Contents, sections_in}
 use Rattle.dump_sections.specs.Sections.{Section, section}
 
 -- the section at a place; past the last one, an empty section
+abbrev pub at_place : List Section → ℕ → Section
+at_place sections i = unwrap_or (slice_get sections i) (section 0 0 0 [])
+
+-- the same in an index
 abbrev pub section_at : Contents → ℕ → Section
-section_at index i = unwrap_or (slice_get (sections_in index) i) (section 0 0 0 [])
+section_at index i = at_place (sections_in index) i
 
 -- the section at a place, if there is one
 abbrev pub section_in : Contents → Option ℕ → Option Section

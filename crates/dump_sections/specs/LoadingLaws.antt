@@ -33,3 +33,8 @@ bodies-two None None = refl
 bodies-two None (Some other) = omega arith
 bodies-two (Some one) None = omega arith
 bodies-two (Some one) (Some other) = omega arith
+
+-- how many bytes a body has that may be missing
+pub bodies-one : (found : Option Section) → body_size found ≡ bodies_length (option_to_list found)
+bodies-one None = refl
+bodies-one (Some section) = omega arith

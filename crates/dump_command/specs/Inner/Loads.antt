@@ -1,6 +1,6 @@
 -- From what the reports are written, and what is known of it.
 use Rattle.std.specs.Prelude.{ℕ, ◌+◌, ◌^◌, ◌<◌, List, length, All, Bool, ◌≡◌, ◌++◌, Option, IfSome, IsSome, Some, Result, IfErr, IfOk}
-use Rattle.std.specs.Option.{option_map}
+use Rattle.std.specs.Option.{option_map, option_to_list}
 use Rattle.report_text.specs.Tables.{fields_report}
 use Rattle.dump_sections.specs.Index.{Contents, sections_in}
 use Rattle.dump_sections.specs.Tags.{tag_counts, tags_in}
@@ -32,7 +32,7 @@ use Rattle.table_sections.specs.Tables.{table_of, AreListed, IsOver}
 use Rattle.dump_command.specs.declared.commands.subjects.Body.{Body}
 use Rattle.dump_command.specs.declared.commands.roots.Loaded.{Loaded as RootsLoaded}
 use Rattle.dump_command.specs.Audits.{status_of}
-use Rattle.dump_command.specs.Report.{one_of, memory_section, triage_sections}
+use Rattle.dump_command.specs.Report.{memory_section, triage_sections}
 use Rattle.dump_command.specs.Terms.{roots_section}
 use Rattle.dump_command.specs.declared.commands.reach.RootPlaces.{RootPlaces}
 use Rattle.dump_command.specs.declared.commands.reach.RootBodies.{RootBodies}
@@ -92,7 +92,7 @@ audit_status limit index loaded = status_of (findings (loaded_audit limit index 
 
 -- the sections at the places
 abbrev pub roots_at : Contents → RootPlaces → List Section
-roots_at index places = (one_of (section_in index places.stack) ++ one_of (section_in index places.dict)) ++ one_of (section_in index places.mail)
+roots_at index places = (option_to_list (section_in index places.stack) ++ option_to_list (section_in index places.dict)) ++ option_to_list (section_in index places.mail)
 
 -- they are those with the roots of the process
 pub record ArePlaces (pid : List ℕ) (index : Contents) (places : RootPlaces) : Type 0 where

@@ -17,7 +17,8 @@ use Rattle.dump_sections.specs.Sections.{Section}
 use Rattle.heap_cells.specs.HeapMap.{HeapMap}
 use Rattle.dump_command.specs.declared.stop.Stop.{Stop}
 use Rattle.dump_command.specs.declared.stop.Stop.TheVariants.{Refused, NotRead, NotWritten, NoMemory}
-use Rattle.dump_command.specs.Report.{report, report_status, refusal_held, refusal_listed, reread, heap_bodies, no_process, too_large}
+use Rattle.dump_command.specs.Report.{report, report_status, refusal_held, refusal_listed, reread, no_process, too_large}
+use Rattle.heap_cells.specs.Loading.{heap_bodies}
 use Rattle.dump_command.specs.Inner.Runs.{IsEnding}
 use Rattle.dump_command.specs.Terms.{heap_map, too_dense}
 

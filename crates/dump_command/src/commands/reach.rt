@@ -9,13 +9,13 @@ ghost use Rattle.command_words.specs.Command.{reach};
 ghost use Rattle.dump_command.specs.Terms.{roots_section};
 ghost use Rattle.dump_command.specs.Inner.Loads.{reach_text, roots_at, terms_loaded, ArePlaces, AreWithin, HoldsRoots, IsUnread};
 
-use crate::commands::subjects::{Body, large_body, load_behind, read_found};
+use crate::commands::subjects::{Body, load_behind, read_found};
 use crate::open::Opened;
 use crate::report::Report;
 use crate::status::DONE;
 use crate::stop::Stop;
 use dump_io::{Dumps, Sink};
-use dump_sections::BodyFault;
+use dump_sections::{BodyFault, large_body};
 use heap_cells::Heap;
 use root_views::RootKind;
 use term_text::{add_roots, put_reach};
@@ -72,9 +72,9 @@ fn large_roots(at: &Opened<'_>, places: RootPlaces) -> Option<BodyFault>
     requires { AreWithin at.now.index.now places }
     ensures { result ≡ large_fault at.now.limits.now.section (roots_at at.now.index.now places) }
 {
-    let first = large_body(at, places.stack);
-    let second = large_body(at, places.dict);
-    let third = large_body(at, places.mail);
+    let first = large_body(at.index, places.stack, at.limits);
+    let second = large_body(at.index, places.dict, at.limits);
+    let third = large_body(at.index, places.mail, at.limits);
     first.or(second).or(third)
 }
 

@@ -8,7 +8,8 @@ ghost use Rattle.dump_sections.specs.Bodies.{section_at, body_size, section_in, 
 ghost use Rattle.dump_sections.specs.Index.{IsBuiltOver, sections_in};
 ghost use Rattle.dump_sections.specs.Sections.{Section};
 ghost use Rattle.dump_sections.specs.Loading.{first_large, large_fault, AreRefused};
-ghost use Rattle.dump_command.specs.Report.{no_process, one_of, process_section};
+ghost use Rattle.dump_command.specs.Report.{no_process, process_section};
+ghost use Rattle.std.specs.Option.{option_to_list};
 ghost use Rattle.dump_command.specs.Terms.{address_cause, base_of, binary_at, binary_cause};
 ghost use Rattle.dump_command.specs.Inner.Reading.{heap_listed, HoldsHeap, IsHeapless};
 ghost use Rattle.dump_command.specs.Inner.Loads.{HasPlaces};
@@ -17,7 +18,7 @@ ghost use Rattle.dump_command.specs.Inner.Stops.{Judges};
 use crate::open::Opened;
 use crate::stop::Stop;
 use dump_io::{Dumps, Text};
-use dump_sections::{BodyFault, read_body, large};
+use dump_sections::{BodyFault, large_body, read_body};
 use heap_cells::{Heap, Seat};
 use report_text::Refusal;
 
@@ -44,14 +45,6 @@ pub(crate) fn find_binary(at: &Opened<'_>, addr: u64) -> Result<(), Stop>
     }
 }
 
-/// The refusal of a section whose body has more bytes than the limit. A missing section counts as empty.
-pub(crate) fn large_body(at: &Opened<'_>, place: Option<usize>) -> Option<BodyFault>
-    requires { IfSome place (λ i. i < length at.now.index.now.headers) }
-    ensures { result ≡ large_fault at.now.limits.now.section (one_of (section_in at.now.index.now place)) }
-{
-    large(at.index, &[place?], at.limits)
-}
-
 /// The body of a section, and its offset in the file.
 #[derive(Drop)]
 pub(crate) struct Body {
@@ -68,12 +61,12 @@ pub(crate) fn read_found<D: Dumps>(
     requires over { IsBuiltOver (D.state dumps.old).now at.now.index.now }
     requires place { IfSome place (λ i. i < length at.now.index.now.headers) }
     ensures reads { ReadsAtMost (D.state dumps.old) (D.state dumps.new) (body_size (section_in at.now.index.now place)) }
-    ensures unread { IsSome (first_large at.now.limits.now.section (one_of (section_in at.now.index.now place))) → dumps.new ≡ dumps.old }
+    ensures unread { IsSome (first_large at.now.limits.now.section (option_to_list (section_in at.now.index.now place))) → dumps.new ≡ dumps.old }
     ensures body { IfOk result (λ body. IsBodyIn (D.state dumps.old).now (section_in at.now.index.now place) body.bytes.items) }
     ensures base { IfOk result (λ body. body.base ≡ base_of (section_in at.now.index.now place)) }
     ensures places { IfOk result HasPlaces }
-    ensures loaded { OnOk result (first_large at.now.limits.now.section (one_of (section_in at.now.index.now place)) ≡ None) }
-    ensures fault { IfErr result (AreRefused (one_of (section_in at.now.index.now place)) at.now.limits.now.section (D.state dumps.old) (D.state dumps.new)) }
+    ensures loaded { OnOk result (first_large at.now.limits.now.section (option_to_list (section_in at.now.index.now place)) ≡ None) }
+    ensures fault { IfErr result (AreRefused (option_to_list (section_in at.now.index.now place)) at.now.limits.now.section (D.state dumps.old) (D.state dumps.new)) }
 {
     let Some(i) = place else {
         return Ok(Body {
@@ -97,12 +90,12 @@ pub(crate) fn load_heap<D: Dumps>(
     requires over { IsBuiltOver (D.state dumps.old).now at.now.index.now }
     requires place { IfSome place (λ i. i < length at.now.index.now.headers) }
     ensures reads { ReadsAtMost (D.state dumps.old) (D.state dumps.new)
-        (body_size (heap_section at.now.index.now pid.now) + body_size (literals_section at.now.index.now)) }
-    ensures unread { IsSome (heap_listed pid.now (one_of (section_in at.now.index.now place)) at.now.limits.now (sections_in at.now.index.now)) → dumps.new ≡ dumps.old }
-    ensures heap { MatchResult result (HoldsHeap pid.now (one_of (section_in at.now.index.now place)) at.now.limits.now at.now.index.now (D.state dumps.old).now)
-        (IsHeapless pid.now (one_of (section_in at.now.index.now place)) at.now.limits.now at.now.index.now (D.state dumps.old) (D.state dumps.new)) }
+        (bodies_length (heap_bodies pid.now (sections_in at.now.index.now))) }
+    ensures unread { IsSome (heap_listed pid.now (option_to_list (section_in at.now.index.now place)) at.now.limits.now (sections_in at.now.index.now)) → dumps.new ≡ dumps.old }
+    ensures heap { MatchResult result (HoldsHeap pid.now (option_to_list (section_in at.now.index.now place)) at.now.limits.now at.now.index.now (D.state dumps.old).now)
+        (IsHeapless pid.now (option_to_list (section_in at.now.index.now place)) at.now.limits.now at.now.index.now (D.state dumps.old) (D.state dumps.new)) }
 {
-    load_behind(at, dumps, pid, large_body(at, place))
+    load_behind(at, dumps, pid, large_body(at.index, place, at.limits))
 }
 
 /// The same for a command that loads several bodies before the
@@ -115,7 +108,7 @@ pub(crate) fn load_behind<D: Dumps>(
 ) -> Result<Heap, Stop>
     requires { IsBuiltOver (D.state dumps.old).now at.now.index.now }
     ensures reads { ReadsAtMost (D.state dumps.old) (D.state dumps.new)
-        (body_size (heap_section at.now.index.now pid.now) + body_size (literals_section at.now.index.now)) }
+        (bodies_length (heap_bodies pid.now (sections_in at.now.index.now))) }
     ensures unread { (before : List Section) → large ≡ large_fault at.now.limits.now.section before
         → IsSome (heap_listed pid.now before at.now.limits.now (sections_in at.now.index.now)) → dumps.new ≡ dumps.old }
     ensures heap { (before : List Section) → large ≡ large_fault at.now.limits.now.section before

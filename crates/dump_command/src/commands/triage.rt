@@ -6,13 +6,13 @@ ghost use Rattle.command_words.specs.Command.{triage};
 ghost use Rattle.dump_command.specs.Report.{triage_sections};
 ghost use Rattle.dump_command.specs.Inner.Loads.{triage_text, AreFound, Fits, ReadsBodies};
 
-use crate::commands::subjects::{Body, large_body, read_found};
+use crate::commands::subjects::{Body, read_found};
 use crate::open::Opened;
 use crate::report::Report;
 use crate::status::DONE;
 use crate::stop::Stop;
 use dump_io::{Dumps, Sink};
-use dump_sections::BodyFault;
+use dump_sections::{BodyFault, large_body};
 use dump_triage::Triage as Found;
 use glance_text::put_triage;
 use process_table::{ProcSections, Procs};
@@ -61,8 +61,8 @@ fn large_section(at: &Opened<'_>, places: &Places) -> Option<BodyFault>
     requires places { AreFound at.now.index.now places.now }
     ensures { result ≡ large_fault at.now.limits.now.section (triage_sections (sections_in at.now.index.now)) }
 {
-    let first = large_body(at, Some(0));
-    let memory = large_body(at, places.memory);
+    let first = large_body(at.index, Some(0), at.limits);
+    let memory = large_body(at.index, places.memory, at.limits);
     let procs = places.procs.large(at.index, at.limits);
     let tables = places.tables.large(at.index, at.limits);
     first.or(memory).or(procs).or(tables)

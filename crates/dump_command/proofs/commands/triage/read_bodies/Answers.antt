@@ -3,7 +3,8 @@ use Rattle.dump_sections.specs.Index.{sections_in}
 use Rattle.process_table.specs.Records.{record_sections}
 use Rattle.dump_sections.specs.Bodies.{section_in, IsBodyIn}
 use Rattle.table_sections.specs.Tables.{listed, table_of, IsOver}
-use Rattle.dump_command.specs.Report.{memory_section, one_of}
+use Rattle.dump_command.specs.Report.{memory_section}
+use Rattle.std.specs.Option.{option_to_list}
 use Rattle.dump_command.proofs.Reading.{failed-later, over-still}
 use Rattle.dump_command.proofs.TriageLoads.{reads-first, reads-memory, reads-procs, reads-tables, not-read, AreSmall-all, IsUnread-small}
 use Rattle.dump_command.proofs.commands.triage.read_bodies.Goals as goal
@@ -29,7 +30,7 @@ returns-in_err-first g c =
     let old = d.state c.args.dumps.now in
     let new = d.state c.read_found.new.dumps in
     not-read _ _ c.from_residual.ensures.1 (reads-first c.requires.places c.in_err-first.ensures.reads)
-    (IsUnread-small limit (one_of (section_in index (Some 0))) old new old new _ (AreSmall-all limit index c.args.places c.requires.places c.requires.small).first (λ rose. rose) c.in_err-first.ensures.fault)
+    (IsUnread-small limit (option_to_list (section_in index (Some 0))) old new old new _ (AreSmall-all limit index c.args.places c.requires.places c.requires.small).first (λ rose. rose) c.in_err-first.ensures.fault)
 
 pub returns-in_err-memory : goal.returns-in_err-memory
 returns-in_err-memory g c =
@@ -39,7 +40,7 @@ returns-in_err-memory g c =
     let old = d.state c.args.dumps.now in
     let new = d.state c.read_found-2.new.dumps in
     not-read _ _ c.from_residual-in_err-memory.ensures.1 (reads-memory c.requires.places c.in_ok-first.ensures.reads c.in_err-memory.ensures.reads)
-    (IsUnread-small limit (one_of (section_in index c.args.places.memory)) old new (d.state c.read_found.new.dumps) new _ (AreSmall-all limit index c.args.places c.requires.places c.requires.small).memory (failed-later new c.in_ok-first.ensures.reads) c.in_err-memory.ensures.fault)
+    (IsUnread-small limit (option_to_list (section_in index c.args.places.memory)) old new (d.state c.read_found.new.dumps) new _ (AreSmall-all limit index c.args.places c.requires.places c.requires.small).memory (failed-later new c.in_ok-first.ensures.reads) c.in_err-memory.ensures.fault)
 
 pub returns-in_err-procs : goal.returns-in_err-procs
 returns-in_err-procs g c =

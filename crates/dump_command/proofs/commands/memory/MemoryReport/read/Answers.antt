@@ -1,9 +1,7 @@
-use Rattle.std.proofs.Common.{codes, refl, sym}
-use Rattle.dump_sections.specs.Lookups.{has_tag}
+use Rattle.std.proofs.Common.{refl}
 use Rattle.command_words.specs.Command.{memory}
 use Rattle.dump_command.specs.Report.{memory_section}
 use Rattle.dump_command.proofs.Reading.{Loads-found, ReadsFor-fields}
-use Rattle.dump_command.proofs.Places.{section-found}
 use Rattle.dump_command.proofs.commands.memory.MemoryReport.read.Goals as goal
 
 pub returns-clause-reads : goal.returns-clause-reads
@@ -12,5 +10,5 @@ returns-clause-reads g c =
     let index = c.args.at.now.index.now in
     let read = c.read_found.ensures in
     rw c.or_stop.ensures (ReadsFor-fields (memory c.args.self.now.file.now) _ index _ _ (record { there = refl; held = λ _. refl; taken = λ _. refl }) _ memory_section _
-    (section-found (λ s. has_tag (codes "memory") s.text) index _ (sym c.first_tag-place.ensures.place)) (λ _. refl) (λ _. (refl, refl))
+    c.first_tag-place.ensures.section (λ _. refl) (λ _. (refl, refl))
     (Loads-found d.state _ _ _ _ _ read.reads read.unread read.loaded read.fault) read.body read.base)
