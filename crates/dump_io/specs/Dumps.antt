@@ -20,8 +20,7 @@ opened bytes = option_map_or told bytes closed
 -- a file is open
 abbrev pub IsOpen : Now → Type 0
 IsOpen closed = ⊥
-IsOpen (told bytes) = Unit {0}
-IsOpen (sized size) = Unit {0}
+IsOpen now = Unit {0}
 
 -- the size of what is open, in bytes
 abbrev pub size_of : Now → ℕ
