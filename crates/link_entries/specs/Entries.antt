@@ -57,10 +57,6 @@ entry_of part = record { at = part.at; text = part.text; kind = kind_of part.tex
 abbrev pub entries_at : ℕ → List ℕ → Option (List LinkEntry)
 entries_at at text = option_map (map entry_of) (list_parts at text)
 
--- the same, with offsets within the text
-abbrev pub entries_of : List ℕ → Option (List LinkEntry)
-entries_of text = entries_at 0 text
-
 -- the text is `[`, any bytes and `]`
 abbrev pub IsList : List ℕ → Type 0
 IsList text = (inner : List ℕ) × (text ≡ codes "[" ++ (inner ++ codes "]"))
