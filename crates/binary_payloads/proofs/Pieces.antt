@@ -6,7 +6,7 @@ use Rattle.binary_payloads.specs.declared.enc.Enc.TheVariants.{Hex, Base64}
 use Rattle.binary_payloads.specs.Payload.{IsPayload, IsPayloadOf, chars_of, group_of}
 use Rattle.binary_payloads.proofs.Encodings.{length-payload, payload-take, payload-drop, payload-append}
 
-chars_of-grows : (enc : Enc) (m n : ℕ) → m ≤ n → chars_of enc m ≤ chars_of enc n
+pub chars_of-grows : (enc : Enc) (m n : ℕ) → m ≤ n → chars_of enc m ≤ chars_of enc n
 chars_of-grows Hex m n h = omega arith
 chars_of-grows Base64 m n h = omega arith
 

@@ -1,18 +1,18 @@
 -- The characters of a cover, in a payload, and the range of its bytes that is read from them.
-use Rattle.std.proofs.Common.{◌≡◌, ℕ, ◌+◌, ◌-◌, ◌*◌, ◌/◌, ◌≤◌, List, length, take, drop, Some, refl, sym, ap, ◌∙◌, subst, inl, inr, arith}
+use Rattle.std.proofs.Common.{◌≡◌, ℕ, ◌+◌, ◌-◌, ◌*◌, ◌/◌, ◌%◌, ◌<◌, ◌≤◌, min, List, length, take, drop, Some, refl, sym, ap, ◌∙◌, subst, inl, inr, arith}
 use Rattle.std.specs.Int.{div_ceil}
 use Rattle.std.specs.Option.{option_map}
-use Rattle.std.proofs.lemmas.List.{take-take, drop-drop, drop-take, take_all, length-take, length-take-le, length-drop}
+use Rattle.std.proofs.lemmas.List.{take-take, drop-drop, drop-take, take_all, length-take-le, length-drop}
 use Rattle.std.proofs.lemmas.Bool.{cases_lt, cases_eq, ne_eqb}
 use Rattle.binary_payloads.specs.declared.covers.Cover.{Cover}
 use Rattle.binary_payloads.specs.declared.enc.Enc.{Enc}
 use Rattle.binary_payloads.specs.declared.enc.Enc.TheVariants.{Hex, Base64}
-use Rattle.binary_payloads.specs.Payload.{IsPayload, IsPayloadOf, chars_of}
-use Rattle.binary_payloads.specs.Cover.{IsCovered, cover_of, range_cover, hex_cover, base64_cover}
+use Rattle.binary_payloads.specs.Payload.{IsPayload, IsPayloadOf, chars_of, group_of}
+use Rattle.binary_payloads.specs.Cover.{IsCovered, cover_of}
 use Rattle.binary_payloads.specs.ReadingPayloads.{payload_bytes}
 use Rattle.binary_payloads.proofs.Encodings.{length-payload, payload-take, payload-drop, payload-unique}
 use Rattle.binary_payloads.proofs.PayloadBytes.{payload-read}
-use Rattle.binary_payloads.proofs.Pieces.{payload_of-length}
+use Rattle.binary_payloads.proofs.Pieces.{chars_of-grows, payload_of-length}
 
 -- a part of a part, from its start
 part : (xs : List ℕ) (a b n count : ℕ) → b + count ≤ n → take count (drop b (take n (drop a xs))) ≡ take count (drop (a + b) xs)
@@ -21,54 +21,62 @@ part xs a b n count fits =
     ap (λ k. take count (drop b (take k (drop a xs)))) e ∙ ap (take count) (drop-take b (n - b) (drop a xs))
     ∙ take-take count (n - b) (drop b (drop a xs)) (omega arith) ∙ ap (take count) (drop-drop b a xs)
 
-hex-covered : (chars bytes : List ℕ) (from count : ℕ) → IsPayload Hex chars bytes → from + count ≤ length bytes
-    → IsCovered Hex (hex_cover from count) chars bytes from count
-hex-covered chars bytes from count is fits =
-    let rest : IsPayload Hex (drop (2 * from) chars) (drop from bytes) = payload-drop Hex from chars bytes (omega arith) (omega arith) is in
-    let room : count ≤ length (drop from bytes) = omega (arith, length-drop from bytes) in
+-- a front of whole groups, or of no fewer bytes than there are
+front-payload : (enc : Enc) (chars bytes : List ℕ) (n : ℕ) → (n < length bytes → n % group_of enc ≡ 0) → IsPayload enc chars bytes
+    → IsPayload enc (take (chars_of enc n) chars) (take n bytes)
+front-payload enc chars bytes n groups is = elim (cases_lt n (length bytes)) [
+  | inl within ↦ payload-take enc n chars bytes (groups within) (omega arith) is
+  | inr past ↦
+      let fits = chars_of-grows enc (length bytes) n past in
+      let c : take (chars_of enc n) chars ≡ chars = take_all (chars_of enc n) chars (omega (arith, length-payload enc chars bytes is, fits)) in
+      let b : take n bytes ≡ bytes = take_all n bytes past in
+      subst (λ l. IsPayload enc l (take n bytes)) (sym c) (subst (IsPayload enc chars) (sym b) is)
+]
+
+-- the places from which and up to which a cover writes bytes: whole groups, which contain the range
+record Bounds (enc : Enc) (size from count start past : ℕ) : Type 0 where
+  pub groups : start % group_of enc ≡ 0
+  pub more_groups : past < size → (past - start) % group_of enc ≡ 0
+  pub before : start ≤ from
+  pub behind : from + count ≤ past
+  pub within : past ≤ size
+  pub chars : chars_of enc start + chars_of enc (past - start) ≤ chars_of enc size
+  pub few : count ≤ 32 → chars_of enc (past - start) ≤ 64
+
+bounds : (enc : Enc) (size from count : ℕ) → from + count ≤ size
+    → Bounds enc size from count (from / group_of enc * group_of enc) (min size (div_ceil (from + count) (group_of enc) * group_of enc))
+bounds Hex size from count fits = record {
+  groups = omega arith;
+  more_groups = λ more. omega arith;
+  before = omega arith;
+  behind = omega arith;
+  within = omega arith;
+  chars = omega arith;
+  few = λ few. omega arith;
+}
+bounds Base64 size from count fits = record {
+  groups = omega arith;
+  more_groups = λ more. omega arith;
+  before = omega arith;
+  behind = omega arith;
+  within = omega arith;
+  chars = omega arith;
+  few = λ few. omega arith;
+}
+
+groups-covered : (enc : Enc) (chars bytes : List ℕ) (from count start past : ℕ) → IsPayload enc chars bytes → Bounds enc (length bytes) from count start past
+    → IsCovered enc (record { first = chars_of enc start; chars = chars_of enc (past - start); skip = from - start; bytes = past - start }) chars bytes from count
+groups-covered enc chars bytes from count start past is b =
+    let rest : IsPayload enc (drop (chars_of enc start) chars) (drop start bytes) = payload-drop enc start chars bytes b.groups (omega (arith, b)) is in
+    let room : past - start ≤ length (drop start bytes) = omega (arith, b, length-drop start bytes) in
+    let there : start + (from - start) ≡ from = omega (arith, b) in
     record {
-      within = omega (arith, length-payload Hex chars bytes is);
-      covered = take count (drop from bytes);
-      payload = payload-take Hex count (drop (2 * from) chars) (drop from bytes) (omega arith) room rest;
-      size = length-take-le count (drop from bytes) room;
-      range = part bytes from 0 count count (omega arith) ∙ ap (λ k. take count (drop k bytes)) (omega arith);
+      within = omega (arith, b, length-payload enc chars bytes is);
+      covered = take (past - start) (drop start bytes);
+      payload = front-payload enc (drop (chars_of enc start) chars) (drop start bytes) (past - start) (λ fewer. b.more_groups (omega (arith, fewer, b, length-drop start bytes))) rest;
+      size = length-take-le (past - start) (drop start bytes) room;
+      range = part bytes start (from - start) (past - start) count (omega (arith, b)) ∙ ap (λ k. take count (drop k bytes)) there;
     }
-
--- a front of whole groups, or all
-front-payload : (chars bytes : List ℕ) (k : ℕ) → IsPayload Base64 chars bytes → IsPayload Base64 (take (4 * k) chars) (take (3 * k) bytes)
-front-payload chars bytes k is =
-    let len = length-payload Base64 chars bytes is in
-    elim (cases_lt (length bytes) (3 * k)) [
-      | inl past ↦
-          let c : take (4 * k) chars ≡ chars = take_all (4 * k) chars (omega (arith, len)) in
-          let b : take (3 * k) bytes ≡ bytes = take_all (3 * k) bytes (omega arith) in
-          subst (λ l. IsPayload Base64 l (take (3 * k) bytes)) (sym c) (subst (IsPayload Base64 chars) (sym b) is)
-      | inr within ↦
-          let e : chars_of Base64 (3 * k) ≡ 4 * k = omega arith in
-          subst (λ n. IsPayload Base64 (take n chars) (take (3 * k) bytes)) e (payload-take Base64 (3 * k) chars bytes (omega arith) within is)
-    ]
-
-base64-covered : (chars bytes : List ℕ) (from count : ℕ) → IsPayload Base64 chars bytes → from + count ≤ length bytes
-    → IsCovered Base64 (base64_cover (length bytes) from count) chars bytes from count
-base64-covered chars bytes from count is fits =
-    let start : ℕ = from / 3 in
-    let past : ℕ = div_ceil (from + count) 3 in
-    let e : chars_of Base64 (3 * start) ≡ 4 * start = omega arith in
-    let rest : IsPayload Base64 (drop (4 * start) chars) (drop (3 * start) bytes) =
-    subst (λ n. IsPayload Base64 (drop n chars) (drop (3 * start) bytes)) e (payload-drop Base64 (3 * start) chars bytes (omega arith) (omega arith) is) in
-    let there : 3 * start + (from - 3 * start) ≡ from = omega arith in
-    record {
-      within = omega (arith, length-payload Base64 chars bytes is);
-      covered = take (3 * (past - start)) (drop (3 * start) bytes);
-      payload = front-payload (drop (4 * start) chars) (drop (3 * start) bytes) (past - start) rest;
-      size = length-take (3 * (past - start)) (drop (3 * start) bytes) ∙ omega (arith, length-drop (3 * start) bytes);
-      range = part bytes (3 * start) (from - 3 * start) (3 * (past - start)) count (omega arith) ∙ ap (λ k. take count (drop k bytes)) there;
-    }
-
-range-covered : (enc : Enc) (chars bytes : List ℕ) (from count : ℕ) → IsPayload enc chars bytes → from + count ≤ length bytes
-    → IsCovered enc (range_cover enc (length bytes) from count) chars bytes from count
-range-covered Hex chars bytes from count is fits = hex-covered chars bytes from count is fits
-range-covered Base64 chars bytes from count is fits = base64-covered chars bytes from count is fits
 
 -- nothing is covered by no characters
 none-covered : (enc : Enc) (chars bytes : List ℕ) (from : ℕ) → IsPayload enc chars bytes
@@ -82,7 +90,7 @@ pub cover-covered : (enc : Enc) (chars bytes : List ℕ) (from count : ℕ) → 
     → IsCovered enc (cover_of enc (length bytes) from count) chars bytes from count
 cover-covered enc chars bytes from count is fits = elim (cases_eq count 0) [
   | inl none ↦ rw (none) (none-covered enc chars bytes from is)
-  | inr some ↦ rw (ne_eqb count 0 some) (range-covered enc chars bytes from count is fits)
+  | inr some ↦ rw (ne_eqb count 0 some) (groups-covered enc chars bytes from count _ _ is (bounds enc (length bytes) from count fits))
 ]
 
 -- ---- a range, read from the characters that cover it

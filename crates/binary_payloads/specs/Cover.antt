@@ -3,31 +3,16 @@ use Rattle.std.specs.Prelude.{◌≡◌, ℕ, ◌+◌, ◌-◌, ◌*◌, ◌/◌
 use Rattle.std.specs.Int.{div_ceil}
 use Rattle.binary_payloads.specs.declared.covers.Cover.{Cover}
 use Rattle.binary_payloads.specs.declared.enc.Enc.{Enc}
-use Rattle.binary_payloads.specs.declared.enc.Enc.TheVariants.{Hex, Base64}
-use Rattle.binary_payloads.specs.Payload.{IsPayload}
+use Rattle.binary_payloads.specs.Payload.{IsPayload, chars_of, group_of}
 
--- hex: two digits for each byte
-abbrev pub hex_cover : ℕ → ℕ → Cover
-hex_cover from count = record { first = 2 * from; chars = 2 * count; skip = 0; bytes = count }
-
--- base64: the groups of three bytes that contain the range, four
--- characters for each; the payload's last group may be short
-abbrev pub base64_cover : ℕ → ℕ → ℕ → Cover
-base64_cover size from count =
-    let start = from / 3 in
-    let past = div_ceil (from + count) 3 in
-    record { first = 4 * start; chars = 4 * (past - start); skip = from - 3 * start; bytes = min size (3 * past) - 3 * start }
-
--- the characters for a range that isn't empty
-abbrev pub range_cover : Enc → ℕ → ℕ → ℕ → Cover
-range_cover Hex size from count = hex_cover from count
-range_cover Base64 size from count = base64_cover size from count
-
--- the characters that write `count` bytes from place `from`
--- on, of a payload of `size` bytes; none if `count` is 0
+-- the characters that write `count` bytes from place `from` on, of a payload of `size` bytes: those of whole groups
+-- of bytes, of which the payload's last may be short; none if `count` is 0
 abbrev pub cover_of : Enc → ℕ → ℕ → ℕ → Cover
 cover_of enc size from count =
-    if count == 0 then record { first = 0; chars = 0; skip = 0; bytes = 0 } else range_cover enc size from count
+    let start = from / group_of enc * group_of enc in
+    let past = min size (div_ceil (from + count) (group_of enc) * group_of enc) in
+    if count == 0 then record { first = 0; chars = 0; skip = 0; bytes = 0 }
+    else record { first = chars_of enc start; chars = chars_of enc (past - start); skip = from - start; bytes = past - start }
 
 -- the characters of a cover are the payload of its bytes, which are those that are skipped, then the range
 pub record IsCovered (enc : Enc) (cover : Cover) (chars bytes : List ℕ) (from count : ℕ) : Type 0 where

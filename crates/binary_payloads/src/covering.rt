@@ -1,39 +1,47 @@
 // Which characters of a payload write a range of its bytes.
-ghost use Rattle.std.specs.Prelude.{◌≡◌, ◌↔◌, ℕ, ◌+◌, ◌^◌, ◌<◌, ◌≤◌, List, length, take, drop, option_map, IsTrue, Some};
-ghost use Rattle.binary_payloads.specs.Cover.{hex_cover, base64_cover, cover_of, IsCovered};
-ghost use Rattle.binary_payloads.specs.Payload.{IsPayload, IsPayloadOf};
+ghost use Rattle.std.specs.Prelude.{◌≡◌, ◌↔◌, ℕ, ◌+◌, ◌-◌, ◌*◌, ◌/◌, ◌^◌, ◌<◌, ◌≤◌, List, length, take, drop, option_map, IsTrue, Some};
+ghost use Rattle.std.specs.Int.{div_ceil};
+ghost use Rattle.binary_payloads.specs.Cover.{cover_of, IsCovered};
+ghost use Rattle.binary_payloads.specs.Payload.{IsPayload, IsPayloadOf, chars_of, group_of};
 ghost use Rattle.binary_payloads.specs.ReadingPayloads.{payload_bytes};
 
 use crate::covers::Cover;
 use crate::enc::Enc;
 use crate::payloads::payload;
 
-fn hex_cover(from: u64, count: u32) -> Cover
-    requires few { count ≤ 32 }
-    requires small { from < 2 ^ 63 }
-    ensures { result ≡ hex_cover from count }
+// Where the group of bytes begins that the byte at a place belongs to.
+fn group_start(enc: Enc, place: u64) -> u64
+    ensures value { result ≡ place / group_of enc * group_of enc }
+    ensures before { result ≤ place }
+    ensures near { place ≤ result + 2 }
 {
-    Cover {
-        first: 2 * from,
-        chars: 2 * u64::from(count),
-        skip: 0,
-        bytes: count,
+    match enc {
+        Enc::Hex => place,
+        Enc::Base64 => place / 3 * 3,
     }
 }
 
-fn base64_cover(size: u64, from: u64, count: u32) -> Cover
-    requires few { count ≤ 32 }
-    requires within { from + count ≤ size }
-    requires small { from < 2 ^ 63 }
-    ensures { result ≡ base64_cover size from count }
+// Where the group of bytes ends that the byte before a place belongs to.
+fn group_end(enc: Enc, place: u64) -> u64
+    requires { place < 2 ^ 64 - 2 }
+    ensures value { result ≡ div_ceil place (group_of enc) * group_of enc }
+    ensures behind { place ≤ result }
+    ensures near { result ≤ place + 2 }
 {
-    let start = from / 3;
-    let past = (from + u64::from(count)).div_ceil(3);
-    Cover {
-        first: 4 * start,
-        chars: 4 * (past - start),
-        skip: (from - 3 * start) as u32,
-        bytes: (size.min(3 * past) - 3 * start) as u32,
+    match enc {
+        Enc::Hex => place,
+        Enc::Base64 => place.div_ceil(3) * 3,
+    }
+}
+
+// How many characters write this many bytes.
+fn chars_of(enc: Enc, size: u64) -> u64
+    requires { size < 2 ^ 63 }
+    ensures { result ≡ chars_of enc size }
+{
+    match enc {
+        Enc::Hex => 2 * size,
+        Enc::Base64 => size.div_ceil(3) * 4,
     }
 }
 
@@ -55,9 +63,13 @@ fn range_cover(enc: Enc, size: u64, from: u64, count: u32) -> Cover
             bytes: 0,
         };
     }
-    match enc {
-        Enc::Hex => hex_cover(from, count),
-        Enc::Base64 => base64_cover(size, from, count),
+    let start = group_start(enc, from);
+    let past = size.min(group_end(enc, from + u64::from(count)));
+    Cover {
+        first: chars_of(enc, start),
+        chars: chars_of(enc, past - start),
+        skip: (from - start) as u32,
+        bytes: (past - start) as u32,
     }
 }
 

@@ -1,11 +1,12 @@
 -- Of the records with one address the first is kept.
 use Rattle.std.proofs.Common.{◌≡◌, ℕ, zero, suc, ◌+◌, ◌-◌, ◌≤◌, Bool, true, false, cond, List, ◌++◌, length, drop, Option, None, Some, sym, ◌∙◌, ap, subst, arith, length-append}
-use Rattle.std.specs.Prelude.{slice_get}
+use Rattle.std.specs.Prelude.{slice_get, [], ◌∷◌}
+use Rattle.std.specs.Option.{option_map_or}
 use Rattle.std.proofs.lemmas.List.{length-take}
 use Rattle.cell_records.specs.declared.arena.Arena.{Arena}
 use Rattle.cell_records.specs.declared.cells.CellRecord.{CellRecord}
 use Rattle.cell_records.specs.declared.cells.Slot.{Slot}
-use Rattle.cell_records.specs.Keeping.{moved, moved_record, kept_slots, kept_records}
+use Rattle.cell_records.specs.Keeping.{moved_record, kept_slots, kept_records}
 use Rattle.cell_records.specs.Order.{is_first}
 use Rattle.cell_records.specs.Slots.{start_at, slots_at, AreOrdered}
 
@@ -17,9 +18,12 @@ pub record IsKeeping (all kept : Arena) (i : ℕ) : Type 0 where
   pub slots_are : kept.slots.items ≡ kept_slots all.cells.items all.slots.items i
   pub few : length kept.cells.items ≤ i
 
-moved-one : (first : ℕ) (o : Option CellRecord) → length (moved first o) ≤ 1
-moved-one first None = omega arith
-moved-one first (Some r) = omega arith
+moved-one : (rs : List CellRecord) (i first : ℕ) → length (moved_record rs i first) ≤ 1
+moved-one rs i first = of (slice_get rs i)
+  where
+    of : (o : Option CellRecord) → length (option_map_or (λ (r : CellRecord). record r { first = first } ∷ []) o []) ≤ 1
+    of None = omega arith
+    of (Some r) = omega arith
 
 pub keeping-first : (all old new : Arena) (i : ℕ) → is_first all.cells.items i ≡ true → IsKeeping all old i
     → new.cells.items ≡ old.cells.items ++ moved_record all.cells.items i (length old.slots.items) → new.slots.items ≡ old.slots.items ++ slots_at all.cells.items all.slots.items i
@@ -39,7 +43,7 @@ keeping-first all old new i first before cells slots =
           ∙ ap (λ b. cond b (kept_slots rs ss i ++ slots_at rs ss i) (kept_slots rs ss i)) (sym first)
           ∙ ap (kept_slots rs ss) next;
       few = let few = before.few in
-          let one = moved-one (length old.slots.items) (slice_get rs i) in
+          let one = moved-one rs i (length old.slots.items) in
           omega (arith, few, one, ap length cells, length-append old.cells.items (moved_record rs i (length old.slots.items)));
     }
 

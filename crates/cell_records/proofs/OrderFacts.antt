@@ -1,6 +1,7 @@
 -- Numbers of records in the order of their addresses.
-use Rattle.std.proofs.Common.{◌≡◌, ℕ, ◌+◌, ◌<◌, ◌≤◌, ◌==◌, ◌⊎◌, inl, inr, Bool, true, false, ltb, cond, List, length, get_or, map, None, Some, refl, sym, ◌∙◌, ap, subst, arith, [], ◌∷◌, ◌++◌, length-append, below_more}
+use Rattle.std.proofs.Common.{◌≡◌, ℕ, ◌+◌, ◌<◌, ◌≤◌, ◌==◌, ◌⊎◌, inl, inr, Bool, true, false, ltb, cond, List, length, get_or, map, Option, None, Some, refl, sym, ◌∙◌, ap, subst, arith, [], ◌∷◌, ◌++◌, length-append, below_more}
 use Rattle.std.specs.Prelude.{All}
+use Rattle.std.specs.Option.{option_map_or}
 use Rattle.std.specs.List.Sorted.{IsNonDecreasingBy, IsPartitionPoint, IsPermutation, IsSorted}
 use Rattle.std.specs.Ordering.{is_lt, ordering_then, nat_cmp}
 use Rattle.std.specs.Cmp.{nat_cmp_is}
@@ -14,7 +15,7 @@ use Rattle.std.proofs.lemmas.Option.{slice_get-get_or}
 use Rattle.std.specs.List.{position, position_or_len}
 use Rattle.std.proofs.lemmas.List.Sums.{position_or_len_is}
 use Rattle.cell_records.specs.declared.cells.CellRecord.{CellRecord}
-use Rattle.cell_records.specs.Order.{address_or, address_in, rank, IsOrder, record_with, IsPairOf, ArePairs, AreRanked}
+use Rattle.cell_records.specs.Order.{address_in, rank, IsOrder, record_with, IsPairOf, ArePairs, AreRanked}
 use Rattle.cell_records.specs.Inner.References.{IsFirstFrom}
 use Rattle.cell_records.specs.Inner.Ranks.{pair_at, AreNumbered}
 use Rattle.cell_records.specs.declared.ranks.Kept.{Kept}
@@ -50,7 +51,7 @@ pub no_record : CellRecord
 no_record = record { address = 0; at = 0; len = 0; first = 0; kind = None }
 
 pub record-address : (rs : List CellRecord) (n : ℕ) (d : CellRecord) → n < length rs → address_in rs n ≡ (get_or rs n d).address
-record-address rs n d inside = ap (address_or 0) (slice_get-get_or rs n d inside)
+record-address rs n d inside = ap (λ (o : Option CellRecord). option_map_or (λ r. r.address) o 0) (slice_get-get_or rs n d inside)
 
 has-address : (rs : List CellRecord) (address n : ℕ) → n < length rs → address_in rs n ≡ address → ((get_or rs n no_record).address == address) ≡ true
 has-address rs address n inside is = eq-eqb _ _ (sym (record-address rs n no_record inside) ∙ is)

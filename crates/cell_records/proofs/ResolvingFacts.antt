@@ -1,6 +1,7 @@
 -- Resolving references in place.
 use Rattle.std.proofs.Common.{◌≡◌, ℕ, ◌+◌, ◌<◌, ◌≤◌, ◌⊎◌, ⊎_elim, inl, inr, List, ◌++◌, length, get_or, set, map, Option, None, Some, refl, sym, ◌∙◌, ap, subst, arith, below_more}
 use Rattle.std.specs.Prelude.{slice_get, All, Contains}
+use Rattle.std.specs.Option.{option_map_or}
 use Rattle.std.specs.List.Sorted.{IsPermutation, IsNonDecreasingBy}
 use Rattle.std.proofs.lemmas.List.Sorted.{All-permutation, Contains-permutation}
 use Rattle.std.proofs.lemmas.List.Elements.{All-push, Contains-push, Contains-append_left}
@@ -12,7 +13,7 @@ use Rattle.cell_records.specs.declared.cells.CellRecord.{CellRecord}
 use Rattle.cell_records.specs.declared.cells.Slot.{Slot}
 use Rattle.cell_records.specs.declared.cells.Slot.TheVariants as slot
 use Rattle.cell_records.specs.Order.{record_with, rank, AreRanked}
-use Rattle.cell_records.specs.Resolving.{cell_or_gone, settled}
+use Rattle.cell_records.specs.Resolving.{settled}
 use Rattle.cell_records.specs.Inner.References.{reference_of, found_at, AreReferences, IsFirstFrom}
 use Rattle.cell_records.proofs.OrderFacts.{lesser}
 
@@ -66,8 +67,8 @@ found-all slots references i all found = record {
 
 -- what is found of a reference is that it is settled
 found-settled : (rs : List CellRecord) (olds : List Slot) (address i : ℕ) (d : Slot) (number : Option ℕ) → slice_get olds i ≡ Some (slot.Gone address) → number ≡ record_with rs address
-    → cell_or_gone address number ≡ settled rs (get_or olds i d)
-found-settled rs olds address i d number is found = ap (cell_or_gone address) found ∙ ap (settled rs) (sym (get_or_from_slice_get olds i (slot.Gone address) d is))
+    → option_map_or (λ n. slot.Cell (record { 0 = n })) number (slot.Gone address) ≡ settled rs (get_or olds i d)
+found-settled rs olds address i d number is found = ap (λ o. option_map_or (λ n. slot.Cell (record { 0 = n })) o (slot.Gone address)) found ∙ ap (settled rs) (sym (get_or_from_slice_get olds i (slot.Gone address) d is))
 
 -- a further reference is settled, or stays as it was where no cell has its address
 module _ (rs : List CellRecord) (olds slots : List Slot) (references : List (ℕ × ℕ)) (k : ℕ) where

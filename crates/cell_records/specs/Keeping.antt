@@ -1,5 +1,6 @@
 -- Keeping the first of the records with each address.
-use Rattle.std.specs.Prelude.{◌≡◌, ℕ, zero, suc, ◌<◌, ◌⊎◌, true, List, [], ◌∷◌, ◌++◌, length, slice_get, Option, None, Some, if◌then◌else◌}
+use Rattle.std.specs.Prelude.{◌≡◌, ℕ, zero, suc, ◌<◌, ◌⊎◌, true, List, [], ◌∷◌, ◌++◌, length, slice_get, if◌then◌else◌}
+use Rattle.std.specs.Option.{option_map_or}
 use Rattle.cell_records.specs.declared.arena.Arena.{Arena}
 use Rattle.cell_records.specs.declared.cells.CellRecord.{CellRecord}
 use Rattle.cell_records.specs.declared.cells.Slot.{Slot}
@@ -7,14 +8,9 @@ use Rattle.cell_records.specs.declared.keeping.Indexed.{Indexed}
 use Rattle.cell_records.specs.Order.{is_first, AreRanked}
 use Rattle.cell_records.specs.Slots.{slots_at}
 
--- at most one record, whose slots begin at this place
-abbrev pub moved : ℕ → Option CellRecord → List CellRecord
-moved first None = []
-moved first (Some r) = record r { first = first } ∷ []
-
 -- the record with a number, whose slots begin at this place; past the last one, none
 abbrev pub moved_record : List CellRecord → ℕ → ℕ → List CellRecord
-moved_record records i first = moved first (slice_get records i)
+moved_record records i first = option_map_or (λ r. record r { first = first } ∷ []) (slice_get records i) []
 
 -- the slots of those of the first n records that are the first with their address
 abbrev pub kept_slots : List CellRecord → List Slot → ℕ → List Slot

@@ -1,6 +1,7 @@
 -- The records of a heap in the order of their addresses.
-use Rattle.std.specs.Prelude.{◌≡◌, ℕ, ◌+◌, ◌*◌, ◌<◌, ◌==◌, Bool, not, List, length, take, slice_get, Option, None, Some, All, Contains, position}
+use Rattle.std.specs.Prelude.{◌≡◌, ℕ, ◌+◌, ◌*◌, ◌<◌, ◌==◌, Bool, not, List, length, take, slice_get, Option, All, Contains, position}
 use Rattle.std.specs.List.{list_any}
+use Rattle.std.specs.Option.{option_map_or}
 use Rattle.std.specs.List.Sorted.{IsNonDecreasingBy}
 use Rattle.cell_records.specs.declared.cells.CellRecord.{CellRecord}
 
@@ -9,14 +10,9 @@ use Rattle.cell_records.specs.declared.cells.CellRecord.{CellRecord}
 abbrev pub rank : ℕ → ℕ → ℕ
 rank address number = address * 4294967296 + number
 
--- the address of a record, or another one if there is no record
-abbrev pub address_or : ℕ → Option CellRecord → ℕ
-address_or other None = other
-address_or other (Some r) = r.address
-
 -- the address of the record with a number; past the last one, 0
 abbrev pub address_in : List CellRecord → ℕ → ℕ
-address_in records n = address_or 0 (slice_get records n)
+address_in records n = option_map_or (λ r. r.address) (slice_get records n) 0
 
 -- the numbers of all records, by address and then by number
 pub record IsOrder (records : List CellRecord) (order : List ℕ) : Type 0 where

@@ -1,16 +1,12 @@
 -- The slots of each record.
-use Rattle.std.specs.Prelude.{ℕ, ◌+◌, ◌<◌, ◌≤◌, List, length, slice_get, slice_range, Option, None, Some}
+use Rattle.std.specs.Prelude.{ℕ, ◌+◌, ◌<◌, ◌≤◌, List, length, slice_get, slice_range}
+use Rattle.std.specs.Option.{option_map_or}
 use Rattle.cell_records.specs.declared.cells.CellRecord.{CellRecord}
 use Rattle.cell_records.specs.declared.cells.Slot.{Slot}
 
--- where the slots of a record begin, or, if there is no record, where all slots end
-abbrev pub first_or : ℕ → Option CellRecord → ℕ
-first_or total None = total
-first_or total (Some r) = r.first
-
 -- where the slots of the record with a number begin; past the last one, where all slots end
 abbrev pub start_at : List CellRecord → ℕ → ℕ → ℕ
-start_at records i total = first_or total (slice_get records i)
+start_at records i total = option_map_or (λ r. r.first) (slice_get records i) total
 
 -- the slots of a record
 abbrev pub slots_at : List CellRecord → List Slot → ℕ → List Slot

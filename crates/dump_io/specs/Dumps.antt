@@ -1,5 +1,6 @@
 -- What a device of dumps holds, and what a call does to it.
 use Rattle.std.specs.Prelude.{◌≡◌, ◌⊎◌, ℕ, ◌+◌, ◌≤◌, List, length, take, drop, Option, None, Some, Result, MatchResult, OnErr, OnOk, IfOk}
+use Rattle.std.specs.Option.{option_map_or}
 use Rattle.dump_io.specs.Counts.{Rose, plus_capped}
 
 -- the files by name: the bytes of each, or `None`
@@ -12,11 +13,14 @@ pub data Now : Type 0 where
   told : List ℕ → Now
   sized : ℕ → Now
 
+-- what is open if it is these bytes, or if it is nothing
+abbrev pub opened : Option (List ℕ) → Now
+opened bytes = option_map_or told bytes closed
+
 -- a file is open
 abbrev pub IsOpen : Now → Type 0
 IsOpen closed = ⊥
-IsOpen (told bytes) = Unit {0}
-IsOpen (sized size) = Unit {0}
+IsOpen now = Unit {0}
 
 -- the size of what is open, in bytes
 abbrev pub size_of : Now → ℕ

@@ -1,5 +1,5 @@
 -- The limits within which a dump is read.
-use Rattle.std.specs.Prelude.{ℕ, ◌≤◌, Bool, ◌&&◌, nat_le}
+use Rattle.std.specs.Prelude.{ℕ, ◌≤◌}
 
 -- the six limits, and what each of them counts
 pub record Numbers : Type 0 where
@@ -36,9 +36,3 @@ pub record AreAllowed (n : Numbers) : Type 0 where
   pub pool : n.pool ≤ usual.pool
   pub section : n.section ≤ usual.section
   pub dense : n.dense ≤ usual.dense
-
--- the same as a test
-abbrev pub are_allowed : Numbers → Bool
-are_allowed n =
-    nat_le n.dump usual.dump && nat_le n.header usual.header && nat_le 1 n.header && nat_le n.sections usual.sections
-    && nat_le n.pool usual.pool && nat_le n.section usual.section && nat_le n.dense usual.dense

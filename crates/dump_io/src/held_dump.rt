@@ -1,8 +1,9 @@
 // A device that holds one file and never fails.
-ghost use Rattle.std.specs.Prelude.{◌≡◌, ◌-◌, ◌<◌, length, min, IfOk};
+ghost use Rattle.std.specs.Prelude.{◌≡◌, ◌-◌, ◌<◌, length, min, None, Some, IfOk, if◌then◌else◌};
 ghost use Rattle.dump_io.specs.Count.{number_in-small};
 ghost use Rattle.dump_io.specs.Dumps.{closed, size_of, ReadsSome};
-ghost use Rattle.dump_io.specs.HeldDump.{file_of, now_of, state_of, now_where-small};
+ghost use Rattle.dump_io.specs.File.{opened-small};
+ghost use Rattle.dump_io.specs.HeldDump.{file_of, now_of, state_of};
 
 use crate::count::Count;
 use crate::dumps::{Dumps, Failed};
@@ -35,7 +36,7 @@ impl HeldDump {
 impl Dumps for HeldDump {
     ghost state = { state_of };
 
-    ghost small_size = { λ d. now_where-small d.is_open d.file };
+    ghost small_size = { λ d. opened-small (if d.is_open then Some d.file else None) };
 
     ghost small_taken = { λ d. number_in-small d.taken };
 

@@ -1,6 +1,7 @@
 // The limits within which a dump is read.
-ghost use Rattle.std.specs.Prelude.{◌≡◌, Option, None, Some, if◌then◌else◌};
-ghost use Rattle.dump_io.specs.Limits.{Numbers, AreAllowed, are_allowed, usual};
+ghost use Rattle.std.specs.Prelude.{◌≡◌};
+ghost use Rattle.std.specs.Option.{SomeIff};
+ghost use Rattle.dump_io.specs.Limits.{Numbers, AreAllowed, usual};
 
 use std::marker::Model;
 
@@ -74,7 +75,7 @@ impl Limits {
         dense: u32,
     ) -> Option<Limits>
         ensures { let numbers : Numbers = record { dump = dump; header = header; sections = sections; pool = pool; section = section; dense = dense } in
-            result ≡ (if are_allowed numbers then Some numbers else None) }
+            SomeIff result (AreAllowed numbers) numbers }
     {
         let allowed = dump <= DUMP
             && header <= HEADER

@@ -1,10 +1,12 @@
 // A device whose files are in memory, which can cut its reads and fail.
-ghost use Rattle.std.specs.Prelude.{◌≡◌, ℕ, ◌-◌, ◌<◌, ◌≤◌, List, length, None, Some, min, is_err, is_ok, MatchOption, IfOk, if◌then◌else◌};
+ghost use Rattle.std.specs.Prelude.{◌≡◌, ℕ, ◌-◌, ◌<◌, ◌≤◌, List, length, None, Some, min, is_err, is_ok, slice_get, IfOk, if◌then◌else◌};
+ghost use Rattle.std.specs.Option.{option_and_then, option_copied};
 ghost use Rattle.std.specs.Str.{bytes_eq};
 ghost use Rattle.dump_io.specs.Count.{number_in-small};
 ghost use Rattle.dump_io.specs.Counts.{plus_capped};
-ghost use Rattle.dump_io.specs.Dumps.{closed, told, size_of, Opens, ReadsSome};
-ghost use Rattle.dump_io.specs.MemDumps.{IsUnused, find_file, now_at, now_at-small, cut_at, files_of, now_of, calls_of, reads_of, faults_of, taken_of, state_of, fails_of, cuts_of, is_failing, opened};
+ghost use Rattle.dump_io.specs.Dumps.{closed, opened, size_of, Opens, ReadsSome};
+ghost use Rattle.dump_io.specs.File.{find_file, opened-small};
+ghost use Rattle.dump_io.specs.MemDumps.{IsUnused, bytes_at, cut_at, files_of, now_of, calls_of, reads_of, state_of, fails_of, cuts_of, is_failing};
 
 use crate::count::Count;
 use crate::dumps::{Dumps, Failed};
@@ -71,15 +73,14 @@ impl MemDumps {
 
     /// How many bytes the device has given.
     pub fn taken(&self) -> u64
-        ensures { result ≡ taken_of self.now }
+        ensures { result ≡ (state_of self.now).taken }
     {
         self.taken.number()
     }
 }
 
 fn place_of(files: &[DumpFile], name: &str) -> Option<usize>
-    ensures { MatchOption result (find_file files.now name.now ≡ None)
-        (λ i. (bytes : List ℕ) × (find_file files.now name.now ≡ Some bytes) × (now_at files.now (Some i) ≡ told bytes)) }
+    ensures { bytes_at files.now result ≡ find_file files.now name.now }
 {
     for (i, file) in files.iter().enumerate() {
         if file.name.as_str() == name {
@@ -90,7 +91,7 @@ fn place_of(files: &[DumpFile], name: &str) -> Option<usize>
 }
 
 fn bytes_at(files: &[DumpFile], place: Option<usize>) -> Option<&[u8]>
-    ensures { MatchOption result (now_at files.now place ≡ closed) (λ bytes. now_at files.now place ≡ told bytes.now) }
+    ensures { option_copied result ≡ bytes_at files.now place }
 {
     match place {
         None => None,
@@ -117,7 +118,7 @@ fn cut(cuts: &[usize], read: u64, most: usize) -> usize
 impl Dumps for MemDumps {
     ghost state = { state_of };
 
-    ghost small_size = { λ m. now_at-small m.files.items m.place };
+    ghost small_size = { λ m. opened-small (option_and_then (slice_get m.files.items) m.place) };
 
     ghost small_taken = { λ m. number_in-small m.taken };
 
@@ -128,7 +129,7 @@ impl Dumps for MemDumps {
         ensures reads { reads_of self.new ≡ reads_of self.old }
         ensures cuts { cuts_of self.new ≡ cuts_of self.old }
         ensures fails { fails_of self.new ≡ fails_of self.old }
-        ensures count { faults_of self.new ≡ (if is_failing self.new then plus_capped (faults_of self.old) 1 else faults_of self.old) }
+        ensures count { (state_of self.new).faults ≡ (if is_failing self.new then plus_capped (state_of self.old).faults 1 else (state_of self.old).faults) }
         ensures now { now_of self.new ≡ (if is_failing self.new then closed else opened (files_of self.old name.now)) }
     {
         self.place = None;
@@ -153,7 +154,7 @@ impl Dumps for MemDumps {
         ensures reads { reads_of self.new ≡ (if is_ok result then plus_capped (reads_of self.old) 1 else reads_of self.old) }
         ensures cuts { cuts_of self.new ≡ cuts_of self.old }
         ensures fails { fails_of self.new ≡ fails_of self.old }
-        ensures count { faults_of self.new ≡ (if is_failing self.new then plus_capped (faults_of self.old) 1 else faults_of self.old) }
+        ensures count { (state_of self.new).faults ≡ (if is_failing self.new then plus_capped (state_of self.old).faults 1 else (state_of self.old).faults) }
         ensures failing { is_err result ≡ is_failing self.new }
         ensures cut { IfOk result (λ n. n ≡ cut_at (cuts_of self.old) (reads_of self.old) (min (size_of (now_of self.old) - at) (length into.old))) }
     {

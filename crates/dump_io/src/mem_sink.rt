@@ -2,12 +2,13 @@
 ghost use Rattle.std.specs.Prelude.{◌≡◌, ◌<◌, true, [], length, is_err, not, IsErr, IfOk, ◌&&◌, if◌then◌else◌};
 ghost use Rattle.dump_io.specs.Counts.{plus_capped};
 ghost use Rattle.dump_io.specs.Sinks.{TakesSome};
-ghost use Rattle.dump_io.specs.MemSink.{written_of, step_of, fails_of, writes_of, lacked_of, faults_of, state_of, is_failing, taken_by};
+ghost use Rattle.dump_io.specs.MemSink.{state_of, is_failing, taken_by};
 
 use crate::count::Count;
 use crate::dumps::Failed;
 use crate::sink::Sink;
 use std::alloc::Global;
+use std::marker::Model;
 
 /// A sink that tells what was written.
 ///
@@ -23,15 +24,33 @@ pub struct MemSink {
     faults: Count,
 }
 
+impl Model for MemSink {
+    ghost use Rattle.dump_io.specs.Count.{number_in};
+    ghost use Rattle.dump_io.specs.MemSink.{MemState};
+
+    ghost Value = { MemState };
+
+    ghost view = { λ sink. record {
+      written = sink.bytes.items;
+      step = sink.step;
+      fails = sink.fails.items;
+      writes = number_in sink.writes;
+      lacked = number_in sink.lacked;
+      faults = number_in sink.faults;
+    } };
+}
+
 impl MemSink {
     /// An empty sink, with counts of 0. It takes no memory.
     pub fn new(alloc: Global, step: usize, fails: Vec<u64>) -> MemSink
-        ensures written { written_of result ≡ [] }
-        ensures step { step_of result ≡ step }
-        ensures fails { fails_of result ≡ fails.items }
-        ensures writes { writes_of result ≡ 0 }
-        ensures lacked { lacked_of result ≡ 0 }
-        ensures faults { faults_of result ≡ 0 }
+        ensures { result ≡ record {
+          written = [];
+          step = step;
+          fails = fails.items;
+          writes = 0;
+          lacked = 0;
+          faults = 0;
+        } }
     {
         MemSink {
             bytes: Vec::new(alloc),
@@ -45,14 +64,14 @@ impl MemSink {
 
     /// The bytes that were written.
     pub fn written(&self) -> &[u8]
-        ensures { result.now ≡ written_of self.now }
+        ensures { result.now ≡ self.now.written }
     {
         self.bytes.as_slice()
     }
 
     /// How many writes found no memory.
     pub fn lacked(&self) -> u64
-        ensures { result ≡ lacked_of self.now }
+        ensures { result ≡ self.now.lacked }
     {
         self.lacked.number()
     }
@@ -65,13 +84,13 @@ impl Sink for MemSink {
         requires { 0 < length piece.now }
         ensures some { TakesSome (state_of self.old) (state_of self.new) piece.now result }
 
-        ensures number { writes_of self.new ≡ plus_capped (writes_of self.old) 1 }
-        ensures step { step_of self.new ≡ step_of self.old }
-        ensures fails { fails_of self.new ≡ fails_of self.old }
+        ensures number { self.new.writes ≡ plus_capped self.old.writes 1 }
+        ensures step { self.new.step ≡ self.old.step }
+        ensures fails { self.new.fails ≡ self.old.fails }
         ensures failing { is_failing self.new ≡ true → IsErr result }
-        ensures lacked { lacked_of self.new ≡ (if is_err result && not (is_failing self.new) then plus_capped (lacked_of self.old) 1 else lacked_of self.old) }
-        ensures count { faults_of self.new ≡ (if is_err result then plus_capped (faults_of self.old) 1 else faults_of self.old) }
-        ensures takes { IfOk result (λ n. n ≡ taken_by (step_of self.old) (length piece.now)) }
+        ensures lacked { self.new.lacked ≡ (if is_err result && not (is_failing self.new) then plus_capped self.old.lacked 1 else self.old.lacked) }
+        ensures count { self.new.faults ≡ (if is_err result then plus_capped self.old.faults 1 else self.old.faults) }
+        ensures takes { IfOk result (λ n. n ≡ taken_by self.old.step (length piece.now)) }
     {
         self.writes.rise();
         if self.fails.contains(&self.writes.number()) {

@@ -1,13 +1,13 @@
 -- What is known of a good dump that is open and held in memory.
 use Rattle.std.proofs.Common.{◌≡◌, ℕ, List, Option, Some, sym, ◌∙◌, ap, subst, arith}
-use Rattle.std.specs.Prelude.{All, Err}
+use Rattle.std.specs.Prelude.{All, Err, [], ◌∷◌}
 use Rattle.std.proofs.lemmas.Bool.{cond-true}
 use Rattle.std.specs.Str.{bytes_eq}
 use Rattle.std.proofs.lemmas.Slice.Eq.{bytes_eq-Decides}
 use Rattle.dump_io.specs.Dumps.{Now, told, DeviceState, DeviceFailed}
-use Rattle.dump_io.specs.HeldDump.{files_of, now_of, state_of}
+use Rattle.dump_io.specs.HeldDump.{now_of, state_of}
 use Rattle.dump_io.specs.declared.held_dump.HeldDump.{HeldDump}
-use Rattle.dump_io.specs.File.{name_of, bytes_of}
+use Rattle.dump_io.specs.File.{name_of, bytes_of, find_file}
 use Rattle.dump_io.specs.declared.file.DumpFile.{DumpFile}
 use Rattle.dump_io.specs.Limits.{Numbers}
 use Rattle.dump_sections.specs.declared.bodies.BodyFault.{BodyFault}
@@ -79,6 +79,6 @@ root-at bytes index kind pid section of found =
     ap (λ (i : Contents). body_in bytes (root_section i kind pid)) (sym (index-is bytes index of)) ∙ ap (body_in bytes) (sym found)
 
 -- a file is the one of its name
-pub file-held : (file : DumpFile) (name bytes : List ℕ) → name_of file ≡ name → bytes_of file ≡ bytes → files_of file name ≡ Some bytes
+pub file-held : (file : DumpFile) (name bytes : List ℕ) → name_of file ≡ name → bytes_of file ≡ bytes → find_file (file ∷ []) name ≡ Some bytes
 file-held file name bytes named is =
     cond-true (bytes_eq (name_of file) name) _ _ ((bytes_eq-Decides (name_of file) name).1 named) ∙ ap Some is

@@ -1,7 +1,7 @@
 -- The whole of a heap.
 use Rattle.std.proofs.Common.{◌≡◌, ℕ, ◌+◌, ◌-◌, ◌≤◌, ◌==◌, ◌||◌, Bool, true, false, cond, List, [], ◌∷◌, ◌++◌, length, take, drop, map, Option, None, Some, refl, sym, ◌∙◌, ap, subst, arith, append_assoc, length-append}
 use Rattle.std.specs.Prelude.{nat_eq, slice_get, slice_range}
-use Rattle.std.specs.Option.{option_map}
+use Rattle.std.specs.Option.{option_map, option_map_or}
 use Rattle.std.specs.List.{list_any, flat_map, IsDistinct, AllByRecursion}
 use Rattle.std.proofs.lemmas.Bool.{true≢false, false_from_ne_true, eqb-true, eq-eqb}
 use Rattle.std.proofs.lemmas.List.{length-map, take-map, drop-map, take-append-drop, append-nil}
@@ -27,7 +27,7 @@ use Rattle.cell_records.specs.Keeping.{IsIndexOf}
 use Rattle.cell_records.specs.Order.{record_with, IsOrder}
 use Rattle.cell_records.specs.Slots.{start_at, slots_at, AreOrdered}
 use Rattle.heap_cells.specs.Inner.Records.{cell_in, cells_in, elements_by, AreLaid, AreSlots, Spells, AllSpell, IsArena}
-use Rattle.cell_records.specs.Resolving.{settled, cell_or_gone}
+use Rattle.cell_records.specs.Resolving.{settled}
 use Rattle.heap_cells.proofs.KeepingFacts.{is_seen, indexed, cond-append}
 use Rattle.heap_cells.proofs.RecordFacts.{has-at, piece-of, number-at, weight-slots}
 
@@ -110,7 +110,7 @@ settled_target known Plain = Plain
 settled_target known (At n) = At n
 settled_target known (Missing address) = target_at address (number_at known address)
 
-found-target : (address : ℕ) (found : Option ℕ) → slot_target (cell_or_gone address found) ≡ target_at address found
+found-target : (address : ℕ) (found : Option ℕ) → slot_target (option_map_or (λ n. slot.Cell (record { 0 = n })) found (slot.Gone address)) ≡ target_at address found
 found-target address None = refl
 found-target address (Some n) = refl
 
@@ -142,7 +142,7 @@ elements-settled known [] = refl
 elements-settled known (e ∷ es) =
     ap (λ t. t ∷ map (settled_target known) (map (target []) es)) (element-settled known e) ∙ ap (λ ts. target known e ∷ ts) (elements-settled known es)
 
-found-spells : (text : List ℕ) (seam address : ℕ) (found : Option ℕ) (e : Element) → Spells text seam (cell_or_gone address found) e
+found-spells : (text : List ℕ) (seam address : ℕ) (found : Option ℕ) (e : Element) → Spells text seam (option_map_or (λ n. slot.Cell (record { 0 = n })) found (slot.Gone address)) e
 found-spells text seam address None e = tt
 found-spells text seam address (Some n) e = tt
 

@@ -1,7 +1,8 @@
 -- Of the cells with one address the first is kept.
-use Rattle.std.proofs.Common.{◌≡◌, ℕ, zero, suc, ◌+◌, ◌<◌, ◌≤◌, ◌==◌, ◌||◌, ◌⊎◌, inl, inr, Bool, true, false, not, cond, List, [], ◌∷◌, ◌++◌, length, take, map, get_or, Some, refl, sym, ◌∙◌, ap, subst, arith, append_assoc}
+use Rattle.std.proofs.Common.{◌≡◌, ℕ, zero, suc, ◌+◌, ◌<◌, ◌≤◌, ◌==◌, ◌||◌, ◌⊎◌, inl, inr, Bool, true, false, not, cond, List, [], ◌∷◌, ◌++◌, length, take, map, get_or, Option, Some, refl, sym, ◌∙◌, ap, subst, arith, append_assoc}
 use Rattle.std.specs.Prelude.{slice_get}
 use Rattle.std.specs.List.{list_any}
+use Rattle.std.specs.Option.{option_map_or}
 use Rattle.std.proofs.Math.Seq.{take-length}
 use Rattle.std.proofs.lemmas.List.{take_more, length-map, map-append, take-map, length-take, append-nil}
 use Rattle.std.proofs.lemmas.Option.{get_or_from_slice_get, slice_get_within}
@@ -10,10 +11,10 @@ use Rattle.cell_records.specs.declared.arena.Arena.{Arena}
 use Rattle.cell_records.specs.declared.cells.CellRecord.{CellRecord}
 use Rattle.cell_records.specs.declared.cells.Slot.{Slot}
 use Rattle.cell_records.specs.declared.keeping.Indexed.{Indexed}
-use Rattle.cell_records.specs.Keeping.{moved, moved_record, kept_records, kept_slots, AreAllKept, AreFirstKept, IsIndexOf}
+use Rattle.cell_records.specs.Keeping.{moved_record, kept_records, kept_slots, AreAllKept, AreFirstKept, IsIndexOf}
 use Rattle.heap_cells.specs.Cells.{Cell, first_cells, addresses}
 use Rattle.heap_cells.specs.Inner.Keeping.{IsKept, IsIndexed}
-use Rattle.cell_records.specs.Order.{address_or, address_in, is_first, AreRanked}
+use Rattle.cell_records.specs.Order.{address_in, is_first, AreRanked}
 use Rattle.heap_cells.specs.Inner.Records.{cell_in, cells_in, AreSlots}
 use Rattle.cell_records.specs.Slots.{slots_at}
 use Rattle.heap_cells.proofs.PushingFacts.{AreSlots-push}
@@ -54,7 +55,7 @@ seen-first text enc rs i r is =
     ap (λ l. list_any (λ address. address == r.address) (addresses l)) (take-map (cell_in text enc) i rs)
     ∙ list_any-map (λ (cell : Cell). cell.address) (λ address. address == r.address) (map (cell_in text enc) (take i rs))
     ∙ list_any-map (cell_in text enc) (λ (cell : Cell). cell.address == r.address) (take i rs)
-    ∙ ap (λ a. list_any (λ (x : CellRecord). x.address == a) (take i rs)) (sym (ap (address_or 0) is))
+    ∙ ap (λ a. list_any (λ (x : CellRecord). x.address == a) (take i rs)) (sym (ap (λ (o : Option CellRecord). option_map_or (λ x. x.address) o 0) is))
     ∙ sym (not-not (list_any (λ (x : CellRecord). x.address == address_in rs i) (take i rs)))
 
 cond-not : (b : Bool) (cell : Cell) → cond (not b) [] (cell ∷ []) ≡ cond b (cell ∷ []) []
@@ -84,7 +85,8 @@ kept-more text seam enc rs records ss slots i cells r is are kept =
     let known = record-at text seam enc 0 rs (length ss) i r are.laid is in
     let piece = piece-of text seam enc [] rs ss i r are is in
     let last : CellRecord = record r { first = length slots } in
-    let more : moved_record rs i (length slots) ≡ last ∷ [] = ap (moved (length slots)) is in
+    let more : moved_record rs i (length slots) ≡ last ∷ [] =
+    ap (λ (o : Option CellRecord). option_map_or (λ x. record x { first = length slots } ∷ []) o []) is in
     subst (λ (l : List CellRecord). IsKept text seam enc (cells ++ cell_in text enc r ∷ []) (records ++ l) (slots ++ slots_at rs ss i)) (sym more) (record {
       slots_are = AreSlots-push text seam enc [] records slots (slots_at rs ss i) last
           kept.slots_are (record { first = refl; part = known.1.part; kind = known.1.kind }) piece.targets (are.spelled i r is);

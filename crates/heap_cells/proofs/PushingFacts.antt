@@ -1,7 +1,8 @@
 -- One more record, with its slots.
-use Rattle.std.proofs.Common.{◌≡◌, ℕ, zero, suc, ◌+◌, ◌-◌, ◌<◌, ◌≤◌, ◌⊎◌, inl, inr, List, [], ◌∷◌, ◌++◌, length, take, drop, map, Some, refl, sym, ◌∙◌, ap, subst, arith, length-append, length-drop}
+use Rattle.std.proofs.Common.{◌≡◌, ℕ, zero, suc, ◌+◌, ◌-◌, ◌<◌, ◌≤◌, ◌⊎◌, inl, inr, List, [], ◌∷◌, ◌++◌, length, take, drop, map, Option, Some, refl, sym, ◌∙◌, ap, subst, arith, length-append, length-drop}
 use Rattle.std.specs.Prelude.{slice_get, slice_range}
 use Rattle.std.specs.List.{flat_map}
+use Rattle.std.specs.Option.{option_map_or}
 use Rattle.std.proofs.lemmas.Bool.{cases_lt}
 use Rattle.std.proofs.lemmas.Option.{slice_get_past}
 use Rattle.std.proofs.lemmas.List.{length-map, map-append, take-append-le, drop-append-le, append-nil}
@@ -13,7 +14,7 @@ use Rattle.cell_records.specs.declared.cells.Slot.{Slot}
 use Rattle.heap_cells.specs.Cells.{Cell}
 use Rattle.heap_cells.specs.Targets.{target, slot_target}
 use Rattle.heap_cells.specs.Inner.Records.{elements_by, IsRecord, AreLaid, AreSlots, AllSpell}
-use Rattle.cell_records.specs.Slots.{first_or, start_at, slots_at}
+use Rattle.cell_records.specs.Slots.{start_at, slots_at}
 use Rattle.heap_cells.proofs.RecordFacts.{piece-of}
 
 -- ---- a record behind others
@@ -36,7 +37,7 @@ start_at-push (x ∷ rs) r zero total more inside first = refl
 start_at-push (x ∷ rs) r (suc i) total more inside first = start_at-push rs r i total more (omega arith) first
 
 start_at-end : (rs : List CellRecord) (r : CellRecord) (i more : ℕ) → i ≡ length rs → start_at (rs ++ r ∷ []) (i + 1) more ≡ more
-start_at-end rs r i more is = ap (first_or more) (slice_get_past (rs ++ r ∷ []) (i + 1) (omega (arith, is, length-append rs (r ∷ []))))
+start_at-end rs r i more is = ap (λ (o : Option CellRecord). option_map_or (λ x. x.first) o more) (slice_get_past (rs ++ r ∷ []) (i + 1) (omega (arith, is, length-append rs (r ∷ []))))
 
 slots-front : (slots added : List Slot) (a b : ℕ) → a ≤ b → b ≤ length slots → slice_range (slots ++ added) a b ≡ slice_range slots a b
 slots-front slots added a b ordered within =
@@ -67,7 +68,7 @@ slots_at-old text seam enc known rs slots added r old i are first is inside =
 
 slots_at-new : (rs : List CellRecord) (slots added : List Slot) (r : CellRecord) (i : ℕ) → r.first ≡ length slots → i ≡ length rs → slots_at (rs ++ r ∷ []) (slots ++ added) i ≡ added
 slots_at-new rs slots added r i first last =
-    let none : start_at rs i (length slots) ≡ length slots = ap (first_or (length slots)) (slice_get_past rs i (omega (arith, last))) in
+    let none : start_at rs i (length slots) ≡ length slots = ap (λ (o : Option CellRecord). option_map_or (λ x. x.first) o (length slots)) (slice_get_past rs i (omega (arith, last))) in
     ap (λ n. slice_range (slots ++ added) n (start_at (rs ++ r ∷ []) (i + 1) (length (slots ++ added)))) (start_at-push rs r i (length slots) (length (slots ++ added)) (omega arith) first ∙ none)
     ∙ ap (slice_range (slots ++ added) (length slots)) (start_at-end rs r i (length (slots ++ added)) last)
     ∙ slots-back slots added

@@ -1,10 +1,10 @@
 -- What becomes of a piece of the stream.
-use Rattle.std.specs.Prelude.{◌≡◌, ℕ, List, ◌∷◌, ◌++◌, length, Option, None, Some, Result, Ok, Err, slice_get}
+use Rattle.std.specs.Prelude.{◌≡◌, ℕ, List, ◌∷◌, ◌++◌, length, Option, None, Some, Result, Err, slice_get}
 use Rattle.dump_io.specs.Lines.{Header}
 use Rattle.line_source.specs.declared.header_sink.HeaderStop.{HeaderStop}
 use Rattle.line_source.specs.declared.header_sink.RefusedHeader.{RefusedHeader}
 use Rattle.line_source.specs.declared.scan_fault.ScanFault.{ScanFault}
-use Rattle.line_source.specs.declared.scan_fault.ScanFault.TheVariants.{HeaderTooLong, Stop}
+use Rattle.line_source.specs.declared.scan_fault.ScanFault.TheVariants.{Stop}
 use Rattle.line_source.specs.Streams.{too_long}
 
 -- where the first line that is too long begins
@@ -13,14 +13,8 @@ first_too_long limit bytes = slice_get (too_long limit bytes) 0
 
 -- the receiver's refusal that a result passes on
 abbrev pub stop_of : {T : Type 0} → Result T ScanFault → Option HeaderStop
-stop_of (Ok done) = None
-stop_of (Err (HeaderTooLong at)) = None
 stop_of (Err (Stop value)) = Some value
-
--- the result is the receiver's refusal, not a line that is too long
-abbrev pub IsStop : ScanFault → Type 0
-IsStop (HeaderTooLong at) = ⊥
-IsStop (Stop value) = Unit {0}
+stop_of _ = None
 
 -- the headers up to the refused one were heard, and that is the next
 pub record StopsAmong (before after : List Header) (refused : RefusedHeader) (hs : List Header) : Type 0 where

@@ -1,12 +1,12 @@
 // Headers from a stream that comes in pieces.
-ghost use Rattle.std.specs.Prelude.{◌≡◌, ◌+◌, ◌-◌, ◌<◌, ◌≤◌, ◌^◌, ◌++◌, ◌∷◌, [], ℕ, true, false, is_err, length, take, List, None, Some, Ok, Err, OnOk, OnErr, IfErr, IfSome, IsErrOf, All, ◌↔◌, slice_index, ◌==◌, if◌then◌else◌};
+ghost use Rattle.std.specs.Prelude.{◌≡◌, ◌+◌, ◌-◌, ◌<◌, ◌≤◌, ◌^◌, ◌++◌, ◌∷◌, [], ℕ, true, false, is_err, length, take, List, None, Some, Ok, Err, OnOk, OnErr, IfErr, IsSome, IfSome, IsErrOf, All, ◌↔◌, slice_index, ◌==◌, if◌then◌else◌};
 ghost use Rattle.memchr.specs.Find.{Nowhere, Passes, is_byte};
 ghost use Rattle.dump_io.specs.Lines.{Header, lf, equals_sign, text_of};
 ghost use Rattle.line_source.specs.Streams.{ended, plain, header, too_long, new_headers, open_headers, headers_before};
 ghost use Rattle.line_source.specs.Scan.{Scan, StandsFor, most_kept};
 ghost use Rattle.line_source.specs.declared.header_sink.RefusedHeader.{RefusedHeader};
 ghost use Rattle.line_source.specs.Receiver.{Hears};
-ghost use Rattle.line_source.specs.Feeding.{first_too_long, stop_of, IsStop, StopsAmong};
+ghost use Rattle.line_source.specs.Feeding.{first_too_long, stop_of, StopsAmong};
 ghost use Rattle.line_source.specs.Inner.Ends.{Ends};
 ghost use Rattle.line_source.specs.Inner.LastLine.{header_bytes, is_header_line};
 ghost use Rattle.line_source.specs.Inner.Takes.{Takes};
@@ -141,7 +141,7 @@ impl LineScan {
         requires open { H.stop into.old ≡ None }
         ensures spent { self.new.spent ≡ true }
         ensures stop { stop_value (H.stop into.new) ≡ stop_of result }
-        ensures only_stop { IfErr result IsStop }
+        ensures only_stop { OnErr result (IsSome (stop_of result)) }
         ensures heard { OnOk result ((stream : List ℕ) → StandsFor self.old stream
             → H.heard into.new ≡ H.heard into.old ++ open_headers stream) }
         ensures unheard { OnErr result (H.heard into.new ≡ H.heard into.old) }
@@ -158,7 +158,7 @@ impl LineScan {
     fn hear_last<H: HeaderSink>(&self, into: &mut H) -> Result<(), ScanFault>
         requires open { H.stop into.old ≡ None }
         ensures stop { stop_value (H.stop into.new) ≡ stop_of result }
-        ensures only_stop { IfErr result IsStop }
+        ensures only_stop { OnErr result (IsSome (stop_of result)) }
         ensures heard { OnOk result ((stream : List ℕ) → StandsFor self.now stream
             → H.heard into.new ≡ H.heard into.old ++ open_headers stream) }
         ensures unheard { OnErr result (H.heard into.new ≡ H.heard into.old) }

@@ -1,6 +1,6 @@
 -- The entries of a link list.
-use Rattle.std.specs.Prelude.{◌≡◌, ◌≢◌, ℕ, ◌+◌, ◌-◌, ◌<◌, ◌≤◌, ◌==◌, Bool, ◌&&◌, List, [], ◌∷◌, ◌++◌, length, Option, IfSome, codes, map, All, if◌then◌else◌}
-use Rattle.std.specs.Option.{option_map, option_map_or}
+use Rattle.std.specs.Prelude.{◌≡◌, ◌≢◌, ℕ, ◌+◌, ◌<◌, ◌==◌, Bool, ◌&&◌, List, [], ◌∷◌, ◌++◌, length, Option, codes, map, All, if◌then◌else◌}
+use Rattle.std.specs.Option.{option_map}
 use Rattle.link_entries.specs.Texts.{inside}
 use Rattle.link_entries.specs.Kinds.{Kind}
 use Rattle.link_entries.specs.Reading.{kind_of}
@@ -24,10 +24,6 @@ cut [] = [] ∷ []
 cut (c ∷ []) = (c ∷ []) ∷ []
 cut (c ∷ d ∷ text) = if is_gap c d then [] ∷ cut text else led_by c (cut (d ∷ text))
 
--- the parts of a rest, if there is one
-abbrev pub cut_rest : Option (List ℕ) → List (List ℕ)
-cut_rest rest = option_map_or cut rest []
-
 -- a part, and the number of bytes before it
 pub record Part : Type 0 where
   pub at : ℕ
@@ -37,14 +33,6 @@ pub record Part : Type 0 where
 abbrev pub parts_from : ℕ → List (List ℕ) → List Part
 parts_from at [] = []
 parts_from at (text ∷ texts) = record { at = at; text = text } ∷ parts_from (at + length text + 2) texts
-
--- the parts of a rest that ends at the offset
-abbrev pub parts_left : ℕ → Option (List ℕ) → List Part
-parts_left end rest = option_map_or (λ bytes. parts_from (end - length bytes) (cut bytes)) rest []
-
--- a rest has at most as many bytes as stand before the offset
-abbrev pub EndsBy : ℕ → Option (List ℕ) → Type 0
-EndsBy end rest = IfSome rest (λ bytes. length bytes ≤ end)
 
 -- the parts of what stands between the brackets; if nothing stands there, there are none
 abbrev pub parts_of : ℕ → List ℕ → List Part
@@ -68,10 +56,6 @@ entry_of part = record { at = part.at; text = part.text; kind = kind_of part.tex
 -- the entries of a list that begins at the offset, or `None` if the text isn't a list
 abbrev pub entries_at : ℕ → List ℕ → Option (List LinkEntry)
 entries_at at text = option_map (map entry_of) (list_parts at text)
-
--- the same, with offsets within the text
-abbrev pub entries_of : List ℕ → Option (List LinkEntry)
-entries_of text = entries_at 0 text
 
 -- the text is `[`, any bytes and `]`
 abbrev pub IsList : List ℕ → Type 0

@@ -1,3 +1,4 @@
+pub mod Cutting
 pub mod Layouts
 pub mod Numbers
 pub mod Opening

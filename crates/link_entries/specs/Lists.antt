@@ -1,5 +1,5 @@
 -- The entries of a process's link list, as a look-up finds them.
-use Rattle.std.specs.Prelude.{ℕ, Bool, true, false, List, [], Option, None, Some, slice_get, unwrap_or}
+use Rattle.std.specs.Prelude.{ℕ, Bool, List, [], Option, Some, is_none, slice_get, unwrap_or}
 use Rattle.std.specs.List.{list_any}
 use Rattle.link_entries.specs.Kinds.{Kind, is_same_kind}
 use Rattle.link_entries.specs.Entries.{LinkEntry}
@@ -9,14 +9,13 @@ pub record Links : Type 0 where
   pub unread : Bool
   pub entries : List LinkEntry
 
+-- the links of a process whose link list has these entries; it is unread if it isn't a list
+abbrev pub links_in : Option (List LinkEntry) → Links
+links_in entries = record { unread = is_none entries; entries = unwrap_or entries [] }
+
 -- the links of a process without a link list
 abbrev pub no_links : Links
-no_links = record { unread = false; entries = [] }
-
--- the links of a process whose link list has these entries, or isn't a list
-abbrev pub links_in : Option (List LinkEntry) → Links
-links_in None = record { unread = true; entries = [] }
-links_in (Some entries) = record { unread = false; entries = entries }
+no_links = links_in (Some [])
 
 -- the links at a place; past the last one, those of a process without a link list
 abbrev pub links_at : List Links → ℕ → Links

@@ -1,12 +1,9 @@
 -- What contracts see of entries: their values, regardless of where they lie in memory.
-use Rattle.std.specs.Prelude.{ℕ, List}
-use Rattle.std.specs.Borrow.{Bor}
 use Rattle.link_entries.specs.Kinds.{Kind, Link, LinkPort, To, ToPort, ToName, From, FromPort, Other}
-use Rattle.link_entries.specs.Entries.{LinkEntry, Part}
+use Rattle.link_entries.specs.Entries.{LinkEntry}
 use Rattle.link_entries.specs.declared.shapes.EntryKind.{EntryKind}
 use Rattle.link_entries.specs.declared.shapes.EntryKind.TheVariants as kind
 use Rattle.link_entries.specs.declared.shapes.Entry.{Entry}
-use Rattle.link_entries.specs.declared.cutting.Piece.{Piece}
 
 -- the value of a kind
 abbrev pub shown_kind : EntryKind → Kind
@@ -22,11 +19,3 @@ shown_kind kind.Other = Other
 -- the value of an entry
 abbrev pub shown_entry : Entry → LinkEntry
 shown_entry entry = record { at = entry.at; text = entry.text.now; kind = shown_kind entry.kind }
-
--- the value of a part
-abbrev pub shown_piece : Piece → Part
-shown_piece piece = record { at = piece.at; text = piece.text.now }
-
--- two texts
-abbrev pub both : Bor (List ℕ) × Bor (List ℕ) → List ℕ × List ℕ
-both texts = (texts.0.now, texts.1.now)

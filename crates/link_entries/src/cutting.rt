@@ -2,8 +2,8 @@
 ghost use Rattle.std.specs.Prelude.{◌≡◌, ◌+◌, ◌^◌, ◌<◌, ◌≤◌, [], ◌∷◌, length, take, drop, MatchOption, IfSome};
 ghost use Rattle.std.specs.Option.{option_copied};
 ghost use Rattle.std.specs.Iterator.{YieldsFirstBy, item_count};
-ghost use Rattle.link_entries.specs.Entries.{cut, cut_rest, list_parts};
-ghost use Rattle.link_entries.specs.Seen.{shown_piece};
+ghost use Rattle.link_entries.specs.Entries.{cut, list_parts};
+ghost use Rattle.link_entries.specs.Inner.Cutting.{cut_rest, shown_piece};
 ghost use Rattle.link_entries.specs.Inner.Searching.{IsFirst};
 
 use crate::texts::inside;
@@ -69,7 +69,8 @@ pub(crate) struct Parts<'a> {
 impl<'a> Model for Parts<'a> {
     ghost use Rattle.std.specs.Prelude.{List};
     ghost use Rattle.std.specs.Option.{option_copied};
-    ghost use Rattle.link_entries.specs.Entries.{Part, parts_left, EndsBy};
+    ghost use Rattle.link_entries.specs.Entries.{Part};
+    ghost use Rattle.link_entries.specs.Inner.Cutting.{parts_left, EndsBy};
 
     ghost Value = { List Part };
 

@@ -2,11 +2,11 @@
 ghost use Rattle.std.specs.Prelude.{◌≡◌, codes};
 ghost use Rattle.std.specs.Option.{option_map};
 ghost use Rattle.link_entries.specs.Reading.{at_last_comma, parties, to_kind, from_kind, monitor_kind, kind_of};
-ghost use Rattle.link_entries.specs.Seen.{both, shown_kind};
+ghost use Rattle.link_entries.specs.Seen.{shown_kind};
 ghost use Rattle.link_entries.specs.Texts.{inside};
 ghost use Rattle.link_entries.specs.Kinds.{to_opening, from_opening};
 ghost use Rattle.link_entries.specs.Inner.Opening.{is_opened};
-ghost use Rattle.link_entries.specs.Inner.Searching.{IsLast};
+ghost use Rattle.link_entries.specs.Inner.Searching.{IsLast, both};
 
 use crate::shapes::EntryKind;
 use crate::texts::{inside, is_braced, is_pid, is_port, is_reference};

@@ -3,7 +3,8 @@
 ghost use Rattle.std.specs.Prelude.{◌≡◌, ◌+◌, ◌≤◌, length};
 ghost use Rattle.link_entries.specs.Kinds.{is_same_kind};
 ghost use Rattle.link_entries.specs.Entries.{entry_of};
-ghost use Rattle.link_entries.specs.Seen.{shown_kind, shown_entry, shown_piece};
+ghost use Rattle.link_entries.specs.Seen.{shown_kind, shown_entry};
+ghost use Rattle.link_entries.specs.Inner.Cutting.{shown_piece};
 ghost use Rattle.link_entries.specs.Inner.Layouts.{layout_of, partner_in, reference_in};
 
 use crate::cutting::Piece;

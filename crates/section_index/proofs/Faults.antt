@@ -1,6 +1,6 @@
 -- A fault of the scan on the first bytes of a dump is the refused of the whole dump.
 use Rattle.std.proofs.Common.{arith, ◌≡◌, ℕ, ◌<◌, ◌≤◌, List, [], ◌∷◌, ◌++◌, length, Option, None, Some, refl, sym, ◌∙◌, ap, subst, append_assoc}
-use Rattle.std.specs.Prelude.{All, slice_get}
+use Rattle.std.specs.Prelude.{All, Err, IsSome, slice_get}
 use Rattle.std.proofs.lemmas.List.Elements.{All-nil, All-head, All-append, All-same}
 use Rattle.dump_io.specs.Limits.{Numbers}
 use Rattle.dump_io.specs.Lines.{Header, headers}
@@ -9,7 +9,7 @@ use Rattle.line_source.specs.declared.scan_fault.ScanFault.{ScanFault}
 use Rattle.line_source.specs.declared.scan_fault.ScanFault.TheVariants.{HeaderTooLong as LineTooLong, Stop}
 use Rattle.line_source.specs.declared.header_sink.RefusedHeader.{RefusedHeader}
 use Rattle.line_source.specs.Streams.{ended_headers, open_headers, new_headers, headers_before, too_long}
-use Rattle.line_source.specs.Feeding.{first_too_long, IsStop, StopsAmong}
+use Rattle.line_source.specs.Feeding.{first_too_long, stop_of, StopsAmong}
 use Rattle.line_source.specs.Receiver.{stop_value}
 use Rattle.line_source.specs.Growth.{TooLongGrows}
 use Rattle.section_index.specs.declared.opening.OpenFault.TheVariants.{HeaderTooLong}
@@ -127,11 +127,11 @@ stop-last : (limits : Numbers) (bytes : List ℕ) (before after : Hearing) (refu
 stop-last limits bytes before after refused grows heard keeps stop among short = grind (arith, append_assoc, refused-here, stated, All-same, All-nil)
 
 pub finish-refused : (limits : Numbers) (bytes : List ℕ) (before after : Hearing) (fault : ScanFault) → Grows → before.heard ≡ ended_headers bytes → KeepsTo limits after
-    → IsStop fault
+    → IsSome (stop_of {T = Unit {0}} (Err fault))
     → ((value : HeaderStop) → fault ≡ Stop value → stop_value after.stop ≡ Some value)
     → ((refused : RefusedHeader) → after.stop ≡ Some refused → StopsAmong before.heard after.heard refused (open_headers bytes))
     → too_long limits.header bytes ≡ [] → IsHeaderFault limits bytes (open_fault_of fault)
-finish-refused limits bytes before after (LineTooLong at) grows heard keeps only stop among short = absurd only
+finish-refused limits bytes before after (LineTooLong at) grows heard keeps only stop among short = cc
 finish-refused limits bytes before after (Stop value) grows heard keeps only stop among short =
     let some = refused-some after.stop value (stop value refl) in
     subst (λ v. IsHeaderFault limits bytes (stop_fault v)) some.2

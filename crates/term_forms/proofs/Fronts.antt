@@ -13,8 +13,8 @@ use Rattle.dump_io.specs.Numbers.{hex_number}
 use Rattle.term_forms.specs.Words.{colon, is_hex_digit, is_integer, IsBracketed, IsLed, led_of}
 use Rattle.term_forms.specs.Reading.{front}
 use Rattle.term_forms.specs.Inner.Chain.{◌>>=◌}
-use Rattle.term_forms.specs.Inner.Fronts.{integer_len, bracketed_len, small_front, atom_front, pid_front, port_front, ref_front}
-use Rattle.term_forms.specs.Elements.{Element, Nil, Small, Atom, Pid, Port, Ref, IsElem, port_word}
+use Rattle.term_forms.specs.Inner.Fronts.{integer_len, bracketed_len, small_front, atom_front, pid_front, port_front, ref_front, port_word}
+use Rattle.term_forms.specs.Elements.{Element, Nil, Small, Atom, Pid, Port, Ref, IsElem}
 use Rattle.term_forms.proofs.Steps.{bind_from, guard_from, some_pair}
 use Rattle.term_forms.proofs.Runs.{run_over, run_passes, run_shorter}
 use Rattle.term_forms.proofs.Hexes.{IsHex, hex_parts, hex_from, led_full}

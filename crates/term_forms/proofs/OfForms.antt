@@ -1,6 +1,6 @@
 -- The laws on forms.
 use Rattle.std.proofs.Common.{◌≡◌, ℕ, List, [], ◌∷◌, ◌++◌, length, Option, Some, None, refl, sym, ◌∙◌, inl}
-use Rattle.std.specs.Prelude.{IfSome, IfNone}
+use Rattle.std.specs.Prelude.{◌≢◌, IfSome, IfNone}
 use Rattle.std.specs.Option.{option_map}
 use Rattle.std.proofs.lemmas.Option.{same_Some}
 use Rattle.dump_io.specs.Numbers.{hexadecimal as hex}
@@ -12,6 +12,7 @@ use Rattle.term_forms.specs.ReadingForms.{form_of}
 use Rattle.term_forms.specs.Elements.{Element, IsElem, plain_elem}
 use Rattle.term_forms.specs.Joined.{IsJoined, plain_joined}
 use Rattle.term_forms.specs.Forms.{HeapForm, Cons, Tuple, Float, Long, Pid, Port, Ext, HeapBin, RefBin, SubBin, Flat, Hash, Node, IsForm, IsRange, plain_form}
+use Rattle.term_forms.specs.Places.{elements_of}
 use Rattle.term_forms.specs.Reading.{whole_of}
 use Rattle.term_forms.specs.Seen.{element}
 use Rattle.term_forms.specs.SeenForms.{heap_form}
@@ -35,6 +36,19 @@ form_none_from enc law text none = of (form_of enc text) refl
     of : (o : Option HeapForm) → form_of enc text ≡ o → form_of enc text ≡ None
     of None e = e
     of (Some f) e = absurd (none f (form_sound enc law text f e))
+
+-- a form has no elements, unless its text begins with the tag of one that has
+pub form-without : (enc : Enc) (tag : ℕ) (text : List ℕ) (f : HeapForm) → (tag ≢ 108) × (tag ≢ 116) × (tag ≢ 77) → IsForm enc (tag ∷ text) f → elements_of f ≡ []
+form-without enc tag text (Cons head tail) other is = absurd (other.0 (cc is.2))
+form-without enc tag text (Tuple elements) other is = absurd (other.1 (cc is.2))
+form-without enc tag text (Flat keys values) other is = absurd (other.2 (cc is.3))
+form-without enc tag text (Hash size children) other is = absurd (other.2 (cc is.3))
+form-without enc tag text (Node children) other is = absurd (other.2 (cc is.2))
+form-without enc tag text f other is = refl
+
+pub plain-without : (enc : Enc) → PayloadIsRead enc → (tag : ℕ) (text : List ℕ) (f : HeapForm) → (tag ≢ 108) × (tag ≢ 116) × (tag ≢ 77)
+    → form_of enc (tag ∷ text) ≡ Some f → elements_of f ≡ []
+plain-without enc law tag text f other is = form-without enc tag text f other (form_sound enc law (tag ∷ text) f is)
 
 joined_plain : (text : List ℕ) (es : List Element) → IsJoined text es → IsJoined (plain_joined es) es
 joined_plain text [] is = refl

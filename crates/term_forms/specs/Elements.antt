@@ -12,10 +12,6 @@ pub data Element : Type 0 where
   Port : List ℕ → Element
   Ref : ℕ → Element
 
--- what may follow the tag of a port
-abbrev pub port_word : List ℕ
-port_word = codes "#Port"
-
 -- the texts that spell an element
 abbrev pub IsElem : List ℕ → Element → Type 0
 -- `N` is the empty list

@@ -18,10 +18,6 @@ element (elem.Ref address) = Ref address
 abbrev pub element_len : Elem × ℕ → Element × ℕ
 element_len found = (element found.0, found.1)
 
--- the value of an element, with a text
-abbrev pub element_rest : Elem × Bor (List ℕ) → Element × List ℕ
-element_rest found = (element found.0, found.1.now)
-
 -- a number, with a text
 abbrev pub number_rest : ℕ × Bor (List ℕ) → ℕ × List ℕ
 number_rest found = (found.0, found.1.now)

@@ -5,7 +5,8 @@ ghost use Rattle.std.specs.Iterator.{YieldsFirstBy, item_count};
 ghost use Rattle.term_forms.specs.Elements.{Element, IsElem};
 ghost use Rattle.term_forms.specs.Reading.{whole_of};
 ghost use Rattle.term_forms.specs.Inner.Joins.{until_of, behind, joined_of, joined_list, with_first};
-ghost use Rattle.term_forms.specs.Seen.{element, element_rest};
+ghost use Rattle.term_forms.specs.Seen.{element};
+ghost use Rattle.term_forms.specs.Inner.Ends.{element_rest};
 
 use crate::elements::elem;
 use crate::opening::first_in;

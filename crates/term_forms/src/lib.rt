@@ -24,6 +24,7 @@ mod elems;
 mod forms;
 mod laws;
 mod opening;
+mod plain;
 pub mod reading;
 pub mod shapes;
 mod words;

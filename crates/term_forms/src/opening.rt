@@ -1,5 +1,5 @@
 // Forms whose elements are read when they are asked for.
-ghost use Rattle.std.specs.Prelude.{◌≡◌, ◌<◌, ◌≤◌, ◌-◌, [], length, None, Some, IfSome, IfNone};
+ghost use Rattle.std.specs.Prelude.{◌≡◌, ◌<◌, ◌≤◌, ◌-◌, [], length, true, None, Some, IsSome, IfSome, IfNone};
 ghost use Rattle.std.specs.Bool.{OnTrue, OnFalse};
 ghost use Rattle.std.specs.Option.{option_map, option_and_then};
 ghost use Rattle.term_forms.specs.Unread.{IsFirstOf};
@@ -13,11 +13,11 @@ ghost use Rattle.term_forms.specs.Seen.{element, number_rest};
 ghost use Rattle.term_forms.specs.SeenOpened.{opened_form, IsOpenedIn};
 ghost use Rattle.term_forms.specs.SeenPlaces.{placed};
 
-use crate::elems::{elem_until, end_of, read_whole};
-use crate::forms::form;
+use crate::elems::{Elems, elem_until, end_of, read_whole};
+use crate::plain::read_plain;
 use crate::shapes::{Opened, PlacedElem};
 use crate::words::split_number;
-use binary_payloads::Enc;
+use binary_payloads::{Enc, payload_bytes_are_read};
 use std::marker::Model;
 
 /// The elements that a text has to spell from a place on, joined by commas. None of them is read before it is
@@ -124,6 +124,14 @@ impl<'a> Joined<'a> {
     {
         self.rest.is_empty()
     }
+
+    // All the elements, if the text spells them, which isn't checked if `spelled` says that it is known.
+    pub(crate) fn all(self, spelled: bool) -> Option<Elems<'a>>
+        requires { spelled ≡ true → IsSome self.elements }
+        ensures { result ≡ self.entry.elements }
+    {
+        Elems::new(self.left, self.rest, spelled)
+    }
 }
 
 // A number, and that many elements.
@@ -188,16 +196,14 @@ fn map<'a>(text: &'a [u8], rest: &'a [u8]) -> Option<Opened<'a>>
     }
 }
 
-/// How the form begins that the whole text spells: what stands before its elements is read, and these can be
-/// read one by one. If all of them are read, and are followed by nothing, the text spells the form, as
-/// [`form`](crate::reading::form) returns it. Returns `None` only if the text spells no form.
+// What `open_form` returns. If the text is known to spell a form, the characters of its payload aren't checked.
 #[tactic(auto, unfolding(crate::specs::ReadingForms::form_of))]
-pub fn open_form(text: &[u8], enc: Enc) -> Option<Opened<'_>>
-    // With the elements that the text spells it is the form of the text.
+pub(crate) fn open_known(text: &[u8], enc: Enc, spelled: bool) -> Option<Opened<'_>>
+    requires { spelled ≡ true → IsSome (form_of enc text.now) }
     ensures form { option_and_then opened_form result ≡ form_of enc text.now }
-    // Each element is read at its place.
     ensures places { IfSome result (IsOpenedIn text.now) }
 {
+    payload_bytes_are_read(enc);
     let (tag, rest) = text.split_first()?;
     match *tag {
         b'l' => list(text, rest),
@@ -207,8 +213,20 @@ pub fn open_form(text: &[u8], enc: Enc) -> Option<Opened<'_>>
         }
         b'M' => map(text, rest),
         _ => {
-            let found = form(text, enc)?;
+            let found = read_plain(*tag, rest, enc, spelled)?;
             Some(Opened::Plain(found))
         }
     }
+}
+
+/// How the form begins that the whole text spells: what stands before its elements is read, and these can be
+/// read one by one. If all of them are read, and are followed by nothing, the text spells the form, as
+/// [`form`](crate::reading::form) returns it. Returns `None` only if the text spells no form.
+pub fn open_form(text: &[u8], enc: Enc) -> Option<Opened<'_>>
+    // With the elements that the text spells it is the form of the text.
+    ensures form { option_and_then opened_form result ≡ form_of enc text.now }
+    // Each element is read at its place.
+    ensures places { IfSome result (IsOpenedIn text.now) }
+{
+    open_known(text, enc, false)
 }

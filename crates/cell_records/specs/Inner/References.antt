@@ -5,9 +5,8 @@ use Rattle.cell_records.specs.declared.cells.Slot.TheVariants as slot
 
 -- the address of a slot that is a reference, with the place of the slot
 abbrev pub reference_of : Slot → ℕ → List (ℕ × ℕ)
-reference_of (slot.Imm span) place = []
-reference_of (slot.Cell ix) place = []
 reference_of (slot.Gone address) place = (address, place) ∷ []
+reference_of other place = []
 
 -- the addresses of the references among the slots, with their places
 pub record AreReferences (slots : List Slot) (references : List (ℕ × ℕ)) : Type 0 where

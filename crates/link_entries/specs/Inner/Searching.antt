@@ -1,5 +1,6 @@
--- Searching a text for a byte.
+-- Searching a text for a byte, and the texts on both sides of it.
 use Rattle.std.specs.Prelude.{◌≡◌, ℕ, ◌+◌, ◌<◌, ◌≤◌, ◌==◌, true, List, length, slice_index, Option, MatchOption}
+use Rattle.std.specs.Borrow.{Bor}
 
 -- the byte at a place is this one
 abbrev pub Holds : ℕ → List ℕ → ℕ → Type 0
@@ -18,3 +19,7 @@ IsFirst byte text place =
 abbrev pub IsLast : ℕ → List ℕ → Option ℕ → Type 0
 IsLast byte text place =
     MatchOption place (Nowhere byte text 0 (length text)) (λ k. (k < length text) × Nowhere byte text (k + 1) (length text) × Holds byte text k)
+
+-- two texts
+abbrev pub both : Bor (List ℕ) × Bor (List ℕ) → List ℕ × List ℕ
+both texts = (texts.0.now, texts.1.now)

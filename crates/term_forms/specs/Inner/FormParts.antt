@@ -5,11 +5,11 @@ use Rattle.std.specs.List.{starts_with}
 use Rattle.dump_io.specs.Numbers.{hex_number}
 use Rattle.binary_payloads.specs.declared.enc.Enc.{Enc}
 use Rattle.term_forms.specs.Words.{colon, bar, letter, led_of}
-use Rattle.term_forms.specs.Elements.{Element, port_word}
+use Rattle.term_forms.specs.Elements.{Element}
 use Rattle.term_forms.specs.Forms.{HeapForm, Cons, Float, Port, HeapBin, RefBin, SubBin, Flat, Hash, Node}
 use Rattle.term_forms.specs.Reading.{whole_of}
 use Rattle.term_forms.specs.Inner.Chain.{◌>>=◌}
-use Rattle.term_forms.specs.Inner.Fronts.{bracketed_len}
+use Rattle.term_forms.specs.Inner.Fronts.{bracketed_len, port_word}
 use Rattle.term_forms.specs.Inner.Joins.{until_of, joined_of}
 use Rattle.term_forms.specs.Inner.PayloadTest.{payload_test}
 

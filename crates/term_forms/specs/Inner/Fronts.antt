@@ -1,11 +1,15 @@
 -- How the readers of elements find the longest prefix of a text, tag by tag.
-use Rattle.std.specs.Prelude.{ℕ, ◌+◌, ◌-◌, ◌==◌, ◌&&◌, List, [], ◌∷◌, length, take, drop, Option, None, Some, nat_eq, nat_lt, nat_le, if◌then◌else◌}
+use Rattle.std.specs.Prelude.{ℕ, ◌+◌, ◌-◌, ◌==◌, ◌&&◌, List, [], ◌∷◌, length, take, drop, Option, None, Some, nat_eq, nat_lt, nat_le, codes, if◌then◌else◌}
 use Rattle.std.specs.List.{prefix_len, starts_with}
 use Rattle.std.specs.Char.{is_ascii_digit}
 use Rattle.dump_io.specs.Numbers.{hex_number}
 use Rattle.term_forms.specs.Words.{minus, less, greater, is_hex_digit, is_dotted, led_of}
-use Rattle.term_forms.specs.Elements.{Element, Small, Atom, Pid, Port, Ref, port_word}
+use Rattle.term_forms.specs.Elements.{Element, Small, Atom, Pid, Port, Ref}
 use Rattle.term_forms.specs.Inner.Chain.{◌>>=◌}
+
+-- what may follow the tag of a port
+abbrev pub port_word : List ℕ
+port_word = codes "#Port"
 
 -- how many digits begin the text, if there are any
 unfoldable pub digits_len : List ℕ → Option ℕ

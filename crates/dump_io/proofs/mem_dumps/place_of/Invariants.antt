@@ -1,5 +1,5 @@
 use Rattle.std.proofs.Common.{◌≡◌, drop}
-use Rattle.dump_io.specs.MemDumps.{find_file}
+use Rattle.dump_io.specs.File.{find_file}
 use Rattle.dump_io.proofs.mem_dumps.place_of.Given as goal
 
 abbrev pub invariant-loop-i : goal.invariant-loop-i

@@ -1,7 +1,7 @@
 use Rattle.std.proofs.Common.{◌≡◌, suc, ◌+◌, ◌-◌, length, take, drop, Some, sym, ◌∙◌, ap, arith}
 use Rattle.std.proofs.lemmas.Grind.{common_steps}
 use Rattle.std.specs.Option.{option_map}
-use Rattle.link_entries.specs.Seen.{both}
+use Rattle.link_entries.specs.Inner.Searching.{both}
 use Rattle.link_entries.proofs.Commas.{at_last_comma-none, at_last_comma-at}
 use Rattle.link_entries.proofs.kinds.at_last_comma.Goals as goal
 

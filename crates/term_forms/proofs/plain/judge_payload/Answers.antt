@@ -1,6 +1,6 @@
 use Rattle.std.proofs.lemmas.Bool.Decides.{same_from_decides}
 use Rattle.term_forms.proofs.PayloadTests.{payload_test-decides}
-use Rattle.term_forms.proofs.forms.judge_payload.Goals as goal
+use Rattle.term_forms.proofs.plain.judge_payload.Goals as goal
 
 pub returns : goal.returns
 returns c =
