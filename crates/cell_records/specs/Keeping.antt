@@ -12,18 +12,13 @@ use Rattle.cell_records.specs.Slots.{slots_at}
 abbrev pub moved_record : List CellRecord → ℕ → ℕ → List CellRecord
 moved_record records i first = option_map_or (λ r. record r { first = first } ∷ []) (slice_get records i) []
 
--- the slots of those of the first n records that are the first with their address
-abbrev pub kept_slots : List CellRecord → List Slot → ℕ → List Slot
-kept_slots records slots zero = []
-kept_slots records slots (suc n) =
-    if is_first records n then kept_slots records slots n ++ slots_at records slots n else kept_slots records slots n
-
--- these records, each with its slots behind those of the one before
-abbrev pub kept_records : List CellRecord → List Slot → ℕ → List CellRecord
-kept_records records slots zero = []
-kept_records records slots (suc n) =
-    if is_first records n then kept_records records slots n ++ moved_record records n (length (kept_slots records slots n))
-    else kept_records records slots n
+-- those of the first n records that are the first with their address, and their
+-- slots: those of each record come behind those of the one before
+abbrev pub kept_upto : List CellRecord → List Slot → ℕ → List CellRecord × List Slot
+kept_upto records slots zero = ([], [])
+kept_upto records slots (suc n) =
+    let kept = kept_upto records slots n in
+    if is_first records n then (kept.0 ++ moved_record records n (length kept.1), kept.1 ++ slots_at records slots n) else kept
 
 -- each record is the first with its address, and all are kept as they are
 pub record AreAllKept (all : Arena) (own : ℕ) (found : Indexed) : Type 0 where
@@ -33,9 +28,9 @@ pub record AreAllKept (all : Arena) (own : ℕ) (found : Indexed) : Type 0 where
 
 -- the first with each address are kept, and it is counted how many of these are among the first `own`
 pub record AreFirstKept (all : Arena) (own : ℕ) (found : Indexed) : Type 0 where
-  pub cells_are : found.arena.cells.items ≡ kept_records all.cells.items all.slots.items (length all.cells.items)
-  pub slots_are : found.arena.slots.items ≡ kept_slots all.cells.items all.slots.items (length all.cells.items)
-  pub own_is : found.own ≡ length (kept_records all.cells.items all.slots.items own)
+  pub cells_are : found.arena.cells.items ≡ (kept_upto all.cells.items all.slots.items (length all.cells.items)).0
+  pub slots_are : found.arena.slots.items ≡ (kept_upto all.cells.items all.slots.items (length all.cells.items)).1
+  pub own_is : found.own ≡ length (kept_upto all.cells.items all.slots.items own).0
 
 -- the records that are the first with their address, with their order by address
 pub record IsIndexOf (all : Arena) (own : ℕ) (found : Indexed) : Type 0 where

@@ -1,6 +1,6 @@
 // Keeping the first of the cells with each address.
 ghost use Rattle.std.specs.Prelude.{◌≡◌, ◌+◌, ◌<◌, ◌≤◌, ◌++◌, length, OnOk, IfOk};
-ghost use Rattle.cell_records.specs.Keeping.{moved_record, kept_records, kept_slots, IsIndexOf};
+ghost use Rattle.cell_records.specs.Keeping.{moved_record, kept_upto, IsIndexOf};
 ghost use Rattle.cell_records.specs.Inner.Firsts.{AreFirsts};
 ghost use Rattle.cell_records.specs.Slots.{slots_at, start_at, AreOrdered};
 
@@ -51,11 +51,11 @@ fn keep_part(
     requires within { upto ≤ length all.now.cells.items }
     requires few { length all.now.slots.items < 4294967296 }
     requires ordered { AreOrdered all.now.cells.items (length all.now.slots.items) }
-    requires cells { kept.old.cells.items ≡ kept_records all.now.cells.items all.now.slots.items from }
-    requires slots { kept.old.slots.items ≡ kept_slots all.now.cells.items all.now.slots.items from }
+    requires cells { kept.old.cells.items ≡ (kept_upto all.now.cells.items all.now.slots.items from).0 }
+    requires slots { kept.old.slots.items ≡ (kept_upto all.now.cells.items all.now.slots.items from).1 }
     requires room { length kept.old.cells.items ≤ from }
-    ensures cells { OnOk result (kept.new.cells.items ≡ kept_records all.now.cells.items all.now.slots.items upto) }
-    ensures slots { OnOk result (kept.new.slots.items ≡ kept_slots all.now.cells.items all.now.slots.items upto) }
+    ensures cells { OnOk result (kept.new.cells.items ≡ (kept_upto all.now.cells.items all.now.slots.items upto).0) }
+    ensures slots { OnOk result (kept.new.slots.items ≡ (kept_upto all.now.cells.items all.now.slots.items upto).1) }
     ensures room { OnOk result (length kept.new.cells.items ≤ upto) }
 {
     for i in from..upto {
@@ -79,9 +79,9 @@ fn keep_firsts(
     requires few { length all.slots.items < 4294967296 }
     requires ordered { AreOrdered all.cells.items (length all.slots.items) }
     ensures few { IfOk result (λ found. (length found.0.cells.items ≤ length all.cells.items) × (found.1 ≤ length all.cells.items)) }
-    ensures cells { IfOk result (λ found. found.0.cells.items ≡ kept_records all.cells.items all.slots.items (length all.cells.items)) }
-    ensures slots { IfOk result (λ found. found.0.slots.items ≡ kept_slots all.cells.items all.slots.items (length all.cells.items)) }
-    ensures own { IfOk result (λ found. found.1 ≡ length (kept_records all.cells.items all.slots.items own)) }
+    ensures cells { IfOk result (λ found. found.0.cells.items ≡ (kept_upto all.cells.items all.slots.items (length all.cells.items)).0) }
+    ensures slots { IfOk result (λ found. found.0.slots.items ≡ (kept_upto all.cells.items all.slots.items (length all.cells.items)).1) }
+    ensures own { IfOk result (λ found. found.1 ≡ length (kept_upto all.cells.items all.slots.items own).0) }
 {
     let mut kept = Arena::new(alloc);
     keep_part(&all, firsts, 0, own, &mut kept)?;

@@ -11,7 +11,7 @@ use Rattle.cell_records.specs.declared.arena.Arena.{Arena}
 use Rattle.cell_records.specs.declared.cells.CellRecord.{CellRecord}
 use Rattle.cell_records.specs.declared.cells.Slot.{Slot}
 use Rattle.cell_records.specs.declared.keeping.Indexed.{Indexed}
-use Rattle.cell_records.specs.Keeping.{moved_record, kept_records, kept_slots, AreAllKept, AreFirstKept, IsIndexOf}
+use Rattle.cell_records.specs.Keeping.{moved_record, kept_upto, AreAllKept, AreFirstKept, IsIndexOf}
 use Rattle.heap_cells.specs.Cells.{Cell, first_cells, addresses}
 use Rattle.heap_cells.specs.Inner.Keeping.{IsKept, IsIndexed}
 use Rattle.cell_records.specs.Order.{address_in, is_first, AreRanked}
@@ -86,7 +86,7 @@ kept-more text seam enc rs records ss slots i cells r is are kept =
     let piece = piece-of text seam enc [] rs ss i r are is in
     let last : CellRecord = record r { first = length slots } in
     let more : moved_record rs i (length slots) ≡ last ∷ [] =
-    ap (λ (o : Option CellRecord). option_map_or (λ x. record x { first = length slots } ∷ []) o []) is in
+    ap (λ (o : Option CellRecord). option_map_or (λ (x : CellRecord). record x { first = length slots } ∷ []) o []) is in
     subst (λ (l : List CellRecord). IsKept text seam enc (cells ++ cell_in text enc r ∷ []) (records ++ l) (slots ++ slots_at rs ss i)) (sym more) (record {
       slots_are = AreSlots-push text seam enc [] records slots (slots_at rs ss i) last
           kept.slots_are (record { first = refl; part = known.1.part; kind = known.1.kind }) piece.targets (are.spelled i r is);
@@ -96,20 +96,21 @@ kept-more text seam enc rs records ss slots i cells r is are kept =
 -- a record that is the first with its address is kept, and no other one
 kept-unless : (text : List ℕ) (seam : ℕ) (enc : Enc) (rs records : List CellRecord) (ss slots : List Slot) (i : ℕ) (cells : List Cell) (r : CellRecord) (b : Bool)
     → slice_get rs i ≡ Some r → AreSlots text seam enc [] rs ss → IsKept text seam enc cells records slots
-    → IsKept text seam enc (cells ++ cond b (cell_in text enc r ∷ []) []) (cond b (records ++ moved_record rs i (length slots)) records) (cond b (slots ++ slots_at rs ss i) slots)
+    → let kept : List CellRecord × List Slot = cond b (records ++ moved_record rs i (length slots), slots ++ slots_at rs ss i) (records, slots) in
+    IsKept text seam enc (cells ++ cond b (cell_in text enc r ∷ []) []) kept.0 kept.1
 kept-unless text seam enc rs records ss slots i cells r true is are kept = kept-more text seam enc rs records ss slots i cells r is are kept
 kept-unless text seam enc rs records ss slots i cells r false is are kept = subst (λ l. IsKept text seam enc l records slots) (sym (append-nil cells)) kept
 
 kept-upto : (text : List ℕ) (seam : ℕ) (enc : Enc) (rs : List CellRecord) (ss : List Slot) (n : ℕ) → n ≤ length rs → AreSlots text seam enc [] rs ss
-    → IsKept text seam enc (first_cells [] (take n (cells_in text enc rs))) (kept_records rs ss n) (kept_slots rs ss n)
+    → IsKept text seam enc (first_cells [] (take n (cells_in text enc rs))) (kept_upto rs ss n).0 (kept_upto rs ss n).1
 kept-upto text seam enc rs ss zero inside are = record { slots_are = record { laid = refl; targets = refl; spelled = λ i r is. cc }; cells_are = refl }
 kept-upto text seam enc rs ss (suc n) inside are =
     let there = has-at rs n (omega arith) in
     let next : suc n ≡ n + 1 = omega arith in
     let cells = first_cells [] (take n (cells_in text enc rs)) in
     let more = ap (λ m. first_cells [] (take m (cells_in text enc rs))) next ∙ first_cells-more text enc rs n there.0 there.1 in
-    subst (λ l. IsKept text seam enc l (kept_records rs ss (suc n)) (kept_slots rs ss (suc n))) (sym more)
-    (kept-unless text seam enc rs (kept_records rs ss n) ss (kept_slots rs ss n) n cells there.0 (is_first rs n) there.1 are (kept-upto text seam enc rs ss n (omega arith) are))
+    subst (λ l. IsKept text seam enc l (kept_upto rs ss (suc n)).0 (kept_upto rs ss (suc n)).1) (sym more)
+    (kept-unless text seam enc rs (kept_upto rs ss n).0 ss (kept_upto rs ss n).1 n cells there.0 (is_first rs n) there.1 are (kept-upto text seam enc rs ss n (omega arith) are))
 
 -- ---- where each record is the first with its address
 
@@ -157,13 +158,13 @@ first-indexed text seam enc all own found few slots ranks is =
     let rs = all.cells.items in
     let ss = all.slots.items in
     let cells = cells_in text enc rs in
-    let kept = subst (λ l. IsKept text seam enc (first_cells [] l) (kept_records rs ss (length rs)) (kept_slots rs ss (length rs))) (cells-whole text enc rs)
+    let kept = subst (λ l. IsKept text seam enc (first_cells [] l) (kept_upto rs ss (length rs)).0 (kept_upto rs ss (length rs)).1) (cells-whole text enc rs)
     (kept-upto text seam enc rs ss (length rs) (omega arith) slots) in
     record {
       kept = subst (λ (l : List CellRecord). IsKept text seam enc (first_cells [] cells) l found.arena.slots.items) (sym is.cells_are)
-          (subst (λ (l : List Slot). IsKept text seam enc (first_cells [] cells) (kept_records rs ss (length rs)) l) (sym is.slots_are) kept);
+          (subst (λ (l : List Slot). IsKept text seam enc (first_cells [] cells) (kept_upto rs ss (length rs)).0 l) (sym is.slots_are) kept);
       ranks_are = ranks;
-      own_is = is.own_is ∙ sym (length-map (kept_records rs ss own) (cell_in text enc)) ∙ ap length (kept-upto text seam enc rs ss own few slots).cells_are;
+      own_is = is.own_is ∙ sym (length-map (kept_upto rs ss own).0 (cell_in text enc)) ∙ ap length (kept-upto text seam enc rs ss own few slots).cells_are;
     }
 
 pub indexed : (text : List ℕ) (seam : ℕ) (enc : Enc) (all : Arena) (own : ℕ) (found : Indexed) → own ≤ length all.cells.items → AreSlots text seam enc [] all.cells.items all.slots.items

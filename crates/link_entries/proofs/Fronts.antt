@@ -1,30 +1,20 @@
 -- Fronts and backs of a text.
-use Rattle.std.proofs.Common.{◌≡◌, ◌≢◌, ℕ, ◌==◌, true, List, [], ◌∷◌, ◌++◌, Option, Some, None, refl, ◌∙◌, ap, arith, if◌then◌else◌}
+use Rattle.std.proofs.Common.{◌≡◌, ◌≢◌, ℕ, List, ◌++◌, Option, Some, None, refl, ◌∙◌, ap, arith}
 use Rattle.std.specs.Prelude.{MatchOption}
 use Rattle.std.specs.Option.{option_copied}
 use Rattle.std.specs.Borrow.{Bor}
-use Rattle.std.proofs.lemmas.Bool.Decides.{Decides-eqb}
 use Rattle.std.proofs.lemmas.Grind.{common_steps}
-use Rattle.std.proofs.lemmas.Slice.Eq.{ends_is}
+use Rattle.std.proofs.lemmas.Slice.Eq.{starts_is, ends_is}
 use Rattle.link_entries.specs.Texts.{◌>>=◌, behind, before, inside}
-
-same_head : (c : ℕ) → (c == c) ≡ true
-same_head c = (Decides-eqb c c).1 refl
 
 -- a text that is a front and a rest
 pub behind_front : (front rest : List ℕ) → behind front (front ++ rest) ≡ Some rest
 unfolding behind
-behind_front [] rest = refl
-behind_front (c ∷ front) rest = ap (λ b. if b then behind front (front ++ rest) else None) (same_head c) ∙ behind_front front rest
-
-behind_more : (c d : ℕ) (front text rest : List ℕ) → (behind front text ≡ Some rest → text ≡ front ++ rest) → (if d == c then behind front text else None) ≡ Some rest → d ∷ text ≡ c ∷ (front ++ rest)
-behind_more c d front text rest others h = grind arith
+behind_front front rest = grind (arith, common_steps, starts_is)
 
 pub behind_parts : (front text rest : List ℕ) → behind front text ≡ Some rest → text ≡ front ++ rest
 unfolding behind
-behind_parts [] text rest h = cc
-behind_parts (c ∷ front) [] rest h = cc
-behind_parts (c ∷ front) (d ∷ text) rest h = behind_more c d front text rest (behind_parts front text rest) h
+behind_parts front text rest h = grind (arith, starts_is)
 
 pub behind_none : (front text : List ℕ) → ((rest : List ℕ) → text ≢ front ++ rest) → behind front text ≡ None
 behind_none front text none = of (behind front text) refl

@@ -1,6 +1,6 @@
 -- The texts of pids, ports and references in a link list.
-use Rattle.std.specs.Prelude.{ℕ, ◌+◌, ◌-◌, ◌==◌, Bool, false, ◌&&◌, ◌||◌, List, [], ◌∷◌, length, take, drop, Option, None, Some, codes, nat_eq, nat_lt, if◌then◌else◌}
-use Rattle.std.specs.List.{list_all, ends_with, position}
+use Rattle.std.specs.Prelude.{ℕ, ◌+◌, ◌-◌, ◌==◌, Bool, false, ◌&&◌, ◌||◌, List, length, take, drop, Option, None, Some, codes, nat_eq, nat_lt, if◌then◌else◌}
+use Rattle.std.specs.List.{list_all, starts_with, ends_with, position}
 use Rattle.std.specs.Option.{is_some, option_and_then, option_map_or}
 use Rattle.std.specs.Char.{is_ascii_digit}
 
@@ -11,9 +11,7 @@ o >>= f = option_and_then f o
 
 -- what stands after a front, if the text begins with it
 unfoldable pub behind : List ℕ → List ℕ → Option (List ℕ)
-behind [] text = Some text
-behind (c ∷ front) [] = None
-behind (c ∷ front) (d ∷ text) = if d == c then behind front text else None
+behind front text = if starts_with nat_eq text front then Some (drop (length front) text) else None
 
 -- what stands before a back, if the text ends with it
 unfoldable pub before : List ℕ → List ℕ → Option (List ℕ)

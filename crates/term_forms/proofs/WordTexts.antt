@@ -10,9 +10,9 @@ use Rattle.std.proofs.lemmas.List.Sums.{prefix_len-le-length}
 use Rattle.std.proofs.lemmas.List.Folds.{length-prefix_len}
 use Rattle.std.proofs.lemmas.Slice.Eq.{starts_is}
 use Rattle.std.proofs.Math.Seq.{take-append-add}
-use Rattle.term_forms.specs.Words.{minus, less, greater, is_digits, is_integer, is_dotted, IsBracketed}
+use Rattle.term_forms.specs.Words.{is_digits, is_integer, is_dotted, IsBracketed}
 use Rattle.term_forms.specs.Inner.Chain.{◌>>=◌}
-use Rattle.term_forms.specs.Inner.Fronts.{digits_len, integer_len, bracketed_len}
+use Rattle.term_forms.specs.Inner.Fronts.{digits_len, integer_len, bracketed_len, minus, less, greater}
 use Rattle.term_forms.proofs.Steps.{bind_some, bind_from, chosen, guard_some, guard_from}
 use Rattle.term_forms.proofs.Runs.{run_over, run_passes}
 

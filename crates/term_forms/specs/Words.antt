@@ -1,5 +1,5 @@
 -- The words of which elements and forms are made.
-use Rattle.std.specs.Prelude.{◌≡◌, ℕ, ◌<◌, ◌==◌, Bool, false, ◌&&◌, ◌||◌, List, [], ◌∷◌, ◌++◌, length, drop, Option, None, Some, option_and_then, nat_eq, nat_lt, IsTrue, if◌then◌else◌}
+use Rattle.std.specs.Prelude.{◌≡◌, ℕ, ◌<◌, ◌==◌, Bool, false, ◌&&◌, ◌||◌, List, [], ◌∷◌, ◌++◌, length, drop, codes, Option, None, Some, option_and_then, nat_eq, nat_lt, IsTrue, if◌then◌else◌}
 use Rattle.std.specs.List.{list_all, starts_with}
 use Rattle.std.specs.Char.{digit_value, is_ascii_digit}
 use Rattle.dump_io.specs.Colons.{has_colon, before_colon, after_colon}
@@ -14,22 +14,6 @@ letter (c ∷ text) = c
 -- the byte `,`
 abbrev pub comma : ℕ
 comma = 44
-
--- the byte `-`
-abbrev pub minus : ℕ
-minus = 45
-
--- the byte `.`
-abbrev pub dot : ℕ
-dot = 46
-
--- the byte `<`
-abbrev pub less : ℕ
-less = 60
-
--- the byte `>`
-abbrev pub greater : ℕ
-greater = 62
 
 -- the byte `|`
 abbrev pub bar : ℕ
@@ -46,16 +30,16 @@ is_digits text = nat_lt 0 (length text) && list_all is_ascii_digit text
 -- an optional minus, and digits
 abbrev pub is_integer : List ℕ → Bool
 is_integer [] = false
-is_integer (c ∷ text) = if c == minus then is_digits text else is_digits (c ∷ text)
+is_integer (c ∷ text) = if c == letter (codes "-") then is_digits text else is_digits (c ∷ text)
 
 -- a byte of the number of a pid or a port
 abbrev pub is_dotted : ℕ → Bool
-is_dotted c = is_ascii_digit c || c == dot
+is_dotted c = is_ascii_digit c || c == letter (codes ".")
 
 -- `<`, one or more of `0` to `9` and `.`, and `>`
 abbrev pub IsBracketed : List ℕ → Type 0
 IsBracketed text =
-    (inner : List ℕ) × (0 < length inner) × IsTrue (list_all is_dotted inner) × (text ≡ less ∷ (inner ++ greater ∷ []))
+    (inner : List ℕ) × (0 < length inner) × IsTrue (list_all is_dotted inner) × (text ≡ codes "<" ++ (inner ++ codes ">"))
 
 -- the text is a hex number n, a colon, and the rest
 abbrev pub IsLed : List ℕ → ℕ → List ℕ → Type 0
@@ -72,9 +56,10 @@ is_hex_digits text = nat_lt 0 (length text) && list_all is_hex_digit text
 
 -- `16#` and hex digits
 abbrev pub is_based : List ℕ → Bool
-is_based text = starts_with nat_eq text (49 ∷ 54 ∷ 35 ∷ []) && is_hex_digits (drop 3 text)
+is_based text = starts_with nat_eq text (codes "16#") && is_hex_digits (drop 3 text)
 
 -- a big integer: an optional minus, and then digits, or `16#` and hex digits
 abbrev pub is_long : List ℕ → Bool
 is_long [] = false
-is_long (c ∷ text) = if c == minus then is_digits text || is_based text else is_digits (c ∷ text) || is_based (c ∷ text)
+is_long (c ∷ text) =
+    if c == letter (codes "-") then is_digits text || is_based text else is_digits (c ∷ text) || is_based (c ∷ text)

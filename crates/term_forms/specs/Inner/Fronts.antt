@@ -3,9 +3,21 @@ use Rattle.std.specs.Prelude.{ℕ, ◌+◌, ◌-◌, ◌==◌, ◌&&◌, List, [
 use Rattle.std.specs.List.{prefix_len, starts_with}
 use Rattle.std.specs.Char.{is_ascii_digit}
 use Rattle.dump_io.specs.Numbers.{hex_number}
-use Rattle.term_forms.specs.Words.{minus, less, greater, is_hex_digit, is_dotted, led_of}
+use Rattle.term_forms.specs.Words.{is_hex_digit, is_dotted, led_of}
 use Rattle.term_forms.specs.Elements.{Element, Small, Atom, Pid, Port, Ref}
 use Rattle.term_forms.specs.Inner.Chain.{◌>>=◌}
+
+-- the byte `-`
+abbrev pub minus : ℕ
+minus = 45
+
+-- the byte `<`
+abbrev pub less : ℕ
+less = 60
+
+-- the byte `>`
+abbrev pub greater : ℕ
+greater = 62
 
 -- what may follow the tag of a port
 abbrev pub port_word : List ℕ
