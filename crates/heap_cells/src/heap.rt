@@ -8,7 +8,7 @@ ghost use Rattle.dump_io.specs.Dumps.{ReadsAtMost, told};
 ghost use Rattle.dump_sections.specs.Index.{IsBuiltOver};
 ghost use Rattle.heap_cells.specs.declared.faults.HeapFault.{HeapFault};
 ghost use Rattle.heap_cells.specs.Loading.{enc_of, heap_section, literals_section, section_in, body_size, body_in, bodies_fault, section_fault, IsAnswerFor, IsCauseOf, IsOfTheTexts};
-ghost use Rattle.heap_cells.specs.Targets.{number, target, slot_target, kid_target, KeepsElement, IsSeatOf, IsSeatWithin, IsWithin};
+ghost use Rattle.heap_cells.specs.Targets.{number, target, slot_target, kid_target, KeepsElement, IsSeatOf, IsWithin};
 
 use crate::cells::{Kid, Seat};
 use crate::faults::HeapFault;
@@ -255,8 +255,7 @@ impl Heap {
 
     /// What an address leads to.
     pub fn at(&self, addr: u64) -> Seat
-        ensures seat { IsSeatOf self.now.cells addr result }
-        ensures within { IsSeatWithin (length self.now.cells) result }
+        ensures { IsSeatOf self.now.cells addr result }
     {
         let Some(n) = number_of(&self.order, &self.arena.cells, addr) else {
             return Seat::Missing;
