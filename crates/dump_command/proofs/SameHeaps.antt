@@ -37,8 +37,8 @@ use Rattle.term_forms.specs.Elements.{Element, Ref}
 use Rattle.cell_records.specs.declared.cells.Why.TheVariants.{Missing, Malformed, OnPath}
 use Rattle.binary_refs.specs.declared.entries.Entry.{Entry}
 use Rattle.term_unfold.specs.Leaves.{leaf_text}
-use Rattle.term_unfold.specs.Rules.{Child, Term, Item, Opening, leaf, bad, node, is_on, unless_on, terms, items, pairs, flat_opening, form_opening, cell_opening, term_opening, opening}
-use Rattle.term_unfold.specs.Trees.{Value, OfCell, Tree, Leaf, Bad, Branch, Trees, none, more, pre, pre_all, seen, or_else, first_bad, verdict}
+use Rattle.term_unfold.specs.Rules.{Child, Term, Item, Opening, leaf, bad, node, is_on, unless_on, terms, items, pairs, flat_opening, cell_opening, term_opening, opening}
+use Rattle.term_unfold.specs.Trees.{Value, OfCell, Tree, Leaf, Bad, Branch, Trees, none, more, pre, pre_all, first_bad, verdict}
 use Rattle.term_unfold.specs.Unfolding.{trees, grown, unfold_by, unfolded, unfolding_of}
 use Rattle.root_views.specs.declared.kinds.RootKind.{RootKind}
 use Rattle.root_views.specs.declared.kinds.RootKind.TheVariants.{Stack}
@@ -460,15 +460,10 @@ module _ (enc : Enc) where
       ∙ ap blank_opening (sym (flat-is heap path a k value values))
   flat-same heap path a keys (value ∷ values) = refl
 
-  form-opens : (heap : List Cell) (path : List ℕ) (a : ℕ) (form : Option HeapForm)
-      → form_opening (blanked heap) path a (option_map (blank_form enc) form) ≡ blank_opening (form_opening heap path a form)
-  form-opens heap path a (Some (Flat keys values)) = flat-same heap path a keys values
-  form-opens heap path a form = refl
-
   cell-opens : (heap : List Cell) (path : List ℕ) (a : ℕ) (found : Option (Option HeapForm))
       → cell_opening (blanked heap) path a (option_map (option_map (blank_form enc)) found) ≡ blank_opening (cell_opening heap path a found)
-  cell-opens heap path a None = refl
-  cell-opens heap path a (Some form) = form-opens heap path a form
+  cell-opens heap path a (Some (Some (Flat keys values))) = flat-same heap path a keys values
+  cell-opens heap path a found = refl
 
   term-opens : (heap : List Cell) (path : List ℕ) (e : Element) → term_opening (blanked heap) path e ≡ blank_opening (term_opening heap path e)
   term-opens heap path (Ref a) = ap (cell_opening (blanked heap) path a) (with-same heap a) ∙ cell-opens heap path a (form_with heap a)
@@ -525,13 +520,10 @@ module _ (enc : Enc) where
         ap (λ l. l ++ pre_all (blank_trees enc ts)) (pre-same t) ∙ ap (λ l. map (blank_tree enc) (pre t) ++ l) (pre_all-same ts)
         ∙ sym (map-append (blank_tree enc) (pre t) (pre_all ts))
 
-  seen-same : (t : Tree) → seen (blank_tree enc t) ≡ seen t
-  seen-same (Leaf value) = refl
-  seen-same t = refl
-
   first_bad-same : (ts : List Tree) → first_bad (map (blank_tree enc) ts) ≡ first_bad ts
   first_bad-same [] = refl
-  first_bad-same (t ∷ ts) = ap (λ v. or_else v (first_bad (map (blank_tree enc) ts))) (seen-same t) ∙ ap (or_else (seen t)) (first_bad-same ts)
+  first_bad-same (Bad address why ∷ ts) = refl
+  first_bad-same (t ∷ ts) = first_bad-same ts
 
   pub verdict-same : (t : Tree) (n : ℕ) → verdict (blank_tree enc t) n ≡ verdict t n
   verdict-same t n = ap (λ l. first_bad (take n l)) (pre-same t) ∙ ap first_bad (take-map (blank_tree enc) n (pre t)) ∙ first_bad-same (take n (pre t))

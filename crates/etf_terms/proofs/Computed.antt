@@ -33,15 +33,11 @@ heads-laid (end found) (b ∷ front) rest h p = absurd p
 heads-laid (byte test next) [] rest h p = absurd p
 heads-laid (byte test next) (b ∷ front) rest h p = heads-laid (next b) front rest h p.1
 
-heads-head : (front rest : List ℕ) (h : Head) → IsLaid head_layout front h → heads_of (front ++ rest) ≡ h ∷ heads_of rest
-heads-head [] rest h p = absurd p
-heads-head (b ∷ front) rest h p = heads-laid (row b) front rest h p.1
-
 mutual
   terms-term : (t : Term) (front rest : List ℕ) → IsTerm front t → terms_of (heads_of (front ++ rest)) ≡ t ∷ terms_of (heads_of rest)
   terms-term (node h ts) front rest p =
       ap (λ l. terms_of (heads_of (l ++ rest))) p.2 ∙ ap (λ l. terms_of (heads_of l)) (append_assoc p.0 p.1 rest)
-      ∙ ap terms_of (heads-head p.0 (p.1 ++ rest) h p.3) ∙ ap (take_terms h) (terms-terms ts p.1 rest p.5) ∙ taken h ts (terms_of (heads_of rest)) p.4
+      ∙ ap terms_of (heads-laid head_layout p.0 (p.1 ++ rest) h p.3) ∙ ap (take_terms h) (terms-terms ts p.1 rest p.5) ∙ taken h ts (terms_of (heads_of rest)) p.4
 
   terms-terms : (ts : Terms) (front rest : List ℕ) → AreTerms front ts → terms_of (heads_of (front ++ rest)) ≡ before ts (terms_of (heads_of rest))
   terms-terms none front rest p = ap (λ l. terms_of (heads_of (l ++ rest))) p

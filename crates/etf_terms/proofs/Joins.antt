@@ -3,7 +3,7 @@ use Rattle.std.proofs.Common.{◌≡◌, ℕ, zero, suc, ◌*◌, ◌<◌, ◌==
 use Rattle.std.specs.Int.{w16, w32, w64, from_be_bytes}
 use Rattle.etf_terms.specs.Heads.{Head, Float, Bits, Pid, Port, Ref, Big, Fun, Export}
 use Rattle.etf_terms.specs.Layouts.{Layout, end, byte, any_byte, run, number2, number4, number8}
-use Rattle.etf_terms.specs.Table.{head_layout, sized1, sized2, sized4, atom, small, integer, pid88, pid103, pid, sign, bits}
+use Rattle.etf_terms.specs.Table.{head_layout, sized, atom, small, integer, pid_with, pid, sign, bits}
 use Rattle.etf_terms.specs.Inner.Parts.{Parsed, ◌>>=◌, byte_of, run_of, number2_of, number4_of, number8_of, sized1_of, sized2_of, sized4_of, atom_of, small_of, integer_of, pid88_of, pid103_of, pid_of, sign_of, part_of, float_of, bits_of, port89_of, port102_of, port120_of, ref90_of, ref114_of, big110_of, big111_of, owner_of, closure_of, export_of, parsed, head_of}
 use Rattle.etf_terms.specs.Inner.Walks.{Reading, Off, reading}
 
@@ -122,22 +122,22 @@ number8-joins : Joins number8 number8_of
 unfolding number8_of
 number8-joins = then (run-joins 8) (λ eight. done (from_be_bytes w64 eight))
 
-pub sized1-joins : Joins sized1 sized1_of
+pub sized1-joins : Joins (sized any_byte) sized1_of
 unfolding sized1_of
 sized1-joins = then any-joins run-joins
 
-pub sized2-joins : Joins sized2 sized2_of
+pub sized2-joins : Joins (sized number2) sized2_of
 unfolding sized2_of
 sized2-joins = then number2-joins run-joins
 
-pub sized4-joins : Joins sized4 sized4_of
+pub sized4-joins : Joins (sized number4) sized4_of
 unfolding sized4_of
 sized4-joins = then number4-joins run-joins
 
 atom-joins : Joins atom atom_of
 unfolding atom_of
 atom-joins =
-    first _ (λ tag next. cond (tag == 100) (sized2 next) (cond (tag == 115) (sized1 next) (cond (tag == 118) (sized2 next) (sized1 next)))) atom_of 119 (omega arith) refl refl
+    first _ (λ tag next. cond (tag == 100) (sized number2 next) (cond (tag == 115) (sized any_byte next) (cond (tag == 118) (sized number2 next) (sized any_byte next)))) atom_of 119 (omega arith) refl refl
     (λ tag. or (tag == 100) sized2-joins (or (tag == 115) sized1-joins (or (tag == 118) sized2-joins (last (tag == 119) sized1-joins))))
 
 small-joins : Joins small small_of
@@ -150,18 +150,18 @@ integer-joins =
     first _ (λ tag next. cond (tag == 97) (run 1 next) (run 4 next)) integer_of 97 (omega arith) refl refl
     (λ tag. or (tag == 97) (run-joins 1) (last (tag == 98) (run-joins 4)))
 
-pub pid88-joins : Joins pid88 pid88_of
+pub pid88-joins : Joins (pid_with number4) pid88_of
 unfolding pid88_of
 pid88-joins = then atom-joins (λ name. then number4-joins (λ id. then number4-joins (λ serial. then number4-joins (λ creation. done (Pid name id serial creation)))))
 
-pub pid103-joins : Joins pid103 pid103_of
+pub pid103-joins : Joins (pid_with any_byte) pid103_of
 unfolding pid103_of
 pid103-joins = then atom-joins (λ name. then number4-joins (λ id. then number4-joins (λ serial. then any-joins (λ creation. done (Pid name id serial creation)))))
 
 pid-joins : Joins pid pid_of
 unfolding pid_of
 pid-joins =
-    first _ (λ tag next. cond (tag == 88) (pid88 next) (pid103 next)) pid_of 88 (omega arith) refl refl
+    first _ (λ tag next. cond (tag == 88) (pid_with number4 next) (pid_with any_byte next)) pid_of 88 (omega arith) refl refl
     (λ tag. or (tag == 88) pid88-joins (last (tag == 103) pid103-joins))
 
 sign-joins : Joins sign sign_of

@@ -7,7 +7,7 @@ use Rattle.etf_terms.specs.Layouts.{Layout, end, byte}
 use Rattle.etf_terms.specs.Table.{is_tag, row}
 use Rattle.etf_terms.specs.Terms.{Term, node, none, IsTerm, IsExternal}
 use Rattle.etf_terms.specs.Place.{Begins, IsPlace}
-use Rattle.etf_terms.specs.Walks.{Walked, Done, Lost, at_end, walk, walk_terms}
+use Rattle.etf_terms.specs.Walks.{Walked, Done, Lost, walk, walk_terms}
 use Rattle.etf_terms.proofs.Readings.{walk-end, walk-first, walk-none}
 use Rattle.etf_terms.proofs.Stepping.{Counted, Follows, counted-more, follows-end, follows-byte, done-walk_terms, not-done, same-rest, term-walk, term-is_done, one-of}
 use Rattle.etf_terms.proofs.Joins.{Live}
@@ -78,7 +78,7 @@ lost-byte test next n b bytes rest later p e =
     })
     (lost-cond (test b) (walk (next b) n bytes) (b ∷ bytes) rest e)
 
-lost-terms_end : (n : ℕ) (rest : List ℕ) → at_end n ≡ Lost rest → LostAt (Counted n) (walk_terms n) [] rest
+lost-terms_end : (n : ℕ) (rest : List ℕ) → walk_terms n [] ≡ Lost rest → LostAt (Counted n) (walk_terms n) [] rest
 lost-terms_end zero rest e = absurd (done-not [] rest e)
 lost-terms_end (suc n) rest e = lost-none rest (complete-terms (suc n)) e
 

@@ -29,12 +29,10 @@ walk-end h n [] = refl
 walk-end h n (b ∷ rest) = refl
 
 pub walk-first : (n : ℕ) (bytes : List ℕ) → walk_terms (suc n) bytes ≡ walk head_layout n bytes
-walk-first n [] = refl
-walk-first n (b ∷ bytes) = refl
+walk-first n bytes = refl
 
 pub walk-none : (bytes : List ℕ) → walk_terms zero bytes ≡ Done bytes
-walk-none [] = refl
-walk-none (b ∷ bytes) = refl
+walk-none bytes = refl
 
 pub laid-walk : (l : Layout) (front rest : List ℕ) (h : Head) (n : ℕ) → IsLaid l front h → walk l n (front ++ rest) ≡ walk_terms (kids h + n) rest
 laid-walk (end g) [] rest h n p = walk-end g n rest ∙ ap (λ x. walk_terms (kids x + n) rest) p

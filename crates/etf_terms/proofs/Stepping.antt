@@ -4,7 +4,7 @@ use Rattle.etf_terms.specs.Heads.{Head, kids}
 use Rattle.etf_terms.specs.Layouts.{Layout, end, byte, IsLaid}
 use Rattle.etf_terms.specs.Table.{is_tag, row, head_layout}
 use Rattle.etf_terms.specs.Terms.{Term, node, Terms, none, more, count, IsTerm, AreTerms}
-use Rattle.etf_terms.specs.Walks.{Walked, Done, Lost, at_end, walk, walk_terms}
+use Rattle.etf_terms.specs.Walks.{Walked, Done, Lost, walk, walk_terms}
 use Rattle.etf_terms.proofs.Readings.{walk-first, laid-walk}
 
 -- ---- terms are walked over
@@ -142,7 +142,7 @@ done-terms zero b bytes rest later e = done-none (b ∷ bytes) rest e
 done-terms (suc n) b bytes rest later e =
     let went = done-byte is_tag row n b bytes rest later e in record { taken = went.taken; split = went.split; over = counted-more n went.taken went.over }
 
-done-terms_end : (n : ℕ) (rest : List ℕ) → at_end n ≡ Done rest → WentOver (Counted n) [] rest
+done-terms_end : (n : ℕ) (rest : List ℕ) → walk_terms n [] ≡ Done rest → WentOver (Counted n) [] rest
 done-terms_end zero rest e = done-none [] rest e
 done-terms_end (suc n) rest e = absurd (not-done [] rest e)
 

@@ -1,8 +1,8 @@
 -- The text of an external term, from its bytes alone.
-use Rattle.std.specs.Prelude.{ℕ, zero, suc, List, [], ◌∷◌, drop}
+use Rattle.std.specs.Prelude.{ℕ, suc, List, [], ◌∷◌, drop}
 use Rattle.etf_terms.specs.Heads.{Head, kids}
 use Rattle.etf_terms.specs.Layouts.{Layout, end, byte}
-use Rattle.etf_terms.specs.Table.{row}
+use Rattle.etf_terms.specs.Table.{head_layout, row}
 use Rattle.etf_terms.specs.Terms.{Term, node, Terms, none, more}
 use Rattle.etf_terms.specs.Text.{text}
 
@@ -15,14 +15,12 @@ heads_from (byte test next) (b ∷ bytes) = heads_from (next b) bytes
 
 -- the heads of terms that stand one after another; those within a term come after its own
 abbrev pub heads_of : List ℕ → List Head
-heads_of [] = []
-heads_of (tag ∷ bytes) = heads_from (row tag) bytes
+heads_of bytes = heads_from head_layout bytes
 
 -- the first n of some terms
 abbrev pub first_terms : ℕ → List Term → Terms
-first_terms zero terms = none
-first_terms (suc n) [] = none
 first_terms (suc n) (term ∷ terms) = more term (first_terms n terms)
+first_terms n terms = none
 
 -- a head takes as many of the terms after it as it says
 abbrev pub take_terms : Head → List Term → List Term

@@ -11,23 +11,11 @@ use Rattle.etf_terms.specs.Terms.{Term, node, Terms, none, more}
 
 -- how the terms after a head are written
 abbrev pub kind_of : Head → Kind
-kind_of (Float bytes) = kinds.Plain
-kind_of (Bits bits bytes) = kinds.Plain
-kind_of (Pid name id serial creation) = kinds.Plain
-kind_of (Port name id creation) = kinds.Plain
-kind_of (Ref name creation words) = kinds.Plain
-kind_of (Small value) = kinds.Plain
-kind_of (Int value) = kinds.Plain
-kind_of (Atom name) = kinds.Plain
 kind_of (Tuple n) = kinds.Tuple
-kind_of Nil = kinds.Plain
-kind_of (Chars bytes) = kinds.Plain
 kind_of (Linked n) = kinds.Linked
-kind_of (Bin bytes) = kinds.Plain
-kind_of (Big sign digits) = kinds.Plain
 kind_of (Fun name index arity n) = kinds.Fun
-kind_of (Export name function arity) = kinds.Plain
 kind_of (Pairs n) = kinds.Pairs
+kind_of head = kinds.Plain
 
 -- the first 32 bytes of a binary, in upper-case hex
 abbrev pub preview_text : List ℕ → List ℕ
@@ -121,11 +109,11 @@ closing kinds.Pairs count = codes "}"
 -- what comes before the term with number i
 abbrev pub between : Kind → ℕ → ℕ → List ℕ
 between kinds.Plain count i = []
-between kinds.Tuple count i = if i == 0 then [] else codes ","
 -- the last is the tail
 between kinds.Linked count i = if i == 0 then [] else (if i + 1 == count then codes "|" else codes ",")
-between kinds.Fun count i = if i == 0 then [] else codes ","
 between kinds.Pairs count i = if i == 0 then [] else (if i % 2 == 1 then codes "=>" else codes ",")
+-- the elements of a tuple, and the terms of a function
+between kind count i = if i == 0 then [] else codes ","
 
 -- a tail of tag 106 isn't written after elements
 abbrev pub is_end : Kind → ℕ → ℕ → Head → Bool

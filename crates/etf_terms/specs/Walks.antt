@@ -3,35 +3,28 @@ use Rattle.std.specs.Prelude.{ℕ, zero, suc, ◌+◌, ◌-◌, ◌==◌, List, 
 use Rattle.std.specs.Option.{option_map}
 use Rattle.etf_terms.specs.Heads.{kids}
 use Rattle.etf_terms.specs.Layouts.{Layout, end, byte}
-use Rattle.etf_terms.specs.Table.{is_tag, row}
+use Rattle.etf_terms.specs.Table.{is_tag, row, head_layout}
 
 -- what a walk results in: the bytes after all terms, or the bytes from the first that isn't allowed there
 pub data Walked : Type 0 where
   Done : List ℕ → Walked
   Lost : List ℕ → Walked
 
--- no byte is left: all terms were there, or some are still to come
-abbrev pub at_end : ℕ → Walked
-at_end zero = Done []
-at_end (suc n) = Lost []
-
--- a byte is left: it comes after all terms, or begins the next one
-abbrev pub at_byte : ℕ → Walked → (ℕ → Walked) → Walked
-at_byte zero done next = done
-at_byte (suc n) done next = next n
+-- before these bytes a walk is done if no term is still to come; otherwise one term begins, and the others come after it
+abbrev pub done_or : ℕ → List ℕ → (ℕ → Walked) → Walked
+done_or zero bytes next = Done bytes
+done_or (suc n) bytes next = next n
 
 -- the rest of a head, and this many terms after those of the head
 abbrev pub walk : Layout → ℕ → List ℕ → Walked
-walk (end head) n [] = at_end (kids head + n)
-walk (end head) n (b ∷ bytes) =
-    at_byte (kids head + n) (Done (b ∷ bytes)) (λ m. if is_tag b then walk (row b) m bytes else Lost (b ∷ bytes))
+walk (end head) n [] = done_or (kids head + n) [] (λ m. Lost [])
+walk (end head) n (b ∷ bytes) = done_or (kids head + n) (b ∷ bytes) (λ m. if is_tag b then walk (row b) m bytes else Lost (b ∷ bytes))
 walk (byte test next) n [] = Lost []
 walk (byte test next) n (b ∷ bytes) = if test b then walk (next b) n bytes else Lost (b ∷ bytes)
 
 -- this many terms
 abbrev pub walk_terms : ℕ → List ℕ → Walked
-walk_terms n [] = at_end n
-walk_terms n (b ∷ bytes) = at_byte n (Done (b ∷ bytes)) (λ m. if is_tag b then walk (row b) m bytes else Lost (b ∷ bytes))
+walk_terms n bytes = done_or n bytes (λ m. walk head_layout m bytes)
 
 -- how many bytes are left where a walk over one term ends, unless it ends at their end
 abbrev pub left_of : Walked → Option ℕ

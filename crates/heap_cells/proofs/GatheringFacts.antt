@@ -100,12 +100,8 @@ spelled-few enc text law = of (form_of enc text) refl
 -- ---- the slots of its elements
 
 with-target : (span : Span) (e : Element) → slot_target (slot_with span e) ≡ target [] e
-with-target span Nil = refl
-with-target span (Small integer) = refl
-with-target span (Atom bytes) = refl
-with-target span (Pid pid) = refl
-with-target span (Port port) = refl
 with-target span (Ref address) = refl
+with-target span e = refl
 
 for-targets : (from : ℕ) (ss : List Placed) → map slot_target (map (slot_for from) ss) ≡ map (target []) (map (λ (s : Placed). s.element) ss)
 for-targets from [] = refl
@@ -114,12 +110,8 @@ for-targets from (s ∷ ss) =
     ∙ ap (λ ts. target [] s.element ∷ ts) (for-targets from ss)
 
 with-spells : (text : List ℕ) (seam : ℕ) (span : Span) (e : Element) → IsSpan text seam span → element_at text span ≡ Some e → Spells text seam (slot_with span e) e
-with-spells text seam span Nil part is = (part, is)
-with-spells text seam span (Small integer) part is = (part, is)
-with-spells text seam span (Atom bytes) part is = (part, is)
-with-spells text seam span (Pid pid) part is = (part, is)
-with-spells text seam span (Port port) part is = (part, is)
 with-spells text seam span (Ref address) part is = tt
+with-spells text seam span e part is = (part, is)
 
 slice-slice : (text : List ℕ) (base n from upto : ℕ) → from ≤ upto → upto ≤ n
     → slice_range (slice_range text base (base + n)) from upto ≡ slice_range text (base + from) (base + upto)

@@ -10,7 +10,7 @@ use Rattle.std.proofs.lemmas.List.Folds.{list_any-append}
 use Rattle.std.proofs.lemmas.List.Sums.{sum_by-cons}
 use Rattle.std.proofs.lemmas.Option.{slice_get-map}
 use Rattle.binary_payloads.specs.declared.enc.Enc.{Enc}
-use Rattle.term_forms.specs.Elements.{Element, Nil, Small, Atom, Pid, Port, Ref}
+use Rattle.term_forms.specs.Elements.{Element, Ref}
 use Rattle.cell_records.specs.declared.cells.CellRecord.{CellRecord}
 use Rattle.cell_records.specs.declared.cells.Slot.{Slot}
 use Rattle.cell_records.specs.declared.cells.Slot.TheVariants as slot
@@ -130,12 +130,8 @@ slots-settled rs known (s ∷ slots) same =
 
 element-settled : (known : List Cell) (e : Element) → settled_target known (target [] e) ≡ target known e
 unfolding settled_target
-element-settled known Nil = refl
-element-settled known (Small integer) = refl
-element-settled known (Atom bytes) = refl
-element-settled known (Pid pid) = refl
-element-settled known (Port port) = refl
 element-settled known (Ref address) = refl
+element-settled known e = refl
 
 elements-settled : (known : List Cell) (es : List Element) → map (settled_target known) (map (target []) es) ≡ map (target known) es
 elements-settled known [] = refl

@@ -4,7 +4,7 @@ use Rattle.std.specs.Prelude.{All}
 use Rattle.std.proofs.Math.ListN.{get_or-map as get_or-map_same}
 use Rattle.std.proofs.lemmas.List.{get_or-map, length-map}
 use Rattle.std.proofs.lemmas.List.Quantifiers.{position-Some}
-use Rattle.term_forms.specs.Elements.{Element, Nil, Small, Atom, Pid, Port, Ref}
+use Rattle.term_forms.specs.Elements.{Element, Nil, Ref}
 use Rattle.cell_records.specs.declared.cells.Slot.{Slot}
 use Rattle.heap_cells.specs.Cells.{Cell}
 use Rattle.heap_cells.specs.HeapMap.{number_at}
@@ -22,12 +22,8 @@ target_at-within cells address (Some n) is = number_at-within cells address n is
 
 -- a cell that an element leads to is one of those that are there
 pub target-within : (cells : List Cell) (e : Element) → IsWithin (length cells) (target cells e)
-target-within cells Nil = tt
-target-within cells (Small integer) = tt
-target-within cells (Atom bytes) = tt
-target-within cells (Pid pid) = tt
-target-within cells (Port port) = tt
 target-within cells (Ref address) = target_at-within cells address (number_at cells address) refl
+target-within cells e = tt
 
 -- and so is one that a slot leads to
 pub slots-within : (cells : List Cell) (slots : List Slot) (es : List Element) → map slot_target slots ≡ map (target cells) es

@@ -1,6 +1,6 @@
 -- Where addresses and elements lead among the cells of a heap.
-use Rattle.std.specs.Prelude.{◌≡◌, ℕ, ◌<◌, List, Option, None, Some, IsSome}
-use Rattle.term_forms.specs.Elements.{Element, Nil, Small, Atom, Pid, Port, Ref}
+use Rattle.std.specs.Prelude.{◌≡◌, ℕ, ◌<◌, List, length, Option, None, Some, IsSome}
+use Rattle.term_forms.specs.Elements.{Element, Ref}
 use Rattle.term_forms.specs.Seen.{element}
 use Rattle.heap_cells.specs.declared.cells.Seat.{Seat}
 use Rattle.heap_cells.specs.declared.cells.Seat.TheVariants as seat
@@ -26,12 +26,8 @@ target_at address (Some number) = At number
 
 -- where an element leads: a reference to a cell or to a missing address, any other element nowhere
 abbrev pub target : List Cell → Element → Target
-target cells Nil = Plain
-target cells (Small integer) = Plain
-target cells (Atom bytes) = Plain
-target cells (Pid pid) = Plain
-target cells (Port port) = Plain
 target cells (Ref address) = target_at address (number_at cells address)
+target cells element = Plain
 
 -- where a slot leads; the span in an `Imm` plays no part
 abbrev pub slot_target : Slot → Target
@@ -48,23 +44,17 @@ kid_target (kid.Gone address) = Missing address
 -- an immediate is kept as it is
 abbrev pub KeepsElement : Kid → Element → Type 0
 KeepsElement (kid.Imm found) e = element found ≡ e
-KeepsElement (kid.Cell ix) e = Unit {0}
-KeepsElement (kid.Gone address) e = Unit {0}
+KeepsElement reference e = Unit {0}
 
--- an address leads to no cell, to a malformed one, or to one with a form
+-- an address leads to no cell, to a malformed one, or to one with a form; the number is that of the cell
 abbrev pub IsSeatOf : List Cell → ℕ → Seat → Type 0
 IsSeatOf cells address seat.Missing = number_at cells address ≡ None
-IsSeatOf cells address (seat.Malformed ix) = (number_at cells address ≡ Some (number ix)) × (form_at cells (number ix) ≡ None)
-IsSeatOf cells address (seat.Cell ix) = (number_at cells address ≡ Some (number ix)) × IsSome (form_at cells (number ix))
-
--- if a cell is named, its number is below this bound
-abbrev pub IsSeatWithin : ℕ → Seat → Type 0
-IsSeatWithin count seat.Missing = Unit {0}
-IsSeatWithin count (seat.Malformed ix) = number ix < count
-IsSeatWithin count (seat.Cell ix) = number ix < count
+IsSeatOf cells address (seat.Malformed ix) =
+    (number_at cells address ≡ Some (number ix)) × (form_at cells (number ix) ≡ None) × (number ix < length cells)
+IsSeatOf cells address (seat.Cell ix) =
+    (number_at cells address ≡ Some (number ix)) × IsSome (form_at cells (number ix)) × (number ix < length cells)
 
 -- if the element leads to a cell, its number is below this bound
 abbrev pub IsWithin : ℕ → Target → Type 0
-IsWithin count Plain = Unit {0}
 IsWithin count (At number) = number < count
-IsWithin count (Missing address) = Unit {0}
+IsWithin count place = Unit {0}

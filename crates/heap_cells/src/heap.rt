@@ -11,7 +11,7 @@ ghost use Rattle.dump_sections.specs.Loading.{bodies_length};
 ghost use Rattle.heap_cells.specs.Loading.{enc_of, heap_section, literals_section, two_bodies, heap_bodies, bodies_fault, IsAnswerFor, IsCauseOf};
 ghost use Rattle.heap_cells.specs.Inner.Faults.{IsOfTheTexts};
 ghost use Rattle.dump_sections.specs.Bodies.{section_in, body_in};
-ghost use Rattle.heap_cells.specs.Targets.{number, target, slot_target, kid_target, KeepsElement, IsSeatOf, IsSeatWithin, IsWithin};
+ghost use Rattle.heap_cells.specs.Targets.{number, target, slot_target, kid_target, KeepsElement, IsSeatOf, IsWithin};
 
 use crate::cells::{Kid, Seat};
 use crate::faults::HeapFault;
@@ -259,8 +259,7 @@ impl Heap {
 
     /// What an address leads to.
     pub fn at(&self, addr: u64) -> Seat
-        ensures seat { IsSeatOf self.now.cells addr result }
-        ensures within { IsSeatWithin (length self.now.cells) result }
+        ensures { IsSeatOf self.now.cells addr result }
     {
         let Some(n) = number_of(&self.order, &self.arena.cells, addr) else {
             return Seat::Missing;

@@ -7,14 +7,13 @@ use Rattle.term_forms.specs.Elements.{Element}
 use Rattle.term_forms.specs.Forms.{HeapForm, HeapBin, SubBin}
 use Rattle.heap_cells.specs.Cells.{Cell}
 use Rattle.heap_cells.specs.HeapMap.{form_at, number_at}
-use Rattle.heap_cells.specs.Targets.{Target, Plain, At, Missing, target}
+use Rattle.heap_cells.specs.Targets.{Target, At, target}
 use Rattle.heap_reach.specs.Reached.{Reaching, is_in, targets_at}
 
 -- whether the target is the cell
 abbrev pub is_at : ℕ → Target → Bool
-is_at n Plain = false
 is_at n (At m) = m == n
-is_at n (Missing address) = false
+is_at n place = false
 
 -- whether the form is that of a heap binary
 abbrev pub is_bin : HeapForm → Bool

@@ -1,14 +1,13 @@
 -- The addresses of the cells that aren't in a set, and how
 -- many are in one. A set of cells is a test of their numbers.
-use Rattle.std.specs.Prelude.{◌≡◌, ℕ, zero, suc, ◌+◌, ◌<◌, ◌==◌, nat_lt, Bool, true, false, if◌then◌else◌, List, [], ◌∷◌, ◌++◌, Option, None, Some}
+use Rattle.std.specs.Prelude.{◌≡◌, ℕ, zero, suc, ◌+◌, ◌<◌, ◌==◌, nat_lt, Bool, true, false, if◌then◌else◌, List, [], ◌∷◌, ◌++◌, Option, Some}
 use Rattle.heap_cells.specs.Cells.{Cell}
 use Rattle.heap_cells.specs.HeapMap.{HeapMap, address_at}
 
 -- the address, unless the cell is in the set
 abbrev pub missed : Bool → Option ℕ → List ℕ
-missed true address = []
-missed false None = []
 missed false (Some address) = address ∷ []
+missed in_set address = []
 
 -- the addresses of those of the first n cells that aren't in the set, in the order of the cells
 abbrev pub missed_below : List Cell → (ℕ → Bool) → ℕ → List ℕ

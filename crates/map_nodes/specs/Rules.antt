@@ -30,15 +30,11 @@ pub data Keys : Type 0 where
   -- the address is bad, and stands in the map's place
   bad_keys : ℕ → Why → Keys
 
--- a cell that should be a tuple of this many keys
-abbrev pub tuple_keys : ℕ → ℕ → Option HeapForm → Keys
-tuple_keys k size (Some (Tuple elements)) = if length elements == size then keys_at k elements else bad_keys k Malformed
-tuple_keys k size form = bad_keys k Malformed
-
--- the cell to which the keys element refers, if the heap has it
+-- the keys that are in the cell at an address: it has to be a tuple of as many elements as there are values
 abbrev pub cell_keys : ℕ → ℕ → Option (Option HeapForm) → Keys
 cell_keys k size None = bad_keys k Missing
-cell_keys k size (Some form) = tuple_keys k size form
+cell_keys k size (Some (Some (Tuple elements))) = if length elements == size then keys_at k elements else bad_keys k Malformed
+cell_keys k size (Some form) = bad_keys k Malformed
 
 -- the keys of this many values, from the keys element; if
 -- that is no reference, it is bad at the map's own address
@@ -69,18 +65,14 @@ pub data Member : Type 0 where
   -- the address is bad, and stands in the child's place
   bad_member : ℕ → Why → Member
 
--- the child that a cell is, by its form: a cons cell is a pair,
--- a tuple or a node an inner node, and any other is malformed
-abbrev pub form_member : ℕ → Option HeapForm → Member
-form_member a (Some (Cons head tail)) = pair_at a head tail
-form_member a (Some (Tuple elements)) = inner_at a elements
-form_member a (Some (Node children)) = inner_at a children
-form_member a form = bad_member a Malformed
-
--- the child at an address: missing if no cell has the address
+-- the child at an address, by the form of the cell there: a cons cell is a
+-- pair, a tuple or a node an inner node, and any other is malformed
 abbrev pub cell_member : ℕ → Option (Option HeapForm) → Member
 cell_member a None = bad_member a Missing
-cell_member a (Some form) = form_member a form
+cell_member a (Some (Some (Cons head tail))) = pair_at a head tail
+cell_member a (Some (Some (Tuple elements))) = inner_at a elements
+cell_member a (Some (Some (Node children))) = inner_at a children
+cell_member a (Some form) = bad_member a Malformed
 
 -- the child that an element stands for; an immediate is bad at the address of its parent
 abbrev pub member_of : List Cell → ℕ → Element → Member

@@ -5,7 +5,7 @@ ghost use Rattle.heap_cells.specs.Cells.{kind_of};
 ghost use Rattle.heap_cells.specs.HeapMap.{form_at, elements_at};
 ghost use Rattle.heap_cells.specs.Targets.{number};
 ghost use Rattle.map_nodes.specs.Answers.{IsMemberAt};
-ghost use Rattle.map_nodes.specs.Rules.{address_of, element_at, form_member, member_of};
+ghost use Rattle.map_nodes.specs.Rules.{address_of, element_at, cell_member, member_of};
 
 use heap_cells::{CellIx, Heap, Kind, Slot, Why};
 
@@ -23,7 +23,7 @@ pub enum MapChild {
 // A cell as a child.
 fn member(heap: &Heap, ix: CellIx) -> MapChild
     requires { number ix < length heap.now.cells }
-    ensures { IsMemberAt heap.now.cells (form_member (address_of heap.now.cells (number ix)) (form_at heap.now.cells (number ix))) result }
+    ensures { IsMemberAt heap.now.cells (cell_member (address_of heap.now.cells (number ix)) (Some (form_at heap.now.cells (number ix)))) result }
 {
     match heap.kind(ix) {
         Some(Kind::List) => MapChild::Pair(ix),

@@ -5,7 +5,7 @@ ghost use Rattle.heap_cells.specs.Cells.{kind_of};
 ghost use Rattle.heap_cells.specs.HeapMap.{form_at};
 ghost use Rattle.heap_cells.specs.Targets.{number};
 ghost use Rattle.map_nodes.specs.Answers.{IsKeysAt};
-ghost use Rattle.map_nodes.specs.Rules.{address_of, tuple_keys, keys_of_cell};
+ghost use Rattle.map_nodes.specs.Rules.{address_of, cell_keys, keys_of_cell};
 
 use heap_cells::{CellIx, Heap, Kind, Slot, Why};
 
@@ -23,7 +23,7 @@ pub enum KeysAt {
 // A cell as the tuple of `size` keys.
 fn tuple_of(heap: &Heap, ix: CellIx, size: u32) -> KeysAt
     requires { number ix < length heap.now.cells }
-    ensures { IsKeysAt heap.now.cells (tuple_keys (address_of heap.now.cells (number ix)) size (form_at heap.now.cells (number ix))) result }
+    ensures { IsKeysAt heap.now.cells (cell_keys (address_of heap.now.cells (number ix)) size (Some (form_at heap.now.cells (number ix)))) result }
 {
     if let Some(Kind::Tuple) = heap.kind(ix) {
         if heap.kids(ix) == size {

@@ -100,7 +100,7 @@ mail_line line = unwrap_or (option_or (dist_roots line) (pair_roots line)) (mess
 abbrev pub mail_roots : List ℕ → List BodyRoot
 mail_roots body = flat_map mail_line (root_lines body)
 
--- how many messages a mailbox has
+-- whether a root is a message
 abbrev pub is_message : BodyRoot → Bool
 is_message root = bytes_eq root.label (codes "m")
 

@@ -2,12 +2,14 @@
 use Rattle.std.proofs.Common.{◌≡◌, ℕ, zero, suc, Bool, true, false, List, [], ◌∷◌, ◌++◌, take, map, refl, sym, ◌∙◌, ap, subst, append_assoc, append-nil, arith}
 use Rattle.std.specs.Prelude.{codes}
 use Rattle.std.proofs.lemmas.List.{take-map, map-append}
+use Rattle.term_forms.specs.Elements.{Nil}
 use Rattle.term_unfold.specs.declared.node.NodeKind.{NodeKind}
 use Rattle.term_unfold.specs.declared.node.NodeKind.TheVariants as kinds
-use Rattle.term_unfold.specs.Places.{Face, LeafFace, BadFace, BranchFace, Placed, placed, placed_all, nodes_of}
+use Rattle.term_unfold.specs.Places.{is_nil, Face, LeafFace, BadFace, BranchFace, Placed, placed, placed_all, nodes_of}
 use Rattle.term_unfold.specs.Terms.{count, IsTerm, IsItem, AreTerms, AreItems}
-use Rattle.term_unfold.specs.Text.{Shown, shown, led, ◌then◌, Stand, Cut, At, Listed, listed, go_on, ◌followed◌, left_at, closed, comma, valued, key_then, is_nil, leaf_tail, barred, node_text, head_text, tail_text, elements_text, keys_text, values_text, items_text, item_text, pair_text, value_text, show}
-use Rattle.term_unfold.specs.Trees.{Value, Tree, Leaf, Bad, Branch, Trees, none, more}
+use Rattle.term_unfold.specs.Text.{Shown, shown, led, ◌then◌, Stand, Cut, At, go_on, left_at, closed, comma, valued, node_text, head_text, tail_text, elements_text, keys_text, values_text, items_text, item_text, pair_text, value_text, show}
+use Rattle.term_unfold.specs.Trees.{Value, Immediate, Tree, Leaf, Bad, Branch, Trees, none, more}
+use Rattle.term_unfold.proofs.Turning.{barred}
 
 -- the faces of the nodes, without their places
 
@@ -22,7 +24,7 @@ abbrev mutual
   faces_all leaf (more tree trees) = faces leaf tree ++ faces_all leaf trees
 
 abbrev face_of : Placed → Face
-face_of p = p.face
+face_of p = p.1
 
 mutual
   faces-placed : (leaf : Value → List ℕ) (place : List ℕ) (t : Tree) → map face_of (placed leaf place t) ≡ faces leaf t
@@ -39,21 +41,21 @@ mutual
 
 -- two texts are the same, and so are the faces behind them as far as the count goes that they leave
 
-record Same (s t : Shown) (xs ys : List Face) : Type 0 where
+record Same (s t : Shown ℕ) (xs ys : List Face) : Type 0 where
   shown : s ≡ t
   rest : take s.left xs ≡ take s.left ys
 
-record SameItems (s t : Listed) (xs ys : List Face) : Type 0 where
+record SameItems (s t : Shown Stand) (xs ys : List Face) : Type 0 where
   shown : s ≡ t
-  rest : take (left_at s.stand) xs ≡ take (left_at s.stand) ys
+  rest : take (left_at s.left) xs ≡ take (left_at s.left) ys
 
-same-led : (front : List ℕ) (s t : Shown) (xs ys : List Face) → Same s t xs ys → Same (led front s) (led front t) xs ys
+same-led : (front : List ℕ) (s t : Shown ℕ) (xs ys : List Face) → Same s t xs ys → Same (led front s) (led front t) xs ys
 same-led front s t xs ys same = record { shown = ap (led front) same.shown; rest = same.rest }
 
-same-barred : (s t : Shown) (xs ys : List Face) → Same s t xs ys → Same (barred s) (barred t) xs ys
+same-barred : (s t : Shown ℕ) (xs ys : List Face) → Same s t xs ys → Same (barred s) (barred t) xs ys
 same-barred s t xs ys same = record { shown = ap barred same.shown; rest = same.rest }
 
-same-then : (s t : Shown) (f g : ℕ → Shown) (vs ws xs ys : List Face) → Same s t vs ws → ((k : ℕ) → take k vs ≡ take k ws → Same (f k) (g k) xs ys)
+same-then : (s t : Shown ℕ) (f g : ℕ → Shown ℕ) (vs ws xs ys : List Face) → Same s t vs ws → ((k : ℕ) → take k vs ≡ take k ws → Same (f k) (g k) xs ys)
     → Same (s then f) (t then g) xs ys
 same-then s t f g vs ws xs ys first second =
     let next = second s.left first.rest in
@@ -62,33 +64,33 @@ same-then s t f g vs ws xs ys first second =
       rest = next.rest;
     }
 
-same-closed : (s t : Listed) (xs ys : List Face) → SameItems s t xs ys → Same (closed s) (closed t) xs ys
+same-closed : (s t : Shown Stand) (xs ys : List Face) → SameItems s t xs ys → Same (closed s) (closed t) xs ys
 same-closed s t xs ys same = record { shown = ap closed same.shown; rest = same.rest }
 
-same-go_on : (stand : Stand) (f g : Bool → ℕ → Listed) (vs ws xs ys : List Face) → take (left_at stand) vs ≡ take (left_at stand) ws
+same-go_on : (stand : Stand) (f g : Bool → ℕ → Shown Stand) (vs ws xs ys : List Face) → take (left_at stand) vs ≡ take (left_at stand) ws
     → ((came : Bool) (k : ℕ) → take k vs ≡ take k ws → SameItems (f came k) (g came k) xs ys) → SameItems (go_on f stand) (go_on g stand) xs ys
 same-go_on Cut f g vs ws xs ys rest second = record { shown = refl; rest = refl }
 same-go_on (At came k) f g vs ws xs ys rest second = second came k rest
 
-same-followed : (s t : Listed) (f g : Bool → ℕ → Listed) (vs ws xs ys : List Face) → SameItems s t vs ws
-    → ((came : Bool) (k : ℕ) → take k vs ≡ take k ws → SameItems (f came k) (g came k) xs ys) → SameItems (s followed f) (t followed g) xs ys
+same-followed : (s t : Shown Stand) (f g : Bool → ℕ → Shown Stand) (vs ws xs ys : List Face) → SameItems s t vs ws
+    → ((came : Bool) (k : ℕ) → take k vs ≡ take k ws → SameItems (f came k) (g came k) xs ys) → SameItems (s then go_on f) (t then go_on g) xs ys
 same-followed s t f g vs ws xs ys first second =
-    let next = same-go_on s.stand f g vs ws xs ys first.rest second in
+    let next = same-go_on s.left f g vs ws xs ys first.rest second in
     record {
-      shown = ap (λ r. listed (s.text ++ r.text) r.stand) next.shown ∙ ap (λ r. r followed g) first.shown;
+      shown = ap (λ r. shown (s.text ++ r.text) r.left) next.shown ∙ ap (λ r. r then go_on g) first.shown;
       rest = next.rest;
     }
 
-same-key : (came : Bool) (s t : Shown) (f g : ℕ → Listed) (vs ws xs ys : List Face) → Same s t vs ws → ((k : ℕ) → take k vs ≡ take k ws → SameItems (f k) (g k) xs ys)
-    → SameItems (key_then came s f) (key_then came t g) xs ys
+same-key : (came : Bool) (s t : Shown ℕ) (f g : ℕ → Shown Stand) (vs ws xs ys : List Face) → Same s t vs ws → ((k : ℕ) → take k vs ≡ take k ws → SameItems (f k) (g k) xs ys)
+    → SameItems (led (comma came) (s then f)) (led (comma came) (t then g)) xs ys
 same-key came s t f g vs ws xs ys first second =
     let next = second s.left first.rest in
     record {
-      shown = ap (λ r. listed (comma came ++ (s.text ++ r.text)) r.stand) next.shown ∙ ap (λ r. key_then came r g) first.shown;
+      shown = ap (λ r. shown (comma came ++ (s.text ++ r.text)) r.left) next.shown ∙ ap (λ r. led (comma came) (r then g)) first.shown;
       rest = next.rest;
     }
 
-same-valued : (s t : Shown) (xs ys : List Face) → Same s t xs ys → SameItems (valued s) (valued t) xs ys
+same-valued : (s t : Shown ℕ) (xs ys : List Face) → Same s t xs ys → SameItems (valued s) (valued t) xs ys
 same-valued s t xs ys same = record { shown = ap valued same.shown; rest = same.rest }
 
 -- the premise: so many faces are the same
@@ -129,18 +131,20 @@ at-kind P n k j size other xs ys h same =
 agree-only : (n : ℕ) (vs ws xs ys : List Face) → Agree n ((vs ++ []) ++ xs) ((ws ++ []) ++ ys) → Agree n (vs ++ xs) (ws ++ ys)
 agree-only n vs ws xs ys h = ap (λ l. take n (l ++ xs)) (sym (append-nil vs)) ∙ h ∙ ap (λ l. take n (l ++ ys)) (append-nil ws)
 
-same-leaf_tail : (b c : Bool) (text other : List ℕ) (m : ℕ) (xs ys : List Face) → b ≡ c → text ≡ other → take m xs ≡ take m ys → Same (leaf_tail b text m) (leaf_tail c other m) xs ys
-same-leaf_tail true true text other m xs ys b t rest = record { shown = refl; rest = rest }
-same-leaf_tail true false text other m xs ys b t rest = cc
-same-leaf_tail false true text other m xs ys b t rest = cc
-same-leaf_tail false false text other m xs ys b t rest = record { shown = ap (λ l. shown (codes "|" ++ (l ++ codes "]")) m) t; rest = rest }
+-- a tail that is a leaf
+same-leaf : (leaf : Value → List ℕ) (v w : Value) (m : ℕ) (xs ys : List Face) → is_nil v ≡ is_nil w → leaf v ≡ leaf w → take m xs ≡ take m ys
+    → Same (tail_text leaf (more (Leaf v) none) (suc m)) (tail_text leaf (more (Leaf w) none) (suc m)) xs ys
+same-leaf leaf (Immediate Nil) (Immediate Nil) m xs ys nil text rest = record { shown = refl; rest = rest }
+same-leaf leaf (Immediate Nil) w m xs ys nil text rest = cc
+same-leaf leaf v (Immediate Nil) m xs ys nil text rest = cc
+same-leaf leaf v w m xs ys nil text rest = record { shown = ap (λ l. shown (codes "|" ++ (l ++ codes "]")) m) text; rest = rest }
 
 tail-cut : (leaf : Value → List ℕ) (t : Tree) → tail_text leaf (more t none) 0 ≡ shown (codes "|...]") 0
-tail-cut leaf (Leaf value) = refl
+tail-cut leaf (Leaf (Immediate Nil)) = refl
 tail-cut leaf t = refl
 
 cut-rest : (leaf : Value → List ℕ) (t : Tree) (xs ys : List Face) → take (tail_text leaf (more t none) 0).left xs ≡ take (tail_text leaf (more t none) 0).left ys
-cut-rest leaf t xs ys = ap (λ (s : Shown). take s.left xs) (tail-cut leaf t) ∙ sym (ap (λ (s : Shown). take s.left ys) (tail-cut leaf t))
+cut-rest leaf t xs ys = ap (λ (s : Shown ℕ). take s.left xs) (tail-cut leaf t) ∙ sym (ap (λ (s : Shown ℕ). take s.left ys) (tail-cut leaf t))
 
 -- a value, where one more node is the same if one more is visited
 same-value : (leaf : Value → List ℕ) (t u : Tree) (k : ℕ) (xs ys : List Face) → ((m : ℕ) → k ≡ suc m → Same (node_text leaf t m) (node_text leaf u m) xs ys)
@@ -202,7 +206,7 @@ mutual
   same-tail leaf (Leaf v) (Leaf w) (suc m) xs ys a b h =
       let first = agree-first m (LeafFace (is_nil v) (leaf v)) (LeafFace (is_nil w) (leaf w)) xs ys h in
       let parts = leaf-same v w leaf first.0 in
-      same-leaf_tail (is_nil v) (is_nil w) (leaf v) (leaf w) m xs ys parts.0 parts.1 first.1
+      same-leaf leaf v w m xs ys parts.0 parts.1 first.1
   same-tail leaf (Leaf v) (Bad c why) (suc m) xs ys a b h = let no = (agree-first m (LeafFace (is_nil v) (leaf v)) (BadFace c why) xs ys h).0 in cc
   same-tail leaf (Leaf v) (Branch j us) (suc m) xs ys a b h = let no = (agree-first m (LeafFace (is_nil v) (leaf v)) (BranchFace j (count us)) xs (faces_all leaf us ++ ys) h).0 in cc
   same-tail leaf (Bad c why) (Leaf w) (suc m) xs ys a b h = let no = (agree-first m (BadFace c why) (LeafFace (is_nil w) (leaf w)) xs ys h).0 in cc
@@ -316,4 +320,4 @@ first_nodes leaf t u (suc m) a b h =
     ∙ sym (take-map face_of (suc m) (nodes_of leaf u)) ∙ ap (take (suc m)) (faces-placed leaf no_place u) in
     let behind : Agree (suc m) (faces leaf t ++ []) (faces leaf u ++ [])
     = ap (take (suc m)) (append-nil (faces leaf t)) ∙ same ∙ ap (take (suc m)) (sym (append-nil (faces leaf u))) in
-    ap (λ (s : Shown). s.text) (same-node leaf t u m [] [] a b behind).shown
+    ap (λ (s : Shown ℕ). s.text) (same-node leaf t u m [] [] a b behind).shown

@@ -13,9 +13,9 @@ use Rattle.term_forms.specs.Forms.{HeapForm, Cons, Tuple, Flat, Hash, Node}
 use Rattle.heap_cells.specs.Cells.{Cell, addresses}
 use Rattle.heap_cells.specs.HeapMap.{number_at, form_at}
 use Rattle.cell_records.specs.declared.cells.Why.TheVariants.{OnPath}
-use Rattle.map_nodes.specs.Rules.{Keys, no_keys, keys_at, bad_keys, keys_of_map, form_member, cell_member, form_with}
+use Rattle.map_nodes.specs.Rules.{Keys, no_keys, keys_at, bad_keys, keys_of_map, cell_member, form_with}
 use Rattle.term_unfold.specs.Laws.{IsPath}
-use Rattle.term_unfold.specs.Rules.{Child, Term, Item, Opening, leaf, bad, node, is_on, unless_on, keyed, form_opening, cell_opening, item_opening, opening}
+use Rattle.term_unfold.specs.Rules.{Child, Term, Item, Opening, leaf, bad, node, is_on, unless_on, keyed, cell_opening, item_opening, opening}
 use Rattle.term_unfold.specs.Trees.{Tree, Branch, more}
 use Rattle.term_unfold.specs.Unfolding.{trees, grown, unfold_by, unfolded}
 
@@ -107,7 +107,7 @@ keyed-is heap path a vs no_keys is = is
 keyed-is heap path a vs (keys_at k ks) is = is
 keyed-is heap path a vs (bad_keys k why) is = tt
 
-form-is : (heap : List Cell) (path : List ℕ) (a : ℕ) (form : Option HeapForm) → IsPath heap (a ∷ path) → IsOpening heap path (form_opening heap path a form)
+form-is : (heap : List Cell) (path : List ℕ) (a : ℕ) (form : Option HeapForm) → IsPath heap (a ∷ path) → IsOpening heap path (cell_opening heap path a (Some form))
 form-is heap path a (Some (Cons head tail)) is = is
 form-is heap path a (Some (Tuple elements)) is = is
 form-is heap path a (Some (Flat keys [])) is = is
@@ -116,7 +116,7 @@ form-is heap path a (Some (Flat keys (v ∷ vs))) is =
 form-is heap path a (Some (Hash size children)) is = is
 form-is heap path a form is = tt
 
-member-is : (heap : List Cell) (path : List ℕ) (a : ℕ) (form : Option HeapForm) → IsPath heap (a ∷ path) → IsOpening heap path (item_opening (form_member a form))
+member-is : (heap : List Cell) (path : List ℕ) (a : ℕ) (form : Option HeapForm) → IsPath heap (a ∷ path) → IsOpening heap path (item_opening (cell_member a (Some form)))
 member-is heap path a (Some (Cons head tail)) is = is
 member-is heap path a (Some (Tuple elements)) is = is
 member-is heap path a (Some (Node children)) is = is

@@ -18,7 +18,7 @@ use Rattle.cell_records.specs.declared.cells.Why.TheVariants.{Missing, Malformed
 use Rattle.heap_cells.specs.HeapMap.{HeapMap, number_at, form_at}
 use Rattle.heap_cells.specs.Targets.{Plain, At, number, target}
 use Rattle.map_nodes.specs.Laws.Targets.{leads-at, leads-nowhere}
-use Rattle.map_nodes.specs.Rules.{no_keys, keys_at, bad_keys, tuple_keys, cell_keys, element_keys, form_keys, pair_at, inner_at, form_member, cell_member, member_of, address_of, form_with}
+use Rattle.map_nodes.specs.Rules.{no_keys, keys_at, bad_keys, cell_keys, element_keys, form_keys, pair_at, inner_at, cell_member, member_of, address_of, form_with}
 use Rattle.term_unfold.specs.declared.node.NodeKind.TheVariants as kinds
 use Rattle.term_unfold.specs.declared.path.Entry.{Entry}
 use Rattle.term_unfold.specs.Inner.Entries.{Entered, numbers_of, path_of, IsLine}
@@ -26,7 +26,7 @@ use Rattle.term_unfold.specs.declared.openings.Opened.{Opened}
 use Rattle.term_unfold.specs.declared.openings.Opened.TheVariants as opened
 use Rattle.term_unfold.specs.Inner.Kids.{members_in, found_elements, flat_kids}
 use Rattle.term_unfold.specs.Inner.Openings.{Opens}
-use Rattle.term_unfold.specs.Rules.{Term, Item, leaf, bad, node, is_on, unless_on, terms, items, pairs, keyed, form_opening, cell_opening, term_opening, item_opening, opening}
+use Rattle.term_unfold.specs.Rules.{Term, Item, leaf, bad, node, is_on, unless_on, terms, items, pairs, keyed, cell_opening, term_opening, item_opening, opening}
 use Rattle.term_unfold.specs.Trees.{OfCell}
 use Rattle.term_unfold.proofs.Kidded.{flat_kids-at}
 
@@ -78,13 +78,13 @@ item-on heap path parent k e leads on =
     let b = address_of heap k in
     ap (λ x. opening heap path (Item parent x)) (leads-at heap k e leads).element ∙ ap (λ o. cond o (bad b OnPath) (item_opening (member_of heap parent (Ref b)))) on
 
-pub member-at : (heap : List Cell) (parent k : ℕ) (e : Element) → target heap e ≡ At k → member_of heap parent e ≡ form_member (address_of heap k) (form_at heap k)
+pub member-at : (heap : List Cell) (parent k : ℕ) (e : Element) → target heap e ≡ At k → member_of heap parent e ≡ cell_member (address_of heap k) (Some (form_at heap k))
 member-at heap parent k e leads =
     let to = leads-at heap k e leads in
     ap (member_of heap parent) to.element ∙ ap (cell_member (address_of heap k)) to.form
 
 pub item-at : (heap : List Cell) (path : List ℕ) (parent k : ℕ) (e : Element) → target heap e ≡ At k → is_on (address_of heap k) path ≡ false
-    → opening heap path (Item parent e) ≡ item_opening (form_member (address_of heap k) (form_at heap k))
+    → opening heap path (Item parent e) ≡ item_opening (cell_member (address_of heap k) (Some (form_at heap k)))
 item-at heap path parent k e leads off =
     let b = address_of heap k in
     ap (λ x. opening heap path (Item parent x)) (leads-at heap k e leads).element ∙ ap (λ o. cond o (bad b OnPath) (item_opening (member_of heap parent (Ref b)))) off
@@ -174,33 +174,33 @@ form-is : (heap : List Cell) (n : ℕ) → IsDistinct eqb (addresses heap) → n
 form-is heap n distinct within = ap (option_map (form_at heap)) (number-is heap n distinct within)
 
 pub term-at : (heap : List Cell) (path : List ℕ) (n : ℕ) → is_on (address_of heap n) path ≡ false → IsDistinct eqb (addresses heap) → n < length heap
-    → opening heap path (Term (Ref (address_of heap n))) ≡ form_opening heap path (address_of heap n) (form_at heap n)
+    → opening heap path (Term (Ref (address_of heap n))) ≡ cell_opening heap path (address_of heap n) (Some (form_at heap n))
 term-at heap path n off distinct within =
     let a = address_of heap n in
     ap (λ b. cond b (bad a OnPath) (term_opening heap path (Ref a))) off ∙ ap (cell_opening heap path a) (form-is heap n distinct within)
 
 -- the openings of forms, by their kinds
 
-pub form-none : (heap : List Cell) (path : List ℕ) (a : ℕ) (form : Option HeapForm) → option_map kind_of form ≡ None → form_opening heap path a form ≡ bad a Malformed
+pub form-none : (heap : List Cell) (path : List ℕ) (a : ℕ) (form : Option HeapForm) → option_map kind_of form ≡ None → cell_opening heap path a (Some form) ≡ bad a Malformed
 form-none heap path a None h = refl
 form-none heap path a (Some form) h = cc
 
-pub form-list : (heap : List Cell) (path : List ℕ) (a : ℕ) (form : Option HeapForm) → option_map kind_of form ≡ Some cell_kind.List → form_opening heap path a form ≡ node a kinds.Cons (terms (take 2 (elements_in form)))
+pub form-list : (heap : List Cell) (path : List ℕ) (a : ℕ) (form : Option HeapForm) → option_map kind_of form ≡ Some cell_kind.List → cell_opening heap path a (Some form) ≡ node a kinds.Cons (terms (take 2 (elements_in form)))
 form-list heap path a None h = cc
 form-list heap path a (Some (Cons head tail)) h = refl
 form-list heap path a (Some form) h = cc
 
-pub form-tuple : (heap : List Cell) (path : List ℕ) (a : ℕ) (form : Option HeapForm) → option_map kind_of form ≡ Some cell_kind.Tuple → form_opening heap path a form ≡ node a kinds.Tuple (terms (elements_in form))
+pub form-tuple : (heap : List Cell) (path : List ℕ) (a : ℕ) (form : Option HeapForm) → option_map kind_of form ≡ Some cell_kind.Tuple → cell_opening heap path a (Some form) ≡ node a kinds.Tuple (terms (elements_in form))
 form-tuple heap path a None h = cc
 form-tuple heap path a (Some (Tuple elements)) h = refl
 form-tuple heap path a (Some form) h = cc
 
-pub form-hash : (heap : List Cell) (path : List ℕ) (a : ℕ) (form : Option HeapForm) → option_map kind_of form ≡ Some cell_kind.Hash → form_opening heap path a form ≡ node a kinds.Hash (items a (members_in form))
+pub form-hash : (heap : List Cell) (path : List ℕ) (a : ℕ) (form : Option HeapForm) → option_map kind_of form ≡ Some cell_kind.Hash → cell_opening heap path a (Some form) ≡ node a kinds.Hash (items a (members_in form))
 form-hash heap path a None h = cc
 form-hash heap path a (Some (Hash size children)) h = refl
 form-hash heap path a (Some form) h = cc
 
-pub form-node : (heap : List Cell) (path : List ℕ) (a : ℕ) (form : Option HeapForm) → option_map kind_of form ≡ Some cell_kind.Node → form_opening heap path a form ≡ bad a Malformed
+pub form-node : (heap : List Cell) (path : List ℕ) (a : ℕ) (form : Option HeapForm) → option_map kind_of form ≡ Some cell_kind.Node → cell_opening heap path a (Some form) ≡ bad a Malformed
 form-node heap path a None h = cc
 form-node heap path a (Some (Node children)) h = refl
 form-node heap path a (Some form) h = cc
@@ -209,7 +209,7 @@ form-node heap path a (Some form) h = cc
 pub record IsLeafForm (heap : List Cell) (path : List ℕ) (a : ℕ) (form : Option HeapForm) : Type 0 where
   pub leaf_form : HeapForm
   pub form_is : form ≡ Some leaf_form
-  pub opens : form_opening heap path a form ≡ leaf (OfCell a leaf_form)
+  pub opens : cell_opening heap path a (Some form) ≡ leaf (OfCell a leaf_form)
 
 pub form-leaf : (heap : List Cell) (path : List ℕ) (a : ℕ) (kind : Kind) (form : Option HeapForm) → option_map kind_of form ≡ Some kind → (kind ≡ cell_kind.List → ⊥) → (kind ≡ cell_kind.Tuple → ⊥)
     → (kind ≡ cell_kind.Flat → ⊥) → (kind ≡ cell_kind.Hash → ⊥) → (kind ≡ cell_kind.Node → ⊥) → IsLeafForm heap path a form
@@ -239,7 +239,7 @@ flat-alone heap (Ref k) = pairs-none (found_elements (form_with heap k))
 flat-alone heap keys = refl
 
 pub flat-empty : (heap : List Cell) (path : List ℕ) (a : ℕ) (form : Option HeapForm) → option_map kind_of form ≡ Some cell_kind.Flat → length (elements_in form) < 2
-    → form_opening heap path a form ≡ node a kinds.Flat (flat_kids heap (elements_in form))
+    → cell_opening heap path a (Some form) ≡ node a kinds.Flat (flat_kids heap (elements_in form))
 flat-empty heap path a None h few = cc
 flat-empty heap path a (Some (Flat keys [])) h few = ap (node a kinds.Flat) (sym (flat-alone heap keys))
 flat-empty heap path a (Some (Flat keys (v ∷ vs))) h few = absurd (omega (arith, few))
@@ -247,7 +247,7 @@ flat-empty heap path a (Some form) h few = cc
 
 -- the keys element of a flat map that has values is opened below the map
 pub flat-some : (heap : List Cell) (path : List ℕ) (a : ℕ) (form : Option HeapForm) → option_map kind_of form ≡ Some cell_kind.Flat → 2 ≤ length (elements_in form)
-    → form_opening heap path a form ≡ unless_on (a ∷ path) (get_or (elements_in form) 0 Nil) (keyed a (drop 1 (elements_in form)) (form_keys heap a form))
+    → cell_opening heap path a (Some form) ≡ unless_on (a ∷ path) (get_or (elements_in form) 0 Nil) (keyed a (drop 1 (elements_in form)) (form_keys heap a form))
 flat-some heap path a None h some = cc
 flat-some heap path a (Some (Flat keys [])) h some = absurd (omega (arith, some))
 flat-some heap path a (Some (Flat keys (v ∷ vs))) h some = refl
@@ -263,7 +263,7 @@ keys-some heap a (Some (Flat keys (v ∷ vs))) h some =
 keys-some heap a (Some form) h some = cc
 
 pub flat-plain : (heap : List Cell) (path : List ℕ) (a : ℕ) (form : Option HeapForm) → option_map kind_of form ≡ Some cell_kind.Flat → 2 ≤ length (elements_in form) → target heap (get_or (elements_in form) 0 Nil) ≡ Plain
-    → form_opening heap path a form ≡ bad a Malformed
+    → cell_opening heap path a (Some form) ≡ bad a Malformed
 flat-plain heap path a form h some plain =
     flat-some heap path a form h some
     ∙ ap (λ k. unless_on (a ∷ path) (get_or (elements_in form) 0 Nil) (keyed a (drop 1 (elements_in form)) k)) (keys-some heap a form h some)
@@ -273,7 +273,7 @@ flat-plain heap path a form h some plain =
 -- the keys element refers to an address
 flat-ref : (heap : List Cell) (path : List ℕ) (a b : ℕ) (form : Option HeapForm) (found : Option (Option HeapForm)) → option_map kind_of form ≡ Some cell_kind.Flat → 2 ≤ length (elements_in form)
     → get_or (elements_in form) 0 Nil ≡ Ref b → form_with heap b ≡ found
-    → form_opening heap path a form ≡ cond (is_on b (a ∷ path)) (bad b OnPath) (keyed a (drop 1 (elements_in form)) (cell_keys b (length (elements_in form) - 1) found))
+    → cell_opening heap path a (Some form) ≡ cond (is_on b (a ∷ path)) (bad b OnPath) (keyed a (drop 1 (elements_in form)) (cell_keys b (length (elements_in form) - 1) found))
 flat-ref heap path a b form found h some is with_is =
     flat-some heap path a form h some
     ∙ ap (λ k. unless_on (a ∷ path) (get_or (elements_in form) 0 Nil) (keyed a (drop 1 (elements_in form)) k)) (keys-some heap a form h some)
@@ -281,14 +281,14 @@ flat-ref heap path a b form found h some is with_is =
     ∙ ap (λ f. cond (is_on b (a ∷ path)) (bad b OnPath) (keyed a (drop 1 (elements_in form)) (cell_keys b (length (elements_in form) - 1) f))) with_is
 
 pub flat-on : (heap : List Cell) (path : List ℕ) (a k : ℕ) (form : Option HeapForm) → option_map kind_of form ≡ Some cell_kind.Flat → 2 ≤ length (elements_in form)
-    → target heap (get_or (elements_in form) 0 Nil) ≡ At k → is_on (address_of heap k) (a ∷ path) ≡ true → form_opening heap path a form ≡ bad (address_of heap k) OnPath
+    → target heap (get_or (elements_in form) 0 Nil) ≡ At k → is_on (address_of heap k) (a ∷ path) ≡ true → cell_opening heap path a (Some form) ≡ bad (address_of heap k) OnPath
 flat-on heap path a k form h some leads on =
     let b = address_of heap k in
     flat-ref heap path a b form (form_with heap b) h some (leads-at heap k (get_or (elements_in form) 0 Nil) leads).element refl
     ∙ ap (λ x. cond x (bad b OnPath) (keyed a (drop 1 (elements_in form)) (cell_keys b (length (elements_in form) - 1) (form_with heap b)))) on
 
 pub flat-missing : (heap : List Cell) (path : List ℕ) (a b : ℕ) (form : Option HeapForm) → option_map kind_of form ≡ Some cell_kind.Flat → 2 ≤ length (elements_in form)
-    → get_or (elements_in form) 0 Nil ≡ Ref b → is_on b (a ∷ path) ≡ false → form_with heap b ≡ None → form_opening heap path a form ≡ bad b Missing
+    → get_or (elements_in form) 0 Nil ≡ Ref b → is_on b (a ∷ path) ≡ false → form_with heap b ≡ None → cell_opening heap path a (Some form) ≡ bad b Missing
 flat-missing heap path a b form h some is off none =
     flat-ref heap path a b form None h some is none
     ∙ ap (λ x. cond x (bad b OnPath) (bad b Missing)) off
@@ -297,7 +297,7 @@ tuple-size : (x : Bool) (b c : ℕ) (elements ks : List Element) → cond x (key
 tuple-size true b c elements ks h = cc
 tuple-size false b c elements ks h = cc
 
-tuple-keys-at : (b size : ℕ) (form : Option HeapForm) (c : ℕ) (ks : List Element) → tuple_keys b size form ≡ keys_at c ks → elements_in form ≡ ks
+tuple-keys-at : (b size : ℕ) (form : Option HeapForm) (c : ℕ) (ks : List Element) → cell_keys b size (Some form) ≡ keys_at c ks → elements_in form ≡ ks
 tuple-keys-at b size None c ks h = cc
 tuple-keys-at b size (Some (Tuple elements)) c ks h = tuple-size (eqb (length elements) size) b c elements ks h
 tuple-keys-at b size (Some form) c ks h = cc
@@ -305,21 +305,21 @@ tuple-keys-at b size (Some form) c ks h = cc
 -- the keys are those of the tuple to which the keys element refers
 pub flat-keyed : (heap : List Cell) (path : List ℕ) (a k c : ℕ) (ks : List Element) (form : Option HeapForm) → option_map kind_of form ≡ Some cell_kind.Flat → 2 ≤ length (elements_in form)
     → target heap (get_or (elements_in form) 0 Nil) ≡ At k → is_on (address_of heap k) (a ∷ path) ≡ false → form_keys heap a form ≡ keys_at c ks
-    → form_opening heap path a form ≡ node a kinds.Flat (flat_kids heap (elements_in form))
+    → cell_opening heap path a (Some form) ≡ node a kinds.Flat (flat_kids heap (elements_in form))
 flat-keyed heap path a k c ks form h some leads off keys =
     let to = leads-at heap k (get_or (elements_in form) 0 Nil) leads in
     let elements = elements_in form in
     let size = length elements - 1 in
-    let tuple : tuple_keys (address_of heap k) size (form_at heap k) ≡ keys_at c ks
+    let tuple : cell_keys (address_of heap k) size (Some (form_at heap k)) ≡ keys_at c ks
     = sym (keys-some heap a form h some ∙ ap (element_keys heap a size) to.element ∙ ap (cell_keys (address_of heap k) size) to.form) ∙ keys in
     flat-ref heap path a (address_of heap k) form (Some (form_at heap k)) h some to.element to.form
-    ∙ ap (λ x. cond x (bad (address_of heap k) OnPath) (keyed a (drop 1 elements) (tuple_keys (address_of heap k) size (form_at heap k)))) off
+    ∙ ap (λ x. cond x (bad (address_of heap k) OnPath) (keyed a (drop 1 elements) (cell_keys (address_of heap k) size (Some (form_at heap k))))) off
     ∙ ap (keyed a (drop 1 elements)) tuple
     ∙ ap (λ l. node a kinds.Flat (pairs l (drop 1 elements))) (sym (tuple-keys-at (address_of heap k) size (form_at heap k) c ks tuple))
     ∙ ap (node a kinds.Flat) (sym (flat_kids-at heap elements k (omega (arith, some)) leads))
 
 pub flat-bad : (heap : List Cell) (path : List ℕ) (a k c : ℕ) (why : Why) (form : Option HeapForm) → option_map kind_of form ≡ Some cell_kind.Flat → 2 ≤ length (elements_in form)
-    → target heap (get_or (elements_in form) 0 Nil) ≡ At k → is_on (address_of heap k) (a ∷ path) ≡ false → form_keys heap a form ≡ bad_keys c why → form_opening heap path a form ≡ bad c why
+    → target heap (get_or (elements_in form) 0 Nil) ≡ At k → is_on (address_of heap k) (a ∷ path) ≡ false → form_keys heap a form ≡ bad_keys c why → cell_opening heap path a (Some form) ≡ bad c why
 flat-bad heap path a k c why form h some leads off keys =
     let to = leads-at heap k (get_or (elements_in form) 0 Nil) leads in
     flat-some heap path a form h some
@@ -332,7 +332,7 @@ no-tuple : {X : Type 0} (b : Bool) (k : ℕ) (elements : List Element) → cond 
 no-tuple true k elements h = cc
 no-tuple false k elements h = cc
 
-no-form : {X : Type 0} (k size : ℕ) (form : Option HeapForm) → tuple_keys k size form ≡ no_keys → X
+no-form : {X : Type 0} (k size : ℕ) (form : Option HeapForm) → cell_keys k size (Some form) ≡ no_keys → X
 no-form k size None h = cc
 no-form k size (Some (Tuple elements)) h = no-tuple (eqb (length elements) size) k elements h
 no-form k size (Some form) h = cc
@@ -347,14 +347,14 @@ flat-no_keys heap a k form h some leads none =
 
 -- items
 
-pub pair-opens : (a b : ℕ) (k v : Element) (form : Option HeapForm) → form_member a form ≡ pair_at b k v → item_opening (form_member a form) ≡ node a kinds.Pair (terms (take 2 (elements_in form)))
+pub pair-opens : (a b : ℕ) (k v : Element) (form : Option HeapForm) → cell_member a (Some form) ≡ pair_at b k v → item_opening (cell_member a (Some form)) ≡ node a kinds.Pair (terms (take 2 (elements_in form)))
 pair-opens a b k v None h = cc
 pair-opens a b k v (Some (Cons head tail)) h = refl
 pair-opens a b k v (Some (Tuple elements)) h = cc
 pair-opens a b k v (Some (Node children)) h = cc
 pair-opens a b k v (Some form) h = cc
 
-pub inner-opens : (a b : ℕ) (es : List Element) (form : Option HeapForm) → form_member a form ≡ inner_at b es → item_opening (form_member a form) ≡ node a kinds.Inner (items a (members_in form))
+pub inner-opens : (a b : ℕ) (es : List Element) (form : Option HeapForm) → cell_member a (Some form) ≡ inner_at b es → item_opening (cell_member a (Some form)) ≡ node a kinds.Inner (items a (members_in form))
 inner-opens a b es None h = cc
 inner-opens a b es (Some (Cons head tail)) h = cc
 inner-opens a b es (Some (Tuple elements)) h = refl

@@ -17,12 +17,13 @@ use Rattle.term_unfold.specs.Inner.Coming.{left_of, entered_by}
 use Rattle.term_unfold.specs.Inner.Entries.{path_of, next_of, is_item}
 use Rattle.term_unfold.specs.Inner.Kids.{kids_of, members_in, found_elements, flat_kids}
 use Rattle.term_unfold.specs.Inner.Openings.{element_of, is_item_child, is_nil_term, is_list, IsOpened}
-use Rattle.term_unfold.specs.Inner.Rest.{closing, list_rest, is_value, flat_rest, term_rest, pair_rest, item_rest, run, run_items, resume, rest, to_show, to_list, bracket, cell_text, own_text, HasItems}
+use Rattle.term_unfold.specs.Inner.Rest.{closing, list_rest, is_value, flat_rest, term_rest, pair_rest, item_rest, run, resume, rest, to_show, to_list, bracket, cell_text, own_text, HasItems}
+use Rattle.term_unfold.specs.Places.{is_nil}
 use Rattle.term_unfold.specs.Rules.{Child, Term, Item, terms, items, pairs}
-use Rattle.term_unfold.specs.Text.{Shown, shown, led, ◌then◌, Stand, Cut, At, Listed, listed, go_on, ◌followed◌, closed, comma, bad_text, is_nil, leaf_tail, barred, node_text, head_text, tail_text, elements_text, keys_text, values_text, items_text, item_text, pair_text, value_text}
+use Rattle.term_unfold.specs.Text.{Shown, shown, led, ◌then◌, Stand, Cut, At, go_on, closed, comma, bad_text, node_text, head_text, tail_text, elements_text, keys_text, values_text, items_text, item_text, pair_text, value_text}
 use Rattle.term_unfold.specs.Trees.{Value, Immediate, OfCell, Tree, Leaf, Bad, Branch, Trees, none, more}
 use Rattle.term_unfold.specs.Unfolding.{trees, unfolded}
-use Rattle.term_unfold.proofs.Turning.{run-then, run-led, run-barred, left-more, left-none, term-at, item-at, HasChild}
+use Rattle.term_unfold.proofs.Turning.{barred, run-then, run-led, run-barred, left-more, left-none, term-at, item-at, HasChild}
 use Rattle.term_unfold.proofs.Visited.{unfolded-as}
 
 -- a visited child, by what it opens
@@ -65,14 +66,14 @@ show-opened leaf heap before child (opened.Node ix kind) m few term is =
 
 -- the node behind a child
 
-run-at : (s : Shown) (f g : ℕ → List ℕ) → f s.left ≡ g s.left → run s f ≡ run s g
+run-at : (s : Shown ℕ) (f g : ℕ → List ℕ) → f s.left ≡ g s.left → run s f ≡ run s g
 run-at s f g h = ap (λ l. s.text ++ l) h
 
 is_value-next : (n : ℕ) (b : Bool) → is_value n ≡ b → is_value (n + 1) ≡ not b
 is_value-next n b h = ap is_value (add-one n) ∙ ap not h
 
 -- what comes before the child is written, then the child, and then what is left
-step-term : (leaf : Value → List ℕ) (heap : List Cell) (c : Bool) (e : Entry) (es : List Entry) (child : Child) (m : ℕ) (k : NodeKind) (front : List ℕ) (later : ℕ → Shown)
+step-term : (leaf : Value → List ℕ) (heap : List Cell) (c : Bool) (e : Entry) (es : List Entry) (child : Child) (m : ℕ) (k : NodeKind) (front : List ℕ) (later : ℕ → Shown ℕ)
     → e.kind ≡ k → is_item k ≡ false → HasChild heap e child
     → term_rest leaf k e.came e.next (more (unfolded heap (path_of heap (next_of c e ∷ es)) child) (left_of heap (next_of c e) es)) (suc m)
     ≡ led front (node_text leaf (unfolded heap (path_of heap (next_of c e ∷ es)) child) m then later)
@@ -190,7 +191,8 @@ step-cons leaf heap e es child o n m is at has few opens list = cc
 -- another tail
 
 tail-leaf : (leaf : Value → List ℕ) (v : Value) (ts : Trees) (m : ℕ) → is_nil v ≡ false → tail_text leaf (more (Leaf v) ts) (suc m) ≡ barred (node_text leaf (Leaf v) m)
-tail-leaf leaf v ts m h = ap (λ b. leaf_tail b (leaf v) m) h
+tail-leaf leaf (Immediate Nil) ts m h = cc
+tail-leaf leaf v ts m h = refl
 
 tail-as : (leaf : Value → List ℕ) (t u : Tree) (ts : Trees) (m : ℕ) → t ≡ u → tail_text leaf (more u ts) (suc m) ≡ barred (node_text leaf u m) → tail_text leaf (more t ts) (suc m) ≡ barred (node_text leaf t m)
 tail-as leaf t u ts m is h = ap (λ t. tail_text leaf (more t ts) (suc m)) is ∙ h ∙ ap (λ t. barred (node_text leaf t m)) (sym is)
@@ -231,7 +233,7 @@ pair-later : (leaf : Value → List ℕ) (came : Bool) (n : ℕ) (ts : Trees) (m
 pair-later leaf came n none m = refl
 pair-later leaf came n (more t ts) m = refl
 
-pair-none : (leaf : Value → List ℕ) (came : Bool) (next m : ℕ) → pair_rest leaf came next none m ≡ listed [] (At true m)
+pair-none : (leaf : Value → List ℕ) (came : Bool) (next m : ℕ) → pair_rest leaf came next none m ≡ shown [] (At true m)
 pair-none leaf came zero m = refl
 pair-none leaf came (suc next) m = refl
 
@@ -243,12 +245,12 @@ step-pair_key leaf heap e es child m is at has =
     let s = node_text leaf t m in
     let value = value_text leaf ts s.left in
     let next : e.next + 1 ≡ suc 0 = omega (arith, at) in
-    item-at leaf heap e es e.came (suc m) kinds.Pair is refl ∙ ap (λ l. run_items (pair_rest leaf e.came e.next l (suc m)) (resume leaf heap es)) (left-more heap true e es child has)
-    ∙ ap (λ n. run_items (pair_rest leaf e.came n (more t ts) (suc m)) (resume leaf heap es)) at
-    ∙ append_assoc (comma e.came) (s.text ++ value.text) (resume leaf heap es value.stand)
-    ∙ ap (λ l. comma e.came ++ l) (append_assoc s.text value.text (resume leaf heap es value.stand)
-    ∙ ap (λ l. s.text ++ l) (sym (item-at leaf heap (next_of true e) es true s.left kinds.Pair is refl ∙ ap (λ n. run_items (pair_rest leaf true n ts s.left) (resume leaf heap es)) next
-    ∙ ap (λ x. run_items x (resume leaf heap es)) (pair-later leaf true 0 ts s.left))))
+    item-at leaf heap e es e.came (suc m) kinds.Pair is refl ∙ ap (λ l. run (pair_rest leaf e.came e.next l (suc m)) (resume leaf heap es)) (left-more heap true e es child has)
+    ∙ ap (λ n. run (pair_rest leaf e.came n (more t ts) (suc m)) (resume leaf heap es)) at
+    ∙ append_assoc (comma e.came) (s.text ++ value.text) (resume leaf heap es value.left)
+    ∙ ap (λ l. comma e.came ++ l) (append_assoc s.text value.text (resume leaf heap es value.left)
+    ∙ ap (λ l. s.text ++ l) (sym (item-at leaf heap (next_of true e) es true s.left kinds.Pair is refl ∙ ap (λ n. run (pair_rest leaf true n ts s.left) (resume leaf heap es)) next
+    ∙ ap (λ x. run x (resume leaf heap es)) (pair-later leaf true 0 ts s.left))))
 
 pub step-pair_value : (leaf : Value → List ℕ) (heap : List Cell) (e : Entry) (es : List Entry) (child : Child) (n m : ℕ) → e.kind ≡ kinds.Pair → e.next ≡ suc n → HasChild heap e child
     → rest leaf heap (e ∷ es) (suc m) ≡ codes "=>" ++ to_show leaf heap (next_of true e ∷ es) child m
@@ -256,26 +258,26 @@ step-pair_value leaf heap e es child n m is at has =
     let t = unfolded heap (path_of heap (next_of true e ∷ es)) child in
     let ts = left_of heap (next_of true e) es in
     let s = node_text leaf t m in
-    item-at leaf heap e es e.came (suc m) kinds.Pair is refl ∙ ap (λ l. run_items (pair_rest leaf e.came e.next l (suc m)) (resume leaf heap es)) (left-more heap true e es child has)
-    ∙ ap (λ k. run_items (pair_rest leaf e.came k (more t ts) (suc m)) (resume leaf heap es)) at
+    item-at leaf heap e es e.came (suc m) kinds.Pair is refl ∙ ap (λ l. run (pair_rest leaf e.came e.next l (suc m)) (resume leaf heap es)) (left-more heap true e es child has)
+    ∙ ap (λ k. run (pair_rest leaf e.came k (more t ts) (suc m)) (resume leaf heap es)) at
     ∙ append_assoc (codes "=>") s.text (resume leaf heap es (At true s.left))
     ∙ ap (λ l. codes "=>" ++ (s.text ++ l)) (sym (item-at leaf heap (next_of true e) es true s.left kinds.Pair is refl
-    ∙ ap (λ l. run_items (pair_rest leaf true (e.next + 1) l s.left) (resume leaf heap es)) (second-last heap true e es n (ap (λ k. kids_of heap k (number e.cell)) is) at)
-    ∙ ap (λ x. run_items x (resume leaf heap es)) (pair-none leaf true (e.next + 1) s.left)))
+    ∙ ap (λ l. run (pair_rest leaf true (e.next + 1) l s.left) (resume leaf heap es)) (second-last heap true e es n (ap (λ k. kids_of heap k (number e.cell)) is) at)
+    ∙ ap (λ x. run x (resume leaf heap es)) (pair-none leaf true (e.next + 1) s.left)))
 
 -- items: a map ends behind them, and an inner node hands on where they stand
 
-abbrev ending : (Value → List ℕ) → Bool → List Cell → List Entry → Listed → List ℕ
+abbrev ending : (Value → List ℕ) → Bool → List Cell → List Entry → Shown Stand → List ℕ
 ending leaf false heap es l = run (closed l) (rest leaf heap es)
-ending leaf true heap es l = run_items l (resume leaf heap es)
+ending leaf true heap es l = run l (resume leaf heap es)
 
-ending-followed : (leaf : Value → List ℕ) (b : Bool) (heap : List Cell) (es : List Entry) (first : Listed) (second : Bool → ℕ → Listed)
-    → ending leaf b heap es (first followed second) ≡ first.text ++ ending leaf b heap es (go_on second first.stand)
+ending-followed : (leaf : Value → List ℕ) (b : Bool) (heap : List Cell) (es : List Entry) (first : Shown Stand) (second : Bool → ℕ → Shown Stand)
+    → ending leaf b heap es (first then go_on second) ≡ first.text ++ ending leaf b heap es (go_on second first.left)
 ending-followed leaf false heap es first second =
-    let last = go_on second first.stand in
+    let last = go_on second first.left in
     ap (λ l. l ++ rest leaf heap es (closed last).left) (append_assoc first.text last.text (codes "}")) ∙ append_assoc first.text (last.text ++ codes "}") (rest leaf heap es (closed last).left)
 ending-followed leaf true heap es first second =
-    append_assoc first.text (go_on second first.stand).text (resume leaf heap es (go_on second first.stand).stand)
+    append_assoc first.text (go_on second first.left).text (resume leaf heap es (go_on second first.left).left)
 
 items-at : (leaf : Value → List ℕ) (heap : List Cell) (e : Entry) (es : List Entry) (came : Bool) (m : ℕ) (k : NodeKind) → e.kind ≡ k → HasItems k
     → resume leaf heap (e ∷ es) (At came m) ≡ ending leaf (is_item k) heap es (items_text leaf came (left_of heap e es) m)
@@ -284,7 +286,7 @@ items-at leaf heap e es came m kinds.Inner is has = item-at leaf heap e es came 
 items-at leaf heap e es came m k is (inl h) = cc
 items-at leaf heap e es came m k is (inr h) = cc
 
-cut-ending : (leaf : Value → List ℕ) (b : Bool) (heap : List Cell) (es : List Entry) → cond b (resume leaf heap es Cut) (codes "}" ++ rest leaf heap es 0) ≡ ending leaf b heap es (listed [] Cut)
+cut-ending : (leaf : Value → List ℕ) (b : Bool) (heap : List Cell) (es : List Entry) → cond b (resume leaf heap es Cut) (codes "}" ++ rest leaf heap es 0) ≡ ending leaf b heap es (shown [] Cut)
 cut-ending leaf true heap es = refl
 cut-ending leaf false heap es = refl
 
@@ -303,13 +305,13 @@ step-items leaf heap c e es child m has at =
     items-at leaf heap e es e.came (suc m) e.kind refl has
     ∙ ap (λ l. ending leaf (is_item e.kind) heap es (items_text leaf e.came l (suc m))) (left-more heap c e es child at)
     ∙ ending-followed leaf (is_item e.kind) heap es first (λ b. items_text leaf b ts)
-    ∙ ap (λ l. first.text ++ l) (sym (items-next leaf heap c e es first.stand has))
+    ∙ ap (λ l. first.text ++ l) (sym (items-next leaf heap c e es first.left has))
 
 -- a visited item, by what it opens
 
 list-as : (leaf : Value → List ℕ) (heap : List Cell) (entries : List Entry) (came : Bool) (child : Child) (t : Tree) (m : ℕ) → unfolded heap (path_of heap entries) child ≡ t
-    → to_list leaf heap entries came child m ≡ run_items (item_text leaf came t m) (resume leaf heap entries)
-list-as leaf heap entries came child t m is = ap (λ t. run_items (item_text leaf came t m) (resume leaf heap entries)) is
+    → to_list leaf heap entries came child m ≡ run (item_text leaf came t m) (resume leaf heap entries)
+list-as leaf heap entries came child t m is = ap (λ t. run (item_text leaf came t m) (resume leaf heap entries)) is
 
 pub list-bad : (leaf : Value → List ℕ) (heap : List Cell) (entries : List Entry) (came : Bool) (child : Child) (address : ℕ) (why : Why) (m : ℕ) → length entries ≤ length heap
     → IsOpened heap (path_of heap entries) child (opened.Bad address why) → to_list leaf heap entries came child m ≡ (comma came ++ bad_text address why) ++ resume leaf heap entries (At true m)
@@ -333,7 +335,7 @@ list-opened leaf heap c e es child (opened.Node ix kind) m few item is good =
     let ts = trees (unfolded heap (address_of heap (number ix) ∷ path_of heap (e ∷ es))) (kids_of heap kind (number ix)) in
     let inner : Entry = record { cell = ix; next = 0; kind = kind; came = c } in
     list-as leaf heap (next_of c e ∷ es) c child (Branch kind ts) m (unfolded-as heap (next_of c e ∷ es) child _ few is.opens)
-    ∙ ap (λ l. run_items l (resume leaf heap (next_of c e ∷ es))) (entered-item leaf kind c ts m (is.fits ∙ item))
+    ∙ ap (λ l. run l (resume leaf heap (next_of c e ∷ es))) (entered-item leaf kind c ts m (is.fits ∙ item))
     ∙ sym (item-at leaf heap inner (next_of c e ∷ es) c m kind refl (is.fits ∙ item))
 
 -- which children are terms

@@ -7,7 +7,7 @@ use Rattle.cell_records.specs.declared.cells.Why.{Why}
 use Rattle.cell_records.specs.declared.cells.Why.TheVariants.{OnPath}
 use Rattle.map_nodes.specs.Rules.{Keys, no_keys, keys_at, bad_keys, keys_of_map, Member, pair_at, inner_at, bad_member, member_of, form_with}
 use Rattle.term_unfold.specs.Laws.{Suits}
-use Rattle.term_unfold.specs.Rules.{Child, Term, Item, Opening, bad, is_on, unless_on, terms, items, pairs, keyed, form_opening, cell_opening, term_opening, item_opening, opening}
+use Rattle.term_unfold.specs.Rules.{Child, Term, Item, Opening, bad, is_on, unless_on, terms, items, pairs, keyed, cell_opening, term_opening, item_opening, opening}
 use Rattle.term_unfold.specs.Terms.{IsTerm, IsItem, AreTerms, AreItems}
 use Rattle.term_unfold.specs.Trees.{Tree, Bad}
 use Rattle.term_unfold.specs.Unfolding.{trees, grown, unfold_by, unfolded}
@@ -42,7 +42,7 @@ off-suits_item : (below : ℕ → Child → Tree) (path : List ℕ) (e : Element
 off-suits_item below path (Ref a) off h = elim (is_on a path) as (λ b. IsItem (grown below (cond b (bad a OnPath) off))) [ true ↦ tt | false ↦ h ]
 off-suits_item below path e off h = h
 
-form-suits : (below : ℕ → Child → Tree) (heap : List Cell) (path : List ℕ) (a : ℕ) (form : Option HeapForm) → AllSuit below → IsTerm (grown below (form_opening heap path a form))
+form-suits : (below : ℕ → Child → Tree) (heap : List Cell) (path : List ℕ) (a : ℕ) (form : Option HeapForm) → AllSuit below → IsTerm (grown below (cell_opening heap path a (Some form)))
 form-suits below heap path a (Some (Cons head tail)) h = (refl, terms-suit (below a) (head ∷ tail ∷ []) (h a))
 form-suits below heap path a (Some (Tuple elements)) h = terms-suit (below a) elements (h a)
 form-suits below heap path a (Some (Flat keys (v ∷ vs))) h =

@@ -9,9 +9,9 @@ use Rattle.term_unfold.specs.declared.path.Entry.{Entry}
 use Rattle.term_unfold.specs.Inner.Coming.{left_of}
 use Rattle.term_unfold.specs.Inner.Entries.{path_of, next_of, is_item, outside}
 use Rattle.term_unfold.specs.Inner.Kids.{kids_of}
-use Rattle.term_unfold.specs.Inner.Rest.{is_value, flat_rest, term_rest, pair_rest, item_rest, run, run_items, resume, rest}
+use Rattle.term_unfold.specs.Inner.Rest.{is_value, flat_rest, term_rest, pair_rest, item_rest, run, resume, rest}
 use Rattle.term_unfold.specs.Rules.{Child}
-use Rattle.term_unfold.specs.Text.{Shown, led, ◌then◌, Cut, At, closed, comma, barred, elements_text, items_text}
+use Rattle.term_unfold.specs.Text.{Shown, shown, led, ◌then◌, Cut, At, closed, comma, elements_text, items_text}
 use Rattle.term_unfold.specs.Trees.{Value, Tree, none, more}
 use Rattle.term_unfold.specs.Unfolding.{trees, unfolded}
 use Rattle.term_unfold.proofs.Kidded.{double, even, odd}
@@ -19,13 +19,17 @@ use Rattle.term_unfold.proofs.Visited.{drop-at_get, drop-past_get}
 
 -- texts and what follows them
 
-pub run-then : (s : Shown) (f : ℕ → Shown) (k : ℕ → List ℕ) → run (s then f) k ≡ run s (λ m. run (f m) k)
+pub run-then : (s : Shown ℕ) (f : ℕ → Shown ℕ) (k : ℕ → List ℕ) → run (s then f) k ≡ run s (λ m. run (f m) k)
 run-then s f k = append_assoc s.text (f s.left).text (k (f s.left).left)
 
-pub run-led : (front : List ℕ) (s : Shown) (k : ℕ → List ℕ) → run (led front s) k ≡ front ++ run s k
+pub run-led : (front : List ℕ) (s : Shown ℕ) (k : ℕ → List ℕ) → run (led front s) k ≡ front ++ run s k
 run-led front s k = append_assoc front s.text (k s.left)
 
-pub run-barred : (s : Shown) (k : ℕ → List ℕ) → run (barred s) k ≡ codes "|" ++ run s (λ m. codes "]" ++ k m)
+-- a tail that is neither the end of the list nor a list
+abbrev pub barred : Shown ℕ → Shown ℕ
+barred tail = led (codes "|") (tail then shown (codes "]"))
+
+pub run-barred : (s : Shown ℕ) (k : ℕ → List ℕ) → run (barred s) k ≡ codes "|" ++ run s (λ m. codes "]" ++ k m)
 run-barred s k = ap (λ l. 124 ∷ l) (append_assoc s.text (codes "]") (k s.left))
 
 -- the children that are left
@@ -43,14 +47,14 @@ left-more heap came e es child is =
 pub term-at : (leaf : Value → List ℕ) (heap : List Cell) (e : Entry) (es : List Entry) (came : Bool) (m : ℕ) (k : NodeKind) → e.kind ≡ k → is_item k ≡ false
     → resume leaf heap (e ∷ es) (At came m) ≡ run (term_rest leaf k came e.next (left_of heap e es) m) (rest leaf heap es)
 term-at leaf heap e es came m k is term =
-    ap (λ x. cond (is_item x) (run_items (item_rest leaf x came e.next (left_of heap e es) m) (resume leaf heap es)) (run (term_rest leaf x came e.next (left_of heap e es) m) (rest leaf heap es))) is
-    ∙ ap (λ b. cond b (run_items (item_rest leaf k came e.next (left_of heap e es) m) (resume leaf heap es)) (run (term_rest leaf k came e.next (left_of heap e es) m) (rest leaf heap es))) term
+    ap (λ x. cond (is_item x) (run (item_rest leaf x came e.next (left_of heap e es) m) (resume leaf heap es)) (run (term_rest leaf x came e.next (left_of heap e es) m) (rest leaf heap es))) is
+    ∙ ap (λ b. cond b (run (item_rest leaf k came e.next (left_of heap e es) m) (resume leaf heap es)) (run (term_rest leaf k came e.next (left_of heap e es) m) (rest leaf heap es))) term
 
 pub item-at : (leaf : Value → List ℕ) (heap : List Cell) (e : Entry) (es : List Entry) (came : Bool) (m : ℕ) (k : NodeKind) → e.kind ≡ k → is_item k ≡ true
-    → resume leaf heap (e ∷ es) (At came m) ≡ run_items (item_rest leaf k came e.next (left_of heap e es) m) (resume leaf heap es)
+    → resume leaf heap (e ∷ es) (At came m) ≡ run (item_rest leaf k came e.next (left_of heap e es) m) (resume leaf heap es)
 item-at leaf heap e es came m k is item =
-    ap (λ x. cond (is_item x) (run_items (item_rest leaf x came e.next (left_of heap e es) m) (resume leaf heap es)) (run (term_rest leaf x came e.next (left_of heap e es) m) (rest leaf heap es))) is
-    ∙ ap (λ b. cond b (run_items (item_rest leaf k came e.next (left_of heap e es) m) (resume leaf heap es)) (run (term_rest leaf k came e.next (left_of heap e es) m) (rest leaf heap es))) item
+    ap (λ x. cond (is_item x) (run (item_rest leaf x came e.next (left_of heap e es) m) (resume leaf heap es)) (run (term_rest leaf x came e.next (left_of heap e es) m) (rest leaf heap es))) is
+    ∙ ap (λ b. cond b (run (item_rest leaf k came e.next (left_of heap e es) m) (resume leaf heap es)) (run (term_rest leaf k came e.next (left_of heap e es) m) (rest leaf heap es))) item
 
 -- a cut is closed by the map, and the count is 0
 cut-at : (leaf : Value → List ℕ) (b : Bool) (heap : List Cell) (es : List Entry) → resume leaf heap es Cut ≡ codes "}" ++ rest leaf heap (outside es) 0
@@ -106,21 +110,21 @@ cut-hash leaf heap e es child is has =
 pub cut-inner : (leaf : Value → List ℕ) (heap : List Cell) (e : Entry) (es : List Entry) (child : Child) → e.kind ≡ kinds.Inner → HasChild heap e child
     → rest leaf heap (e ∷ es) 0 ≡ (comma e.came ++ codes "...}") ++ rest leaf heap (outside es) 0
 cut-inner leaf heap e es child is has =
-    item-at leaf heap e es e.came 0 kinds.Inner is refl ∙ ap (λ t. run_items (items_text leaf e.came t 0) (resume leaf heap es)) (left-more heap true e es child has)
+    item-at leaf heap e es e.came 0 kinds.Inner is refl ∙ ap (λ t. run (items_text leaf e.came t 0) (resume leaf heap es)) (left-more heap true e es child has)
     ∙ cut-down leaf heap es (comma e.came)
 
 pub cut-pair_key : (leaf : Value → List ℕ) (heap : List Cell) (e : Entry) (es : List Entry) (child : Child) → e.kind ≡ kinds.Pair → e.next ≡ 0 → HasChild heap e child
     → rest leaf heap (e ∷ es) 0 ≡ (comma e.came ++ codes "...}") ++ rest leaf heap (outside es) 0
 cut-pair_key leaf heap e es child is at has =
-    item-at leaf heap e es e.came 0 kinds.Pair is refl ∙ ap (λ t. run_items (pair_rest leaf e.came e.next t 0) (resume leaf heap es)) (left-more heap true e es child has)
-    ∙ ap (λ n. run_items (pair_rest leaf e.came n (more (tree_of heap e es child) (left_of heap (next_of true e) es)) 0) (resume leaf heap es)) at
+    item-at leaf heap e es e.came 0 kinds.Pair is refl ∙ ap (λ t. run (pair_rest leaf e.came e.next t 0) (resume leaf heap es)) (left-more heap true e es child has)
+    ∙ ap (λ n. run (pair_rest leaf e.came n (more (tree_of heap e es child) (left_of heap (next_of true e) es)) 0) (resume leaf heap es)) at
     ∙ cut-down leaf heap es (comma e.came)
 
 pub cut-pair_value : (leaf : Value → List ℕ) (heap : List Cell) (e : Entry) (es : List Entry) (child : Child) (n : ℕ) → e.kind ≡ kinds.Pair → e.next ≡ suc n → HasChild heap e child
     → rest leaf heap (e ∷ es) 0 ≡ codes "=>...}" ++ rest leaf heap (outside es) 0
 cut-pair_value leaf heap e es child n is at has =
-    item-at leaf heap e es e.came 0 kinds.Pair is refl ∙ ap (λ t. run_items (pair_rest leaf e.came e.next t 0) (resume leaf heap es)) (left-more heap true e es child has)
-    ∙ ap (λ n. run_items (pair_rest leaf e.came n (more (tree_of heap e es child) (left_of heap (next_of true e) es)) 0) (resume leaf heap es)) at
+    item-at leaf heap e es e.came 0 kinds.Pair is refl ∙ ap (λ t. run (pair_rest leaf e.came e.next t 0) (resume leaf heap es)) (left-more heap true e es child has)
+    ∙ ap (λ n. run (pair_rest leaf e.came n (more (tree_of heap e es child) (left_of heap (next_of true e) es)) 0) (resume leaf heap es)) at
     ∙ cut-down leaf heap es (codes "=>")
 
 -- which children of a flat map are values

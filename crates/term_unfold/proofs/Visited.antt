@@ -11,12 +11,12 @@ use Rattle.term_unfold.specs.declared.openings.Opened.TheVariants as opened
 use Rattle.term_unfold.specs.declared.path.Entry.{Entry}
 use Rattle.term_unfold.specs.declared.verdict.Verdict.{Verdict}
 use Rattle.term_unfold.specs.declared.verdict.Verdict.TheVariants as verdicts
-use Rattle.term_unfold.specs.Inner.Coming.{to_come, entered_by, verdict_on, Visits}
+use Rattle.term_unfold.specs.Inner.Coming.{to_come, entered_by, verdict_on, seen, or_else, Visits}
 use Rattle.term_unfold.specs.Inner.Entries.{path_of, stepped}
 use Rattle.term_unfold.specs.Inner.Kids.{kids_of}
 use Rattle.term_unfold.specs.Inner.Openings.{element_of, IsOpened}
 use Rattle.term_unfold.specs.Rules.{Child, Opening, opening}
-use Rattle.term_unfold.specs.Trees.{Immediate, OfCell, Tree, Leaf, Bad, Branch, pre, pre_all, seen, or_else, first_bad}
+use Rattle.term_unfold.specs.Trees.{Immediate, OfCell, Tree, Leaf, Bad, Branch, pre, pre_all, first_bad}
 use Rattle.term_unfold.specs.Unfolding.{trees, grown, unfolded}
 use Rattle.term_unfold.proofs.Levels.{unfolded-rule}
 
@@ -85,6 +85,10 @@ pub to_come-pop : (heap : List Cell) (before after : List Entry) (e : Entry) →
 to_come-pop heap before after e was at =
     sym (ap (to_come heap) was ∙ ap (λ ss. pre_all (trees (unfolded heap (path_of heap (e ∷ after))) ss) ++ to_come heap after) (drop-past_get (kids_of heap e.kind (number e.cell)) e.next at))
 
+first_bad-first : (tree : Tree) (trees : List Tree) → or_else (seen tree) (first_bad trees) ≡ first_bad (tree ∷ trees)
+first_bad-first (Bad address why) trees = refl
+first_bad-first tree trees = refl
+
 -- one node less
 visited : (n : ℕ) (heap : List Cell) (before after : List Entry) (child : Child) (verdict : Verdict) → Visits heap before after child verdict → 0 < n
     → or_else verdict (first_bad (take (n - 1) (to_come heap after))) ≡ first_bad (take n (pre (unfolded heap (path_of heap before) child) ++ to_come heap before))
@@ -93,6 +97,7 @@ visited (suc m) heap before after child verdict v some =
     let less : suc m - 1 ≡ m = omega arith in
     ap (λ k. or_else verdict (first_bad (take k (to_come heap after)))) less
     ∙ ap (λ w. or_else w (first_bad (take m (to_come heap after)))) v.seen
+    ∙ first_bad-first v.node (take m (to_come heap after))
     ∙ ap (λ ts. first_bad (take (suc m) ts)) (sym v.first)
 
 pub visited-next : (budget i : ℕ) (heap : List Cell) (es before after : List Entry) (child : Child) (old new : Verdict) → old ≡ verdicts.Clean → i < budget

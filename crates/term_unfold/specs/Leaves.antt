@@ -6,7 +6,7 @@ use Rattle.dump_io.specs.Atoms.{atom_text}
 use Rattle.dump_io.specs.Numbers.{hex_byte}
 use Rattle.binary_payloads.specs.declared.enc.Enc.{Enc}
 use Rattle.term_forms.specs.Elements.{Element, Nil, Small, Atom, Pid, Port, Ref}
-use Rattle.term_forms.specs.Forms.{HeapForm, Cons, Tuple, Float, Long, Pid as PidForm, Port as PortForm, Ext, HeapBin, RefBin, SubBin, Flat, Hash, Node}
+use Rattle.term_forms.specs.Forms.{HeapForm, Float, Long, Pid as PidForm, Port as PortForm, Ext, HeapBin, RefBin, SubBin}
 use Rattle.binary_payloads.specs.ReadingPayloads.{payload_bytes}
 use Rattle.heap_cells.specs.Cells.{Cell}
 use Rattle.heap_cells.specs.HeapMap.{number_at}
@@ -64,11 +64,7 @@ form_text enc preview (HeapBin size chars) = sized_text (codes "#Bin<") size (ow
 form_text enc preview (RefBin address offset size) = sized_text (codes "#Bin<") size preview
 form_text enc preview (SubBin address offset size) = sized_text (codes "#Bin<") size preview
 -- the others are no leaves
-form_text enc preview (Cons head tail) = []
-form_text enc preview (Tuple elements) = []
-form_text enc preview (Flat keys values) = []
-form_text enc preview (Hash size children) = []
-form_text enc preview (Node children) = []
+form_text enc preview form = []
 
 -- the text of a leaf of a heap with these cells, from the encoding of payloads and the previews
 abbrev pub leaf_text : Enc → List Cell → List Entry → Value → List ℕ

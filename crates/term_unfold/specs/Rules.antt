@@ -41,9 +41,8 @@ items parent elements = map (Item parent) elements
 
 -- key, value, key, value and so on
 abbrev pub pairs : List Element → List Element → List Child
-pairs [] values = []
-pairs (key ∷ keys) [] = []
 pairs (key ∷ keys) (value ∷ values) = Term key ∷ Term value ∷ pairs keys values
+pairs keys values = []
 
 -- a flat map, from its keys
 abbrev pub keyed : ℕ → List Element → Keys → Opening
@@ -58,20 +57,16 @@ flat_opening heap path a keys [] = keyed a [] no_keys
 flat_opening heap path a keys (value ∷ values) =
     unless_on (a ∷ path) keys (keyed a (value ∷ values) (keys_of_map heap a keys (value ∷ values)))
 
--- a cell that is no ancestor, as a term
-abbrev pub form_opening : List Cell → List ℕ → ℕ → Option HeapForm → Opening
-form_opening heap path a None = bad a Malformed
-form_opening heap path a (Some (Cons head tail)) = node a kinds.Cons (terms (head ∷ tail ∷ []))
-form_opening heap path a (Some (Tuple elements)) = node a kinds.Tuple (terms elements)
-form_opening heap path a (Some (Flat keys values)) = flat_opening heap path a keys values
-form_opening heap path a (Some (Hash size children)) = node a kinds.Hash (items a children)
-form_opening heap path a (Some (Node children)) = bad a Malformed
-form_opening heap path a (Some form) = leaf (OfCell a form)
-
--- what the cell at an address opens; if no cell has the address, it is missing
+-- what the cell at an address opens as a term, if that is no ancestor's; if no cell has the address, it is missing
 abbrev pub cell_opening : List Cell → List ℕ → ℕ → Option (Option HeapForm) → Opening
 cell_opening heap path a None = bad a Missing
-cell_opening heap path a (Some form) = form_opening heap path a form
+cell_opening heap path a (Some None) = bad a Malformed
+cell_opening heap path a (Some (Some (Cons head tail))) = node a kinds.Cons (terms (head ∷ tail ∷ []))
+cell_opening heap path a (Some (Some (Tuple elements))) = node a kinds.Tuple (terms elements)
+cell_opening heap path a (Some (Some (Flat keys values))) = flat_opening heap path a keys values
+cell_opening heap path a (Some (Some (Hash size children))) = node a kinds.Hash (items a children)
+cell_opening heap path a (Some (Some (Node children))) = bad a Malformed
+cell_opening heap path a (Some (Some form)) = leaf (OfCell a form)
 
 -- what an element opens: a reference opens its cell, and any other element is a leaf
 abbrev pub term_opening : List Cell → List ℕ → Element → Opening

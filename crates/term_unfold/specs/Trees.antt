@@ -25,29 +25,18 @@ mutual
 -- the nodes of a tree in preorder, children from the left, each as the tree below it
 abbrev mutual
   pub pre : Tree → List Tree
-  pre (Leaf value) = Leaf value ∷ []
-  pre (Bad address why) = Bad address why ∷ []
   pre (Branch kind children) = Branch kind children ∷ pre_all children
+  pre node = node ∷ []
 
   pub pre_all : Trees → List Tree
   pre_all none = []
   pre_all (more tree trees) = pre tree ++ pre_all trees
 
--- the verdict on a node by itself
-abbrev pub seen : Tree → Verdict
-seen (Leaf value) = verdicts.Clean
-seen (Bad address why) = verdicts.Bad address why
-seen (Branch kind children) = verdicts.Clean
-
--- of an earlier and a later verdict, the first that is bad
-abbrev pub or_else : Verdict → Verdict → Verdict
-or_else verdicts.Clean later = later
-or_else (verdicts.Bad address why) later = verdicts.Bad address why
-
 -- the first that is bad
 abbrev pub first_bad : List Tree → Verdict
 first_bad [] = verdicts.Clean
-first_bad (tree ∷ trees) = or_else (seen tree) (first_bad trees)
+first_bad (Bad address why ∷ trees) = verdicts.Bad address why
+first_bad (tree ∷ trees) = first_bad trees
 
 -- the first bad node among the first n
 abbrev pub verdict : Tree → ℕ → Verdict

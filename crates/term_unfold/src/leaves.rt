@@ -4,7 +4,7 @@ ghost use Rattle.std.specs.List.{flat_map};
 ghost use Rattle.std.specs.Option.{option_map};
 ghost use Rattle.dump_io.specs.Sinks.{Puts};
 ghost use Rattle.dump_io.specs.Numbers.{hex_byte};
-ghost use Rattle.heap_cells.specs.HeapMap.{IsSpelled, form_at};
+ghost use Rattle.heap_cells.specs.HeapMap.{IsBounded, IsSpelled, form_at};
 ghost use Rattle.heap_cells.specs.Targets.{number};
 ghost use Rattle.map_nodes.specs.Rules.{address_of};
 ghost use Rattle.binary_payloads.specs.Payload.{IsPayloadOf};
@@ -208,11 +208,11 @@ pub(crate) fn put_cell<K: Sink>(
     ix: CellIx,
 ) -> Result<(), Failed>
     requires cell { number ix < length heap.now.cells }
+    requires bounded { IsBounded heap.now }
     requires previews { AreFor heap.now.cells previews.now }
     ensures { Puts (K.state sink.old) (K.state sink.new)
         (cell_text (leaf_text heap.now.enc heap.now.cells previews.now) (address_of heap.now.cells (number ix)) (form_at heap.now.cells (number ix))) result }
 {
-    let _count = heap.cells();
     match heap.form(ix) {
         Some(form) => put_form(sink, heap.enc(), &form, previews, ix),
         None => write_all(sink, b""),

@@ -4,6 +4,7 @@ ghost use Rattle.dump_io.specs.Sinks.{Puts};
 ghost use Rattle.term_forms.specs.Seen.{element};
 ghost use Rattle.binary_refs.specs.Previews.{AreFor};
 ghost use Rattle.term_unfold.specs.Inner.Entries.{Serves};
+ghost use Rattle.heap_cells.specs.HeapMap.{IsBounded};
 ghost use Rattle.heap_cells.specs.Targets.{number};
 ghost use Rattle.map_nodes.specs.Rules.{element_at};
 ghost use Rattle.term_unfold.specs.Inner.Kids.{child_shown, IsKid, IsPlace};
@@ -71,6 +72,7 @@ fn put_own<K: Sink>(
     child: Child<'_>,
     opened: Opened,
 ) -> Result<(), Failed>
+    requires bounded { IsBounded heap.now }
     requires previews { AreFor heap.now.cells previews.now }
     requires kid { IsKid heap.now.cells child }
     requires cell { LeafWithin heap.now.cells opened }
@@ -92,6 +94,7 @@ fn put_own_if<K: Sink>(
     child: Child<'_>,
     turn: &Turn,
 ) -> Result<(), Failed>
+    requires bounded { IsBounded heap.now }
     requires previews { AreFor heap.now.cells previews.now }
     requires kid { IsKid heap.now.cells child }
     requires cell { LeafWithin heap.now.cells turn.now.opened }
@@ -113,6 +116,7 @@ fn put_turn<K: Sink>(
     child: Child<'_>,
     turn: &Turn,
 ) -> Result<(), Failed>
+    requires bounded { IsBounded heap.now }
     requires previews { AreFor heap.now.cells previews.now }
     requires kid { IsKid heap.now.cells child }
     requires cell { LeafWithin heap.now.cells turn.now.opened }
@@ -173,6 +177,7 @@ fn put_root<K: Sink>(
     root: &Elem<'_>,
     opened: Opened,
 ) -> Result<(), Failed>
+    requires bounded { IsBounded heap.now }
     requires previews { AreFor heap.now.cells previews.now }
     requires cell { LeafWithin heap.now.cells opened }
     ensures { Puts (K.state sink.old) (K.state sink.new)

@@ -47,11 +47,6 @@ plain-found a (Some m) h = cc
 
 -- an element that leads to a cell
 pub leads-at : (heap : List Cell) (n : ℕ) (e : Element) → target heap e ≡ At n → IsRefTo heap n e
-leads-at heap n Nil h = cc
-leads-at heap n (Small integer) h = cc
-leads-at heap n (Atom bytes) h = cc
-leads-at heap n (Pid pid) h = cc
-leads-at heap n (Port port) h = cc
 leads-at heap n (Ref a) h =
     let found : number_at heap a ≡ Some n = at-found a n (number_at heap a) h in
     let same : address_of heap n ≡ a = found-address heap a n found in
@@ -60,17 +55,14 @@ leads-at heap n (Ref a) h =
       found = ap (number_at heap) same ∙ found;
       form = ap (form_with heap) same ∙ ap (option_map (form_at heap)) found;
     }
+leads-at heap n e h = cc
 
 -- an element that leads to an address that no cell has
 pub leads-missing : (heap : List Cell) (b : ℕ) (e : Element) → target heap e ≡ Missing b → (e ≡ Ref b) × (form_with heap b ≡ None)
-leads-missing heap b Nil h = cc
-leads-missing heap b (Small integer) h = cc
-leads-missing heap b (Atom bytes) h = cc
-leads-missing heap b (Pid pid) h = cc
-leads-missing heap b (Port port) h = cc
 leads-missing heap b (Ref a) h =
     let found = missing-found a b (number_at heap a) h in
     (ap Ref found.0, ap (form_with heap) (sym found.0) ∙ ap (option_map (form_at heap)) found.1)
+leads-missing heap b e h = cc
 
 -- an element that leads nowhere is an immediate
 pub leads-nowhere : (P : Element → Type 0) (heap : List Cell) (e : Element) → target heap e ≡ Plain → P Nil → ((integer : List ℕ) → P (Small integer)) → ((bytes : List ℕ) → P (Atom bytes))

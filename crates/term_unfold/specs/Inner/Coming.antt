@@ -10,7 +10,7 @@ use Rattle.term_unfold.specs.declared.verdict.Verdict.TheVariants as verdicts
 use Rattle.term_unfold.specs.Inner.Entries.{path_of}
 use Rattle.term_unfold.specs.Inner.Kids.{kids_of}
 use Rattle.term_unfold.specs.Rules.{Child}
-use Rattle.term_unfold.specs.Trees.{Tree, Trees, pre, pre_all, seen}
+use Rattle.term_unfold.specs.Trees.{Tree, Bad, Trees, pre, pre_all}
 use Rattle.term_unfold.specs.Unfolding.{trees, unfolded}
 
 -- the trees of the remaining children of the innermost cell
@@ -23,17 +23,23 @@ to_come heap (e ∷ es) = pre_all (left_of heap e es) ++ to_come heap es
 
 -- the walk is in one more cell, if it came to a node
 abbrev pub entered_by : Opened → Bool → List Entry → List Entry
-entered_by opened.Immediate came entries = entries
-entered_by (opened.Leaf ix) came entries = entries
-entered_by (opened.Bad address why) came entries = entries
 entered_by (opened.Node ix kind) came entries = record { cell = ix; next = 0; kind = kind; came = came } ∷ entries
+entered_by found came entries = entries
 
 -- the verdict on a child by itself
 abbrev pub verdict_on : Opened → Verdict
-verdict_on opened.Immediate = verdicts.Clean
-verdict_on (opened.Leaf ix) = verdicts.Clean
 verdict_on (opened.Bad address why) = verdicts.Bad address why
-verdict_on (opened.Node ix kind) = verdicts.Clean
+verdict_on found = verdicts.Clean
+
+-- the verdict on a node by itself
+abbrev pub seen : Tree → Verdict
+seen (Bad address why) = verdicts.Bad address why
+seen node = verdicts.Clean
+
+-- of an earlier and a later verdict, the first that is bad
+abbrev pub or_else : Verdict → Verdict → Verdict
+or_else verdicts.Clean later = later
+or_else (verdicts.Bad address why) later = verdicts.Bad address why
 
 -- a child below the entries was visited: its first node has
 -- given the verdict, and its other nodes are still to come

@@ -47,12 +47,9 @@ came_of (e ∷ es) = e.came
 
 -- an item of a hash map
 abbrev pub is_item : NodeKind → Bool
-is_item kinds.Cons = false
-is_item kinds.Tuple = false
-is_item kinds.Flat = false
-is_item kinds.Hash = false
 is_item kinds.Inner = true
 is_item kinds.Pair = true
+is_item kind = false
 
 -- all but the innermost map and those of its items that the walk is in
 abbrev pub outside : List Entry → List Entry

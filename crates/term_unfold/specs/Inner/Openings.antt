@@ -13,7 +13,7 @@ use Rattle.term_unfold.specs.declared.openings.Opened.TheVariants as opened
 use Rattle.term_unfold.specs.Inner.Entries.{Entered, numbers_of, path_of, is_item, IsLine}
 use Rattle.term_unfold.specs.Inner.Kids.{kids_of}
 use Rattle.term_unfold.specs.Rules.{Child, Term, Item, leaf, bad, node, opening}
-use Rattle.term_unfold.specs.Text.{is_nil}
+use Rattle.term_unfold.specs.Places.{is_nil}
 use Rattle.term_unfold.specs.Trees.{Immediate, OfCell}
 
 abbrev pub element_of : Child → Element
@@ -32,17 +32,11 @@ is_nil_term (Item parent element) = false
 -- whether a list continues
 abbrev pub is_list_kind : NodeKind → Bool
 is_list_kind kinds.Cons = true
-is_list_kind kinds.Tuple = false
-is_list_kind kinds.Flat = false
-is_list_kind kinds.Hash = false
-is_list_kind kinds.Inner = false
-is_list_kind kinds.Pair = false
+is_list_kind kind = false
 
 abbrev pub is_list : Opened → Bool
-is_list opened.Immediate = false
-is_list (opened.Leaf ix) = false
-is_list (opened.Bad address why) = false
 is_list (opened.Node ix kind) = is_list_kind kind
+is_list found = false
 
 -- a cell that is a leaf
 pub record IsLeafAt (heap : List Cell) (path : List ℕ) (child : Child) (n : ℕ) : Type 0 where
@@ -65,10 +59,8 @@ IsOpened heap path child (opened.Node ix kind) = IsNodeAt heap path child (numbe
 
 -- the cell of a node may be entered
 abbrev pub MayEnter : Entered → Opened → Type 0
-MayEnter path opened.Immediate = Unit {0}
-MayEnter path (opened.Leaf ix) = Unit {0}
-MayEnter path (opened.Bad address why) = Unit {0}
 MayEnter path (opened.Node ix kind) = IsLine path.cells (number ix ∷ numbers_of path.entries)
+MayEnter path found = Unit {0}
 
 pub record Opens (heap : HeapMap) (path : Entered) (child : Child) (found : Opened) : Type 0 where
   pub found_is : IsOpened heap.cells (path_of heap.cells path.entries) child found

@@ -17,7 +17,7 @@ use Rattle.term_unfold.specs.Inner.Entries.{Entered, came_of, is_item, path_of}
 use Rattle.term_unfold.specs.Inner.Openings.{element_of, Opens}
 use Rattle.term_unfold.specs.Inner.Kids.{kids_of, child_shown, IsKid}
 use Rattle.term_unfold.specs.Rules.{Child}
-use Rattle.term_unfold.specs.Text.{Shown, shown, Stand, Cut, At, Listed, listed, closed, bad_text, node_text, head_text, tail_text, elements_text, keys_text, values_text, items_text, item_text, pair_text, value_text}
+use Rattle.term_unfold.specs.Text.{Shown, shown, Stand, Cut, At, closed, bad_text, node_text, head_text, tail_text, elements_text, keys_text, values_text, items_text, item_text, pair_text, value_text}
 use Rattle.term_unfold.specs.Trees.{Value, Immediate, OfCell, Trees, none, more}
 use Rattle.term_unfold.specs.Unfolding.{unfolded}
 
@@ -26,7 +26,7 @@ abbrev pub closing : Bool → List ℕ
 closing true = codes "]"
 closing false = []
 
-abbrev pub list_rest : (Value → List ℕ) → Bool → ℕ → Trees → ℕ → Shown
+abbrev pub list_rest : (Value → List ℕ) → Bool → ℕ → Trees → ℕ → Shown ℕ
 list_rest leaf came next none m = shown (closing came) m
 list_rest leaf came zero (more head rest) m = head_text leaf (more head rest) m
 list_rest leaf came (suc next) (more tail rest) m = tail_text leaf (more tail rest) m
@@ -36,41 +36,33 @@ abbrev pub is_value : ℕ → Bool
 is_value zero = false
 is_value (suc next) = not (is_value next)
 
-abbrev pub flat_rest : (Value → List ℕ) → Bool → Bool → Trees → ℕ → Shown
+abbrev pub flat_rest : (Value → List ℕ) → Bool → Bool → Trees → ℕ → Shown ℕ
 flat_rest leaf false came trees m = keys_text leaf came trees m
 flat_rest leaf true came trees m = values_text leaf trees m
 
 -- what an open cell has yet to write as a term, for its remaining children
-abbrev pub term_rest : (Value → List ℕ) → NodeKind → Bool → ℕ → Trees → ℕ → Shown
+abbrev pub term_rest : (Value → List ℕ) → NodeKind → Bool → ℕ → Trees → ℕ → Shown ℕ
 term_rest leaf kinds.Cons came next trees m = list_rest leaf came next trees m
 term_rest leaf kinds.Tuple came next trees m = elements_text leaf came trees m
 term_rest leaf kinds.Flat came next trees m = flat_rest leaf (is_value next) came trees m
 term_rest leaf kinds.Hash came next trees m = closed (items_text leaf came trees m)
-term_rest leaf kinds.Inner came next trees m = shown [] m
-term_rest leaf kinds.Pair came next trees m = shown [] m
+term_rest leaf kind came next trees m = shown [] m
 
 -- the same for a pair of a hash map
-abbrev pub pair_rest : (Value → List ℕ) → Bool → ℕ → Trees → ℕ → Listed
-pair_rest leaf came next none m = listed [] (At true m)
+abbrev pub pair_rest : (Value → List ℕ) → Bool → ℕ → Trees → ℕ → Shown Stand
+pair_rest leaf came next none m = shown [] (At true m)
 pair_rest leaf came zero (more key rest) m = pair_text leaf came (more key rest) m
 pair_rest leaf came (suc next) (more value rest) m = value_text leaf (more value rest) m
 
 -- what an open cell has yet to write as an item of a hash map
-abbrev pub item_rest : (Value → List ℕ) → NodeKind → Bool → ℕ → Trees → ℕ → Listed
-item_rest leaf kinds.Cons came next trees m = listed [] (At came m)
-item_rest leaf kinds.Tuple came next trees m = listed [] (At came m)
-item_rest leaf kinds.Flat came next trees m = listed [] (At came m)
-item_rest leaf kinds.Hash came next trees m = listed [] (At came m)
+abbrev pub item_rest : (Value → List ℕ) → NodeKind → Bool → ℕ → Trees → ℕ → Shown Stand
 item_rest leaf kinds.Inner came next trees m = items_text leaf came trees m
 item_rest leaf kinds.Pair came next trees m = pair_rest leaf came next trees m
+item_rest leaf kind came next trees m = shown [] (At came m)
 
--- a text and what follows it, which begins with the count that the text leaves
-abbrev pub run : Shown → (ℕ → List ℕ) → List ℕ
+-- a text and what follows it, which begins with what the text leaves
+abbrev pub run : {A : Type 0} → Shown A → (A → List ℕ) → List ℕ
 run first second = first.text ++ second first.left
-
--- a text of items and what follows it, which begins at the stand that the items leave
-abbrev pub run_items : Listed → (Stand → List ℕ) → List ℕ
-run_items first second = first.text ++ second first.stand
 
 -- what all open cells have yet to write when the innermost is after some text;
 -- an item hands its stand to the cell below it, and a cut goes down to the map
@@ -79,7 +71,7 @@ resume leaf heap [] Cut = codes "}"
 resume leaf heap [] (At came m) = []
 resume leaf heap (e ∷ es) Cut = if is_item e.kind then resume leaf heap es Cut else codes "}" ++ resume leaf heap es (At (came_of es) 0)
 resume leaf heap (e ∷ es) (At came m) =
-    if is_item e.kind then run_items (item_rest leaf e.kind came e.next (left_of heap e es) m) (resume leaf heap es)
+    if is_item e.kind then run (item_rest leaf e.kind came e.next (left_of heap e es) m) (resume leaf heap es)
     else run (term_rest leaf e.kind came e.next (left_of heap e es) m) (λ n. resume leaf heap es (At (came_of es) n))
 
 abbrev pub rest : (Value → List ℕ) → List Cell → List Entry → ℕ → List ℕ
@@ -90,7 +82,7 @@ abbrev pub to_show : (Value → List ℕ) → List Cell → List Entry → Child
 to_show leaf heap entries child m = run (node_text leaf (unfolded heap (path_of heap entries) child) m) (rest leaf heap entries)
 
 abbrev pub to_list : (Value → List ℕ) → List Cell → List Entry → Bool → Child → ℕ → List ℕ
-to_list leaf heap entries came child m = run_items (item_text leaf came (unfolded heap (path_of heap entries) child) m) (resume leaf heap entries)
+to_list leaf heap entries came child m = run (item_text leaf came (unfolded heap (path_of heap entries) child) m) (resume leaf heap entries)
 
 -- what stands before the children of a node
 abbrev pub bracket : NodeKind → List ℕ
@@ -98,8 +90,7 @@ bracket kinds.Cons = codes "["
 bracket kinds.Tuple = codes "{"
 bracket kinds.Flat = codes "#{"
 bracket kinds.Hash = codes "#{"
-bracket kinds.Inner = []
-bracket kinds.Pair = []
+bracket kind = []
 
 abbrev pub cell_text : (Value → List ℕ) → ℕ → Option HeapForm → List ℕ
 cell_text leaf a None = []
@@ -118,10 +109,8 @@ turn_text leaf heap child turn = turn.front.now ++ (if turn.own then own_text le
 
 -- a leaf's cell is one of the heap
 abbrev pub LeafWithin : List Cell → Opened → Type 0
-LeafWithin heap opened.Immediate = Unit {0}
 LeafWithin heap (opened.Leaf ix) = number ix < length heap
-LeafWithin heap (opened.Bad address why) = Unit {0}
-LeafWithin heap (opened.Node ix kind) = Unit {0}
+LeafWithin heap found = Unit {0}
 
 -- a hash map, or an inner node of one
 abbrev pub HasItems : NodeKind → Type 0

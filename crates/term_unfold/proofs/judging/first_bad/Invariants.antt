@@ -1,7 +1,7 @@
 use Rattle.std.proofs.Common.{◌≡◌, ◌-◌, take}
 use Rattle.term_forms.specs.Seen.{element}
-use Rattle.term_unfold.specs.Inner.Coming.{to_come}
-use Rattle.term_unfold.specs.Trees.{or_else, first_bad, verdict}
+use Rattle.term_unfold.specs.Inner.Coming.{to_come, or_else}
+use Rattle.term_unfold.specs.Trees.{first_bad, verdict}
 use Rattle.term_unfold.specs.Unfolding.{unfolding_of}
 use Rattle.term_unfold.proofs.judging.first_bad.Given as goal
 

@@ -23,5 +23,5 @@ returns-in-Some g c =
     let address = address_of heap.cells n in
     let form = heap_form c.in-Some.form in
     Puts-as (ap (λ enc. form_text enc (preview_of previews n) form) c.enc.ensures
-    ∙ (ap (λ preview. form_text heap.enc preview form) (preview-is heap.cells previews n c.cells-count.ensures.bounded.distinct c.requires.cell)
+    ∙ (ap (λ preview. form_text heap.enc preview form) (preview-is heap.cells previews n c.requires.bounded.distinct c.requires.cell)
     ∙ ap (cell_text (leaf_text heap.enc heap.cells previews) address) c.in-Some.ensures.form)) c.put_form.ensures

@@ -7,7 +7,7 @@ use Rattle.term_unfold.specs.Rules.{Term}
 use Rattle.term_unfold.proofs.printing.put_root.Goals as goal
 
 pub put_cell-requires : goal.put_cell-requires
-put_cell-requires g c = record { cell = subst (LeafWithin c.args.heap.now.cells) c.in-Leaf.is c.requires.cell; previews = c.requires.previews }
+put_cell-requires g c = record { cell = subst (LeafWithin c.args.heap.now.cells) c.in-Leaf.is c.requires.cell; bounded = c.requires.bounded; previews = c.requires.previews }
 
 pub returns-in-Immediate : goal.returns-in-Immediate
 returns-in-Immediate g c =

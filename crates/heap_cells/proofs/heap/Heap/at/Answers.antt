@@ -26,22 +26,22 @@ kind h map n r holds view inside is =
     let read = read-from (text_of h.texts) (seam_of h.texts) h.texts.enc h.arena.cells.items map.cells (length h.arena.slots.items) n n r holds.slots_are.laid cells refl inside is in
     read.is_record.kind ∙ ap (option_map kind_of) (form-of (text_of h.texts) h.texts.enc h.arena.cells.items map.cells n r cells read.stands)
 
-pub returns-in_default-clause-seat : goal.returns-in_default-clause-seat
-returns-in_default-clause-seat c =
+pub returns-in_default : goal.returns-in_default
+returns-in_default c =
     numbered c.self.inside c.args.self.now c.deref-2.result.now c.args.addr None c.number_of.result c.self.view_is c.deref-2.ensures.value c.number_of.ensures c.in_default.is
 
-pub returns-in-None-clause-seat : goal.returns-in-None-clause-seat
-returns-in-None-clause-seat c =
+pub returns-in-None : goal.returns-in-None
+returns-in-None c =
     let found = numbered c.self.inside c.args.self.now c.deref-2.result.now c.args.addr (Some c.in-Some.n) c.number_of.result c.self.view_is c.deref-2.ensures.value
     c.number_of.ensures c.in-Some.is in
     let inside = number_at-within c.args.self.now.cells c.args.addr c.in-Some.n found in
     let kind = kind c.self.inside c.args.self.now c.in-Some.n c.index.result.now c.self.invariant c.self.view_is inside c.index.ensures in
-    rw c.new-ix.ensures (found, no-kind (form_at c.args.self.now.cells c.in-Some.n) (sym c.in-None.is ∙ kind))
+    rw c.new-ix.ensures (found, no-kind (form_at c.args.self.now.cells c.in-Some.n) (sym c.in-None.is ∙ kind), inside)
 
-pub returns-in-Some-kind-clause-seat : goal.returns-in-Some-kind-clause-seat
-returns-in-Some-kind-clause-seat c =
+pub returns-in-Some-kind : goal.returns-in-Some-kind
+returns-in-Some-kind c =
     let found = numbered c.self.inside c.args.self.now c.deref-2.result.now c.args.addr (Some c.in-Some.n) c.number_of.result c.self.view_is c.deref-2.ensures.value
     c.number_of.ensures c.in-Some.is in
     let inside = number_at-within c.args.self.now.cells c.args.addr c.in-Some.n found in
     let kind = kind c.self.inside c.args.self.now c.in-Some.n c.index.result.now c.self.invariant c.self.view_is inside c.index.ensures in
-    rw c.new-ix.ensures (found, some-kind (form_at c.args.self.now.cells c.in-Some.n) c.in-Some-kind.field-0 (sym c.in-Some-kind.is ∙ kind))
+    rw c.new-ix.ensures (found, some-kind (form_at c.args.self.now.cells c.in-Some.n) c.in-Some-kind.field-0 (sym c.in-Some-kind.is ∙ kind), inside)
