@@ -1,15 +1,18 @@
 -- The use of the binaries of a dump, from what was found and heard.
-use Rattle.std.proofs.Common.{◌≡◌, ℕ, ◌+◌, ◌*◌, ◌<◌, ◌≤◌, Bool, true, false, cond, List, [], ◌∷◌, ◌++◌, length, map, get_or, Option, None, Some, Result, Ok, Err, if◌then◌else◌, sym, ◌∙◌, ap, arith, codes}
-use Rattle.std.specs.Prelude.{IfOk, slice_index}
-use Rattle.std.specs.List.{cons_option, count_by, filter_map}
+use Rattle.std.proofs.Common.{◌≡◌, ℕ, ◌+◌, ◌*◌, ◌<◌, ◌≤◌, Bool, true, false, cond, List, [], ◌∷◌, ◌++◌, length, map, get_or, Option, None, Some, Result, Ok, Err, if◌then◌else◌, refl, sym, ◌∙◌, ap, arith, codes}
+use Rattle.std.specs.Prelude.{IfOk, slice_index, sum}
+use Rattle.std.specs.List.{cons_option, count_by, filter_map, sum_by}
 use Rattle.std.specs.Option.{option_map, option_and_then}
 use Rattle.std.proofs.lemmas.Simd.{map-map}
 use Rattle.std.proofs.lemmas.List.{get_or-map, length-map, same_lists}
-use Rattle.std.proofs.lemmas.List.Sums.{sum_by-cons, sum_by_push}
+use Rattle.std.proofs.lemmas.List.Sums.{sum-map, sum_by-cons, sum_by_push}
 use Rattle.dump_io.specs.Numbers.{hex_number}
+use Rattle.dump_sections.specs.Bodies.{body_in, body_size, section_in}
+use Rattle.dump_sections.specs.FindingLaws.{section-found}
 use Rattle.dump_sections.specs.Index.{Contents, sections_in}
-use Rattle.dump_sections.specs.Lookups.{has_tag}
+use Rattle.dump_sections.specs.Lookups.{has_tag, is_named}
 use Rattle.dump_sections.specs.Sections.{Section, id_of}
+use Rattle.heap_cells.specs.Loading.{enc_of, heap_section}
 use Rattle.process_table.specs.Processes.{Process}
 use Rattle.binary_holders.specs.declared.rows.BinaryRow.{BinaryRow}
 use Rattle.binary_holders.specs.declared.rows.Holding.{Holding}
@@ -17,11 +20,11 @@ use Rattle.binary_holders.specs.declared.sought.Binary.{Binary}
 use Rattle.binary_holders.specs.declared.stored.StoredAt.{StoredAt}
 use Rattle.binary_holders.specs.declared.tally.Tally.{Tally}
 use Rattle.binary_holders.specs.Held.{holders_of}
-use Rattle.binary_holders.specs.HeapReferences.{references_of}
+use Rattle.binary_holders.specs.HeapReferences.{references}
 use Rattle.binary_holders.specs.StoredBinaries.{Stored, binary_of, firsts, is_among, stored_at}
-use Rattle.binary_holders.specs.Usage.{Usage, binaries_in, fronts_length, heaps_of, row_of, rows_in, sized, stored_in}
+use Rattle.binary_holders.specs.Usage.{Usage, binaries_in, fronts_length, heaps_length, heaps_of, row_of, rows_in, sized, stored_in}
 use Rattle.binary_holders.specs.Inner.Finding.{stored_of}
-use Rattle.binary_holders.specs.Inner.Places.{heap_place, references_at}
+use Rattle.binary_holders.specs.Inner.Places.{heap_place, references_at, size_at}
 use Rattle.binary_holders.specs.Inner.Rows.{AreRows, row_at}
 use Rattle.binary_holders.specs.Inner.Tallies.{HasHeard, number_at}
 use Rattle.binary_holders.proofs.TallyFacts.{at-number, no_binary}
@@ -39,12 +42,33 @@ pub usage-same : {h k : List Holding} {b c : List BinaryRow} {m n v w : ℕ} →
 usage-same {h} {k} {b} {c} {m} {n} {v} {w} held binaries bytes with_holders =
     ap (λ x. usage x b m v) held ∙ ap (λ x. usage k x m v) binaries ∙ ap (λ x. usage k c x v) bytes ∙ ap (λ x. usage k c n x) with_holders
 
--- what the heaps refer to, by their places and by the pids
+-- what is said of the heaps, by their places and by the pids
+by-pid : {X : Type 0} (f : Option Section → X) (index : Contents) (processes : List Process) (heaps : List (Option ℕ)) → heaps ≡ map (λ (p : Process). heap_place (sections_in index) p.pid) processes
+    → map (λ place. f (section_in index place)) heaps ≡ map (λ pid. f (heap_section pid (sections_in index))) (map (λ (p : Process). p.pid) processes)
+by-pid f index processes heaps is = ap (map (λ place. f (section_in index place))) is ∙ each processes
+  where
+    each : (ps : List Process) → map (λ place. f (section_in index place)) (map (λ (p : Process). heap_place (sections_in index) p.pid) ps)
+        ≡ map (λ pid. f (heap_section pid (sections_in index))) (map (λ (p : Process). p.pid) ps)
+    each [] = refl
+    each (p ∷ ps) =
+        ap (λ o. f o ∷ map (λ place. f (section_in index place)) (map (λ (p : Process). heap_place (sections_in index) p.pid) ps))
+        (section-found (λ (s : Section). is_named (codes "proc_heap") (Some p.pid) s.text) index _ refl)
+        ∙ ap (λ l. f (heap_section p.pid (sections_in index)) ∷ l) (each ps)
+
+-- what they refer to
 pub heaps-are : (dump : List ℕ) (index : Contents) (processes : List Process) (heaps : List (Option ℕ)) → heaps ≡ map (λ (p : Process). heap_place (sections_in index) p.pid) processes
     → map (references_at dump index) heaps ≡ heaps_of dump index (map (λ (p : Process). p.pid) processes)
-heaps-are dump index processes heaps is =
-    ap (map (references_at dump index)) is ∙ map-map (references_at dump index) (λ (p : Process). heap_place (sections_in index) p.pid) processes
-    ∙ sym (map-map (references_of dump index) (λ (p : Process). p.pid) processes)
+heaps-are dump index = by-pid (λ heap. references (enc_of index.version) (body_in dump heap)) index
+
+-- they have no more bytes than may be read of the heaps
+pub fits : (index : Contents) (processes : List Process) (heaps read : List (Option ℕ)) → heaps ≡ map (λ (p : Process). heap_place (sections_in index) p.pid) processes → read ≡ heaps
+    → sum_by (size_at index) read ≤ heaps_length index (map (λ (p : Process). p.pid) processes)
+fits index processes heaps read is same =
+    let pids = map (λ (p : Process). p.pid) processes in
+    let sizes : sum_by (size_at index) read ≡ heaps_length index pids =
+    ap (sum_by (size_at index)) same ∙ sym (sum-map (size_at index) heaps) ∙ ap sum (by-pid body_size index processes heaps is)
+    ∙ sum-map (λ pid. body_size (heap_section pid (sections_in index))) pids in
+    omega (arith, sizes)
 
 -- ---- the fronts of the stored binaries
 

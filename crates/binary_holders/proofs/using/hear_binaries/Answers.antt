@@ -1,5 +1,6 @@
 use Rattle.std.proofs.Common.{◌≡◌, [], length, map, ◌∙◌, ap, subst}
 use Rattle.std.specs.Prelude.{All}
+use Rattle.dump_io.specs.Laws.Reads.{ReadsAtMost-within}
 use Rattle.std.proofs.lemmas.List.{length-map}
 use Rattle.dump_sections.specs.Index.{sections_in}
 use Rattle.process_table.specs.Processes.{Process}
@@ -7,8 +8,16 @@ use Rattle.binary_holders.specs.Held.{holdings}
 use Rattle.binary_holders.specs.Usage.{NamesProcess}
 use Rattle.binary_holders.specs.Inner.Places.{heap_place, references_at}
 use Rattle.binary_holders.specs.Inner.Tallies.{HasHeard}
-use Rattle.binary_holders.proofs.UsingFacts.{heaps-are}
+use Rattle.binary_holders.proofs.UsingFacts.{fits, heaps-are}
 use Rattle.binary_holders.proofs.using.hear_binaries.Goals as goal
+
+pub returns-in_err-held-clause-reads : goal.returns-in_err-held-clause-reads
+returns-in_err-held-clause-reads g c =
+    ReadsAtMost-within (fits c.args.index.now c.args.procs.now.processes c.in-Ok.heaps.items c.as_slice.result.now c.in-Ok.ensures.places c.as_slice.ensures.value) c.in_err-held.ensures.reads
+
+pub returns-clause-reads : goal.returns-clause-reads
+returns-clause-reads g c =
+    ReadsAtMost-within (fits c.args.index.now c.args.procs.now.processes c.in-Ok.heaps.items c.as_slice.result.now c.in-Ok.ensures.places c.as_slice.ensures.value) c.in_ok-held.ensures.reads
 
 pub returns-clause-held : goal.returns-clause-held
 returns-clause-held g c = λ dump is.
