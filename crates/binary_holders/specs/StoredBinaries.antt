@@ -1,6 +1,7 @@
 -- The binaries outside the heaps, which are in `binary` sections.
 use Rattle.std.specs.Prelude.{ℕ, Bool, ◌==◌, List, [], ◌∷◌, Option, option_map, if◌then◌else◌}
-use Rattle.std.specs.List.{filter_map, list_any, between}
+use Rattle.std.specs.List.{filter_map, list_any}
+use Rattle.dump_sections.specs.Bodies.{body_of}
 use Rattle.dump_sections.specs.Sections.{Section}
 use Rattle.stored_binaries.specs.StoredBinaries.{number_of, size_stated}
 
@@ -33,4 +34,4 @@ stored sections = firsts [] (filter_map binary_of sections)
 
 -- the size of a stored binary, from the bytes of a dump
 abbrev pub size_in : List ℕ → Stored → ℕ
-size_in dump binary = size_stated (between binary.section.body binary.section.end dump)
+size_in dump binary = size_stated (body_of dump binary.section)

@@ -2,10 +2,10 @@
 use Rattle.std.specs.Prelude.{ℕ, ◌*◌, ◌<◌, List, [], ◌∷◌, map, nat_lt, codes}
 use Rattle.std.specs.List.{count_by, sum_by}
 use Rattle.dump_io.specs.Dumps.{DeviceState, DeviceFailed}
+use Rattle.dump_sections.specs.Bodies.{body_size}
 use Rattle.dump_sections.specs.Index.{Contents, sections_in}
 use Rattle.dump_sections.specs.Lookups.{has_tag}
 use Rattle.heap_cells.specs.Loading.{heap_section}
-use Rattle.dump_sections.specs.Bodies.{body_size}
 use Rattle.binary_holders.specs.declared.faults.HolderFault.{HolderFault}
 use Rattle.binary_holders.specs.declared.faults.HolderFault.TheVariants.{Read, Memory}
 use Rattle.binary_holders.specs.declared.rows.BinaryRow.{BinaryRow}
@@ -82,7 +82,7 @@ holders_in dump index pids number = holdings (record { number = number; size = 0
 
 -- how many bytes the heaps of these pids have together
 abbrev pub heaps_length : Contents → List (List ℕ) → ℕ
-heaps_length index pids = sum_by (λ pid. body_size (heap_section index pid)) pids
+heaps_length index pids = sum_by (λ pid. body_size (heap_section pid (sections_in index))) pids
 
 -- how many bytes may be read of the `binary` sections: 20 of each
 abbrev pub fronts_length : Contents → ℕ

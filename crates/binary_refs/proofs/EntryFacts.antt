@@ -10,7 +10,7 @@ use Rattle.std.proofs.lemmas.List.Elements.{All-nil, All-push}
 use Rattle.std.proofs.lemmas.List.Sorted.{IsNonDecreasingBy-push, IsNonDecreasingBy-short}
 use Rattle.std.proofs.lemmas.Option.{none-some, same_Some}
 use Rattle.binary_payloads.specs.declared.enc.Enc.{Enc}
-use Rattle.term_forms.specs.Forms.{HeapForm, Cons, Tuple, Float, Long, Pid, Port, Ext, HeapBin, RefBin, SubBin, Flat, Hash, Node}
+use Rattle.term_forms.specs.Forms.{HeapForm, RefBin, SubBin}
 use Rattle.dump_sections.specs.Index.{Contents}
 use Rattle.dump_sections.specs.Laws.{option_or-none}
 use Rattle.heap_cells.specs.Cells.{Cell, kind_of}
@@ -101,19 +101,9 @@ pair-append (x ∷ xs) ys n =
 
 -- a form states its cell's number
 stated-number : (n : ℕ) (form : HeapForm) (p : ℕ × ℕ) → stated n form ≡ Some p → p.0 ≡ n
-stated-number n (Cons head tail) p is = absurd (none-some p is)
-stated-number n (Tuple elements) p is = absurd (none-some p is)
-stated-number n (Float bytes) p is = absurd (none-some p is)
-stated-number n (Long number) p is = absurd (none-some p is)
-stated-number n (Pid pid) p is = absurd (none-some p is)
-stated-number n (Port port) p is = absurd (none-some p is)
-stated-number n (Ext size chars) p is = absurd (none-some p is)
-stated-number n (HeapBin size chars) p is = absurd (none-some p is)
 stated-number n (RefBin address offset size) p is = ap (λ (q : ℕ × ℕ). q.0) (sym (same_Some (n, size) p is))
 stated-number n (SubBin address offset size) p is = ap (λ (q : ℕ × ℕ). q.0) (sym (same_Some (n, size) p is))
-stated-number n (Flat keys values) p is = absurd (none-some p is)
-stated-number n (Hash size children) p is = absurd (none-some p is)
-stated-number n (Node children) p is = absurd (none-some p is)
+stated-number n form p is = absurd (none-some p is)
 
 abbrev pub one_stated : List Cell → ℕ → Option (ℕ × ℕ)
 one_stated cells n = option_and_then (stated n) (form_at cells n)
@@ -256,52 +246,22 @@ entry-cell (x ∷ es) n e is = by (x.cell == n) refl is (entry-cell es n e)
 
 pub not-stated : (n : ℕ) (o : Option HeapForm) → refers (option_map kind_of o) ≡ false → option_and_then (stated n) o ≡ None
 not-stated n None other = refl
-not-stated n (Some (Cons head tail)) other = refl
-not-stated n (Some (Tuple elements)) other = refl
-not-stated n (Some (Float bytes)) other = refl
-not-stated n (Some (Long number)) other = refl
-not-stated n (Some (Pid pid)) other = refl
-not-stated n (Some (Port port)) other = refl
-not-stated n (Some (Ext size chars)) other = refl
-not-stated n (Some (HeapBin size chars)) other = refl
 not-stated n (Some (RefBin address offset size)) other = absurd (true≢false other)
 not-stated n (Some (SubBin address offset size)) other = absurd (true≢false other)
-not-stated n (Some (Flat keys values)) other = refl
-not-stated n (Some (Hash size children)) other = refl
-not-stated n (Some (Node children)) other = refl
+not-stated n (Some form) other = refl
 
 pub no-entry : (dump : List ℕ) (index : Contents) (enc : Enc) (cells : List Cell) (n : ℕ) (o : Option HeapForm) → refers (option_map kind_of o) ≡ false → option_and_then (entry_of dump index enc cells n) o ≡ None
 no-entry dump index enc cells n None other = refl
-no-entry dump index enc cells n (Some (Cons head tail)) other = refl
-no-entry dump index enc cells n (Some (Tuple elements)) other = refl
-no-entry dump index enc cells n (Some (Float bytes)) other = refl
-no-entry dump index enc cells n (Some (Long number)) other = refl
-no-entry dump index enc cells n (Some (Pid pid)) other = refl
-no-entry dump index enc cells n (Some (Port port)) other = refl
-no-entry dump index enc cells n (Some (Ext size chars)) other = refl
-no-entry dump index enc cells n (Some (HeapBin size chars)) other = refl
 no-entry dump index enc cells n (Some (RefBin address offset size)) other = absurd (true≢false other)
 no-entry dump index enc cells n (Some (SubBin address offset size)) other = absurd (true≢false other)
-no-entry dump index enc cells n (Some (Flat keys values)) other = refl
-no-entry dump index enc cells n (Some (Hash size children)) other = refl
-no-entry dump index enc cells n (Some (Node children)) other = refl
+no-entry dump index enc cells n (Some form) other = refl
 
 -- ---- heaps without a reference to a binary
 
 stated-of : (dump : List ℕ) (index : Contents) (enc : Enc) (cells : List Cell) (n : ℕ) (form : HeapForm) → stated n form ≡ None → entry_of dump index enc cells n form ≡ None
-stated-of dump index enc cells n (Cons head tail) none = refl
-stated-of dump index enc cells n (Tuple elements) none = refl
-stated-of dump index enc cells n (Float bytes) none = refl
-stated-of dump index enc cells n (Long number) none = refl
-stated-of dump index enc cells n (Pid pid) none = refl
-stated-of dump index enc cells n (Port port) none = refl
-stated-of dump index enc cells n (Ext size chars) none = refl
-stated-of dump index enc cells n (HeapBin size chars) none = refl
 stated-of dump index enc cells n (RefBin address offset size) none = absurd (let e : Some (n, size) ≡ None = none in cc)
 stated-of dump index enc cells n (SubBin address offset size) none = absurd (let e : Some (n, size) ≡ None = none in cc)
-stated-of dump index enc cells n (Flat keys values) none = refl
-stated-of dump index enc cells n (Hash size children) none = refl
-stated-of dump index enc cells n (Node children) none = refl
+stated-of dump index enc cells n form none = refl
 
 none-of : (dump : List ℕ) (index : Contents) (enc : Enc) (cells : List Cell) (n : ℕ) (o : Option HeapForm) → option_to_list (option_and_then (stated n) o) ≡ [] → option_to_list (option_and_then (entry_of dump index enc cells n) o) ≡ []
 none-of dump index enc cells n None none = refl

@@ -1,6 +1,6 @@
 -- The previews of a heap's references to binaries: the first bytes of the
 -- range to which a cell refers, at most 32, or that they are unknown.
-use Rattle.std.specs.Prelude.{◌≡◌, ℕ, zero, suc, ◌+◌, ◌==◌, ◌≤◌, List, [], ◌∷◌, ◌++◌, length, take, drop, nat_le, is_some, Option, None, Some, if◌then◌else◌}
+use Rattle.std.specs.Prelude.{◌≡◌, ℕ, zero, suc, ◌+◌, ◌==◌, ◌≤◌, List, [], ◌++◌, length, take, drop, find, nat_le, is_some, Option, None, Some, if◌then◌else◌}
 use Rattle.std.specs.Option.{option_map, option_and_then, option_to_list}
 use Rattle.dump_sections.specs.Index.{Contents}
 use Rattle.binary_payloads.specs.declared.enc.Enc.{Enc}
@@ -70,8 +70,7 @@ stating e = (e.cell, e.size)
 
 -- the entry of the cell with a number
 abbrev pub entry_at : List Entry → ℕ → Option Entry
-entry_at [] n = None
-entry_at (e ∷ entries) n = if e.cell == n then Some e else entry_at entries n
+entry_at entries n = find (λ e. e.cell == n) entries
 
 -- each cell that refers to a binary has an entry, and no other cell has one
 abbrev pub AreFor : List Cell → List Entry → Type 0

@@ -1,12 +1,14 @@
 -- Whole binaries, from the first lines of their sections' bodies.
-use Rattle.std.specs.Prelude.{◌≡◌, ℕ, ◌<◌, List, Option, None, Some, slice_get, nat_lt, if◌then◌else◌}
+use Rattle.std.specs.Prelude.{◌≡◌, ℕ, List, [], ◌∷◌, Option, None, Some, slice_get}
 use Rattle.std.specs.Option.{option_map, option_and_then}
-use Rattle.std.specs.List.{between}
 use Rattle.dump_io.specs.Dumps.{DeviceState, DeviceFailed}
 use Rattle.field_lines.specs.Lines.{text_lines}
-use Rattle.dump_sections.specs.Bodies.{body_length}
-use Rattle.dump_sections.specs.Index.{Contents}
+use Rattle.dump_sections.specs.Bodies.{body_of}
+use Rattle.dump_sections.specs.Index.{Contents, sections_in}
+use Rattle.dump_sections.specs.Loading.{large_fault}
 use Rattle.dump_sections.specs.Sections.{Section}
+use Rattle.dump_sections.specs.declared.bodies.BodyFault.{BodyFault}
+use Rattle.dump_sections.specs.declared.bodies.BodyFault.TheVariants as body
 use Rattle.binary_payloads.specs.declared.enc.Enc.{Enc}
 use Rattle.term_forms.specs.Words.{led_of}
 use Rattle.binary_refs.specs.declared.faults.BinFault.{BinFault}
@@ -30,30 +32,28 @@ bytes_of_body enc body = option_and_then (bytes_of_text enc) (first_text body)
 -- the bytes of the first `binary` section with this address, from the bytes of a dump
 abbrev pub whole_bytes : List ℕ → Contents → ℕ → Option (List ℕ)
 whole_bytes dump index address =
-    option_and_then (λ section. bytes_of_body (enc_of index.version) (between section.body section.end dump)) (binary_section index address)
+    option_and_then (λ section. bytes_of_body (enc_of index.version) (body_of dump section)) (binary_section address (sections_in index))
 
 -- if the fault is that the binary is malformed, there are no such bytes
 abbrev pub IsBadFor : Option (List ℕ) → BinFault → Type 0
 IsBadFor bytes (BadBinary at) = bytes ≡ None
 IsBadFor bytes fault = Unit {0}
 
--- why no bytes are given, by the section that was found: there is none, it is too large, its
--- first line isn't of the grammar, or the device failed; memory may be lacking at any time
-abbrev pub IsBinCauseOf : Option Section → ℕ → DeviceState → DeviceState → BinFault → Type 0
-IsBinCauseOf found limit before after NoBinary = found ≡ None
-IsBinCauseOf found limit before after (SectionTooLarge at len) =
-    (section : Section) × (found ≡ Some section) × (at ≡ section.at) × (len ≡ body_length section) × (limit < body_length section)
-IsBinCauseOf found limit before after (BadBinary at) = (section : Section) × (found ≡ Some section) × (at ≡ section.at)
-IsBinCauseOf found limit before after Read = DeviceFailed before after
-IsBinCauseOf found limit before after Memory = Unit {0}
+-- the fault of a body, as a fault of its binary
+abbrev pub bin_fault_of : BodyFault → BinFault
+bin_fault_of (body.SectionTooLarge at len) = SectionTooLarge at len
+bin_fault_of body.Read = Read
+bin_fault_of body.Memory = Memory
 
--- how many bytes the body of the section that was found has
-abbrev pub found_length : Option Section → ℕ
-found_length None = 0
-found_length (Some section) = body_length section
-
--- the refusals before anything is read: there is no such section, or its body is too large
+-- the refusals before anything is read, by the section that was found: there is none, or its body is too large
 abbrev pub refused : ℕ → Option Section → Option BinFault
 refused limit None = Some NoBinary
-refused limit (Some section) =
-    if nat_lt limit (body_length section) then Some (SectionTooLarge section.at (body_length section)) else None
+refused limit (Some section) = option_map bin_fault_of (large_fault limit (section ∷ []))
+
+-- why no bytes are given: the first line of the section isn't of the grammar, or the device
+-- failed; memory may be lacking at any time; any other fault is a refusal before anything is read
+abbrev pub IsBinCauseOf : Option Section → ℕ → DeviceState → DeviceState → BinFault → Type 0
+IsBinCauseOf found limit before after (BadBinary at) = option_map (λ section. section.at) found ≡ Some at
+IsBinCauseOf found limit before after Read = DeviceFailed before after
+IsBinCauseOf found limit before after Memory = Unit {0}
+IsBinCauseOf found limit before after fault = refused limit found ≡ Some fault

@@ -1,7 +1,6 @@
 pub mod ByMarks
 pub mod Counts
 pub mod Cutting
-pub mod Finding
 pub mod Kept
 pub mod Parts
 pub mod Places

@@ -1,5 +1,6 @@
 pub mod Bodies
 pub mod Cuts
+pub mod FindingLaws
 pub mod Index
 pub mod Inner
 pub mod Laws

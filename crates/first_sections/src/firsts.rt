@@ -1,9 +1,9 @@
 // The first section with a tag and each id.
 ghost use Rattle.std.specs.Prelude.{◌≡◌, ◌+◌, ◌<◌, length, position, take, slice_get, Some, IfOk, IfSome, OnOk};
 ghost use Rattle.std.specs.Option.{option_copied};
-ghost use Rattle.dump_sections.specs.Bodies.{section_at};
+ghost use Rattle.dump_sections.specs.Bodies.{section_at, section_in};
 ghost use Rattle.dump_sections.specs.Index.{sections_in};
-ghost use Rattle.dump_sections.specs.Lookups.{is_named};
+ghost use Rattle.dump_sections.specs.Lookups.{first_named, is_named};
 ghost use Rattle.first_sections.specs.Inner.Places.{AreFirsts, IsFound, id_with};
 
 use dump_sections::Index;
@@ -93,6 +93,7 @@ impl<'a> FirstSections<'a> {
     /// The place of the first section with the tag and this id, byte for byte, as [`Index::first`] returns it.
     pub fn get(&self, id: &[u8]) -> Option<usize>
         ensures place { result ≡ position (λ section. is_named self.now.tag (Some id.now) section.text) (sections_in self.now.index) }
+        ensures section { section_in self.now.index result ≡ first_named self.now.tag id.now (sections_in self.now.index) }
         ensures within { IfSome result (λ i. i < length self.now.index.headers) }
     {
         self.places.get(id).copied()

@@ -1,24 +1,20 @@
 -- Parts of bodies, and what is shown of them.
-use Rattle.std.proofs.Common.{◌≡◌, ℕ, zero, suc, ◌+◌, ◌-◌, ◌<◌, ◌≤◌, ◌==◌, ◌↔◌, ⊎_elim, List, [], ◌∷◌, ◌++◌, length, take, drop, get_or, Option, None, Some, if◌then◌else◌, refl, sym, ◌∙◌, ap, arith, append_assoc, length-append}
-use Rattle.std.specs.Prelude.{slice_get, unwrap_or, min, replicate}
+use Rattle.std.proofs.Common.{◌≡◌, ℕ, zero, suc, ◌+◌, ◌-◌, ◌≤◌, ◌==◌, ◌↔◌, ⊎_elim, List, [], ◌∷◌, ◌++◌, length, take, drop, Option, None, Some, if◌then◌else◌, refl, sym, ◌∙◌, ap, arith, append_assoc, length-append}
+use Rattle.std.specs.Prelude.{min, replicate}
 use Rattle.std.specs.Option.{option_and_then}
-use Rattle.std.specs.List.{between}
 use Rattle.std.proofs.lemmas.Bool.{cases_lt, and_parts, leb-true, ne_eqb}
-use Rattle.std.proofs.lemmas.Option.{cond_some, slice_get-get_or}
+use Rattle.std.proofs.lemmas.Option.{cond_some}
 use Rattle.std.proofs.lemmas.List.{take_all, take-append-drop, length-take, length-take-le, length-drop}
 use Rattle.dump_io.specs.Numbers.{hex_number}
-use Rattle.dump_sections.specs.Bodies.{section_at, body_length}
-use Rattle.dump_sections.specs.Index.{Contents, IsIndexOf, sections_in}
-use Rattle.dump_sections.specs.Sections.{Section, section}
+use Rattle.dump_sections.specs.Bodies.{body_length, body_of}
+use Rattle.dump_sections.specs.Index.{Contents, IsIndexOf}
+use Rattle.dump_sections.specs.Sections.{Section}
 use Rattle.binary_payloads.specs.declared.enc.Enc.{Enc}
 use Rattle.binary_payloads.specs.declared.enc.Enc.TheVariants.{Hex, Base64}
 use Rattle.binary_payloads.specs.Payload.{IsPayload, IsPayloadOf, chars_of}
 use Rattle.binary_payloads.specs.ReadingPayloads.{payload_bytes}
 use Rattle.term_forms.specs.Words.{colon, led_of, IsLed}
 use Rattle.stored_binaries.specs.Payloads.{payload_of}
-use Rattle.stored_binaries.specs.Ranges.{in_body, in_dump}
-use Rattle.stored_binaries.specs.StoredBinaries.{binary_place, binary_section}
-use Rattle.stored_binaries.specs.Inner.Leads.{body_at}
 
 -- ---- what a body begins with
 
@@ -80,29 +76,11 @@ payload-false enc law chars n none = by (payload_bytes enc chars) refl
         ap (λ b. if b then Some bytes else None)
         (ne_eqb (length bytes) n (λ same. none (record { bytes = bytes; count = same; payload = (law chars bytes).0 is })))
 
-pub body-length : (dump : List ℕ) (index : Contents) (place : ℕ) → IsIndexOf dump index → (section_at index place).end ≤ index.size
-    → length (body_at dump index place) ≡ body_length (section_at index place)
-body-length dump index place is within =
-    let s = section_at index place in
+pub body-length : (dump : List ℕ) (index : Contents) (s : Section) → IsIndexOf dump index → s.end ≤ index.size → length (body_of dump s) ≡ body_length s
+body-length dump index s is within =
     let front = length-take (s.end - s.body) (drop s.body dump) in
     let back = length-drop s.body dump in
     omega (arith, front, back, is.size, within)
-
--- ---- the section of an address
-
-pub section-found : (index : Contents) (address place : ℕ) → place < length (sections_in index) → binary_place (sections_in index) address ≡ Some place
-    → binary_section index address ≡ Some (section_at index place)
-section-found index address place inside found =
-    ap (option_and_then (slice_get (sections_in index))) found
-    ∙ (there ∙ ap (λ o. Some (unwrap_or o (section 0 0 0 []))) (sym there))
-  where
-    there : slice_get (sections_in index) place ≡ Some (get_or (sections_in index) place (section 0 0 0 []))
-    there = slice_get-get_or (sections_in index) place (section 0 0 0 []) inside
-
-pub in-dump : (dump : List ℕ) (index : Contents) (enc : Enc) (address offset size place : ℕ) → place < length (sections_in index)
-    → binary_place (sections_in index) address ≡ Some place → in_dump dump index enc address offset size ≡ in_body enc offset size (body_at dump index place)
-in-dump dump index enc address offset size place inside found =
-    ap (option_and_then (λ (s : Section). in_body enc offset size (between s.body s.end dump))) (section-found index address place inside found)
 
 -- a payload has a character for each byte at least
 pub payload-count : (enc : Enc) (chars : List ℕ) (n : ℕ) → ((text bytes : List ℕ) → IsPayload enc text bytes → length text ≡ chars_of enc (length bytes)) → IsPayloadOf enc chars n → n ≤ length chars

@@ -1,6 +1,6 @@
 -- The first `binary` section of an address, among sorted pairs.
 use Rattle.std.proofs.Common.{◌≡◌, ℕ, ◌+◌, ◌*◌, ◌<◌, ◌≤◌, ◌==◌, ◌⊎◌, ⊎_elim, inl, inr, Bool, true, false, ◌&&◌, ltb, List, [], length, get_or, Option, None, Some, if◌then◌else◌, sym, ◌∙◌, ap, subst, arith}
-use Rattle.std.specs.Prelude.{nat_eq, codes, IfSome}
+use Rattle.std.specs.Prelude.{nat_eq, codes, position, IfSome}
 use Rattle.std.specs.Option.{option_eq, option_and_then}
 use Rattle.std.specs.List.Sorted.{IsPartitionPoint, IsPermutation, IsSorted}
 use Rattle.std.specs.Ordering.{is_lt, ordering_then, nat_cmp}
@@ -17,7 +17,7 @@ use Rattle.dump_io.specs.Numbers.{hex_number}
 use Rattle.dump_io.specs.Laws.Lists.{position-at, position-none}
 use Rattle.dump_sections.specs.Lookups.{has_hex, has_tag}
 use Rattle.dump_sections.specs.Sections.{Section, section, id_of}
-use Rattle.stored_binaries.specs.StoredBinaries.{binary_place, number_of}
+use Rattle.stored_binaries.specs.StoredBinaries.{number_of}
 use Rattle.stored_binaries.specs.Inner.Places.{number_at, rank, IsPairOf, ArePairs, AreOrdered}
 
 -- ---- the test of a section
@@ -40,6 +40,10 @@ lacks-hex s a other =
     false_from_ne_true _ (λ same. other (only-number (has_tag (codes "binary") s.text) (option_and_then hex_number (id_of s.text)) a same))
 
 -- ---- the first section with an address
+
+-- the place of the first `binary` section whose id is the address in hex
+abbrev pub binary_place : List Section → ℕ → Option ℕ
+binary_place sections address = position (λ section. has_hex (codes "binary") address section.text) sections
 
 no_section : Section
 no_section = section 0 0 0 []

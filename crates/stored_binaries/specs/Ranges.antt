@@ -1,8 +1,8 @@
 -- The first bytes of a range of a binary, at most 32, or that they are unknown.
 use Rattle.std.specs.Prelude.{ℕ, ◌+◌, ◌==◌, List, [], length, take, drop, min, nat_le, Option, None, Some, if◌then◌else◌}
 use Rattle.std.specs.Option.{option_map, option_and_then}
-use Rattle.std.specs.List.{between}
-use Rattle.dump_sections.specs.Index.{Contents}
+use Rattle.dump_sections.specs.Bodies.{body_of}
+use Rattle.dump_sections.specs.Index.{Contents, sections_in}
 use Rattle.binary_payloads.specs.declared.covers.Cover.{Cover}
 use Rattle.binary_payloads.specs.declared.enc.Enc.{Enc}
 use Rattle.binary_payloads.specs.Cover.{cover_of}
@@ -42,4 +42,4 @@ in_body enc offset size body = option_and_then (λ led. in_chars enc led.0 led.1
 -- what is shown of a range of the binary with this address, from the bytes of a dump
 abbrev pub in_dump : List ℕ → Contents → Enc → ℕ → ℕ → ℕ → Option (List ℕ)
 in_dump dump index enc address offset size =
-    option_and_then (λ section. in_body enc offset size (between section.body section.end dump)) (binary_section index address)
+    option_and_then (λ section. in_body enc offset size (body_of dump section)) (binary_section address (sections_in index))

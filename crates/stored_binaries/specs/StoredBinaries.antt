@@ -1,9 +1,8 @@
 -- The binaries that a dump has in its `binary` sections.
-use Rattle.std.specs.Prelude.{ℕ, List, Option, None, codes, position, slice_get, unwrap_or, if◌then◌else◌}
+use Rattle.std.specs.Prelude.{ℕ, List, Option, None, codes, unwrap_or, if◌then◌else◌}
 use Rattle.std.specs.Option.{option_map, option_and_then}
 use Rattle.dump_io.specs.Numbers.{hex_number}
-use Rattle.dump_sections.specs.Index.{Contents, sections_in}
-use Rattle.dump_sections.specs.Lookups.{has_hex, has_tag}
+use Rattle.dump_sections.specs.Lookups.{first_hex, has_tag}
 use Rattle.dump_sections.specs.Sections.{Section, id_of}
 use Rattle.term_forms.specs.Words.{led_of}
 
@@ -11,13 +10,9 @@ use Rattle.term_forms.specs.Words.{led_of}
 abbrev pub number_of : Section → Option ℕ
 number_of section = if has_tag (codes "binary") section.text then option_and_then hex_number (id_of section.text) else None
 
--- the place of the first `binary` section whose id is the address in hex
-abbrev pub binary_place : List Section → ℕ → Option ℕ
-binary_place sections address = position (λ section. has_hex (codes "binary") address section.text) sections
-
--- that section
-abbrev pub binary_section : Contents → ℕ → Option Section
-binary_section index address = option_and_then (slice_get (sections_in index)) (binary_place (sections_in index) address)
+-- the first `binary` section whose id is the address in hex
+abbrev pub binary_section : ℕ → List Section → Option Section
+binary_section address sections = first_hex (codes "binary") address sections
 
 -- the size that the body of a binary states: the number of 1 to 16 hex
 -- digits before the `:` with which it begins, or 0 if it doesn't begin so

@@ -1,11 +1,10 @@
 // What the body of a binary begins with: the number of its bytes.
 ghost use Rattle.std.specs.Prelude.{◌≡◌, ℕ, ◌+◌, ◌≤◌, ◌<◌, List, length, take, drop, IfSome, OnOk, OnErr, IfOk};
-ghost use Rattle.std.specs.List.{between};
 ghost use Rattle.dump_io.specs.Dumps.{told, DeviceFailed, ReadsAtMost};
-ghost use Rattle.dump_sections.specs.Bodies.{section_at, body_length};
+ghost use Rattle.dump_sections.specs.Bodies.{section_at, body_length, body_of};
 ghost use Rattle.dump_sections.specs.Index.{IsBuiltOver};
 ghost use Rattle.stored_binaries.specs.StoredBinaries.{size_stated};
-ghost use Rattle.stored_binaries.specs.Inner.Leads.{body_at, IsLeadOf};
+ghost use Rattle.stored_binaries.specs.Inner.Leads.{IsLeadOf};
 
 use dump_io::{Dumps, Failed, read_full};
 use dump_sections::Index;
@@ -45,7 +44,7 @@ pub(crate) fn read_part<D: Dumps>(
     ensures reads { ReadsAtMost (D.state dumps.old) (D.state dumps.new) (length into.old) }
     ensures failed { OnErr result (DeviceFailed (D.state dumps.old) (D.state dumps.new)) }
     ensures part { OnOk result ((dump : List ℕ) → (D.state dumps.old).now ≡ told dump
-        → into.new ≡ take (length into.old) (drop from (body_at dump index.now place))) }
+        → into.new ≡ take (length into.old) (drop from (body_of dump (section_at index.now place)))) }
 {
     let (body, _) = body_of(index, place);
     read_full(dumps, body + from, into)
@@ -75,7 +74,7 @@ pub(crate) fn read_lead<D: Dumps>(
     ensures reads { ReadsAtMost (D.state dumps.old) (D.state dumps.new) 17 }
     ensures failed { OnErr result (DeviceFailed (D.state dumps.old) (D.state dumps.new)) }
     ensures within { IfOk result (λ lead. IfSome lead (λ lead. lead.chars ≤ body_length (section_at index.now place))) }
-    ensures lead { IfOk result (λ lead. (dump : List ℕ) → (D.state dumps.old).now ≡ told dump → IsLeadOf (body_at dump index.now place) lead) }
+    ensures lead { IfOk result (λ lead. (dump : List ℕ) → (D.state dumps.old).now ≡ told dump → IsLeadOf (body_of dump (section_at index.now place)) lead) }
 {
     let (_, len) = body_of(index, place);
     let mut buffer = [0; 17];
@@ -104,7 +103,7 @@ pub fn read_size<D: Dumps>(dumps: &mut D, index: &Index, i: usize) -> Result<u64
     ensures reads { ReadsAtMost (D.state dumps.old) (D.state dumps.new) 17 }
     ensures failed { OnErr result (DeviceFailed (D.state dumps.old) (D.state dumps.new)) }
     ensures size { IfOk result (λ size. (dump : List ℕ) → (D.state dumps.old).now ≡ told dump
-        → size ≡ size_stated (between (section_at index.now i).body (section_at index.now i).end dump)) }
+        → size ≡ size_stated (body_of dump (section_at index.now i))) }
 {
     let lead = read_lead(dumps, index, i)?;
     Ok(size_of(lead))

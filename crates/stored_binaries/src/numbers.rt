@@ -1,9 +1,9 @@
 // The numbers of binaries.
 ghost use Rattle.std.specs.Prelude.{◌≡◌, ◌<◌, length, codes, slice_get, None, Some, IfSome, if◌then◌else◌};
-ghost use Rattle.std.specs.Option.{option_and_then, option_copied, option_map};
+ghost use Rattle.std.specs.Option.{option_and_then, option_copied};
 ghost use Rattle.std.specs.Str.{bytes_eq};
 ghost use Rattle.dump_io.specs.Numbers.{hex_number};
-ghost use Rattle.dump_sections.specs.Bodies.{section_at};
+ghost use Rattle.dump_sections.specs.Bodies.{section_at, section_in};
 ghost use Rattle.dump_sections.specs.Index.{sections_in};
 ghost use Rattle.stored_binaries.specs.StoredBinaries.{binary_section, number_of};
 
@@ -34,7 +34,7 @@ pub fn binary_number(index: &Index, i: usize) -> Option<u64>
 
 /// The place in the index of the first `binary` section whose id is an address in hex.
 pub fn first_binary(index: &Index, addr: u64) -> Option<usize>
-    ensures section { option_map (section_at index.now) result ≡ binary_section index.now addr }
+    ensures section { section_in index.now result ≡ binary_section addr (sections_in index.now) }
     ensures within { IfSome result (λ i. i < length index.now.headers) }
 {
     index.first_hex(b"binary", addr)

@@ -1,8 +1,9 @@
 // The first `binary` section of each address.
 ghost use Rattle.std.specs.Prelude.{◌≡◌, ◌+◌, ◌<◌, ◌≤◌, ◌==◌, length, nat_lt, true, false, None, Some, IfOk, OnOk, IfSome, if◌then◌else◌};
 ghost use Rattle.std.specs.List.Sorted.{IsNonDecreasingBy, IsPartitionPoint};
+ghost use Rattle.dump_sections.specs.Bodies.{section_in};
 ghost use Rattle.dump_sections.specs.Index.{sections_in};
-ghost use Rattle.stored_binaries.specs.StoredBinaries.{binary_place};
+ghost use Rattle.stored_binaries.specs.StoredBinaries.{binary_section};
 ghost use Rattle.stored_binaries.specs.Inner.Places.{number_at, ArePairs, AreOrdered};
 
 use crate::numbers::binary_number;
@@ -110,9 +111,8 @@ impl<'a> BinaryPlaces<'a> {
 
     /// The place in the index of the first `binary` section with an address.
     pub(crate) fn first(&self, address: u64) -> Option<usize>
-        ensures place { result ≡ binary_place (sections_in self.now) address }
+        ensures section { section_in self.now result ≡ binary_section address (sections_in self.now) }
         ensures within { IfSome result (λ i. i < length self.now.headers) }
-        ensures listed { IfSome result (λ i. i < length (sections_in self.now)) }
     {
         let at = count_below(&self.pairs, address);
         let pair = self.pairs.get(at)?;

@@ -2,11 +2,10 @@
 ghost use Rattle.std.specs.Prelude.{◌≡◌, ℕ, ◌+◌, ◌≤◌, ◌<◌, List, length, take, drop, nat_le, OnErr, IfOk};
 ghost use Rattle.std.specs.Option.{option_map};
 ghost use Rattle.dump_io.specs.Dumps.{told, DeviceFailed, ReadsAtMost};
-ghost use Rattle.dump_sections.specs.Bodies.{section_at, body_length};
+ghost use Rattle.dump_sections.specs.Bodies.{section_at, body_length, body_of};
 ghost use Rattle.dump_sections.specs.Index.{IsBuiltOver};
 ghost use Rattle.stored_binaries.specs.Payloads.{payload_of};
 ghost use Rattle.stored_binaries.specs.Ranges.{bytes_from, in_body, in_dump};
-ghost use Rattle.stored_binaries.specs.Inner.Leads.{body_at};
 
 use crate::few_bytes::FewBytes;
 use crate::leads::{Lead, body_of, read_lead, read_part};
@@ -86,7 +85,7 @@ fn read_cover<D: Dumps>(
     ensures reads { ReadsAtMost (D.state dumps.old) (D.state dumps.new) 64 }
     ensures failed { OnErr result (DeviceFailed (D.state dumps.old) (D.state dumps.new)) }
     ensures bytes { IfOk result (λ bytes. (dump : List ℕ) → (D.state dumps.old).now ≡ told dump
-        → bytes ≡ option_map (λ bytes. take count (drop cover.now.skip bytes)) (payload_of enc cover.now.bytes (take cover.now.chars (drop from (body_at dump index.now place))))) }
+        → bytes ≡ option_map (λ bytes. take count (drop cover.now.skip bytes)) (payload_of enc cover.now.bytes (take cover.now.chars (drop from (body_of dump (section_at index.now place)))))) }
 {
     let mut buffer = [0; 64];
     let chars = &mut buffer[..cover.chars as usize];
@@ -113,7 +112,7 @@ fn read_bytes<D: Dumps>(
     ensures reads { ReadsAtMost (D.state dumps.old) (D.state dumps.new) 64 }
     ensures failed { OnErr result (DeviceFailed (D.state dumps.old) (D.state dumps.new)) }
     ensures bytes { IfOk result (λ bytes. (dump : List ℕ) → (D.state dumps.old).now ≡ told dump
-        → bytes ≡ bytes_from enc lead.now.length (drop lead.now.chars (body_at dump index.now place)) offset count) }
+        → bytes ≡ bytes_from enc lead.now.length (drop lead.now.chars (body_of dump (section_at index.now place))) offset count) }
 {
     if count == 0 {
         return Ok(Some(FewBytes::new(&[])));
@@ -152,7 +151,7 @@ fn read_shown<D: Dumps>(
     ensures reads { ReadsAtMost (D.state dumps.old) (D.state dumps.new) 128 }
     ensures failed { OnErr result (DeviceFailed (D.state dumps.old) (D.state dumps.new)) }
     ensures bytes { IfOk result (λ bytes. (dump : List ℕ) → (D.state dumps.old).now ≡ told dump
-        → bytes ≡ in_body enc range.now.offset range.now.size (body_at dump index.now place)) }
+        → bytes ≡ in_body enc range.now.offset range.now.size (body_of dump (section_at index.now place))) }
 {
     let Some(lead) = read_lead(dumps, index, place)? else {
         return Ok(None);

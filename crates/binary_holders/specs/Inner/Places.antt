@@ -2,11 +2,11 @@
 use Rattle.std.specs.Prelude.{◌≡◌, ◌≢◌, ℕ, ◌<◌, List, length, map, position, slice_index, Option, None, Some, IfSome, codes}
 use Rattle.std.specs.BTreeMap.{BTreeMap, get}
 use Rattle.std.specs.Ordering.{nat_cmp}
+use Rattle.dump_sections.specs.Bodies.{section_in, body_in, body_size}
 use Rattle.dump_sections.specs.Index.{Contents}
 use Rattle.dump_sections.specs.Lookups.{is_named}
 use Rattle.dump_sections.specs.Sections.{Section}
 use Rattle.heap_cells.specs.Loading.{enc_of}
-use Rattle.dump_sections.specs.Bodies.{section_in, body_in, body_size}
 use Rattle.binary_holders.specs.declared.sought.Binary.{Binary}
 use Rattle.binary_holders.specs.HeapReferences.{references}
 

@@ -1,15 +1,8 @@
 -- The beginning of a `binary` section's body.
 use Rattle.std.specs.Prelude.{◌≡◌, ℕ, List, drop, Option}
 use Rattle.std.specs.Option.{option_map}
-use Rattle.std.specs.List.{between}
-use Rattle.dump_sections.specs.Index.{Contents}
-use Rattle.dump_sections.specs.Bodies.{section_at}
 use Rattle.term_forms.specs.Words.{led_of}
 use Rattle.stored_binaries.specs.declared.leads.Lead.{Lead}
-
--- the body of the section at a place, in the bytes of a dump
-abbrev pub body_at : List ℕ → Contents → ℕ → List ℕ
-body_at dump index place = between (section_at index place).body (section_at index place).end dump
 
 -- the length with which a body begins, and the characters after it
 abbrev pub led_by : List ℕ → Lead → ℕ × List ℕ

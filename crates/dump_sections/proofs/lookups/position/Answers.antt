@@ -2,10 +2,10 @@ use Rattle.std.proofs.Common.{◌≡◌, false, Some, None, [], get_or, sym, ◌
 use Rattle.std.proofs.lemmas.List.Elements.{All-from_get_or}
 use Rattle.std.proofs.lemmas.Option.{get_or_from_slice_get}
 use Rattle.dump_io.specs.Laws.Lists.{position-at, position-none}
+use Rattle.dump_sections.specs.FindingLaws.{section-found}
 use Rattle.dump_sections.specs.Index.{sections_in}
 use Rattle.dump_sections.specs.Inner.Wanted.{is_wanted}
 use Rattle.dump_sections.specs.Sections.{Section, section}
-use Rattle.dump_sections.proofs.Finding.{section-found}
 use Rattle.dump_sections.proofs.lookups.position.Goals as goal
 
 pub loop-i-preserved : goal.loop-i-preserved

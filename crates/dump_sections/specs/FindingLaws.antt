@@ -1,4 +1,4 @@
--- The first section that passes a test, by its place.
+-- Laws of the definitions, each with its proof, for the proofs of callers: the first section that passes a test, by its place.
 use Rattle.std.proofs.Common.{◌≡◌, ℕ, Bool, true, false, List, [], length, Option, None, Some, sym, ◌∙◌, ap, inl, inr}
 use Rattle.dump_sections.specs.Index.{Contents, sections_in}
 use Rattle.dump_sections.specs.Sections.{Section, section}
