@@ -16,7 +16,7 @@ use Rattle.dump_sections.specs.Lookups.{has_tag, is_named, first_named}
 use Rattle.dump_sections.specs.Sections.{Section, sections}
 use Rattle.heap_cells.specs.Cells.{cells_of, own_count, weight, Cell}
 use Rattle.heap_cells.specs.HeapMap.{HeapMap, number_at, form_at}
-use Rattle.heap_cells.specs.Loading.{enc_of, heap_section, literals_section, section_fault, IsMapOf, too_large as heap_too_large, IsAnswerFor, IsCauseOf, heap_bodies}
+use Rattle.heap_cells.specs.Loading.{enc_of, heap_section, literals_section, bodies_fault, heap_fault_of, IsMapOf, IsAnswerFor, IsCauseOf, heap_bodies}
 use Rattle.heap_cells.specs.declared.faults.HeapFault.{HeapFault}
 use Rattle.report_text.specs.declared.refusals.Refusal.{Refusal}
 use Rattle.report_text.specs.declared.refusals.Refusal.TheVariants.{SectionTooLarge, TooDense}
@@ -49,7 +49,7 @@ use Rattle.dump_command.specs.Inner.Loads.{roots_at, reach_text, terms_loaded, A
 use Rattle.dump_command.specs.declared.commands.reach.RootPlaces.{RootPlaces}
 use Rattle.dump_command.specs.declared.commands.reach.RootBodies.{RootBodies}
 use Rattle.dump_command.specs.declared.commands.reach.Loaded.{Loaded}
-use Rattle.dump_command.proofs.Reading.{none-map, refused, body_fault, is_some-map, StopsFor-judged, StopsFor-large, StopsFor-too, Takes-listed, HasRead-listed, IsHalted-held}
+use Rattle.dump_command.proofs.Reading.{some-refused, none-map, refused, body_fault, is_some-map, StopsFor-judged, StopsFor-large, StopsFor-too, Takes-listed, HasRead-listed, IsHalted-held}
 use Rattle.dump_sections.specs.LoadingLaws.{bodies-one}
 use Rattle.dump_command.proofs.Runs.{sections-index}
 
@@ -76,10 +76,6 @@ fault-bodies limit bodies = by (first_large limit bodies)
 pub fault-heap : (limit : ℕ) (pid : List ℕ) (index : Contents)
     → option_map stop_of_heap (bodies_fault limit (heap_bodies pid (sections_in index))) ≡ option_map Refused (too_large limit (heap_bodies pid (sections_in index)))
 fault-heap limit pid index = fault-bodies limit (heap_bodies pid (sections_in index))
-
-some-refused : (cause : Option Refusal) (why : Refusal) → option_map Refused cause ≡ Some (Refused why) → cause ≡ Some why
-some-refused None why is = absurd (let no : ⊥ = cc (is) in no)
-some-refused (Some other) why is = let same : other ≡ why = cc (is) in ap Some same
 
 pub heap-too-large : (limit : ℕ) (pid : List ℕ) (index : Contents) (at len : ℕ) → bodies_fault limit (heap_bodies pid (sections_in index)) ≡ Some (heap_faults.SectionTooLarge at len)
     → too_large limit (heap_bodies pid (sections_in index)) ≡ Some (SectionTooLarge at len)

@@ -19,7 +19,8 @@ use Rattle.glance_text.specs.Holders.{binaries_report, holders_report}
 use Rattle.command_words.specs.Command.{Command, binaries, holders}
 use Rattle.dump_command.specs.Holders.{binaries_listing, binaries_over, fronts_bytes, heaps_bytes, holders_listing, holders_over, pids_of}
 use Rattle.dump_command.specs.Report.{bodies, no_subject, refusal_held, refusal_listed, reread, too_large}
-use Rattle.dump_command.specs.Terms.{binary_at, binary_cause}
+use Rattle.dump_command.specs.Terms.{binary_cause}
+use Rattle.stored_binaries.specs.StoredBinaries.{binary_section}
 use Rattle.dump_command.specs.Inner.Reading.{IsIndexed, IsHalted, Takes}
 use Rattle.dump_command.specs.Inner.Stops.{stop_of_body, stop_of_holders}
 use Rattle.dump_command.proofs.Reading.{is_some-map, refused, StopsFor-bodies, Takes-listed}
@@ -97,6 +98,6 @@ module _ (bytes : List ℕ) (index : Contents) (table : ProcessTable) (of : IsIn
 pub HearsHeaps-binaries : (file : List ℕ) (limits : Numbers) (index : Contents) → HearsHeaps (binaries file) limits index (λ bytes. fronts_bytes bytes + heaps_bytes bytes)
 HearsHeaps-binaries file limits index = record { there = refl; loads = λ ss. refl; held = λ bytes. refl; taken = λ bytes. refl }
 
-pub HearsHeaps-holders : (file : List ℕ) (addr : ℕ) (limits : Numbers) (index : Contents) → binary_cause addr (binary_at addr (sections_in index)) ≡ None
+pub HearsHeaps-holders : (file : List ℕ) (addr : ℕ) (limits : Numbers) (index : Contents) → binary_cause addr (binary_section addr (sections_in index)) ≡ None
     → HearsHeaps (holders file addr) limits index heaps_bytes
 HearsHeaps-holders file addr limits index there = record { there = there; loads = λ ss. refl; held = λ bytes. refl; taken = λ bytes. refl }

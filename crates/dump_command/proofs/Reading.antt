@@ -11,7 +11,8 @@ use Rattle.dump_io.specs.Dumps.{DeviceState, told, ReadsAtMost, DeviceFailed}
 use Rattle.dump_io.specs.Laws.Reads.{ReadsAtMost-none, ReadsAtMost-within}
 use Rattle.dump_io.specs.Limits.{Numbers}
 use Rattle.dump_sections.specs.Bodies.{body_length, body_in, body_size, IsBodyIn, section_in, body_of}
-use Rattle.dump_sections.specs.Index.{Contents, sections_in, IsBuiltOver, IsIndexOf}
+use Rattle.dump_sections.specs.Index.{Contents, index_of, sections_in, IsBuiltOver, IsIndexOf}
+use Rattle.dump_sections.specs.Laws.{index-is}
 use Rattle.dump_sections.specs.Sections.{Section, sections}
 use Rattle.dump_sections.specs.declared.bodies.BodyFault.{BodyFault}
 use Rattle.dump_sections.specs.Loading.{bodies_length, first_large, AreRefused}
@@ -26,7 +27,7 @@ use Rattle.dump_sections.specs.Tags.{tag_counts, tags_in}
 use Rattle.dump_sections.specs.declared.version.Version.{Version}
 use Rattle.dump_sections.specs.declared.version.Version.TheVariants.{V03, V04, V05}
 use Rattle.report_text.specs.Reports.{info_report, version_text}
-use Rattle.dump_command.specs.Report.{bodies, no_subject, refusal_held, refusal_listed, report, report_status, reread, too_large, fields_of, first_section, tags_of}
+use Rattle.dump_command.specs.Report.{bodies, no_subject, refusal_held, refusal_listed, report, report_status, reread, too_large, fields_of, first_section}
 use Rattle.dump_command.specs.Inner.Reading.{IsIndexed, HasRead, IsHalted, ReadsFor, StopsFor, Takes, Tells}
 use Rattle.dump_command.specs.Inner.Runs.{IsEnding}
 use Rattle.dump_command.specs.Inner.Stops.{or_stop, stop_of_body, Judges}
@@ -52,6 +53,10 @@ none-map f (Some x) is = absurd (let no : ⊥ = cc is in no)
 pub is_some-map : {X Y : Type 0} (f : X → Y) (o : Option X) → is_some (option_map f o) ≡ is_some o
 is_some-map f None = refl
 is_some-map f (Some x) = refl
+
+pub some-refused : (cause : Option Refusal) (why : Refusal) → option_map Refused cause ≡ Some (Refused why) → cause ≡ Some why
+some-refused None why is = absurd (let no : ⊥ = cc (is) in no)
+some-refused (Some other) why is = let same : other ≡ why = cc (is) in ap Some same
 
 module _ (before after : DeviceState) (P : Refusal → Type 0) where
   -- for something else
@@ -292,11 +297,10 @@ version_text-named id version is =
 pub info_text-report : (file bytes : List ℕ) (index : Contents) (body : List ℕ) → IsIndexOf bytes index → body ≡ body_in bytes (section_in index (Some 0))
     → info_report (version_text index.version) index.headers index.size (tag_counts (tags_in index)) body ≡ report (info file) bytes
 info_text-report file bytes index body of held =
-    let same = sections-index bytes index of in
     let tags = tag_counts (tags_in index) in
     ap (λ v. info_report v index.headers index.size tags body) (version_text-named (first_id bytes) index.version of.version)
     ∙ ap (λ hs. info_report (first_id bytes) hs index.size tags body) of.headers
     ∙ ap (λ n. info_report (first_id bytes) (headers bytes) n tags body) of.size
-    ∙ ap (λ ss. info_report (first_id bytes) (headers bytes) (length bytes) (tag_counts (tags_of ss)) body) same
-    ∙ ap (λ b. info_report (first_id bytes) (headers bytes) (length bytes) (tag_counts (tags_of (sections bytes))) b)
-    (held ∙ ap (λ ss. body_of bytes (first_section ss)) same)
+    ∙ ap (λ i. info_report (first_id bytes) (headers bytes) (length bytes) (tag_counts (tags_in i)) body) (index-is bytes index of)
+    ∙ ap (λ b. info_report (first_id bytes) (headers bytes) (length bytes) (tag_counts (tags_in (index_of bytes))) b)
+    (held ∙ ap (λ ss. body_of bytes (first_section ss)) (sections-index bytes index of))

@@ -1,16 +1,15 @@
 -- What each command reports on the bytes of a dump, and why it
 -- is refused. A command without a file reports on no bytes.
-use Rattle.std.specs.Prelude.{ℕ, ◌+◌, ◌*◌, List, [], ◌∷◌, ◌++◌, map, length, slice_get, unwrap_or, Option, None, Some, Bool, true, false, codes, find, is_some, if◌then◌else◌}
-use Rattle.std.specs.List.{between}
-use Rattle.std.specs.Option.{option_map, option_or, option_and}
+use Rattle.std.specs.Prelude.{ℕ, ◌+◌, ◌*◌, List, [], ◌∷◌, ◌++◌, length, Option, None, Some, Bool, true, false, codes, is_some, if◌then◌else◌}
+use Rattle.std.specs.Option.{option_map, option_or, option_and, option_to_list}
 use Rattle.dump_io.specs.Limits.{Numbers}
 use Rattle.dump_io.specs.Lines.{headers}
-use Rattle.dump_sections.specs.Bodies.{body_length, body_in}
+use Rattle.dump_sections.specs.Bodies.{at_place, body_in, body_length, body_of}
 use Rattle.dump_sections.specs.Index.{index_of}
 use Rattle.dump_sections.specs.Versions.{first_id}
 use Rattle.section_index.specs.Opening.{opening}
-use Rattle.dump_sections.specs.Sections.{Section, section, sections, tag_of}
-use Rattle.dump_sections.specs.Tags.{tag_counts}
+use Rattle.dump_sections.specs.Sections.{Section, sections}
+use Rattle.dump_sections.specs.Tags.{tag_counts, tags_in}
 use Rattle.report_text.specs.declared.refusals.Refusal.{Refusal}
 use Rattle.report_text.specs.declared.refusals.Refusal.TheVariants.{Open, NoProcess, SectionTooLarge}
 use Rattle.root_views.specs.declared.kinds.RootKind.TheVariants.{Stack, Dict, Mail}
@@ -24,7 +23,7 @@ use Rattle.dump_audit.specs.Findings.{findings}
 use Rattle.json_report.specs.Trees.{audit_tree, json_text}
 use Rattle.process_table.specs.Processes.{process_table}
 use Rattle.process_table.specs.Records.{record_sections}
-use Rattle.dump_sections.specs.Lookups.{has_tag, is_named}
+use Rattle.dump_sections.specs.Lookups.{first_named, first_tagged}
 use Rattle.dump_sections.specs.Loading.{bodies_length, first_large}
 use Rattle.table_sections.specs.declared.kinds.TableKind.TheVariants.{Ets}
 use Rattle.table_sections.specs.Tables.{listed, table_of}
@@ -37,8 +36,9 @@ use Rattle.dump_command.specs.Audits.{audit_in, status_of}
 use Rattle.command_words.specs.Command.{Command, index, info, procs, proc, memory, table, roots, term, ext, reach, cells, binary, binaries, holders, triage, links, redact, audit, audit_json, make, trial, file_of}
 use Rattle.dump_command.specs.Holders.{binaries_listing, fronts_bytes, heaps_bytes, holders_listing}
 use Rattle.dump_command.specs.Triage.{Told, triage_over}
-use Rattle.dump_command.specs.Terms.{base_of, binary_at, binary_cause, bad_binary, binary_count, binary_of, ext_of, heap_map, no_address, no_external, reach_of, roots_of, roots_section, term_of, too_dense}
-use Rattle.heap_cells.specs.Loading.{heap_section, literals_section}
+use Rattle.dump_command.specs.Terms.{base_of, binary_cause, bad_binary, binary_count, binary_of, ext_of, heap_map, no_address, no_external, reach_of, roots_of, roots_section, term_of, too_dense}
+use Rattle.stored_binaries.specs.StoredBinaries.{binary_section}
+use Rattle.heap_cells.specs.Loading.{heap_bodies}
 
 -- the first of these sections
 abbrev pub first_section : List Section → Section
@@ -74,7 +74,7 @@ bodies (term file pid addr nodes marked) sections = heap_bodies pid sections
 bodies (ext file pid addr) sections = heap_bodies pid sections
 bodies (reach file pid) sections = root_bodies pid sections ++ heap_bodies pid sections
 bodies (cells file pid) sections = heap_bodies pid sections
-bodies (binary file addr) sections = option_to_list (binary_at addr sections)
+bodies (binary file addr) sections = option_to_list (binary_section addr sections)
 bodies (binaries file) sections = record_sections sections
 bodies (holders file addr) sections = record_sections sections
 bodies (triage file most) sections = triage_sections sections
@@ -148,8 +148,8 @@ no_subject (term file pid addr nodes marked) sections = no_process pid sections
 no_subject (ext file pid addr) sections = no_process pid sections
 no_subject (reach file pid) sections = no_process pid sections
 no_subject (cells file pid) sections = no_process pid sections
-no_subject (binary file addr) sections = binary_cause addr (binary_at addr sections)
-no_subject (holders file addr) sections = binary_cause addr (binary_at addr sections)
+no_subject (binary file addr) sections = binary_cause addr (binary_section addr sections)
+no_subject (holders file addr) sections = binary_cause addr (binary_section addr sections)
 no_subject cmd sections = None
 
 -- the refusal of the first of these bodies that has more bytes than the limit

@@ -1,8 +1,8 @@
 -- What the commands on the terms of a process, and on a binary, report on the bytes of an accepted dump.
-use Rattle.std.specs.Prelude.{ℕ, Bool, List, [], ◌++◌, length, Option, None, Some, codes, find, is_some, nat_lt, unwrap_or, if◌then◌else◌}
-use Rattle.std.specs.Option.{option_and_then, option_map, option_or}
+use Rattle.std.specs.Prelude.{ℕ, Bool, List, [], ◌++◌, length, Option, None, Some, codes, is_some, nat_lt, unwrap_or, if◌then◌else◌}
+use Rattle.std.specs.Option.{option_and_then, option_map, option_map_or, option_or}
 use Rattle.dump_sections.specs.Index.{index_of}
-use Rattle.dump_sections.specs.Lookups.{has_hex, has_tag, is_named}
+use Rattle.dump_sections.specs.Lookups.{first_named}
 use Rattle.dump_sections.specs.Sections.{Section, sections}
 use Rattle.binary_payloads.specs.declared.enc.Enc.{Enc}
 use Rattle.term_forms.specs.Elements.{Element}
@@ -10,13 +10,14 @@ use Rattle.term_forms.specs.Forms.{HeapForm, Ext}
 use Rattle.heap_cells.specs.Cells.{cells_of, own_count, weight}
 use Rattle.etf_terms.specs.Walks.{bad_place}
 use Rattle.heap_cells.specs.HeapMap.{HeapMap, form_at, number_at}
-use Rattle.heap_cells.specs.Loading.{enc_of}
+use Rattle.heap_cells.specs.Loading.{enc_of, heap_section, literals_section}
 use Rattle.dump_sections.specs.Bodies.{body_in}
 use Rattle.heap_reach.specs.Rounds.{reached_by}
 use Rattle.binary_refs.specs.declared.entries.Entry.{Entry}
 use Rattle.binary_refs.specs.Previews.{binaries, previews_of}
 use Rattle.binary_refs.specs.Wholes.{whole_bytes}
 use Rattle.stored_binaries.specs.Payloads.{payload_of}
+use Rattle.stored_binaries.specs.StoredBinaries.{binary_section}
 use Rattle.term_unfold.specs.Walks.{Walk, walk}
 use Rattle.report_text.specs.declared.refusals.Refusal.{Refusal}
 use Rattle.report_text.specs.declared.refusals.Refusal.TheVariants.{TooDense, NoAddress, NotExt, BadExt, NoBinary, BadBinary}
@@ -144,10 +145,6 @@ reach_of pid bytes = reach_report (heap_map pid bytes) (reached pid bytes)
 abbrev pub binary_count : List ℕ → List ℕ → ℕ
 binary_count pid bytes = length (binaries (heap_map pid bytes).cells)
 
--- the first `binary` section whose id is the address in hex
-abbrev pub binary_at : ℕ → List Section → Option Section
-binary_at addr sections = first_hex (codes "binary") addr sections
-
 -- the report of the binary at an address, with the bytes that its section writes
 abbrev pub binary_of : ℕ → List ℕ → List ℕ
 binary_of addr bytes = binary_report addr (unwrap_or (whole_bytes bytes (index_of bytes) addr) [])
@@ -159,7 +156,7 @@ bad_cause found None = option_map (λ s. BadBinary s.at) found
 
 -- why a binary can't be written, or `None`
 abbrev pub bad_binary : ℕ → List ℕ → Option Refusal
-bad_binary addr bytes = bad_cause (binary_at addr (sections bytes)) (whole_bytes bytes (index_of bytes) addr)
+bad_binary addr bytes = bad_cause (binary_section addr (sections bytes)) (whole_bytes bytes (index_of bytes) addr)
 
 -- no section is that of the binary
 abbrev pub binary_cause : ℕ → Option Section → Option Refusal

@@ -3,14 +3,15 @@
 ghost use Rattle.std.specs.Prelude.{◌≡◌, ◌+◌, ◌<◌, List, length, None, Some, IfOk, IfErr, IfSome, IsSome, OnOk, MatchResult};
 ghost use Rattle.dump_io.specs.Dumps.{ReadsAtMost};
 ghost use Rattle.heap_cells.specs.HeapMap.{number_at};
-ghost use Rattle.heap_cells.specs.Loading.{heap_section, literals_section};
+ghost use Rattle.heap_cells.specs.Loading.{heap_bodies};
 ghost use Rattle.dump_sections.specs.Bodies.{section_at, body_size, section_in, IsBodyIn};
 ghost use Rattle.dump_sections.specs.Index.{IsBuiltOver, sections_in};
 ghost use Rattle.dump_sections.specs.Sections.{Section};
-ghost use Rattle.dump_sections.specs.Loading.{first_large, large_fault, AreRefused};
+ghost use Rattle.dump_sections.specs.Loading.{bodies_length, first_large, large_fault, AreRefused};
 ghost use Rattle.dump_command.specs.Report.{no_process, process_section};
 ghost use Rattle.std.specs.Option.{option_to_list};
-ghost use Rattle.dump_command.specs.Terms.{address_cause, base_of, binary_at, binary_cause};
+ghost use Rattle.dump_command.specs.Terms.{address_cause, base_of, binary_cause};
+ghost use Rattle.stored_binaries.specs.StoredBinaries.{binary_section};
 ghost use Rattle.dump_command.specs.Inner.Reading.{heap_listed, HoldsHeap, IsHeapless};
 ghost use Rattle.dump_command.specs.Inner.Loads.{HasPlaces};
 ghost use Rattle.dump_command.specs.Inner.Stops.{Judges};
@@ -37,7 +38,7 @@ pub(crate) fn find_process(at: &Opened<'_>, pid: &[u8]) -> Result<usize, Stop>
 
 /// Refuses an address for which there is no section of a binary.
 pub(crate) fn find_binary(at: &Opened<'_>, addr: u64) -> Result<(), Stop>
-    ensures { Judges (binary_cause addr (binary_at addr (sections_in at.now.index.now))) result }
+    ensures { Judges (binary_cause addr (binary_section addr (sections_in at.now.index.now))) result }
 {
     match at.index.first_hex(b"binary", addr) {
         None => Err(Stop::Refused(Refusal::NoBinary { addr })),

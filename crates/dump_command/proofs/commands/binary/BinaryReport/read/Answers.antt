@@ -3,7 +3,8 @@ use Rattle.std.specs.Option.{unwrap_or}
 use Rattle.term_text.specs.Roots.{binary_report}
 use Rattle.dump_sections.specs.Sections.{sections}
 use Rattle.command_words.specs.Command.{binary}
-use Rattle.dump_command.specs.Terms.{bad_cause, binary_at}
+use Rattle.dump_command.specs.Terms.{bad_cause}
+use Rattle.stored_binaries.specs.StoredBinaries.{binary_section}
 use Rattle.dump_command.proofs.BinaryLoads.{IsHalted-binary, bytes-index, few-binary, listed-binary, unread-binary}
 use Rattle.dump_command.proofs.Reading.{HasRead-listed, ReadsAtMost-same, Takes-listed}
 use Rattle.dump_command.proofs.commands.binary.BinaryReport.read.Goals as goal
@@ -18,7 +19,7 @@ returns-in-Ok-clause-reads g c =
     HasRead-listed cmd _ index _ _ _ (Takes-listed cmd _ index _ _ _ listed read.reads (λ bytes all. few-binary t.file.now t.addr _ index _ bytes all)) listed
     (λ bytes all.
     let known = sym (bytes-index bytes index t.addr all.of) ∙ read.bytes bytes all.opened in (
-      ap (bad_cause (binary_at t.addr (sections bytes))) known,
+      ap (bad_cause (binary_section t.addr (sections bytes))) known,
       ap (λ b. binary_report t.addr (unwrap_or b [])) (sym known),
       refl,
     ))
