@@ -17,7 +17,7 @@ abbrev is_digit_of : ℕ → Bool
 is_digit_of c = option_map_or (λ v. to_ascii_uppercase c == slice_index upper_digits v) (hex_digit_value c) true
 
 -- the digits are ASCII
-digit-ascii : (c v : ℕ) → hex_digit_value c ≡ Some v → c < 128
+pub digit-ascii : (c v : ℕ) → hex_digit_value c ≡ Some v → c < 128
 digit-ascii c v h = grind arith
 
 all_digits : all_below is_digit_of 128 ≡ true
@@ -34,7 +34,7 @@ digit-upper c v h = digit_of c v (hex_digit_value c) h (all_below_at is_digit_of
 value-upper : (c : ℕ) → hex_digit_value (to_ascii_uppercase c) ≡ hex_digit_value c
 value-upper c = grind (arith, nat_tests)
 
-digit-read : (c v : ℕ) → v < 16 → to_ascii_uppercase c ≡ slice_index upper_digits v → hex_digit_value c ≡ Some v
+pub digit-read : (c v : ℕ) → v < 16 → to_ascii_uppercase c ≡ slice_index upper_digits v → hex_digit_value c ≡ Some v
 digit-read c v lt e = sym (value-upper c) ∙ ap hex_digit_value e ∙ IsDigits-upper_digits v lt
 
 -- the value of a result that gave one

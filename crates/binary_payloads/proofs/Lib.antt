@@ -5,3 +5,4 @@ pub mod HexPayload
 pub mod PayloadBytes
 pub mod Pieces
 pub mod Ranges
+pub mod WholeGroups

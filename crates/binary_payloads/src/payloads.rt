@@ -1,13 +1,11 @@
 // The payloads of binaries: the characters that write their bytes.
-ghost use Rattle.std.specs.Prelude.{◌≡◌, ◌↔◌, ℕ, ◌%◌, List, ◌++◌, length, IsTrue};
-ghost use Rattle.binary_payloads.specs.Payload.{IsPayload, IsPayloadOf, encoding, chars_of, group_of};
+ghost use Rattle.std.specs.Prelude.{◌≡◌, ◌↔◌, ℕ, ◌-◌, ◌%◌, ◌^◌, ◌<◌, List, ◌++◌, length, IsTrue};
+ghost use Rattle.std.specs.List.{list_all};
+ghost use Rattle.binary_payloads.specs.Payload.{IsPayload, IsPayloadOf, encoding, chars_of, group_of, is_digit_of};
 ghost use Rattle.binary_payloads.specs.ReadingPayloads.{payload_bytes};
 
 use crate::enc::Enc;
 use base64::engine::general_purpose::STANDARD;
-
-// How many bytes are decoded at once: a whole number of groups, and few enough to be kept on the stack.
-const PIECE: usize = 768;
 
 fn hex_payload(chars: &[u8], into: &mut [u8]) -> bool
     ensures found { IsTrue result ↔ IsPayloadOf Enc.Hex chars.now (length into.old) }
@@ -38,35 +36,75 @@ pub fn payload(chars: &[u8], enc: Enc, into: &mut [u8]) -> bool
     }
 }
 
-// How many characters write `PIECE` bytes.
-fn piece_chars(enc: Enc) -> usize
-    ensures { result ≡ chars_of enc PIECE }
+/// Whether the character may write a part of a byte: a hex digit of
+/// either case; in base64 a letter, a digit, `+` or `/`, but no padding.
+pub fn is_digit(c: u8, enc: Enc) -> bool
+    ensures { result ≡ is_digit_of enc c }
 {
     match enc {
-        Enc::Hex => 2 * PIECE,
-        Enc::Base64 => PIECE / 3 * 4,
+        Enc::Hex => c.is_ascii_hexdigit(),
+        Enc::Base64 => c.is_ascii_alphabetic() || c == b'+' || (b'/' <= c && c <= b'9'),
     }
+}
+
+// Whether each character is one. It looks at all of them, so that it looks at several at a time.
+fn are_digits(chars: &[u8], enc: Enc) -> bool
+    ensures { result ≡ list_all (is_digit_of enc) chars.now }
+{
+    let mut all = true;
+    for c in chars {
+        all &= is_digit(*c, enc);
+    }
+    all
+}
+
+// How many of so many bytes are behind their last whole group.
+fn left_of(size: usize, enc: Enc) -> usize
+    ensures value { result ≡ size % group_of enc }
+    ensures few { result < 3 }
+{
+    match enc {
+        Enc::Hex => 0,
+        Enc::Base64 => size % 3,
+    }
+}
+
+// How many characters write the whole groups of so many bytes.
+fn front_len(size: usize, enc: Enc) -> usize
+    requires { size < 2 ^ 63 }
+    ensures { result ≡ chars_of enc (size - size % group_of enc) }
+{
+    match enc {
+        Enc::Hex => 2 * size,
+        Enc::Base64 => size / 3 * 4,
+    }
+}
+
+// Whether the characters are the payload of one or two bytes, or of none.
+fn is_last(chars: &[u8], enc: Enc, size: usize) -> bool
+    requires { size < 3 }
+    ensures { IsTrue result ↔ IsPayloadOf enc chars.now size }
+{
+    if size == 0 {
+        return chars.is_empty();
+    }
+    let mut buffer = [0; 2];
+    payload(chars, enc, &mut buffer[..size])
 }
 
 /// Whether the characters are the payload of exactly `size` bytes.
 pub fn is_payload(chars: &[u8], enc: Enc, size: u64) -> bool
     ensures { IsTrue result ↔ IsPayloadOf enc chars.now size }
 {
-    let mut buffer = [0; PIECE];
-    let width = piece_chars(enc);
-    let mut rest = chars;
-    let mut left = size;
-    while left > PIECE as u64 {
-        let Some((piece, after)) = rest.split_at_checked(width) else {
-            return false;
-        };
-        if !payload(piece, enc, &mut buffer) {
-            return false;
-        }
-        rest = after;
-        left -= PIECE as u64;
+    // Each byte takes more than one character.
+    if size > chars.len() as u64 {
+        return false;
     }
-    payload(rest, enc, &mut buffer[..left as usize])
+    let size = size as usize;
+    let Some((front, last)) = chars.split_at_checked(front_len(size, enc)) else {
+        return false;
+    };
+    are_digits(front, enc) && is_last(last, enc, left_of(size, enc))
 }
 
 /// The law by which a payload is read in pieces: the encoding of bytes is the encoding of a prefix of

@@ -1,49 +1,49 @@
-use Rattle.std.proofs.Common.{◌≡◌, ℕ, ◌-◌, ◌%◌, ◌≤◌, List, take, drop, refl, sym, ◌∙◌, ap, subst, arith}
-use Rattle.binary_payloads.specs.declared.enc.Enc.{Enc}
-use Rattle.binary_payloads.specs.declared.enc.Enc.TheVariants.{Hex, Base64}
-use Rattle.binary_payloads.specs.Payload.{IsPayloadOf, chars_of, group_of}
-use Rattle.binary_payloads.proofs.Pieces.{too_few, payload_of-front, payload_of-rest, payload_of-whole}
+use Rattle.std.proofs.Common.{◌-◌, ◌%◌, take, drop, refl, sym, ◌∙◌, ap, arith}
+use Rattle.std.proofs.lemmas.Bool.{false≢true}
+use Rattle.binary_payloads.specs.Payload.{group_of}
+use Rattle.binary_payloads.proofs.Pieces.{too_few}
+use Rattle.binary_payloads.proofs.WholeGroups.{AreCut, cut-made, cut-digits, fewer}
 use Rattle.binary_payloads.proofs.payloads.is_payload.Goals as goal
 
--- a piece is of whole groups
-whole : (enc : Enc) → 768 % group_of enc ≡ 0
-whole Hex = refl
-whole Base64 = refl
-
--- the same characters and the same room
-same_payload : (enc : Enc) (x y : List ℕ) (m n : ℕ) → x ≡ y → m ≡ n → IsPayloadOf enc x m → IsPayloadOf enc y n
-same_payload enc x y m n e room is = subst (λ k. IsPayloadOf enc y k) room (subst (λ chars. IsPayloadOf enc chars m) e is)
+pub returns-then-size-chars : goal.returns-then-size-chars
+returns-then-size-chars c = (λ no. cc no, λ is. absurd (fewer c.args.enc c.args.chars.now c.args.size c.if-size-chars.true is))
 
 pub returns-in_default : goal.returns-in_default
 returns-in_default c = (
   λ no. cc no,
-  λ is. absurd (too_few c.args.enc c.loop-left.rest.now 768 c.loop-left.left c.piece_chars-width.result c.piece_chars-width.ensures (omega arith) c.in_default.ensures.cases (c.loop-left.invariant.1.0 is)),
+  λ is. absurd (too_few c.args.enc c.args.chars.now (c.args.size - c.args.size % group_of c.args.enc) c.args.size c.front_len.result c.front_len.ensures (omega arith) c.in_default.ensures.cases is),
 )
 
-pub returns-then-not-payload : goal.returns-then-not-payload
-returns-then-not-payload c =
-    let cut = c.in-Some.ensures.cases in (
-      λ no. cc no,
-      λ is.
-          let rest = c.loop-left.invariant.1.0 is in
-          let front = payload_of-front c.args.enc c.loop-left.rest.now 768 c.loop-left.left (whole c.args.enc) (omega arith) rest in
-          let piece = same_payload c.args.enc _ _ 768 _ (sym (cut.1 ∙ ap (λ w. take w c.loop-left.rest.now) c.piece_chars-width.ensures)) (sym c.loop-left.invariant.0) front in
-          sym c.if-not-payload.true ∙ c.payload.ensures.found.1 piece,
+pub returns-then-are_digits : goal.returns-then-are_digits
+returns-then-are_digits c =
+    let front = c.in-Some.front.now in
+    let last = c.in-Some.last.now in
+    let size = c.args.size in
+    let parts = c.in-Some.ensures.cases in
+    let width = c.front_len.ensures in
+    let cut : AreCut c.args.enc c.args.chars.now front last size c.left_of.result = record {
+      fits = omega (arith, parts.0, width);
+      front = parts.1 ∙ ap (λ n. take n c.args.chars.now) width;
+      last = parts.2 ∙ ap (λ n. drop n c.args.chars.now) width;
+      left = c.left_of.ensures.value;
+    } in (
+      λ yes. cut-made c.args.enc c.args.chars.now front last size c.left_of.result cut (sym c.are_digits.ensures ∙ c.if-are_digits.true) (c.is_last.ensures.0 yes),
+      λ is. c.is_last.ensures.1 (cut-digits c.args.enc c.args.chars.now front last size c.left_of.result cut is).1,
     )
 
-pub loop-left-preserved : goal.loop-left-preserved
-loop-left-preserved c =
-    let cut = c.in-Some.ensures.cases in
-    let after : c.in-Some.after.now ≡ drop (chars_of c.args.enc 768) c.loop-left.rest.now = cut.2 ∙ ap (λ w. drop w c.loop-left.rest.now) c.piece_chars-width.ensures in
-    let piece : c.in-Some.piece.now ≡ take (chars_of c.args.enc 768) c.loop-left.rest.now = cut.1 ∙ ap (λ w. take w c.loop-left.rest.now) c.piece_chars-width.ensures in
-    let fits : 768 ≤ c.loop-left.left = omega arith in (
-      c.payload.auto.into ∙ c.loop-left.invariant.0,
-      (
-        λ is. subst (λ chars. IsPayloadOf c.args.enc chars (c.loop-left.left - 768)) (sym after)
-            (payload_of-rest c.args.enc c.loop-left.rest.now 768 c.loop-left.left (whole c.args.enc) fits (c.loop-left.invariant.1.0 is)),
-        λ is.
-            let front = same_payload c.args.enc _ _ _ 768 piece c.loop-left.invariant.0 (c.payload.ensures.found.0 c.if-not-payload.false) in
-            let back = subst (λ chars. IsPayloadOf c.args.enc chars (c.loop-left.left - 768)) after is in
-            c.loop-left.invariant.1.1 (payload_of-whole c.args.enc c.loop-left.rest.now 768 c.loop-left.left (whole c.args.enc) fits front back),
-      ),
+pub returns-else-are_digits : goal.returns-else-are_digits
+returns-else-are_digits c =
+    let front = c.in-Some.front.now in
+    let last = c.in-Some.last.now in
+    let size = c.args.size in
+    let parts = c.in-Some.ensures.cases in
+    let width = c.front_len.ensures in
+    let cut : AreCut c.args.enc c.args.chars.now front last size (size % group_of c.args.enc) = record {
+      fits = omega (arith, parts.0, width);
+      front = parts.1 ∙ ap (λ n. take n c.args.chars.now) width;
+      last = parts.2 ∙ ap (λ n. drop n c.args.chars.now) width;
+      left = refl;
+    } in (
+      λ yes. absurd (false≢true (sym c.if-are_digits.false ∙ yes)),
+      λ is. c.are_digits.ensures ∙ (cut-digits c.args.enc c.args.chars.now front last size (size % group_of c.args.enc) cut is).0,
     )
