@@ -1,16 +1,17 @@
 -- What holds of all sections holds of those that are looked up.
-use Rattle.std.proofs.Common.{◌≡◌, ℕ, zero, suc, ◌+◌, ◌≤◌, List, [], ◌∷◌, Option, None, Some, refl, ◌∙◌, arith, nat_lt, not}
+use Rattle.std.proofs.Common.{◌≡◌, ℕ, zero, suc, ◌+◌, ◌≤◌, List, [], ◌∷◌, Option, None, Some, refl, ◌∙◌, ap, arith, nat_lt, not}
 use Rattle.std.specs.Prelude.{All, slice_get, unwrap_or}
 use Rattle.std.specs.List.{enumerate_from}
+use Rattle.std.specs.Option.{option_map, option_to_list}
 use Rattle.std.proofs.lemmas.Bool.{cond-false, le-ltb}
 use Rattle.std.proofs.lemmas.List.Elements.{All-nil, All-cons, All-head, All-tail, All-filter, All-map}
 use Rattle.dump_io.specs.Limits.{usual}
 use Rattle.dump_sections.specs.Sections.{Section}
 use Rattle.dump_sections.specs.Bodies.{body_length, section_at, section_in}
 use Rattle.dump_sections.specs.Index.{Contents, sections_in}
-use Rattle.dump_sections.specs.Loading.{first_large}
+use Rattle.dump_sections.specs.Loading.{large_fault}
+use Rattle.dump_sections.specs.declared.bodies.BodyFault.TheVariants.{SectionTooLarge}
 use Rattle.process_table.specs.Records.{Placed, is_process, first_of_each, has_same_pid, placed, process_sections, records, record_sections}
-use Rattle.heap_cells.specs.Loading.{too_large}
 
 -- the body of a section is within the usual limit
 abbrev pub IsSmall : Section → Type 0
@@ -26,10 +27,9 @@ pub small-at : (index : Contents) (i : ℕ) → All IsSmall (sections_in index) 
 small-at index i all = small-get (sections_in index) i _ (omega arith) all
 
 -- a section that may be there
-pub small-in : (index : Contents) (place : Option ℕ) → All IsSmall (sections_in index) → too_large usual.section (section_in index place) ≡ None
-small-in index None all = refl
-small-in index (Some i) all =
-    cond-false (nat_lt usual.section (body_length (section_at index i))) _ _ (le-ltb usual.section (body_length (section_at index i)) (small-at index i all))
+pub small-in : (index : Contents) (place : Option ℕ) → All IsSmall (sections_in index) → All IsSmall (option_to_list (section_in index place))
+small-in index None all = All-nil IsSmall
+small-in index (Some i) all = All-cons IsSmall (section_at index i) [] (small-at index i all) (All-nil IsSmall)
 
 -- the same with a place
 abbrev pub IsSmallPlaced : Placed → Type 0
@@ -46,17 +46,16 @@ small-first (p ∷ ps) all =
     All-cons IsSmallPlaced p _ (All-head IsSmallPlaced p ps all)
     (All-filter (λ other. not (has_same_pid p other)) IsSmallPlaced (first_of_each ps) (small-first ps (All-tail IsSmallPlaced p ps all)))
 
-small-records : (sections : List Section) → All IsSmall sections → All IsSmall (record_sections sections)
+-- the sections of processes
+pub small-records : (sections : List Section) → All IsSmall sections → All IsSmall (record_sections sections)
 small-records sections all =
     All-map IsSmall (λ (r : Placed). r.1) (records sections)
     (small-first (process_sections (placed sections)) (All-filter (λ (p : Placed). is_process p.1) IsSmallPlaced (placed sections) (small-placed 0 sections all)))
 
-none-large : (sections : List Section) → All IsSmall sections → first_large usual.section sections ≡ None
+-- none of them is too large
+pub none-large : (sections : List Section) → All IsSmall sections → large_fault usual.section sections ≡ None
 none-large [] all = refl
 none-large (s ∷ sections) all =
-    cond-false (nat_lt usual.section (body_length s)) _ _ (le-ltb usual.section (body_length s) (All-head IsSmall s sections all))
+    ap (option_map (λ (x : Section). SectionTooLarge x.at (body_length x)))
+    (cond-false (nat_lt usual.section (body_length s)) _ _ (le-ltb usual.section (body_length s) (All-head IsSmall s sections all)))
     ∙ none-large sections (All-tail IsSmall s sections all)
-
--- no section of a process is too large
-pub records-small : (sections : List Section) → All IsSmall sections → first_large usual.section (record_sections sections) ≡ None
-records-small sections all = none-large (record_sections sections) (small-records sections all)

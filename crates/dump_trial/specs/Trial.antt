@@ -1,13 +1,13 @@
 -- What a trial reports on a made dump: how much there is in it, and what is bad or one-sided.
-use Rattle.std.specs.Prelude.{ℕ, ◌++◌, List, length, Option, None, Some, position}
+use Rattle.std.specs.Prelude.{ℕ, ◌++◌, List, length, Option, None}
 use Rattle.std.specs.List.{sum_by}
-use Rattle.dump_sections.specs.Index.{Contents, index_of, sections_in}
-use Rattle.dump_sections.specs.Lookups.{is_named}
+use Rattle.dump_sections.specs.Bodies.{body_in}
+use Rattle.dump_sections.specs.Index.{index_of}
+use Rattle.dump_sections.specs.Lookups.{first_named}
 use Rattle.dump_sections.specs.Sections.{Section, sections}
 use Rattle.process_table.specs.Processes.{Process, process_table}
 use Rattle.heap_cells.specs.Cells.{Cell, cells_of}
 use Rattle.heap_cells.specs.Loading.{enc_of, heap_section, literals_section}
-use Rattle.dump_sections.specs.Bodies.{section_in, body_in}
 use Rattle.root_views.specs.Roots.{BodyRoot}
 use Rattle.dump_audit.specs.Findings.{audit_of, findings}
 use Rattle.dump_write.specs.Made.{made}
@@ -31,16 +31,16 @@ queue_limit = 8
 -- the cells of the heap of a pid, followed by the literals
 abbrev pub cells_in : List ℕ → List ℕ → List Cell
 cells_in bytes pid =
-    let index = index_of bytes in
-    cells_of (enc_of index.version) (body_in bytes (heap_section index pid)) (body_in bytes (literals_section index))
+    let heap = body_in bytes (heap_section pid (sections bytes)) in
+    cells_of (enc_of (index_of bytes).version) heap (body_in bytes (literals_section (sections bytes)))
 
 -- the first section with roots of this kind whose id is this pid
-abbrev pub root_section : Contents → RootKind → List ℕ → Option Section
-root_section index kind pid = section_in index (position (λ section. is_named (roots_tag kind) (Some pid) section.text) (sections_in index))
+abbrev pub root_section : RootKind → List ℕ → List Section → Option Section
+root_section kind pid sections = first_named (roots_tag kind) pid sections
 
 -- its body; a missing section counts as empty
 abbrev pub root_body : List ℕ → RootKind → List ℕ → List ℕ
-root_body bytes kind pid = body_in bytes (root_section (index_of bytes) kind pid)
+root_body bytes kind pid = body_in bytes (root_section kind pid (sections bytes))
 
 -- the roots of a pid: those of its stack, of its dictionary and of its mailbox
 abbrev pub process_roots : List ℕ → List ℕ → List BodyRoot

@@ -1,7 +1,8 @@
 // Where the heaps and the roots of processes are.
 ghost use Rattle.std.specs.Prelude.{◌≡◌, ◌<◌, length, codes, IfOk, IfSome};
-ghost use Rattle.heap_cells.specs.Loading.{heap_section, literals_section};
 ghost use Rattle.dump_sections.specs.Bodies.{section_in};
+ghost use Rattle.dump_sections.specs.Index.{sections_in};
+ghost use Rattle.heap_cells.specs.Loading.{heap_section, literals_section};
 ghost use Rattle.root_views.specs.Kinds.{roots_tag};
 ghost use Rattle.root_views.specs.declared.kinds.RootKind.TheVariants.{Stack, Dict, Mail};
 ghost use Rattle.dump_trial.specs.Trial.{root_section};
@@ -95,7 +96,7 @@ impl<'a> Finder<'a> {
 
     /// The place of the heap of a pid.
     pub(crate) fn heap(&self, pid: &[u8]) -> Option<usize>
-        ensures section { section_in self.now result ≡ heap_section self.now pid.now }
+        ensures section { section_in self.now result ≡ heap_section pid.now (sections_in self.now) }
         ensures within { IfSome result (λ i. i < length self.now.headers) }
     {
         self.heaps.get(pid)
@@ -103,7 +104,7 @@ impl<'a> Finder<'a> {
 
     /// The place of the literals.
     pub(crate) fn literals(&self) -> Option<usize>
-        ensures section { section_in self.now result ≡ literals_section self.now }
+        ensures section { section_in self.now result ≡ literals_section (sections_in self.now) }
         ensures within { IfSome result (λ i. i < length self.now.headers) }
     {
         self.literals
@@ -111,7 +112,7 @@ impl<'a> Finder<'a> {
 
     /// The place of the section with the roots of a kind and a pid.
     pub(crate) fn roots(&self, kind: RootKind, pid: &[u8]) -> Option<usize>
-        ensures section { section_in self.now result ≡ root_section self.now kind pid.now }
+        ensures section { section_in self.now result ≡ root_section kind pid.now (sections_in self.now) }
         ensures within { IfSome result (λ i. i < length self.now.headers) }
     {
         match kind {

@@ -1,6 +1,6 @@
 -- A dump that is held in memory.
 use Rattle.std.specs.Prelude.{◌≡◌, ℕ, ◌≤◌, List, [], All}
-use Rattle.dump_io.specs.Dumps.{Now, closed, told, sized}
+use Rattle.dump_io.specs.Dumps.{Now, told}
 use Rattle.dump_io.specs.Limits.{Numbers, usual}
 use Rattle.dump_sections.specs.Bodies.{body_length}
 use Rattle.dump_sections.specs.Index.{Contents}
@@ -16,9 +16,8 @@ pub record IsGood (bytes : List ℕ) : Type 0 where
 
 -- the bytes of what is open, if the device tells them
 abbrev pub bytes_in : Now → List ℕ
-bytes_in closed = []
 bytes_in (told bytes) = bytes
-bytes_in (sized size) = []
+bytes_in now = []
 
 -- a good dump is open, and the limits are the usual ones
 pub record IsOpened (now : Now) (limits : Numbers) : Type 0 where
