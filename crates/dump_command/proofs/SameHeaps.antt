@@ -23,10 +23,11 @@ use Rattle.root_views.specs.Roots.{message_count}
 use Rattle.dump_audit.specs.Findings.{audit_of, findings, is_cut}
 use Rattle.dump_audit.specs.Laws.{all-numbered}
 use Rattle.binary_payloads.specs.declared.enc.Enc.{Enc}
-use Rattle.dump_redact.specs.Bodies.{redacted_body, heap_line}
+use Rattle.dump_redact.specs.declared.parts.Part.TheVariants.{Heap}
+use Rattle.dump_redact.specs.Bodies.{redacted_body}
 use Rattle.dump_redact.specs.Laws.{IsRedacted, KeepsIndex, KeepsOthers, KeepsSections, KeepsState, RedactsSections, KeepsLength, RedactsLines}
 use Rattle.heap_cells.specs.Loading.{enc_of, heap_section, literals_section}
-use Rattle.dump_redact.specs.Redacted.{part_of, redacted, version_of, bin_chars, without}
+use Rattle.dump_redact.specs.Redacted.{part_of, redacted, bin_chars, without, blanked_line}
 use Rattle.term_forms.specs.Forms.{HeapForm, HeapBin, Cons, Tuple, RefBin, SubBin, Flat, Node}
 use Rattle.term_forms.specs.ReadingForms.{form_of}
 use Rattle.term_forms.specs.Words.{led_of}
@@ -125,14 +126,14 @@ module _ (same : KeepsSections) (redacts : RedactsSections) (others : KeepsOther
   keeps-processes bytes =
       ap (λ ss. table_with (map (λ p. process_in p (body_of (redacted bytes) p.1)) (records ss)) (repeated ss)) (same bytes)
       ∙ ap (λ ps. table_with ps (repeated (sections bytes)))
-      (same-processes (enc_of (version_of bytes)) bytes (redacted bytes) others (sections bytes) (redacts bytes))
+      (same-processes (enc_of (index_of bytes).version) bytes (redacted bytes) others (sections bytes) (redacts bytes))
 
   module _ (state : KeepsState) (index : KeepsIndex) where
     keeps-mails : (bytes : List ℕ) → mails (redacted bytes) ≡ mails bytes
     keeps-mails bytes =
         ap (λ s. map (mail_in (redacted bytes) s (sections (redacted bytes))) (mailbox_places (sections (redacted bytes)))) (state bytes)
         ∙ ap (λ ss. map (mail_in (redacted bytes) (state_of (headers bytes)) ss) (mailbox_places ss)) (same bytes)
-        ∙ same-mails (enc_of (version_of bytes)) bytes (redacted bytes) others (sections bytes) (redacts bytes) (state_of (headers bytes)) (pids_in (sections bytes))
+        ∙ same-mails (enc_of (index_of bytes).version) bytes (redacted bytes) others (sections bytes) (redacts bytes) (state_of (headers bytes)) (pids_in (sections bytes))
 
     pub keeps-findings : KeepsFindings
     keeps-findings bytes limit full =
@@ -174,14 +175,14 @@ module _ (enc : Enc) where
   chars_of led = option_and_then (λ l. bin_chars (form_of enc l.1)) led
 
   -- a line in which no payload stands
-  unchanged : (raw : List ℕ) → chars_of (led_of (text_of raw)) ≡ None → heap_line enc raw ≡ raw
+  unchanged : (raw : List ℕ) → chars_of (led_of (text_of raw)) ≡ None → blanked_line enc Heap raw ≡ raw
   unchanged raw absent = ap (without enc raw) absent
 
   module _ (keeps : KeepsBinaries enc) where
-    line-cell : (raw : List ℕ) → led_cell (heap_line enc raw) ≡ option_map (blank_cell enc) (led_cell raw)
+    line-cell : (raw : List ℕ) → led_cell (blanked_line enc Heap raw) ≡ option_map (blank_cell enc) (led_cell raw)
     line-cell raw = by (led_of (text_of raw)) refl
       where
-        by : (led : Option (ℕ × List ℕ)) → led_of (text_of raw) ≡ led → led_cell (heap_line enc raw) ≡ option_map (blank_cell enc) (led_cell raw)
+        by : (led : Option (ℕ × List ℕ)) → led_of (text_of raw) ≡ led → led_cell (blanked_line enc Heap raw) ≡ option_map (blank_cell enc) (led_cell raw)
         by None e = ap led_cell (unchanged raw (ap chars_of e)) ∙ ap (option_map (spelled_cell enc)) e ∙ sym (ap (λ o. option_map (blank_cell enc) (option_map (spelled_cell enc) o)) e)
         by (Some led) e =
             let old : option_map (blank_cell enc) (led_cell raw) ≡ Some (cell led.0 (option_map (blank_form enc) (form_of enc led.1))) =
@@ -203,17 +204,17 @@ module _ (enc : Enc) where
       abbrev cells_from : ℕ → List (List ℕ) → List Cell
       cells_from at raws = filter_map cell_in (map view (lines_from at raws))
 
-      lines-cells : (m n : ℕ) (raws : List (List ℕ)) → cells_from m (map (heap_line enc) raws) ≡ map (blank_cell enc) (cells_from n raws)
+      lines-cells : (m n : ℕ) (raws : List (List ℕ)) → cells_from m (map (blanked_line enc Heap) raws) ≡ map (blank_cell enc) (cells_from n raws)
       lines-cells m n [] = refl
       lines-cells m n (raw ∷ raws) =
-          let new : Line = record { at = m; raw = heap_line enc raw } in
+          let new : Line = record { at = m; raw = blanked_line enc Heap raw } in
           let old : Line = record { at = n; raw = raw } in
-          ap (λ o. cons_option o (cells_from (m + length (heap_line enc raw)) (map (heap_line enc) raws)))
+          ap (λ o. cons_option o (cells_from (m + length (blanked_line enc Heap raw)) (map (blanked_line enc Heap) raws)))
           (reads new ∙ line-cell raw ∙ ap (option_map (blank_cell enc)) (sym (reads old)))
-          ∙ ap (cons_option (option_map (blank_cell enc) (cell_in (view old)))) (lines-cells (m + length (heap_line enc raw)) (n + length raw) raws)
+          ∙ ap (cons_option (option_map (blank_cell enc) (cell_in (view old)))) (lines-cells (m + length (blanked_line enc Heap raw)) (n + length raw) raws)
           ∙ map-cons (cell_in (view old)) (cells_from (n + length raw) raws)
 
-      viewed-cells : (before after : List (List ℕ)) → after ≡ map (heap_line enc) before → cells_from 0 after ≡ map (blank_cell enc) (cells_from 0 before)
+      viewed-cells : (before after : List (List ℕ)) → after ≡ map (blanked_line enc Heap) before → cells_from 0 after ≡ map (blank_cell enc) (cells_from 0 before)
       viewed-cells before after is = ap (cells_from 0) is ∙ lines-cells 0 0 before
 
     first-cells : (seen : List ℕ) (cs : List Cell) → first_cells seen (map (blank_cell enc) cs) ≡ map (blank_cell enc) (first_cells seen cs)
@@ -561,7 +562,7 @@ kind-other kind = refl
 module _ (same : KeepsSections) (redacts : RedactsSections) (others : KeepsOthers) where
   pub keeps-roots : KeepsRoots
   keeps-roots kind bytes pid =
-      let enc = enc_of (version_of bytes) in
+      let enc = enc_of (index_of bytes).version in
       let tag = roots_tag kind in
       let test : Section → Bool = λ s. is_named tag (Some pid) s.text in
       ap (λ ss. roots_in kind (body_in (redacted bytes) (roots_section kind pid ss))) (same bytes)
