@@ -6,102 +6,15 @@ ghost use Rattle.dump_io.specs.Sinks.{Puts};
 ghost use Rattle.link_graph.specs.Graph.{graph_of};
 ghost use Rattle.dump_audit.specs.FindingNames.{pid_at};
 ghost use Rattle.dump_audit.specs.Fitting.{Fits};
-ghost use Rattle.audit_text.specs.Findings.{one_line, two_line, three_line, finding_line, findings_line, findings_report};
+ghost use Rattle.audit_text.specs.Findings.{finding_line, findings_report};
 
 use dump_audit::Finding;
 use dump_audit::named::{kind, partner, reference};
-use dump_io::{Failed, Piece, Sink, put_pieces};
+use dump_io::{Failed, Piece, Sink};
 use dump_sections::Index;
 use link_graph::Graph;
 use process_table::Procs;
-use report_lines::put_state;
-
-// Writes the line of a finding with one text between its word and its offsets.
-fn put_one<'x, K: Sink>(
-    sink: &mut K,
-    word: &'x [u8],
-    first: Piece<'x>,
-    at: u64,
-    other: u64,
-) -> Result<(), Failed>
-    ensures { Puts (K.state sink.old) (K.state sink.new) (one_line word.now (piece_text first.entry) at other) result }
-{
-    let space = Piece::Bytes(b" ");
-    put_pieces(
-        sink,
-        &[
-            Piece::Bytes(word),
-            space,
-            first,
-            space,
-            Piece::Dec(at),
-            space,
-            Piece::Dec(other),
-            Piece::Bytes(b"\n"),
-        ],
-    )
-}
-
-// Writes the line of a finding with two texts.
-fn put_two<'x, K: Sink>(
-    sink: &mut K,
-    word: &'x [u8],
-    first: Piece<'x>,
-    second: Piece<'x>,
-    at: u64,
-    other: u64,
-) -> Result<(), Failed>
-    ensures { Puts (K.state sink.old) (K.state sink.new) (two_line word.now (piece_text first.entry) (piece_text second.entry) at other) result }
-{
-    let space = Piece::Bytes(b" ");
-    put_pieces(
-        sink,
-        &[
-            Piece::Bytes(word),
-            space,
-            first,
-            space,
-            second,
-            space,
-            Piece::Dec(at),
-            space,
-            Piece::Dec(other),
-            Piece::Bytes(b"\n"),
-        ],
-    )
-}
-
-// Writes the line of a finding with three texts.
-fn put_three<'x, K: Sink>(
-    sink: &mut K,
-    word: &'x [u8],
-    first: Piece<'x>,
-    second: Piece<'x>,
-    third: Piece<'x>,
-    at: u64,
-    other: u64,
-) -> Result<(), Failed>
-    ensures { Puts (K.state sink.old) (K.state sink.new) (three_line word.now (piece_text first.entry) (piece_text second.entry) (piece_text third.entry) at other) result }
-{
-    let space = Piece::Bytes(b" ");
-    put_pieces(
-        sink,
-        &[
-            Piece::Bytes(word),
-            space,
-            first,
-            space,
-            second,
-            space,
-            third,
-            space,
-            Piece::Dec(at),
-            space,
-            Piece::Dec(other),
-            Piece::Bytes(b"\n"),
-        ],
-    )
-}
+use report_lines::{put_line, put_state, put_total_line};
 
 // The pid of the process at a place.
 fn pid(procs: &Procs, p: u32) -> Piece<'_>
@@ -112,10 +25,10 @@ fn pid(procs: &Procs, p: u32) -> Piece<'_>
 }
 
 // Writes the line of a finding.
-fn put_finding<K: Sink>(
+fn put_finding<'x, K: Sink>(
     sink: &mut K,
-    procs: &Procs,
-    graph: &Graph<'_>,
+    procs: &'x Procs,
+    graph: &'x Graph<'x>,
     finding: Finding,
 ) -> Result<(), Failed>
     requires graph { graph.now ≡ graph_of procs.now.processes }
@@ -129,7 +42,16 @@ fn put_finding<K: Sink>(
             at,
             other,
             ..
-        } => put_two(sink, b"link", pid(procs, p), pid(procs, q), at, other),
+        } => {
+            let parts = [
+                Piece::Bytes(b"link"),
+                pid(procs, p),
+                pid(procs, q),
+                Piece::Dec(at),
+                Piece::Dec(other),
+            ];
+            put_line(sink, b" ", &parts)
+        }
         Finding::MonitorTo {
             p,
             q,
@@ -137,16 +59,16 @@ fn put_finding<K: Sink>(
             at,
             other,
         } => {
-            let reference = Piece::Bytes(reference(kind(procs, graph, p, entry)));
-            put_three(
-                sink,
-                b"monitor-to",
+            let kind = kind(procs, graph, p, entry);
+            let parts = [
+                Piece::Bytes(b"monitor-to"),
                 pid(procs, p),
                 pid(procs, q),
-                reference,
-                at,
-                other,
-            )
+                Piece::Bytes(reference(kind)),
+                Piece::Dec(at),
+                Piece::Dec(other),
+            ];
+            put_line(sink, b" ", &parts)
         }
         Finding::MonitorFrom {
             p,
@@ -155,52 +77,65 @@ fn put_finding<K: Sink>(
             at,
             other,
         } => {
-            let reference = Piece::Bytes(reference(kind(procs, graph, p, entry)));
-            put_three(
-                sink,
-                b"monitor-from",
+            let kind = kind(procs, graph, p, entry);
+            let parts = [
+                Piece::Bytes(b"monitor-from"),
                 pid(procs, p),
                 pid(procs, q),
-                reference,
-                at,
-                other,
-            )
+                Piece::Bytes(reference(kind)),
+                Piece::Dec(at),
+                Piece::Dec(other),
+            ];
+            put_line(sink, b" ", &parts)
         }
         Finding::Mailbox {
             p,
             count,
             at,
             other,
-        } => put_two(
-            sink,
-            b"mailbox",
-            pid(procs, p),
-            Piece::Dec(count),
-            at,
-            other,
-        ),
-        Finding::UnreadLinks { p, at, other } => put_one(
-            sink,
-            b"unread-links",
-            pid(procs, p),
-            at,
-            other,
-        ),
-        Finding::UnreadQueue { p, at, other } => put_one(
-            sink,
-            b"unread-queue",
-            pid(procs, p),
-            at,
-            other,
-        ),
+        } => {
+            let parts = [
+                Piece::Bytes(b"mailbox"),
+                pid(procs, p),
+                Piece::Dec(count),
+                Piece::Dec(at),
+                Piece::Dec(other),
+            ];
+            put_line(sink, b" ", &parts)
+        }
+        Finding::UnreadLinks { p, at, other } => {
+            let parts = [
+                Piece::Bytes(b"unread-links"),
+                pid(procs, p),
+                Piece::Dec(at),
+                Piece::Dec(other),
+            ];
+            put_line(sink, b" ", &parts)
+        }
+        Finding::UnreadQueue { p, at, other } => {
+            let parts = [
+                Piece::Bytes(b"unread-queue"),
+                pid(procs, p),
+                Piece::Dec(at),
+                Piece::Dec(other),
+            ];
+            put_line(sink, b" ", &parts)
+        }
         Finding::LinkGone {
             p,
             entry,
             at,
             other,
         } => {
-            let gone = Piece::Bytes(partner(kind(procs, graph, p, entry)));
-            put_two(sink, b"link-gone", pid(procs, p), gone, at, other)
+            let gone = partner(kind(procs, graph, p, entry));
+            let parts = [
+                Piece::Bytes(b"link-gone"),
+                pid(procs, p),
+                Piece::Bytes(gone),
+                Piece::Dec(at),
+                Piece::Dec(other),
+            ];
+            put_line(sink, b" ", &parts)
         }
         Finding::ToGone {
             p,
@@ -209,15 +144,15 @@ fn put_finding<K: Sink>(
             other,
         } => {
             let kind = kind(procs, graph, p, entry);
-            put_three(
-                sink,
-                b"to-gone",
+            let parts = [
+                Piece::Bytes(b"to-gone"),
                 pid(procs, p),
                 Piece::Bytes(partner(kind)),
                 Piece::Bytes(reference(kind)),
-                at,
-                other,
-            )
+                Piece::Dec(at),
+                Piece::Dec(other),
+            ];
+            put_line(sink, b" ", &parts)
         }
         Finding::FromGone {
             p,
@@ -226,15 +161,15 @@ fn put_finding<K: Sink>(
             other,
         } => {
             let kind = kind(procs, graph, p, entry);
-            put_three(
-                sink,
-                b"from-gone",
+            let parts = [
+                Piece::Bytes(b"from-gone"),
                 pid(procs, p),
                 Piece::Bytes(partner(kind)),
                 Piece::Bytes(reference(kind)),
-                at,
-                other,
-            )
+                Piece::Dec(at),
+                Piece::Dec(other),
+            ];
+            put_line(sink, b" ", &parts)
         }
         Finding::QueueCount {
             p,
@@ -242,15 +177,17 @@ fn put_finding<K: Sink>(
             found,
             at,
             other,
-        } => put_three(
-            sink,
-            b"queue-count",
-            pid(procs, p),
-            Piece::Dec(stated),
-            Piece::Dec(found),
-            at,
-            other,
-        ),
+        } => {
+            let parts = [
+                Piece::Bytes(b"queue-count"),
+                pid(procs, p),
+                Piece::Dec(stated),
+                Piece::Dec(found),
+                Piece::Dec(at),
+                Piece::Dec(other),
+            ];
+            put_line(sink, b" ", &parts)
+        }
     }
 }
 
@@ -265,22 +202,9 @@ fn put_all<K: Sink>(
     ensures { Puts (K.state sink.old) (K.state sink.new) (flat_map (finding_line procs.now.processes) findings.now) result }
 {
     for finding in findings {
-        put_finding(sink, procs, graph, *finding)?;
+        put_finding(sink, &*procs, &*graph, *finding)?;
     }
     Ok(())
-}
-
-fn put_count<K: Sink>(sink: &mut K, count: usize) -> Result<(), Failed>
-    ensures { Puts (K.state sink.old) (K.state sink.new) (findings_line count) result }
-{
-    put_pieces(
-        sink,
-        &[
-            Piece::Bytes(b"findings "),
-            Piece::Dec(count as u64),
-            Piece::Bytes(b"\n"),
-        ],
-    )
 }
 
 /// Writes a line for each finding: its word, the pid of the process, what else it names, and its two
@@ -298,6 +222,6 @@ pub fn put_findings<K: Sink>(
     ensures { Puts (K.state sink.old) (K.state sink.new) (findings_report index.now procs.now.processes findings.now) result }
 {
     put_all(sink, procs, graph, findings)?;
-    put_count(sink, findings.len())?;
+    put_total_line(sink, b"findings", findings.len() as u64)?;
     put_state(sink, index)
 }

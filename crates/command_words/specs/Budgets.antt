@@ -9,21 +9,17 @@ use Rattle.command_words.specs.declared.budgets.Budget.{Budget}
 abbrev pub budget : Bool → ℕ → Budget
 budget marked nodes = record { nodes = nodes; marked = marked }
 
--- the number of nodes that a word writes: from 1 to 1,000,000,000
-abbrev pub nodes_of : List ℕ → Option ℕ
-nodes_of word = number_upto 1000000000 word
-
 -- whether a word is `marked`
 abbrev pub is_mark : List ℕ → Bool
 is_mark word = bytes_eq word (codes "marked")
 
--- a number of nodes
+-- the number of nodes that a word writes: from 1 to 1,000,000,000
 abbrev pub counted : Bool → List ℕ → Option Budget
-counted marked word = option_map (budget marked) (nodes_of word)
+counted marked word = option_map (budget marked) (number_upto 1000000000 word)
 
 -- the last words are a number of nodes, which is 10,000 if it is left out, and then `marked` or nothing
 abbrev pub budget_of : List (List ℕ) → Option Budget
 budget_of [] = Some (budget false 10000)
 budget_of (word ∷ []) = if is_mark word then Some (budget true 10000) else counted false word
 budget_of (nodes ∷ mark ∷ []) = if is_mark mark then counted true nodes else None
-budget_of (nodes ∷ mark ∷ more ∷ words) = None
+budget_of words = None

@@ -10,7 +10,6 @@ use Rattle.table_sections.specs.declared.kinds.TableKind.TheVariants as kinds
 use Rattle.command_words.specs.declared.words.Cmd.{Cmd}
 use Rattle.command_words.specs.declared.words.Cmd.TheVariants.{Index, Info, Procs, Proc, Memory, Ets, Ports, Nodes, Mods, Stack, Dict, Mail, Term, Ext, Reach, Cells, Binary, Binaries, Holders, Triage, Links, Redact, Audit, AuditJson, Make, Trial}
 use Rattle.command_words.specs.Budgets.{budget_of}
-use Rattle.command_words.specs.MadeWords.{seed_and_count}
 use Rattle.command_words.specs.Ranges.{number_upto}
 
 -- a command and what it is asked for
@@ -109,15 +108,14 @@ term_command file pid (addr ∷ words) =
 
 -- the external term at an address, which is in hex
 abbrev pub ext_command : List ℕ → List ℕ → List (List ℕ) → Option Command
-ext_command file pid [] = None
 ext_command file pid (addr ∷ []) = option_map (ext file pid) (hex_number addr)
-ext_command file pid (addr ∷ more ∷ words) = None
+ext_command file pid words = None
 
 -- an audit is full if its last word is `full`
 abbrev pub full_of : List (List ℕ) → Option Bool
 full_of [] = Some false
 full_of (word ∷ []) = if bytes_eq word (codes "full") then Some true else None
-full_of (word ∷ more ∷ words) = None
+full_of words = None
 
 -- an audit with a limit, which is decimal, in one of the two forms
 abbrev pub audit_command : (List ℕ → ℕ → Bool → Command) → List ℕ → List ℕ → List (List ℕ) → Option Command
@@ -134,11 +132,9 @@ process_command name file word words =
     else (if bytes_eq name (codes "audit") then audit_command audit file word words
     else (if bytes_eq name (codes "audit-json") then audit_command audit_json file word words else None))))))
 
--- a command with two numbers
-abbrev pub number_command : List ℕ → List ℕ → List ℕ → Option Command
-number_command name seed count =
-    if bytes_eq name (codes "make") then option_map (λ numbers. make numbers.0 numbers.1) (seed_and_count seed count)
-    else (if bytes_eq name (codes "trial") then option_map (λ numbers. trial numbers.0 numbers.1) (seed_and_count seed count) else None)
+-- a command that makes a dump, from a seed and a count of processes, which is from 1 to 200,000
+abbrev pub made_command : (ℕ → ℕ → Command) → List ℕ → List ℕ → Option Command
+made_command form seed count = option_and_then (λ s. option_map (form s) (number_upto 200000 count)) (dec_number seed)
 
 -- a command with the name of a file and another word, or with two numbers
 abbrev pub word_command : List ℕ → List ℕ → List ℕ → Option Command
@@ -149,8 +145,8 @@ word_command name file word =
     else (if bytes_eq name (codes "binary") then option_map (binary file) (hex_number word)
     else (if bytes_eq name (codes "holders") then option_map (holders file) (hex_number word)
     else (if bytes_eq name (codes "triage") then option_map (triage file) (number_upto 1000 word)
-    else (if bytes_eq name (codes "make") then number_command name file word
-    else (if bytes_eq name (codes "trial") then number_command name file word
+    else (if bytes_eq name (codes "make") then made_command make file word
+    else (if bytes_eq name (codes "trial") then made_command trial file word
     else process_command name file word [])))))))
 
 -- the command that the words after the program's name are, or `None`

@@ -1,4 +1,3 @@
 pub mod Budgets
 pub mod Command
-pub mod MadeWords
 pub mod Ranges

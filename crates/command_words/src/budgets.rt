@@ -1,7 +1,7 @@
 // How much of a term is shown, from the last words of a command.
 ghost use Rattle.std.specs.Prelude.{◌≡◌, ◌<◌, [], ◌∷◌, map, IfSome};
 ghost use Rattle.std.specs.String.{string_bytes};
-ghost use Rattle.command_words.specs.Budgets.{budget, budget_of, counted, is_mark, nodes_of};
+ghost use Rattle.command_words.specs.Budgets.{budget, budget_of, counted, is_mark};
 
 use crate::numbers::number_upto;
 
@@ -27,13 +27,6 @@ impl Budget {
     }
 }
 
-fn nodes_of(word: &str) -> Option<u32>
-    ensures told { result ≡ nodes_of word.now }
-    ensures some { IfSome result (λ nodes. 0 < nodes) }
-{
-    number_upto(word, MOST_NODES)
-}
-
 fn is_mark(word: &str) -> bool
     ensures { result ≡ is_mark word.now }
 {
@@ -44,7 +37,7 @@ fn counted(word: &str, marked: bool) -> Option<Budget>
     ensures told { result ≡ counted marked word.now }
     ensures nodes { IfSome result (λ budget. 0 < budget.nodes) }
 {
-    let nodes = nodes_of(word)?;
+    let nodes = number_upto(word, MOST_NODES)?;
     Some(Budget::new(nodes, marked))
 }
 

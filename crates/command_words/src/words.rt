@@ -7,7 +7,7 @@ ghost use Rattle.command_words.specs.Ranges.{number_upto};
 ghost use Rattle.dump_io.specs.Numbers.{hex_number};
 
 use crate::budgets::{Budget, read_budget};
-use crate::made_words::number_command;
+use crate::made_words::{make_command, trial_command};
 use crate::numbers::number_upto;
 use dump_io::{dec_u64, hex_u64};
 use root_views::RootKind;
@@ -213,8 +213,8 @@ fn word_command<'a>(name: &str, file: &'a str, word: &'a str) -> Option<Cmd<'a>>
         "binary" => binary_command(file, word),
         "holders" => holders_command(file, word),
         "triage" => triage_command(file, word),
-        "make" => number_command(name, file, word),
-        "trial" => number_command(name, file, word),
+        "make" => make_command(file, word),
+        "trial" => trial_command(file, word),
         _ => process_command(name, file, word, &[]),
     }
 }

@@ -1,34 +1,31 @@
 -- The texts of the reports on the stored binaries and on the holders of one of them. Offsets are of the file.
 use Rattle.std.specs.Prelude.{ℕ, List, [], ◌∷◌, ◌++◌, length, decimal, codes}
-use Rattle.std.specs.List.{concat, flat_map}
+use Rattle.std.specs.List.{flat_map}
 use Rattle.dump_io.specs.Numbers.{hexadecimal}
 use Rattle.dump_sections.specs.Index.{Contents}
 use Rattle.process_table.specs.Processes.{Process, process_at}
 use Rattle.binary_holders.specs.declared.rows.BinaryRow.{BinaryRow}
 use Rattle.binary_holders.specs.declared.rows.Holding.{Holding}
 use Rattle.binary_holders.specs.Usage.{Usage}
-use Rattle.report_lines.specs.Lines.{newline, tab}
+use Rattle.report_lines.specs.Lines.{line_of, space, tab, total_line}
 use Rattle.report_text.specs.Tables.{process_end}
 
 -- the line of a process that holds binaries: how many bytes they
 -- have together, how many there are, and which process it is
 abbrev pub held_line : Contents → List Process → Holding → List ℕ
 held_line index processes held =
-    concat (codes "held\t" ∷ decimal held.bytes ∷ tab ∷ decimal held.count ∷ tab ∷ [])
-    ++ process_end index (process_at processes held.process)
+    line_of tab (codes "held" ∷ decimal held.bytes ∷ decimal held.count ∷ process_end index (process_at processes held.process))
 
 -- the line of a stored binary: its size, how many processes hold
 -- it, its address, and where the header of its section begins
 abbrev pub stored_line : BinaryRow → List ℕ
-stored_line row =
-    concat (codes "binary\t" ∷ decimal row.size ∷ tab ∷ decimal row.holders ∷ tab ∷ hexadecimal row.number ∷ tab
-    ∷ decimal row.at ∷ newline ∷ [])
+stored_line row = line_of tab (codes "binary" ∷ decimal row.size ∷ decimal row.holders ∷ hexadecimal row.number ∷ decimal row.at ∷ [])
 
 -- the last line: how many stored binaries there are, how many
 -- bytes they have together, and how many of them a process holds
 abbrev pub binaries_line : ℕ → ℕ → ℕ → List ℕ
 binaries_line count bytes held =
-    concat (codes "binaries " ∷ decimal count ∷ codes " bytes " ∷ decimal bytes ∷ codes " held " ∷ decimal held ∷ newline ∷ [])
+    line_of space (codes "binaries" ∷ decimal count ∷ codes "bytes" ∷ decimal bytes ∷ codes "held" ∷ decimal held ∷ [])
 
 -- the report of `binaries` on a dump with these sections and processes
 abbrev pub binaries_report : Contents → List Process → Usage → List ℕ
@@ -38,12 +35,8 @@ binaries_report index processes usage =
 
 -- the line of a process that holds a binary: how many lines of its heap refer to it, and which process it is
 abbrev pub holder_line : Contents → List Process → Holding → List ℕ
-holder_line index processes held = concat (decimal held.cells ∷ tab ∷ []) ++ process_end index (process_at processes held.process)
-
--- the last line: how many processes hold it
-abbrev pub holders_line : ℕ → List ℕ
-holders_line count = concat (codes "holders " ∷ decimal count ∷ newline ∷ [])
+holder_line index processes held = line_of tab (decimal held.cells ∷ process_end index (process_at processes held.process))
 
 -- the report of `holders` on a dump with these sections and processes
 abbrev pub holders_report : Contents → List Process → List Holding → List ℕ
-holders_report index processes held = flat_map (holder_line index processes) held ++ holders_line (length held)
+holders_report index processes held = flat_map (holder_line index processes) held ++ total_line (codes "holders") (length held)

@@ -1,6 +1,6 @@
 -- The report of `triage`. Offsets are of the file.
 use Rattle.std.specs.Prelude.{ℕ, List, [], ◌∷◌, ◌++◌, length, decimal, codes, if◌then◌else◌}
-use Rattle.std.specs.List.{concat, flat_map}
+use Rattle.std.specs.List.{flat_map}
 use Rattle.dump_io.specs.Colons.{has_colon}
 use Rattle.field_lines.specs.Fields.{find_value, key_of, value_of}
 use Rattle.field_lines.specs.Lines.{TextLine, text_lines}
@@ -10,7 +10,7 @@ use Rattle.process_table.specs.Processes.{Process, ProcessTable, process_at}
 use Rattle.dump_triage.specs.Triage.{Triaged}
 use Rattle.dump_triage.specs.declared.finding_counts.FindingCounts.{FindingCounts}
 use Rattle.dump_triage.specs.declared.ranked.Ranked.{Ranked}
-use Rattle.report_lines.specs.Lines.{count_line, newline, tab}
+use Rattle.report_lines.specs.Lines.{count_line, line_of, tab}
 use Rattle.report_text.specs.Reports.{info_heading, version_text}
 use Rattle.report_lines.specs.States.{state_line}
 use Rattle.report_text.specs.Tables.{cell_text, process_end, processes_line}
@@ -18,7 +18,7 @@ use Rattle.report_text.specs.Tables.{cell_text, process_end, processes_line}
 -- the line of a field of the `memory` section; a line without a colon has none
 abbrev pub memory_line : TextLine → List ℕ
 memory_line line =
-    if has_colon line.text then concat (codes "memory\t" ∷ key_of line.text ∷ tab ∷ value_of line.text ∷ newline ∷ []) else []
+    if has_colon line.text then line_of tab (codes "memory" ∷ key_of line.text ∷ value_of line.text ∷ []) else []
 
 -- the first lines: those of `info`, the memory of the node, and how many processes there are
 abbrev pub triage_heading : Contents → List ℕ → List ℕ → ProcessTable → List ℕ
@@ -28,33 +28,31 @@ triage_heading index first_body memory_body table =
 
 -- the line of a state, with the number of processes that are in it
 abbrev pub state_count_line : List Process → Ranked → List ℕ
-state_count_line processes row = count_line (codes "state\t") (cell_text (process_at processes row.place).state) row.number
+state_count_line processes row = count_line (codes "state") (cell_text (process_at processes row.place).state) row.number
 
 -- the line of a process with one of its numbers: a word, the number, and which process it is
 abbrev pub process_number_line : List ℕ → Contents → List Process → Ranked → List ℕ
-process_number_line word index processes row =
-    concat (word ∷ decimal row.number ∷ tab ∷ []) ++ process_end index (process_at processes row.place)
+process_number_line word index processes row = line_of tab (word ∷ decimal row.number ∷ process_end index (process_at processes row.place))
 
 -- the line of an ETS table with its number of words: also its id and its name,
 -- which are the first and the third of its columns, and the offset of its section
 abbrev pub table_words_line : List Row → Ranked → List ℕ
 table_words_line rows row =
     let table = row_at rows row.place in
-    concat (codes "ets\t" ∷ decimal row.number ∷ tab ∷ cell_text (cell_at table 0) ∷ tab ∷ cell_text (cell_at table 2)
-    ∷ tab ∷ decimal table.at ∷ newline ∷ [])
+    line_of tab (codes "ets" ∷ decimal row.number ∷ cell_text (cell_at table 0) ∷ cell_text (cell_at table 2) ∷ decimal table.at ∷ [])
 
 -- the lines of states, message queues, processes and tables
 abbrev pub triage_rows : Contents → List Process → List Row → Triaged → List ℕ
 triage_rows index processes tables triage =
     flat_map (state_count_line processes) triage.states
-    ++ (flat_map (process_number_line (codes "queue\t") index processes) triage.queues
-    ++ (flat_map (process_number_line (codes "process\t") index processes) triage.memory
+    ++ (flat_map (process_number_line (codes "queue") index processes) triage.queues
+    ++ (flat_map (process_number_line (codes "process") index processes) triage.memory
     ++ flat_map (table_words_line tables) triage.tables))
 
 -- the lines of the kinds of findings that occur, with the number of findings of each
 abbrev pub finding_counts : FindingCounts → List ℕ
 finding_counts counts =
-    let line : List ℕ → ℕ → List ℕ = count_line (codes "finding\t") in
+    let line : List ℕ → ℕ → List ℕ = count_line (codes "finding") in
     line (codes "link") counts.links
     ++ (line (codes "monitor-to") counts.monitors_to
     ++ (line (codes "monitor-from") counts.monitors_from

@@ -4,13 +4,14 @@ ghost use Rattle.std.specs.List.{flat_map};
 ghost use Rattle.dump_io.specs.Sinks.{Puts};
 ghost use Rattle.process_table.specs.Processes.{IsIn};
 ghost use Rattle.binary_holders.specs.Usage.{NamesProcess, shown_use};
-ghost use Rattle.glance_text.specs.Holders.{binaries_line, binaries_report, held_line, holder_line, holders_line, holders_report, stored_line};
+ghost use Rattle.glance_text.specs.Holders.{binaries_line, binaries_report, held_line, holder_line, holders_report, stored_line};
 
 use binary_holders::{BinaryRow, BinaryUse, Holding};
-use dump_io::{Failed, Piece, Sink, put_pieces};
+use dump_io::{Failed, Piece, Sink};
 use dump_sections::Index;
 use process_table::Procs;
-use report_text::put_process_end;
+use report_lines::{put_line, put_total_line};
+use report_text::process_end;
 
 // Writes the line of a process that holds binaries.
 fn put_held<K: Sink>(
@@ -23,18 +24,19 @@ fn put_held<K: Sink>(
     requires processes { All (IsIn index.now) procs.now.processes }
     ensures { Puts (K.state sink.old) (K.state sink.new) (held_line index.now procs.now.processes held.now) result }
 {
-    let tab = Piece::Bytes(b"\t");
-    put_pieces(
+    let (pid, name, at) = process_end(index, procs, held.process);
+    put_line(
         sink,
+        b"\t",
         &[
-            Piece::Bytes(b"held\t"),
+            Piece::Bytes(b"held"),
             Piece::Dec(held.bytes),
-            tab,
             Piece::Dec(held.count),
-            tab,
+            pid,
+            name,
+            at,
         ],
-    )?;
-    put_process_end(sink, index, procs, held.process)
+    )
 }
 
 fn put_all_held<K: Sink>(
@@ -57,19 +59,15 @@ fn put_all_held<K: Sink>(
 fn put_stored<K: Sink>(sink: &mut K, row: &BinaryRow) -> Result<(), Failed>
     ensures { Puts (K.state sink.old) (K.state sink.new) (stored_line row.now) result }
 {
-    let tab = Piece::Bytes(b"\t");
-    put_pieces(
+    put_line(
         sink,
+        b"\t",
         &[
-            Piece::Bytes(b"binary\t"),
+            Piece::Bytes(b"binary"),
             Piece::Dec(row.size),
-            tab,
             Piece::Dec(row.holders),
-            tab,
             Piece::Hex(row.number),
-            tab,
             Piece::Dec(row.at),
-            Piece::Bytes(b"\n"),
         ],
     )
 }
@@ -86,16 +84,16 @@ fn put_all_stored<K: Sink>(sink: &mut K, rows: &[BinaryRow]) -> Result<(), Faile
 fn put_total<K: Sink>(sink: &mut K, found: &BinaryUse) -> Result<(), Failed>
     ensures { Puts (K.state sink.old) (K.state sink.new) (binaries_line (length found.now.binaries.items) found.now.bytes found.now.with_holders) result }
 {
-    put_pieces(
+    put_line(
         sink,
+        b" ",
         &[
-            Piece::Bytes(b"binaries "),
+            Piece::Bytes(b"binaries"),
             Piece::Dec(found.binaries.len() as u64),
-            Piece::Bytes(b" bytes "),
+            Piece::Bytes(b"bytes"),
             Piece::Dec(found.bytes),
-            Piece::Bytes(b" held "),
+            Piece::Bytes(b"held"),
             Piece::Dec(found.with_holders),
-            Piece::Bytes(b"\n"),
         ],
     )
 }
@@ -134,8 +132,8 @@ fn put_holder<K: Sink>(
     requires processes { All (IsIn index.now) procs.now.processes }
     ensures { Puts (K.state sink.old) (K.state sink.new) (holder_line index.now procs.now.processes held.now) result }
 {
-    put_pieces(sink, &[Piece::Dec(held.cells), Piece::Bytes(b"\t")])?;
-    put_process_end(sink, index, procs, held.process)
+    let (pid, name, at) = process_end(index, procs, held.process);
+    put_line(sink, b"\t", &[Piece::Dec(held.cells), pid, name, at])
 }
 
 fn put_each<K: Sink>(
@@ -152,19 +150,6 @@ fn put_each<K: Sink>(
         put_holder(sink, index, procs, held)?;
     }
     Ok(())
-}
-
-fn put_count<K: Sink>(sink: &mut K, count: usize) -> Result<(), Failed>
-    ensures { Puts (K.state sink.old) (K.state sink.new) (holders_line count) result }
-{
-    put_pieces(
-        sink,
-        &[
-            Piece::Bytes(b"holders "),
-            Piece::Dec(count as u64),
-            Piece::Bytes(b"\n"),
-        ],
-    )
 }
 
 /// Writes a line for each process that holds a binary, `CELLS PID NAME AT` with tabs between
@@ -184,5 +169,5 @@ pub fn put_holders<K: Sink>(
     ensures { Puts (K.state sink.old) (K.state sink.new) (holders_report index.now procs.now.processes held.now) result }
 {
     put_each(sink, index, procs, held)?;
-    put_count(sink, held.len())
+    put_total_line(sink, b"holders", held.len() as u64)
 }

@@ -12,14 +12,14 @@ ghost use Rattle.dump_triage.specs.Triage.{Fits};
 ghost use Rattle.report_lines.specs.Lines.{count_line};
 ghost use Rattle.glance_text.specs.Triage.{finding_counts, memory_line, process_number_line, state_count_line, table_words_line, triage_heading, triage_report, triage_rows};
 
-use dump_io::{Failed, Piece, Sink, put_pieces};
+use dump_io::{Failed, Piece, Sink};
 use dump_sections::Index;
 use dump_triage::{FindingCounts, Ranked, Triage};
 use field_lines::Line;
 use field_lines::reading::{field, lines};
 use process_table::Procs;
-use report_lines::put_count_line;
-use report_text::{put_heading, put_process_end, put_processes_line, put_state, text_at, text_of};
+use report_lines::{put_count_line, put_line};
+use report_text::{process_end, put_heading, put_processes_line, put_state, text_at, text_of};
 use table_sections::Rows;
 
 // Writes the line of a field of the `memory` section.
@@ -29,14 +29,13 @@ fn put_memory_line<K: Sink>(sink: &mut K, line: &Line<'_>) -> Result<(), Failed>
     let Some((key, value)) = field(line.text) else {
         return Ok(());
     };
-    put_pieces(
+    put_line(
         sink,
+        b"\t",
         &[
-            Piece::Bytes(b"memory\t"),
+            Piece::Bytes(b"memory"),
             Piece::Bytes(key),
-            Piece::Bytes(b"\t"),
             Piece::Bytes(value),
-            Piece::Bytes(b"\n"),
         ],
     )
 }
@@ -72,7 +71,7 @@ fn put_state_count<K: Sink>(sink: &mut K, procs: &Procs, row: &Ranked) -> Result
     ensures { Puts (K.state sink.old) (K.state sink.new) (state_count_line procs.now.processes row.now) result }
 {
     let process = procs.at(row.place);
-    put_count_line(sink, b"state\t", text_of(&process.state), row.number)
+    put_count_line(sink, b"state", text_of(&process.state), row.number)
 }
 
 fn put_states<K: Sink>(sink: &mut K, procs: &Procs, rows: &[Ranked]) -> Result<(), Failed>
@@ -87,11 +86,11 @@ fn put_states<K: Sink>(sink: &mut K, procs: &Procs, rows: &[Ranked]) -> Result<(
 }
 
 // Writes the line of a process with one of its numbers.
-fn put_process_number<K: Sink>(
+fn put_process_number<'x, K: Sink>(
     sink: &mut K,
-    word: &[u8],
+    word: &'x [u8],
     index: &Index,
-    procs: &Procs,
+    procs: &'x Procs,
     row: &Ranked,
 ) -> Result<(), Failed>
     requires place { row.now.place < length procs.now.processes }
@@ -99,15 +98,12 @@ fn put_process_number<K: Sink>(
     ensures { Puts (K.state sink.old) (K.state sink.new)
         (process_number_line word.now index.now procs.now.processes row.now) result }
 {
-    put_pieces(
+    let (pid, name, at) = process_end(index, procs, row.place);
+    put_line(
         sink,
-        &[
-            Piece::Bytes(word),
-            Piece::Dec(row.number),
-            Piece::Bytes(b"\t"),
-        ],
-    )?;
-    put_process_end(sink, index, procs, row.place)
+        b"\t",
+        &[Piece::Bytes(word), Piece::Dec(row.number), pid, name, at],
+    )
 }
 
 // Writes the lines of processes, each after a word.
@@ -124,7 +120,7 @@ fn put_process_numbers<K: Sink>(
         (flat_map (process_number_line word.now index.now procs.now.processes) rows.now) result }
 {
     for row in rows {
-        put_process_number(sink, word, index, procs, row)?;
+        put_process_number(sink, &*word, index, &*procs, row)?;
     }
     Ok(())
 }
@@ -135,19 +131,15 @@ fn put_table_words<K: Sink>(sink: &mut K, tables: &Rows, row: &Ranked) -> Result
     requires width { tables.now.width ≡ 5 }
     ensures { Puts (K.state sink.old) (K.state sink.new) (table_words_line tables.now.rows row.now) result }
 {
-    let tab = Piece::Bytes(b"\t");
-    put_pieces(
+    put_line(
         sink,
+        b"\t",
         &[
-            Piece::Bytes(b"ets\t"),
+            Piece::Bytes(b"ets"),
             Piece::Dec(row.number),
-            tab,
             Piece::Bytes(text_at(tables, row.place, 0)),
-            tab,
             Piece::Bytes(text_at(tables, row.place, 2)),
-            tab,
             Piece::Dec(tables.at(row.place)),
-            Piece::Bytes(b"\n"),
         ],
     )
 }
@@ -178,16 +170,16 @@ fn put_triage_rows<K: Sink>(
         (triage_rows index.now procs.now.processes tables.now.rows triage.now) result }
 {
     put_states(sink, procs, triage.states())?;
-    put_process_numbers(sink, b"queue\t", index, procs, triage.queues())?;
-    put_process_numbers(sink, b"process\t", index, procs, triage.memory())?;
+    put_process_numbers(sink, b"queue", index, procs, triage.queues())?;
+    put_process_numbers(sink, b"process", index, procs, triage.memory())?;
     put_tables(sink, tables, triage.tables())
 }
 
 // Writes how many findings of a kind there are, if there are any.
 fn put_finding_count<'x, K: Sink>(sink: &mut K, kind: &'x [u8], count: u64) -> Result<(), Failed>
-    ensures { Puts (K.state sink.old) (K.state sink.new) (count_line (codes "finding\t") kind.now count) result }
+    ensures { Puts (K.state sink.old) (K.state sink.new) (count_line (codes "finding") kind.now count) result }
 {
-    put_count_line(sink, b"finding\t", kind, count)
+    put_count_line(sink, b"finding", kind, count)
 }
 
 fn put_finding_counts<K: Sink>(sink: &mut K, counts: FindingCounts) -> Result<(), Failed>

@@ -9,8 +9,7 @@ use Rattle.dump_sections.specs.declared.index.State.TheVariants.{Whole, Truncate
 use Rattle.dump_sections.specs.Bodies.{section_at}
 use Rattle.dump_sections.specs.Index.{Contents, state_of}
 use Rattle.process_table.specs.Processes.{Process}
-use Rattle.link_entries.specs.Kinds.{Kind}
-use Rattle.dump_audit.specs.FindingNames.{pid_at, kind_at, partner_in, partner_at, reference_in, reference_at}
+use Rattle.dump_audit.specs.FindingNames.{pid_at, partner_at, reference_at}
 use Rattle.dump_audit.specs.Findings.{Audit, findings}
 use Rattle.dump_audit.specs.declared.finding.Finding.{Finding}
 use Rattle.dump_audit.specs.declared.finding.Finding.TheVariants.{LinkOneSided, MonitorTo, MonitorFrom, Mailbox, UnreadLinks, UnreadQueue, LinkGone, ToGone, FromGone, QueueCount}
@@ -36,50 +35,36 @@ members ((key, value) ∷ rest) = member key value (members rest)
 
 -- ---- the object of a finding
 
--- one that names only its process
-abbrev pub process_object : List ℕ → List ℕ → ℕ → ℕ → Data
-process_object kind p at other = object (members (
-    (codes "at", num at) ∷ (codes "kind", string kind) ∷ (codes "other", num other) ∷ (codes "p", text p) ∷ []))
+-- what all findings have, with other members before their kind and behind their process
+abbrev pub object_of : List (List ℕ × Data) → List ℕ → List ℕ → List (List ℕ × Data) → ℕ → ℕ → Data
+object_of before kind p behind at other = object (members ((codes "at", num at) ∷ (before
+    ++ (codes "kind", string kind) ∷ (codes "other", num other) ∷ (codes "p", text p) ∷ behind)))
 
--- one on a link
-abbrev pub link_object : List ℕ → List ℕ → List ℕ → ℕ → ℕ → Data
-link_object kind p q at other = object (members (
-    (codes "at", num at) ∷ (codes "kind", string kind) ∷ (codes "other", num other) ∷ (codes "p", text p) ∷ (codes "q", text q) ∷ []))
+-- the member on the other process of a link
+abbrev pub partner_member : List ℕ → List (List ℕ × Data)
+partner_member q = (codes "q", text q) ∷ []
 
--- one on a monitor
-abbrev pub monitor_object : List ℕ → List ℕ → List ℕ → List ℕ → ℕ → ℕ → Data
-monitor_object kind p q reference at other = object (members (
-    (codes "at", num at) ∷ (codes "kind", string kind) ∷ (codes "other", num other) ∷ (codes "p", text p) ∷ (codes "q", text q)
-    ∷ (codes "ref", text reference) ∷ []))
-
--- one on a message queue that is above the limit
-abbrev pub mailbox_object : List ℕ → ℕ → ℕ → ℕ → Data
-mailbox_object p count at other = object (members (
-    (codes "at", num at) ∷ (codes "count", num count) ∷ (codes "kind", string (codes "mailbox")) ∷ (codes "other", num other)
-    ∷ (codes "p", text p) ∷ []))
-
--- one on a message queue whose number of messages isn't the stated one
-abbrev pub count_object : List ℕ → ℕ → ℕ → ℕ → ℕ → Data
-count_object p stated found at other = object (members (
-    (codes "at", num at) ∷ (codes "found", num found) ∷ (codes "kind", string (codes "queue-count")) ∷ (codes "other", num other)
-    ∷ (codes "p", text p) ∷ (codes "stated", num stated) ∷ []))
-
--- the object for a monitor of a process that isn't in the dump: the entry has both its pid and its reference
-abbrev pub gone_object : List ℕ → List ℕ → Kind → ℕ → ℕ → Data
-gone_object word p kind at other = monitor_object word p (partner_in kind) (reference_in kind) at other
+-- that on the other process of a monitor, and that on its reference
+abbrev pub monitor_members : List ℕ → List ℕ → List (List ℕ × Data)
+monitor_members q reference = (codes "q", text q) ∷ (codes "ref", text reference) ∷ []
 
 -- the object of a finding
 abbrev pub finding_object : List Process → Finding → Data
-finding_object ps (LinkOneSided p q entry at other) = link_object (codes "link") (pid_at ps p) (pid_at ps q) at other
-finding_object ps (MonitorTo p q entry at other) = monitor_object (codes "monitor-to") (pid_at ps p) (pid_at ps q) (reference_at ps p entry) at other
-finding_object ps (MonitorFrom p q entry at other) = monitor_object (codes "monitor-from") (pid_at ps p) (pid_at ps q) (reference_at ps p entry) at other
-finding_object ps (Mailbox p count at other) = mailbox_object (pid_at ps p) count at other
-finding_object ps (UnreadLinks p at other) = process_object (codes "unread-links") (pid_at ps p) at other
-finding_object ps (UnreadQueue p at other) = process_object (codes "unread-queue") (pid_at ps p) at other
-finding_object ps (LinkGone p entry at other) = link_object (codes "link-gone") (pid_at ps p) (partner_at ps p entry) at other
-finding_object ps (ToGone p entry at other) = gone_object (codes "to-gone") (pid_at ps p) (kind_at ps p entry) at other
-finding_object ps (FromGone p entry at other) = gone_object (codes "from-gone") (pid_at ps p) (kind_at ps p entry) at other
-finding_object ps (QueueCount p stated found at other) = count_object (pid_at ps p) stated found at other
+finding_object ps (LinkOneSided p q entry at other) = object_of [] (codes "link") (pid_at ps p) (partner_member (pid_at ps q)) at other
+finding_object ps (MonitorTo p q entry at other) =
+    object_of [] (codes "monitor-to") (pid_at ps p) (monitor_members (pid_at ps q) (reference_at ps p entry)) at other
+finding_object ps (MonitorFrom p q entry at other) =
+    object_of [] (codes "monitor-from") (pid_at ps p) (monitor_members (pid_at ps q) (reference_at ps p entry)) at other
+finding_object ps (Mailbox p count at other) = object_of ((codes "count", num count) ∷ []) (codes "mailbox") (pid_at ps p) [] at other
+finding_object ps (UnreadLinks p at other) = object_of [] (codes "unread-links") (pid_at ps p) [] at other
+finding_object ps (UnreadQueue p at other) = object_of [] (codes "unread-queue") (pid_at ps p) [] at other
+finding_object ps (LinkGone p entry at other) = object_of [] (codes "link-gone") (pid_at ps p) (partner_member (partner_at ps p entry)) at other
+finding_object ps (ToGone p entry at other) =
+    object_of [] (codes "to-gone") (pid_at ps p) (monitor_members (partner_at ps p entry) (reference_at ps p entry)) at other
+finding_object ps (FromGone p entry at other) =
+    object_of [] (codes "from-gone") (pid_at ps p) (monitor_members (partner_at ps p entry) (reference_at ps p entry)) at other
+finding_object ps (QueueCount p stated found at other) =
+    object_of ((codes "found", num found) ∷ []) (codes "queue-count") (pid_at ps p) ((codes "stated", num stated) ∷ []) at other
 
 -- ---- the tree
 

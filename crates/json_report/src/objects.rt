@@ -1,12 +1,12 @@
 // The object of a finding.
-ghost use Rattle.std.specs.Prelude.{◌≡◌, ◌<◌, length, OnOk};
+ghost use Rattle.std.specs.Prelude.{◌≡◌, ◌<◌, [], ◌∷◌, codes, length, OnOk};
 ghost use Rattle.serde_json.specs.Events.{SendsValue};
 ghost use Rattle.link_entries.specs.Seen.{shown_kind};
 ghost use Rattle.link_graph.specs.Graph.{graph_of};
-ghost use Rattle.dump_audit.specs.FindingNames.{pid_at};
+ghost use Rattle.dump_audit.specs.FindingNames.{partner_in, pid_at, reference_in};
 ghost use Rattle.dump_audit.specs.Fitting.{Fits};
 ghost use Rattle.json_report.specs.Laws.{Has64Bits};
-ghost use Rattle.json_report.specs.Trees.{process_object, link_object, monitor_object, mailbox_object, count_object, gone_object, finding_object};
+ghost use Rattle.json_report.specs.Trees.{finding_object, monitor_members, num, object_of, partner_member};
 
 use crate::members::{Told, send_object};
 use dump_audit::Finding;
@@ -24,7 +24,7 @@ fn send_process<'x, S: Serializer>(
     at: u64,
     other: u64,
 ) -> Result<(), S::Error>
-    ensures { OnOk result (SendsValue (process_object kind.now p.now at other) (S.written out.old) (S.written out.new)) }
+    ensures { OnOk result (SendsValue (object_of [] kind.now p.now [] at other) (S.written out.old) (S.written out.new)) }
 {
     let members = [
         ("at", Told::Number(at)),
@@ -44,7 +44,7 @@ fn send_link<'x, S: Serializer>(
     at: u64,
     other: u64,
 ) -> Result<(), S::Error>
-    ensures { OnOk result (SendsValue (link_object kind.now p.now q.now at other) (S.written out.old) (S.written out.new)) }
+    ensures { OnOk result (SendsValue (object_of [] kind.now p.now (partner_member q.now) at other) (S.written out.old) (S.written out.new)) }
 {
     let members = [
         ("at", Told::Number(at)),
@@ -66,7 +66,7 @@ fn send_monitor<'x, S: Serializer>(
     at: u64,
     other: u64,
 ) -> Result<(), S::Error>
-    ensures { OnOk result (SendsValue (monitor_object kind.now p.now q.now reference.now at other) (S.written out.old) (S.written out.new)) }
+    ensures { OnOk result (SendsValue (object_of [] kind.now p.now (monitor_members q.now reference.now) at other) (S.written out.old) (S.written out.new)) }
 {
     let members = [
         ("at", Told::Number(at)),
@@ -87,7 +87,7 @@ fn send_mailbox<S: Serializer>(
     at: u64,
     other: u64,
 ) -> Result<(), S::Error>
-    ensures { OnOk result (SendsValue (mailbox_object p.now count at other) (S.written out.old) (S.written out.new)) }
+    ensures { OnOk result (SendsValue (object_of ((codes "count", num count) ∷ []) (codes "mailbox") p.now [] at other) (S.written out.old) (S.written out.new)) }
 {
     let members = [
         ("at", Told::Number(at)),
@@ -108,7 +108,7 @@ fn send_count<S: Serializer>(
     at: u64,
     other: u64,
 ) -> Result<(), S::Error>
-    ensures { OnOk result (SendsValue (count_object p.now stated found at other) (S.written out.old) (S.written out.new)) }
+    ensures { OnOk result (SendsValue (object_of ((codes "found", num found) ∷ []) (codes "queue-count") p.now ((codes "stated", num stated) ∷ []) at other) (S.written out.old) (S.written out.new)) }
 {
     let members = [
         ("at", Told::Number(at)),
@@ -139,7 +139,7 @@ fn send_gone<'x, S: Serializer>(
     at: u64,
     other: u64,
 ) -> Result<(), S::Error>
-    ensures { OnOk result (SendsValue (gone_object word.now p.now (shown_kind kind.entry) at other) (S.written out.old) (S.written out.new)) }
+    ensures { OnOk result (SendsValue (object_of [] word.now p.now (monitor_members (partner_in (shown_kind kind.entry)) (reference_in (shown_kind kind.entry))) at other) (S.written out.old) (S.written out.new)) }
 {
     send_monitor(
         out,

@@ -4,7 +4,8 @@ ghost use Rattle.dump_io.specs.Sinks.{Puts};
 ghost use Rattle.dump_sections.specs.Index.{sections_in, state_of};
 ghost use Rattle.report_lines.specs.States.{state_line};
 
-use dump_io::{Failed, Piece, Sink, put_pieces, write_all};
+use crate::count_lines::put_line;
+use dump_io::{Failed, Piece, Sink, write_all};
 use dump_sections::{Index, State};
 
 /// Writes the state line: that the dump is whole, or in which section it is truncated.
@@ -17,14 +18,13 @@ pub fn put_state<K: Sink>(sink: &mut K, index: &Index) -> Result<(), Failed>
         State::Whole => write_all(sink, b"whole\n"),
         State::TruncatedIn(last) => {
             let s = index.extent(last);
-            put_pieces(
+            put_line(
                 sink,
+                b" ",
                 &[
-                    Piece::Bytes(b"truncated "),
+                    Piece::Bytes(b"truncated"),
                     Piece::Dec(s.at),
-                    Piece::Bytes(b" "),
                     Piece::Bytes(s.text),
-                    Piece::Bytes(b"\n"),
                 ],
             )
         }

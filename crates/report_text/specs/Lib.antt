@@ -1,3 +1,4 @@
+pub mod Inner
 pub mod Links
 pub mod Refusals
 pub mod Reports

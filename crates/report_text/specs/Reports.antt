@@ -1,18 +1,18 @@
 -- The texts of the reports, line by line. Offsets are of the file.
-use Rattle.std.specs.Prelude.{ℕ, List, [], ◌∷◌, ◌++◌, decimal, codes, length, unwrap_or, Option}
-use Rattle.std.specs.List.{concat, flat_map}
+use Rattle.std.specs.Prelude.{ℕ, List, [], ◌∷◌, ◌++◌, decimal, codes, length, Option}
+use Rattle.std.specs.List.{flat_map}
 use Rattle.dump_io.specs.Lines.{Header}
 use Rattle.field_lines.specs.Fields.{find_value}
 use Rattle.dump_sections.specs.declared.version.Version.{Version}
 use Rattle.dump_sections.specs.declared.version.Version.TheVariants.{V03, V04, V05}
 use Rattle.dump_sections.specs.Sections.{Section, sections_of}
 use Rattle.dump_sections.specs.Index.{state_of}
-use Rattle.report_lines.specs.Lines.{newline, space}
+use Rattle.report_lines.specs.Lines.{line_of, newline, space, text_or_dash}
 use Rattle.report_lines.specs.States.{state_line}
 
 -- the line of a section: where its header begins, where its body begins and ends, and its header's text
 abbrev pub section_line : Section → List ℕ
-section_line s = concat (decimal s.at ∷ space ∷ decimal s.body ∷ space ∷ decimal s.end ∷ space ∷ s.text ∷ newline ∷ [])
+section_line s = line_of space (decimal s.at ∷ decimal s.body ∷ decimal s.end ∷ s.text ∷ [])
 
 -- the report of `index` on a dump with these headers and
 -- this size: a line for each section, then the state line
@@ -28,17 +28,13 @@ version_text V05 = codes "0.5"
 
 -- the line of a tag, with the number of sections that have it
 abbrev pub tag_line : List ℕ × ℕ → List ℕ
-tag_line (tag, count) = concat (codes "tag " ∷ decimal count ∷ space ∷ tag ∷ newline ∷ [])
-
--- a text, or `-` if there is none
-abbrev pub text_or_dash : Option (List ℕ) → List ℕ
-text_or_dash text = unwrap_or text (codes "-")
+tag_line (tag, count) = line_of space (codes "tag" ∷ decimal count ∷ tag ∷ [])
 
 -- the first lines of `info`: version, size, number of sections and slogan
 abbrev pub info_heading : List ℕ → ℕ → ℕ → Option (List ℕ) → List ℕ
 info_heading version size sections slogan =
-    concat (codes "version " ∷ version ∷ newline ∷ codes "size " ∷ decimal size ∷ newline
-    ∷ codes "sections " ∷ decimal sections ∷ newline ∷ codes "slogan " ∷ text_or_dash slogan ∷ newline ∷ [])
+    line_of newline ((codes "version " ++ version) ∷ (codes "size " ++ decimal size)
+    ∷ (codes "sections " ++ decimal sections) ∷ (codes "slogan " ++ text_or_dash slogan) ∷ [])
 
 -- the report of `info` on a dump of this version, with these headers and
 -- this size, these counts of tags and this body of the first section

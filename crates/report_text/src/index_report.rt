@@ -6,25 +6,21 @@ ghost use Rattle.dump_sections.specs.Index.{sections_in};
 ghost use Rattle.dump_sections.specs.Sections.{section};
 ghost use Rattle.report_text.specs.Reports.{section_line, index_report};
 
-use dump_io::{Failed, Piece, Sink, put_pieces};
+use dump_io::{Failed, Piece, Sink};
 use dump_sections::{Extent, Index};
-use report_lines::put_state;
+use report_lines::{put_line, put_state};
 
 fn put_section<K: Sink>(sink: &mut K, s: &Extent<'_>) -> Result<(), Failed>
     ensures { Puts (K.state sink.old) (K.state sink.new) (section_line (section s.now.at s.now.body s.now.end s.now.text.now)) result }
 {
-    let space = Piece::Bytes(b" ");
-    put_pieces(
+    put_line(
         sink,
+        b" ",
         &[
             Piece::Dec(s.at),
-            space,
             Piece::Dec(s.body),
-            space,
             Piece::Dec(s.end),
-            space,
             Piece::Bytes(s.text),
-            Piece::Bytes(b"\n"),
         ],
     )
 }

@@ -3,12 +3,13 @@ ghost use Rattle.std.specs.Prelude.{◌≡◌, length, codes};
 ghost use Rattle.std.specs.List.{flat_map};
 ghost use Rattle.dump_io.specs.Sinks.{Puts};
 ghost use Rattle.field_lines.specs.Fields.{find_value};
-ghost use Rattle.report_text.specs.Reports.{version_text, text_or_dash, tag_line, info_heading, info_report};
+ghost use Rattle.report_lines.specs.Lines.{text_or_dash};
+ghost use Rattle.report_text.specs.Reports.{version_text, tag_line, info_heading, info_report};
 
 use dump_io::{Failed, Piece, Sink, put_pieces};
 use dump_sections::{Index, Tags, Version};
 use field_lines::find;
-use report_lines::put_state;
+use report_lines::{put_line, put_state};
 
 fn version_text(version: Version) -> &'static [u8]
     ensures { result.now ≡ version_text version }
@@ -60,15 +61,10 @@ pub fn put_heading<K: Sink>(sink: &mut K, index: &Index, first_body: &[u8]) -> R
 fn put_tag<K: Sink>(sink: &mut K, tag: &[u8], count: u64) -> Result<(), Failed>
     ensures { Puts (K.state sink.old) (K.state sink.new) (tag_line (tag.now, count)) result }
 {
-    put_pieces(
+    put_line(
         sink,
-        &[
-            Piece::Bytes(b"tag "),
-            Piece::Dec(count),
-            Piece::Bytes(b" "),
-            Piece::Bytes(tag),
-            Piece::Bytes(b"\n"),
-        ],
+        b" ",
+        &[Piece::Bytes(b"tag"), Piece::Dec(count), Piece::Bytes(tag)],
     )
 }
 

@@ -21,7 +21,7 @@ pub use field_report::put_fields;
 pub use index_report::put_index;
 pub use info_report::{put_heading, put_info};
 pub use link_report::put_links;
-pub use process_report::{put_process_end, put_processes_line, put_procs, text_of};
+pub use process_report::{process_end, put_processes_line, put_procs, text_of};
 pub use refusals::{Refusal, put_refusal};
 pub use report_lines::put_state;
 pub use table_report::{put_rows, text_at};

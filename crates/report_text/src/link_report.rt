@@ -6,11 +6,12 @@ ghost use Rattle.process_table.specs.Shown.{shown_process};
 ghost use Rattle.link_entries.specs.Lists.{links_at};
 ghost use Rattle.link_entries.specs.Seen.{shown_entry, shown_kind};
 ghost use Rattle.link_graph.specs.Graph.{graph_of, links_of};
-ghost use Rattle.report_text.specs.Links.{kind_word, entry_line, unread_line, process_links, entry_count, entries_line, links_report};
+ghost use Rattle.report_text.specs.Links.{kind_word, entry_line, unread_line, process_links, entry_count, links_report};
 
-use dump_io::{Failed, Piece, Sink, put_pieces};
+use dump_io::{Failed, Piece, Sink};
 use link_graph::{Entry, EntryKind, Graph};
 use process_table::{Proc, Procs};
+use report_lines::{put_line, put_total_line};
 
 fn kind_word(kind: &EntryKind<'_>) -> &'static [u8]
     ensures { result.now ≡ kind_word (shown_kind kind.now) }
@@ -31,18 +32,14 @@ fn kind_word(kind: &EntryKind<'_>) -> &'static [u8]
 fn put_entry<'x, K: Sink>(sink: &mut K, pid: &'x [u8], entry: &Entry<'x>) -> Result<(), Failed>
     ensures { Puts (K.state sink.old) (K.state sink.new) (entry_line pid.now (shown_entry entry.now)) result }
 {
-    let space = Piece::Bytes(b" ");
-    put_pieces(
+    put_line(
         sink,
+        b" ",
         &[
             Piece::Dec(entry.at),
-            space,
             Piece::Bytes(pid),
-            space,
             Piece::Bytes(kind_word(&entry.kind)),
-            space,
             Piece::Bytes(entry.text),
-            Piece::Bytes(b"\n"),
         ],
     )
 }
@@ -65,13 +62,13 @@ fn put_unread<K: Sink>(sink: &mut K, process: &Proc<'_>) -> Result<(), Failed>
     let Some(list) = process.links else {
         return Ok(());
     };
-    put_pieces(
+    put_line(
         sink,
+        b" ",
         &[
             Piece::Dec(list.at),
-            Piece::Bytes(b" "),
             Piece::Bytes(process.pid),
-            Piece::Bytes(b" unread\n"),
+            Piece::Bytes(b"unread"),
         ],
     )
 }
@@ -116,19 +113,6 @@ fn entry_total(procs: &Procs, graph: &Graph<'_>) -> u64
     total
 }
 
-fn put_total<K: Sink>(sink: &mut K, total: u64) -> Result<(), Failed>
-    ensures { Puts (K.state sink.old) (K.state sink.new) (entries_line total) result }
-{
-    put_pieces(
-        sink,
-        &[
-            Piece::Bytes(b"entries "),
-            Piece::Dec(total),
-            Piece::Bytes(b"\n"),
-        ],
-    )
-}
-
 /// Writes a line for each entry of the link lists, `AT PID WORD ENTRY`: its offset, the pid of the
 /// process, the word of its kind and its text. An unread link list has the line `AT PID unread`,
 /// with the offset of its field. Then comes `entries N`. The graph is that of the processes.
@@ -137,5 +121,5 @@ pub fn put_links<K: Sink>(sink: &mut K, procs: &Procs, graph: &Graph<'_>) -> Res
     ensures { Puts (K.state sink.old) (K.state sink.new) (links_report procs.now.processes) result }
 {
     put_processes(sink, procs, graph)?;
-    put_total(sink, entry_total(procs, graph))
+    put_total_line(sink, b"entries", entry_total(procs, graph))
 }

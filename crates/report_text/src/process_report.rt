@@ -1,15 +1,17 @@
 // The report of `procs`, and what other reports say of a process.
-ghost use Rattle.std.specs.Prelude.{◌≡◌, ◌<◌, All, length};
+ghost use Rattle.std.specs.Prelude.{◌≡◌, ◌<◌, [], ◌∷◌, All, length};
 ghost use Rattle.std.specs.List.{flat_map};
+ghost use Rattle.dump_io.specs.Pieces.{piece_text};
 ghost use Rattle.dump_io.specs.Sinks.{Puts};
 ghost use Rattle.process_table.specs.Processes.{IsIn, process_at};
 ghost use Rattle.process_table.specs.Shown.{shown_process};
 ghost use Rattle.section_rows.specs.Shown.{shown_cell};
 ghost use Rattle.report_text.specs.Tables.{cell_text, process_end, process_line, processes_line, procs_report};
 
-use dump_io::{Failed, Piece, Sink, put_pieces};
+use dump_io::{Failed, Piece, Sink};
 use dump_sections::Index;
 use process_table::{Kept, Proc, Procs};
+use report_lines::put_line;
 
 /// The text of a field, or `-`.
 pub fn text_of<'a>(cell: &Option<Kept<'a>>) -> &'a [u8]
@@ -24,50 +26,35 @@ pub fn text_of<'a>(cell: &Option<Kept<'a>>) -> &'a [u8]
 fn put_process<K: Sink>(sink: &mut K, process: &Proc<'_>) -> Result<(), Failed>
     ensures { Puts (K.state sink.old) (K.state sink.new) (process_line (shown_process process.now)) result }
 {
-    let tab = Piece::Bytes(b"\t");
-    put_pieces(
+    put_line(
         sink,
+        b"\t",
         &[
             Piece::Bytes(process.pid),
-            tab,
             Piece::Bytes(text_of(&process.state)),
-            tab,
             Piece::Bytes(text_of(&process.name)),
-            tab,
             Piece::Bytes(text_of(&process.queue)),
-            tab,
             Piece::Bytes(text_of(&process.memory)),
-            Piece::Bytes(b"\n"),
         ],
     )
 }
 
-/// Writes the end of a line on the process at a place, `PID NAME AT` with tabs between them.
-///
-/// Returns `Failed` only if the sink failed; a proper prefix of the text was written then.
-pub fn put_process_end<K: Sink>(
-    sink: &mut K,
+/// The end of a line on the process at a place: its pid, its name
+/// or `-`, and the offset of the header of its section.
+pub fn process_end<'x>(
     index: &Index,
-    procs: &Procs,
+    procs: &'x Procs,
     place: usize,
-) -> Result<(), Failed>
+) -> (Piece<'x>, Piece<'x>, Piece<'x>)
     requires place { place < length procs.now.processes }
     requires processes { All (IsIn index.now) procs.now.processes }
-    ensures { Puts (K.state sink.old) (K.state sink.new) (process_end index.now (process_at procs.now.processes place)) result }
+    ensures { piece_text result.0 ∷ piece_text result.1 ∷ piece_text result.2 ∷ [] ≡ process_end index.now (process_at procs.now.processes place) }
 {
     let process = procs.at(place);
-    let name = text_of(&process.name);
-    let tab = Piece::Bytes(b"\t");
-    put_pieces(
-        sink,
-        &[
-            Piece::Bytes(process.pid),
-            tab,
-            Piece::Bytes(name),
-            tab,
-            Piece::Dec(index.section(process.section).at),
-            Piece::Bytes(b"\n"),
-        ],
+    (
+        Piece::Bytes(process.pid),
+        Piece::Bytes(text_of(&process.name)),
+        Piece::Dec(index.section(process.section).at),
     )
 }
 
@@ -86,14 +73,14 @@ fn put_processes<K: Sink>(sink: &mut K, procs: &Procs) -> Result<(), Failed>
 pub fn put_processes_line<K: Sink>(sink: &mut K, procs: &Procs) -> Result<(), Failed>
     ensures { Puts (K.state sink.old) (K.state sink.new) (processes_line (length procs.now.processes) procs.now.repeated) result }
 {
-    put_pieces(
+    put_line(
         sink,
+        b" ",
         &[
-            Piece::Bytes(b"processes "),
+            Piece::Bytes(b"processes"),
             Piece::Dec(procs.len() as u64),
-            Piece::Bytes(b" repeated "),
+            Piece::Bytes(b"repeated"),
             Piece::Dec(procs.repeated()),
-            Piece::Bytes(b"\n"),
         ],
     )
 }

@@ -1,12 +1,12 @@
 // The lines that say why a command is refused.
 ghost use Rattle.std.specs.Prelude.{[], ◌∷◌, codes, decimal};
-ghost use Rattle.std.specs.List.{concat};
 ghost use Rattle.dump_io.specs.Pieces.{piece_text};
 ghost use Rattle.dump_io.specs.Sinks.{Puts};
-ghost use Rattle.report_lines.specs.Lines.{newline};
-ghost use Rattle.report_text.specs.Refusals.{IsRefusal, IsRefusing, refusal_line};
+ghost use Rattle.report_lines.specs.Lines.{line_of, space};
+ghost use Rattle.report_text.specs.Refusals.{IsRefusal, refusal_line};
 
-use dump_io::{Failed, Piece, Sink, Text, put_pieces, write_all};
+use dump_io::{Failed, Piece, Sink, Text, write_all};
+use report_lines::put_line;
 use section_index::OpenFault;
 
 /// Why a command is refused.
@@ -36,16 +36,12 @@ pub enum Refusal {
 
 // Writes a line whose cause is a text followed by a piece.
 fn put_cause<'x, K: Sink>(sink: &mut K, cause: &'x [u8], what: Piece<'x>) -> Result<(), Failed>
-    ensures { Puts (K.state sink.old) (K.state sink.new) (concat (codes "refused: " ∷ cause.now ∷ piece_text what.entry ∷ newline ∷ [])) result }
+    ensures { Puts (K.state sink.old) (K.state sink.new) (line_of space (codes "refused:" ∷ cause.now ∷ piece_text what.entry ∷ [])) result }
 {
-    put_pieces(
+    put_line(
         sink,
-        &[
-            Piece::Bytes(b"refused: "),
-            Piece::Bytes(cause),
-            what,
-            Piece::Bytes(b"\n"),
-        ],
+        b" ",
+        &[Piece::Bytes(b"refused:"), Piece::Bytes(cause), what],
     )
 }
 
@@ -57,39 +53,39 @@ fn put_long_cause<'x, K: Sink>(
     link: &'x [u8],
     number: u64,
 ) -> Result<(), Failed>
-    ensures { Puts (K.state sink.old) (K.state sink.new) (concat (codes "refused: " ∷ cause.now ∷ piece_text what.entry ∷ link.now ∷ decimal number ∷ newline ∷ [])) result }
+    ensures { Puts (K.state sink.old) (K.state sink.new) (line_of space (codes "refused:" ∷ cause.now ∷ piece_text what.entry ∷ link.now ∷ decimal number ∷ [])) result }
 {
-    put_pieces(
+    put_line(
         sink,
+        b" ",
         &[
-            Piece::Bytes(b"refused: "),
+            Piece::Bytes(b"refused:"),
             Piece::Bytes(cause),
             what,
             Piece::Bytes(link),
             Piece::Dec(number),
-            Piece::Bytes(b"\n"),
         ],
     )
 }
 
 fn put_open_fault<K: Sink>(sink: &mut K, fault: &OpenFault) -> Result<(), Failed>
-    requires { IsRefusing fault.now }
+    requires { IsRefusal (Refusal.Open fault.now) }
     ensures { Puts (K.state sink.old) (K.state sink.new) (refusal_line (Refusal.Open fault.now)) result }
 {
     match fault {
         OpenFault::Compressed => write_all(sink, b"refused: compressed\n"),
         OpenFault::NotADump => write_all(sink, b"refused: not a dump\n"),
-        OpenFault::Version { text } => put_cause(sink, b"version ", Piece::Bytes(text.bytes())),
-        OpenFault::TooLarge { size } => put_cause(sink, b"dump too large ", Piece::Dec(*size)),
-        OpenFault::HeaderTooLong { at } => put_cause(sink, b"header too long at ", Piece::Dec(*at)),
+        OpenFault::Version { text } => put_cause(sink, b"version", Piece::Bytes(text.bytes())),
+        OpenFault::TooLarge { size } => put_cause(sink, b"dump too large", Piece::Dec(*size)),
+        OpenFault::HeaderTooLong { at } => put_cause(sink, b"header too long at", Piece::Dec(*at)),
         OpenFault::TooManySections { at } => put_cause(
             sink,
-            b"too many sections at ",
+            b"too many sections at",
             Piece::Dec(*at),
         ),
         OpenFault::HeadersTooLarge { at } => put_cause(
             sink,
-            b"headers too large at ",
+            b"headers too large at",
             Piece::Dec(*at),
         ),
         OpenFault::Read | OpenFault::Memory => unreachable!(),
@@ -103,21 +99,21 @@ pub fn put_refusal<K: Sink>(sink: &mut K, refusal: &Refusal) -> Result<(), Faile
 {
     match refusal {
         Refusal::Open(fault) => put_open_fault(sink, fault),
-        Refusal::NoProcess(pid) => put_cause(sink, b"no process ", Piece::Bytes(pid.bytes())),
+        Refusal::NoProcess(pid) => put_cause(sink, b"no process", Piece::Bytes(pid.bytes())),
         Refusal::SectionTooLarge { at, len } => put_long_cause(
             sink,
-            b"section too large at ",
+            b"section too large at",
             Piece::Dec(*at),
-            b" length ",
+            b"length",
             *len,
         ),
-        Refusal::TooDense { count } => put_cause(sink, b"heap too dense ", Piece::Dec(*count)),
-        Refusal::NoAddress { addr } => put_cause(sink, b"no address ", Piece::Hex(*addr)),
-        Refusal::NotExt { addr } => put_cause(sink, b"not external ", Piece::Hex(*addr)),
+        Refusal::TooDense { count } => put_cause(sink, b"heap too dense", Piece::Dec(*count)),
+        Refusal::NoAddress { addr } => put_cause(sink, b"no address", Piece::Hex(*addr)),
+        Refusal::NotExt { addr } => put_cause(sink, b"not external", Piece::Hex(*addr)),
         Refusal::BadExt { addr, at } => {
-            put_long_cause(sink, b"bad external ", Piece::Hex(*addr), b" at ", *at)
+            put_long_cause(sink, b"bad external", Piece::Hex(*addr), b"at", *at)
         }
-        Refusal::NoBinary { addr } => put_cause(sink, b"no binary ", Piece::Hex(*addr)),
-        Refusal::BadBinary { at } => put_cause(sink, b"bad binary at ", Piece::Dec(*at)),
+        Refusal::NoBinary { addr } => put_cause(sink, b"no binary", Piece::Hex(*addr)),
+        Refusal::BadBinary { at } => put_cause(sink, b"bad binary at", Piece::Dec(*at)),
     }
 }

@@ -3,11 +3,12 @@ ghost use Rattle.std.specs.Prelude.{◌≡◌, ◌<◌, length};
 ghost use Rattle.std.specs.List.{flat_map};
 ghost use Rattle.dump_io.specs.Sinks.{Puts};
 ghost use Rattle.section_rows.specs.Rows.{row_at, cell_at, text_in, AreEven};
-ghost use Rattle.report_text.specs.Reports.{text_or_dash};
-ghost use Rattle.report_text.specs.Tables.{next_cell, row_line, rows_report};
+ghost use Rattle.report_lines.specs.Lines.{text_or_dash};
+ghost use Rattle.report_text.specs.Inner.Rows.{next_cell};
+ghost use Rattle.report_text.specs.Tables.{row_line, rows_report};
 
-use crate::field_report::put_rows_line;
 use dump_io::{Failed, Piece, Sink, put_dec, put_pieces, write_all};
+use report_lines::put_total_line;
 use table_sections::Rows;
 
 /// The text of a cell, or `-`.
@@ -61,5 +62,5 @@ pub fn put_rows<K: Sink>(sink: &mut K, rows: &Rows) -> Result<(), Failed>
     ensures { Puts (K.state sink.old) (K.state sink.new) (rows_report rows.now) result }
 {
     put_all(sink, rows)?;
-    put_rows_line(sink, rows.len() as u64)
+    put_total_line(sink, b"rows", rows.len() as u64)
 }

@@ -1,15 +1,15 @@
 -- The report of the cells of a heap: what each is, how large, and how many there are of each kind.
 use Rattle.std.specs.Prelude.{ℕ, List, [], ◌∷◌, ◌++◌, length, take, decimal, codes, count_by, Option, None, Some}
-use Rattle.std.specs.List.{concat, flat_map}
+use Rattle.std.specs.List.{flat_map}
 use Rattle.std.specs.Option.{option_and_then, option_map}
 use Rattle.std.specs.Str.{bytes_eq}
 use Rattle.dump_io.specs.Numbers.{hexadecimal}
-use Rattle.term_forms.specs.Forms.{HeapForm, Cons, Tuple, Float, Long, Pid, Port, Ext, HeapBin, RefBin, SubBin, Flat, Hash, Node}
+use Rattle.term_forms.specs.Forms.{HeapForm, Cons, Tuple, Ext, HeapBin, RefBin, SubBin, Flat, Hash, Node}
 use Rattle.heap_cells.specs.Cells.{Cell, kind_of}
 use Rattle.heap_cells.specs.HeapMap.{HeapMap}
 use Rattle.cell_records.specs.declared.cells.Kind.{Kind}
 use Rattle.cell_records.specs.declared.cells.Kind.TheVariants as kind
-use Rattle.report_lines.specs.Lines.{count_line, newline, tab}
+use Rattle.report_lines.specs.Lines.{count_line, line_of, tab, text_or_dash, total_line}
 
 -- the word for a kind of cells; a cell without a kind is malformed
 abbrev pub kind_word : Option Kind → List ℕ
@@ -39,10 +39,6 @@ all_kinds =
 abbrev pub size_in : HeapForm → Option ℕ
 size_in (Cons head tail) = Some 2
 size_in (Tuple elements) = Some (length elements)
-size_in (Float bytes) = None
-size_in (Long number) = None
-size_in (Pid pid) = None
-size_in (Port port) = None
 size_in (Ext size chars) = Some size
 size_in (HeapBin size chars) = Some size
 size_in (RefBin address offset size) = Some size
@@ -50,20 +46,16 @@ size_in (SubBin address offset size) = Some size
 size_in (Flat keys values) = Some (length values)
 size_in (Hash size children) = Some size
 size_in (Node children) = Some (length children)
-
--- a size, or `-` if there is none
-abbrev pub size_text : Option ℕ → List ℕ
-size_text None = codes "-"
-size_text (Some size) = decimal size
+size_in form = None
 
 -- the word for the kind of a form
 abbrev pub word_of : Option HeapForm → List ℕ
 word_of form = kind_word (option_map kind_of form)
 
--- the line of a cell: its address, its kind and its size, with a tab between them
+-- the line of a cell: its address, its kind and its size, or `-` if it has none
 abbrev pub cell_line : Cell → List ℕ
 cell_line cell =
-    concat (hexadecimal cell.address ∷ tab ∷ word_of cell.form ∷ tab ∷ size_text (option_and_then size_in cell.form) ∷ newline ∷ [])
+    line_of tab (hexadecimal cell.address ∷ word_of cell.form ∷ text_or_dash (option_map decimal (option_and_then size_in cell.form)) ∷ [])
 
 -- how many of some cells have the kind with this word
 abbrev pub count_of : List Cell → List ℕ → ℕ
@@ -71,15 +63,11 @@ count_of cells word = count_by (λ cell. bytes_eq (word_of cell.form) word) cell
 
 -- the line of a kind among some cells
 abbrev pub kind_line : List Cell → Option Kind → List ℕ
-kind_line cells kind = count_line (codes "kind\t") (kind_word kind) (count_of cells (kind_word kind))
-
--- the last line: how many cells there are
-abbrev pub cells_line : ℕ → List ℕ
-cells_line count = concat (codes "cells " ∷ decimal count ∷ newline ∷ [])
+kind_line cells kind = count_line (codes "kind") (kind_word kind) (count_of cells (kind_word kind))
 
 -- the report of some cells
 abbrev pub cells_text : List Cell → List ℕ
-cells_text cells = flat_map cell_line cells ++ (flat_map (kind_line cells) all_kinds ++ cells_line (length cells))
+cells_text cells = flat_map cell_line cells ++ (flat_map (kind_line cells) all_kinds ++ total_line (codes "cells") (length cells))
 
 -- the report of the heap's own cells, which come before the literals
 abbrev pub cells_report : HeapMap → List ℕ

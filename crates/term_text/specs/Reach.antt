@@ -1,19 +1,17 @@
 -- The report of what the roots of a process reach. A set of cells is a test of their numbers.
 use Rattle.std.specs.Prelude.{ℕ, ◌-◌, Bool, List, [], ◌∷◌, ◌++◌, length, decimal, codes}
-use Rattle.std.specs.List.{concat, flat_map}
+use Rattle.std.specs.List.{flat_map}
 use Rattle.dump_io.specs.Numbers.{hexadecimal}
 use Rattle.term_forms.specs.Elements.{Element}
-use Rattle.root_views.specs.Roots.{BodyRoot, Content, Term, Info, Dist, Unread}
+use Rattle.root_views.specs.Roots.{BodyRoot, Content, Term}
 use Rattle.heap_cells.specs.HeapMap.{HeapMap}
 use Rattle.heap_reach.specs.Unreached.{count_below, unreached_of}
-use Rattle.report_lines.specs.Lines.{newline}
+use Rattle.report_lines.specs.Lines.{line_of, space}
 
--- the element of a root that is a term
+-- the element of a root, if it is a term
 abbrev pub term_in : Content → List Element
 term_in (Term e) = e ∷ []
-term_in (Info text) = []
-term_in (Dist text) = []
-term_in Unread = []
+term_in content = []
 
 -- the elements of the roots that are terms
 abbrev pub terms_of : List BodyRoot → List Element
@@ -21,12 +19,12 @@ terms_of roots = flat_map (λ root. term_in root.content) roots
 
 -- the line of a cell that isn't reached
 abbrev pub unreached_line : ℕ → List ℕ
-unreached_line address = concat (codes "unreached " ∷ hexadecimal address ∷ newline ∷ [])
+unreached_line address = line_of space (codes "unreached" ∷ hexadecimal address ∷ [])
 
 -- the last line: how many cells a heap has of its own, how many of them are reached, and how many literals are reached
 abbrev pub totals_line : ℕ → ℕ → ℕ → List ℕ
 totals_line own reached literals =
-    concat (codes "own " ∷ decimal own ∷ codes " reached " ∷ decimal reached ∷ codes " literals " ∷ decimal literals ∷ newline ∷ [])
+    line_of space (codes "own" ∷ decimal own ∷ codes "reached" ∷ decimal reached ∷ codes "literals" ∷ decimal literals ∷ [])
 
 -- the report on a heap of which this set of cells is reached: the literals come after its own cells
 abbrev pub reach_report : HeapMap → (ℕ → Bool) → List ℕ

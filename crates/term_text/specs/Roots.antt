@@ -1,12 +1,12 @@
 -- The texts of the roots of a process, of one term, of an external term, and of a whole binary. Offsets are of the file.
 use Rattle.std.specs.Prelude.{ℕ, zero, suc, ◌+◌, ◌/◌, Bool, List, [], ◌∷◌, ◌++◌, length, take, drop, decimal, codes}
-use Rattle.std.specs.List.{concat, flat_map}
+use Rattle.std.specs.List.{flat_map}
 use Rattle.dump_io.specs.Numbers.{hexadecimal, hex_byte}
 use Rattle.etf_terms.specs.Reading.{external_text}
 use Rattle.term_forms.specs.Elements.{Element, Ref}
 use Rattle.term_unfold.specs.Walks.{Walk, answer}
 use Rattle.root_views.specs.Roots.{Content, Term, Info, Dist, Unread, BodyRoot}
-use Rattle.report_lines.specs.Lines.{newline, space}
+use Rattle.report_lines.specs.Lines.{line_of, newline, space, total_line}
 
 -- the answer to an element within a budget of nodes, over a heap and its previews
 abbrev pub answer_over : Walk → ℕ → Bool → Element → List ℕ
@@ -19,21 +19,13 @@ content_text say (Info text) = codes "# " ++ text
 content_text say (Dist text) = codes "D " ++ decimal (length text)
 content_text say Unread = codes "?"
 
--- the beginning of a root's line: its offset, given where the body begins, and its label
-abbrev pub root_heading : ℕ → BodyRoot → List ℕ
-root_heading base root = concat (decimal (base + root.at) ∷ space ∷ root.label ∷ space ∷ [])
-
--- the line of a root
+-- the line of a root: its offset, given where the body begins, its label, and what it is
 abbrev pub root_line : (Element → List ℕ) → ℕ → BodyRoot → List ℕ
-root_line say base root = root_heading base root ++ (content_text say root.content ++ newline)
-
--- the last line: how many roots there are
-abbrev pub roots_line : ℕ → List ℕ
-roots_line count = concat (codes "roots " ∷ decimal count ∷ newline ∷ [])
+root_line say base root = line_of space (decimal (base + root.at) ∷ root.label ∷ content_text say root.content ∷ [])
 
 -- the report of the roots of a body that begins at this offset
 abbrev pub roots_report : (Element → List ℕ) → ℕ → List BodyRoot → List ℕ
-roots_report say base roots = flat_map (root_line say base) roots ++ roots_line (length roots)
+roots_report say base roots = flat_map (root_line say base) roots ++ total_line (codes "roots") (length roots)
 
 -- the report of one term: the answer to the reference to this address
 abbrev pub term_report : (Element → List ℕ) → ℕ → List ℕ
@@ -58,7 +50,7 @@ line_count bytes = (length bytes + 31) / 32
 
 -- the first line: the address of a binary, and how many bytes it has
 abbrev pub binary_heading : ℕ → ℕ → List ℕ
-binary_heading address size = concat (codes "binary " ∷ hexadecimal address ∷ codes " size " ∷ decimal size ∷ newline ∷ [])
+binary_heading address size = line_of space (codes "binary" ∷ hexadecimal address ∷ codes "size" ∷ decimal size ∷ [])
 
 -- the report of the binary with this address
 abbrev pub binary_report : ℕ → List ℕ → List ℕ

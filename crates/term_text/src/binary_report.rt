@@ -3,19 +3,20 @@ ghost use Rattle.std.specs.Prelude.{◌≡◌, take, drop};
 ghost use Rattle.dump_io.specs.Sinks.{Puts};
 ghost use Rattle.term_text.specs.Roots.{binary_heading, binary_report, hex_line, hex_lines, line_count};
 
-use dump_io::{Failed, Piece, Sink, put_hex_bytes, put_pieces, write_all};
+use dump_io::{Failed, Piece, Sink, put_hex_bytes, write_all};
+use report_lines::put_line;
 
 fn put_heading<K: Sink>(sink: &mut K, addr: u64, size: u64) -> Result<(), Failed>
     ensures { Puts (K.state sink.old) (K.state sink.new) (binary_heading addr size) result }
 {
-    put_pieces(
+    put_line(
         sink,
+        b" ",
         &[
-            Piece::Bytes(b"binary "),
+            Piece::Bytes(b"binary"),
             Piece::Hex(addr),
-            Piece::Bytes(b" size "),
+            Piece::Bytes(b"size"),
             Piece::Dec(size),
-            Piece::Bytes(b"\n"),
         ],
     )
 }

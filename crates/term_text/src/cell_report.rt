@@ -1,5 +1,5 @@
 // The report of `cells`.
-ghost use Rattle.std.specs.Prelude.{◌≡◌, ◌<◌, length, take};
+ghost use Rattle.std.specs.Prelude.{◌≡◌, ◌<◌, codes, decimal, length, take};
 ghost use Rattle.std.specs.List.{flat_map};
 ghost use Rattle.std.specs.Option.{option_and_then, option_map};
 ghost use Rattle.std.specs.Str.{bytes_eq};
@@ -7,12 +7,13 @@ ghost use Rattle.dump_io.specs.Pieces.{piece_text};
 ghost use Rattle.dump_io.specs.Sinks.{Puts};
 ghost use Rattle.term_forms.specs.SeenForms.{heap_form};
 ghost use Rattle.heap_cells.specs.Targets.{number};
-ghost use Rattle.term_text.specs.Cells.{all_kinds, cell_line, cells_line, cells_report, count_of, kind_line, kind_word, size_in, size_text, word_of};
+ghost use Rattle.report_lines.specs.Lines.{text_or_dash, total_line};
+ghost use Rattle.term_text.specs.Cells.{all_kinds, cell_line, cells_report, count_of, kind_line, kind_word, size_in, word_of};
 ghost use Rattle.term_text.specs.Inner.Cells.{cell_at};
 
-use dump_io::{Failed, Piece, Sink, put_pieces};
+use dump_io::{Failed, Piece, Sink};
 use heap_cells::{CellIx, Heap, Kind};
-use report_lines::put_count_line;
+use report_lines::{put_count_line, put_line, put_total_line};
 use term_forms::shapes::Form;
 
 fn kind_word(kind: Option<Kind>) -> &'static [u8]
@@ -64,7 +65,7 @@ fn size_of(form: &Option<Form<'_>>) -> Option<u64>
 }
 
 fn size_piece<'a>(size: Option<u64>) -> Piece<'a>
-    ensures { piece_text result ≡ size_text size }
+    ensures { piece_text result ≡ text_or_dash (option_map decimal size) }
 {
     match size {
         None => Piece::Bytes(b"-"),
@@ -76,16 +77,13 @@ fn put_cell<K: Sink>(sink: &mut K, heap: &Heap, ix: CellIx) -> Result<(), Failed
     requires { number ix < length heap.now.cells }
     ensures { Puts (K.state sink.old) (K.state sink.new) (cell_line (cell_at heap.now.cells (number ix))) result }
 {
-    let tab = Piece::Bytes(b"\t");
-    put_pieces(
+    put_line(
         sink,
+        b"\t",
         &[
             Piece::Hex(heap.addr(ix)),
-            tab,
             Piece::Bytes(kind_word(heap.kind(ix))),
-            tab,
             size_piece(size_of(&heap.form(ix))),
-            Piece::Bytes(b"\n"),
         ],
     )
 }
@@ -125,7 +123,7 @@ fn put_kind<K: Sink>(sink: &mut K, heap: &Heap, kind: Option<Kind>) -> Result<()
     ensures { Puts (K.state sink.old) (K.state sink.new) (kind_line (take heap.now.own heap.now.cells) kind) result }
 {
     let word = kind_word(kind);
-    put_count_line(sink, b"kind\t", word, u64::from(count_of(heap, word)))
+    put_count_line(sink, b"kind", word, u64::from(count_of(heap, word)))
 }
 
 // All kinds, in the order in which they are counted.
@@ -156,16 +154,9 @@ fn put_kinds<K: Sink>(sink: &mut K, heap: &Heap) -> Result<(), Failed>
 }
 
 fn put_total<K: Sink>(sink: &mut K, heap: &Heap) -> Result<(), Failed>
-    ensures { Puts (K.state sink.old) (K.state sink.new) (cells_line (length (take heap.now.own heap.now.cells))) result }
+    ensures { Puts (K.state sink.old) (K.state sink.new) (total_line (codes "cells") (length (take heap.now.own heap.now.cells))) result }
 {
-    put_pieces(
-        sink,
-        &[
-            Piece::Bytes(b"cells "),
-            Piece::Dec(u64::from(heap.own())),
-            Piece::Bytes(b"\n"),
-        ],
-    )
+    put_total_line(sink, b"cells", u64::from(heap.own()))
 }
 
 /// Writes a line for each of the heap's own cells, in the order of the dump, `ADDR KIND SIZE`

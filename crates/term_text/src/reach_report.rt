@@ -10,9 +10,10 @@ ghost use Rattle.heap_reach.specs.Rounds.{reached_by, IsReachOf};
 ghost use Rattle.heap_reach.specs.Unreached.{count_below, one_if, unreached_of};
 ghost use Rattle.term_text.specs.Reach.{reach_report, term_in, terms_of, totals_line, unreached_line};
 
-use dump_io::{Failed, Piece, Sink, put_pieces};
+use dump_io::{Failed, Piece, Sink};
 use heap_cells::Heap;
 use heap_reach::Reach;
+use report_lines::put_line;
 use root_views::{RootKind, What};
 
 // Adds what a root reaches, if it is a term.
@@ -59,14 +60,7 @@ fn count_reached(heap: &Heap, reach: &Reach<'_>, first: u32, end: u32) -> u32
 fn put_unreached<K: Sink>(sink: &mut K, addr: u64) -> Result<(), Failed>
     ensures { Puts (K.state sink.old) (K.state sink.new) (unreached_line addr) result }
 {
-    put_pieces(
-        sink,
-        &[
-            Piece::Bytes(b"unreached "),
-            Piece::Hex(addr),
-            Piece::Bytes(b"\n"),
-        ],
-    )
+    put_line(sink, b" ", &[Piece::Bytes(b"unreached"), Piece::Hex(addr)])
 }
 
 fn put_each<K: Sink>(sink: &mut K, unreached: &[u64]) -> Result<(), Failed>
@@ -81,16 +75,16 @@ fn put_each<K: Sink>(sink: &mut K, unreached: &[u64]) -> Result<(), Failed>
 fn put_totals<K: Sink>(sink: &mut K, own: u32, reached: u32, literals: u32) -> Result<(), Failed>
     ensures { Puts (K.state sink.old) (K.state sink.new) (totals_line own reached literals) result }
 {
-    put_pieces(
+    put_line(
         sink,
+        b" ",
         &[
-            Piece::Bytes(b"own "),
+            Piece::Bytes(b"own"),
             Piece::Dec(u64::from(own)),
-            Piece::Bytes(b" reached "),
+            Piece::Bytes(b"reached"),
             Piece::Dec(u64::from(reached)),
-            Piece::Bytes(b" literals "),
+            Piece::Bytes(b"literals"),
             Piece::Dec(u64::from(literals)),
-            Piece::Bytes(b"\n"),
         ],
     )
 }

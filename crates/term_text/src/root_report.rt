@@ -7,10 +7,12 @@ ghost use Rattle.root_views.specs.Seen.{content, root};
 ghost use Rattle.term_forms.specs.Seen.{element};
 ghost use Rattle.term_unfold.specs.Text.{reason};
 ghost use Rattle.term_unfold.specs.Walks.{judged_text};
-ghost use Rattle.term_text.specs.Roots.{answer_over, content_text, root_heading, root_line, roots_line, roots_report, term_report};
+ghost use Rattle.term_text.specs.Inner.Headings.{root_heading};
+ghost use Rattle.term_text.specs.Roots.{answer_over, content_text, root_line, roots_report, term_report};
 
 use dump_io::{Failed, Piece, Sink, put_pieces, write_all};
 use heap_cells::Why;
+use report_lines::put_total_line;
 use root_views::{Root, RootKind, What};
 use term_forms::shapes::Elem;
 use term_unfold::{Verdict, Walker};
@@ -137,19 +139,6 @@ fn put_each<K: Sink>(
     Ok(count)
 }
 
-fn put_count<K: Sink>(sink: &mut K, count: u64) -> Result<(), Failed>
-    ensures { Puts (K.state sink.old) (K.state sink.new) (roots_line count) result }
-{
-    put_pieces(
-        sink,
-        &[
-            Piece::Bytes(b"roots "),
-            Piece::Dec(count),
-            Piece::Bytes(b"\n"),
-        ],
-    )
-}
-
 /// Writes a line for each root of a body, `OFFSET LABEL REST`, and then `roots N`.
 ///
 /// For a term, REST is its answer: its text, within as many nodes as the budget allows, or, if
@@ -172,7 +161,7 @@ pub fn put_roots<K: Sink>(
     ensures same { walker.new ≡ walker.old }
 {
     let count = put_each(sink, walker, kind, body, base, budget, marked)?;
-    put_count(sink, count)
+    put_total_line(sink, b"roots", count)
 }
 
 /// Writes the answer to the reference to an address, as for the roots of a process.

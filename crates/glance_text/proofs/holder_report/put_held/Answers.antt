@@ -1,8 +1,7 @@
-use Rattle.dump_io.specs.Laws.Puts.{Puts-then, Puts-stopped}
+use Rattle.std.proofs.Common.{codes, decimal, ◌∷◌, ap}
+use Rattle.dump_io.specs.Laws.Puts.{Puts-as}
+use Rattle.report_lines.specs.Lines.{line_of, tab}
 use Rattle.glance_text.proofs.holder_report.put_held.Goals as goal
 
-pub returns-in_err-put_pieces : goal.returns-in_err-put_pieces
-returns-in_err-put_pieces g c = Puts-stopped _ c.from_residual.ensures.0 c.in_err-put_pieces.ensures
-
 pub returns : goal.returns
-returns g c = Puts-then c.in_ok-put_pieces.ensures c.put_process_end.ensures
+returns g c = Puts-as (ap (λ parts. line_of tab (codes "held" ∷ decimal c.args.held.now.bytes ∷ decimal c.args.held.now.count ∷ parts)) c.process_end.ensures) c.put_line.ensures

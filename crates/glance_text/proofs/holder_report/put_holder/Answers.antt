@@ -1,5 +1,7 @@
-use Rattle.dump_io.specs.Laws.Puts.{Puts-then}
+use Rattle.std.proofs.Common.{decimal, ◌∷◌, ap}
+use Rattle.dump_io.specs.Laws.Puts.{Puts-as}
+use Rattle.report_lines.specs.Lines.{line_of, tab}
 use Rattle.glance_text.proofs.holder_report.put_holder.Goals as goal
 
 pub returns : goal.returns
-returns g c = Puts-then c.in_ok-put_pieces.ensures c.put_process_end.ensures
+returns g c = Puts-as (ap (λ parts. line_of tab (decimal c.args.held.now.cells ∷ parts)) c.process_end.ensures) c.put_line.ensures

@@ -1,13 +1,24 @@
-use Rattle.std.proofs.Common.{◌++◌, sym, ◌∙◌, ap, subst}
+use Rattle.std.proofs.Common.{[], ◌++◌, sym, ◌∙◌, ap, subst}
 use Rattle.std.specs.Prelude.{All}
 use Rattle.std.specs.List.{flat_map}
 use Rattle.std.proofs.lemmas.List.{append_assoc}
 use Rattle.std.proofs.lemmas.List.Elements.{All-tail}
-use Rattle.dump_io.specs.Laws.Puts.{HasPut-then, Puts-behind, Puts-stopped, Puts-as}
-use Rattle.field_lines.specs.Lines.{IsPart}
+use Rattle.dump_io.specs.Laws.Puts.{HasPut-none, HasPut-then, Puts-behind, Puts-stopped, Puts-as}
+use Rattle.field_lines.specs.Lines.{IsPart, text_lines}
 use Rattle.field_lines.specs.Shown.{shown_line}
-use Rattle.report_text.specs.Tables.{line_row}
+use Rattle.report_text.specs.Inner.Rows.{line_row}
+use Rattle.report_text.proofs.RowTexts.{rows-told}
 use Rattle.report_text.proofs.field_report.put_lines.Goals as goal
+
+pub loop-line-init : goal.loop-line-init
+loop-line-init g c =
+    let base = c.args.base in
+    let told = c.into_iter-line-iterator.ensures.into_iter_gives ∙ c.lines-line-items.ensures.value in (
+      tt,
+      tt,
+      subst (All (IsPart c.args.body.now)) (sym c.into_iter-line-iterator.ensures.into_iter_gives) c.lines-line-items.ensures.parts,
+      ([], HasPut-none, ap (flat_map (line_row base)) told ∙ rows-told base (text_lines c.args.body.now)),
+    )
 
 pub loop-line-preserved : goal.loop-line-preserved
 loop-line-preserved g c =

@@ -3,7 +3,7 @@ use Rattle.std.specs.List.{concat}
 use Rattle.dump_io.specs.Laws.Puts.{HasPut-more, Puts-broken, Puts-all, Puts-as}
 use Rattle.section_rows.specs.Rows.{row_at, cell_at}
 use Rattle.report_lines.specs.Lines.{tab}
-use Rattle.report_text.specs.Tables.{next_cell}
+use Rattle.report_text.specs.Inner.Rows.{next_cell}
 use Rattle.report_text.proofs.TableFacts.{cell_at-there, even-row}
 use Rattle.report_text.proofs.table_report.put_cells.Goals as goal
 
