@@ -40,7 +40,8 @@ use Rattle.root_views.specs.declared.kinds.RootKind.TheVariants.{Stack, Dict, Ma
 use Rattle.term_text.specs.Reach.{terms_of, totals_line, unreached_line}
 use Rattle.term_text.specs.Cells.{cells_report, cells_text}
 use Rattle.dump_command.specs.Report.{too_large, bodies, no_process, no_subject, refusal_held, refusal_listed, reread, root_bodies}
-use Rattle.dump_command.specs.Terms.{heap_body, heap_map, literals_body, payloads_of, address_cause, answer_in, base_of, binary_count, dense_cause, no_address, previews_in, roots_of, roots_over, roots_section, term_of, too_dense, reach_of, root_terms, terms_in, ext_of, external_at, external_cause, external_in, no_external}
+use Rattle.dump_command.specs.Terms.{heap_body, heap_map, literals_body, payloads_of, address_cause, answer_in, base_of, binary_count, dense_cause, no_address, previews_in, roots_of, roots_over, term_of, too_dense, reach_of, root_terms, terms_in, ext_of, external_at, external_cause, external_in, no_external}
+use Rattle.dump_trial.specs.Trial.{root_section}
 use Rattle.dump_command.specs.Inner.Stops.{stop_of_heap, Judges, stop_of_previews, stop_of_body}
 use Rattle.dump_command.specs.declared.stop.Stop.TheVariants.{Refused}
 use Rattle.dump_command.specs.Inner.Reading.{heap_listed, HoldsHeap, IsHeapless, IsIndexed, IsHalted, Takes, ReadsFor}
@@ -362,13 +363,13 @@ module _ (pid : List ℕ) (before : List Section) (limits : Numbers) (index : Co
   term-told previews addr nodes marked shown = ap (λ say. term_report say addr) (answer-told previews nodes marked shown)
 
   pub roots-told : (kind : RootKind) (previews : List Entry) (nodes : ℕ) (marked : Bool) (found : Option Section) (base : ℕ) (body : List ℕ)
-      → found ≡ roots_section kind pid (sections_in index) → previews ≡ previews_of bytes index heap.enc heap.cells → base ≡ base_of found → body ≡ body_in bytes found
+      → found ≡ root_section kind pid (sections_in index) → previews ≡ previews_of bytes index heap.enc heap.cells → base ≡ base_of found → body ≡ body_in bytes found
       → roots_report (answer_over (walk heap previews) nodes marked) base (roots_in kind body) ≡ roots_of kind pid nodes marked bytes
   roots-told kind previews nodes marked found base body here shown based held =
       ap (λ say. roots_report say base (roots_in kind body)) (answer-told previews nodes marked shown)
       ∙ ap (λ b. roots_report (answer_in pid nodes marked bytes) b (roots_in kind body)) based
       ∙ ap (λ b. roots_report (answer_in pid nodes marked bytes) (base_of found) (roots_in kind b)) held
-      ∙ ap (roots_over (answer_in pid nodes marked bytes) kind bytes) (here ∙ ap (roots_section kind pid) (sections-index bytes index all.of))
+      ∙ ap (roots_over (answer_in pid nodes marked bytes) kind bytes) (here ∙ ap (root_section kind pid) (sections-index bytes index all.of))
 
 -- ---- the commands that print terms of the heap
 
@@ -377,7 +378,7 @@ IsOfHeap-term file pid addr nodes marked limits index =
     record { subject = refl; loads = refl; few = λ bytes. omega arith; dense = λ bytes why is. ap (λ o. option_or o (no_address addr pid bytes)) is }
 
 pub IsOfHeap-roots : (kind : RootKind) (file pid : List ℕ) (nodes : ℕ) (marked : Bool) (limits : Numbers) (index : Contents) (found : Option Section)
-    → found ≡ roots_section kind pid (sections_in index) → IsOfHeap (roots kind file pid nodes marked) pid (option_to_list found) limits index
+    → found ≡ root_section kind pid (sections_in index) → IsOfHeap (roots kind file pid nodes marked) pid (option_to_list found) limits index
 IsOfHeap-roots kind file pid nodes marked limits index found here =
     record {
       subject = refl;
@@ -387,7 +388,7 @@ IsOfHeap-roots kind file pid nodes marked limits index found here =
     }
 
 pub roots-found : (kind : RootKind) (pid tag : List ℕ) (index : Contents) (place : Option ℕ) → tag ≡ roots_tag kind
-    → section_in index place ≡ first_named tag pid (sections_in index) → section_in index place ≡ roots_section kind pid (sections_in index)
+    → section_in index place ≡ first_named tag pid (sections_in index) → section_in index place ≡ root_section kind pid (sections_in index)
 roots-found kind pid tag index place tagged is = is ∙ ap (λ t. first_named t pid (sections_in index)) tagged
 
 -- ---- what a command has read that tells what the roots of a heap reach
@@ -406,8 +407,8 @@ IsOfHeap-reach file pid limits index places of =
     at-roots : (pid : List ℕ) (index : Contents) (places : RootPlaces) → ArePlaces pid index places → roots_at index places ≡ root_bodies pid (sections_in index)
     at-roots pid index places of =
         ap (λ s. (option_to_list s ++ option_to_list (section_in index places.dict)) ++ option_to_list (section_in index places.mail)) of.stack
-        ∙ ap (λ s. (option_to_list (roots_section Stack pid (sections_in index)) ++ option_to_list s) ++ option_to_list (section_in index places.mail)) of.dict
-        ∙ ap (λ s. (option_to_list (roots_section Stack pid (sections_in index)) ++ option_to_list (roots_section Dict pid (sections_in index))) ++ option_to_list s) of.mail
+        ∙ ap (λ s. (option_to_list (root_section Stack pid (sections_in index)) ++ option_to_list s) ++ option_to_list (section_in index places.mail)) of.dict
+        ∙ ap (λ s. (option_to_list (root_section Stack pid (sections_in index)) ++ option_to_list (root_section Dict pid (sections_in index))) ++ option_to_list s) of.mail
 
 -- the bodies with the roots weren't read
 pub IsHalted-roots : (cmd : Command) (pid : List ℕ) (before : List Section) (limits : Numbers) (index : Contents) (now : Now) (heap : HeapMap) (old new last last' : DeviceState) (fault : BodyFault)
@@ -437,10 +438,10 @@ told_of cs own elements =
 
 module _ (pid : List ℕ) (limits : Numbers) (index : Contents) (now : Now) (bytes : List ℕ) (all : IsIndexed bytes limits index now) where
   -- the terms of one body
-  terms-told : (kind : RootKind) (place : Option ℕ) (body : List ℕ) → section_in index place ≡ roots_section kind pid (sections_in index)
+  terms-told : (kind : RootKind) (place : Option ℕ) (body : List ℕ) → section_in index place ≡ root_section kind pid (sections_in index)
       → body ≡ body_in bytes (section_in index place) → terms_of (roots_in kind body) ≡ terms_in kind pid bytes
   terms-told kind place body here held =
-      ap (λ b. terms_of (roots_in kind b)) (held ∙ ap (body_in bytes) (here ∙ ap (roots_section kind pid) (sections-index bytes index all.of)))
+      ap (λ b. terms_of (roots_in kind b)) (held ∙ ap (body_in bytes) (here ∙ ap (root_section kind pid) (sections-index bytes index all.of)))
 
   -- those of all three
   all-told : (places : RootPlaces) (roots : RootBodies) → ArePlaces pid index places → HoldsRoots index (told bytes) places roots → terms_loaded roots ≡ root_terms pid bytes

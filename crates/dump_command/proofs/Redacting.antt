@@ -9,7 +9,8 @@ use Rattle.dump_sections.specs.Bodies.{body_length}
 use Rattle.dump_sections.specs.Index.{Contents, sections_in}
 use Rattle.dump_sections.specs.Sections.{Section}
 use Rattle.dump_redact.specs.Redacted.{redacted}
-use Rattle.dump_redact.specs.Refusals.{first_large, heap_sections, large_fault, IsCauseOf}
+use Rattle.dump_redact.specs.Refusals.{heap_sections, large_fault, IsCauseOf}
+use Rattle.dump_sections.specs.Loading.{first_large}
 use Rattle.dump_redact.specs.declared.faults.RedactFault.{RedactFault}
 use Rattle.dump_redact.specs.declared.faults.RedactFault.TheVariants as faults
 use Rattle.report_text.specs.declared.refusals.Refusal.{Refusal}

@@ -45,7 +45,8 @@ use Rattle.root_views.specs.declared.kinds.RootKind.{RootKind}
 use Rattle.root_views.specs.declared.kinds.RootKind.TheVariants.{Stack}
 use Rattle.root_views.specs.Kinds.{roots_in, roots_tag}
 use Rattle.dump_command.specs.Laws.{KeepsFindings, KeepsProcesses, KeepsAddresses, KeepsHeaps, blank_cell, blank_form, blank_heap, KeepsLeaves, KeepsRoots, KeepsTrees, KeepsVerdicts, blank_tree, blank_trees, blank_value, is_binary}
-use Rattle.dump_command.specs.Terms.{heap_body, heap_map, heap_with, literals_body, payloads_of, previews_in, roots_section}
+use Rattle.dump_command.specs.Terms.{heap_body, heap_map, heap_with, literals_body, payloads_of, previews_in}
+use Rattle.dump_trial.specs.Trial.{root_section}
 
 -- ---- lists
 
@@ -565,7 +566,7 @@ module _ (same : KeepsSections) (redacts : RedactsSections) (others : KeepsOther
       let enc = enc_of (index_of bytes).version in
       let tag = roots_tag kind in
       let test : Section → Bool = λ s. is_named tag (Some pid) s.text in
-      ap (λ ss. roots_in kind (body_in (redacted bytes) (roots_section kind pid ss))) (same bytes)
+      ap (λ ss. roots_in kind (body_in (redacted bytes) (root_section kind pid ss))) (same bytes)
       ∙ ap (roots_in kind) (
       found-is (IsRedacted enc bytes (redacted bytes)) (λ found. body_in (redacted bytes) found ≡ body_in bytes found) test (sections bytes) refl
       (λ s is passes. same-body enc bytes (redacted bytes) others s is

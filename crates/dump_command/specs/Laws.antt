@@ -18,7 +18,8 @@ use Rattle.process_table.specs.Processes.{process_table}
 use Rattle.dump_audit.specs.Findings.{findings}
 use Rattle.dump_redact.specs.Redacted.{blank, redacted}
 use Rattle.dump_command.specs.Audits.{audit_in}
-use Rattle.dump_command.specs.Terms.{heap_map, payloads_of, roots_section, walk_of}
+use Rattle.dump_command.specs.Terms.{heap_map, payloads_of, walk_of}
+use Rattle.dump_trial.specs.Trial.{root_section}
 
 -- it has the same processes
 abbrev pub KeepsProcesses : Type 0
@@ -62,7 +63,7 @@ KeepsAddresses = (bytes pid : List ℕ) → addresses (heap_map pid (redacted by
 
 -- the roots of one kind of a process
 abbrev pub found_roots : RootKind → List ℕ → List ℕ → List BodyRoot
-found_roots kind pid bytes = roots_in kind (body_in bytes (roots_section kind pid (sections bytes)))
+found_roots kind pid bytes = roots_in kind (body_in bytes (root_section kind pid (sections bytes)))
 
 -- each process has the same roots
 abbrev pub KeepsRoots : Type 0

@@ -28,7 +28,7 @@ use Rattle.dump_sections.specs.Loading.{bodies_length, first_large}
 use Rattle.table_sections.specs.declared.kinds.TableKind.TheVariants.{Ets}
 use Rattle.table_sections.specs.Tables.{listed, table_of}
 use Rattle.dump_write.specs.Made.{made}
-use Rattle.dump_trial.specs.Trial.{trial_of}
+use Rattle.dump_trial.specs.Trial.{trial_of, root_section}
 use Rattle.dump_redact.specs.Redacted.{redacted}
 use Rattle.dump_redact.specs.Refusals.{heap_sections}
 use Rattle.audit_bodies.specs.Mailboxes.{audited_sections}
@@ -36,7 +36,7 @@ use Rattle.dump_command.specs.Audits.{audit_in, status_of}
 use Rattle.command_words.specs.Command.{Command, index, info, procs, proc, memory, table, roots, term, ext, reach, cells, binary, binaries, holders, triage, links, redact, audit, audit_json, make, trial, file_of}
 use Rattle.dump_command.specs.Holders.{binaries_listing, fronts_bytes, heaps_bytes, holders_listing}
 use Rattle.dump_command.specs.Triage.{Told, triage_over}
-use Rattle.dump_command.specs.Terms.{base_of, binary_cause, bad_binary, binary_count, binary_of, ext_of, heap_map, no_address, no_external, reach_of, roots_of, roots_section, term_of, too_dense}
+use Rattle.dump_command.specs.Terms.{base_of, binary_cause, bad_binary, binary_count, binary_of, ext_of, heap_map, no_address, no_external, reach_of, roots_of, term_of, too_dense}
 use Rattle.stored_binaries.specs.StoredBinaries.{binary_section}
 use Rattle.heap_cells.specs.Loading.{heap_bodies}
 
@@ -54,7 +54,7 @@ memory_section sections = first_tagged (codes "memory") sections
 
 -- the stack, the dictionary and the mailbox of a process
 abbrev pub root_bodies : List ℕ → List Section → List Section
-root_bodies pid sections = (option_to_list (roots_section Stack pid sections) ++ option_to_list (roots_section Dict pid sections)) ++ option_to_list (roots_section Mail pid sections)
+root_bodies pid sections = (option_to_list (root_section Stack pid sections) ++ option_to_list (root_section Dict pid sections)) ++ option_to_list (root_section Mail pid sections)
 
 -- the first section, the first one on memory, those of the processes and those of the ETS tables
 abbrev pub triage_sections : List Section → List Section
@@ -69,7 +69,7 @@ bodies (procs file) sections = record_sections sections
 bodies (proc file pid) sections = option_to_list (process_section pid sections)
 bodies (memory file) sections = option_to_list (memory_section sections)
 bodies (table kind file) sections = listed kind sections
-bodies (roots kind file pid nodes marked) sections = option_to_list (roots_section kind pid sections) ++ heap_bodies pid sections
+bodies (roots kind file pid nodes marked) sections = option_to_list (root_section kind pid sections) ++ heap_bodies pid sections
 bodies (term file pid addr nodes marked) sections = heap_bodies pid sections
 bodies (ext file pid addr) sections = heap_bodies pid sections
 bodies (reach file pid) sections = root_bodies pid sections ++ heap_bodies pid sections

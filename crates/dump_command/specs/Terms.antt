@@ -2,7 +2,6 @@
 use Rattle.std.specs.Prelude.{ℕ, Bool, List, [], ◌++◌, length, Option, None, Some, codes, is_some, nat_lt, unwrap_or, if◌then◌else◌}
 use Rattle.std.specs.Option.{option_and_then, option_map, option_map_or, option_or}
 use Rattle.dump_sections.specs.Index.{index_of}
-use Rattle.dump_sections.specs.Lookups.{first_named}
 use Rattle.dump_sections.specs.Sections.{Section, sections}
 use Rattle.binary_payloads.specs.declared.enc.Enc.{Enc}
 use Rattle.term_forms.specs.Elements.{Element}
@@ -24,12 +23,9 @@ use Rattle.report_text.specs.declared.refusals.Refusal.TheVariants.{TooDense, No
 use Rattle.root_views.specs.declared.kinds.RootKind.{RootKind}
 use Rattle.root_views.specs.declared.kinds.RootKind.TheVariants.{Stack, Dict, Mail}
 use Rattle.term_text.specs.Reach.{reach_report, terms_of}
-use Rattle.root_views.specs.Kinds.{roots_in, roots_tag}
+use Rattle.dump_trial.specs.Trial.{root_section}
+use Rattle.root_views.specs.Kinds.{roots_in}
 use Rattle.term_text.specs.Roots.{answer_over, binary_report, ext_report, roots_report, term_report}
-
--- the section with the roots of a process: its stack, its dictionary or its mailbox
-abbrev pub roots_section : RootKind → List ℕ → List Section → Option Section
-roots_section kind pid sections = first_named (roots_tag kind) pid sections
 
 -- how the payloads of a dump are written
 abbrev pub payloads_of : List ℕ → Enc
@@ -80,7 +76,7 @@ roots_over say kind bytes found = roots_report say (base_of found) (roots_in kin
 
 -- the roots of a process
 abbrev pub roots_of : RootKind → List ℕ → ℕ → Bool → List ℕ → List ℕ
-roots_of kind pid nodes marked bytes = roots_over (answer_in pid nodes marked bytes) kind bytes (roots_section kind pid (sections bytes))
+roots_of kind pid nodes marked bytes = roots_over (answer_in pid nodes marked bytes) kind bytes (root_section kind pid (sections bytes))
 
 -- the term at an address
 abbrev pub term_of : List ℕ → ℕ → ℕ → Bool → List ℕ → List ℕ
@@ -127,7 +123,7 @@ ext_of pid addr bytes = ext_report (unwrap_or (external_at addr (heap_map pid by
 
 -- the terms among the roots of one kind of a process
 abbrev pub terms_in : RootKind → List ℕ → List ℕ → List Element
-terms_in kind pid bytes = terms_of (roots_in kind (body_in bytes (roots_section kind pid (sections bytes))))
+terms_in kind pid bytes = terms_of (roots_in kind (body_in bytes (root_section kind pid (sections bytes))))
 
 -- those among all its roots: of its stack, its dictionary and its mailbox
 abbrev pub root_terms : List ℕ → List ℕ → List Element

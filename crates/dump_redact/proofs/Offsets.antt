@@ -19,7 +19,8 @@ use Rattle.binary_payloads.specs.declared.enc.Enc.{Enc}
 use Rattle.heap_cells.specs.Loading.{enc_of}
 use Rattle.dump_redact.specs.declared.faults.RedactFault.{RedactFault}
 use Rattle.dump_redact.specs.declared.faults.RedactFault.TheVariants.{SectionTooLarge}
-use Rattle.dump_redact.specs.Refusals.{heap_sections, first_large, large_fault}
+use Rattle.dump_redact.specs.Refusals.{heap_sections, large_fault}
+use Rattle.dump_sections.specs.Loading.{first_large}
 use Rattle.dump_redact.specs.Inner.Places.{fault_at, offset_of, text_between, text_of_section, redacted_between}
 use Rattle.dump_redact.specs.declared.parts.Part.{Part}
 use Rattle.dump_redact.specs.declared.parts.Part.TheVariants.{Other}

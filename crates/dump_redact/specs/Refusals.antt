@@ -1,8 +1,9 @@
 -- Why a dump isn't redacted.
-use Rattle.std.specs.Prelude.{◌≡◌, ℕ, List, Option, Some, filter, find, nat_lt, option_map}
+use Rattle.std.specs.Prelude.{◌≡◌, ℕ, List, Option, Some, filter, option_map}
 use Rattle.dump_io.specs.Dumps.{DeviceState, DeviceFailed}
 use Rattle.dump_io.specs.Sinks.{SinkState, SinkFailed}
 use Rattle.dump_sections.specs.Bodies.{body_length}
+use Rattle.dump_sections.specs.Loading.{first_large}
 use Rattle.dump_sections.specs.Sections.{Section, tag_of}
 use Rattle.dump_redact.specs.declared.faults.RedactFault.{RedactFault}
 use Rattle.dump_redact.specs.declared.faults.RedactFault.TheVariants.{SectionTooLarge, Read, Write, Memory}
@@ -11,10 +12,6 @@ use Rattle.dump_redact.specs.Redacted.{is_heap_tag}
 -- the sections with heaps and literals, whose bodies are loaded, in the order of the dump
 abbrev pub heap_sections : List Section → List Section
 heap_sections sections = filter (λ s. is_heap_tag (tag_of s.text)) sections
-
--- the first section whose body has more bytes than the limit
-abbrev pub first_large : ℕ → List Section → Option Section
-first_large limit sections = find (λ s. nat_lt limit (body_length s)) sections
 
 -- the refusal of the first heap or literals whose body has more bytes than the limit
 abbrev pub large_fault : ℕ → List Section → Option RedactFault

@@ -33,7 +33,7 @@ use Rattle.dump_command.specs.declared.commands.subjects.Body.{Body}
 use Rattle.dump_command.specs.declared.commands.roots.Loaded.{Loaded as RootsLoaded}
 use Rattle.dump_command.specs.Audits.{status_of}
 use Rattle.dump_command.specs.Report.{memory_section, triage_sections}
-use Rattle.dump_command.specs.Terms.{roots_section}
+use Rattle.dump_trial.specs.Trial.{root_section}
 use Rattle.dump_command.specs.declared.commands.reach.RootPlaces.{RootPlaces}
 use Rattle.dump_command.specs.declared.commands.reach.RootBodies.{RootBodies}
 use Rattle.dump_command.specs.declared.commands.reach.Loaded.{Loaded as ReachLoaded}
@@ -96,9 +96,9 @@ roots_at index places = (option_to_list (section_in index places.stack) ++ optio
 
 -- they are those with the roots of the process
 pub record ArePlaces (pid : List ℕ) (index : Contents) (places : RootPlaces) : Type 0 where
-  pub stack : section_in index places.stack ≡ roots_section Stack pid (sections_in index)
-  pub dict : section_in index places.dict ≡ roots_section Dict pid (sections_in index)
-  pub mail : section_in index places.mail ≡ roots_section Mail pid (sections_in index)
+  pub stack : section_in index places.stack ≡ root_section Stack pid (sections_in index)
+  pub dict : section_in index places.dict ≡ root_section Dict pid (sections_in index)
+  pub mail : section_in index places.mail ≡ root_section Mail pid (sections_in index)
 
 -- the place of a section of the index, if there is one
 abbrev pub IsPlace : Contents → Option ℕ → Type 0

@@ -6,7 +6,7 @@ ghost use Rattle.dump_sections.specs.Loading.{bodies_length, first_large, large_
 ghost use Rattle.dump_sections.specs.Bodies.{section_in};
 ghost use Rattle.heap_reach.specs.Rounds.{IsReachOf};
 ghost use Rattle.command_words.specs.Command.{reach};
-ghost use Rattle.dump_command.specs.Terms.{roots_section};
+ghost use Rattle.dump_trial.specs.Trial.{root_section};
 ghost use Rattle.dump_command.specs.Inner.Loads.{reach_text, roots_at, terms_loaded, ArePlaces, AreWithin, HoldsRoots, IsUnread};
 
 use crate::commands::subjects::{Body, load_behind, read_found};
@@ -50,7 +50,7 @@ pub(crate) struct Loaded {
 }
 
 fn place_of(at: &Opened<'_>, kind: RootKind, pid: &[u8]) -> Option<usize>
-    ensures section { section_in at.now.index.now result ≡ roots_section kind pid.now (sections_in at.now.index.now) }
+    ensures section { section_in at.now.index.now result ≡ root_section kind pid.now (sections_in at.now.index.now) }
     ensures within { IfSome result (λ i. i < length at.now.index.now.headers) }
 {
     at.index.first(kind.tag(), Some(pid))
