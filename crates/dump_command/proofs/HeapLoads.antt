@@ -2,17 +2,17 @@
 use Rattle.dump_sections.specs.declared.bodies.BodyFault.TheVariants as body_faults
 use Rattle.heap_cells.specs.declared.faults.HeapFault.TheVariants as heap_faults
 use Rattle.binary_refs.specs.declared.faults.PreviewFault.TheVariants as preview_faults
-use Rattle.std.proofs.Common.{◌≡◌, ℕ, ◌+◌, true, false, if◌then◌else◌, List, [], ◌∷◌, ◌++◌, Option, None, Some, Err, codes, refl, sym, ◌∙◌, ap, arith, ◌*◌, ◌<◌, ◌≤◌, Bool, Ok, length, subst, ◌-◌, take, Result}
-use Rattle.std.specs.Prelude.{nat_lt, IsErrOf, IsSome, is_some, position, MatchResult, IfOk, unwrap_or}
+use Rattle.std.proofs.Common.{◌≡◌, ℕ, ◌+◌, true, false, if◌then◌else◌, List, [], ◌∷◌, ◌++◌, Option, None, Some, Err, refl, sym, ◌∙◌, ap, arith, ◌*◌, ◌<◌, ◌≤◌, Bool, Ok, length, subst, ◌-◌, take, Result}
+use Rattle.std.specs.Prelude.{nat_lt, IsErrOf, IsSome, is_some, MatchResult, IfOk, unwrap_or}
 use Rattle.std.specs.Option.{option_map, option_or, option_and_then, option_to_list}
 use Rattle.std.specs.List.{flat_map}
 use Rattle.std.specs.Global.{Vec}
 use Rattle.std.proofs.lemmas.List.Sums.{sum_by-append}
 use Rattle.std.proofs.lemmas.Bool.{lt-ltb, le-ltb}
-use Rattle.dump_sections.specs.Bodies.{body_length, body_in, body_size, section_in}
+use Rattle.dump_sections.specs.Bodies.{body_length, body_in, section_in}
 use Rattle.dump_sections.specs.Index.{Contents, IsIndexOf, sections_in, index_of}
 use Rattle.dump_sections.specs.Laws.{index-is}
-use Rattle.dump_sections.specs.Lookups.{has_tag, is_named, first_named}
+use Rattle.dump_sections.specs.Lookups.{first_named}
 use Rattle.dump_sections.specs.Sections.{Section, sections}
 use Rattle.heap_cells.specs.Cells.{cells_of, own_count, weight, Cell}
 use Rattle.heap_cells.specs.HeapMap.{HeapMap, number_at, form_at}
@@ -51,7 +51,6 @@ use Rattle.dump_command.specs.declared.commands.reach.RootPlaces.{RootPlaces}
 use Rattle.dump_command.specs.declared.commands.reach.RootBodies.{RootBodies}
 use Rattle.dump_command.specs.declared.commands.reach.Loaded.{Loaded}
 use Rattle.dump_command.proofs.Reading.{some-refused, none-map, refused, body_fault, is_some-map, StopsFor-judged, StopsFor-large, StopsFor-too, Takes-listed, HasRead-listed, IsHalted-held}
-use Rattle.dump_sections.specs.LoadingLaws.{bodies-one}
 use Rattle.dump_command.proofs.Runs.{sections-index}
 
 -- ---- which of them is too large

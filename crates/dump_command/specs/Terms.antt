@@ -1,5 +1,5 @@
 -- What the commands on the terms of a process, and on a binary, report on the bytes of an accepted dump.
-use Rattle.std.specs.Prelude.{ℕ, Bool, List, [], ◌++◌, length, Option, None, Some, codes, is_some, nat_lt, unwrap_or, if◌then◌else◌}
+use Rattle.std.specs.Prelude.{ℕ, Bool, List, [], ◌++◌, length, Option, None, Some, is_some, nat_lt, unwrap_or, if◌then◌else◌}
 use Rattle.std.specs.Option.{option_and_then, option_map, option_map_or, option_or}
 use Rattle.dump_sections.specs.Index.{index_of}
 use Rattle.dump_sections.specs.Sections.{Section, sections}

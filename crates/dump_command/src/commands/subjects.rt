@@ -1,6 +1,6 @@
 // What commands find on the index of a dump and read from it:
 // a process, the body of a section, the heap of a process.
-ghost use Rattle.std.specs.Prelude.{◌≡◌, ◌+◌, ◌<◌, List, length, None, Some, IfOk, IfErr, IfSome, IsSome, OnOk, MatchResult};
+ghost use Rattle.std.specs.Prelude.{◌≡◌, ◌<◌, List, length, None, Some, IfOk, IfErr, IfSome, IsSome, OnOk, MatchResult};
 ghost use Rattle.dump_io.specs.Dumps.{ReadsAtMost};
 ghost use Rattle.heap_cells.specs.HeapMap.{number_at};
 ghost use Rattle.heap_cells.specs.Loading.{heap_bodies};

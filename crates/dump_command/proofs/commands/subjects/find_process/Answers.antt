@@ -1,4 +1,4 @@
-use Rattle.std.proofs.Common.{◌≡◌, ℕ, List, Option, None, Some, if◌then◌else◌, sym, ◌∙◌, ap}
+use Rattle.std.proofs.Common.{ℕ, List, Option, None, Some, if◌then◌else◌, sym, ◌∙◌, ap}
 use Rattle.std.specs.Prelude.{is_some}
 use Rattle.dump_sections.specs.Sections.{Section}
 use Rattle.report_text.specs.declared.refusals.Refusal.{Refusal}
