@@ -115,10 +115,6 @@ pub fn read_body<D: Dumps>(
         return Err(fault);
     }
     let section = index.extent(i);
-    read_part(
-        alloc,
-        dumps,
-        section.body,
-        (section.end - section.body) as usize,
-    )
+    let len = (section.end - section.body) as usize;
+    read_part(alloc, dumps, section.body, len)
 }
