@@ -23,10 +23,10 @@ use Rattle.root_views.specs.Roots.{message_count}
 use Rattle.dump_audit.specs.Findings.{audit_of, findings, is_cut}
 use Rattle.dump_audit.specs.Laws.{all-numbered}
 use Rattle.binary_payloads.specs.declared.enc.Enc.{Enc}
-use Rattle.dump_redact.specs.Bodies.{redacted_body, heap_line}
+use Rattle.dump_redact.specs.Bodies.{redacted_body}
 use Rattle.dump_redact.specs.Laws.{IsRedacted, KeepsIndex, KeepsOthers, KeepsSections, KeepsState, RedactsSections, KeepsLength, RedactsLines}
 use Rattle.heap_cells.specs.Loading.{enc_of, body_in}
-use Rattle.dump_redact.specs.Redacted.{part_of, redacted, version_of, bin_chars, without}
+use Rattle.dump_redact.specs.Redacted.{part_of, redacted, bin_chars, without, blanked_line}
 use Rattle.term_forms.specs.Forms.{HeapForm, HeapBin, Cons, Tuple, RefBin, SubBin, Flat, Node}
 use Rattle.term_forms.specs.ReadingForms.{form_of}
 use Rattle.term_forms.specs.Words.{led_of}
@@ -45,6 +45,10 @@ use Rattle.root_views.specs.declared.kinds.RootKind.TheVariants.{Stack}
 use Rattle.root_views.specs.Kinds.{roots_in, roots_tag}
 use Rattle.dump_command.specs.Laws.{KeepsFindings, KeepsProcesses, KeepsAddresses, KeepsHeaps, blank_cell, blank_form, blank_heap, KeepsLeaves, KeepsRoots, KeepsTrees, KeepsVerdicts, blank_tree, blank_trees, blank_value, is_binary}
 use Rattle.dump_command.specs.Terms.{heap_body, heap_map, heap_of, heap_with, literals_body, literals_of, payloads_of, previews_in, roots_section}
+
+-- a line of a heap with its payload made blank
+abbrev heap_line : Enc → List ℕ → List ℕ
+heap_line enc raw = blanked_line enc (part_of (codes "proc_heap")) raw
 
 -- ---- lists
 
@@ -125,14 +129,14 @@ module _ (same : KeepsSections) (redacts : RedactsSections) (others : KeepsOther
   keeps-processes bytes =
       ap (λ ss. table_with (map (λ p. process_in p (body_of (redacted bytes) p.1)) (records ss)) (repeated ss)) (same bytes)
       ∙ ap (λ ps. table_with ps (repeated (sections bytes)))
-      (same-processes (enc_of (version_of bytes)) bytes (redacted bytes) others (sections bytes) (redacts bytes))
+      (same-processes (enc_of (index_of bytes).version) bytes (redacted bytes) others (sections bytes) (redacts bytes))
 
   module _ (state : KeepsState) (index : KeepsIndex) where
     keeps-mails : (bytes : List ℕ) → mails (redacted bytes) ≡ mails bytes
     keeps-mails bytes =
         ap (λ s. map (mail_in (redacted bytes) s (sections (redacted bytes))) (mailbox_places (sections (redacted bytes)))) (state bytes)
         ∙ ap (λ ss. map (mail_in (redacted bytes) (state_of (headers bytes)) ss) (mailbox_places ss)) (same bytes)
-        ∙ same-mails (enc_of (version_of bytes)) bytes (redacted bytes) others (sections bytes) (redacts bytes) (state_of (headers bytes)) (pids_in (sections bytes))
+        ∙ same-mails (enc_of (index_of bytes).version) bytes (redacted bytes) others (sections bytes) (redacts bytes) (state_of (headers bytes)) (pids_in (sections bytes))
 
     pub keeps-findings : KeepsFindings
     keeps-findings bytes limit full =
@@ -569,7 +573,7 @@ kind-other kind = refl
 module _ (same : KeepsSections) (redacts : RedactsSections) (others : KeepsOthers) where
   pub keeps-roots : KeepsRoots
   keeps-roots kind bytes pid =
-      let enc = enc_of (version_of bytes) in
+      let enc = enc_of (index_of bytes).version in
       let tag = roots_tag kind in
       let test : Section → Bool = λ s. is_named tag (Some pid) s.text in
       ap (λ ss. roots_in kind (body_in (redacted bytes) (roots_section kind pid ss))) (same bytes)

@@ -18,7 +18,8 @@ use Rattle.dump_sections.specs.Sections.{sections, sections_of, id_of}
 use Rattle.dump_sections.specs.declared.version.Version.{Version}
 use Rattle.dump_sections.specs.declared.version.Version.TheVariants.{V05}
 use Rattle.heap_cells.specs.Loading.{enc_of}
-use Rattle.dump_redact.specs.Redacted.{blank, blank_from, is_digit_of, payload_in, without, redacted_line, redacted_lines, next_part, redacted_in, redacted, version_of}
+use Rattle.binary_payloads.specs.Payload.{is_digit_of}
+use Rattle.dump_redact.specs.Redacted.{blank, blank_from, payload_in, without, redacted_line, redacted_lines, next_part, redacted_in, redacted}
 use Rattle.dump_redact.specs.declared.parts.Part.{Part}
 use Rattle.dump_redact.specs.declared.parts.Part.TheVariants.{Other}
 
@@ -306,16 +307,16 @@ first-same : (enc : Enc) (raws : List (List ℕ)) → first_in (redacted_lines e
 first-same enc [] = refl
 first-same enc (raw ∷ raws) = both (is_header raw) raw
 
-pub version-redacted : (enc : Enc) (bytes : List ℕ) → version_of (redacted_in enc Other bytes) ≡ version_of bytes
+pub version-redacted : (enc : Enc) (bytes : List ℕ) → (index_of (redacted_in enc Other bytes)).version ≡ (index_of bytes).version
 version-redacted enc bytes =
     ap (λ line. unwrap_or (version_named (unwrap_or (id_of (text_of line)) [])) V05)
     (ap first_in (raw_lines-redacted enc Other bytes) ∙ first-same enc (raw_lines bytes))
 
 pub keeps-length : (bytes : List ℕ) → length (redacted bytes) ≡ length bytes
-keeps-length bytes = length-redacted (enc_of (version_of bytes)) Other bytes
+keeps-length bytes = length-redacted (enc_of (index_of bytes).version) Other bytes
 
 pub keeps-headers : (bytes : List ℕ) → headers (redacted bytes) ≡ headers bytes
-keeps-headers bytes = headers-redacted (enc_of (version_of bytes)) Other bytes
+keeps-headers bytes = headers-redacted (enc_of (index_of bytes).version) Other bytes
 
 pub keeps-sections : (bytes : List ℕ) → sections (redacted bytes) ≡ sections bytes
 keeps-sections bytes = ap₂ sections_of (keeps-headers bytes) (keeps-length bytes)
@@ -326,6 +327,6 @@ contents headers size version = record { headers = headers; size = size; version
 pub keeps-index : (bytes : List ℕ) → index_of (redacted bytes) ≡ index_of bytes
 keeps-index bytes =
     let new = redacted bytes in
-    ap (λ hs. contents hs (length new) (version_of new)) (keeps-headers bytes)
-    ∙ ap (λ n. contents (headers bytes) n (version_of new)) (keeps-length bytes)
-    ∙ ap (λ v. contents (headers bytes) (length bytes) v) (version-redacted (enc_of (version_of bytes)) bytes)
+    ap (λ hs. contents hs (length new) (index_of new).version) (keeps-headers bytes)
+    ∙ ap (λ n. contents (headers bytes) n (index_of new).version) (keeps-length bytes)
+    ∙ ap (λ v. contents (headers bytes) (length bytes) v) (version-redacted (enc_of (index_of bytes).version) bytes)

@@ -18,7 +18,7 @@ use Rattle.term_forms.specs.Words.{colon, led_of, is_hex_digit, IsLed}
 use Rattle.dump_redact.specs.declared.copying.Stretch.TheVariants.{Payload}
 use Rattle.dump_redact.specs.declared.copying.Stretch.{Stretch}
 use Rattle.dump_redact.specs.declared.parts.Part.TheVariants.{Binary}
-use Rattle.dump_redact.specs.Bodies.{binary_lines, redacted_body}
+use Rattle.dump_redact.specs.Bodies.{body_lines, redacted_body}
 use Rattle.dump_redact.specs.Redacted.{blank, blank_from, payload_in, without}
 use Rattle.dump_redact.specs.Inner.Copying.{blank_line, copied, stretch_behind}
 use Rattle.dump_redact.specs.Inner.Places.{IsLeadOf}
@@ -190,7 +190,7 @@ binary-some law enc body rest n led =
     omega (arith, ap length text.1, length-append hex (colon ∷ text.0), length-append hex (colon ∷ [])) in
     let parts : (l : List ℕ) → hex ++ colon ∷ l ≡ front ++ l = λ l. sym (append_assoc hex (colon ∷ []) l) in
     ap (redacted_body enc Binary) led.2
-    ∙ ap (λ ls. concat (binary_lines enc ls)) (led-lines hex rest digits)
+    ∙ ap (λ ls. concat (body_lines enc Binary ls)) (led-lines hex rest digits)
     ∙ ap (λ o. without enc raw o ++ concat more) found
     ∙ ap (λ k. blank_from enc k raw ++ concat more) place
     ∙ ap (λ l. blank_from enc (length front) l ++ concat more) (parts first)
@@ -215,7 +215,7 @@ binary-none law enc body none = by (raw_lines body) (AreLines-raw body).together
         let some = (law body led.0 (led.1 ++ (tail ++ concat more))).1 (found.0, found.1, whole) in
         absurd (let no : ⊥ = cc (none, some) in no)
 
-    by : (raws : List (List ℕ)) → concat raws ≡ body → concat (binary_lines enc raws) ≡ body
+    by : (raws : List (List ℕ)) → concat raws ≡ body → concat (body_lines enc Binary raws) ≡ body
     by [] all = all
     by (raw ∷ more) all = ap (λ l. l ++ concat more) (read raw more all (led_of (text_of raw)) refl) ∙ all
 

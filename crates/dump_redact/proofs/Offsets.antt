@@ -8,7 +8,7 @@ use Rattle.std.proofs.lemmas.Bool.{cases_lt}
 use Rattle.std.proofs.lemmas.List.{length-take-le, take-take, drop-take, drop-drop, take_all, take_at, drop_at}
 use Rattle.std.proofs.lemmas.List.Edits.{length-between}
 use Rattle.dump_sections.specs.Bodies.{body_length, section_at}
-use Rattle.dump_sections.specs.Index.{Contents, sections_in, AreBounded, IsIndexOf, IsBuiltOver}
+use Rattle.dump_sections.specs.Index.{index_of, Contents, sections_in, AreBounded, IsIndexOf, IsBuiltOver}
 use Rattle.dump_sections.specs.Sections.{Section, section, sections, sections_of, next_at, tag_of}
 use Rattle.dump_io.specs.Dumps.{Now, told, size_of, Gives, closed, sized, IsOpen}
 use borrow.Rule.Slice.PartMut.{put_mid}
@@ -19,13 +19,13 @@ use Rattle.binary_payloads.specs.declared.enc.Enc.{Enc}
 use Rattle.heap_cells.specs.Loading.{enc_of}
 use Rattle.dump_redact.specs.declared.faults.RedactFault.{RedactFault}
 use Rattle.dump_redact.specs.declared.faults.RedactFault.TheVariants.{SectionTooLarge}
-use Rattle.dump_redact.specs.Refusals.{is_heap, heap_sections, first_large, large_fault}
+use Rattle.dump_redact.specs.Refusals.{heap_sections, first_large, large_fault}
 use Rattle.dump_redact.specs.Inner.Places.{fault_at, offset_of, text_between, text_of_section, redacted_between}
 use Rattle.dump_redact.specs.declared.parts.Part.{Part}
 use Rattle.dump_redact.specs.declared.parts.Part.TheVariants.{Other}
 use Rattle.dump_redact.specs.Bodies.{redacted_body}
 use Rattle.dump_redact.specs.Laws.{IsRedacted}
-use Rattle.dump_redact.specs.Redacted.{redacted, version_of, part_of}
+use Rattle.dump_redact.specs.Redacted.{is_heap_tag, redacted, part_of}
 use Rattle.dump_redact.proofs.Alike.{keeps-length}
 use Rattle.dump_redact.proofs.Sections.{redacts-sections, keeps-others}
 use Rattle.dump_redact.proofs.Stretches.{between-join}
@@ -39,7 +39,7 @@ fault_in limit heap s heaps = option_map fault_of (first_large limit (cond heap 
 
 -- the first section is refused, or else those behind it decide
 pub one-more : (limit : ℕ) (s : Section) (sections : List Section) → large_fault limit (s ∷ sections) ≡ option_or (fault_at limit s) (large_fault limit sections)
-one-more limit s sections = by (is_heap s) (nat_lt limit (body_length s)) refl
+one-more limit s sections = by (is_heap_tag (tag_of s.text)) (nat_lt limit (body_length s)) refl
   where
     heaps : List Section
     heaps = heap_sections sections
@@ -129,7 +129,7 @@ built-told now index dump over is = subst (λ n. IsBuiltOver n index) is over
 pub index-sections : (dump : List ℕ) (index : Contents) → IsIndexOf dump index → sections_in index ≡ sections dump
 index-sections dump index of = ap (λ hs. sections_of hs index.size) of.headers ∙ ap (sections_of (headers dump)) of.size
 
-pub index-enc : (dump : List ℕ) (index : Contents) → IsIndexOf dump index → enc_of (version_of dump) ≡ enc_of index.version
+pub index-enc : (dump : List ℕ) (index : Contents) → IsIndexOf dump index → enc_of (index_of dump).version ≡ enc_of index.version
 index-enc dump index of = ap (λ o. enc_of (unwrap_or o V05)) of.version
 
 All-at : {X : Type 0} (P : X → Type 0) (xs : List X) (i : ℕ) (x : X) → All P xs → slice_get xs i ≡ Some x → P x
@@ -140,7 +140,7 @@ pub section-redacted : (dump : List ℕ) (index : Contents) (i : ℕ) (s : Secti
     → IsRedacted (enc_of index.version) dump (redacted dump) s
 section-redacted dump index i s of is =
     subst (λ enc. IsRedacted enc dump (redacted dump) s) (index-enc dump index of)
-    (All-at (IsRedacted (enc_of (version_of dump)) dump (redacted dump)) (sections dump) i s (redacts-sections dump)
+    (All-at (IsRedacted (enc_of (index_of dump).version) dump (redacted dump)) (sections dump) i s (redacts-sections dump)
     (ap (λ l. slice_get l i) (sym (index-sections dump index of)) ∙ is))
 
 -- ---- offsets

@@ -12,10 +12,10 @@ use Rattle.dump_sections.specs.declared.version.Version.{Version}
 use Rattle.dump_sections.specs.declared.version.Version.TheVariants.{V03, V04, V05}
 use Rattle.binary_payloads.specs.declared.enc.Enc.TheVariants.{Hex, Base64}
 use Rattle.heap_cells.specs.Loading.{enc_of}
+use Rattle.dump_sections.specs.Index.{index_of}
 use Rattle.dump_redact.specs.declared.parts.Part.{Part}
 use Rattle.dump_redact.specs.declared.parts.Part.TheVariants.{Heap, Binary, Other}
-use Rattle.dump_redact.specs.Redacted.{bin_chars, payload_in, blank, without, later, blank_from, redacted_line, redacted_lines, next_part, redacted_in, redacted, version_of}
-use Rattle.dump_redact.specs.Bodies.{heap_line}
+use Rattle.dump_redact.specs.Redacted.{bin_chars, payload_in, blank, without, later, blank_from, redacted_line, redacted_lines, next_part, redacted_in, redacted, blanked_line}
 use Rattle.dump_redact.specs.Payloads.{KeepsPayloads, KeepsBinaries}
 use Rattle.dump_redact.proofs.Alike.{blanked, line-is_header, line-header, raw_lines-redacted, version-redacted}
 
@@ -151,7 +151,7 @@ binaries law enc forms keeps raw address size spelled chars e f =
     let parts : text ≡ front ++ chars =
     led.2 ∙ ap (λ l. led.0 ++ colon ∷ l) (form.1 ∙ ap (λ l. codes "Yh" ++ l) sized.2 ∙ sym (inner chars)) ∙ sym (outer chars) in
     let found : payload_in enc Heap text ≡ Some chars = ap (option_and_then (λ led. bin_chars (form_of enc led.1))) e ∙ ap bin_chars f in
-    let is : text_of (heap_line enc raw) ≡ front ++ zeros = ap (λ o. text_of (without enc raw o)) found ∙ (blanked enc raw front chars parts).text in (
+    let is : text_of (blanked_line enc Heap raw) ≡ front ++ zeros = ap (λ o. text_of (without enc raw o)) found ∙ (blanked enc raw front chars parts).text in (
       head ++ zeros,
       ap led_of is ∙ (law (front ++ zeros) address (head ++ zeros)).1 (led.0, led.1, outer zeros),
       (forms (head ++ zeros) (HeapBin size zeros)).1 (hex ++ colon ∷ zeros, inner zeros, (hex, sized.1, refl), keeps chars size form.3),
@@ -163,7 +163,7 @@ binaries law enc forms keeps raw address size spelled chars e f =
 
 ends : (enc : Enc) (part : Part) (new front zeros : List ℕ) → text_of new ≡ front ++ zeros → blank_from enc (length front) new ≡ new
     → (payload_in enc part (front ++ zeros) ≡ None) ⊎ (payload_in enc part (front ++ zeros) ≡ Some zeros)
-    → without enc new (payload_in enc part (text_of new)) ≡ new
+    → blanked_line enc part new ≡ new
 ends enc part new front zeros text again (inl none) = ap (without enc new) (ap (payload_in enc part) text ∙ none)
 ends enc part new front zeros text again (inr some) =
     let place : length (text_of new) - length zeros ≡ length front = omega (arith, ap length text, length-append front zeros) in
@@ -182,10 +182,10 @@ line-by : LedIsRead → (enc : Enc) → FormIsRead enc → (part : Part) (raw : 
 line-by law enc forms part raw true h = ap (redacted_line enc part) (line-header enc part raw h)
 line-by law enc forms part raw false h =
     let new = redacted_line enc part raw in
-    let plain = without enc raw (payload_in enc part (text_of raw)) in
+    let plain = blanked_line enc part raw in
     let is : new ≡ plain = cond-false (is_header raw) raw plain h in
-    cond-false (is_header new) new (without enc new (payload_in enc part (text_of new))) (line-is_header enc part raw ∙ h)
-    ∙ ap (λ l. without enc l (payload_in enc part (text_of l))) is
+    cond-false (is_header new) new (blanked_line enc part new) (line-is_header enc part raw ∙ h)
+    ∙ ap (λ l. blanked_line enc part l) is
     ∙ without-stays law enc forms part raw (payload_in enc part (text_of raw)) refl
     ∙ sym is
 
@@ -215,6 +215,6 @@ version-forms hex base64 V05 = base64
 
 pub stays : LedIsRead → FormIsRead Hex → FormIsRead Base64 → (bytes : List ℕ) → redacted (redacted bytes) ≡ redacted bytes
 stays law hex base64 bytes =
-    let enc = enc_of (version_of bytes) in
+    let enc = enc_of (index_of bytes).version in
     ap (λ v. redacted_in (enc_of v) Other (redacted bytes)) (version-redacted enc bytes)
-    ∙ part-stays law enc (version-forms hex base64 (version_of bytes)) Other bytes
+    ∙ part-stays law enc (version-forms hex base64 (index_of bytes).version) Other bytes

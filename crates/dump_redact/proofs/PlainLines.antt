@@ -14,8 +14,8 @@ use Rattle.dump_io.specs.Laws.Lines.{AreLines-raw}
 use Rattle.dump_io.specs.Laws.Reads.{take-two}
 use Rattle.dump_redact.specs.Inner.Places.{AreMarksFrom}
 use Rattle.dump_redact.specs.declared.parts.Part.TheVariants.{Heap}
-use Rattle.dump_redact.specs.Redacted.{payload_in, without}
-use Rattle.dump_redact.specs.Bodies.{heap_line, redacted_body}
+use Rattle.dump_redact.specs.Redacted.{payload_in, without, blanked_line}
+use Rattle.dump_redact.specs.Bodies.{redacted_body}
 use Rattle.dump_redact.proofs.Alike.{Alike-length, without-alike, kept, text-kept}
 use Rattle.dump_redact.proofs.Places.{LedIsRead, FormIsRead, marked}
 
@@ -46,12 +46,12 @@ pub record IsDone (enc : Enc) (at : ℕ) (old now : List ℕ) : Type 0 where
   pub stays : drop at now ≡ drop at old
   pub done : take at now ++ redacted_body enc Heap (drop at old) ≡ redacted_body enc Heap old
 
-pub line-length : (enc : Enc) (raw : List ℕ) → length (heap_line enc raw) ≡ length raw
-line-length enc raw = Alike-length (heap_line enc raw) raw (without-alike enc raw (payload_in enc Heap (text_of raw)))
+pub line-length : (enc : Enc) (raw : List ℕ) → length (blanked_line enc Heap raw) ≡ length raw
+line-length enc raw = Alike-length (blanked_line enc Heap raw) raw (without-alike enc raw (payload_in enc Heap (text_of raw)))
 
 pub one-line : (enc : Enc) (at len k : ℕ) (old now line : List ℕ) → IsDone enc at old now → k ≡ len → len ≤ length (drop at now)
     → raw_lines (drop at now) ≡ take len (drop at now) ∷ raw_lines (drop len (drop at now))
-    → line ≡ heap_line enc (take len (drop at now)) → IsDone enc (at + len) old (put_mid at k now line)
+    → line ≡ blanked_line enc Heap (take len (drop at now)) → IsDone enc (at + len) old (put_mid at k now line)
 one-line enc at len k old now line before e fits first is =
     let rest = drop at now in
     let long : length line ≡ len = ap length is ∙ line-length enc (take len rest) ∙ length-take-le len rest fits in
@@ -65,7 +65,7 @@ one-line enc at len k old now line before e fits first is =
     let front : take (at + len) new ≡ take at now ++ line = take-put_mid at k now line (at + len) (omega (arith, long)) before.within in
     let lines : redacted_body enc Heap (drop at old) ≡ line ++ redacted_body enc Heap (drop (at + len) old) =
     ap (redacted_body enc Heap) (sym before.stays)
-    ∙ ap (λ raws. concat (map (heap_line enc) raws)) first
+    ∙ ap (λ raws. concat (map (blanked_line enc Heap) raws)) first
     ∙ ap (λ l. l ++ redacted_body enc Heap (drop len rest)) (sym is)
     ∙ ap (λ l. line ++ redacted_body enc Heap l) (tail now ∙ behind) in
     record {
@@ -103,7 +103,7 @@ free-before place bytes marks front more is =
 
 module _ (law : LedIsRead) (enc : Enc) (forms : FormIsRead enc) where
   -- a line without it stays
-  plain-line : (raw : List ℕ) → IsFree raw → heap_line enc raw ≡ raw
+  plain-line : (raw : List ℕ) → IsFree raw → blanked_line enc Heap raw ≡ raw
   plain-line raw free = by (payload_in enc Heap (text_of raw)) refl
     where
       by : (o : Option (List ℕ)) → payload_in enc Heap (text_of raw) ≡ o → without enc raw o ≡ raw
@@ -113,7 +113,7 @@ module _ (law : LedIsRead) (enc : Enc) (forms : FormIsRead enc) where
           let text : IsFree (text_of raw) = subst IsFree (sym (text-kept raw)) (free-take (kept raw) raw free) in
           absurd (text letter.0 letter.1 letter.2)
 
-  plain-lines : (raws : List (List ℕ)) → IsFree (concat raws) → map (heap_line enc) raws ≡ raws
+  plain-lines : (raws : List (List ℕ)) → IsFree (concat raws) → map (blanked_line enc Heap) raws ≡ raws
   plain-lines [] free = refl
   plain-lines (raw ∷ raws) free =
       ap₂ (λ l ls. l ∷ ls) (plain-line raw (free-left raw (concat raws) free)) (plain-lines raws (free-right raw (concat raws) free))
@@ -173,9 +173,9 @@ module _ (law : LedIsRead) (enc : Enc) (forms : FormIsRead enc) (bytes : List �
       let own : IsFree front = subst IsFree same (free-take n (take place bytes) free) in
       let last : 0 < length front → IsEnded front = λ some. subst IsEnded same (ended (omega (arith, some, long))) in
       ap (redacted_body enc Heap) (sym (take-append-drop n bytes))
-      ∙ ap (λ ls. concat (map (heap_line enc) ls)) (lines-front front rest last)
-      ∙ ap concat (map-append (heap_line enc) (raw_lines front) (raw_lines rest))
-      ∙ concat-append (map (heap_line enc) (raw_lines front)) (map (heap_line enc) (raw_lines rest))
+      ∙ ap (λ ls. concat (map (blanked_line enc Heap) ls)) (lines-front front rest last)
+      ∙ ap concat (map-append (blanked_line enc Heap) (raw_lines front) (raw_lines rest))
+      ∙ concat-append (map (blanked_line enc Heap) (raw_lines front)) (map (blanked_line enc Heap) (raw_lines rest))
       ∙ ap (λ l. l ++ redacted_body enc Heap rest) (plain-bytes law enc forms front own)
 
   pub plain-all : (n : ℕ) → n ≡ length bytes → IsFree (take n bytes) → redacted_body enc Heap bytes ≡ take n bytes ++ redacted_body enc Heap (drop n bytes)

@@ -11,10 +11,11 @@ use Rattle.binary_payloads.specs.declared.enc.Enc.{Enc}
 use Rattle.dump_io.specs.Laws.Lines.{AreLines-raw, front-cons, raw_lines-ended, raw_lines-one}
 use Rattle.dump_sections.specs.TilingLaws.{headers_in}
 use Rattle.heap_cells.specs.Loading.{enc_of}
+use Rattle.dump_sections.specs.Index.{index_of}
 use Rattle.dump_redact.specs.declared.parts.Part.{Part}
 use Rattle.dump_redact.specs.declared.parts.Part.TheVariants.{Heap, Binary, Other}
-use Rattle.dump_redact.specs.Redacted.{later, part_of, next_part, payload_in, without, redacted_line, redacted_lines, redacted, version_of}
-use Rattle.dump_redact.specs.Bodies.{heap_line, body_lines, redacted_body}
+use Rattle.dump_redact.specs.Redacted.{later, part_of, next_part, payload_in, redacted_line, redacted_lines, redacted, blanked_line}
+use Rattle.dump_redact.specs.Bodies.{body_lines, redacted_body}
 use Rattle.dump_redact.specs.Laws.{IsRedacted}
 use Rattle.dump_redact.proofs.Alike.{AllAlike, Alike-length, concat-alike, mark, raw_lines-of, heads-cons, without-alike, line-alike, lines-alike, line-header}
 
@@ -33,23 +34,23 @@ head raw raws h = All-head (λ raw. is_header raw ≡ false) raw raws h
 rest : (raw : List ℕ) (raws : List (List ℕ)) → AreInBody (raw ∷ raws) → AreInBody raws
 rest raw raws h = All-tail (λ raw. is_header raw ≡ false) raw raws h
 
-plain : (enc : Enc) (part : Part) (raw : List ℕ) → is_header raw ≡ false → redacted_line enc part raw ≡ without enc raw (payload_in enc part (text_of raw))
+plain : (enc : Enc) (part : Part) (raw : List ℕ) → is_header raw ≡ false → redacted_line enc part raw ≡ blanked_line enc part raw
 plain enc part raw h = cond-false (is_header raw) raw _ h
 
 after : (part : Part) (raw : List ℕ) → is_header raw ≡ false → next_part part raw ≡ later part
 after part raw h = cond-false (is_header raw) (part_of (tag_of (text_of raw))) (later part) h
 
 step : (enc : Enc) (part : Part) (raw : List ℕ) (raws : List (List ℕ)) → is_header raw ≡ false
-    → redacted_lines enc part (raw ∷ raws) ≡ without enc raw (payload_in enc part (text_of raw)) ∷ redacted_lines enc (later part) raws
+    → redacted_lines enc part (raw ∷ raws) ≡ blanked_line enc part raw ∷ redacted_lines enc (later part) raws
 step enc part raw raws h = ap₂ (λ l p. l ∷ redacted_lines enc p raws) (plain enc part raw h) (after part raw h)
 
 others : (enc : Enc) (raws : List (List ℕ)) → AreInBody raws → redacted_lines enc Other raws ≡ raws
 others enc [] h = refl
 others enc (raw ∷ raws) h = step enc Other raw raws (head raw raws h) ∙ ap (λ l. raw ∷ l) (others enc raws (rest raw raws h))
 
-heaps : (enc : Enc) (raws : List (List ℕ)) → AreInBody raws → redacted_lines enc Heap raws ≡ map (heap_line enc) raws
+heaps : (enc : Enc) (raws : List (List ℕ)) → AreInBody raws → redacted_lines enc Heap raws ≡ map (blanked_line enc Heap) raws
 heaps enc [] h = refl
-heaps enc (raw ∷ raws) h = step enc Heap raw raws (head raw raws h) ∙ ap (λ l. heap_line enc raw ∷ l) (heaps enc raws (rest raw raws h))
+heaps enc (raw ∷ raws) h = step enc Heap raw raws (head raw raws h) ∙ ap (λ l. blanked_line enc Heap raw ∷ l) (heaps enc raws (rest raw raws h))
 
 -- the lines of a body are redacted by its part alone
 pub bodies : (enc : Enc) (part : Part) (raws : List (List ℕ)) → AreInBody raws → redacted_lines enc part raws ≡ body_lines enc part raws
@@ -57,7 +58,7 @@ bodies enc Heap raws h = heaps enc raws h
 bodies enc Other raws h = others enc raws h
 bodies enc Binary [] h = refl
 bodies enc Binary (raw ∷ raws) h =
-    step enc Binary raw raws (head raw raws h) ∙ ap (λ l. without enc raw (payload_in enc Binary (text_of raw)) ∷ l) (others enc raws (rest raw raws h))
+    step enc Binary raw raws (head raw raws h) ∙ ap (λ l. blanked_line enc Binary raw ∷ l) (others enc raws (rest raw raws h))
 
 -- lines that are cut in two are redacted one part after the other
 pub in_turn : (enc : Enc) (part : Part) (front more : List (List ℕ))
@@ -253,9 +254,9 @@ module _ (enc : Enc) (b c : List ℕ) where
       by false h rest first =
           subst (λ hs. All (IsRedacted enc b c) (sections_of hs size)) (sym (heads-cons false (record { at = at; raw = raw }) (lines_from (at + length raw) raws) h)) rest
 
-pub redacts-sections : (bytes : List ℕ) → All (IsRedacted (enc_of (version_of bytes)) bytes (redacted bytes)) (sections bytes)
+pub redacts-sections : (bytes : List ℕ) → All (IsRedacted (enc_of (index_of bytes).version) bytes (redacted bytes)) (sections bytes)
 redacts-sections bytes =
-    let enc = enc_of (version_of bytes) in
+    let enc = enc_of (index_of bytes).version in
     let lines = AreLines-raw bytes in
     let own : AreLines (concat (raw_lines bytes)) (raw_lines bytes) = subst (λ l. AreLines l (raw_lines bytes)) (sym lines.together) lines in
     let start : 0 + length (concat (raw_lines bytes)) ≡ length bytes = omega (arith, ap length lines.together) in

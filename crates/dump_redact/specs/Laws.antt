@@ -9,7 +9,7 @@ use Rattle.dump_redact.specs.declared.parts.Part.{Part}
 use Rattle.dump_redact.specs.declared.parts.Part.TheVariants.{Other}
 use Rattle.dump_redact.specs.Bodies.{body_lines, redacted_body}
 use Rattle.heap_cells.specs.Loading.{enc_of}
-use Rattle.dump_redact.specs.Redacted.{redacted, part_of, version_of}
+use Rattle.dump_redact.specs.Redacted.{redacted, part_of}
 
 -- it has as many bytes
 abbrev pub KeepsLength : Type 0
@@ -38,7 +38,7 @@ pub record IsRedacted (enc : Enc) (before after : List ℕ) (section : Section) 
 
 -- each section is redacted by itself
 abbrev pub RedactsSections : Type 0
-RedactsSections = (bytes : List ℕ) → All (IsRedacted (enc_of (version_of bytes)) bytes (redacted bytes)) (sections bytes)
+RedactsSections = (bytes : List ℕ) → All (IsRedacted (enc_of (index_of bytes).version) bytes (redacted bytes)) (sections bytes)
 
 -- the lines of a redacted body are its lines, redacted
 abbrev pub RedactsLines : Type 0

@@ -6,8 +6,8 @@ use Rattle.term_forms.specs.Forms.{HeapBin}
 use Rattle.binary_payloads.specs.Payload.{IsPayloadOf}
 use Rattle.term_forms.specs.ReadingForms.{form_of}
 use Rattle.term_forms.specs.Words.{led_of}
-use Rattle.dump_redact.specs.Bodies.{heap_line}
-use Rattle.dump_redact.specs.Redacted.{blank}
+use Rattle.dump_redact.specs.declared.parts.Part.TheVariants.{Heap}
+use Rattle.dump_redact.specs.Redacted.{blank, blanked_line}
 
 -- blank characters write as many bytes
 abbrev pub KeepsPayloads : Enc → Type 0
@@ -18,5 +18,5 @@ KeepsPayloads enc = (chars : List ℕ) (size : ℕ) → IsPayloadOf enc chars si
 abbrev pub KeepsBinaries : Enc → Type 0
 KeepsBinaries enc = (raw : List ℕ) (address size : ℕ) (spelled chars : List ℕ)
     → led_of (text_of raw) ≡ Some (address, spelled) → form_of enc spelled ≡ Some (HeapBin size chars)
-    → (again : List ℕ) × (led_of (text_of (heap_line enc raw)) ≡ Some (address, again))
+    → (again : List ℕ) × (led_of (text_of (blanked_line enc Heap raw)) ≡ Some (address, again))
     × (form_of enc again ≡ Some (HeapBin size (map (blank enc) chars)))

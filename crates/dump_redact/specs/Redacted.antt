@@ -1,34 +1,27 @@
 -- What a dump is with its binary payloads made zero: line
 -- by line, each by the part of the dump in which it stands.
-use Rattle.std.specs.Prelude.{ℕ, ◌-◌, ◌==◌, Bool, ◌||◌, List, [], ◌∷◌, ◌++◌, length, take, drop, map, codes, Option, None, Some, option_and_then, option_map, unwrap_or, if◌then◌else◌}
+use Rattle.std.specs.Prelude.{ℕ, ◌-◌, Bool, ◌||◌, List, [], ◌∷◌, ◌++◌, length, take, drop, map, codes, Option, None, Some, option_and_then, option_map, if◌then◌else◌}
 use Rattle.std.specs.List.{concat}
-use Rattle.std.specs.Char.{is_ascii_alphanumeric}
 use Rattle.std.specs.Str.{bytes_eq}
 use Rattle.dump_io.specs.Lines.{raw_lines, text_of, is_header}
-use Rattle.dump_sections.specs.declared.version.Version.{Version}
-use Rattle.dump_sections.specs.declared.version.Version.TheVariants.{V05}
-use Rattle.dump_sections.specs.Versions.{first_id, version_named}
+use Rattle.dump_sections.specs.Index.{index_of}
 use Rattle.dump_sections.specs.Sections.{tag_of}
 use Rattle.binary_payloads.specs.declared.enc.Enc.{Enc}
 use Rattle.binary_payloads.specs.declared.enc.Enc.TheVariants.{Hex, Base64}
+use Rattle.binary_payloads.specs.Payload.{is_digit_of}
 use Rattle.term_forms.specs.Forms.{HeapForm, HeapBin}
 use Rattle.term_forms.specs.ReadingForms.{form_of}
-use Rattle.term_forms.specs.Words.{is_hex_digit, led_of}
+use Rattle.term_forms.specs.Words.{led_of}
 use Rattle.heap_cells.specs.Loading.{enc_of}
 use Rattle.dump_redact.specs.declared.parts.Part.{Part}
 use Rattle.dump_redact.specs.declared.parts.Part.TheVariants.{Heap, Binary, Other}
-
--- whether the character may write a part of a byte: in base64 a letter, a digit, `+` or `/`
-abbrev pub is_digit_of : Enc → ℕ → Bool
-is_digit_of Hex c = is_hex_digit c
-is_digit_of Base64 c = is_ascii_alphanumeric c || c == 43 || c == 47
 
 -- the character that writes zero
 abbrev pub zero_of : Enc → ℕ
 zero_of Hex = 48
 zero_of Base64 = 65
 
--- such a character becomes zero, and any other stays, such as LF, CR, `=` and `:`
+-- a character that may write a part of a byte becomes zero, and any other stays, such as LF, CR, `=` and `:`
 abbrev pub blank : Enc → ℕ → ℕ
 blank enc c = if is_digit_of enc c then zero_of enc else c
 
@@ -36,17 +29,18 @@ blank enc c = if is_digit_of enc c then zero_of enc else c
 abbrev pub blank_from : Enc → ℕ → List ℕ → List ℕ
 blank_from enc at bytes = take at bytes ++ map (blank enc) (drop at bytes)
 
+-- whether a header with this tag begins a heap or literals
+abbrev pub is_heap_tag : List ℕ → Bool
+is_heap_tag tag = bytes_eq tag (codes "proc_heap") || bytes_eq tag (codes "literals")
+
 -- the part that a header with this tag begins
 abbrev pub part_of : List ℕ → Part
-part_of tag =
-    if bytes_eq tag (codes "proc_heap") || bytes_eq tag (codes "literals") then Heap
-    else (if bytes_eq tag (codes "binary") then Binary else Other)
+part_of tag = if is_heap_tag tag then Heap else (if bytes_eq tag (codes "binary") then Binary else Other)
 
--- the part after a line that is no header: of a binary only the first line counts
+-- the part after a line that is no header: a heap goes on, and of a binary only the first line counts
 abbrev pub later : Part → Part
 later Heap = Heap
-later Binary = Other
-later Other = Other
+later part = Other
 
 -- the part in which the line after this one stands
 abbrev pub next_part : Part → List ℕ → Part
@@ -70,9 +64,13 @@ abbrev pub without : Enc → List ℕ → Option (List ℕ) → List ℕ
 without enc raw None = raw
 without enc raw (Some chars) = blank_from enc (length (text_of raw) - length chars) raw
 
+-- a raw line in this part with its payload made blank
+abbrev pub blanked_line : Enc → Part → List ℕ → List ℕ
+blanked_line enc part raw = without enc raw (payload_in enc part (text_of raw))
+
 -- a header stays
 abbrev pub redacted_line : Enc → Part → List ℕ → List ℕ
-redacted_line enc part raw = if is_header raw then raw else without enc raw (payload_in enc part (text_of raw))
+redacted_line enc part raw = if is_header raw then raw else blanked_line enc part raw
 
 -- raw lines, the first of which stands in this part
 abbrev pub redacted_lines : Enc → Part → List (List ℕ) → List (List ℕ)
@@ -83,10 +81,6 @@ redacted_lines enc part (raw ∷ raws) = redacted_line enc part raw ∷ redacted
 abbrev pub redacted_in : Enc → Part → List ℕ → List ℕ
 redacted_in enc part bytes = concat (redacted_lines enc part (raw_lines bytes))
 
--- the version that the first line names
-abbrev pub version_of : List ℕ → Version
-version_of bytes = unwrap_or (version_named (first_id bytes)) V05
-
 -- a dump with its binary payloads made zero
 abbrev pub redacted : List ℕ → List ℕ
-redacted bytes = redacted_in (enc_of (version_of bytes)) Other bytes
+redacted bytes = redacted_in (enc_of (index_of bytes).version) Other bytes

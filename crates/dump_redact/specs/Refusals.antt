@@ -1,20 +1,16 @@
 -- Why a dump isn't redacted.
-use Rattle.std.specs.Prelude.{◌≡◌, ℕ, ◌||◌, Bool, List, Option, Some, filter, find, codes, nat_lt, option_map}
+use Rattle.std.specs.Prelude.{◌≡◌, ℕ, List, Option, Some, filter, find, nat_lt, option_map}
 use Rattle.dump_io.specs.Dumps.{DeviceState, DeviceFailed}
 use Rattle.dump_io.specs.Sinks.{SinkState, SinkFailed}
 use Rattle.dump_sections.specs.Bodies.{body_length}
-use Rattle.dump_sections.specs.Lookups.{has_tag}
-use Rattle.dump_sections.specs.Sections.{Section}
+use Rattle.dump_sections.specs.Sections.{Section, tag_of}
 use Rattle.dump_redact.specs.declared.faults.RedactFault.{RedactFault}
 use Rattle.dump_redact.specs.declared.faults.RedactFault.TheVariants.{SectionTooLarge, Read, Write, Memory}
+use Rattle.dump_redact.specs.Redacted.{is_heap_tag}
 
--- whether a section holds a heap or literals, so that its body is loaded
-abbrev pub is_heap : Section → Bool
-is_heap section = has_tag (codes "proc_heap") section.text || has_tag (codes "literals") section.text
-
--- the sections whose bodies are loaded, in the order of the dump
+-- the sections with heaps and literals, whose bodies are loaded, in the order of the dump
 abbrev pub heap_sections : List Section → List Section
-heap_sections sections = filter is_heap sections
+heap_sections sections = filter (λ s. is_heap_tag (tag_of s.text)) sections
 
 -- the first section whose body has more bytes than the limit
 abbrev pub first_large : ℕ → List Section → Option Section

@@ -1,16 +1,17 @@
 // Redacting the body of a heap in place.
 ghost use Rattle.std.specs.Prelude.{◌≡◌, ◌+◌, ◌<◌, ◌≤◌, ◌++◌, false, length, take, drop, map, IfSome};
 ghost use Rattle.dump_io.specs.Lines.{IsEnded};
-ghost use Rattle.dump_redact.specs.Bodies.{heap_line, redacted_body};
-ghost use Rattle.dump_redact.specs.Redacted.{blank};
+ghost use Rattle.dump_redact.specs.Bodies.{redacted_body};
+ghost use Rattle.dump_redact.specs.Redacted.{blank, blanked_line};
 ghost use Rattle.dump_redact.specs.Inner.Places.{place_of, AreMarksFrom};
 
 use crate::parts::Part;
+use binary_payloads::is_digit;
 use dump_io::{line_len, line_text};
 use memchr::{memchr, memrchr};
 use term_forms::reading::form;
 use term_forms::shapes::Form;
-use term_forms::{Enc, form_is_read, heap_line as split_heap_line, number_is_read};
+use term_forms::{Enc, form_is_read, heap_line, number_is_read};
 
 // How many bytes behind a letter count as near.
 const NEAR: usize = 16;
@@ -18,15 +19,12 @@ const NEAR: usize = 16;
 fn blanked(c: u8, enc: Enc) -> u8
     ensures { result ≡ blank enc c }
 {
+    if !is_digit(c, enc) {
+        return c;
+    }
     match enc {
-        Enc::Hex => { if c.is_ascii_hexdigit() { b'0' } else { c } }
-        Enc::Base64 => {
-            if c.is_ascii_alphabetic() || c == b'+' || (b'/' <= c && c <= b'9') {
-                b'A'
-            } else {
-                c
-            }
-        }
+        Enc::Hex => b'0',
+        Enc::Base64 => b'A',
     }
 }
 
@@ -47,7 +45,7 @@ fn payload_at(raw: &[u8], enc: Enc) -> Option<usize>
 {
     form_is_read(enc);
     let text = line_text(raw);
-    let (_, spelled) = split_heap_line(text)?;
+    let (_, spelled) = heap_line(text)?;
     if !spelled.starts_with(b"Yh") {
         return None;
     }
@@ -58,7 +56,7 @@ fn payload_at(raw: &[u8], enc: Enc) -> Option<usize>
 }
 
 fn redact_line(raw: &mut [u8], enc: Enc)
-    ensures { raw.new ≡ heap_line enc raw.old }
+    ensures { raw.new ≡ blanked_line enc Part.Heap raw.old }
 {
     if let Some(at) = payload_at(raw, enc) {
         blank_all(&mut raw[at..], enc);

@@ -5,7 +5,7 @@ ghost use Rattle.dump_io.specs.Sinks.{WritesAll};
 ghost use Rattle.dump_sections.specs.Bodies.{section_at};
 ghost use Rattle.dump_sections.specs.Index.{IsBuiltOver, sections_in};
 ghost use Rattle.dump_redact.specs.Redacted.{redacted};
-ghost use Rattle.dump_redact.specs.Refusals.{is_heap, large_fault, IsCauseOf};
+ghost use Rattle.dump_redact.specs.Refusals.{large_fault, IsCauseOf};
 ghost use Rattle.dump_redact.specs.declared.faults.RedactFault.{RedactFault};
 ghost use Rattle.dump_redact.specs.Inner.Copying.{Copies};
 ghost use Rattle.dump_redact.specs.Inner.Places.{length_between, text_between, HasRoom, fault_at};
@@ -13,21 +13,12 @@ ghost use Rattle.dump_redact.specs.Inner.Places.{length_between, text_between, H
 use crate::bodies::put_binary;
 use crate::copying::{Stretch, copy, make_buffer, make_room, put_bytes, read_piece};
 use crate::faults::RedactFault;
-use crate::parts::{Part, part_of};
+use crate::parts::{Part, is_heap_tag, part_of};
 use crate::spans::{next_place, offset, redact_sections};
 use dump_io::{Dumps, Limits, Sink};
 use dump_sections::Index;
 use heap_cells::enc_of;
 use std::alloc::Global;
-
-// Whether the section at a place holds a heap or literals.
-fn is_heap(index: &Index, i: usize) -> bool
-    requires { i < length index.now.headers }
-    ensures { result ≡ is_heap (section_at index.now i) }
-{
-    let section = index.section(i);
-    section.tag == b"proc_heap".as_slice() || section.tag == b"literals".as_slice()
-}
 
 // The refusal of the section at a place, if it is a heap or literals with more
 // bytes than the limit. Most sections are smaller, and the tags of those aren't read.
@@ -37,7 +28,7 @@ fn judge(index: &Index, i: usize, limits: &Limits) -> Option<RedactFault>
 {
     let extent = index.extent(i);
     let len = extent.end - extent.body;
-    if len > u64::from(limits.section()) && is_heap(index, i) {
+    if len > u64::from(limits.section()) && is_heap_tag(index.section(i).tag) {
         return Some(RedactFault::SectionTooLarge { at: extent.at, len });
     }
     None

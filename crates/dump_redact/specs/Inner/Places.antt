@@ -5,7 +5,7 @@ use Rattle.dump_io.specs.Limits.{usual}
 use Rattle.dump_io.specs.Lines.{text_of}
 use Rattle.dump_sections.specs.Bodies.{body_length}
 use Rattle.dump_sections.specs.Index.{Contents}
-use Rattle.dump_sections.specs.Sections.{Section, next_at}
+use Rattle.dump_sections.specs.Sections.{Section, next_at, tag_of}
 use Rattle.binary_payloads.specs.declared.enc.Enc.{Enc}
 use Rattle.term_forms.specs.Words.{led_of, IsLed}
 use Rattle.dump_redact.specs.declared.faults.RedactFault.{RedactFault}
@@ -13,8 +13,7 @@ use Rattle.dump_redact.specs.declared.faults.RedactFault.TheVariants.{SectionToo
 use Rattle.dump_redact.specs.declared.parts.Part.{Part}
 use Rattle.dump_redact.specs.declared.parts.Part.TheVariants.{Heap}
 use Rattle.dump_redact.specs.Bodies.{redacted_body}
-use Rattle.dump_redact.specs.Redacted.{payload_in}
-use Rattle.dump_redact.specs.Refusals.{is_heap}
+use Rattle.dump_redact.specs.Redacted.{is_heap_tag, payload_in}
 
 -- where the payload begins in a heap line, if it has one
 abbrev pub place_of : Enc → List ℕ → Option ℕ
@@ -56,4 +55,4 @@ HasRoom piece = usual.header + 18 ≤ length piece
 -- the refusal of one section
 abbrev pub fault_at : ℕ → Section → Option RedactFault
 fault_at limit section =
-    if is_heap section && nat_lt limit (body_length section) then Some (SectionTooLarge section.at (body_length section)) else None
+    if is_heap_tag (tag_of section.text) && nat_lt limit (body_length section) then Some (SectionTooLarge section.at (body_length section)) else None

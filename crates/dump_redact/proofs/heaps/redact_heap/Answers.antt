@@ -3,7 +3,8 @@ use Rattle.std.proofs.lemmas.List.{take_all, length-drop}
 use borrow.Rule.Slice.PartMut.{put_mid}
 use Rattle.dump_io.specs.Lines.{raw_lines}
 use Rattle.dump_redact.specs.declared.parts.Part.TheVariants.{Heap}
-use Rattle.dump_redact.specs.Bodies.{heap_line, redacted_body}
+use Rattle.dump_redact.specs.Bodies.{redacted_body}
+use Rattle.dump_redact.specs.Redacted.{blanked_line}
 use Rattle.dump_redact.proofs.PlainLines.{passed, IsDone, one-line}
 use Rattle.dump_redact.proofs.heaps.redact_heap.Goals as goal
 
@@ -21,7 +22,7 @@ loop-at-preserved c =
     one-line enc at len (at + len - at) c.args.body.now body c.redact_line.new.raw c.loop-at.invariant e
     (subst (λ l. len ≤ length l) whole c.line_len-len.ensures.within)
     (subst (λ l. raw_lines l ≡ take len l ∷ raw_lines (drop len l)) whole c.line_len-len.ensures.first)
-    (c.redact_line.ensures ∙ ap (λ k. heap_line enc (take k rest)) e) in
+    (c.redact_line.ensures ∙ ap (λ k. blanked_line enc Heap (take k rest)) e) in
     let n = c.plain_len-at-in-loop-at.result in
     let behind = drop (at + len) new in
     let all : take (length new - (at + len)) behind ≡ behind = take_all (length new - (at + len)) behind (omega (arith, length-drop (at + len) new)) in
