@@ -30,7 +30,7 @@ AreForms enc = (text : List ℕ) (f : HeapForm) → (form_of enc text ≡ Some f
 abbrev pub mark : List ℕ
 mark = codes ":Yc"
 
-pub none-of : {X : Type 0} (o : Option X) → ((x : X) → o ≡ Some x → ⊥) → o ≡ None
+none-of : {X : Type 0} (o : Option X) → ((x : X) → o ≡ Some x → ⊥) → o ≡ None
 none-of None never = refl
 none-of (Some x) never = absurd (never x refl)
 
@@ -83,7 +83,7 @@ refers enc leds forms text n is = by (led_of text) refl
 
 -- ---- its length
 
-pub hex-short : (hex : List ℕ) (n : ℕ) → hex_number hex ≡ Some n → length hex ≤ 16
+hex-short : (hex : List ℕ) (n : ℕ) → hex_number hex ≡ Some n → length hex ≤ 16
 hex-short hex n is =
     let all = (cond_some _ _ _ is).0 in
     let digits = (and_parts _ _ all).0 in

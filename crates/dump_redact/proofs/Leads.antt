@@ -69,12 +69,14 @@ lead-some front body rest n led is =
     let behind : drop (length front - length rest) body ≡ rest ++ more = ap (λ k. drop k body) count ∙ (ap (drop (length hex + 1)) whole ∙ drop-behind hex (rest ++ more)) in
     (n, subst (IsLed body n) (sym behind) (hex, led.1, whole))
 
-pub lead-none : LedIsRead → (front body : List ℕ) → ((n : ℕ) (rest : List ℕ) → IsLed front n rest → ⊥) → front ≡ take 17 body → IsLeadOf body None
+pub lead-none : LedIsRead → (front body : List ℕ) → led_of front ≡ None → front ≡ take 17 body → IsLeadOf body None
 lead-none law front body none is = none-of (led_of body) (λ p found.
     let led = (law body p.0 p.1).0 found in
     let short = hex-short led.0 p.0 led.1 in
-    none p.0 (take (16 - length led.0) p.1)
-    (led.0, led.1, is ∙ (ap (take 17) led.2 ∙ take-front led.0 p.1 17 (16 - length led.0) (omega (arith, short)))))
+    let rest = take (16 - length led.0) p.1 in
+    let whole : front ≡ led.0 ++ colon ∷ rest = is ∙ (ap (take 17) led.2 ∙ take-front led.0 p.1 17 (16 - length led.0) (omega (arith, short))) in
+    let some = (law front p.0 rest).1 (led.0, led.1, whole) in
+    let no : ⊥ = cc (none, some) in no)
 
 -- ---- the first raw line of a body that begins so
 

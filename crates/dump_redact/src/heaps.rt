@@ -11,7 +11,7 @@ use dump_io::{line_len, line_text};
 use memchr::{memchr, memrchr};
 use term_forms::reading::form;
 use term_forms::shapes::Form;
-use term_forms::{Enc, form_is_read, heap_line, number_is_read};
+use term_forms::{Enc, form_is_read, number_is_read, split_digits};
 
 // How many bytes behind a letter count as near.
 const NEAR: usize = 16;
@@ -45,7 +45,7 @@ fn payload_at(raw: &[u8], enc: Enc) -> Option<usize>
 {
     form_is_read(enc);
     let text = line_text(raw);
-    let (_, spelled) = heap_line(text)?;
+    let (_, spelled) = split_digits(text)?;
     if !spelled.starts_with(b"Yh") {
         return None;
     }

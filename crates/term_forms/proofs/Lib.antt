@@ -1,3 +1,4 @@
+pub mod DigitLeads
 pub mod Ends
 pub mod FormParts
 pub mod FormsRead

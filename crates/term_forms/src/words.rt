@@ -1,8 +1,9 @@
 // The words of which elements and forms are made.
-ghost use Rattle.std.specs.Prelude.{◌≡◌, ℕ, ◌==◌, ◌<◌, ◌≤◌, List, length, take, IfSome, IfNone};
+ghost use Rattle.std.specs.Prelude.{◌≡◌, ℕ, ◌==◌, ◌<◌, ◌≤◌, List, length, take, Some, None, IfSome, IfNone};
 ghost use Rattle.std.specs.List.{prefix_len, list_all};
 ghost use Rattle.std.specs.Option.{option_map};
 ghost use Rattle.std.specs.Char.{is_ascii_digit};
+ghost use Rattle.dump_io.specs.Numbers.{hex_number};
 ghost use Rattle.term_forms.specs.Words.{is_hex_digit, is_dotted, is_digits, is_hex_digits, is_based, is_long, IsLed, led_of};
 ghost use Rattle.term_forms.specs.Inner.Fronts.{digits_len, integer_len, bracketed_len};
 ghost use Rattle.term_forms.specs.Seen.{number_rest};
@@ -34,6 +35,23 @@ pub fn heap_line(text: &[u8]) -> Option<(u64, &[u8])>
     ensures shorter { IfSome result (λ found. length found.1.now < length text.now) }
 {
     split_number(text)
+}
+
+/// The digits of the number that leads a text, and what stands after its colon. It
+/// finds them where [`heap_line`] does, but doesn't compute the number, which takes longer.
+pub fn split_digits(text: &[u8]) -> Option<(&[u8], &[u8])>
+    ensures found { IfSome result (λ parts. (number : ℕ) × (hex_number parts.0.now ≡ Some number) × (led_of text.now ≡ Some (number, parts.1.now))) }
+    ensures none { IfNone result (led_of text.now ≡ None) }
+    ensures shorter { IfSome result (λ parts. length parts.1.now < length text.now) }
+{
+    let count = hex_run(text);
+    if count == 0 {
+        return None;
+    }
+    if count == text.len() || text[count] != b':' {
+        return None;
+    }
+    Some((&text[..count], &text[count + 1..]))
 }
 
 fn digit_run(text: &[u8]) -> usize
