@@ -8,5 +8,5 @@ returns-in_err-chars-clause-lead c =
 pub returns-clause-lead : goal.returns-clause-lead
 returns-clause-lead c =
     λ body is.
-        let led = c.in_ok-chars.ensures.found in
-        lead-some c.args.front.now body c.in_ok-chars.chars.now led.0 ((c.number_is_read.ensures c.args.front.now led.0 c.in_ok-chars.chars.now).0 led.2) is
+    let led = c.in_ok-chars.ensures.found in
+    lead-some c.args.front.now body c.in_ok-chars.chars.now led.0 ((c.number_is_read.ensures c.args.front.now led.0 c.in_ok-chars.chars.now).0 led.2) is
