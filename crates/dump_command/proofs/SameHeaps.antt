@@ -23,7 +23,6 @@ use Rattle.root_views.specs.Roots.{message_count}
 use Rattle.dump_audit.specs.Findings.{audit_of, findings, is_cut}
 use Rattle.dump_audit.specs.Laws.{all-numbered}
 use Rattle.binary_payloads.specs.declared.enc.Enc.{Enc}
-use Rattle.dump_redact.specs.declared.parts.Part.TheVariants.{Heap}
 use Rattle.dump_redact.specs.Bodies.{redacted_body}
 use Rattle.dump_redact.specs.Laws.{IsRedacted, KeepsIndex, KeepsOthers, KeepsSections, KeepsState, RedactsSections, KeepsLength, RedactsLines}
 use Rattle.heap_cells.specs.Loading.{enc_of, heap_section, literals_section}
@@ -47,6 +46,10 @@ use Rattle.root_views.specs.Kinds.{roots_in, roots_tag}
 use Rattle.dump_command.specs.Laws.{KeepsFindings, KeepsProcesses, KeepsAddresses, KeepsHeaps, blank_cell, blank_form, blank_heap, KeepsLeaves, KeepsRoots, KeepsTrees, KeepsVerdicts, blank_tree, blank_trees, blank_value, is_binary}
 use Rattle.dump_command.specs.Terms.{heap_body, heap_map, heap_with, literals_body, payloads_of, previews_in}
 use Rattle.dump_trial.specs.Trial.{root_section}
+
+-- a line of a heap with its payload made blank
+abbrev heap_line : Enc → List ℕ → List ℕ
+heap_line enc raw = blanked_line enc (part_of (codes "proc_heap")) raw
 
 -- ---- lists
 
