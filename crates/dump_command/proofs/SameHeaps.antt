@@ -179,14 +179,14 @@ module _ (enc : Enc) where
   chars_of led = option_and_then (λ l. bin_chars (form_of enc l.1)) led
 
   -- a line in which no payload stands
-  unchanged : (raw : List ℕ) → chars_of (led_of (text_of raw)) ≡ None → blanked_line enc Heap raw ≡ raw
+  unchanged : (raw : List ℕ) → chars_of (led_of (text_of raw)) ≡ None → heap_line enc raw ≡ raw
   unchanged raw absent = ap (without enc raw) absent
 
   module _ (keeps : KeepsBinaries enc) where
-    line-cell : (raw : List ℕ) → led_cell (blanked_line enc Heap raw) ≡ option_map (blank_cell enc) (led_cell raw)
+    line-cell : (raw : List ℕ) → led_cell (heap_line enc raw) ≡ option_map (blank_cell enc) (led_cell raw)
     line-cell raw = by (led_of (text_of raw)) refl
       where
-        by : (led : Option (ℕ × List ℕ)) → led_of (text_of raw) ≡ led → led_cell (blanked_line enc Heap raw) ≡ option_map (blank_cell enc) (led_cell raw)
+        by : (led : Option (ℕ × List ℕ)) → led_of (text_of raw) ≡ led → led_cell (heap_line enc raw) ≡ option_map (blank_cell enc) (led_cell raw)
         by None e = ap led_cell (unchanged raw (ap chars_of e)) ∙ ap (option_map (spelled_cell enc)) e ∙ sym (ap (λ o. option_map (blank_cell enc) (option_map (spelled_cell enc) o)) e)
         by (Some led) e =
             let old : option_map (blank_cell enc) (led_cell raw) ≡ Some (cell led.0 (option_map (blank_form enc) (form_of enc led.1))) =
@@ -208,17 +208,17 @@ module _ (enc : Enc) where
       abbrev cells_from : ℕ → List (List ℕ) → List Cell
       cells_from at raws = filter_map cell_in (map view (lines_from at raws))
 
-      lines-cells : (m n : ℕ) (raws : List (List ℕ)) → cells_from m (map (blanked_line enc Heap) raws) ≡ map (blank_cell enc) (cells_from n raws)
+      lines-cells : (m n : ℕ) (raws : List (List ℕ)) → cells_from m (map (heap_line enc) raws) ≡ map (blank_cell enc) (cells_from n raws)
       lines-cells m n [] = refl
       lines-cells m n (raw ∷ raws) =
-          let new : Line = record { at = m; raw = blanked_line enc Heap raw } in
+          let new : Line = record { at = m; raw = heap_line enc raw } in
           let old : Line = record { at = n; raw = raw } in
-          ap (λ o. cons_option o (cells_from (m + length (blanked_line enc Heap raw)) (map (blanked_line enc Heap) raws)))
+          ap (λ o. cons_option o (cells_from (m + length (heap_line enc raw)) (map (heap_line enc) raws)))
           (reads new ∙ line-cell raw ∙ ap (option_map (blank_cell enc)) (sym (reads old)))
-          ∙ ap (cons_option (option_map (blank_cell enc) (cell_in (view old)))) (lines-cells (m + length (blanked_line enc Heap raw)) (n + length raw) raws)
+          ∙ ap (cons_option (option_map (blank_cell enc) (cell_in (view old)))) (lines-cells (m + length (heap_line enc raw)) (n + length raw) raws)
           ∙ map-cons (cell_in (view old)) (cells_from (n + length raw) raws)
 
-      viewed-cells : (before after : List (List ℕ)) → after ≡ map (blanked_line enc Heap) before → cells_from 0 after ≡ map (blank_cell enc) (cells_from 0 before)
+      viewed-cells : (before after : List (List ℕ)) → after ≡ map (heap_line enc) before → cells_from 0 after ≡ map (blank_cell enc) (cells_from 0 before)
       viewed-cells before after is = ap (cells_from 0) is ∙ lines-cells 0 0 before
 
     first-cells : (seen : List ℕ) (cs : List Cell) → first_cells seen (map (blank_cell enc) cs) ≡ map (blank_cell enc) (first_cells seen cs)
