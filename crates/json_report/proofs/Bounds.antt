@@ -194,7 +194,7 @@ length-before (c ∷ text) = of (ends_with nat_eq (c ∷ text) (codes "]"))
 length-inside : (text : List ℕ) → IfSome (inside (codes "[") (codes "]") text) (λ inner. length inner + 2 ≤ length text)
 unfolding inside behind
 length-inside [] = tt
-length-inside (c ∷ text) = of (c == 91)
+length-inside (c ∷ text) = of (starts_with nat_eq (c ∷ text) (codes "["))
   where
     of : (b : Bool) → IfSome (option_and_then (before (codes "]")) (if b then Some text else None)) (λ inner. length inner + 2 ≤ length (c ∷ text))
     of true = IfSome_then (before (codes "]") text) (length-before text) (λ inner short. omega (arith, short))
