@@ -15,6 +15,7 @@ use Rattle.dump_sections.specs.Laws.{index-is}
 use Rattle.dump_sections.specs.Sections.{Section, sections}
 use Rattle.dump_sections.specs.declared.bodies.BodyFault.{BodyFault}
 use Rattle.dump_sections.specs.Loading.{bodies_length, first_large, AreRefused}
+use Rattle.dump_sections.specs.LoadingLaws.{bodies-one}
 use Rattle.report_text.specs.declared.refusals.Refusal.{Refusal}
 use Rattle.report_text.specs.declared.refusals.Refusal.TheVariants.{SectionTooLarge}
 use Rattle.command_words.specs.Command.{Command, info}

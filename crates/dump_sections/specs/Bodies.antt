@@ -26,10 +26,11 @@ body_length section = section.end - section.body
 abbrev pub body_of : List ℕ → Section → List ℕ
 body_of dump section = between section.body section.end dump
 
--- the same for a section that may be missing, which counts as empty
+-- how many bytes the body has of a section that may be missing, which counts as empty
 abbrev pub body_size : Option Section → ℕ
 body_size found = option_map_or body_length found 0
 
+-- that body in the bytes of a dump
 abbrev pub body_in : List ℕ → Option Section → List ℕ
 body_in dump found = option_map_or (body_of dump) found []
 
