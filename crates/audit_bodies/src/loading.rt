@@ -1,13 +1,11 @@
 // The bodies of an audit: all of them are judged on the index before one is read.
-ghost use Rattle.std.specs.Prelude.{◌≡◌, ℕ, List, [], ◌++◌, length, map, All, Some, None, ◌<◌, IfOk, IfErr, IsSome, OnOk, if◌then◌else◌};
-ghost use Rattle.std.specs.Option.{option_map};
+ghost use Rattle.std.specs.Prelude.{◌≡◌, ℕ, List, [], ◌++◌, length, All, Some, None, ◌<◌, IfOk, IfErr, if◌then◌else◌};
 ghost use Rattle.dump_io.specs.Dumps.{told, ReadsAtMost};
-ghost use Rattle.dump_sections.specs.Index.{IsBuiltOver, sections_in, state_of};
-ghost use Rattle.dump_sections.specs.Loading.{bodies_length, first_large, large_fault, sections_at, AreRefused, IsUnread};
-ghost use Rattle.process_table.specs.Processes.{process_table};
+ghost use Rattle.dump_sections.specs.Index.{IsBuiltOver, sections_in};
+ghost use Rattle.dump_sections.specs.Loading.{bodies_length, large_fault, sections_at, IsUnread, LoadsBodies};
 ghost use Rattle.process_table.specs.Records.{proc_places, record_sections};
-ghost use Rattle.audit_bodies.specs.Mailboxes.{audited_sections, mail_in, mailbox_places, mailboxes_at};
-ghost use Rattle.audit_bodies.specs.Bodies.{IsAuditable};
+ghost use Rattle.audit_bodies.specs.Mailboxes.{audited_sections, mailbox_places, mailboxes_at};
+ghost use Rattle.audit_bodies.specs.Bodies.{AreBodiesOf, IsAuditable};
 ghost use Rattle.audit_bodies.specs.Inner.Places.{AreBodyPlaces};
 ghost use Rattle.audit_bodies.specs.Inner.Mailboxes.{IsWithin};
 
@@ -95,9 +93,7 @@ fn read_bodies<D: Dumps>(
     requires places { AreBodyPlaces full index.now places }
     requires small { large_fault limits.now.section (record_sections (sections_in index.now) ++ mailboxes_at (sections_in index.now) places.mailboxes.items) ≡ None }
     ensures reads { ReadsAtMost (D.state dumps.old) (D.state dumps.new) (bodies_length (record_sections (sections_in index.now) ++ mailboxes_at (sections_in index.now) places.mailboxes.items)) }
-    ensures table { IfOk result (λ read. (bytes : List ℕ) → (D.state dumps.old).now ≡ told bytes → read.procs ≡ process_table bytes) }
-    ensures counts { IfOk result (λ read. (bytes : List ℕ) → (D.state dumps.old).now ≡ told bytes → option_map (λ counts. counts.items) read.mails
-        ≡ (if full then Some (map (mail_in bytes (state_of index.now.headers) (sections_in index.now)) (mailbox_places (sections_in index.now))) else None)) }
+    ensures bodies { IfOk result (λ read. (bytes : List ℕ) → (D.state dumps.old).now ≡ told bytes → AreBodiesOf full index.now bytes read) }
     ensures auditable { IfOk result (IsAuditable index.now) }
     ensures fault { IfErr result (IsUnread (D.state dumps.old) (D.state dumps.new)) }
 {
@@ -126,14 +122,9 @@ impl AuditBodies {
         limits: &Limits,
     ) -> Result<AuditBodies, BodyFault>
         requires { IsBuiltOver (D.state dumps.old).now index.now }
-        ensures reads { ReadsAtMost (D.state dumps.old) (D.state dumps.new) (bodies_length (audited_sections full (sections_in index.now))) }
-        ensures table { IfOk result (λ read. (bytes : List ℕ) → (D.state dumps.old).now ≡ told bytes → read.procs ≡ process_table bytes) }
-        ensures counts { IfOk result (λ read. (bytes : List ℕ) → (D.state dumps.old).now ≡ told bytes → option_map (λ counts. counts.items) read.mails
-            ≡ (if full then Some (map (mail_in bytes (state_of index.now.headers) (sections_in index.now)) (mailbox_places (sections_in index.now))) else None)) }
+        ensures loads { LoadsBodies D.state (audited_sections full (sections_in index.now)) limits.now.section dumps.old dumps.new result }
+        ensures bodies { IfOk result (λ read. (bytes : List ℕ) → (D.state dumps.old).now ≡ told bytes → AreBodiesOf full index.now bytes read) }
         ensures auditable { IfOk result (IsAuditable index.now) }
-        ensures loaded { OnOk result (first_large limits.now.section (audited_sections full (sections_in index.now)) ≡ None) }
-        ensures fault { IfErr result (AreRefused (audited_sections full (sections_in index.now)) limits.now.section (D.state dumps.old) (D.state dumps.new)) }
-        ensures unread { IsSome (first_large limits.now.section (audited_sections full (sections_in index.now))) → dumps.new ≡ dumps.old }
     {
         let Ok(places) = find_places(alloc, index, full) else {
             return Err(BodyFault::Memory);

@@ -1,11 +1,12 @@
 -- Whole binaries, from the first lines of their sections' bodies.
-use Rattle.std.specs.Prelude.{◌≡◌, ℕ, List, [], ◌∷◌, Option, None, Some, slice_get}
+use Rattle.std.specs.Prelude.{◌≡◌, ℕ, List, [], ◌∷◌, Option, None, Some, Result, Ok, Err, slice_get}
+use Rattle.std.specs.Global.{Vec}
 use Rattle.std.specs.Option.{option_map, option_and_then}
 use Rattle.dump_io.specs.Dumps.{DeviceState, DeviceFailed}
 use Rattle.field_lines.specs.Lines.{text_lines}
-use Rattle.dump_sections.specs.Bodies.{body_of}
+use Rattle.dump_sections.specs.Bodies.{body_of, body_size}
 use Rattle.dump_sections.specs.Index.{Contents, sections_in}
-use Rattle.dump_sections.specs.Loading.{large_fault}
+use Rattle.dump_sections.specs.Loading.{large_fault, Loads}
 use Rattle.dump_sections.specs.Sections.{Section}
 use Rattle.dump_sections.specs.declared.bodies.BodyFault.{BodyFault}
 use Rattle.dump_sections.specs.declared.bodies.BodyFault.TheVariants as body
@@ -34,10 +35,11 @@ abbrev pub whole_bytes : List ℕ → Contents → ℕ → Option (List ℕ)
 whole_bytes dump index address =
     option_and_then (λ section. bytes_of_body (enc_of index.version) (body_of dump section)) (binary_section address (sections_in index))
 
--- if the fault is that the binary is malformed, there are no such bytes
-abbrev pub IsBadFor : Option (List ℕ) → BinFault → Type 0
-IsBadFor bytes (BadBinary at) = bytes ≡ None
-IsBadFor bytes fault = Unit {0}
+-- what an answer says of these bytes: it gives them, or if it says that the binary is malformed, there are none
+abbrev pub IsBinAnswerFor : Option (List ℕ) → Result (Vec ℕ) BinFault → Type 0
+IsBinAnswerFor bytes (Ok given) = bytes ≡ Some given.items
+IsBinAnswerFor bytes (Err (BadBinary at)) = bytes ≡ None
+IsBinAnswerFor bytes (Err fault) = Unit {0}
 
 -- the fault of a body, as a fault of its binary
 abbrev pub bin_fault_of : BodyFault → BinFault
@@ -57,3 +59,7 @@ IsBinCauseOf found limit before after (BadBinary at) = option_map (λ section. s
 IsBinCauseOf found limit before after Read = DeviceFailed before after
 IsBinCauseOf found limit before after Memory = Unit {0}
 IsBinCauseOf found limit before after fault = refused limit found ≡ Some fault
+
+-- what each call does that loads the binary whose section was found
+abbrev pub LoadsBinary : {D T : Type 0} → (D → DeviceState) → Option Section → ℕ → D → D → Result T BinFault → Type 0
+LoadsBinary state found limit before after result = Loads state (body_size found) (refused limit found) (IsBinCauseOf found limit) before after result

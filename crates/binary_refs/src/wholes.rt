@@ -1,13 +1,13 @@
 // The bytes of whole binaries.
-ghost use Rattle.std.specs.Prelude.{◌≡◌, ℕ, ◌<◌, List, length, Some, None, IfSome, IfOk, IfErr, OnOk, IsErrOf};
+ghost use Rattle.std.specs.Prelude.{◌≡◌, ℕ, ◌<◌, List, length, Some, None, IfSome, IfOk, IsErrOf};
 ghost use Rattle.std.specs.Option.{option_copied};
-ghost use Rattle.dump_io.specs.Dumps.{told, ReadsAtMost};
-ghost use Rattle.dump_sections.specs.Bodies.{section_at, body_length, body_of, body_size};
+ghost use Rattle.dump_io.specs.Dumps.{told};
+ghost use Rattle.dump_sections.specs.Bodies.{section_at, body_of};
 ghost use Rattle.dump_sections.specs.Index.{IsBuiltOver, sections_in};
 ghost use Rattle.heap_cells.specs.Loading.{enc_of};
 ghost use Rattle.stored_binaries.specs.StoredBinaries.{binary_section};
 ghost use Rattle.stored_binaries.specs.Payloads.{bytes_in};
-ghost use Rattle.binary_refs.specs.Wholes.{first_text, bytes_of_body, whole_bytes, bin_fault_of, IsBadFor, IsBinCauseOf, refused};
+ghost use Rattle.binary_refs.specs.Wholes.{first_text, bytes_of_body, whole_bytes, bin_fault_of, refused, IsBinAnswerFor, LoadsBinary};
 
 use crate::faults::BinFault;
 use dump_io::{Dumps, Limits};
@@ -59,13 +59,9 @@ fn whole_at<D: Dumps>(
 ) -> Result<Vec<u8>, BinFault>
     requires over { IsBuiltOver (D.state dumps.old).now index.now }
     requires place { i < length index.now.headers }
-    ensures reads { ReadsAtMost (D.state dumps.old) (D.state dumps.new) (body_length (section_at index.now i)) }
-    ensures bytes { IfOk result (λ bytes. (dump : List ℕ) → (D.state dumps.old).now ≡ told dump → bytes_of_body (enc_of index.now.version) (body_of dump (section_at index.now i)) ≡ Some bytes.items) }
-    ensures bad { IfErr result (λ fault. (dump : List ℕ) → (D.state dumps.old).now ≡ told dump → IsBadFor (bytes_of_body (enc_of index.now.version) (body_of dump (section_at index.now i))) fault) }
-    ensures loaded { OnOk result (refused limits.now.section (Some (section_at index.now i)) ≡ None) }
-    ensures fault { IfErr result (IsBinCauseOf (Some (section_at index.now i)) limits.now.section (D.state dumps.old) (D.state dumps.new)) }
+    ensures loads { LoadsBinary D.state (Some (section_at index.now i)) limits.now.section dumps.old dumps.new result }
+    ensures answer { (dump : List ℕ) → (D.state dumps.old).now ≡ told dump → IsBinAnswerFor (bytes_of_body (enc_of index.now.version) (body_of dump (section_at index.now i))) result }
     ensures refused { IfSome (refused limits.now.section (Some (section_at index.now i))) (IsErrOf result) }
-    ensures unread { IfSome (refused limits.now.section (Some (section_at index.now i))) (λ _. dumps.new ≡ dumps.old) }
 {
     let body = match read_body(alloc, dumps, index, i, limits) {
         Ok(body) => body,
@@ -96,15 +92,11 @@ pub fn whole<D: Dumps>(
     limits: &Limits,
 ) -> Result<Vec<u8>, BinFault>
     requires { IsBuiltOver (D.state dumps.old).now index.now }
-    ensures reads { ReadsAtMost (D.state dumps.old) (D.state dumps.new) (body_size (binary_section addr (sections_in index.now))) }
-    ensures bytes { IfOk result (λ bytes. (dump : List ℕ) → (D.state dumps.old).now ≡ told dump → whole_bytes dump index.now addr ≡ Some bytes.items) }
-    ensures bad { IfErr result (λ fault. (dump : List ℕ) → (D.state dumps.old).now ≡ told dump → IsBadFor (whole_bytes dump index.now addr) fault) }
-    ensures loaded { OnOk result (refused limits.now.section (binary_section addr (sections_in index.now)) ≡ None) }
-    ensures fault { IfErr result (IsBinCauseOf (binary_section addr (sections_in index.now)) limits.now.section (D.state dumps.old) (D.state dumps.new)) }
+    ensures loads { LoadsBinary D.state (binary_section addr (sections_in index.now)) limits.now.section dumps.old dumps.new result }
+    ensures answer { (dump : List ℕ) → (D.state dumps.old).now ≡ told dump → IsBinAnswerFor (whole_bytes dump index.now addr) result }
 
     // These two refusals come before anything is read, whatever the device does.
     ensures refused { IfSome (refused limits.now.section (binary_section addr (sections_in index.now))) (IsErrOf result) }
-    ensures unread { IfSome (refused limits.now.section (binary_section addr (sections_in index.now))) (λ _. dumps.new ≡ dumps.old) }
 {
     let Some(i) = first_binary(index, addr) else {
         return Err(BinFault::NoBinary);

@@ -1,16 +1,17 @@
 -- What an audit is written of is what it says of the dump.
 use Rattle.std.proofs.Common.{◌≡◌, ℕ, Bool, List, [], ◌∷◌, map, Option, None, Some, Result, Ok, Err, refl, ◌∙◌, ap, inl, inr, if◌then◌else◌}
 use Rattle.std.specs.Prelude.{IfOk, IsTrue}
-use Rattle.std.specs.Option.{option_map}
 use Rattle.dump_io.specs.Dumps.{DeviceState, told}
 use Rattle.dump_io.specs.Limits.{Numbers}
 use Rattle.dump_io.specs.Lines.{headers}
 use Rattle.dump_sections.specs.Index.{Contents, IsIndexOf, index_of, sections_in, state_of}
 use Rattle.dump_sections.specs.Laws.{index-is}
+use Rattle.dump_sections.specs.Loading.{LoadsBodies}
 use Rattle.dump_sections.specs.declared.bodies.BodyFault.{BodyFault}
 use Rattle.process_table.specs.Processes.{Process, process_table}
 use Rattle.dump_audit.specs.Findings.{Audit, audit_of, findings}
 use Rattle.audit_bodies.specs.declared.loading.AuditBodies.{AuditBodies}
+use Rattle.audit_bodies.specs.Bodies.{AreBodiesOf}
 use Rattle.audit_bodies.specs.Mailboxes.{mail_in, mailbox_places, mails}
 use Rattle.dump_command.specs.Audits.{audit_in, status_of}
 use Rattle.dump_audit.specs.declared.finding.Finding.{Finding}
@@ -20,7 +21,7 @@ use Rattle.dump_command.specs.Inner.Loads.{audit_status, loaded_audit}
 use Rattle.dump_command.specs.Inner.Reading.{ReadsFor}
 use Rattle.dump_command.specs.Inner.Runs.{IsEnding}
 use Rattle.dump_command.specs.Inner.Stops.{or_stop}
-use Rattle.dump_command.proofs.Reading.{IsOfBodies, Loads, ReadsFor-bodies}
+use Rattle.dump_command.proofs.Reading.{IsOfBodies, ReadsFor-bodies}
 use Rattle.dump_command.proofs.Runs.{sections-index}
 
 -- the numbers of messages
@@ -41,24 +42,23 @@ audit-told bytes index processes limit full counts of table counted =
     ∙ ap (λ m. audit_of (index_of bytes) (process_table bytes).processes limit m) (counted ∙ ap (λ m. if full then Some m else None) (mails-told bytes index of))
 
 -- the bodies of an audit were loaded, or weren't; what is written of it is told by a function of the audit
-pub ReadsFor-shown : (cmd : Command) (show : Audit → List ℕ) (limit : ℕ) (full : Bool) (limits : Numbers) (index : Contents) (before after : DeviceState) (loaded : Result AuditBodies BodyFault)
+pub ReadsFor-shown : (cmd : Command) (show : Audit → List ℕ) (limit : ℕ) (full : Bool) (limits : Numbers) (index : Contents) {D : Type 0} (state : D → DeviceState) (b c : D) (loaded : Result AuditBodies BodyFault)
     → IsOfBodies cmd limits index → IsTrue (finds cmd)
     → ((bytes : List ℕ) → (show (audit_in limit full bytes) ≡ report cmd bytes) × (status_of (findings (audit_in limit full bytes)) ≡ report_status cmd bytes))
-    → Loads (bodies cmd (sections_in index)) limits.section before after loaded
-    → IfOk loaded (λ read. (bytes : List ℕ) → before.now ≡ told bytes → read.procs ≡ process_table bytes)
-    → IfOk loaded (λ read. (bytes : List ℕ) → before.now ≡ told bytes → option_map (λ counts. counts.items) read.mails
-    ≡ (if full then Some (map (mail_in bytes (state_of index.headers) (sections_in index)) (mailbox_places (sections_in index))) else None))
-    → ReadsFor cmd limits index before after (λ read. show (loaded_audit limit index read)) (audit_status limit index) (or_stop loaded)
-ReadsFor-shown cmd show limit full limits index before after (Ok read) of seeks reports loads table counts =
-    ReadsFor-bodies cmd limits index before after (λ r. show (loaded_audit limit index r)) (audit_status limit index) (Ok read) of loads (
+    → LoadsBodies state (bodies cmd (sections_in index)) limits.section b c loaded
+    → IfOk loaded (λ read. (bytes : List ℕ) → (state b).now ≡ told bytes → AreBodiesOf full index bytes read)
+    → ReadsFor cmd limits index (state b) (state c) (λ read. show (loaded_audit limit index read)) (audit_status limit index) (or_stop loaded)
+ReadsFor-shown cmd show limit full limits index state b c (Ok read) of seeks reports loads are =
+    ReadsFor-bodies cmd limits index state b c (λ r. show (loaded_audit limit index r)) (audit_status limit index) (Ok read) of loads (
       ends (findings (loaded_audit limit index read)),
       λ bytes all.
-          let told = audit-told bytes index _ limit full _ all.of (ap (λ t. t.processes) (table bytes all.opened)) (counts bytes all.opened) in
+          let read = are bytes all.opened in
+          let told = audit-told bytes index _ limit full _ all.of (ap (λ t. t.processes) read.procs) read.mails in
           (ap show told ∙ (reports bytes).0, ap (λ a. status_of (findings a)) told ∙ (reports bytes).1),
     )
   where
     ends : (found : List Finding) → IsEnding cmd (status_of found)
     ends [] = inl refl
     ends (f ∷ fs) = inr (refl, seeks)
-ReadsFor-shown cmd show limit full limits index before after (Err fault) of seeks reports loads table counts =
-    ReadsFor-bodies cmd limits index before after (λ r. show (loaded_audit limit index r)) (audit_status limit index) (Err fault) of loads tt
+ReadsFor-shown cmd show limit full limits index state b c (Err fault) of seeks reports loads are =
+    ReadsFor-bodies cmd limits index state b c (λ r. show (loaded_audit limit index r)) (audit_status limit index) (Err fault) of loads tt

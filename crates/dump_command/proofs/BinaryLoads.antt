@@ -10,9 +10,9 @@ use Rattle.dump_sections.specs.Index.{Contents, IsIndexOf, index_of, sections_in
 use Rattle.dump_sections.specs.Laws.{index-is}
 use Rattle.dump_sections.specs.Loading.{bodies_length, first_large}
 use Rattle.dump_sections.specs.LoadingLaws.{bodies-one}
-use Rattle.dump_sections.specs.Sections.{Section, sections}
+use Rattle.dump_sections.specs.Sections.{Section}
 use Rattle.stored_binaries.specs.StoredBinaries.{binary_section}
-use Rattle.binary_refs.specs.Wholes.{bin_fault_of, refused as bin_refused, whole_bytes, IsBadFor, IsBinCauseOf}
+use Rattle.binary_refs.specs.Wholes.{bin_fault_of, refused as bin_refused, whole_bytes, IsBinAnswerFor, IsBinCauseOf}
 use Rattle.binary_refs.specs.declared.faults.BinFault.{BinFault}
 use Rattle.binary_refs.specs.declared.faults.BinFault.TheVariants as faults
 use Rattle.report_text.specs.declared.refusals.Refusal.{Refusal}
@@ -50,15 +50,9 @@ module _ (file : List ℕ) (addr : ℕ) (limits : Numbers) (index : Contents) wh
   pub listed-binary : bin_refused limits.section (binary_section addr (sections_in index)) ≡ None → refusal_listed (binary file addr) (sections_in index) limits ≡ None
   listed-binary none = none-map Refused _ (sym listed ∙ ap (option_map (stop_of_binary addr)) none)
 
-  -- where one does nothing was read
-  pub unread-binary : {P : Type 0} → IfSome (bin_refused limits.section (binary_section addr (sections_in index))) (λ fault. P)
-      → IsSome (refusal_listed (binary file addr) (sections_in index) limits) → P
-  unread-binary unread some =
-      by _ unread (sym (is_some-map (stop_of_binary addr) _) ∙ ap is_some listed ∙ is_some-map Refused _ ∙ some)
-    where
-      by : {P : Type 0} (o : Option BinFault) → IfSome o (λ fault. P) → IsSome o → P
-      by None unread some = absurd (let no : ⊥ = cc (some) in no)
-      by (Some fault) unread some = unread
+  -- where one stands in the list, one does
+  pub unread-binary : IsSome (refusal_listed (binary file addr) (sections_in index) limits) → IsSome (bin_refused limits.section (binary_section addr (sections_in index)))
+  unread-binary some = sym (is_some-map (stop_of_binary addr) _) ∙ ap is_some listed ∙ is_some-map Refused _ ∙ some
 
   -- what is taken is the body
   pub few-binary : (now : Now) (bytes : List ℕ) → IsIndexed bytes limits index now → body_size (binary_section addr (sections_in index)) ≤ reread (binary file addr) bytes
@@ -92,18 +86,18 @@ bad-at (Some s) = refl
 pub IsHalted-binary : (file : List ℕ) (addr : ℕ) (limits : Numbers) (index : Contents) (before after : DeviceState) (fault : BinFault) → Takes (binary file addr) limits index before after
     → IsBinCauseOf (binary_section addr (sections_in index)) limits.section before after fault
     → IfSome (bin_refused limits.section (binary_section addr (sections_in index))) (IsErrOf {T = Vec ℕ} (Err fault))
-    → ((bytes : List ℕ) → before.now ≡ told bytes → IsBadFor (whole_bytes bytes index addr) fault)
+    → ((bytes : List ℕ) → before.now ≡ told bytes → IsBinAnswerFor (whole_bytes bytes index addr) (Err fault))
     → IsHalted (binary file addr) limits index before after (stop_of_binary addr fault)
-IsHalted-binary file addr limits index before after faults.Read takes cause first bad = record { takes = takes; cause = cause }
-IsHalted-binary file addr limits index before after faults.Memory takes cause first bad = record { takes = takes; cause = tt }
-IsHalted-binary file addr limits index before after faults.NoBinary takes cause first bad =
+IsHalted-binary file addr limits index before after faults.Read takes cause first answer = record { takes = takes; cause = cause }
+IsHalted-binary file addr limits index before after faults.Memory takes cause first answer = record { takes = takes; cause = tt }
+IsHalted-binary file addr limits index before after faults.NoBinary takes cause first answer =
     record { takes = takes; cause = (tt, λ bytes all. ap (λ o. option_or o (bad_binary addr bytes)) (listed-some file addr limits index faults.NoBinary _ refl cause)) }
-IsHalted-binary file addr limits index before after (faults.SectionTooLarge at len) takes cause first bad =
+IsHalted-binary file addr limits index before after (faults.SectionTooLarge at len) takes cause first answer =
     record {
       takes = takes;
       cause = (tt, λ bytes all. ap (λ o. option_or o (bad_binary addr bytes)) (listed-some file addr limits index (faults.SectionTooLarge at len) _ refl cause));
     }
-IsHalted-binary file addr limits index before after (faults.BadBinary at) takes cause first bad =
+IsHalted-binary file addr limits index before after (faults.BadBinary at) takes cause first answer =
     let found = binary_section addr (sections_in index) in
     record {
       takes = takes;
@@ -112,7 +106,7 @@ IsHalted-binary file addr limits index before after (faults.BadBinary at) takes 
         λ bytes all.
             ap (λ o. option_or o (bad_binary addr bytes)) (listed-binary file addr limits index (bad-small limits.section at found first))
             ∙ ap (λ ss. bad_cause (binary_section addr ss) (whole_bytes bytes (index_of bytes) addr)) (sym (sections-index bytes index all.of))
-            ∙ ap (bad_cause found) (sym (bytes-index bytes index addr all.of) ∙ bad bytes all.opened)
+            ∙ ap (bad_cause found) (sym (bytes-index bytes index addr all.of) ∙ answer bytes all.opened)
             ∙ bad-at found
             ∙ ap (option_map BadBinary) cause,
       );

@@ -16,7 +16,7 @@ use Rattle.dump_sections.specs.Lookups.{first_named}
 use Rattle.dump_sections.specs.Sections.{Section, sections}
 use Rattle.heap_cells.specs.Cells.{cells_of, own_count, weight, Cell}
 use Rattle.heap_cells.specs.HeapMap.{HeapMap, number_at, form_at}
-use Rattle.heap_cells.specs.Loading.{enc_of, heap_section, literals_section, bodies_fault, heap_fault_of, IsMapOf, IsAnswerFor, IsCauseOf, heap_bodies}
+use Rattle.heap_cells.specs.Loading.{enc_of, heap_section, literals_section, bodies_fault, heap_fault_of, IsMapOf, IsHeapOf, IsCauseOf, heap_bodies}
 use Rattle.heap_cells.specs.declared.faults.HeapFault.{HeapFault}
 use Rattle.report_text.specs.declared.refusals.Refusal.{Refusal}
 use Rattle.report_text.specs.declared.refusals.Refusal.TheVariants.{SectionTooLarge, TooDense}
@@ -206,34 +206,32 @@ module _ (pid : List ℕ) (before : List Section) (limits : Numbers) (index : Co
   -- the heap itself wasn't loaded: a body that is too large stands before a heap that is too dense
   pub IsHeapless-heap : (old new : DeviceState) (fault : HeapFault) → IsCauseOf (bodies_fault limits.section (heap_bodies pid (sections_in index))) limits.dense old new fault
       → ((f : HeapFault) → bodies_fault limits.section (heap_bodies pid (sections_in index)) ≡ Some f → IsErrOf {T = HeapMap} (Err fault) f)
-      → ((bytes : List ℕ) → old.now ≡ told bytes
-      → IsAnswerFor (enc_of index.version) (body_in bytes (heap_section pid (sections_in index))) (body_in bytes (literals_section (sections_in index))) limits.dense (Err fault))
+      → IsHeapOf old.now index (heap_section pid (sections_in index)) (literals_section (sections_in index)) limits.dense (Err fault)
       → IsHeapless pid before limits index old new (stop_of_heap fault)
-  IsHeapless-heap old new heap_faults.Read cause first answers = cause
-  IsHeapless-heap old new heap_faults.Memory cause first answers = tt
-  IsHeapless-heap old new (heap_faults.SectionTooLarge at len) cause first answers = (
+  IsHeapless-heap old new heap_faults.Read cause first answer = cause
+  IsHeapless-heap old new heap_faults.Memory cause first answer = tt
+  IsHeapless-heap old new (heap_faults.SectionTooLarge at len) cause first answer = (
     tt,
     λ bytes all. ap (λ o. option_or o (too_dense limits.dense pid bytes)) (clear.listed ∙ heap-too-large limits.section pid index at len cause),
   )
-  IsHeapless-heap old new (heap_faults.TooDense count) cause first answers = (
+  IsHeapless-heap old new (heap_faults.TooDense count) cause first answer = (
     tt,
     λ bytes all.
-        let right = answers bytes all.opened in
+        let right = answer.told bytes all.opened in
         ap (λ o. option_or o (too_dense limits.dense pid bytes)) (clear.listed ∙ dense-small limits.section pid index count first _ refl)
         ∙ too_dense-over limits.dense count pid bytes index all.of right.0 right.1,
   )
 
   -- the heap was loaded
-  pub HoldsHeap-loaded : (now : Now) (heap : HeapMap) → bodies_fault limits.section (heap_bodies pid (sections_in index)) ≡ None → heap.enc ≡ enc_of index.version
-      → ((bytes : List ℕ) → now ≡ told bytes → IsAnswerFor (enc_of index.version) (body_in bytes (heap_section pid (sections_in index))) (body_in bytes (literals_section (sections_in index))) limits.dense (Ok heap))
-      → HoldsHeap pid before limits index now heap
-  HoldsHeap-loaded now heap loaded enc answers =
+  pub HoldsHeap-loaded : (now : Now) (heap : HeapMap) → bodies_fault limits.section (heap_bodies pid (sections_in index)) ≡ None
+      → IsHeapOf now index (heap_section pid (sections_in index)) (literals_section (sections_in index)) limits.dense (Ok heap) → HoldsHeap pid before limits index now heap
+  HoldsHeap-loaded now heap loaded answer =
       record {
         listed = clear.listed ∙ heap-small limits.section pid index loaded;
-        sparse = λ bytes all. too_dense-within limits.dense pid bytes index all.of (answers bytes all.opened).1;
-        enc = λ bytes all. enc-index pid bytes index heap all.of enc;
-        cells = λ bytes all. cells-index pid bytes index heap all.of (answers bytes all.opened).0;
-        own = λ bytes all. own-index pid bytes index heap all.of (answers bytes all.opened).0;
+        sparse = λ bytes all. too_dense-within limits.dense pid bytes index all.of (answer.told bytes all.opened).1;
+        enc = λ bytes all. enc-index pid bytes index heap all.of answer.enc;
+        cells = λ bytes all. cells-index pid bytes index heap all.of (answer.told bytes all.opened).0;
+        own = λ bytes all. own-index pid bytes index heap all.of (answer.told bytes all.opened).0;
       }
 
   -- where a refusal stands before the bodies the load of the heap reads nothing

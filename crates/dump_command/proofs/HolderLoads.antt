@@ -1,6 +1,6 @@
 -- What a command has read that loads the processes and then hears their heaps.
-use Rattle.std.proofs.Common.{◌≡◌, ℕ, ◌+◌, ◌≤◌, List, None, refl, sym, ◌∙◌, ap, arith}
-use Rattle.std.specs.Prelude.{IsSome, is_some}
+use Rattle.std.proofs.Common.{◌≡◌, ℕ, ◌+◌, ◌≤◌, List, None, Err, refl, sym, ◌∙◌, ap, arith}
+use Rattle.std.specs.Prelude.{is_some}
 use Rattle.std.specs.Option.{option_map, option_or}
 use Rattle.dump_io.specs.Dumps.{DeviceState, DeviceFailed, ReadsAtMost}
 use Rattle.dump_io.specs.Limits.{Numbers}
@@ -8,7 +8,7 @@ use Rattle.dump_sections.specs.Index.{Contents, IsIndexOf, index_of, sections_in
 use Rattle.dump_sections.specs.Laws.{index-is}
 use Rattle.dump_sections.specs.Sections.{Section, sections}
 use Rattle.dump_sections.specs.declared.bodies.BodyFault.{BodyFault}
-use Rattle.dump_sections.specs.Loading.{bodies_length, first_large, AreRefused}
+use Rattle.dump_sections.specs.Loading.{bodies_length, first_large, large_fault, LoadsBodies}
 use Rattle.process_table.specs.Processes.{Process, ProcessTable, process_table}
 use Rattle.process_table.specs.Records.{record_sections}
 use Rattle.binary_holders.specs.Usage.{Usage, fronts_length, heaps_length, holders_in, usage_of, IsCauseOf}
@@ -23,7 +23,7 @@ use Rattle.dump_command.specs.Terms.{binary_cause}
 use Rattle.stored_binaries.specs.StoredBinaries.{binary_section}
 use Rattle.dump_command.specs.Inner.Reading.{IsIndexed, IsHalted, Takes}
 use Rattle.dump_command.specs.Inner.Stops.{stop_of_body, stop_of_holders}
-use Rattle.dump_command.proofs.Reading.{is_some-map, refused, StopsFor-bodies, Takes-listed}
+use Rattle.dump_command.proofs.Reading.{body_fault, is_some-map, none-map, refused, ReadsAtMost-same, StopsFor-bodies, Takes-listed}
 use Rattle.dump_command.proofs.Runs.{sections-index}
 
 -- it is refused for nothing behind the bodies, which are those of the processes, and takes more than these
@@ -42,26 +42,26 @@ module _ (cmd : Command) (limits : Numbers) (index : Contents) (more : List ℕ 
   taken-index bytes is = of.taken bytes ∙ ap (λ ss. bodies_length (record_sections ss) + more bytes) (sym (sections-index bytes index is))
 
   -- the processes weren't loaded
-  pub IsHalted-processes : (before after : DeviceState) (fault : BodyFault) → ReadsAtMost before after (bodies_length (record_sections (sections_in index)))
-      → (IsSome (first_large limits.section (record_sections (sections_in index))) → ReadsAtMost before after 0)
-      → AreRefused (record_sections (sections_in index)) limits.section before after fault → IsHalted cmd limits index before after (stop_of_body fault)
-  IsHalted-processes before after fault reads unread cause =
+  pub IsHalted-processes : {D T : Type 0} (state : D → DeviceState) (b c : D) (fault : BodyFault) → LoadsBodies {T = T} state (record_sections (sections_in index)) limits.section b c (Err fault)
+      → IsHalted cmd limits index (state b) (state c) (stop_of_body fault)
+  IsHalted-processes state b c fault loads =
       record {
         takes = record {
           bytes = bodies_length (record_sections (sections_in index));
-          reads = reads;
+          reads = loads.reads;
           few = λ bytes all. omega (arith, taken-index bytes all.of);
-          unread = λ some. unread (sym (ap is_some listed-processes ∙ is_some-map refused (first_large limits.section (record_sections (sections_in index)))) ∙ some);
+          unread = λ some. ReadsAtMost-same state b c _ loads.reads
+              (loads.unread (is_some-map body_fault _ ∙ sym (ap is_some listed-processes ∙ is_some-map refused (first_large limits.section (record_sections (sections_in index)))) ∙ some));
         };
-        cause = StopsFor-bodies before after _ (record_sections (sections_in index)) limits.section fault cause
+        cause = StopsFor-bodies (state b) (state c) _ (record_sections (sections_in index)) limits.section fault loads.fault
             (λ why is bytes all. ap (λ o. option_or o (refusal_held cmd bytes limits)) (listed-processes ∙ is));
       }
 
   -- they were
-  pub none-listed : first_large limits.section (record_sections (sections_in index)) ≡ None → refusal_listed cmd (sections_in index) limits ≡ None
-  none-listed small = listed-processes ∙ ap (option_map refused) small
+  pub none-listed : large_fault limits.section (record_sections (sections_in index)) ≡ None → refusal_listed cmd (sections_in index) limits ≡ None
+  none-listed small = listed-processes ∙ ap (option_map refused) (none-map body_fault _ small)
 
-  pub Takes-heard : (before after : DeviceState) (count heard : ℕ) → first_large limits.section (record_sections (sections_in index)) ≡ None → ReadsAtMost before after count
+  pub Takes-heard : (before after : DeviceState) (count heard : ℕ) → large_fault limits.section (record_sections (sections_in index)) ≡ None → ReadsAtMost before after count
       → count ≤ bodies_length (record_sections (sections_in index)) + heard → ((bytes : List ℕ) → IsIndexed bytes limits index before.now → heard ≡ more bytes)
       → Takes cmd limits index before after
   Takes-heard before after count heard small reads few same =

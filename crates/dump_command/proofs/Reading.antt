@@ -1,21 +1,20 @@
 -- What a command reads of the dump that is open, by the clauses of what it calls.
 use Rattle.dump_sections.specs.declared.bodies.BodyFault.TheVariants as body_faults
 use Rattle.std.proofs.Common.{◌≡◌, ℕ, ◌≤◌, List, Option, None, Some, Result, Ok, Err, refl, sym, ◌∙◌, ap, subst, inl, arith, ◌⊎◌, Bool, true, false, if◌then◌else◌, codes, inr, length}
-use Rattle.std.specs.Prelude.{IfErr, IfOk, IsErrAnd, IsSome, MatchResult, OnOk, is_some}
+use Rattle.std.specs.Prelude.{IfOk, IsErrAnd, MatchResult, is_some}
 use Rattle.std.specs.Option.{option_map, option_or, option_to_list}
 use Rattle.std.specs.Str.{bytes_eq}
 use Rattle.std.proofs.lemmas.Result.{IfOk-weaker}
 use Rattle.std.proofs.lemmas.Slice.Eq.{bytes_eq-Decides}
 use Rattle.dump_io.specs.Dumps.{DeviceState, told, ReadsAtMost, DeviceFailed}
-use Rattle.dump_io.specs.Laws.Reads.{ReadsAtMost-none, ReadsAtMost-within}
+use Rattle.dump_io.specs.Laws.Reads.{ReadsAtMost-none}
 use Rattle.dump_io.specs.Limits.{Numbers}
-use Rattle.dump_sections.specs.Bodies.{body_length, body_in, body_size, IsBodyIn, section_in, body_of}
+use Rattle.dump_sections.specs.Bodies.{body_length, body_in, IsBodyIn, section_in, body_of}
 use Rattle.dump_sections.specs.Index.{Contents, index_of, sections_in, IsBuiltOver, IsIndexOf}
 use Rattle.dump_sections.specs.Laws.{index-is}
 use Rattle.dump_sections.specs.Sections.{Section, sections}
 use Rattle.dump_sections.specs.declared.bodies.BodyFault.{BodyFault}
-use Rattle.dump_sections.specs.Loading.{bodies_length, first_large, AreRefused}
-use Rattle.dump_sections.specs.LoadingLaws.{bodies-one}
+use Rattle.dump_sections.specs.Loading.{bodies_length, first_large, AreRefused, LoadsBodies}
 use Rattle.report_text.specs.declared.refusals.Refusal.{Refusal}
 use Rattle.report_text.specs.declared.refusals.Refusal.TheVariants.{SectionTooLarge}
 use Rattle.command_words.specs.Command.{Command, info}
@@ -34,7 +33,7 @@ use Rattle.dump_command.specs.Inner.Stops.{or_stop, stop_of_body, Judges}
 use Rattle.dump_command.specs.declared.stop.Stop.{Stop}
 use Rattle.dump_command.specs.declared.stop.Stop.TheVariants.{Refused, NotRead, NotWritten, NoMemory}
 use Rattle.dump_command.specs.Terms.{base_of}
-use Rattle.dump_command.specs.Inner.Loads.{fields_text}
+use Rattle.dump_command.specs.Inner.Loads.{IsBodyFound, fields_text}
 use Rattle.dump_command.specs.declared.commands.subjects.Body.{Body}
 use Rattle.dump_command.proofs.Runs.{sections-index}
 
@@ -98,19 +97,6 @@ pub ReadsAtMost-same : {D : Type 0} (state : D → DeviceState) (b c : D) (count
 ReadsAtMost-same state b c count reads same =
     subst (λ x. ReadsAtMost (state b) (state x) 0) (sym same) (ReadsAtMost-none 0 (omega (arith, reads.taken_least, reads.taken_most)))
 
--- the bodies of these sections were loaded, or not
-pub record Loads {T : Type 0} (ss : List Section) (limit : ℕ) (before after : DeviceState) (loaded : Result T BodyFault) : Type 0 where
-  pub reads : ReadsAtMost before after (bodies_length ss)
-  pub unread : IsSome (first_large limit ss) → ReadsAtMost before after 0
-  pub small : OnOk loaded (first_large limit ss ≡ None)
-  pub fault : IfErr loaded (AreRefused ss limit before after)
-
-pub Loads-told : {D T : Type 0} (state : D → DeviceState) (b c : D) (ss : List Section) (limit : ℕ) (loaded : Result T BodyFault)
-    → ReadsAtMost (state b) (state c) (bodies_length ss) → (IsSome (first_large limit ss) → c ≡ b) → OnOk loaded (first_large limit ss ≡ None)
-    → IfErr loaded (AreRefused ss limit (state b) (state c)) → Loads ss limit (state b) (state c) loaded
-Loads-told state b c ss limit loaded reads unread small fault =
-    record { reads = reads; unread = λ some. ReadsAtMost-same state b c _ reads (unread some); small = small; fault = fault }
-
 -- ---- a command by what it has read
 
 -- what it asks for is there, what its bodies hold isn't refused, and it takes its bodies alone
@@ -162,32 +148,35 @@ module _ (cmd : Command) (limits : Numbers) (index : Contents) (before after : D
             let right = shows bytes all in (ap (λ o. option_or o (refusal_held cmd bytes limits)) listed ∙ right.0, right.1, right.2);
       }
 
+-- ---- what a command has read that loads these bodies alone
+
+module _ (cmd : Command) (limits : Numbers) (index : Contents) {D : Type 0} (state : D → DeviceState) (b c : D) where
   -- a command that is refused for its bodies alone
   listed-bodies : IsOfBodies cmd limits index → refusal_listed cmd (sections_in index) limits ≡ too_large limits.section (bodies cmd (sections_in index))
   listed-bodies of = ap (λ o. option_or o (too_large limits.section (bodies cmd (sections_in index)))) of.there
 
-  takes-bodies : {T : Type 0} (loaded : Result T BodyFault) → IsOfBodies cmd limits index → Loads (bodies cmd (sections_in index)) limits.section before after loaded
-      → Takes cmd limits index before after
+  takes-bodies : {T : Type 0} (loaded : Result T BodyFault) → IsOfBodies cmd limits index → LoadsBodies state (bodies cmd (sections_in index)) limits.section b c loaded
+      → Takes cmd limits index (state b) (state c)
   takes-bodies loaded of loads =
       record {
         bytes = bodies_length (bodies cmd (sections_in index));
         reads = loads.reads;
         few = λ bytes all. omega (arith, of.taken bytes, ap (λ ss. bodies_length (bodies cmd ss)) (sections-index bytes index all.of));
-        unread = λ some.
-            loads.unread (sym (ap is_some (listed-bodies of) ∙ is_some-map refused (first_large limits.section (bodies cmd (sections_in index)))) ∙ some);
+        unread = λ some. ReadsAtMost-same state b c _ loads.reads
+            (loads.unread (is_some-map body_fault _ ∙ sym (ap is_some (listed-bodies of) ∙ is_some-map refused (first_large limits.section (bodies cmd (sections_in index)))) ∙ some));
       }
 
   -- they were loaded, and this is its report, or they weren't
   pub ReadsFor-bodies : {T : Type 0} (text : T → List ℕ) (status : T → ℕ) (loaded : Result T BodyFault) → IsOfBodies cmd limits index
-      → Loads (bodies cmd (sections_in index)) limits.section before after loaded → IfOk loaded (λ t. IsEnding cmd (status t) × ((bytes : List ℕ)
-      → IsIndexed bytes limits index before.now → (text t ≡ report cmd bytes) × (status t ≡ report_status cmd bytes)))
-      → ReadsFor cmd limits index before after text status (or_stop loaded)
+      → LoadsBodies state (bodies cmd (sections_in index)) limits.section b c loaded → IfOk loaded (λ t. IsEnding cmd (status t) × ((bytes : List ℕ)
+      → IsIndexed bytes limits index (state b).now → (text t ≡ report cmd bytes) × (status t ≡ report_status cmd bytes)))
+      → ReadsFor cmd limits index (state b) (state c) text status (or_stop loaded)
   ReadsFor-bodies text status (Ok t) of loads right =
       record {
         takes = takes-bodies (Ok t) of loads;
         ends = right.0;
         told = λ bytes all. (
-          ap (λ o. option_or o (refusal_held cmd bytes limits)) (listed-bodies of ∙ ap (option_map refused) loads.small) ∙ of.held bytes,
+          ap (λ o. option_or o (refusal_held cmd bytes limits)) (listed-bodies of ∙ ap (option_map refused) (none-map body_fault _ loads.allowed)) ∙ of.held bytes,
           (right.1 bytes all).0,
           (right.1 bytes all).1,
         );
@@ -195,51 +184,44 @@ module _ (cmd : Command) (limits : Numbers) (index : Contents) (before after : D
   ReadsFor-bodies {T} text status (Err fault) of loads right =
       record {
         takes = takes-bodies {T = T} (Err fault) of loads;
-        cause = StopsFor-bodies before after _ (bodies cmd (sections_in index)) limits.section fault loads.fault
+        cause = StopsFor-bodies (state b) (state c) _ (bodies cmd (sections_in index)) limits.section fault loads.fault
             (λ why is bytes all. ap (λ o. option_or o (refusal_held cmd bytes limits)) (listed-bodies of ∙ is));
       }
 
   -- what they make of the bytes of a dump is that of which it reports
   pub ReadsFor-whole : {T : Type 0} (text : T → List ℕ) (whole : List ℕ → T) (loaded : Result T BodyFault) → IsOfBodies cmd limits index
-      → Loads (bodies cmd (sections_in index)) limits.section before after loaded → IfOk loaded (λ t. (bytes : List ℕ) → before.now ≡ told bytes → t ≡ whole bytes)
+      → LoadsBodies state (bodies cmd (sections_in index)) limits.section b c loaded → IfOk loaded (λ t. (bytes : List ℕ) → (state b).now ≡ told bytes → t ≡ whole bytes)
       → ((bytes : List ℕ) → (text (whole bytes) ≡ report cmd bytes) × (0 ≡ report_status cmd bytes))
-      → ReadsFor cmd limits index before after text (λ _. 0) (or_stop loaded)
+      → ReadsFor cmd limits index (state b) (state c) text (λ _. 0) (or_stop loaded)
   ReadsFor-whole text whole loaded of loads is right =
       ReadsFor-bodies text (λ _. 0) loaded of loads
       (IfOk-weaker loaded _ _ (λ t is. (inl refl, λ bytes all. (ap text (is bytes all.opened) ∙ (right bytes).0, (right bytes).1))) is)
 
 -- ---- what a command has read that loads the body of one section
 
--- the body of the section that was found was loaded, or not
-pub Loads-found : {D T : Type 0} (state : D → DeviceState) (b c : D) (found : Option Section) (limit : ℕ) (loaded : Result T BodyFault)
-    → ReadsAtMost (state b) (state c) (body_size found) → (IsSome (first_large limit (option_to_list found)) → c ≡ b) → OnOk loaded (first_large limit (option_to_list found) ≡ None)
-    → IfErr loaded (AreRefused (option_to_list found) limit (state b) (state c)) → Loads (option_to_list found) limit (state b) (state c) loaded
-Loads-found state b c found limit loaded reads unread small fault =
-    Loads-told state b c (option_to_list found) limit loaded (ReadsAtMost-within (omega (arith, bodies-one found)) reads) unread small fault
-
 -- the command loads this section alone
-module _ (cmd : Command) (limits : Numbers) (index : Contents) (before after : DeviceState) (of : IsOfBodies cmd limits index)
+module _ (cmd : Command) (limits : Numbers) (index : Contents) {D : Type 0} (state : D → DeviceState) (b c : D) (of : IsOfBodies cmd limits index)
     (found : Option Section) (is : bodies cmd (sections_in index) ≡ option_to_list found) where
-  pub ReadsFor-found : (text : Body → List ℕ) (loaded : Result Body BodyFault) → Loads (option_to_list found) limits.section before after loaded
-      → IfOk loaded (λ body. IsBodyIn before.now found body.bytes.items) → IfOk loaded (λ body. body.base ≡ base_of found)
-      → ((body : Body) (bytes : List ℕ) → IsIndexed bytes limits index before.now → body.base ≡ base_of found → body.bytes.items ≡ body_in bytes found
+  pub ReadsFor-found : (text : Body → List ℕ) (loaded : Result Body BodyFault) → LoadsBodies state (option_to_list found) limits.section b c loaded
+      → IfOk loaded (IsBodyFound (state b).now found)
+      → ((body : Body) (bytes : List ℕ) → IsIndexed bytes limits index (state b).now → body.base ≡ base_of found → body.bytes.items ≡ body_in bytes found
       → (text body ≡ report cmd bytes) × (0 ≡ report_status cmd bytes))
-      → ReadsFor cmd limits index before after text (λ _. 0) (or_stop loaded)
-  ReadsFor-found text (Ok body) loads held based right =
-      ReadsFor-bodies cmd limits index before after text (λ _. 0) (Ok body) of (subst (λ ss. Loads ss limits.section before after (Ok body)) (sym is) loads)
-      (inl refl, λ bytes all. right body bytes all based (subst (λ n. IsBodyIn n found body.bytes.items) all.opened held))
-  ReadsFor-found text (Err fault) loads held based right =
-      ReadsFor-bodies cmd limits index before after text (λ _. 0) (Err fault) of (subst (λ ss. Loads {T = Body} ss limits.section before after (Err fault)) (sym is) loads) tt
+      → ReadsFor cmd limits index (state b) (state c) text (λ _. 0) (or_stop loaded)
+  ReadsFor-found text (Ok body) loads read right =
+      ReadsFor-bodies cmd limits index state b c text (λ _. 0) (Ok body) of (subst (λ ss. LoadsBodies state ss limits.section b c (Ok body)) (sym is) loads)
+      (inl refl, λ bytes all. right body bytes all read.base (subst (λ n. IsBodyIn n found body.bytes.items) all.opened read.held))
+  ReadsFor-found text (Err fault) loads read right =
+      ReadsFor-bodies cmd limits index state b c text (λ _. 0) (Err fault) of (subst (λ ss. LoadsBodies {T = Body} state ss limits.section b c (Err fault)) (sym is) loads) tt
 
 -- its report is of the fields of that section
-pub ReadsFor-fields : (cmd : Command) (limits : Numbers) (index : Contents) (before after : DeviceState) (of : IsOfBodies cmd limits index) (found : Option Section)
+pub ReadsFor-fields : (cmd : Command) (limits : Numbers) (index : Contents) {D : Type 0} (state : D → DeviceState) (b c : D) (of : IsOfBodies cmd limits index) (found : Option Section)
     (pick : List Section → Option Section) (loaded : Result Body BodyFault) → found ≡ pick (sections_in index) → ((ss : List Section) → bodies cmd ss ≡ option_to_list (pick ss))
     → ((bytes : List ℕ) → (fields_of bytes (pick (sections bytes)) ≡ report cmd bytes) × (0 ≡ report_status cmd bytes))
-    → Loads (option_to_list found) limits.section before after loaded
-    → IfOk loaded (λ body. IsBodyIn before.now found body.bytes.items) → IfOk loaded (λ body. body.base ≡ base_of found)
-    → ReadsFor cmd limits index before after fields_text (λ _. 0) (or_stop loaded)
-ReadsFor-fields cmd limits index before after of found pick loaded here is right loads held based =
-    ReadsFor-found cmd limits index before after of found (is (sections_in index) ∙ ap option_to_list (sym here)) fields_text loaded loads held based
+    → LoadsBodies state (option_to_list found) limits.section b c loaded
+    → IfOk loaded (IsBodyFound (state b).now found)
+    → ReadsFor cmd limits index (state b) (state c) fields_text (λ _. 0) (or_stop loaded)
+ReadsFor-fields cmd limits index state b c of found pick loaded here is right loads read =
+    ReadsFor-found cmd limits index state b c of found (is (sections_in index) ∙ ap option_to_list (sym here)) fields_text loaded loads read
     (λ body bytes all base items. (
       ap (λ b. fields_report b body.bytes.items) base ∙ ap (fields_report (base_of found)) items
           ∙ ap (fields_of bytes) (here ∙ ap pick (sections-index bytes index all.of)) ∙ (right bytes).0,

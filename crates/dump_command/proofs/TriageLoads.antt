@@ -6,13 +6,13 @@ use Rattle.std.proofs.lemmas.List.Sums.{sum_by-append, sum_by-cons}
 use Rattle.dump_io.specs.Dumps.{DeviceState, DeviceFailed, ReadsAtMost}
 use Rattle.dump_io.specs.Laws.Reads.{ReadsAtMost-then, ReadsAtMost-within}
 use Rattle.dump_io.specs.Limits.{Numbers}
-use Rattle.dump_sections.specs.Bodies.{body_length, body_in, body_size, section_in}
+use Rattle.dump_sections.specs.Bodies.{body_length, body_in, section_in}
 use Rattle.dump_sections.specs.Index.{Contents, index_of, sections_in}
 use Rattle.dump_sections.specs.Laws.{index-is}
 use Rattle.dump_sections.specs.Sections.{Section}
 use Rattle.dump_sections.specs.declared.bodies.BodyFault.{BodyFault}
 use Rattle.dump_sections.specs.declared.bodies.BodyFault.TheVariants as body_faults
-use Rattle.dump_sections.specs.LoadingLaws.{large-append, small-both, bodies-one}
+use Rattle.dump_sections.specs.LoadingLaws.{large-append, small-both}
 use Rattle.dump_sections.specs.Loading.{bodies_length, first_large, large_fault, AreRefused, IsUnread}
 use Rattle.process_table.specs.Records.{record_sections}
 use Rattle.table_sections.specs.declared.kinds.TableKind.TheVariants.{Ets}
@@ -84,7 +84,7 @@ AreSmall-all limit index places found none =
 
 -- how many bytes they have together
 pub triage-length : (index : Contents) (places : Places) → AreFound index places → bodies_length (triage_sections (sections_in index))
-    ≡ ((body_size (section_in index (Some 0)) + body_size (section_in index places.memory)) + bodies_length (record_sections (sections_in index)))
+    ≡ ((bodies_length (option_to_list (section_in index (Some 0))) + bodies_length (option_to_list (section_in index places.memory))) + bodies_length (record_sections (sections_in index)))
     + bodies_length (listed places.tables.kind (sections_in index))
 triage-length index places found =
     let ss = sections_in index in
@@ -93,26 +93,26 @@ triage-length index places found =
       sum_by-append body_length (fronts ss) (listed Ets ss),
       sum_by-append body_length (heads ss) (record_sections ss),
       sum_by-cons body_length (first_section ss) (option_to_list (memory_section ss)),
-      bodies-one (section_in index places.memory),
+      sum_by-cons body_length (first_section ss) [],
       ap (λ s. bodies_length (option_to_list s)) found.memory,
       ap (λ k. bodies_length (listed k ss)) found.kind,
     )
 
 -- what was read of them up to one takes no more than all of them
 module _ {index : Contents} {places : Places} (found : AreFound index places) where
-  pub reads-first : {a b : DeviceState} → ReadsAtMost a b (body_size (section_in index (Some 0))) → ReadsAtMost a b (bodies_length (triage_sections (sections_in index)))
+  pub reads-first : {a b : DeviceState} → ReadsAtMost a b (bodies_length (option_to_list (section_in index (Some 0)))) → ReadsAtMost a b (bodies_length (triage_sections (sections_in index)))
   reads-first first = ReadsAtMost-within (omega (arith, triage-length index places found)) first
 
-  pub reads-memory : {a b c : DeviceState} → ReadsAtMost a b (body_size (section_in index (Some 0))) → ReadsAtMost b c (body_size (section_in index places.memory))
+  pub reads-memory : {a b c : DeviceState} → ReadsAtMost a b (bodies_length (option_to_list (section_in index (Some 0)))) → ReadsAtMost b c (bodies_length (option_to_list (section_in index places.memory)))
       → ReadsAtMost a c (bodies_length (triage_sections (sections_in index)))
   reads-memory first memory = ReadsAtMost-within (omega (arith, triage-length index places found)) (ReadsAtMost-then first memory)
 
-  pub reads-procs : {a b c d : DeviceState} → ReadsAtMost a b (body_size (section_in index (Some 0))) → ReadsAtMost b c (body_size (section_in index places.memory))
+  pub reads-procs : {a b c d : DeviceState} → ReadsAtMost a b (bodies_length (option_to_list (section_in index (Some 0)))) → ReadsAtMost b c (bodies_length (option_to_list (section_in index places.memory)))
       → ReadsAtMost c d (bodies_length (record_sections (sections_in index))) → ReadsAtMost a d (bodies_length (triage_sections (sections_in index)))
   reads-procs first memory procs =
       ReadsAtMost-within (omega (arith, triage-length index places found)) (ReadsAtMost-then (ReadsAtMost-then first memory) procs)
 
-  pub reads-tables : {a b c d e : DeviceState} → ReadsAtMost a b (body_size (section_in index (Some 0))) → ReadsAtMost b c (body_size (section_in index places.memory))
+  pub reads-tables : {a b c d e : DeviceState} → ReadsAtMost a b (bodies_length (option_to_list (section_in index (Some 0)))) → ReadsAtMost b c (bodies_length (option_to_list (section_in index places.memory)))
       → ReadsAtMost c d (bodies_length (record_sections (sections_in index))) → ReadsAtMost d e (bodies_length (listed places.tables.kind (sections_in index)))
       → ReadsAtMost a e (bodies_length (triage_sections (sections_in index)))
   reads-tables first memory procs tables =

@@ -1,9 +1,9 @@
 -- Why a dump isn't redacted.
-use Rattle.std.specs.Prelude.{◌≡◌, ℕ, List, Option, Some, filter, option_map}
+use Rattle.std.specs.Prelude.{◌≡◌, ℕ, List, Option, Some, Result, filter, option_map}
 use Rattle.dump_io.specs.Dumps.{DeviceState, DeviceFailed}
 use Rattle.dump_io.specs.Sinks.{SinkState, SinkFailed}
 use Rattle.dump_sections.specs.Bodies.{body_length}
-use Rattle.dump_sections.specs.Loading.{first_large}
+use Rattle.dump_sections.specs.Loading.{first_large, Loads}
 use Rattle.dump_sections.specs.Sections.{Section, tag_of}
 use Rattle.dump_redact.specs.declared.faults.RedactFault.{RedactFault}
 use Rattle.dump_redact.specs.declared.faults.RedactFault.TheVariants.{SectionTooLarge, Read, Write, Memory}
@@ -24,3 +24,8 @@ IsCauseOf refusal before after sink sink' (SectionTooLarge at len) = refusal ≡
 IsCauseOf refusal before after sink sink' Read = DeviceFailed before after
 IsCauseOf refusal before after sink sink' Write = SinkFailed sink sink'
 IsCauseOf refusal before after sink sink' Memory = Unit {0}
+
+-- what the call does that redacts a dump of so many bytes with these sections, between two states of its device and of its sink
+abbrev pub LoadsDump : {D T : Type 0} → (D → DeviceState) → ℕ → List Section → ℕ → SinkState → SinkState → D → D → Result T RedactFault → Type 0
+LoadsDump state size sections limit sink sink' before after result =
+    let refusal = large_fault limit sections in Loads state size refusal (λ d d'. IsCauseOf refusal d d' sink sink') before after result

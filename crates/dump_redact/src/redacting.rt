@@ -1,11 +1,11 @@
 // Writing a dump with its payloads made zero.
-ghost use Rattle.std.specs.Prelude.{◌≡◌, ℕ, ◌+◌, ◌-◌, ◌<◌, ◌≤◌, ◌⊎◌, List, length, None, Some, IfErr, IsErrOf, IsSome, OnOk};
-ghost use Rattle.dump_io.specs.Dumps.{told, ReadsAtMost};
+ghost use Rattle.std.specs.Prelude.{◌≡◌, ℕ, ◌+◌, ◌-◌, ◌<◌, ◌≤◌, ◌⊎◌, List, length, Some, IsErrOf, IsSome};
+ghost use Rattle.dump_io.specs.Dumps.{told};
 ghost use Rattle.dump_io.specs.Sinks.{WritesAll};
 ghost use Rattle.dump_sections.specs.Bodies.{section_at};
 ghost use Rattle.dump_sections.specs.Index.{IsBuiltOver, sections_in};
 ghost use Rattle.dump_redact.specs.Redacted.{redacted};
-ghost use Rattle.dump_redact.specs.Refusals.{large_fault, IsCauseOf};
+ghost use Rattle.dump_redact.specs.Refusals.{large_fault, LoadsDump};
 ghost use Rattle.dump_redact.specs.declared.faults.RedactFault.{RedactFault};
 ghost use Rattle.dump_redact.specs.Inner.Copying.{Copies};
 ghost use Rattle.dump_redact.specs.Inner.Places.{length_between, text_between, HasRoom, fault_at};
@@ -202,16 +202,12 @@ pub fn redact<D: Dumps, K: Sink>(
     sink: &mut K,
 ) -> Result<(), RedactFault>
     requires { IsBuiltOver (D.state dumps.old).now index.now }
-    ensures reads { ReadsAtMost (D.state dumps.old) (D.state dumps.new) index.now.size }
+    ensures loads { LoadsDump D.state index.now.size (sections_in index.now) limits.now.section (K.state sink.old) (K.state sink.new) dumps.old dumps.new result }
     ensures later { (K.state sink.old).faults ≤ (K.state sink.new).faults }
     ensures writes { (bytes : List ℕ) → (D.state dumps.old).now ≡ told bytes → WritesAll (K.state sink.old).written (K.state sink.new).written (redacted bytes) result }
-    ensures fault { IfErr result (IsCauseOf (large_fault limits.now.section (sections_in index.now)) (D.state dumps.old) (D.state dumps.new)
-        (K.state sink.old) (K.state sink.new)) }
 
     // A body that is too large is always refused as such, whatever the device and the sink do.
-    ensures loaded { OnOk result (large_fault limits.now.section (sections_in index.now) ≡ None) }
     ensures too_large { (fault : RedactFault) → large_fault limits.now.section (sections_in index.now) ≡ Some fault → IsErrOf result fault }
-    ensures unread { IsSome (large_fault limits.now.section (sections_in index.now)) → dumps.new ≡ dumps.old }
     ensures unwritten { IsSome (large_fault limits.now.section (sections_in index.now)) → sink.new ≡ sink.old }
 {
     if let Some(fault) = large(index, limits) {

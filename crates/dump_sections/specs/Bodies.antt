@@ -1,8 +1,9 @@
 -- Sections by their places, and their bodies.
-use Rattle.std.specs.Prelude.{◌≡◌, ℕ, ◌-◌, List, [], slice_get, Option, Some, unwrap_or, option_map}
+use Rattle.std.specs.Prelude.{◌≡◌, ℕ, ◌-◌, ◌≤◌, List, [], length, slice_get, Option, Some, unwrap_or, option_map}
 use Rattle.std.specs.List.{between}
 use Rattle.std.specs.Option.{option_map_or}
 use Rattle.dump_io.specs.Dumps.{Now, closed, told, sized}
+use Rattle.dump_io.specs.Limits.{usual}
 use Rattle.dump_sections.specs.Index.{Contents, sections_in}
 use Rattle.dump_sections.specs.Sections.{Section, section}
 
@@ -40,6 +41,8 @@ IsBodyIn closed found bytes = ⊥
 IsBodyIn (told dump) found bytes = bytes ≡ body_in dump found
 IsBodyIn (sized size) found bytes = Unit {0}
 
--- the same for a section that is there
-abbrev pub IsBodyOf : Now → Section → List ℕ → Type 0
-IsBodyOf now section bytes = IsBodyIn now (Some section) bytes
+-- what was read of a section is its body: as many bytes, and those of what is open, if the device tells them
+pub record IsBodyOf (now : Now) (section : Section) (bytes : List ℕ) : Type 0 where
+  pub size : length bytes ≡ body_length section
+  pub small : length bytes ≤ usual.section
+  pub told : IsBodyIn now (Some section) bytes

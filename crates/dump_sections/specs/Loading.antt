@@ -1,7 +1,7 @@
 -- Loading the bodies of several sections, and why they aren't loaded.
-use Rattle.std.specs.Prelude.{◌≡◌, ◌⊎◌, ℕ, List, map, find, Option, Some, None, nat_lt, option_map}
+use Rattle.std.specs.Prelude.{◌≡◌, ◌⊎◌, ℕ, List, map, find, Option, Some, None, Result, nat_lt, option_map, IfErr, IsSome, OnOk}
 use Rattle.std.specs.List.{sum_by}
-use Rattle.dump_io.specs.Dumps.{DeviceState, DeviceFailed}
+use Rattle.dump_io.specs.Dumps.{DeviceState, DeviceFailed, ReadsAtMost}
 use Rattle.dump_sections.specs.declared.bodies.BodyFault.{BodyFault}
 use Rattle.dump_sections.specs.declared.bodies.BodyFault.TheVariants.{SectionTooLarge, Read, Memory}
 use Rattle.dump_sections.specs.Bodies.{section_at, body_length}
@@ -30,6 +30,18 @@ abbrev pub AreRefused : List Section → ℕ → DeviceState → DeviceState →
 AreRefused sections limit before after (SectionTooLarge at len) = large_fault limit sections ≡ Some (SectionTooLarge at len)
 AreRefused sections limit before after Read = DeviceFailed before after × (first_large limit sections ≡ None)
 AreRefused sections limit before after Memory = Unit {0}
+
+-- what each call does that loads bodies of so many bytes, or says why not, between two states of its device: it reads at
+-- most so many; if they are refused, it doesn't load them and reads nothing; and any fault has such a cause
+pub record Loads {D T F : Type 0} (state : D → DeviceState) (size : ℕ) (refusal : Option F) (IsCause : DeviceState → DeviceState → F → Type 0) (before after : D) (result : Result T F) : Type 0 where
+  pub reads : ReadsAtMost (state before) (state after) size
+  pub allowed : OnOk result (refusal ≡ None)
+  pub unread : IsSome refusal → after ≡ before
+  pub fault : IfErr result (IsCause (state before) (state after))
+
+-- the same for the bodies of these sections, which are refused if one is too large
+abbrev pub LoadsBodies : {D T : Type 0} → (D → DeviceState) → List Section → ℕ → D → D → Result T BodyFault → Type 0
+LoadsBodies state sections limit before after result = Loads state (bodies_length sections) (large_fault limit sections) (AreRefused sections limit) before after result
 
 -- why bodies none of which is too large aren't loaded: the device failed, or memory was lacking
 abbrev pub IsUnread : DeviceState → DeviceState → BodyFault → Type 0

@@ -1,11 +1,11 @@
 // Judging and reading the bodies of sections.
-ghost use Rattle.std.specs.Prelude.{◌≡◌, [], ◌∷◌, ◌+◌, ◌<◌, ◌≤◌, ◌⊎◌, length, None, All, IfSome, IfOk, OnOk, IfErr, IsErrOf};
+ghost use Rattle.std.specs.Prelude.{◌≡◌, [], ◌∷◌, ◌+◌, ◌<◌, ◌≤◌, ◌⊎◌, length, None, All, IfSome, IfOk, IfErr, IsErrOf};
 ghost use Rattle.std.specs.Option.{option_to_list};
 ghost use Rattle.dump_io.specs.Dumps.{IsOpen, size_of, Gives, DeviceFailed, ReadsAtMost};
 ghost use Rattle.dump_io.specs.Limits.{usual};
 ghost use Rattle.dump_sections.specs.Bodies.{section_at, section_in, body_length, body_size, IsBodyOf};
 ghost use Rattle.dump_sections.specs.Index.{IsBuiltOver};
-ghost use Rattle.dump_sections.specs.Loading.{sections_at, large_fault, AreRefused};
+ghost use Rattle.dump_sections.specs.Loading.{sections_at, large_fault, LoadsBodies};
 
 use crate::index::Index;
 use dump_io::{Dumps, Limits, read_full};
@@ -99,17 +99,12 @@ pub fn read_body<D: Dumps>(
 ) -> Result<Vec<u8>, BodyFault>
     requires over { IsBuiltOver (D.state dumps.old).now index.now }
     requires place { i < length index.now.headers }
-    ensures reads { ReadsAtMost (D.state dumps.old) (D.state dumps.new) (body_length (section_at index.now i)) }
+    ensures loads { LoadsBodies D.state (section_at index.now i ∷ []) limits.now.section dumps.old dumps.new result }
     ensures body { IfOk result (λ body. IsBodyOf (D.state dumps.old).now (section_at index.now i) body.items) }
-    ensures length { IfOk result (λ body. length body.items ≡ body_length (section_at index.now i)) }
-    ensures small { IfOk result (λ body. length body.items ≤ usual.section) }
-    ensures loaded { OnOk result (body_length (section_at index.now i) ≤ limits.now.section) }
-    ensures fault { IfErr result (AreRefused (section_at index.now i ∷ []) limits.now.section (D.state dumps.old) (D.state dumps.new)) }
 
     // A body that is too large is always refused as such, whatever the device does.
     ensures too_large { let section = section_at index.now i in limits.now.section < body_length section
         → IsErrOf result (BodyFault.SectionTooLarge section.at (body_length section)) }
-    ensures unread { limits.now.section < body_length (section_at index.now i) → dumps.new ≡ dumps.old }
 {
     if let Some(fault) = large_body(index, Some(i), limits) {
         return Err(fault);

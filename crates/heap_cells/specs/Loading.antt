@@ -1,10 +1,13 @@
 -- What loading a heap promises.
-use Rattle.std.specs.Prelude.{◌≡◌, ℕ, ◌<◌, ◌≤◌, List, ◌++◌, Option, Some, Result, Ok, Err, codes, option_map}
+use Rattle.std.specs.Prelude.{◌≡◌, ℕ, ◌<◌, ◌≤◌, List, ◌++◌, Option, Some, Result, Ok, Err, IfOk, codes, option_map}
 use Rattle.std.specs.Option.{option_to_list}
-use Rattle.dump_io.specs.Dumps.{DeviceState, DeviceFailed}
+use Rattle.dump_io.specs.Dumps.{DeviceState, DeviceFailed, Now, told}
+use Rattle.dump_io.specs.Limits.{Numbers}
 use Rattle.dump_sections.specs.declared.bodies.BodyFault.{BodyFault}
 use Rattle.dump_sections.specs.declared.bodies.BodyFault.TheVariants as body
-use Rattle.dump_sections.specs.Loading.{large_fault}
+use Rattle.dump_sections.specs.Bodies.{body_in}
+use Rattle.dump_sections.specs.Index.{Contents}
+use Rattle.dump_sections.specs.Loading.{bodies_length, large_fault, Loads}
 use Rattle.dump_sections.specs.Lookups.{first_named, first_tagged}
 use Rattle.dump_sections.specs.Sections.{Section}
 use Rattle.dump_sections.specs.declared.version.Version.{Version}
@@ -59,6 +62,12 @@ IsAnswerFor enc heap literals dense (Ok found) = IsMapOf enc heap literals found
 IsAnswerFor enc heap literals dense (Err (TooDense count)) = (count ≡ weight enc heap literals) × (dense < count)
 IsAnswerFor enc heap literals dense (Err fault) = Unit {0}
 
+-- what an answer says of two sections: a heap has the encoding of the dump's version,
+-- and what is answered is right for their bodies, if the device tells the bytes
+pub record IsHeapOf (now : Now) (index : Contents) (heap literals : Option Section) (dense : ℕ) (answer : Result HeapMap HeapFault) : Type 0 where
+  pub enc : IfOk answer (λ found. found.enc ≡ enc_of index.version)
+  pub told : (dump : List ℕ) → now ≡ told dump → IsAnswerFor (enc_of index.version) (body_in dump heap) (body_in dump literals) dense answer
+
 -- why a heap isn't loaded: one of these bodies is too large, and this is the first; the
 -- heap is too dense; or the device failed; memory may be lacking at any time
 abbrev pub IsCauseOf : Option HeapFault → ℕ → DeviceState → DeviceState → HeapFault → Type 0
@@ -66,3 +75,8 @@ IsCauseOf refused dense before after (SectionTooLarge at len) = refused ≡ Some
 IsCauseOf refused dense before after (TooDense count) = dense < count
 IsCauseOf refused dense before after Read = DeviceFailed before after
 IsCauseOf refused dense before after Memory = Unit {0}
+
+-- what each call does that loads the heap with these bodies
+abbrev pub LoadsHeap : {D T : Type 0} → (D → DeviceState) → List Section → Numbers → D → D → Result T HeapFault → Type 0
+LoadsHeap state bodies limits before after result =
+    let refusal = bodies_fault limits.section bodies in Loads state (bodies_length bodies) refusal (IsCauseOf refusal limits.dense) before after result

@@ -1,16 +1,14 @@
 // The heap of a process, by address.
-ghost use Rattle.std.specs.Prelude.{◌≡◌, ◌+◌, ◌<◌, ◌≤◌, ℕ, List, map, length, slice_get, None, Some, IfSome, IsSome, IfOk, OnOk, IfErr, IsErrOf, All};
+ghost use Rattle.std.specs.Prelude.{◌≡◌, ◌+◌, ◌<◌, ◌≤◌, map, length, slice_get, None, Some, IfSome, IfOk, IfErr, IsErrOf, All};
 ghost use Rattle.std.specs.Option.{option_map};
 ghost use Rattle.term_forms.specs.SeenForms.{heap_form};
 ghost use Rattle.heap_cells.specs.Cells.{kind_of};
 ghost use Rattle.heap_cells.specs.HeapMap.{IsBounded, address_at, form_at, elements_at, IsSpelled};
-ghost use Rattle.dump_io.specs.Dumps.{ReadsAtMost, told};
 ghost use Rattle.dump_sections.specs.Index.{IsBuiltOver, sections_in};
 ghost use Rattle.heap_cells.specs.declared.faults.HeapFault.{HeapFault};
-ghost use Rattle.dump_sections.specs.Loading.{bodies_length};
-ghost use Rattle.heap_cells.specs.Loading.{enc_of, heap_section, literals_section, two_bodies, heap_bodies, bodies_fault, IsAnswerFor, IsCauseOf};
+ghost use Rattle.heap_cells.specs.Loading.{heap_section, literals_section, two_bodies, heap_bodies, bodies_fault, IsAnswerFor, IsHeapOf, LoadsHeap};
 ghost use Rattle.heap_cells.specs.Inner.Faults.{IsOfTheTexts};
-ghost use Rattle.dump_sections.specs.Bodies.{section_in, body_in};
+ghost use Rattle.dump_sections.specs.Bodies.{section_in};
 ghost use Rattle.heap_cells.specs.Targets.{number, target, slot_target, kid_target, KeepsElement, IsSeatOf, IsWithin};
 
 use crate::cells::{Kid, Seat};
@@ -80,19 +78,11 @@ impl Heap {
         limits: &Limits,
     ) -> Result<Heap, HeapFault>
         requires over { IsBuiltOver (D.state dumps.old).now index.now }
-        ensures reads { ReadsAtMost (D.state dumps.old) (D.state dumps.new)
-            (bodies_length (heap_bodies pid.now (sections_in index.now))) }
-
-        // If the device tells the bytes, the heap is that of the two bodies, or they are too dense.
-        ensures answer { (dump : List ℕ) → (D.state dumps.old).now ≡ told dump
-            → IsAnswerFor (enc_of index.now.version) (body_in dump (heap_section pid.now (sections_in index.now))) (body_in dump (literals_section (sections_in index.now))) limits.now.dense result }
-        ensures enc { IfOk result (λ heap. heap.enc ≡ enc_of index.now.version) }
-        ensures fault { IfErr result (IsCauseOf (bodies_fault limits.now.section (heap_bodies pid.now (sections_in index.now))) limits.now.dense (D.state dumps.old) (D.state dumps.new)) }
+        ensures loads { LoadsHeap D.state (heap_bodies pid.now (sections_in index.now)) limits.now dumps.old dumps.new result }
+        ensures answer { IsHeapOf (D.state dumps.old).now index.now (heap_section pid.now (sections_in index.now)) (literals_section (sections_in index.now)) limits.now.dense result }
 
         // A body that is too large is always refused as such, whatever the device does.
-        ensures loaded { OnOk result (bodies_fault limits.now.section (heap_bodies pid.now (sections_in index.now)) ≡ None) }
         ensures too_large { (fault : HeapFault) → bodies_fault limits.now.section (heap_bodies pid.now (sections_in index.now)) ≡ Some fault → IsErrOf result fault }
-        ensures unread { IsSome (bodies_fault limits.now.section (heap_bodies pid.now (sections_in index.now))) → dumps.new ≡ dumps.old }
     {
         let heap = index.first(b"proc_heap", Some(pid));
         let literals = index.first_tag(b"literals");
@@ -112,17 +102,10 @@ impl Heap {
         requires over { IsBuiltOver (D.state dumps.old).now index.now }
         requires heap { IfSome heap (λ i. i < length index.now.headers) }
         requires literals { IfSome literals (λ i. i < length index.now.headers) }
-        ensures reads { ReadsAtMost (D.state dumps.old) (D.state dumps.new)
-            (bodies_length (two_bodies (section_in index.now heap) (section_in index.now literals))) }
-        ensures answer { (dump : List ℕ) → (D.state dumps.old).now ≡ told dump
-            → IsAnswerFor (enc_of index.now.version) (body_in dump (section_in index.now heap)) (body_in dump (section_in index.now literals)) limits.now.dense result }
-        ensures enc { IfOk result (λ heap. heap.enc ≡ enc_of index.now.version) }
-        ensures fault { IfErr result (IsCauseOf (bodies_fault limits.now.section (two_bodies (section_in index.now heap) (section_in index.now literals))) limits.now.dense
-            (D.state dumps.old) (D.state dumps.new)) }
-        ensures loaded { OnOk result (bodies_fault limits.now.section (two_bodies (section_in index.now heap) (section_in index.now literals)) ≡ None) }
+        ensures loads { LoadsHeap D.state (two_bodies (section_in index.now heap) (section_in index.now literals)) limits.now dumps.old dumps.new result }
+        ensures answer { IsHeapOf (D.state dumps.old).now index.now (section_in index.now heap) (section_in index.now literals) limits.now.dense result }
         ensures too_large { (fault : HeapFault) → bodies_fault limits.now.section (two_bodies (section_in index.now heap) (section_in index.now literals)) ≡ Some fault
             → IsErrOf result fault }
-        ensures unread { IsSome (bodies_fault limits.now.section (two_bodies (section_in index.now heap) (section_in index.now literals))) → dumps.new ≡ dumps.old }
     {
         if let Some(fault) = large_bodies(index, heap, literals, limits) {
             return Err(HeapFault::from(fault));

@@ -59,7 +59,7 @@ pids-records rs rows same =
 named_own : (s : Section) → is_process s ≡ true → is_named (codes "proc") (Some (pid_of s)) s.text ≡ true
 named_own s own = grind (arith, bytes_eq-Decides)
 
-pub All-named : (index : Contents) (rs : List Placed) (rows : List Row) → All (IsRecordOf index) rs → All (IsIn index) (all_joined (map named_place rs) rows)
+All-named : (index : Contents) (rs : List Placed) (rows : List Row) → All (IsRecordOf index) rs → All (IsIn index) (all_joined (map named_place rs) rows)
 All-named index [] rows all = All-nil (IsIn index)
 All-named index (r ∷ rs) [] all = All-nil (IsIn index)
 All-named index (r ∷ rs) (row ∷ rows) all = grind (arith, All-named index rs rows (All-tail (IsRecordOf index) r rs all), All-head, All-cons, named_own, All-tail)
@@ -84,11 +84,12 @@ module _ (index : Contents) (found : ProcPlaces) (places : List PidPlace) (passe
   pub count_of_places : length rows ≡ length places
   count_of_places = count_of_rows ∙ sym (length-map (records (sections_in index)) named_place) ∙ sym (ap length are) ∙ length-named places
 
-  pub IsOver-built : IsOver index (let t : ProcessTable = record { processes = all_joined (named_places places) rows; repeated = passed } in t)
-  IsOver-built = grind (arith, are, sections-records, count_of_rows, pids-records)
+  named_built : All (IsRecordOf index) (records (sections_in index)) → All (IsIn index) (all_joined (named_places places) rows)
+  named_built all = subst (λ l. All (IsIn index) (all_joined l rows)) (sym are) (All-named index (records (sections_in index)) rows all)
 
-  pub All-named-built : All (IsRecordOf index) (records (sections_in index)) → All (IsIn index) (all_joined (named_places places) rows)
-  All-named-built all = subst (λ l. All (IsIn index) (all_joined l rows)) (sym are) (All-named index (records (sections_in index)) rows all)
+  pub IsOver-built : All (IsRecordOf index) (records (sections_in index))
+      → IsOver index (let t : ProcessTable = record { processes = all_joined (named_places places) rows; repeated = passed } in t)
+  IsOver-built all = grind (arith, are, sections-records, count_of_rows, pids-records, named_built all)
 
   pub built_told : (bytes : List ℕ) → sections_in index ≡ sections bytes → rows ≡ rows_of bytes field_columns (record_sections (sections_in index))
       → (let t : ProcessTable = record { processes = all_joined (named_places places) rows; repeated = passed } in t) ≡ process_table bytes

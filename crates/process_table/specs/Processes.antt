@@ -54,16 +54,17 @@ nobody = record { section = 0; pid = []; state = None; name = None; queue = None
 abbrev pub process_at : List Process → ℕ → Process
 process_at processes p = unwrap_or (slice_get processes p) nobody
 
+-- the process names a section of the index whose tag is `proc` and whose id is the pid
+pub record IsIn (index : Contents) (process : Process) : Type 0 where
+  pub place : process.section < length index.headers
+  pub named : is_named (codes "proc") (Some process.pid) (section_at index process.section).text ≡ true
+
 -- the processes are those of the index, whatever their fields are
 pub record IsOver (index : Contents) (table : ProcessTable) : Type 0 where
   pub sections : map (λ p. p.section) table.processes ≡ map (λ r. r.0) (records (sections_in index))
   pub pids : map (λ p. p.pid) table.processes ≡ map (λ r. pid_of r.1) (records (sections_in index))
   pub repeated : table.repeated ≡ repeated (sections_in index)
-
--- the process names a section of the index whose tag is `proc` and whose id is the pid
-pub record IsIn (index : Contents) (process : Process) : Type 0 where
-  pub place : process.section < length index.headers
-  pub named : is_named (codes "proc") (Some process.pid) (section_at index process.section).text ≡ true
+  pub named : All (IsIn index) table.processes
 
 -- the offsets of its fields are within the largest dump, and their texts no longer than the largest body
 pub record IsBounded (p : Process) : Type 0 where

@@ -1,13 +1,13 @@
 // The process table.
-ghost use Rattle.std.specs.Prelude.{◌≡◌, ℕ, List, ◌<◌, length, map, slice_get, None, Some, IfSome, IsSome, IfOk, OnOk, IfErr, All, position};
+ghost use Rattle.std.specs.Prelude.{◌≡◌, ℕ, List, ◌<◌, length, map, slice_get, None, Some, IfSome, IfOk, All, position};
 ghost use Rattle.std.specs.Str.{bytes_eq};
-ghost use Rattle.dump_io.specs.Dumps.{told, ReadsAtMost};
+ghost use Rattle.dump_io.specs.Dumps.{told};
 ghost use Rattle.dump_sections.specs.Index.{IsBuiltOver, sections_in};
-ghost use Rattle.dump_sections.specs.Loading.{bodies_length, first_large, AreRefused};
-ghost use Rattle.section_rows.specs.Rows.{rows_of};
+ghost use Rattle.dump_sections.specs.Loading.{LoadsBodies};
+ghost use Rattle.section_rows.specs.Rows.{AreRowsOf};
 ghost use Rattle.section_rows.specs.Shown.{shown_cell};
 ghost use Rattle.process_table.specs.Records.{proc_places, records, record_sections};
-ghost use Rattle.process_table.specs.Processes.{AreBounded, IsIn, IsOver, process_at, process_table};
+ghost use Rattle.process_table.specs.Processes.{AreBounded, IsOver, process_at, process_table};
 ghost use Rattle.process_table.specs.Shown.{shown_process};
 ghost use Rattle.process_table.specs.Inner.Finding.{named_places, IsRecordOf};
 ghost use Rattle.process_table.specs.Inner.Joined.{all_joined, AreJoined, field_columns};
@@ -101,14 +101,8 @@ fn load_fields<D: Dumps>(
     requires over { IsBuiltOver (D.state dumps.old).now index.now }
     requires found { sections.now ≡ map (λ r. r.0) (records (sections_in index.now)) }
     requires records { All (IsRecordOf index.now) (records (sections_in index.now)) }
-    ensures reads { ReadsAtMost (D.state dumps.old) (D.state dumps.new) (bodies_length (record_sections (sections_in index.now))) }
-    ensures rows { IfOk result (λ table. (bytes : List ℕ) → (D.state dumps.old).now ≡ told bytes
-        → table.rows ≡ rows_of bytes field_columns (record_sections (sections_in index.now))) }
-    ensures width { IfOk result (λ table. table.width ≡ 5) }
-    ensures places { IfOk result (λ table. map (λ row. row.at) table.rows ≡ map (λ s. s.at) (record_sections (sections_in index.now))) }
-    ensures loaded { OnOk result (first_large limits.now.section (record_sections (sections_in index.now)) ≡ None) }
-    ensures fault { IfErr result (AreRefused (record_sections (sections_in index.now)) limits.now.section (D.state dumps.old) (D.state dumps.new)) }
-    ensures unread { IsSome (first_large limits.now.section (record_sections (sections_in index.now))) → dumps.new ≡ dumps.old }
+    ensures loads { LoadsBodies D.state (record_sections (sections_in index.now)) limits.now.section dumps.old dumps.new result }
+    ensures rows { IfOk result (AreRowsOf (D.state dumps.old).now field_columns (record_sections (sections_in index.now))) }
 {
     SectionRows::load(alloc, dumps, index, sections, &FIELDS, limits)
 }
@@ -128,13 +122,9 @@ impl Procs {
         limits: &Limits,
     ) -> Result<Procs, BodyFault>
         requires { IsBuiltOver (D.state dumps.old).now index.now }
-        ensures reads { ReadsAtMost (D.state dumps.old) (D.state dumps.new) (bodies_length (record_sections (sections_in index.now))) }
+        ensures loads { LoadsBodies D.state (record_sections (sections_in index.now)) limits.now.section dumps.old dumps.new result }
         ensures table { IfOk result (λ procs. (bytes : List ℕ) → (D.state dumps.old).now ≡ told bytes → procs ≡ process_table bytes) }
         ensures over { IfOk result (IsOver index.now) }
-        ensures named { IfOk result (λ procs. All (IsIn index.now) procs.processes) }
-        ensures loaded { OnOk result (first_large limits.now.section (record_sections (sections_in index.now)) ≡ None) }
-        ensures fault { IfErr result (AreRefused (record_sections (sections_in index.now)) limits.now.section (D.state dumps.old) (D.state dumps.new)) }
-        ensures unread { IsSome (first_large limits.now.section (record_sections (sections_in index.now))) → dumps.new ≡ dumps.old }
     {
         let Ok(found) = ProcSections::find(alloc, index) else {
             return Err(BodyFault::Memory);
@@ -156,13 +146,9 @@ impl Procs {
     ) -> Result<Procs, BodyFault>
         requires over { IsBuiltOver (D.state dumps.old).now index.now }
         requires found { found ≡ proc_places (sections_in index.now) }
-        ensures reads { ReadsAtMost (D.state dumps.old) (D.state dumps.new) (bodies_length (record_sections (sections_in index.now))) }
+        ensures loads { LoadsBodies D.state (record_sections (sections_in index.now)) limits.now.section dumps.old dumps.new result }
         ensures table { IfOk result (λ procs. (bytes : List ℕ) → (D.state dumps.old).now ≡ told bytes → procs ≡ process_table bytes) }
         ensures over { IfOk result (IsOver index.now) }
-        ensures named { IfOk result (λ procs. All (IsIn index.now) procs.processes) }
-        ensures loaded { OnOk result (first_large limits.now.section (record_sections (sections_in index.now)) ≡ None) }
-        ensures fault { IfErr result (AreRefused (record_sections (sections_in index.now)) limits.now.section (D.state dumps.old) (D.state dumps.new)) }
-        ensures unread { IsSome (first_large limits.now.section (record_sections (sections_in index.now))) → dumps.new ≡ dumps.old }
     {
         let (places, order, sections, repeated) = found.into_parts();
         let Ok(hints) = Hints::of(alloc, &places) else {

@@ -18,20 +18,22 @@ use Rattle.section_rows.specs.Inner.Places.{rows_in}
 
 -- the body of a section is told with what is open
 told_body : (now : Now) (s : Section) (body bytes : List ℕ) → IsBodyOf now s body → now ≡ told bytes → body ≡ body_of bytes s
-told_body now s body bytes is same = let told_is : IsBodyOf (told bytes) s body = subst (λ (n : Now). IsBodyOf n s body) same is in told_is
+told_body now s body bytes is same = let told_is : IsBodyOf (told bytes) s body = subst (λ (n : Now). IsBodyOf n s body) same is in told_is.told
 
 pub HoldsRows-more : (now : Now) (columns : List Column) (sections : List Section) (s : Section) (before after : Store)
     → HoldsRows now columns sections before → GainsRow now columns s before after → HoldsRows now columns (sections ++ s ∷ []) after
 HoldsRows-more now columns sections s before after holds gains = record {
-  width = gains.gained.width ∙ holds.width;
   within = gains.gained.within;
-  rows = λ bytes same.
-      gains.gained.rows ∙ ap (λ rows. rows ++ row_of columns s gains.body ∷ []) (holds.rows bytes same)
-      ∙ ap (λ body. rows_of bytes columns sections ++ row_of columns s body ∷ []) (told_body now s gains.body bytes gains.is_body same)
-      ∙ sym (map-append (λ (t : Section). row_of columns t (body_of bytes t)) sections (s ∷ []));
-  places =
-      ap (map (λ (row : Row). row.at)) gains.gained.rows ∙ map-append (λ (row : Row). row.at) (rows_in before) (row_of columns s gains.body ∷ [])
-      ∙ ap (λ places. places ++ s.at ∷ []) holds.places ∙ sym (map-append (λ (t : Section). t.at) sections (s ∷ []));
+  shown = record {
+    width = gains.gained.width ∙ holds.shown.width;
+    places =
+        ap (map (λ (row : Row). row.at)) gains.gained.rows ∙ map-append (λ (row : Row). row.at) (rows_in before) (row_of columns s gains.body ∷ [])
+        ∙ ap (λ places. places ++ s.at ∷ []) holds.shown.places ∙ sym (map-append (λ (t : Section). t.at) sections (s ∷ []));
+    rows = λ bytes same.
+        gains.gained.rows ∙ ap (λ rows. rows ++ row_of columns s gains.body ∷ []) (holds.shown.rows bytes same)
+        ∙ ap (λ body. rows_of bytes columns sections ++ row_of columns s body ∷ []) (told_body now s gains.body bytes gains.is_body same)
+        ∙ sym (map-append (λ (t : Section). row_of columns t (body_of bytes t)) sections (s ∷ []));
+  };
 }
 
 -- one section more

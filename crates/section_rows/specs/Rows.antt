@@ -1,5 +1,6 @@
 -- What is kept of sections: a row for each, with its offset in the file and a cell for each column.
 use Rattle.std.specs.Prelude.{◌≡◌, ℕ, ◌+◌, ◌≤◌, List, [], length, map, slice_get, Option, None, Some, option_map, unwrap_or, IfSome, All}
+use Rattle.dump_io.specs.Dumps.{Now, told}
 use Rattle.dump_io.specs.Limits.{usual}
 use Rattle.field_lines.specs.Fields.{find_line, place_of, value_of}
 use Rattle.dump_sections.specs.Bodies.{body_of}
@@ -56,6 +57,12 @@ rows_of bytes columns sections = map (λ s. row_of columns s (body_of bytes s)) 
 pub record Table : Type 0 where
   pub width : ℕ
   pub rows : List Row
+
+-- the rows of these sections: one with a cell for each column, and that of the dump's bytes, if the device tells them
+pub record AreRowsOf (now : Now) (columns : List Column) (sections : List Section) (table : Table) : Type 0 where
+  pub width : table.width ≡ length columns
+  pub places : map (λ row. row.at) table.rows ≡ map (λ s. s.at) sections
+  pub rows : (bytes : List ℕ) → now ≡ told bytes → table.rows ≡ rows_of bytes columns sections
 
 -- the row at a place; past the last one, an empty row
 abbrev pub row_at : List Row → ℕ → Row

@@ -1,9 +1,8 @@
 // What is kept of sections: a row for each.
-ghost use Rattle.std.specs.Prelude.{◌≡◌, ℕ, List, ◌<◌, length, map, slice_get, Some, None, All, IfOk, OnOk, IfErr, IsErrOf, IfSome, IsSome};
-ghost use Rattle.dump_io.specs.Dumps.{told, ReadsAtMost};
+ghost use Rattle.std.specs.Prelude.{◌≡◌, ◌<◌, length, map, slice_get, Some, None, All, IfOk, IsErrOf, IfSome};
 ghost use Rattle.dump_sections.specs.Index.{IsBuiltOver};
-ghost use Rattle.dump_sections.specs.Loading.{sections_at, bodies_length, first_large, large_fault, AreRefused};
-ghost use Rattle.section_rows.specs.Rows.{row_at, rows_of, AreEven, AreBounded};
+ghost use Rattle.dump_sections.specs.Loading.{sections_at, large_fault, LoadsBodies};
+ghost use Rattle.section_rows.specs.Rows.{row_at, AreRowsOf, AreEven, AreBounded};
 ghost use Rattle.section_rows.specs.Shown.{shown_cell, shown_column};
 
 use crate::columns::{Column, Kept};
@@ -49,17 +48,11 @@ impl SectionRows {
     ) -> Result<SectionRows, BodyFault>
         requires over { IsBuiltOver (D.state dumps.old).now index.now }
         requires places { All (λ i. i < length index.now.headers) sections.now }
-        ensures reads { ReadsAtMost (D.state dumps.old) (D.state dumps.new) (bodies_length (sections_at index.now sections.now)) }
-        ensures rows { IfOk result (λ table. (bytes : List ℕ) → (D.state dumps.old).now ≡ told bytes
-            → table.rows ≡ rows_of bytes (map shown_column columns.now) (sections_at index.now sections.now)) }
-        ensures width { IfOk result (λ table. table.width ≡ length columns.now) }
-        ensures places { IfOk result (λ table. map (λ row. row.at) table.rows ≡ map (λ s. s.at) (sections_at index.now sections.now)) }
-        ensures loaded { OnOk result (first_large limits.now.section (sections_at index.now sections.now) ≡ None) }
-        ensures fault { IfErr result (AreRefused (sections_at index.now sections.now) limits.now.section (D.state dumps.old) (D.state dumps.new)) }
+        ensures loads { LoadsBodies D.state (sections_at index.now sections.now) limits.now.section dumps.old dumps.new result }
+        ensures rows { IfOk result (AreRowsOf (D.state dumps.old).now (map shown_column columns.now) (sections_at index.now sections.now)) }
 
         // A body that is too large is always refused as such, whatever the device does.
         ensures too_large { IfSome (large_fault limits.now.section (sections_at index.now sections.now)) (IsErrOf result) }
-        ensures unread { IsSome (first_large limits.now.section (sections_at index.now sections.now)) → dumps.new ≡ dumps.old }
     {
         if let Some(fault) = large(index, sections, limits) {
             return Err(fault);

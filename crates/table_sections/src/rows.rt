@@ -1,9 +1,9 @@
 // The rows of a table.
-ghost use Rattle.std.specs.Prelude.{◌≡◌, ℕ, List, ◌<◌, length, None, IfOk, OnOk, IfErr, IsSome};
+ghost use Rattle.std.specs.Prelude.{◌≡◌, ℕ, List, ◌<◌, length, None, IfOk};
 ghost use Rattle.std.specs.Option.{option_copied};
-ghost use Rattle.dump_io.specs.Dumps.{told, ReadsAtMost};
+ghost use Rattle.dump_io.specs.Dumps.{told};
 ghost use Rattle.dump_sections.specs.Index.{IsBuiltOver, sections_in};
-ghost use Rattle.dump_sections.specs.Loading.{bodies_length, first_large, AreRefused};
+ghost use Rattle.dump_sections.specs.Loading.{LoadsBodies};
 ghost use Rattle.section_rows.specs.Rows.{row_at, cell_at, text_in, AreEven};
 ghost use Rattle.table_sections.specs.Tables.{listed, table_of, AreListed, IsOver};
 
@@ -45,12 +45,9 @@ impl Rows {
         limits: &Limits,
     ) -> Result<Rows, BodyFault>
         requires { IsBuiltOver (D.state dumps.old).now index.now }
-        ensures reads { ReadsAtMost (D.state dumps.old) (D.state dumps.new) (bodies_length (listed kind (sections_in index.now))) }
+        ensures loads { LoadsBodies D.state (listed kind (sections_in index.now)) limits.now.section dumps.old dumps.new result }
         ensures table { IfOk result (λ rows. (bytes : List ℕ) → (D.state dumps.old).now ≡ told bytes → rows ≡ table_of kind bytes) }
         ensures over { IfOk result (IsOver kind index.now) }
-        ensures loaded { OnOk result (first_large limits.now.section (listed kind (sections_in index.now)) ≡ None) }
-        ensures fault { IfErr result (AreRefused (listed kind (sections_in index.now)) limits.now.section (D.state dumps.old) (D.state dumps.new)) }
-        ensures unread { IsSome (first_large limits.now.section (listed kind (sections_in index.now))) → dumps.new ≡ dumps.old }
     {
         let Ok(found) = TableSections::find(alloc, index, kind) else {
             return Err(BodyFault::Memory);
@@ -72,12 +69,9 @@ impl Rows {
     ) -> Result<Rows, BodyFault>
         requires over { IsBuiltOver (D.state dumps.old).now index.now }
         requires found { AreListed index.now found }
-        ensures reads { ReadsAtMost (D.state dumps.old) (D.state dumps.new) (bodies_length (listed found.kind (sections_in index.now))) }
+        ensures loads { LoadsBodies D.state (listed found.kind (sections_in index.now)) limits.now.section dumps.old dumps.new result }
         ensures table { IfOk result (λ rows. (bytes : List ℕ) → (D.state dumps.old).now ≡ told bytes → rows ≡ table_of found.kind bytes) }
         ensures over { IfOk result (IsOver found.kind index.now) }
-        ensures loaded { OnOk result (first_large limits.now.section (listed found.kind (sections_in index.now)) ≡ None) }
-        ensures fault { IfErr result (AreRefused (listed found.kind (sections_in index.now)) limits.now.section (D.state dumps.old) (D.state dumps.new)) }
-        ensures unread { IsSome (first_large limits.now.section (listed found.kind (sections_in index.now))) → dumps.new ≡ dumps.old }
     {
         let (kind, places) = found.into_parts();
         let rows = SectionRows::load(alloc, dumps, index, &places, columns(kind), limits)?;

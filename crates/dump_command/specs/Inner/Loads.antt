@@ -38,6 +38,7 @@ use Rattle.dump_command.specs.declared.commands.reach.RootPlaces.{RootPlaces}
 use Rattle.dump_command.specs.declared.commands.reach.RootBodies.{RootBodies}
 use Rattle.dump_command.specs.declared.commands.reach.Loaded.{Loaded as ReachLoaded}
 use Rattle.dump_command.specs.Triage.{Told, triage_over}
+use Rattle.dump_command.specs.Terms.{base_of}
 use Rattle.dump_command.specs.declared.commands.triage.Places.{Places}
 use Rattle.dump_command.specs.declared.commands.triage.Loaded.{Loaded as TriageLoaded}
 
@@ -48,6 +49,12 @@ fields_text body = fields_report body.base body.bytes.items
 -- each place in the body is one in a file of at most 2^64 - 1 bytes
 abbrev pub HasPlaces : Body → Type 0
 HasPlaces body = body.base + length body.bytes.items < 2 ^ 64
+
+-- what was read of a section that may be missing: its body, and the body's offset in the file
+pub record IsBodyFound (now : Now) (found : Option Section) (body : Body) : Type 0 where
+  pub held : IsBodyIn now found body.bytes.items
+  pub base : body.base ≡ base_of found
+  pub places : HasPlaces body
 
 -- ---- from what the report of `info` is written
 

@@ -1,19 +1,19 @@
 // What commands find on the index of a dump and read from it:
 // a process, the body of a section, the heap of a process.
-ghost use Rattle.std.specs.Prelude.{◌≡◌, ◌<◌, List, length, None, Some, IfOk, IfErr, IfSome, IsSome, OnOk, MatchResult};
+ghost use Rattle.std.specs.Prelude.{◌≡◌, ◌<◌, List, length, None, Some, IfOk, IfSome, IsSome, MatchResult};
 ghost use Rattle.dump_io.specs.Dumps.{ReadsAtMost};
 ghost use Rattle.heap_cells.specs.HeapMap.{number_at};
 ghost use Rattle.heap_cells.specs.Loading.{heap_bodies};
-ghost use Rattle.dump_sections.specs.Bodies.{section_at, body_size, section_in, IsBodyIn};
+ghost use Rattle.dump_sections.specs.Bodies.{section_at, section_in};
 ghost use Rattle.dump_sections.specs.Index.{IsBuiltOver, sections_in};
 ghost use Rattle.dump_sections.specs.Sections.{Section};
-ghost use Rattle.dump_sections.specs.Loading.{bodies_length, first_large, large_fault, AreRefused};
+ghost use Rattle.dump_sections.specs.Loading.{bodies_length, large_fault, LoadsBodies};
 ghost use Rattle.dump_command.specs.Report.{no_process, process_section};
 ghost use Rattle.std.specs.Option.{option_to_list};
-ghost use Rattle.dump_command.specs.Terms.{address_cause, base_of, binary_cause};
+ghost use Rattle.dump_command.specs.Terms.{address_cause, binary_cause};
 ghost use Rattle.stored_binaries.specs.StoredBinaries.{binary_section};
 ghost use Rattle.dump_command.specs.Inner.Reading.{heap_listed, HoldsHeap, IsHeapless};
-ghost use Rattle.dump_command.specs.Inner.Loads.{HasPlaces};
+ghost use Rattle.dump_command.specs.Inner.Loads.{IsBodyFound};
 ghost use Rattle.dump_command.specs.Inner.Stops.{Judges};
 
 use crate::open::Opened;
@@ -61,13 +61,8 @@ pub(crate) fn read_found<D: Dumps>(
 ) -> Result<Body, BodyFault>
     requires over { IsBuiltOver (D.state dumps.old).now at.now.index.now }
     requires place { IfSome place (λ i. i < length at.now.index.now.headers) }
-    ensures reads { ReadsAtMost (D.state dumps.old) (D.state dumps.new) (body_size (section_in at.now.index.now place)) }
-    ensures unread { IsSome (first_large at.now.limits.now.section (option_to_list (section_in at.now.index.now place))) → dumps.new ≡ dumps.old }
-    ensures body { IfOk result (λ body. IsBodyIn (D.state dumps.old).now (section_in at.now.index.now place) body.bytes.items) }
-    ensures base { IfOk result (λ body. body.base ≡ base_of (section_in at.now.index.now place)) }
-    ensures places { IfOk result HasPlaces }
-    ensures loaded { OnOk result (first_large at.now.limits.now.section (option_to_list (section_in at.now.index.now place)) ≡ None) }
-    ensures fault { IfErr result (AreRefused (option_to_list (section_in at.now.index.now place)) at.now.limits.now.section (D.state dumps.old) (D.state dumps.new)) }
+    ensures loads { LoadsBodies D.state (option_to_list (section_in at.now.index.now place)) at.now.limits.now.section dumps.old dumps.new result }
+    ensures body { IfOk result (IsBodyFound (D.state dumps.old).now (section_in at.now.index.now place)) }
 {
     let Some(i) = place else {
         return Ok(Body {

@@ -1,10 +1,10 @@
 -- Loading rows one after another.
-use Rattle.std.specs.Prelude.{◌≡◌, ℕ, List, length, map}
-use Rattle.dump_io.specs.Dumps.{Now, told}
+use Rattle.std.specs.Prelude.{ℕ, List}
+use Rattle.dump_io.specs.Dumps.{Now}
 use Rattle.dump_sections.specs.Bodies.{IsBodyOf}
 use Rattle.dump_sections.specs.Sections.{Section}
 use Rattle.section_rows.specs.declared.store.Store.{Store}
-use Rattle.section_rows.specs.Rows.{Column, row_of, rows_of}
+use Rattle.section_rows.specs.Rows.{Column, row_of, AreRowsOf}
 use Rattle.section_rows.specs.Inner.Places.{HasGained, AreWithin, rows_in}
 
 -- the store has gained the row of a section with this body
@@ -15,7 +15,5 @@ pub record GainsRow (now : Now) (columns : List Column) (s : Section) (before af
 
 -- the store has the rows of these sections
 pub record HoldsRows (now : Now) (columns : List Column) (sections : List Section) (store : Store) : Type 0 where
-  pub width : store.width ≡ length columns
   pub within : AreWithin store
-  pub rows : (bytes : List ℕ) → now ≡ told bytes → rows_in store ≡ rows_of bytes columns sections
-  pub places : map (λ row. row.at) (rows_in store) ≡ map (λ s. s.at) sections
+  pub shown : AreRowsOf now columns sections (record { width = store.width; rows = rows_in store })

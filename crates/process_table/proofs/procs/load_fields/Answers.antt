@@ -17,12 +17,4 @@ returns g c =
     let load = c.load.ensures in
     let are : sections_at index c.args.sections.now ≡ record_sections (sections_in index) =
     ap (sections_at index) c.requires.found ∙ sections_at-records index (records (sections_in index)) c.requires.records in
-    rw (← are) record {
-      reads = load.reads;
-      rows = load.rows;
-      width = load.width;
-      places = load.places;
-      loaded = load.loaded;
-      fault = load.fault;
-      unread = load.unread;
-    }
+    rw (← are) record { loads = load.loads; rows = load.rows }

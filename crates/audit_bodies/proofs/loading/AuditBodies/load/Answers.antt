@@ -1,50 +1,38 @@
-use Rattle.std.proofs.Common.{◌≡◌, None, sym, ◌∙◌, ap, subst}
+use Rattle.std.proofs.Common.{rules, ◌≡◌, None, refl, sym, ◌∙◌, ap, subst}
 use Rattle.std.specs.Prelude.{is_some}
 use Rattle.std.proofs.lemmas.Result.{IfErr-weaker}
 use Rattle.dump_io.specs.Dumps.{ReadsAtMost}
 use Rattle.dump_sections.specs.Index.{sections_in}
-use Rattle.dump_sections.specs.Loading.{bodies_length, first_large, large_fault}
+use Rattle.dump_sections.specs.Loading.{bodies_length, large_fault}
 use Rattle.audit_bodies.specs.Mailboxes.{audited_sections}
 use Rattle.audit_bodies.proofs.Loads.{AreRefused-large, AreRefused-small, bodies-found, none-large, on-ok}
 use Rattle.audit_bodies.proofs.loading.AuditBodies.load.Goals as goal
 
-pub returns-in-Some-clause-fault : goal.returns-in-Some-clause-fault
-returns-in-Some-clause-fault g c =
+pub returns-in-Some-clause-loads : goal.returns-in-Some-clause-loads
+returns-in-Some-clause-loads g c =
     let d = g.D.Dumps in
     let sections = sections_in c.args.index.now in
     let same = bodies-found c.args.full sections c.in-Ok.places.mailboxes.items c.in-Ok.ensures.mailboxes in
-    AreRefused-large c.args.limits.now.section (audited_sections c.args.full sections) (d.state c.args.dumps.now) (d.state c.args.dumps.now) _
-    (ap (large_fault c.args.limits.now.section) (sym same) ∙ sym c.in-Some.ensures)
-
-pub returns-clause-reads : goal.returns-clause-reads
-returns-clause-reads g c =
-    let d = g.D.Dumps in
-    let same = bodies-found c.args.full (sections_in c.args.index.now) c.in-Ok.places.mailboxes.items c.in-Ok.ensures.mailboxes in
-    subst (λ ss. ReadsAtMost (d.state c.args.dumps.now) (d.state c.read_bodies.new.dumps) (bodies_length ss)) same c.read_bodies.ensures.reads
+    record {
+      reads = search rules;
+      allowed = tt;
+      unread = λ some. refl;
+      fault = AreRefused-large c.args.limits.now.section (audited_sections c.args.full sections) (d.state c.args.dumps.now) (d.state c.args.dumps.now) _
+          (ap (large_fault c.args.limits.now.section) (sym same) ∙ sym c.in-Some.ensures);
+    }
 
 -- none of the bodies is too large where they are read
-pub returns-clause-loaded : goal.returns-clause-loaded
-returns-clause-loaded g c =
-    let limit = c.args.limits.now.section in
-    let bodies = audited_sections c.args.full (sections_in c.args.index.now) in
-    let same = bodies-found c.args.full (sections_in c.args.index.now) c.in-Ok.places.mailboxes.items c.in-Ok.ensures.mailboxes in
-    let small : first_large limit bodies ≡ None = none-large limit bodies (ap (large_fault limit) (sym same) ∙ sym c.in_default-large_body.ensures) in
-    on-ok c.read_bodies.result small
-
-pub returns-clause-fault : goal.returns-clause-fault
-returns-clause-fault g c =
+pub returns-clause-loads : goal.returns-clause-loads
+returns-clause-loads g c =
     let d = g.D.Dumps in
     let limit = c.args.limits.now.section in
     let bodies = audited_sections c.args.full (sections_in c.args.index.now) in
     let same = bodies-found c.args.full (sections_in c.args.index.now) c.in-Ok.places.mailboxes.items c.in-Ok.ensures.mailboxes in
-    let small : first_large limit bodies ≡ None = none-large limit bodies (ap (large_fault limit) (sym same) ∙ sym c.in_default-large_body.ensures) in
-    IfErr-weaker c.read_bodies.result _ _
-    (λ fault is. AreRefused-small limit bodies (d.state c.args.dumps.now) (d.state c.read_bodies.new.dumps) fault small is) c.read_bodies.ensures.fault
-
-pub returns-clause-unread : goal.returns-clause-unread
-returns-clause-unread g c = λ large.
-    let limit = c.args.limits.now.section in
-    let bodies = audited_sections c.args.full (sections_in c.args.index.now) in
-    let same = bodies-found c.args.full (sections_in c.args.index.now) c.in-Ok.places.mailboxes.items c.in-Ok.ensures.mailboxes in
-    let small : first_large limit bodies ≡ None = none-large limit bodies (ap (large_fault limit) (sym same) ∙ sym c.in_default-large_body.ensures) in
-    absurd (let no : ⊥ = cc (sym (ap is_some small) ∙ large) in no)
+    let none : large_fault limit bodies ≡ None = ap (large_fault limit) (sym same) ∙ sym c.in_default-large_body.ensures in
+    record {
+      reads = subst (λ ss. ReadsAtMost (d.state c.args.dumps.now) (d.state c.read_bodies.new.dumps) (bodies_length ss)) same c.read_bodies.ensures.reads;
+      allowed = on-ok c.read_bodies.result none;
+      unread = λ some. absurd (let no : ⊥ = cc (sym (ap is_some none) ∙ some) in no);
+      fault = IfErr-weaker c.read_bodies.result _ _
+          (λ fault is. AreRefused-small limit bodies (d.state c.args.dumps.now) (d.state c.read_bodies.new.dumps) fault (none-large limit bodies none) is) c.read_bodies.ensures.fault;
+    }

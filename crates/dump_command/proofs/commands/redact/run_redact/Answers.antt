@@ -14,5 +14,5 @@ pub returns : goal.returns
 returns g c =
     let d = g.D.Dumps in
     let call = c.redact.ensures in
-    rw c.ended.ensures (Runs-redact _ _ _ _ _ c.in_ok-index.index _ _ c.in_ok-index.ensures call.reads (λ some. ReadsAtMost-same d.state _ _ _ call.reads (call.unread some))
-    (λ some. ap (λ s. (g.K.Sink.state s).written) (call.unwritten some)) c.redact.result call.writes call.fault call.loaded call.too_large)
+    rw c.ended.ensures (Runs-redact _ _ _ _ _ c.in_ok-index.index _ _ c.in_ok-index.ensures call.loads.reads (λ some. ReadsAtMost-same d.state _ _ _ call.loads.reads (call.loads.unread some))
+    (λ some. ap (λ s. (g.K.Sink.state s).written) (call.unwritten some)) c.redact.result call.writes call.loads.fault call.loads.allowed call.too_large)

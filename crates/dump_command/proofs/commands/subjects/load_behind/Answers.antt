@@ -19,7 +19,7 @@ pub returns-in_err-load-clause-unread : goal.returns-in_err-load-clause-unread
 returns-in_err-load-clause-unread g c = λ before is some.
     let at = c.args.at.now in
     let clear = IsClear-judged c.args.pid.now before at.limits.now at.index.now c.in_ok-find_process.ensures.judges (sym c.in_default.is ∙ is) in
-    c.in_err-load.ensures.unread (IsSome-fault _ _ _ _ clear some)
+    c.in_err-load.ensures.loads.unread (IsSome-fault _ _ _ _ clear some)
 
 pub returns-in_err-load-clause-heap : goal.returns-in_err-load-clause-heap
 returns-in_err-load-clause-heap g c = λ before is.
@@ -29,17 +29,17 @@ returns-in_err-load-clause-heap g c = λ before is.
     let read = c.in_err-load.ensures in
     let d = g.D.Dumps in
     rw (p.1, p.2) (IsHeapless-heap _ _ _ _ clear
-    (d.state c.args.dumps.now) (d.state c.load.new.dumps) _ read.fault read.too_large read.answer)
+    (d.state c.args.dumps.now) (d.state c.load.new.dumps) _ read.loads.fault read.too_large read.answer)
 
 pub returns-clause-unread : goal.returns-clause-unread
 returns-clause-unread g c = λ before is some.
     let at = c.args.at.now in
     let clear = IsClear-judged c.args.pid.now before at.limits.now at.index.now c.in_ok-find_process.ensures.judges (sym c.in_default.is ∙ is) in
-    c.in_ok-load.ensures.unread (IsSome-fault _ _ _ _ clear some)
+    c.in_ok-load.ensures.loads.unread (IsSome-fault _ _ _ _ clear some)
 
 pub returns-clause-heap : goal.returns-clause-heap
 returns-clause-heap g c = λ before is.
     let at = c.args.at.now in
     let clear = IsClear-judged c.args.pid.now before at.limits.now at.index.now c.in_ok-find_process.ensures.judges (sym c.in_default.is ∙ is) in
     let read = c.in_ok-load.ensures in
-    HoldsHeap-loaded _ _ _ _ clear _ _ read.loaded read.enc read.answer
+    HoldsHeap-loaded _ _ _ _ clear _ _ read.loads.allowed read.answer

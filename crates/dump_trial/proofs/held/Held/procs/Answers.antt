@@ -11,4 +11,4 @@ of_body-requires c =
     let index = c.args.index.now in
     let all = small-opened (now_of c.self.inside.dumps) index c.self.inside.limits c.self.invariant (subst (λ bytes. IsIndexOf bytes index) (sym c.self.view_is) c.requires) in
     bodies-opened c.self.inside.dumps c.load.new.dumps (record_sections (sections_in index)) c.self.inside.limits c.in-Err.fault c.self.invariant
-    (small-records (sections_in index) all) c.in-Err.ensures.fault
+    (small-records (sections_in index) all) c.in-Err.ensures.loads.fault

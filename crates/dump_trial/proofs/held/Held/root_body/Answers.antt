@@ -18,4 +18,4 @@ of_body-requires c =
     let s = section_at c.index.result.now c.in-Some.i in
     let all = small-opened (now_of c.self.inside.dumps) index c.self.inside.limits c.self.invariant (subst (λ bytes. IsIndexOf bytes index) (sym c.self.view_is) c.requires) in
     bodies-opened c.self.inside.dumps c.read_body.new.dumps (s ∷ []) c.self.inside.limits c.in-Err.fault c.self.invariant
-    (All-cons IsSmall s [] (subst (λ i. IsSmall (section_at i c.in-Some.i)) (sym c.index.ensures) (small-at index c.in-Some.i all)) (All-nil IsSmall)) c.in-Err.ensures.fault
+    (All-cons IsSmall s [] (subst (λ i. IsSmall (section_at i c.in-Some.i)) (sym c.index.ensures) (small-at index c.in-Some.i all)) (All-nil IsSmall)) c.in-Err.ensures.loads.fault

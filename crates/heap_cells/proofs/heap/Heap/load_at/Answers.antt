@@ -1,7 +1,13 @@
-use Rattle.std.proofs.Common.{sym, subst}
+use Rattle.std.proofs.Common.{rules, sym, subst}
 use Rattle.dump_io.specs.Dumps.{ReadsAtMost}
 use Rattle.dump_sections.specs.LoadingLaws.{bodies-two}
 use Rattle.heap_cells.proofs.heap.Heap.load_at.Goals as goal
 
-pub returns-clause-reads : goal.returns-clause-reads
-returns-clause-reads g c = subst (ReadsAtMost _ _) (sym (bodies-two _ _)) c.read_texts.ensures.reads
+pub returns-clause-loads : goal.returns-clause-loads
+returns-clause-loads g c =
+    record {
+      reads = subst (ReadsAtMost _ _) (sym (bodies-two _ _)) c.read_texts.ensures.reads;
+      allowed = search rules;
+      unread = search rules;
+      fault = search rules;
+    }

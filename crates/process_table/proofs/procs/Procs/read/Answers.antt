@@ -1,7 +1,7 @@
 use Rattle.std.proofs.Common.{◌∙◌, ap}
 use Rattle.dump_sections.specs.Index.{sections_in}
 use Rattle.process_table.specs.Records.{ProcPlaces, records}
-use Rattle.process_table.proofs.Building.{IsOver-built, All-named-built, built_told, count_of_places, places-records, sections_told}
+use Rattle.process_table.proofs.Building.{IsOver-built, built_told, count_of_places, places-records, sections_told}
 use Rattle.process_table.proofs.Placing.{All-records}
 use Rattle.process_table.proofs.procs.Procs.read.Goals as goal
 
@@ -19,8 +19,8 @@ invariant_of-result g c =
     let found = c.into_parts-places in
     let read = c.in_ok-fields in
     record {
-      rows = count_of_places c.args.index.now c.args.found found.result.0.items found.result.3 read.fields.rows c.requires.found found.ensures.places found.ensures.repeated read.ensures.places;
-      width = read.ensures.width;
+      rows = count_of_places c.args.index.now c.args.found found.result.0.items found.result.3 read.fields.rows c.requires.found found.ensures.places found.ensures.repeated read.ensures.rows.places;
+      width = read.ensures.rows.width;
       count = found.ensures.count;
       ordered = found.ensures.ordered;
     }
@@ -30,18 +30,12 @@ returns-clause-table g c = λ bytes same.
     let index = c.args.index.now in
     let found = c.into_parts-places in
     let read = c.in_ok-fields in
-    built_told index c.args.found found.result.0.items found.result.3 read.fields.rows c.requires.found found.ensures.places found.ensures.repeated read.ensures.places bytes
-    (sections_told (g.D.Dumps.state c.args.dumps.now).now index bytes c.requires.over same) (read.ensures.rows bytes same)
+    built_told index c.args.found found.result.0.items found.result.3 read.fields.rows c.requires.found found.ensures.places found.ensures.repeated read.ensures.rows.places bytes
+    (sections_told (g.D.Dumps.state c.args.dumps.now).now index bytes c.requires.over same) (read.ensures.rows.rows bytes same)
 
 pub returns-clause-over : goal.returns-clause-over
 returns-clause-over g c =
     let found = c.into_parts-places in
     let read = c.in_ok-fields in
-    IsOver-built c.args.index.now c.args.found found.result.0.items found.result.3 read.fields.rows c.requires.found found.ensures.places found.ensures.repeated read.ensures.places
-
-pub returns-clause-named : goal.returns-clause-named
-returns-clause-named g c =
-    let found = c.into_parts-places in
-    let read = c.in_ok-fields in
-    All-named-built c.args.index.now c.args.found found.result.0.items found.result.3 read.fields.rows c.requires.found found.ensures.places found.ensures.repeated read.ensures.places
+    IsOver-built c.args.index.now c.args.found found.result.0.items found.result.3 read.fields.rows c.requires.found found.ensures.places found.ensures.repeated read.ensures.rows.places
     (All-records c.args.index.now)

@@ -2,7 +2,6 @@ use Rattle.std.proofs.Common.{refl}
 use Rattle.json_report.specs.Trees.{audit_tree, json_text}
 use Rattle.command_words.specs.Command.{audit_json}
 use Rattle.dump_command.proofs.Audits.{ReadsFor-shown}
-use Rattle.dump_command.proofs.Reading.{Loads-told}
 use Rattle.dump_command.proofs.commands.audit_json.AuditJsonReport.read.Goals as goal
 
 pub returns-clause-reads : goal.returns-clause-reads
@@ -10,6 +9,6 @@ returns-clause-reads g c =
     let d = g.D.Dumps in
     let t = c.args.self.now in
     let read = c.load.ensures in
-    rw c.or_stop.ensures (ReadsFor-shown (audit_json t.file.now t.limit t.full) (λ a. json_text (audit_tree a)) t.limit t.full _ c.args.at.now.index.now _ _ _
+    rw c.or_stop.ensures (ReadsFor-shown (audit_json t.file.now t.limit t.full) (λ a. json_text (audit_tree a)) t.limit t.full _ c.args.at.now.index.now d.state _ _ _
     (record { there = refl; held = λ _. refl; taken = λ _. refl }) refl (λ _. (refl, refl))
-    (Loads-told d.state _ _ _ _ _ read.reads read.unread read.loaded read.fault) read.table read.counts)
+    read.loads read.bodies)

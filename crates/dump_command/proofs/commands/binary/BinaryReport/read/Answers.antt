@@ -15,10 +15,10 @@ returns-in-Ok-clause-reads g c =
     let read = c.in-Ok.ensures in
     let cmd = binary t.file.now t.addr in
     let index = c.args.at.now.index.now in
-    let listed = listed-binary t.file.now t.addr c.args.at.now.limits.now index read.loaded in
-    HasRead-listed cmd _ index _ _ _ (Takes-listed cmd _ index _ _ _ listed read.reads (λ bytes all. few-binary t.file.now t.addr _ index _ bytes all)) listed
+    let listed = listed-binary t.file.now t.addr c.args.at.now.limits.now index read.loads.allowed in
+    HasRead-listed cmd _ index _ _ _ (Takes-listed cmd _ index _ _ _ listed read.loads.reads (λ bytes all. few-binary t.file.now t.addr _ index _ bytes all)) listed
     (λ bytes all.
-    let known = sym (bytes-index bytes index t.addr all.of) ∙ read.bytes bytes all.opened in (
+    let known = sym (bytes-index bytes index t.addr all.of) ∙ read.answer bytes all.opened in (
       ap (bad_cause (binary_section t.addr (sections bytes))) known,
       ap (λ b. binary_report t.addr (unwrap_or b [])) (sym known),
       refl,
@@ -33,8 +33,8 @@ returns-in-Err-clause-reads g c =
     rw c.stop_of.ensures (IsHalted-binary t.file.now t.addr _ index _ _ c.in-Err.fault
     (record {
       bytes = _;
-      reads = read.reads;
+      reads = read.loads.reads;
       few = λ bytes all. few-binary t.file.now t.addr _ index _ bytes all;
-      unread = λ some. ReadsAtMost-same d.state _ _ _ read.reads (unread-binary t.file.now t.addr c.args.at.now.limits.now index read.unread some);
+      unread = λ some. ReadsAtMost-same d.state _ _ _ read.loads.reads (read.loads.unread (unread-binary t.file.now t.addr c.args.at.now.limits.now index some));
     })
-    read.fault read.refused read.bad)
+    read.loads.fault read.refused read.answer)

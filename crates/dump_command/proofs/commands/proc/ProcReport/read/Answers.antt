@@ -2,7 +2,7 @@ use Rattle.std.proofs.Common.{ℕ, Some, refl, sym, rules}
 use Rattle.dump_sections.specs.Bodies.{section_in}
 use Rattle.command_words.specs.Command.{proc}
 use Rattle.dump_command.specs.Report.{process_section}
-use Rattle.dump_command.proofs.Reading.{Loads-found, ReadsFor-fields, IsHalted-subject, ReadsFor-halted}
+use Rattle.dump_command.proofs.Reading.{ReadsFor-fields, IsHalted-subject, ReadsFor-halted}
 use Rattle.dump_command.proofs.commands.proc.ProcReport.read.Goals as goal
 
 pub returns-in_err-place-clause-reads : goal.returns-in_err-place-clause-reads
@@ -17,6 +17,6 @@ returns-clause-reads g c =
     let place = c.in_ok-place.ensures in
     let found = section_in index (Some c.in_ok-place.place) in
     let read = c.read_found.ensures in
-    rw c.or_stop.ensures (ReadsFor-fields (proc c.args.self.now.file.now pid) _ index _ _ (record { there = place.judges; held = λ _. refl; taken = λ _. refl }) found
+    rw c.or_stop.ensures (ReadsFor-fields (proc c.args.self.now.file.now pid) _ index d.state _ _ (record { there = place.judges; held = λ _. refl; taken = λ _. refl }) found
     (process_section pid) _ (sym place.there) (λ _. refl) (λ _. (refl, refl))
-    (Loads-found d.state _ _ found _ _ read.reads read.unread read.loaded read.fault) read.body read.base)
+    read.loads read.body)
