@@ -1,6 +1,5 @@
 // Writing a line from pieces.
-ghost use Rattle.std.specs.Prelude.{◌≡◌, [], ◌++◌, if◌then◌else◌};
-ghost use Rattle.std.specs.Bool.{OnTrue};
+ghost use Rattle.std.specs.Prelude.{◌≡◌, ◌≤◌, [], ◌++◌, length, drop, if◌then◌else◌};
 ghost use Rattle.dump_io.specs.Pieces.{piece_text, pieces_text};
 ghost use Rattle.dump_io.specs.Sinks.{Puts};
 
@@ -52,19 +51,20 @@ fn put_before(text: &mut ShortText, piece: &Piece<'_>) -> bool
     }
 }
 
-// Puts the pieces into a short text, the last one first, and returns whether there was room for all.
-fn gather(text: &mut ShortText, pieces: &[Piece<'_>]) -> bool
+// Puts pieces into a short text, the last one first, and returns how many are left, for which there was no room.
+fn gather(text: &mut ShortText, pieces: &[Piece<'_>]) -> usize
     requires { text.old ≡ [] }
-    ensures { OnTrue result (text.new ≡ pieces_text pieces.now) }
+    ensures within { result ≤ length pieces.now }
+    ensures text { text.new ≡ pieces_text (drop result pieces.now) }
 {
     let mut left = pieces.len();
     while left > 0 {
-        left -= 1;
-        if !put_before(text, &pieces[left]) {
-            return false;
+        if !put_before(text, &pieces[left - 1]) {
+            return left;
         }
+        left -= 1;
     }
-    true
+    left
 }
 
 /// Writes the pieces one after another; a short line goes out in one write.
@@ -73,9 +73,7 @@ pub fn put_pieces<K: Sink>(sink: &mut K, pieces: &[Piece<'_>]) -> Result<(), Fai
     ensures { Puts (K.state sink.old) (K.state sink.new) (pieces_text pieces.now) result }
 {
     let mut text = ShortText::new();
-    if gather(&mut text, pieces) {
-        write_all(sink, text.bytes())
-    } else {
-        put_each(sink, pieces)
-    }
+    let left = gather(&mut text, pieces);
+    put_each(sink, &pieces[..left])?;
+    write_all(sink, text.bytes())
 }

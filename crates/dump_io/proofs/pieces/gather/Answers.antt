@@ -1,4 +1,4 @@
-use Rattle.std.proofs.Common.{◌≡◌, length, drop, sym, ◌∙◌, ap, arith}
+use Rattle.std.proofs.Common.{length, sym, ◌∙◌, ap, arith}
 use Rattle.std.proofs.lemmas.List.{drop_all}
 use Rattle.dump_io.specs.Pieces.{pieces_text}
 use Rattle.dump_io.proofs.Fronts.{gathered}
@@ -20,8 +20,3 @@ loop-left-preserved c =
       text = gathered c.args.pieces.now c.loop-left.left _ c.loop-left.text c.put_before.new.text c.put_before.result c.loop-left-test.true all.within all.text
           c.put_before.ensures c.if-not-put_before.false;
     }
-
-pub returns : goal.returns
-returns c =
-    let none : c.loop-left.left ≡ 0 = omega (arith, c.loop-left-test.false) in
-    c.loop-left.invariant.text ∙ ap (λ n. pieces_text (drop n c.args.pieces.now)) none
