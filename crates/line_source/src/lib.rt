@@ -18,7 +18,6 @@
 #![tactic(auto)]
 
 mod header_sink;
-mod kept_line;
 mod laws;
 mod line_scan;
 mod scan_fault;

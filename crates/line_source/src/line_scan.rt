@@ -13,12 +13,15 @@ ghost use Rattle.line_source.specs.Inner.Takes.{Takes};
 ghost use Rattle.line_source.specs.Receiver.{stop_value};
 
 use crate::header_sink::{HeaderSink, HeaderStop};
-use crate::kept_line::KeptLine;
 use crate::scan_fault::ScanFault;
 use crate::starts::header_start;
+use arrayvec::ArrayVec;
 use dump_io::text_before_lf;
 use memchr::memchr;
 use std::marker::Model;
+
+// The most bytes of a header's line that are kept.
+const MOST: usize = 4_096;
 
 // What is known of the last line that has come.
 #[derive(Clone, Copy)]
@@ -42,7 +45,7 @@ pub struct LineScan {
     limit: u16,
     offset: u64,
     line: LineState,
-    kept: KeptLine,
+    kept: ArrayVec<u8, MOST>,
     spent: bool,
 }
 
@@ -57,15 +60,15 @@ impl Model for LineScan {
     ghost view = { λ scan. record {
       limit = scan.limit;
       offset = scan.offset;
-      last = last_in scan.line scan.kept;
+      last = last_in scan.line scan.kept.items;
       spent = scan.spent;
     } };
 
     ghost invariant = { λ scan.
         (1 ≤ scan.limit)
         × (scan.limit ≤ most_kept)
-        × (length scan.kept ≤ scan.limit)
-        × (length scan.kept ≤ scan.offset) };
+        × (length scan.kept.items ≤ scan.limit)
+        × (length scan.kept.items ≤ scan.offset) };
 }
 
 impl LineScan {
@@ -82,7 +85,7 @@ impl LineScan {
             limit,
             offset: 0,
             line: LineState::Ended,
-            kept: KeptLine::new(),
+            kept: ArrayVec::new(),
             spent: false,
         }
     }
@@ -183,7 +186,7 @@ impl LineScan {
         }) result }
     {
         let at = self.offset - self.kept.len() as u64;
-        into.header(at, self.offset, self.kept.bytes())
+        into.header(at, self.offset, self.kept.as_slice())
     }
 
     // Passes over bytes up to the next header, or over all of them if there is none.
@@ -230,7 +233,8 @@ impl LineScan {
         } }
         ensures limit { 1 ≤ self.old.limit }
     {
-        self.kept.begin(b'=');
+        self.kept.clear();
+        self.kept.push(b'=');
         self.line = LineState::Header;
         self.offset += 1;
     }
@@ -281,12 +285,13 @@ impl LineScan {
         ensures within_offset { length (header_bytes self.old.last) ≤ self.old.offset }
     {
         let kept = self.kept.len();
-        if part.len() > self.limit as usize - kept {
+        if part.len() > self.limit as usize - kept
+            || self.kept.try_extend_from_slice(part).is_err()
+        {
             return Err(ScanFault::HeaderTooLong {
                 at: self.offset - kept as u64,
             });
         }
-        self.kept.extend(part);
         self.offset += part.len() as u64;
         Ok(())
     }
@@ -309,7 +314,7 @@ impl LineScan {
     {
         let at = self.offset - self.kept.len() as u64;
         let body = self.offset + 1;
-        into.header(at, body, text_before_lf(self.kept.bytes()))?;
+        into.header(at, body, text_before_lf(self.kept.as_slice()))?;
         self.line = LineState::Ended;
         self.offset = body;
         Ok(())

@@ -1,25 +1,21 @@
 // The first bytes of a range.
 ghost use Rattle.std.specs.Prelude.{◌≡◌, ◌≤◌, length};
 
+use arrayvec::ArrayVec;
 use std::marker::Model;
-
-const ROOM: usize = 32;
 
 /// At most 32 bytes.
 #[derive(Drop)]
 pub struct FewBytes {
-    bytes: [u8; ROOM],
-    len: u8,
+    bytes: ArrayVec<u8, 32>,
 }
 
 impl Model for FewBytes {
-    ghost use Rattle.std.specs.Prelude.{ℕ, ◌≤◌, List, take};
+    ghost use Rattle.std.specs.Prelude.{ℕ, List};
 
     ghost Value = { List ℕ };
 
-    ghost view = { λ few. take few.len few.bytes };
-
-    ghost invariant = { λ few. few.len ≤ 32 };
+    ghost view = { λ few. few.bytes.items };
 }
 
 impl FewBytes {
@@ -28,12 +24,11 @@ impl FewBytes {
         requires { length bytes.now ≤ 32 }
         ensures { result ≡ bytes.now }
     {
-        let mut room = [0; ROOM];
-        room[..bytes.len()].copy_from_slice(bytes);
-        FewBytes {
-            bytes: room,
-            len: bytes.len() as u8,
+        let mut kept = ArrayVec::new();
+        if kept.try_extend_from_slice(bytes).is_err() {
+            unreachable!();
         }
+        FewBytes { bytes: kept }
     }
 
     /// The bytes.
@@ -41,6 +36,6 @@ impl FewBytes {
         ensures value { result.now ≡ self.now }
         ensures few { length result.now ≤ 32 }
     {
-        &self.bytes[..self.len as usize]
+        self.bytes.as_slice()
     }
 }
