@@ -1,23 +1,16 @@
 -- A text for each of a list, appended one behind the other.
-use Rattle.std.proofs.Common.{◌≡◌, ℕ, zero, suc, ◌+◌, ◌-◌, ◌≤◌, List, [], ◌∷◌, ◌++◌, length, take, drop, Option, Some, Result, Ok, Err, sym, ◌∙◌, ap, subst, append_assoc, append-nil, add-zero, arith, slice_get}
+use Rattle.std.proofs.Common.{◌≡◌, ℕ, zero, suc, ◌+◌, ◌-◌, ◌≤◌, List, ◌++◌, length, take, drop, Option, Some, Result, Ok, Err, sym, ◌∙◌, ap, subst, append_assoc, append-nil, add-zero, arith, slice_get}
 use Rattle.std.specs.Prelude.{IsErr, OnOk}
 use Rattle.std.specs.List.{flat_map, range_with_len}
 use Rattle.std.proofs.lemmas.List.{take_all}
 use Rattle.std.proofs.lemmas.List.Concat.{flat_map-append}
 use Rattle.dump_io.specs.Sinks.{WritesAll}
-use Rattle.dump_io.specs.Laws.Puts.{WritesAll-then, WritesAll-stopped, flat_map-more}
+use Rattle.dump_io.specs.Laws.Puts.{WritesAll-then, WritesAll-stopped, flat_map-at, flat_map-more}
 use Rattle.dump_write.specs.Written.{line, lines_of}
 
 -- the text was appended whole
 abbrev pub Appended : Option (List ℕ) → Option (List ℕ) → List ℕ → Type 0
 Appended before after text = WritesAll {T = Unit {0}} {E = Unit {0}} before after text (Ok tt)
-
-flat_map-at : {X : Type 0} (text : X → List ℕ) (xs : List X) (i : ℕ) (x : X) → slice_get xs i ≡ Some x
-    → flat_map text xs ≡ flat_map text (take i xs) ++ (text x ++ flat_map text (drop (suc i) xs))
-flat_map-at text [] i x is = cc
-flat_map-at text (y ∷ xs) zero x is = let same : y ≡ x = cc in ap (λ z. text z ++ flat_map text xs) same
-flat_map-at text (y ∷ xs) (suc i) x is =
-    ap (λ l. text y ++ l) (flat_map-at text xs i x is) ∙ sym (append_assoc (text y) (flat_map text (take i xs)) (text x ++ flat_map text (drop (suc i) xs)))
 
 -- the text at a place is appended behind those before it
 pub Appended-more : {X T E : Type 0} {w v u : Option (List ℕ)} {y : T} (text : X → List ℕ) (xs : List X) (i : ℕ) (x : X) → slice_get xs i ≡ Some x

@@ -9,9 +9,10 @@ use Rattle.std.proofs.lemmas.List.Folds.{list_all-append}
 use Rattle.std.proofs.lemmas.List.Sums.{sum_by-cons, sum_by-append}
 use Rattle.dump_io.specs.Lines.{lf, equals_sign}
 use Rattle.dump_io.specs.Numbers.{hexadecimal}
+use Rattle.dump_io.specs.Laws.Digits.{length-hexadecimal-le}
 use Rattle.line_source.specs.Streams.{begins_with_equals}
 use Rattle.dump_write.specs.Written.{line, lines_of}
-use Rattle.dump_write.proofs.Numerals.{IsPlain, is_plain, list_all-weaker, decimal_is_plain, hexadecimal_is_plain, length-hexadecimal-le}
+use Rattle.dump_write.proofs.Numerals.{IsPlain, is_plain, list_all-weaker, decimal_is_plain, hexadecimal_is_plain}
 
 -- a byte that is no control byte
 abbrev pub is_printed : ℕ → Bool

@@ -1,11 +1,11 @@
 -- The lines of a stream, byte by byte: what is known of the last line, and what each byte adds.
-use Rattle.std.proofs.Common.{◌≡◌, ℕ, suc, ◌+◌, ◌-◌, Bool, true, false, not, ◌&&◌, cond, List, [], ◌∷◌, ◌++◌, length, take, drop, map, refl, sym, ◌∙◌, ap, append_assoc, append-nil, length-drop, arith, if◌then◌else◌, ◌==◌, nat_eq, nat_lt}
+use Rattle.std.proofs.Common.{◌≡◌, ℕ, suc, ◌+◌, ◌-◌, Bool, true, false, not, ◌&&◌, cond, List, [], ◌∷◌, ◌++◌, length, take, drop, map, refl, sym, ◌∙◌, ap, append_assoc, append-nil, arith, if◌then◌else◌, ◌==◌, nat_eq, nat_lt}
 use Rattle.std.specs.Prelude.{filter, fold}
 use Rattle.std.specs.List.{ends_with}
-use Rattle.std.specs.Cmp.Lexicographic.{pointwise}
 use Rattle.std.proofs.lemmas.Bool.{cond-true, cond-false}
-use Rattle.std.proofs.lemmas.List.{drop_at, drop-drop, length_push}
+use Rattle.std.proofs.lemmas.List.{drop_at, length_push}
 use Rattle.dump_io.specs.Lines.{lf, cr, equals_sign, lines_after, raw_lines, Line, lines_from, text_of, is_header, Header, header_of, headers}
+use Rattle.line_source.specs.Laws.{text_of-open}
 use Rattle.line_source.specs.Streams.{has_lf, begins_with_equals, kind_of, LastLine, ended, plain, header, last_line, ended_headers, open_headers, too_long, is_too_long, length_before_lf}
 
 -- what is known of the last line after one more byte
@@ -221,19 +221,6 @@ long_open-push limit n (c ∷ t) b e =
     let size : length (c ∷ (t ++ b ∷ [])) ≡ length (c ∷ t) + 1 = length_push (c ∷ t) b in
     let place : n + length (c ∷ (t ++ b ∷ [])) ≡ n + length (c ∷ t) + 1 = omega (arith, size) in
     cc (begins-head c (t ++ b ∷ []), long_by_one (c == equals_sign) limit n (length (c ∷ t)), begins-head c t, long_at-kind (c == equals_sign) limit n (c ∷ (t ++ b ∷ [])), open_kind-push (c ∷ t) b e)
-
--- a line that ends with CR and LF ends with LF
-two-end : (bytes : List ℕ) → pointwise nat_eq (cr ∷ lf ∷ []) bytes ≡ true → (pointwise nat_eq (lf ∷ []) (drop 1 bytes) ≡ true) × (length bytes ≡ 2)
-two-end bytes is = grind arith
-
-has_lf-cr : (raw : List ℕ) → ends_with nat_eq raw (cr ∷ lf ∷ []) ≡ true → has_lf raw ≡ true
-has_lf-cr raw is =
-    let two = two-end (drop (length raw - 2) raw) is in
-    let place : length raw - 2 + 1 ≡ length raw - 1 = omega (arith, two.1, length-drop (length raw - 2) raw) in
-    cc (drop-drop 1 (length raw - 2) raw, two.0)
-
-pub text_of-open : (raw : List ℕ) → has_lf raw ≡ false → text_of raw ≡ raw
-text_of-open raw e = grind (arith, has_lf-cr)
 
 -- the header whose line lacks its LF
 abbrev pub open_of : List Line → List Header

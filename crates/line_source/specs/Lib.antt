@@ -1,6 +1,7 @@
 pub mod Feeding
 pub mod Growth
 pub mod Inner
+pub mod Laws
 pub mod Receiver
 pub mod Scan
 pub mod Streams

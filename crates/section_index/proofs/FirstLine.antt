@@ -1,13 +1,13 @@
 -- The first line, by the first LF.
 use Rattle.std.proofs.lemmas.Grind.{common_steps}
 use Rattle.std.proofs.Common.{◌≡◌, ℕ, suc, ◌+◌, ◌-◌, ◌<◌, ◌≤◌, Bool, true, false, not, cond, ltb, List, [], ◌∷◌, ◌++◌, length, take, drop, get_or, Option, MatchOption, None, Some, refl, sym, ◌∙◌, ap, append_assoc, append-nil, length-append, arith, if◌then◌else◌, ◌==◌, nat_eq}
-use Rattle.std.specs.List.{list_all, ends_with, position, position_or_len}
+use Rattle.std.specs.List.{list_all, position, position_or_len}
 use Rattle.std.specs.Cmp.Lexicographic.{pointwise}
-use Rattle.std.proofs.lemmas.Bool.{cond-true, cond-false, and_parts, not-true, false≢true, false_from_ne_true, ltb-true, ltb-false, eqb-true}
-use Rattle.std.proofs.lemmas.List.{drop_at, length_push, drop-drop, take_all, take-append-drop, drop_more, length-take-le}
+use Rattle.std.proofs.lemmas.Bool.{cond-true, cond-false, and_parts, not-true, ltb-true, ltb-false, eqb-true}
+use Rattle.std.proofs.lemmas.List.{drop_at, length_push, take_all, take-append-drop, drop_more, length-take-le}
 use Rattle.std.proofs.lemmas.List.Sums.{passes_at_first}
-use Rattle.std.proofs.lemmas.List.{length-drop}
-use Rattle.dump_io.specs.Lines.{lf, cr, text_of}
+use Rattle.dump_io.specs.Lines.{lf, text_of}
+use Rattle.line_source.specs.Laws.{text_of-open}
 use Rattle.line_source.specs.Streams.{has_lf, length_before_lf}
 use Rattle.dump_sections.specs.Versions.{first_line}
 use Rattle.section_index.specs.Inner.Beginning.{is_lf}
@@ -67,19 +67,6 @@ has_lf-open (c ∷ d ∷ line) lacks =
 
 has_lf-ended : (line : List ℕ) → has_lf (line ++ lf ∷ []) ≡ true
 has_lf-ended line = grind (arith, drop_at, length_push)
-
--- a line that ends with CR and LF ends with LF
-two-end : (bytes : List ℕ) → pointwise nat_eq (cr ∷ lf ∷ []) bytes ≡ true → (pointwise nat_eq (lf ∷ []) (drop 1 bytes) ≡ true) × (length bytes ≡ 2)
-two-end bytes is = grind arith
-
-has_lf-cr : (raw : List ℕ) → ends_with nat_eq raw (cr ∷ lf ∷ []) ≡ true → has_lf raw ≡ true
-has_lf-cr raw is =
-    let two = two-end (drop (length raw - 2) raw) is in
-    let place : length raw - 2 + 1 ≡ length raw - 1 = omega (arith, two.1, length-drop (length raw - 2) raw) in
-    cc (drop-drop 1 (length raw - 2) raw, two.0)
-
-text_of-open : (raw : List ℕ) → has_lf raw ≡ false → text_of raw ≡ raw
-text_of-open raw e = grind (arith, false_from_ne_true, false≢true, has_lf-cr, cond-false)
 
 -- a first line with its LF
 pub first_line-ended : (bytes more : List ℕ) (end : ℕ) → bytes ≡ take end bytes ++ lf ∷ drop (end + 1) bytes → lacks_lf (take end bytes) ≡ true

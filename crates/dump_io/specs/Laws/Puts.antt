@@ -121,7 +121,7 @@ Puts-behind {a = a} {b = b} {xs = xs} first second =
 
 -- A text for each element of a list: the texts before a place, the one at it, and those after it.
 
-flat_map-at : {X : Type 0} (text : X → List ℕ) (xs : List X) (i : ℕ) (x : X) → slice_get xs i ≡ Some x
+pub flat_map-at : {X : Type 0} (text : X → List ℕ) (xs : List X) (i : ℕ) (x : X) → slice_get xs i ≡ Some x
     → flat_map text xs ≡ flat_map text (take i xs) ++ (text x ++ flat_map text (drop (suc i) xs))
 flat_map-at text [] i x is = cc
 flat_map-at text (y ∷ xs) zero x is = let same : y ≡ x = cc in ap (λ z. text z ++ flat_map text xs) same
