@@ -4,24 +4,14 @@ ghost use Rattle.dump_io.specs.Dumps.{told, ReadsAtMost};
 ghost use Rattle.dump_sections.specs.Bodies.{section_at, body_length};
 ghost use Rattle.dump_sections.specs.Index.{IsBuiltOver, sections_in, state_of};
 ghost use Rattle.dump_sections.specs.Loading.{bodies_length, IsUnread};
-ghost use Rattle.dump_audit.specs.Findings.{is_cut};
 ghost use Rattle.audit_bodies.specs.Mailboxes.{mail_at, mail_in, mailboxes_at};
 ghost use Rattle.audit_bodies.specs.Inner.Mailboxes.{IsSmall, IsWithin};
 
+use dump_audit::is_cut;
 use dump_io::{Dumps, Limits};
-use dump_sections::{BodyFault, Index, State, read_body};
+use dump_sections::{BodyFault, Index, read_body};
 use root_views::messages;
 use std::alloc::Global;
-
-// Whether the dump is truncated in the section at a place.
-fn is_cut(index: &Index, i: usize) -> bool
-    ensures { result ≡ is_cut (state_of index.now.headers) i }
-{
-    match index.state() {
-        State::Whole => false,
-        State::TruncatedIn(last) => i == last,
-    }
-}
 
 // Loads the mailbox at a place, counts its messages, and
 // frees it. If the dump is truncated in it, it isn't counted.
@@ -39,7 +29,7 @@ fn count_at<D: Dumps>(
     ensures count { IfOk result (λ count. (bytes : List ℕ) → (D.state dumps.old).now ≡ told bytes → count ≡ mail_at bytes (state_of index.now.headers) (sections_in index.now) i) }
     ensures fault { IfErr result (IsUnread (D.state dumps.old) (D.state dumps.new)) }
 {
-    if is_cut(index, i) {
+    if is_cut(index.state(), i) {
         return Ok(None);
     }
     let body = read_body(alloc, dumps, index, i, limits)?;

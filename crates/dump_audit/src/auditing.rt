@@ -17,8 +17,8 @@ use link_graph::{Graph, is_local};
 use process_table::Procs;
 use std::alloc::{AllocError, Global};
 
-// Whether the dump is truncated in the section at this place.
-fn is_cut(state: State, section: usize) -> bool
+/// Whether a dump in this state is truncated in the section at a place.
+pub fn is_cut(state: State, section: usize) -> bool
     ensures { result ≡ is_cut state section }
 {
     match state {

@@ -9,5 +9,5 @@ mod linking;
 pub mod named;
 mod queues;
 
-pub use auditing::{audit, audit_full, audit_with};
+pub use auditing::{audit, audit_full, audit_with, is_cut};
 pub use finding::Finding;

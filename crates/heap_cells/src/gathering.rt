@@ -9,7 +9,7 @@ ghost use Rattle.heap_cells.specs.Inner.Parts.{IsPart};
 ghost use Rattle.heap_cells.specs.Inner.Texts.{text_of, seam_of};
 
 use crate::found::push_form;
-use crate::texts::{Texts, part};
+use crate::texts::Texts;
 use cell_records::{Arena, CellRecord, Kind};
 use field_lines::Line;
 use field_lines::reading::lines;
@@ -60,14 +60,16 @@ fn most_slots(g: &Gathering) -> usize
     }
 }
 
-// Gathers the cell of a heap line, given where the text of its form begins and ends.
+// Gathers the cell of a heap line, given the text of its form, and where that begins and ends.
 fn gather_cell(
     texts: &Texts,
     address: u64,
+    spelled: &[u8],
     from: usize,
     upto: usize,
     g: &mut Gathering,
 ) -> Result<(), AllocError>
+    requires spelled { spelled.now ≡ slice_range (text_of texts.now) from upto }
     requires part { IsPart (seam_of texts.now) (length (text_of texts.now)) from upto }
     requires small { length (text_of texts.now) ≤ 1073741824 }
     requires limit { g.old.dense ≤ 100000000 }
@@ -81,10 +83,9 @@ fn gather_cell(
         → Leads (text_of texts.now) texts.now.enc g.new rest all) }
 {
     form_is_read(texts.enc);
-    let text = part(texts, from, upto);
     let most = most_slots(g);
     let first = g.arena.slots.len();
-    let read = push_form(&mut g.arena.slots, text, texts.enc, from, most)?;
+    let read = push_form(&mut g.arena.slots, spelled, texts.enc, from, most)?;
     g.weight += 1 + read.count;
     if g.weight > u64::from(g.dense) {
         g.arena.slots.truncate(first);
@@ -116,7 +117,7 @@ fn gather_line(
         return Ok(());
     };
     let upto = base + line.at + line.text.len();
-    gather_cell(texts, address, upto - spelled.len(), upto, g)
+    gather_cell(texts, address, spelled, upto - spelled.len(), upto, g)
 }
 
 // Gathers the cells of all lines of a body that stands at a place of the text.

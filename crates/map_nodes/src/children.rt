@@ -20,8 +20,9 @@ pub enum MapChild {
     Bad(u64, Why),
 }
 
-// A cell as a child.
-fn member(heap: &Heap, ix: CellIx) -> MapChild
+/// A cell as a child of a hash map or of one of its inner nodes, for a caller
+/// that has the cell. Returns `Bad` exactly when it is no cons cell, node or tuple.
+pub fn member(heap: &Heap, ix: CellIx) -> MapChild
     requires { number ix < length heap.now.cells }
     ensures { IsMemberAt heap.now.cells (cell_member (address_of heap.now.cells (number ix)) (Some (form_at heap.now.cells (number ix)))) result }
 {

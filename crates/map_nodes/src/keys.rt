@@ -20,8 +20,9 @@ pub enum KeysAt {
     Bad(u64, Why),
 }
 
-// A cell as the tuple of `size` keys.
-fn tuple_of(heap: &Heap, ix: CellIx, size: u32) -> KeysAt
+/// A cell as the keys of a flat map that has `size` values, for a caller that
+/// has the cell. Returns `Bad` exactly when it isn't a tuple of `size` elements.
+pub fn keys_in(heap: &Heap, ix: CellIx, size: u32) -> KeysAt
     requires { number ix < length heap.now.cells }
     ensures { IsKeysAt heap.now.cells (cell_keys (address_of heap.now.cells (number ix)) size (Some (form_at heap.now.cells (number ix)))) result }
 {
@@ -50,6 +51,6 @@ pub fn keys_of(heap: &Heap, ix: CellIx) -> KeysAt
     match heap.slots(ix)[0] {
         Slot::Imm(_) => KeysAt::Bad(heap.addr(ix), Why::Malformed),
         Slot::Gone(addr) => KeysAt::Bad(addr, Why::Missing),
-        Slot::Cell(keys) => tuple_of(heap, keys, kids - 1),
+        Slot::Cell(keys) => keys_in(heap, keys, kids - 1),
     }
 }

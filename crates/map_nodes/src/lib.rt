@@ -2,11 +2,11 @@
 //!
 //! A flat map has its values, and a reference to the tuple of its keys, which several maps may share. A hash
 //! map has children: a cons cell is a pair of a key and a value, and a node or a tuple is an inner node with
-//! children of its own. Which cells lead to a map plays no part here, so neither call returns `Why::OnPath`.
+//! children of its own. Which cells lead to a map plays no part here, so no call returns `Why::OnPath`.
 #![tactic(auto)]
 
 mod children;
 mod keys;
 
-pub use children::{MapChild, child_of};
-pub use keys::{KeysAt, keys_of};
+pub use children::{MapChild, child_of, member};
+pub use keys::{KeysAt, keys_in, keys_of};

@@ -5,7 +5,6 @@ ghost use Rattle.dump_io.specs.Sinks.{Puts};
 ghost use Rattle.root_views.specs.Kinds.{roots_in};
 ghost use Rattle.root_views.specs.Seen.{content, root};
 ghost use Rattle.term_forms.specs.Seen.{element};
-ghost use Rattle.term_unfold.specs.Text.{reason};
 ghost use Rattle.term_unfold.specs.Walks.{judged_text};
 ghost use Rattle.term_text.specs.Inner.Headings.{root_heading};
 ghost use Rattle.term_text.specs.Roots.{answer_over, content_text, root_line, roots_report, term_report};
@@ -15,17 +14,7 @@ use heap_cells::Why;
 use report_lines::put_total_line;
 use root_views::{Root, RootKind, What};
 use term_forms::shapes::Elem;
-use term_unfold::{Verdict, Walker};
-
-fn why_text(why: Why) -> &'static [u8]
-    ensures { result.now ≡ reason why }
-{
-    match why {
-        Why::Missing => b"missing",
-        Why::Malformed => b"malformed",
-        Why::OnPath => b"onpath",
-    }
-}
+use term_unfold::{Verdict, Walker, why_text};
 
 fn put_bad<K: Sink>(sink: &mut K, addr: u64, why: Why) -> Result<(), Failed>
     ensures { Puts (K.state sink.old) (K.state sink.new) (judged_text (Verdict.Bad addr why) []) result }

@@ -303,27 +303,35 @@ tuple-keys-at b size (Some (Tuple elements)) c ks h = tuple-size (eqb (length el
 tuple-keys-at b size (Some form) c ks h = cc
 
 -- the keys are those of the tuple to which the keys element refers
+-- the keys of a flat map with values, from the cell to which its keys element refers
+keys-at : (heap : List Cell) (a k : ℕ) (form : Option HeapForm) → option_map kind_of form ≡ Some cell_kind.Flat → 2 ≤ length (elements_in form)
+    → target heap (get_or (elements_in form) 0 Nil) ≡ At k → form_keys heap a form ≡ cell_keys (address_of heap k) (length (elements_in form) - 1) (Some (form_at heap k))
+keys-at heap a k form h some leads =
+    let to = leads-at heap k (get_or (elements_in form) 0 Nil) leads in
+    let size = length (elements_in form) - 1 in
+    keys-some heap a form h some ∙ ap (element_keys heap a size) to.element ∙ ap (cell_keys (address_of heap k) size) to.form
+
 pub flat-keyed : (heap : List Cell) (path : List ℕ) (a k c : ℕ) (ks : List Element) (form : Option HeapForm) → option_map kind_of form ≡ Some cell_kind.Flat → 2 ≤ length (elements_in form)
-    → target heap (get_or (elements_in form) 0 Nil) ≡ At k → is_on (address_of heap k) (a ∷ path) ≡ false → form_keys heap a form ≡ keys_at c ks
+    → target heap (get_or (elements_in form) 0 Nil) ≡ At k → is_on (address_of heap k) (a ∷ path) ≡ false
+    → cell_keys (address_of heap k) (length (elements_in form) - 1) (Some (form_at heap k)) ≡ keys_at c ks
     → cell_opening heap path a (Some form) ≡ node a kinds.Flat (flat_kids heap (elements_in form))
 flat-keyed heap path a k c ks form h some leads off keys =
     let to = leads-at heap k (get_or (elements_in form) 0 Nil) leads in
     let elements = elements_in form in
     let size = length elements - 1 in
-    let tuple : cell_keys (address_of heap k) size (Some (form_at heap k)) ≡ keys_at c ks
-    = sym (keys-some heap a form h some ∙ ap (element_keys heap a size) to.element ∙ ap (cell_keys (address_of heap k) size) to.form) ∙ keys in
     flat-ref heap path a (address_of heap k) form (Some (form_at heap k)) h some to.element to.form
     ∙ ap (λ x. cond x (bad (address_of heap k) OnPath) (keyed a (drop 1 elements) (cell_keys (address_of heap k) size (Some (form_at heap k))))) off
-    ∙ ap (keyed a (drop 1 elements)) tuple
-    ∙ ap (λ l. node a kinds.Flat (pairs l (drop 1 elements))) (sym (tuple-keys-at (address_of heap k) size (form_at heap k) c ks tuple))
+    ∙ ap (keyed a (drop 1 elements)) keys
+    ∙ ap (λ l. node a kinds.Flat (pairs l (drop 1 elements))) (sym (tuple-keys-at (address_of heap k) size (form_at heap k) c ks keys))
     ∙ ap (node a kinds.Flat) (sym (flat_kids-at heap elements k (omega (arith, some)) leads))
 
 pub flat-bad : (heap : List Cell) (path : List ℕ) (a k c : ℕ) (why : Why) (form : Option HeapForm) → option_map kind_of form ≡ Some cell_kind.Flat → 2 ≤ length (elements_in form)
-    → target heap (get_or (elements_in form) 0 Nil) ≡ At k → is_on (address_of heap k) (a ∷ path) ≡ false → form_keys heap a form ≡ bad_keys c why → cell_opening heap path a (Some form) ≡ bad c why
+    → target heap (get_or (elements_in form) 0 Nil) ≡ At k → is_on (address_of heap k) (a ∷ path) ≡ false
+    → cell_keys (address_of heap k) (length (elements_in form) - 1) (Some (form_at heap k)) ≡ bad_keys c why → cell_opening heap path a (Some form) ≡ bad c why
 flat-bad heap path a k c why form h some leads off keys =
     let to = leads-at heap k (get_or (elements_in form) 0 Nil) leads in
     flat-some heap path a form h some
-    ∙ ap (λ x. unless_on (a ∷ path) (get_or (elements_in form) 0 Nil) (keyed a (drop 1 (elements_in form)) x)) keys
+    ∙ ap (λ x. unless_on (a ∷ path) (get_or (elements_in form) 0 Nil) (keyed a (drop 1 (elements_in form)) x)) (keys-at heap a k form h some leads ∙ keys)
     ∙ ap (λ e. unless_on (a ∷ path) e (bad c why)) to.element
     ∙ ap (λ x. cond x (bad (address_of heap k) OnPath) (bad c why)) off
 
@@ -337,13 +345,8 @@ no-form k size None h = cc
 no-form k size (Some (Tuple elements)) h = no-tuple (eqb (length elements) size) k elements h
 no-form k size (Some form) h = cc
 
-pub flat-no_keys : {X : Type 0} (heap : List Cell) (a k : ℕ) (form : Option HeapForm) → option_map kind_of form ≡ Some cell_kind.Flat → 2 ≤ length (elements_in form) → target heap (get_or (elements_in form) 0 Nil) ≡ At k
-    → form_keys heap a form ≡ no_keys → X
-flat-no_keys heap a k form h some leads none =
-    let to = leads-at heap k (get_or (elements_in form) 0 Nil) leads in
-    let size = length (elements_in form) - 1 in
-    no-form (address_of heap k) size (form_at heap k)
-    (sym (keys-some heap a form h some ∙ ap (element_keys heap a size) to.element ∙ ap (cell_keys (address_of heap k) size) to.form) ∙ none)
+pub flat-no_keys : {X : Type 0} (heap : List Cell) (k size : ℕ) → cell_keys (address_of heap k) size (Some (form_at heap k)) ≡ no_keys → X
+flat-no_keys heap k size none = no-form (address_of heap k) size (form_at heap k) none
 
 -- items
 

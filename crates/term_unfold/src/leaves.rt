@@ -22,7 +22,8 @@ use hex::encode_to_slice;
 use term_forms::shapes::{Elem, Form};
 use term_forms::{Enc, payload_part};
 
-fn why_text(why: Why) -> &'static [u8]
+/// The word for why an address is bad.
+pub fn why_text(why: Why) -> &'static [u8]
     ensures { result.now ≡ reason why }
 {
     match why {

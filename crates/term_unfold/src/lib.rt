@@ -14,6 +14,7 @@ mod verdict;
 mod walker;
 
 pub use laws::{inner_node_is_its_children, text_is_of_first_nodes, unfolding_is_finite};
+pub use leaves::why_text;
 pub use node::NodeKind;
 pub use verdict::Verdict;
 pub use walker::Walker;

@@ -16,7 +16,7 @@ use crate::children::Child;
 use crate::node::NodeKind;
 use crate::path::Path;
 use heap_cells::{CellIx, Heap, Kind, Seat, Slot, Why};
-use map_nodes::{KeysAt, MapChild, child_of, keys_of};
+use map_nodes::{KeysAt, MapChild, keys_in, member};
 use term_forms::shapes::Elem;
 
 /// What a child is, below the cells that the walk is in.
@@ -71,7 +71,7 @@ fn open_keyed(heap: &Heap, path: &Path, ix: CellIx, keys: CellIx) -> Opened
     if is_open(heap, path, keys) {
         return Opened::Bad(heap.addr(keys), Why::OnPath);
     }
-    match keys_of(heap, ix) {
+    match keys_in(heap, keys, heap.kids(ix) - 1) {
         KeysAt::None => Opened::Node(ix, NodeKind::Flat),
         KeysAt::Keys(_) => Opened::Node(ix, NodeKind::Flat),
         KeysAt::Bad(addr, why) => Opened::Bad(addr, why),
@@ -146,7 +146,7 @@ fn open_member(heap: &Heap, path: &Path, parent: CellIx, place: u32, ix: CellIx)
     if is_open(heap, path, ix) {
         return Opened::Bad(heap.addr(ix), Why::OnPath);
     }
-    match child_of(heap, parent, place) {
+    match member(heap, ix) {
         MapChild::Pair(_) => Opened::Node(ix, NodeKind::Pair),
         MapChild::Inner(_) => Opened::Node(ix, NodeKind::Inner),
         MapChild::Bad(addr, why) => Opened::Bad(addr, why),

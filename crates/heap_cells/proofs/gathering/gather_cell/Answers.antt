@@ -24,29 +24,29 @@ count-few text enc from upto part read law is read_is =
 pub overflow_add-g : goal.overflow_add-g
 overflow_add-g c =
     let texts = c.args.texts.now in
-    let few = count-few (text_of texts) texts.enc c.args.from c.args.upto c.part-text.result.now c.in_ok-read.read (λ f. (c.form_is_read.ensures.found c.part-text.result.now f).0)
-    c.part-text.ensures c.in_ok-read.ensures.read in
+    let few = count-few (text_of texts) texts.enc c.args.from c.args.upto c.args.spelled.now c.in_ok-read.read (λ f. (c.form_is_read.ensures.found c.args.spelled.now f).0)
+    c.requires.spelled c.in_ok-read.ensures.read in
     omega (arith, few, c.requires.room)
 
 pub overflow_add-g-2 : goal.overflow_add-g-2
 overflow_add-g-2 c =
     let texts = c.args.texts.now in
-    let few = count-few (text_of texts) texts.enc c.args.from c.args.upto c.part-text.result.now c.in_ok-read.read (λ f. (c.form_is_read.ensures.found c.part-text.result.now f).0)
-    c.part-text.ensures c.in_ok-read.ensures.read in
+    let few = count-few (text_of texts) texts.enc c.args.from c.args.upto c.args.spelled.now c.in_ok-read.read (λ f. (c.form_is_read.ensures.found c.args.spelled.now f).0)
+    c.requires.spelled c.in_ok-read.ensures.read in
     omega (arith, few, c.requires.room)
 
 pub returns-then-g-from-clause-weight : goal.returns-then-g-from-clause-weight
 returns-then-g-from-clause-weight c =
     let texts = c.args.texts.now in
-    let few = count-few (text_of texts) texts.enc c.args.from c.args.upto c.part-text.result.now c.in_ok-read.read (λ f. (c.form_is_read.ensures.found c.part-text.result.now f).0)
-    c.part-text.ensures c.in_ok-read.ensures.read in
+    let few = count-few (text_of texts) texts.enc c.args.from c.args.upto c.args.spelled.now c.in_ok-read.read (λ f. (c.form_is_read.ensures.found c.args.spelled.now f).0)
+    c.requires.spelled c.in_ok-read.ensures.read in
     omega (arith, few)
 
 pub returns-clause-weight : goal.returns-clause-weight
 returns-clause-weight c =
     let texts = c.args.texts.now in
-    let few = count-few (text_of texts) texts.enc c.args.from c.args.upto c.part-text.result.now c.in_ok-read.read (λ f. (c.form_is_read.ensures.found c.part-text.result.now f).0)
-    c.part-text.ensures c.in_ok-read.ensures.read in
+    let few = count-few (text_of texts) texts.enc c.args.from c.args.upto c.args.spelled.now c.in_ok-read.read (λ f. (c.form_is_read.ensures.found c.args.spelled.now f).0)
+    c.requires.spelled c.in_ok-read.ensures.read in
     omega (arith, few)
 
 pub returns-clause-gathered : goal.returns-clause-gathered
@@ -56,9 +56,9 @@ returns-clause-gathered c =
     let new : Gathering = record { arena = record { cells = c.push_record.new.cells; slots = c.push_form.new.slots }; weight = old.weight + (1 + c.in_ok-read.read.count); dense = old.dense } in
     IfOk-weaker c.push_record.result _ _
     (λ u cells.
-    gathered-more (text_of texts) (seam_of texts) texts.enc c.args.address c.args.from c.args.upto c.most_slots-most.result c.part-text.result.now c.in_ok-read.read old new c.requires.part
+    gathered-more (text_of texts) (seam_of texts) texts.enc c.args.address c.args.from c.args.upto c.most_slots-most.result c.args.spelled.now c.in_ok-read.read old new c.requires.part
     (record {
-      part_is = c.part-text.ensures;
+      part_is = c.requires.spelled;
       read_is = c.in_ok-read.ensures.read;
       into = c.in_ok-read.ensures.pushed;
       cells_are = cells ∙ ap (λ n. old.arena.cells.items ++ new_record c.args.address c.args.from c.args.upto n c.in_ok-read.read.kind ∷ []) (c.len-first.ensures ∙ old.arena.slots.ok.0);
@@ -76,9 +76,9 @@ returns-clause-leads c =
     let new : Gathering = record { arena = record { cells = c.push_record.new.cells; slots = c.push_form.new.slots }; weight = old.weight + (1 + c.in_ok-read.read.count); dense = old.dense } in
     IfOk-weaker c.push_record.result _ _
     (λ u cells rest all.
-    leads-more (text_of texts) texts.enc c.args.address c.args.from c.args.upto c.most_slots-most.result c.part-text.result.now c.in_ok-read.read old new rest all c.requires.part.ordered
+    leads-more (text_of texts) texts.enc c.args.address c.args.from c.args.upto c.most_slots-most.result c.args.spelled.now c.in_ok-read.read old new rest all c.requires.part.ordered
     (record {
-      part_is = c.part-text.ensures;
+      part_is = c.requires.spelled;
       read_is = c.in_ok-read.ensures.read;
       into = c.in_ok-read.ensures.pushed;
       cells_are = cells ∙ ap (λ n. old.arena.cells.items ++ new_record c.args.address c.args.from c.args.upto n c.in_ok-read.read.kind ∷ []) (c.len-first.ensures ∙ old.arena.slots.ok.0);

@@ -9,6 +9,11 @@ use Rattle.heap_cells.specs.Inner.Texts.{text_of}
 use Rattle.heap_cells.proofs.GatheringFacts.{behind-colon, line-cells}
 use Rattle.heap_cells.proofs.gathering.gather_line.Goals as goal
 
+pub gather_cell-requires-clause-spelled : goal.gather_cell-requires-clause-spelled
+gather_cell-requires-clause-spelled c =
+    let line = shown_line c.args.line.now in
+    sym (behind-colon (text_of c.args.texts.now) (c.args.base + c.args.line.now.at) line.text c.in-Some.address c.in-Some.spelled.now c.requires.line.stands c.in-Some.ensures.found)
+
 pub returns-clause-leads : goal.returns-clause-leads
 returns-clause-leads c =
     let texts = c.args.texts.now in

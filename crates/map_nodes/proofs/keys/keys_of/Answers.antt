@@ -11,7 +11,7 @@ pub returns-in-Cell : goal.returns-in-Cell
 returns-in-Cell c =
     let heap = c.args.heap.now.cells in
     let n = number c.args.ix in
-    subst (λ keys. IsKeysAt heap keys c.tuple_of.result)
+    subst (λ keys. IsKeysAt heap keys c.keys_in.result)
     (sym (cell-keyed heap n (number c.in-Cell.keys) (c.kids-kids.result - 1) c.requires.flat (omega (arith, c.if-kids-lt2.false, c.kids-kids.ensures)) (ap (λ k. k - 1) c.kids-kids.ensures)
     (slot-leads heap c.slots.result.now (elements_at heap n) 0 (slot.Cell c.in-Cell.keys) c.slots.ensures.targets c.in-Cell.is)))
-    c.tuple_of.ensures
+    c.keys_in.ensures

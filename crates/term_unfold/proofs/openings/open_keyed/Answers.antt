@@ -1,13 +1,19 @@
-use Rattle.std.proofs.Common.{◌≡◌, ◌||◌, refl, sym, ◌∙◌, ap}
+use Rattle.std.proofs.Common.{◌≡◌, ℕ, ◌-◌, ◌||◌, List, Some, refl, sym, ◌∙◌, ap}
 use Rattle.std.proofs.lemmas.Bool.{eq-eqb}
 use Rattle.heap_cells.specs.Targets.{number}
 use Rattle.cell_records.specs.declared.cells.Why.TheVariants.{OnPath}
 use Rattle.map_nodes.specs.Laws.Targets.{address-is}
-use Rattle.map_nodes.specs.Rules.{address_of}
+use Rattle.heap_cells.specs.Cells.{Cell}
+use Rattle.heap_cells.specs.HeapMap.{form_at}
+use Rattle.map_nodes.specs.Rules.{Keys, address_of, cell_keys}
 use Rattle.term_unfold.specs.Inner.Entries.{path_of}
 use Rattle.term_unfold.specs.Rules.{bad, is_on}
 use Rattle.term_unfold.proofs.Opens.{on-longer, off-longer, off-other, term-at, flat-on, flat-keyed, flat-bad, flat-no_keys}
 use Rattle.term_unfold.proofs.openings.open_keyed.Goals as goal
+
+-- what the cell with a number gives as the keys of a map of so many elements
+abbrev keys_of_size : List Cell → ℕ → ℕ → Keys
+keys_of_size heap k elements = cell_keys (address_of heap k) (elements - 1) (Some (form_at heap k))
 
 pub returns-then-number : goal.returns-then-number
 returns-then-number c =
@@ -32,14 +38,14 @@ returns-then-is_open c =
     }
 
 pub returns-in-None : goal.returns-in-None
-returns-in-None c = flat-no_keys c.args.heap.now.cells _ (number c.args.keys) _ c.requires.flat c.requires.some c.requires.leads c.in-None.ensures
+returns-in-None c = flat-no_keys c.args.heap.now.cells (number c.args.keys) _ c.in-None.ensures
 
 pub returns-in-Keys : goal.returns-in-Keys
 returns-in-Keys c =
     let others = off-longer _ _ _ (off-other _ _ _ c.requires.serves.bounded.distinct c.requires.keys c.requires.cell
     (λ e. c.if-number.false (c.number.ensures ∙ e ∙ sym c.number-2.ensures))) (sym c.is_open.ensures.on ∙ c.if-is_open.false) in
     record {
-      found_is = record { cell = c.requires.cell; fits = refl; opens = term-at _ _ _ c.requires.off c.requires.serves.bounded.distinct c.requires.cell ∙ flat-keyed _ _ _ _ _ _ _ c.requires.flat c.requires.some c.requires.leads others c.in-Keys.ensures.are };
+      found_is = record { cell = c.requires.cell; fits = refl; opens = term-at _ _ _ c.requires.off c.requires.serves.bounded.distinct c.requires.cell ∙ flat-keyed _ _ _ _ _ _ _ c.requires.flat c.requires.some c.requires.leads others (ap (keys_of_size c.args.heap.now.cells (number c.args.keys)) (sym c.kids.ensures) ∙ c.in-Keys.ensures.are) };
       enters = c.requires.line;
     }
 
@@ -48,6 +54,6 @@ returns-in-Bad c =
     let others = off-longer _ _ _ (off-other _ _ _ c.requires.serves.bounded.distinct c.requires.keys c.requires.cell
     (λ e. c.if-number.false (c.number.ensures ∙ e ∙ sym c.number-2.ensures))) (sym c.is_open.ensures.on ∙ c.if-is_open.false) in
     record {
-      found_is = term-at _ _ _ c.requires.off c.requires.serves.bounded.distinct c.requires.cell ∙ flat-bad _ _ _ _ _ _ _ c.requires.flat c.requires.some c.requires.leads others c.in-Bad.ensures;
+      found_is = term-at _ _ _ c.requires.off c.requires.serves.bounded.distinct c.requires.cell ∙ flat-bad _ _ _ _ _ _ _ c.requires.flat c.requires.some c.requires.leads others (ap (keys_of_size c.args.heap.now.cells (number c.args.keys)) (sym c.kids.ensures) ∙ c.in-Bad.ensures);
       enters = tt;
     }

@@ -3,7 +3,7 @@ use Rattle.heap_cells.specs.Targets.{number}
 use Rattle.cell_records.specs.declared.cells.Why.TheVariants.{OnPath}
 use Rattle.map_nodes.specs.Laws.Targets.{address-is}
 use Rattle.term_unfold.specs.Rules.{bad, item_opening}
-use Rattle.term_unfold.proofs.Opens.{item-on, item-at, member-at, pair-opens, inner-opens}
+use Rattle.term_unfold.proofs.Opens.{item-on, item-at, pair-opens, inner-opens}
 use Rattle.term_unfold.proofs.openings.open_member.Goals as goal
 
 pub returns-then-is_open : goal.returns-then-is_open
@@ -21,7 +21,7 @@ returns-in-Pair c =
     let k = number c.args.ix in
     let off = item-at heap _ _ k _ c.requires.leads (sym c.is_open.ensures.on ∙ c.if-is_open.false) in
     record {
-      found_is = record { cell = c.requires.cell; fits = refl; opens = off ∙ pair-opens _ _ _ _ _ (sym (member-at heap _ k _ c.requires.leads) ∙ c.in-Pair.ensures.is) };
+      found_is = record { cell = c.requires.cell; fits = refl; opens = off ∙ pair-opens _ _ _ _ _ c.in-Pair.ensures.is };
       enters = c.is_open.ensures.line c.if-is_open.false;
     }
 
@@ -31,7 +31,7 @@ returns-in-Inner c =
     let k = number c.args.ix in
     let off = item-at heap _ _ k _ c.requires.leads (sym c.is_open.ensures.on ∙ c.if-is_open.false) in
     record {
-      found_is = record { cell = c.requires.cell; fits = refl; opens = off ∙ inner-opens _ _ _ _ (sym (member-at heap _ k _ c.requires.leads) ∙ c.in-Inner.ensures.is) };
+      found_is = record { cell = c.requires.cell; fits = refl; opens = off ∙ inner-opens _ _ _ _ c.in-Inner.ensures.is };
       enters = c.is_open.ensures.line c.if-is_open.false;
     }
 
@@ -40,6 +40,6 @@ returns-in-Bad c =
     let heap = c.args.heap.now.cells in
     let k = number c.args.ix in
     record {
-      found_is = item-at heap _ _ k _ c.requires.leads (sym c.is_open.ensures.on ∙ c.if-is_open.false) ∙ ap item_opening (sym (member-at heap _ k _ c.requires.leads) ∙ c.in-Bad.ensures);
+      found_is = item-at heap _ _ k _ c.requires.leads (sym c.is_open.ensures.on ∙ c.if-is_open.false) ∙ ap item_opening c.in-Bad.ensures;
       enters = tt;
     }
