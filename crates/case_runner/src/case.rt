@@ -27,17 +27,16 @@ impl Bounds {
         }
     }
 
-    /// The limits with these numbers, or the usual ones if `Limits::new` rejects these.
-    pub fn limits(&self) -> Limits {
-        let limits = Limits::new(
+    /// The limits with these numbers, if they are limits.
+    pub fn limits(&self) -> Option<Limits> {
+        Limits::new(
             self.dump,
             self.header,
             self.sections,
             self.pool,
             self.section,
             self.dense,
-        );
-        limits.unwrap_or(Limits::usual())
+        )
     }
 
     // Lowers the limit with this name. Returns `None` if there
@@ -128,11 +127,21 @@ impl Case {
         if let Some(kind) = word.strip_prefix('!') {
             return put_expected(&mut self.err, kind, rest);
         }
-        if word == "words" {
-            self.take_words(alloc, rest)?;
-            return Ok(true);
+        match word {
+            "words" => self.take_words(alloc, rest)?,
+            "heap" => self.take_heap(alloc, rest)?,
+            _ => return Ok(self.take_setting(word, rest).is_some()),
         }
-        Ok(self.take_setting(word, rest).is_some())
+        Ok(true)
+    }
+
+    // Begins a dump of a version with a process and the header of its heap.
+    fn take_heap(&mut self, alloc: Global, version: &str) -> Result<(), AllocError> {
+        self.begin_dump();
+        let lines = format!(in alloc;
+            "=erl_crash_dump:{version}\n=proc:<0.1.0>\n=proc_heap:<0.1.0>\n"
+        )?;
+        self.dump.extend_from_slice(lines.as_bytes())
     }
 
     fn take_words(&mut self, alloc: Global, rest: &str) -> Result<(), AllocError> {
@@ -142,14 +151,20 @@ impl Case {
         Ok(())
     }
 
+    // Lowers a limit. Returns `None` if there is no such limit, or if it may not have this number.
+    fn take_limit(&mut self, rest: &str) -> Option<()> {
+        let (name, number) = rest.split_once(' ')?;
+        let mut bounds = self.bounds;
+        bounds.lower(name, dec_u64(number.as_bytes())?)?;
+        bounds.limits()?;
+        self.bounds = bounds;
+        Some(())
+    }
+
     // Returns `None` if there is no such setting.
     fn take_setting(&mut self, word: &str, rest: &str) -> Option<()> {
         match word {
-            "limit" => {
-                let (name, number) = rest.split_once(' ')?;
-                let number = dec_u64(number.as_bytes())?;
-                self.bounds.lower(name, number)?;
-            }
+            "limit" => self.take_limit(rest)?,
             "taken" => self.taken = dec_u64(rest.as_bytes())?,
             "status" => self.status = dec_u64(rest.as_bytes())?,
             "once" => self.is_once = true,

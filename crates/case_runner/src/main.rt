@@ -16,12 +16,14 @@
 //! ! an expected line of standard error
 //! ```
 //!
-//! The dump is the file `F`. In a line of the dump, or of what is expected, one letter may follow
+//! The dump is the file `F`. `heap 0.5` stands for its first three lines: that of this version, that of the process
+//! `<0.1.0>`, and the header of its heap. In a line of the dump, or of what is expected, one letter may follow
 //! the sign: with `-` the line lacks its LF, and `r` ends it with CR and LF; `h 1F 8B` stands for
 //! these bytes, `x 4095` for that many letters `x`, and `k 3 TEXT` for the text that many times:
 //! in a dump as lines, where `@0` stands for 16 times the line's number in hex and `@1` for 16
 //! more, and in what is expected without LF. A case without a line of a dump runs on that of the
 //! case before. `limit` lowers one limit, and `taken` is the most bytes that the device gives.
+//! Of a case that doesn't pass, the first run that failed is shown beside what the case expects.
 //!
 //! Each case runs with reads and writes of several sizes, and must end alike. Then each call of
 //! the device fails once, which must end with the status of a read fault and nothing written;

@@ -2,7 +2,7 @@
 use crate::case::Case;
 use dump_command::run;
 use dump_command::status::UNREAD;
-use dump_io::{MemDumps, MemSink};
+use dump_io::{Limits, MemDumps, MemSink};
 use std::alloc::{AllocError, Global};
 
 /// How a run is hindered: to how many bytes its reads are cut, which call of the device fails, how many
@@ -48,6 +48,17 @@ impl Outcome {
     }
 }
 
+/// A run that didn't end as it must.
+#[derive(Drop)]
+pub struct Failure {
+    pub hindrance: Hindrance,
+    /// How many bytes of the case's dump it ran on.
+    pub length: usize,
+    pub end: Outcome,
+    /// How it had to end.
+    pub wanted: &'static str,
+}
+
 fn dumps_of(alloc: Global, dump: &[u8], hindrance: &Hindrance) -> Result<MemDumps, AllocError> {
     let fails = [hindrance.failing_call];
     match hindrance.cut {
@@ -73,7 +84,8 @@ pub fn run_on(
     let failing_err = vec![in alloc; hindrance.failing_err]?;
     let mut out = MemSink::new(alloc, hindrance.step, failing_out);
     let mut err = MemSink::new(alloc, hindrance.step, failing_err);
-    let limits = case.bounds.limits();
+    // A case has no bounds that are no limits.
+    let limits = case.bounds.limits().unwrap_or(Limits::usual());
     let status = run(
         alloc,
         case.words.as_slice(),

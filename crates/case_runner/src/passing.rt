@@ -1,6 +1,6 @@
 // Whether a case ends as it must, however it is hindered.
 use crate::case::Case;
-use crate::outcome::{Hindrance, NONE, run_case, run_on};
+use crate::outcome::{Failure, Hindrance, NONE, Outcome, run_case, run_on};
 use dump_command::status::{DONE, FOUND, UNREAD, UNWRITTEN};
 use std::alloc::{AllocError, Global};
 
@@ -13,23 +13,39 @@ const FIRST_CALLS: u64 = 8;
 // The most calls and writes that fail in turn.
 const MOST: usize = 1_000;
 
-// Whether the case ends alike with reads and writes of several sizes, and takes no more bytes than it may.
-fn passes_cuts(alloc: Global, case: &Case) -> Result<bool, AllocError> {
+// How a run must end that nothing hinders.
+const AS_EXPECTED: &str = "as the case says";
+
+// A run of the whole case that had to end in another way.
+fn failure(
+    case: &Case,
+    hindrance: Hindrance,
+    end: Outcome,
+    wanted: &'static str,
+) -> Option<Failure> {
+    Some(Failure {
+        hindrance,
+        length: case.dump.len(),
+        end,
+        wanted,
+    })
+}
+
+// The first of several sizes of reads and writes with which the
+// case ends in another way, or takes more bytes than it may.
+fn fails_cuts(alloc: Global, case: &Case) -> Result<Option<Failure>, AllocError> {
     for cut in CUTS {
-        let end = run_case(
-            alloc,
-            case,
-            &Hindrance {
-                cut,
-                step: cut,
-                ..NONE
-            },
-        )?;
+        let cutting = Hindrance {
+            cut,
+            step: cut,
+            ..NONE
+        };
+        let end = run_case(alloc, case, &cutting)?;
         if !end.is(case.status, &case.out, &case.err) || end.taken > case.taken {
-            return Ok(false);
+            return Ok(failure(case, cutting, end, AS_EXPECTED));
         }
     }
-    Ok(true)
+    Ok(None)
 }
 
 // Whether the case opens its dump and reads all that it asks for.
@@ -38,9 +54,9 @@ fn reads_all(case: &Case) -> bool {
     is_done && case.taken > 0
 }
 
-// How many calls of the device end the case with a read fault when
-// one of them fails; `None` if the case ends in another way then.
-fn failing_calls(alloc: Global, case: &Case, cut: usize) -> Result<Option<u64>, AllocError> {
+// Lets one call of the device fail after another. Each must end the case with a read fault, until the
+// case ends alike since it makes fewer calls; one that reads all that it asks for makes at least two.
+fn fails_calls_cut(alloc: Global, case: &Case, cut: usize) -> Result<Option<Failure>, AllocError> {
     for failing_call in 1..MOST as u64 {
         let failing = Hindrance {
             cut,
@@ -49,30 +65,40 @@ fn failing_calls(alloc: Global, case: &Case, cut: usize) -> Result<Option<u64>, 
         };
         let end = run_case(alloc, case, &failing)?;
         if !end.is_unread(case) {
-            let is_alike = end.is(case.status, &case.out, &case.err);
-            return Ok(is_alike.then_some(failing_call - 1));
+            if failing_call > 2 || !reads_all(case) {
+                if end.is(case.status, &case.out, &case.err) {
+                    return Ok(None);
+                }
+            }
+            return Ok(failure(
+                case,
+                failing,
+                end,
+                "with a read fault, or as the case says behind its last call",
+            ));
+        }
+    }
+    let end = run_case(alloc, case, &NONE)?;
+    Ok(failure(case, NONE, end, "after fewer calls of the device"))
+}
+
+// The same with reads as long as they come and with some forty reads
+// of the dump. A case that isn't done may end before its first read.
+fn fails_calls(alloc: Global, case: &Case) -> Result<Option<Failure>, AllocError> {
+    if case.status == u64::from(UNREAD) {
+        return Ok(None);
+    }
+    for cut in [0, case.dump.len() / 40 + 1] {
+        let failed = fails_calls_cut(alloc, case, cut)?;
+        if failed.is_some() {
+            return Ok(failed);
         }
     }
     Ok(None)
 }
 
-// Whether the case ends with a read fault when one of the device's calls fails, with reads as long as
-// they come and with some forty reads of the dump. A case that isn't done may end before its first read.
-fn passes_calls(alloc: Global, case: &Case) -> Result<bool, AllocError> {
-    if case.status == u64::from(UNREAD) {
-        return Ok(true);
-    }
-    for cut in [0, case.dump.len() / 40 + 1] {
-        match failing_calls(alloc, case, cut)? {
-            Some(count) if count >= 2 || !reads_all(case) => {}
-            _ => return Ok(false),
-        }
-    }
-    Ok(true)
-}
-
 // The same with reads of one byte, for the first calls; if none of them fails, the case ends alike.
-fn passes_first_calls(alloc: Global, case: &Case) -> Result<bool, AllocError> {
+fn fails_first_calls(alloc: Global, case: &Case) -> Result<Option<Failure>, AllocError> {
     for failing_call in 1..=FIRST_CALLS {
         let failing = Hindrance {
             cut: 1,
@@ -81,10 +107,10 @@ fn passes_first_calls(alloc: Global, case: &Case) -> Result<bool, AllocError> {
         };
         let end = run_case(alloc, case, &failing)?;
         if !end.is_unread(case) && (reads_all(case) || !end.is(case.status, &case.out, &case.err)) {
-            return Ok(false);
+            return Ok(failure(case, failing, end, "with a read fault"));
         }
     }
-    Ok(true)
+    Ok(None)
 }
 
 // The first `count` bytes of a text, if it has that many.
@@ -92,8 +118,8 @@ fn front(text: &[u8], count: usize) -> &[u8] {
     text.get(..count).unwrap_or(text)
 }
 
-// Whether, for each write that fails, the bytes before it are in `out`.
-fn passes_writes(alloc: Global, case: &Case) -> Result<bool, AllocError> {
+// The first write that fails and leaves other bytes in `out` than those before it.
+fn fails_writes(alloc: Global, case: &Case) -> Result<Option<Failure>, AllocError> {
     for written in 0..case.out.len().min(MOST) {
         let failing = Hindrance {
             step: 1,
@@ -102,14 +128,19 @@ fn passes_writes(alloc: Global, case: &Case) -> Result<bool, AllocError> {
         };
         let end = run_case(alloc, case, &failing)?;
         if !end.is(u64::from(UNWRITTEN), front(&case.out, written), b"") {
-            return Ok(false);
+            return Ok(failure(
+                case,
+                failing,
+                end,
+                "with the bytes before the write that failed",
+            ));
         }
     }
-    Ok(true)
+    Ok(None)
 }
 
 // The same for `err`.
-fn passes_lines(alloc: Global, case: &Case) -> Result<bool, AllocError> {
+fn fails_lines(alloc: Global, case: &Case) -> Result<Option<Failure>, AllocError> {
     for written in 0..case.err.len().min(MOST) {
         let failing = Hindrance {
             step: 1,
@@ -118,16 +149,24 @@ fn passes_lines(alloc: Global, case: &Case) -> Result<bool, AllocError> {
         };
         let end = run_case(alloc, case, &failing)?;
         if !end.is(u64::from(UNWRITTEN), b"", front(&case.err, written)) {
-            return Ok(false);
+            return Ok(failure(
+                case,
+                failing,
+                end,
+                "with the bytes before the write that failed",
+            ));
         }
     }
-    Ok(true)
+    Ok(None)
 }
 
-// Whether the case ends as it must when nothing hinders it.
-fn passes_once(alloc: Global, case: &Case) -> Result<bool, AllocError> {
+// The run that nothing hinders, if it ends in another way.
+fn fails_once(alloc: Global, case: &Case) -> Result<Option<Failure>, AllocError> {
     let end = run_case(alloc, case, &NONE)?;
-    Ok(end.is(case.status, &case.out, &case.err) && end.taken <= case.taken)
+    if end.is(case.status, &case.out, &case.err) && end.taken <= case.taken {
+        return Ok(None);
+    }
+    Ok(failure(case, NONE, end, AS_EXPECTED))
 }
 
 // The last line of a text, without its LF.
@@ -146,32 +185,50 @@ fn ends_as(text: &[u8], expected: &[u8]) -> bool {
     text.is_empty() == expected.is_empty() && last_line(text).starts_with(expected)
 }
 
-// Whether the case ends as it must on each prefix of its dump with a length in this range.
-fn passes_fronts(alloc: Global, case: &Case, from: usize, upto: usize) -> Result<bool, AllocError> {
+// The first prefix of the dump, of those with a length in this range, on which the case ends in another way.
+fn fails_fronts(
+    alloc: Global,
+    case: &Case,
+    from: usize,
+    upto: usize,
+) -> Result<Option<Failure>, AllocError> {
     for length in from..upto {
         let end = run_on(alloc, case, front(&case.dump, length), &NONE)?;
         let is_alike = end.status == case.status
             && ends_as(end.out.written(), &case.out)
             && ends_as(end.err.written(), &case.err);
         if !is_alike {
-            return Ok(false);
+            return Ok(Some(Failure {
+                hindrance: NONE,
+                length,
+                end,
+                wanted: "with a line that begins as the case says",
+            }));
         }
     }
-    Ok(true)
+    Ok(None)
 }
 
-/// Whether the case passes.
-pub fn passes(alloc: Global, case: &Case) -> Result<bool, AllocError> {
+/// The first run of the case that didn't end as it must.
+pub fn fails(alloc: Global, case: &Case) -> Result<Option<Failure>, AllocError> {
     if case.is_once {
-        return passes_once(alloc, case);
+        return fails_once(alloc, case);
     }
     if let Some((from, upto)) = case.fronts {
-        return passes_fronts(alloc, case, from, upto);
+        return fails_fronts(alloc, case, from, upto);
     }
-    let passes = passes_cuts(alloc, case)?
-        && passes_calls(alloc, case)?
-        && passes_first_calls(alloc, case)?
-        && passes_writes(alloc, case)?
-        && passes_lines(alloc, case)?;
-    Ok(passes)
+    let mut failed = fails_cuts(alloc, case)?;
+    if failed.is_none() {
+        failed = fails_calls(alloc, case)?;
+    }
+    if failed.is_none() {
+        failed = fails_first_calls(alloc, case)?;
+    }
+    if failed.is_none() {
+        failed = fails_writes(alloc, case)?;
+    }
+    if failed.is_none() {
+        failed = fails_lines(alloc, case)?;
+    }
+    Ok(failed)
 }

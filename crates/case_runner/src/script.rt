@@ -1,23 +1,44 @@
 // A file of cases.
 use crate::case::Case;
-use crate::outcome::{NONE, run_case};
-use crate::passing::passes;
+use crate::outcome::Failure;
+use crate::passing::fails;
 use std::io;
 
-// Reports a case that did not pass.
-fn tell_failed(rt: &HostRuntime, case: &Case) -> io::Result<()> {
-    let end = run_case(rt.alloc(), case, &NONE)?;
-    let name = case.name.as_str();
-    let status = end.status;
-    let taken = end.taken;
-    println!(rt; "not passed: {name}; status {status}, {taken} bytes taken")?;
-    for text in [end.out.written(), end.err.written()] {
-        match std::str::from_utf8(text) {
-            Ok(text) => println!(rt; "{text}")?,
-            Err(_) => println!(rt; "(no text)")?,
-        }
+fn tell_text(rt: &HostRuntime, what: &str, text: &[u8]) -> io::Result<()> {
+    match std::str::from_utf8(text) {
+        Ok(text) => println!(rt; "{what}:\n{text}"),
+        Err(_) => println!(rt; "{what}: no text"),
     }
-    Ok(())
+}
+
+// Reports a case that did not pass: how its run was hindered,
+// how it had to end, what it left, and what the case expects.
+fn tell_failed(rt: &HostRuntime, case: &Case, failed: &Failure) -> io::Result<()> {
+    let name = case.name.as_str();
+    let wanted = failed.wanted;
+    println!(rt; "not passed: {name}, which had to end {wanted}")?;
+    let length = failed.length;
+    let hindrance = failed.hindrance;
+    let (cut, step) = (hindrance.cut, hindrance.step);
+    println!(rt;
+        "run on {length} bytes, with reads of {cut} and writes of {step} bytes (0: of any size)"
+    )?;
+    let (call, out, err) = (
+        hindrance.failing_call,
+        hindrance.failing_out,
+        hindrance.failing_err,
+    );
+    println!(rt;
+        "failing (0: none): call {call}, write {out} to the output, write {err} to standard error"
+    )?;
+    let (status, taken) = (failed.end.status, failed.end.taken);
+    println!(rt; "status {status}, {taken} bytes taken")?;
+    tell_text(rt, "output", failed.end.out.written())?;
+    tell_text(rt, "standard error", failed.end.err.written())?;
+    let (status, taken) = (case.status, case.taken);
+    println!(rt; "the case expects status {status}, at most {taken} bytes taken")?;
+    tell_text(rt, "output", &case.out)?;
+    tell_text(rt, "standard error", &case.err)
 }
 
 // Whether a case passed, as a count; if no case has begun, there is none.
@@ -25,11 +46,13 @@ fn end_case(rt: &HostRuntime, case: &Case) -> io::Result<u64> {
     if case.name.is_empty() {
         return Ok(0);
     }
-    if passes(rt.alloc(), case)? {
-        return Ok(1);
+    match fails(rt.alloc(), case)? {
+        None => Ok(1),
+        Some(failed) => {
+            tell_failed(rt, case, &failed)?;
+            Ok(0)
+        }
     }
-    tell_failed(rt, case)?;
-    Ok(0)
 }
 
 /// Runs the cases of a file, reports each that does not pass, and returns how many passed.
