@@ -118,7 +118,27 @@ fn front(text: &[u8], count: usize) -> &[u8] {
     text.get(..count).unwrap_or(text)
 }
 
-// The first write that fails and leaves other bytes in `out` than those before it.
+// A run in which a write fails, if it ends in another way than with the bytes before that write.
+fn fails_write(
+    alloc: Global,
+    case: &Case,
+    failing: Hindrance,
+    out: &[u8],
+    err: &[u8],
+) -> Result<Option<Failure>, AllocError> {
+    let end = run_case(alloc, case, &failing)?;
+    if end.is(u64::from(UNWRITTEN), out, err) {
+        return Ok(None);
+    }
+    Ok(failure(
+        case,
+        failing,
+        end,
+        "with the bytes before the write that failed",
+    ))
+}
+
+// The first write to `out` or to `err` that fails and leaves other bytes than those before it.
 fn fails_writes(alloc: Global, case: &Case) -> Result<Option<Failure>, AllocError> {
     for written in 0..case.out.len().min(MOST) {
         let failing = Hindrance {
@@ -126,35 +146,20 @@ fn fails_writes(alloc: Global, case: &Case) -> Result<Option<Failure>, AllocErro
             failing_out: written as u64 + 1,
             ..NONE
         };
-        let end = run_case(alloc, case, &failing)?;
-        if !end.is(u64::from(UNWRITTEN), front(&case.out, written), b"") {
-            return Ok(failure(
-                case,
-                failing,
-                end,
-                "with the bytes before the write that failed",
-            ));
+        let failed = fails_write(alloc, case, failing, front(&case.out, written), b"")?;
+        if failed.is_some() {
+            return Ok(failed);
         }
     }
-    Ok(None)
-}
-
-// The same for `err`.
-fn fails_lines(alloc: Global, case: &Case) -> Result<Option<Failure>, AllocError> {
     for written in 0..case.err.len().min(MOST) {
         let failing = Hindrance {
             step: 1,
             failing_err: written as u64 + 1,
             ..NONE
         };
-        let end = run_case(alloc, case, &failing)?;
-        if !end.is(u64::from(UNWRITTEN), b"", front(&case.err, written)) {
-            return Ok(failure(
-                case,
-                failing,
-                end,
-                "with the bytes before the write that failed",
-            ));
+        let failed = fails_write(alloc, case, failing, b"", front(&case.err, written))?;
+        if failed.is_some() {
+            return Ok(failed);
         }
     }
     Ok(None)
@@ -226,9 +231,6 @@ pub fn fails(alloc: Global, case: &Case) -> Result<Option<Failure>, AllocError> 
     }
     if failed.is_none() {
         failed = fails_writes(alloc, case)?;
-    }
-    if failed.is_none() {
-        failed = fails_lines(alloc, case)?;
     }
     Ok(failed)
 }
