@@ -12,9 +12,9 @@ use Rattle.dump_sections.specs.Sections.{Section}
 use Rattle.dump_sections.specs.declared.bodies.BodyFault.{BodyFault}
 use Rattle.dump_sections.specs.declared.bodies.BodyFault.TheVariants.{SectionTooLarge, Read, Memory}
 use Rattle.dump_sections.specs.LoadingLaws.{large-append}
-use Rattle.dump_sections.specs.Loading.{first_large, large_fault, AreRefused, IsUnread}
-use Rattle.process_table.specs.Processes.{IsOver, Process, ProcessTable}
-use Rattle.process_table.specs.Records.{Placed, ProcPlaces, named_place, pid_of, proc_places, record_sections, records}
+use Rattle.dump_sections.specs.Loading.{first_large, large_fault, AreRefused, IsUnloaded}
+use Rattle.process_table.specs.Processes.{AreProcessesOver, Process, ProcessTable}
+use Rattle.process_table.specs.Records.{PlacedSection, ProcPlaces, named_place, pid_of, proc_places, record_sections, records}
 use Rattle.audit_bodies.specs.Mailboxes.{audited_sections, mailbox_place, mailbox_places, mailboxes_at, pids_in}
 use Rattle.audit_bodies.proofs.MailPlaces.{none-where, or-some}
 
@@ -40,7 +40,7 @@ none-large limit ss none = by (first_large limit ss) none
     by (Some s) is = absurd (let no : ⊥ = cc (is) in no)
 
 -- bodies of which none is too large aren't loaded where the device fails or memory lacks
-pub IsUnread-small : (limit : ℕ) (ss : List Section) (before after : DeviceState) (fault : BodyFault) → first_large limit ss ≡ None → AreRefused ss limit before after fault → IsUnread before after fault
+pub IsUnread-small : (limit : ℕ) (ss : List Section) (before after : DeviceState) (fault : BodyFault) → first_large limit ss ≡ None → AreRefused ss limit before after fault → IsUnloaded before after fault
 IsUnread-small limit ss before after Read none cause = inl (refl, cause.0)
 IsUnread-small limit ss before after Memory none cause = inr refl
 IsUnread-small limit ss before after (SectionTooLarge at len) none cause = absurd (let no : ⊥ = cc (sym (ap (option_map fault_of) none) ∙ cause) in no)
@@ -55,11 +55,11 @@ AreRefused-large limit ss before after Read is = absurd (unlike (first_large lim
     unlike None is = let no : ⊥ = cc (is) in no
     unlike (Some s) is = let no : ⊥ = cc (is) in no
 
-pub AreRefused-small : (limit : ℕ) (ss : List Section) (before after : DeviceState) (fault : BodyFault) → first_large limit ss ≡ None → IsUnread before after fault → AreRefused ss limit before after fault
+pub AreRefused-small : (limit : ℕ) (ss : List Section) (before after : DeviceState) (fault : BodyFault) → first_large limit ss ≡ None → IsUnloaded before after fault → AreRefused ss limit before after fault
 AreRefused-small limit ss before after fault none (inl cause) = subst (AreRefused ss limit before after) (sym cause.0) (cause.1, none)
 AreRefused-small limit ss before after fault none (inr is) = subst (AreRefused ss limit before after) (sym is) tt
 
-pub IsUnread-later : (step step' before after : DeviceState) (fault : BodyFault) → (DeviceFailed step step' → DeviceFailed before after) → IsUnread step step' fault → IsUnread before after fault
+pub IsUnread-later : (step step' before after : DeviceState) (fault : BodyFault) → (DeviceFailed step step' → DeviceFailed before after) → IsUnloaded step step' fault → IsUnloaded before after fault
 IsUnread-later step step' before after fault later (inl cause) = inl (cause.0, later cause.1)
 IsUnread-later step step' before after fault later (inr is) = inr is
 
@@ -67,7 +67,7 @@ IsUnread-later step step' before after fault later (inr is) = inr is
 pub pids-found : (found : ProcPlaces) (sections : List Section) → found ≡ proc_places sections → map (λ (p : List ℕ × ℕ). p.0) found.places ≡ pids_in sections
 pids-found found sections is = ap (λ (t : ProcPlaces). map (λ (p : List ℕ × ℕ). p.0) t.places) is ∙ named (records sections)
   where
-    named : (rs : List Placed) → map (λ (p : List ℕ × ℕ). p.0) (map named_place rs) ≡ map (λ (r : Placed). pid_of r.1) rs
+    named : (rs : List PlacedSection) → map (λ (p : List ℕ × ℕ). p.0) (map named_place rs) ≡ map (λ (r : PlacedSection). pid_of r.1) rs
     named [] = refl
     named (r ∷ rs) = ap (λ l. pid_of r.1 ∷ l) (named rs)
 
@@ -85,7 +85,7 @@ counts-found true sections places mail counts is counted = ap Some (counted ∙ 
 counts-found false sections places mail counts is counted = refl
 
 pub counts-all : (full : Bool) (index : Contents) (places : List (Option ℕ)) (counts : Vec (Option ℕ)) (table : ProcessTable)
-    → places ≡ (if full then mailbox_places (sections_in index) else []) → length counts.items ≡ length places → IsOver index table
+    → places ≡ (if full then mailbox_places (sections_in index) else []) → length counts.items ≡ length places → AreProcessesOver index table
     → IfSome (then_some full counts) (λ c. length c.items ≡ length table.processes)
 counts-all true index places counts table is all over =
     all ∙ ap length is ∙ length-map (pids_in (sections_in index)) (mailbox_place (sections_in index)) ∙ ap length (sym over.pids) ∙ length-map table.processes (λ (p : Process). p.pid)

@@ -4,7 +4,7 @@ use Rattle.std.specs.List.{filter_map}
 use Rattle.std.specs.Option.{option_and_then, option_map}
 use Rattle.dump_io.specs.Lines.{headers}
 use Rattle.dump_sections.specs.Bodies.{at_place, body_of}
-use Rattle.dump_sections.specs.Index.{state_of}
+use Rattle.dump_sections.specs.Index.{dump_state}
 use Rattle.dump_sections.specs.Lookups.{is_named}
 use Rattle.dump_sections.specs.Sections.{Section, sections}
 use Rattle.dump_sections.specs.declared.index.State.{State}
@@ -39,7 +39,7 @@ mail_in bytes state sections place = option_and_then (mail_at bytes state sectio
 
 -- for each process of the table, how many messages it has, if that is known
 abbrev pub mails : List ℕ → List (Option ℕ)
-mails bytes = map (mail_in bytes (state_of (headers bytes)) (sections bytes)) (mailbox_places (sections bytes))
+mails bytes = map (mail_in bytes (dump_state (headers bytes)) (sections bytes)) (mailbox_places (sections bytes))
 
 -- the sections with the mailboxes, in a full audit, in the order of their processes
 abbrev pub more_sections : Bool → List Section → List Section

@@ -2,7 +2,7 @@
 ghost use Rattle.std.specs.Prelude.{◌≡◌, ℕ, List, [], ◌++◌, length, All, Some, None, ◌<◌, IfOk, IfErr, if◌then◌else◌};
 ghost use Rattle.dump_io.specs.Dumps.{told, ReadsAtMost};
 ghost use Rattle.dump_sections.specs.Index.{IsBuiltOver, sections_in};
-ghost use Rattle.dump_sections.specs.Loading.{bodies_length, large_fault, sections_at, IsUnread, LoadsBodies};
+ghost use Rattle.dump_sections.specs.Loading.{bodies_length, large_fault, sections_at, IsUnloaded, LoadsBodies};
 ghost use Rattle.process_table.specs.Records.{proc_places, record_sections};
 ghost use Rattle.audit_bodies.specs.Mailboxes.{audited_sections, mailbox_places, mailboxes_at};
 ghost use Rattle.audit_bodies.specs.Bodies.{AreBodiesOf, IsAuditable};
@@ -95,7 +95,7 @@ fn read_bodies<D: Dumps>(
     ensures reads { ReadsAtMost (D.state dumps.old) (D.state dumps.new) (bodies_length (record_sections (sections_in index.now) ++ mailboxes_at (sections_in index.now) places.mailboxes.items)) }
     ensures bodies { IfOk result (λ read. (bytes : List ℕ) → (D.state dumps.old).now ≡ told bytes → AreBodiesOf full index.now bytes read) }
     ensures auditable { IfOk result (IsAuditable index.now) }
-    ensures fault { IfErr result (IsUnread (D.state dumps.old) (D.state dumps.new)) }
+    ensures fault { IfErr result (IsUnloaded (D.state dumps.old) (D.state dumps.new)) }
 {
     let procs = Procs::read(alloc, dumps, index, places.found, limits)?;
     let counts = count_messages(alloc, dumps, index, places.mailboxes.as_slice(), limits)?;

@@ -2,8 +2,8 @@
 ghost use Rattle.std.specs.Prelude.{◌≡◌, ℕ, List, [], ◌∷◌, ◌<◌, ◌≤◌, length, map, All, IfOk, IfErr};
 ghost use Rattle.dump_io.specs.Dumps.{told, ReadsAtMost};
 ghost use Rattle.dump_sections.specs.Bodies.{section_at, body_length};
-ghost use Rattle.dump_sections.specs.Index.{IsBuiltOver, sections_in, state_of};
-ghost use Rattle.dump_sections.specs.Loading.{bodies_length, IsUnread};
+ghost use Rattle.dump_sections.specs.Index.{IsBuiltOver, sections_in, dump_state};
+ghost use Rattle.dump_sections.specs.Loading.{bodies_length, IsUnloaded};
 ghost use Rattle.audit_bodies.specs.Mailboxes.{mail_at, mail_in, mailboxes_at};
 ghost use Rattle.audit_bodies.specs.Inner.Mailboxes.{IsSmall, IsWithin};
 
@@ -26,8 +26,8 @@ fn count_at<D: Dumps>(
     requires place { i < length index.now.headers }
     requires small { body_length (section_at index.now i) ≤ limits.now.section }
     ensures reads { ReadsAtMost (D.state dumps.old) (D.state dumps.new) (body_length (section_at index.now i)) }
-    ensures count { IfOk result (λ count. (bytes : List ℕ) → (D.state dumps.old).now ≡ told bytes → count ≡ mail_at bytes (state_of index.now.headers) (sections_in index.now) i) }
-    ensures fault { IfErr result (IsUnread (D.state dumps.old) (D.state dumps.new)) }
+    ensures count { IfOk result (λ count. (bytes : List ℕ) → (D.state dumps.old).now ≡ told bytes → count ≡ mail_at bytes (dump_state index.now.headers) (sections_in index.now) i) }
+    ensures fault { IfErr result (IsUnloaded (D.state dumps.old) (D.state dumps.new)) }
 {
     if is_cut(index.state(), i) {
         return Ok(None);
@@ -48,8 +48,8 @@ fn count_in<D: Dumps>(
     requires within { IsWithin index.now place }
     requires small { IsSmall index.now limits.now.section place }
     ensures reads { ReadsAtMost (D.state dumps.old) (D.state dumps.new) (bodies_length (mailboxes_at (sections_in index.now) (place ∷ []))) }
-    ensures count { IfOk result (λ count. (bytes : List ℕ) → (D.state dumps.old).now ≡ told bytes → count ≡ mail_in bytes (state_of index.now.headers) (sections_in index.now) place) }
-    ensures fault { IfErr result (IsUnread (D.state dumps.old) (D.state dumps.new)) }
+    ensures count { IfOk result (λ count. (bytes : List ℕ) → (D.state dumps.old).now ≡ told bytes → count ≡ mail_in bytes (dump_state index.now.headers) (sections_in index.now) place) }
+    ensures fault { IfErr result (IsUnloaded (D.state dumps.old) (D.state dumps.new)) }
 {
     match place {
         None => Ok(None),
@@ -70,9 +70,9 @@ pub(crate) fn count_messages<D: Dumps>(
     requires within { All (IsWithin index.now) places.now }
     requires small { All (IsSmall index.now limits.now.section) places.now }
     ensures reads { ReadsAtMost (D.state dumps.old) (D.state dumps.new) (bodies_length (mailboxes_at (sections_in index.now) places.now)) }
-    ensures counts { IfOk result (λ counts. (bytes : List ℕ) → (D.state dumps.old).now ≡ told bytes → counts.items ≡ map (mail_in bytes (state_of index.now.headers) (sections_in index.now)) places.now) }
+    ensures counts { IfOk result (λ counts. (bytes : List ℕ) → (D.state dumps.old).now ≡ told bytes → counts.items ≡ map (mail_in bytes (dump_state index.now.headers) (sections_in index.now)) places.now) }
     ensures all { IfOk result (λ counts. length counts.items ≡ length places.now) }
-    ensures fault { IfErr result (IsUnread (D.state dumps.old) (D.state dumps.new)) }
+    ensures fault { IfErr result (IsUnloaded (D.state dumps.old) (D.state dumps.new)) }
 {
     let mut counts = Vec::new(alloc);
     for place in places {

@@ -1,13 +1,13 @@
 -- The text of the report of an audit. Offsets are of the file.
 use Rattle.std.specs.Prelude.{ℕ, List, [], ◌∷◌, ◌++◌, length, decimal, codes}
 use Rattle.std.specs.List.{flat_map}
-use Rattle.dump_sections.specs.Index.{Contents, sections_in, state_of}
+use Rattle.dump_sections.specs.Index.{Contents, sections_in, dump_state}
 use Rattle.process_table.specs.Processes.{Process}
 use Rattle.dump_audit.specs.FindingNames.{pid_at, partner_at, reference_at}
 use Rattle.dump_audit.specs.Findings.{Audit, findings}
 use Rattle.dump_audit.specs.declared.finding.Finding.{Finding}
 use Rattle.dump_audit.specs.declared.finding.Finding.TheVariants.{LinkOneSided, MonitorTo, MonitorFrom, Mailbox, UnreadLinks, UnreadQueue, LinkGone, ToGone, FromGone, QueueCount}
-use Rattle.report_lines.specs.Lines.{line_of, space, total_line}
+use Rattle.report_lines.specs.Lines.{line_of, word_space, total_line}
 use Rattle.report_lines.specs.States.{state_line}
 
 -- what stands in the line of a finding: its word, the process, what else it names, and its two offsets
@@ -25,12 +25,12 @@ finding_parts ps (QueueCount p stated found at other) = codes "queue-count" ∷ 
 
 -- the line of a finding
 abbrev pub finding_line : List Process → Finding → List ℕ
-finding_line ps finding = line_of space (finding_parts ps finding)
+finding_line ps finding = line_of word_space (finding_parts ps finding)
 
 -- the report of some findings on a dump with these sections and processes: their lines, their number, and the state
 abbrev pub findings_report : Contents → List Process → List Finding → List ℕ
 findings_report index processes found =
-    flat_map (finding_line processes) found ++ (total_line (codes "findings") (length found) ++ state_line (sections_in index) (state_of index.headers))
+    flat_map (finding_line processes) found ++ (total_line (codes "findings") (length found) ++ state_line (sections_in index) (dump_state index.headers))
 
 -- the report of `audit`
 abbrev pub audit_report : Audit → List ℕ

@@ -14,8 +14,8 @@ use Rattle.std.proofs.lemmas.Slice.Eq.{bytes_eq-Decides}
 use Rattle.dump_sections.specs.Index.{Contents, sections_in}
 use Rattle.dump_sections.specs.Laws.{first-more, first-passed}
 use Rattle.dump_sections.specs.Sections.{Section}
-use Rattle.process_table.specs.Processes.{Process, ProcessTable, IsOver, nobody, process_at}
-use Rattle.process_table.specs.Records.{Placed, placed, pid_of, process_sections, has_same_pid, first_of_each, records}
+use Rattle.process_table.specs.Processes.{Process, ProcessTable, AreProcessesOver, nobody, process_at}
+use Rattle.process_table.specs.Records.{PlacedSection, placed_sections, pid_of, process_sections, has_same_pid, first_of_each, records}
 use Rattle.binary_holders.specs.Inner.Heaps.{AreApart, AreHeaps, heap_id}
 use Rattle.binary_holders.specs.Inner.Places.{heap_place}
 
@@ -25,17 +25,17 @@ not-true : (b : Bool) → not b ≡ true → b ≡ false
 not-true true is = absurd (false≢true is)
 not-true false is = refl
 
-abbrev Apart : List Placed → Type 0
+abbrev Apart : List PlacedSection → Type 0
 Apart [] = Unit {0}
 Apart (r ∷ rest) = All (λ other. has_same_pid r other ≡ false) rest × Apart rest
 
-Apart-filter : (p : Placed → Bool) (rest : List Placed) → Apart rest → Apart (filter p rest)
+Apart-filter : (p : PlacedSection → Bool) (rest : List PlacedSection) → Apart rest → Apart (filter p rest)
 Apart-filter p [] apart = tt
 Apart-filter p (r ∷ rest) apart =
     elim (p r) as (λ b. Apart (cond b (r ∷ filter p rest) (filter p rest)))
     [ true ↦ (All-filter p (λ other. has_same_pid r other ≡ false) rest apart.0, Apart-filter p rest apart.1) | false ↦ Apart-filter p rest apart.1 ]
 
-Apart-firsts : (sections : List Placed) → Apart (first_of_each sections)
+Apart-firsts : (sections : List PlacedSection) → Apart (first_of_each sections)
 Apart-firsts [] = tt
 Apart-firsts (r ∷ rest) = (
   All-weaker (λ other. not (has_same_pid r other) ≡ true) (λ other. has_same_pid r other ≡ false) (λ other is. not-true (has_same_pid r other) is)
@@ -44,7 +44,7 @@ Apart-firsts (r ∷ rest) = (
 )
 
 -- of two places with one pid none comes first
-Apart-places : (rest : List Placed) (i j : ℕ) (d : Placed) → Apart rest → i < j → j < length rest → has_same_pid (get_or rest i d) (get_or rest j d) ≡ false
+Apart-places : (rest : List PlacedSection) (i j : ℕ) (d : PlacedSection) → Apart rest → i < j → j < length rest → has_same_pid (get_or rest i d) (get_or rest j d) ≡ false
 Apart-places [] i j d apart less inside = absurd (omega (arith, inside))
 Apart-places (r ∷ rest) i zero d apart less inside = absurd (omega (arith, less))
 Apart-places (r ∷ rest) zero (suc j) d apart less inside = apart.0 j d (omega (arith, inside))
@@ -53,21 +53,21 @@ Apart-places (r ∷ rest) (suc i) (suc j) d apart less inside = Apart-places res
 at-nobody : (processes : List Process) (p : ℕ) → p < length processes → process_at processes p ≡ get_or processes p nobody
 at-nobody processes p inside = ap (λ o. unwrap_or o nobody) (slice_get-get_or processes p nobody inside)
 
-pub apart-records : (index : Contents) (table : ProcessTable) → IsOver index table → AreApart table.processes
+pub apart-records : (index : Contents) (table : ProcessTable) → AreProcessesOver index table → AreApart table.processes
 apart-records index table over = record {
   first = λ p inside.
       let processes = table.processes in
       let rs = records (sections_in index) in
       let pid : ℕ → List ℕ = λ k. (get_or processes k nobody).pid in
-      let none : Placed = (0, record { at = 0; body = 0; end = 0; text = [] }) in
-      let count : length processes ≡ length rs = sym (length-map processes (λ (q : Process). q.pid)) ∙ ap length over.pids ∙ length-map rs (λ (r : Placed). pid_of r.1) in
+      let none : PlacedSection = (0, record { at = 0; body = 0; end = 0; text = [] }) in
+      let count : length processes ≡ length rs = sym (length-map processes (λ (q : Process). q.pid)) ∙ ap length over.pids ∙ length-map rs (λ (r : PlacedSection). pid_of r.1) in
       let pids_are : (k : ℕ) → k < length processes → pid k ≡ pid_of (get_or rs k none).1 =
       λ k within.
-      sym (get_or-map (λ (q : Process). q.pid) processes k nobody [] within) ∙ ap (λ l. get_or l k []) over.pids ∙ get_or-map (λ (r : Placed). pid_of r.1) rs k none [] (omega (arith, within, count)) in
+      sym (get_or-map (λ (q : Process). q.pid) processes k nobody [] within) ∙ ap (λ l. get_or l k []) over.pids ∙ get_or-map (λ (r : PlacedSection). pid_of r.1) rs k none [] (omega (arith, within, count)) in
       let differ : (k : ℕ) → k < p → bytes_eq (pid p) (pid k) ≡ false =
       λ k less. false_from_ne_true (bytes_eq (pid p) (pid k)) (λ is.
       let one : pid_of (get_or rs k none).1 ≡ pid_of (get_or rs p none).1 = sym (pids_are k (omega (arith, less, inside))) ∙ sym ((bytes_eq-Decides (pid p) (pid k)).0 is) ∙ pids_are p inside in
-      false≢true (sym (Apart-places rs k p none (Apart-firsts (process_sections (placed (sections_in index)))) less (omega (arith, inside, count))) ∙ (bytes_eq-Decides _ _).1 one)) in
+      false≢true (sym (Apart-places rs k p none (Apart-firsts (process_sections (placed_sections (sections_in index)))) less (omega (arith, inside, count))) ∙ (bytes_eq-Decides _ _).1 one)) in
       let here : position_or_len (λ (q : Process). bytes_eq (pid p) q.pid) processes ≡ p =
       position_or_len_is (λ (q : Process). bytes_eq (pid p) q.pid) processes p nobody (omega (arith, inside)) differ (λ _. (bytes_eq-Decides (pid p) (pid p)).1 refl) in
       ap (λ (q : Process). position (λ (process : Process). bytes_eq q.pid process.pid) processes) (at-nobody processes p inside)

@@ -14,7 +14,7 @@ use Rattle.std.proofs.lemmas.Option.{get_or_from_slice_get, slice_get_within}
 use Rattle.dump_sections.specs.Bodies.{section_at}
 use Rattle.dump_sections.specs.Index.{Contents, sections_in}
 use Rattle.dump_sections.specs.Sections.{Section}
-use Rattle.stored_binaries.specs.StoredBinaries.{number_of}
+use Rattle.stored_binaries.specs.StoredBinaries.{binary_number}
 use Rattle.binary_holders.specs.declared.stored.Found.{Found}
 use Rattle.binary_holders.specs.declared.stored.StoredAt.{StoredAt}
 use Rattle.binary_holders.specs.StoredBinaries.{Stored, stored, stored_at, binary_of, firsts, is_among}
@@ -64,11 +64,11 @@ stored-push before s =
     by (Some b) = refl
 
 -- a section that is none
-stored-passed : (before : List Section) (s : Section) → number_of s ≡ None → stored (before ++ s ∷ []) ≡ stored before
+stored-passed : (before : List Section) (s : Section) → binary_number s ≡ None → stored (before ++ s ∷ []) ≡ stored before
 stored-passed before s none =
     stored-push before s ∙ ap (λ o. firsts [] (filter_map binary_of before ++ option_to_list (option_map (stored_at s) o))) none ∙ ap (firsts []) (append-nil (filter_map binary_of before))
 
-stored-more : (before : List Section) (s : Section) (n : ℕ) (b : Bool) → number_of s ≡ Some n → is_among (numbers (stored before)) n ≡ b
+stored-more : (before : List Section) (s : Section) (n : ℕ) (b : Bool) → binary_number s ≡ Some n → is_among (numbers (stored before)) n ≡ b
     → stored (before ++ s ∷ []) ≡ stored before ++ (if b then [] else stored_at s n ∷ [])
 stored-more before s n b some among =
     stored-push before s
@@ -140,16 +140,16 @@ module _ (index : Contents) (i : ℕ) (at : slice_get (sections_in index) i ≡ 
   same-found : stored (take (i + 1) (sections_in index)) ≡ stored (take i (sections_in index)) → AreFound index (take (i + 1) (sections_in index)) found
   same-found same = record { are = before.are ∙ sym same; within = before.within; places = before.places }
 
-  pub found-passed : number_of s ≡ None → AreFound index (take (i + 1) (sections_in index)) found
+  pub found-passed : binary_number s ≡ None → AreFound index (take (i + 1) (sections_in index)) found
   found-passed none = same-found (ap stored (take-section (sections_in index) i s at) ∙ stored-passed (take i (sections_in index)) s none)
 
-  pub found-again : (n : ℕ) → number_of s ≡ Some n → is_some (get nat_cmp found.places n) ≡ true → AreFound index (take (i + 1) (sections_in index)) found
+  pub found-again : (n : ℕ) → binary_number s ≡ Some n → is_some (get nat_cmp found.places n) ≡ true → AreFound index (take (i + 1) (sections_in index)) found
   found-again n some there =
       same-found (ap stored (take-section (sections_in index) i s at)
       ∙ stored-more (take i (sections_in index)) s n true some (among-found index (take i (sections_in index)) found n before ∙ there)
       ∙ append-nil (stored (take i (sections_in index))))
 
-  pub found-new : (n : ℕ) (after : Found) → number_of s ≡ Some n → is_some (get nat_cmp found.places n) ≡ false → i < length index.headers
+  pub found-new : (n : ℕ) (after : Found) → binary_number s ≡ Some n → is_some (get nat_cmp found.places n) ≡ false → i < length index.headers
       → after.binaries.items ≡ found.binaries.items ++ (record { number = n; section = i }) ∷ []
       → get nat_cmp after.places n ≡ Some (length found.binaries.items) → ((q : ℕ) → is_eq (nat_cmp n q) ≡ false → get nat_cmp after.places q ≡ get nat_cmp found.places q)
       → AreFound index (take (i + 1) (sections_in index)) after

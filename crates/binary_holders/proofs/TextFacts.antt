@@ -1,5 +1,5 @@
 -- To which binary a text refers, by what follows its address.
-use Rattle.std.proofs.Common.{◌≡◌, ℕ, ◌+◌, List, ◌++◌, Option, None, Some, refl, ◌∙◌, ap}
+use Rattle.std.proofs.Common.{◌≡◌, ℕ, List, ◌++◌, Option, None, Some, refl, ◌∙◌, ap}
 use Rattle.std.specs.Prelude.{codes}
 use Rattle.std.specs.Option.{option_and_then}
 use Rattle.dump_io.specs.Numbers.{hex_number}

@@ -22,7 +22,7 @@ use Rattle.binary_holders.specs.declared.tally.Tally.{Tally}
 use Rattle.binary_holders.specs.Held.{holders_of}
 use Rattle.binary_holders.specs.HeapReferences.{references}
 use Rattle.binary_holders.specs.StoredBinaries.{Stored, binary_of, firsts, is_among, stored_at}
-use Rattle.binary_holders.specs.Usage.{Usage, binaries_in, fronts_length, heaps_length, heaps_of, row_of, rows_in, sized, stored_in}
+use Rattle.binary_holders.specs.Usage.{Usage, binaries_in, fronts_length, heaps_length, heaps_of, binary_row, rows_in, sized_binary, stored_in}
 use Rattle.binary_holders.specs.Inner.Finding.{stored_of}
 use Rattle.binary_holders.specs.Inner.Places.{heap_place, references_at, size_at}
 use Rattle.binary_holders.specs.Inner.Rows.{AreRows, row_at}
@@ -97,8 +97,8 @@ fronts-enough index list are =
     omega (arith, size, few-firsts [] (filter_map binary_of (sections_in index)), few-binaries (sections_in index))
 
 pub sizes-are : (dump : List ℕ) (index : Contents) (list : List StoredAt) (binaries : List Binary) → map (stored_of index) list ≡ stored_in index
-    → binaries ≡ map (λ (b : StoredAt). sized dump (stored_of index b)) list → binaries ≡ binaries_in dump index
-sizes-are dump index list binaries are is = is ∙ sym (map-map (sized dump) (stored_of index) list) ∙ ap (map (sized dump)) are
+    → binaries ≡ map (λ (b : StoredAt). sized_binary dump (stored_of index b)) list → binaries ≡ binaries_in dump index
+sizes-are dump index list binaries are is = is ∙ sym (map-map (sized_binary dump) (stored_of index) list) ∙ ap (map (sized_binary dump)) are
 
 -- ---- the rows of the binaries
 
@@ -109,20 +109,20 @@ pub rows-are : (dump : List ℕ) (index : Contents) (heaps : List (List ℕ)) (l
     → map (stored_of index) list ≡ stored_in index → binaries ≡ binaries_in dump index → HasHeard binaries heaps [] tally → holders ≡ tally.holders.items
     → AreRows index list binaries holders (length list) rows → rows ≡ rows_in dump index heaps
 rows-are dump index heaps list binaries holders tally rows are is heard counted found =
-    same_lists rows (map (λ (s : StoredAt). row_of dump heaps (stored_of index s)) list) (found.count ∙ sym (length-map list (λ (s : StoredAt). row_of dump heaps (stored_of index s))))
+    same_lists rows (map (λ (s : StoredAt). binary_row dump heaps (stored_of index s)) list) (found.count ∙ sym (length-map list (λ (s : StoredAt). binary_row dump heaps (stored_of index s))))
     (λ k d inside.
     let here : k < length list = omega (arith, inside, found.count) in
     let s = get_or list k no_place in
-    let all : binaries ≡ map (λ (b : StoredAt). sized dump (stored_of index b)) list = is ∙ sym (ap (map (sized dump)) are) ∙ map-map (sized dump) (stored_of index) list in
-    let size : length binaries ≡ length list = ap length all ∙ length-map list (λ (b : StoredAt). sized dump (stored_of index b)) in
-    let binary : get_or binaries k no_binary ≡ sized dump (stored_of index s) =
-    ap (λ l. get_or l k no_binary) all ∙ get_or-map (λ (b : StoredAt). sized dump (stored_of index b)) list k no_place no_binary here in
+    let all : binaries ≡ map (λ (b : StoredAt). sized_binary dump (stored_of index b)) list = is ∙ sym (ap (map (sized_binary dump)) are) ∙ map-map (sized_binary dump) (stored_of index) list in
+    let size : length binaries ≡ length list = ap length all ∙ length-map list (λ (b : StoredAt). sized_binary dump (stored_of index b)) in
+    let binary : get_or binaries k no_binary ≡ sized_binary dump (stored_of index s) =
+    ap (λ l. get_or l k no_binary) all ∙ get_or-map (λ (b : StoredAt). sized_binary dump (stored_of index b)) list k no_place no_binary here in
     let number : number_at binaries k ≡ s.number = at-number binaries k (omega (arith, here, size)) ∙ ap (λ (b : Binary). b.number) binary in
     let count : slice_index holders k ≡ holders_of heaps s.number =
     ap (λ l. slice_index l k) counted ∙ heard.holders k (omega (arith, here, size)) ∙ ap (holders_of (heaps ++ [] ∷ [])) number
     ∙ sum_by_push (λ refs. cond (is_among refs s.number) 1 0) heaps [] ∙ (let e : holders_of heaps s.number + 0 ≡ holders_of heaps s.number = omega arith in e) in
     found.each k d no_place no_binary here
     ∙ ap (λ (b : Binary). row_at index s b (slice_index holders k)) binary
-    ∙ ap (row_at index s (sized dump (stored_of index s))) count
-    ∙ sym (get_or-map (λ (s : StoredAt). row_of dump heaps (stored_of index s)) list k no_place d here))
-    ∙ sym (map-map (row_of dump heaps) (stored_of index) list) ∙ ap (map (row_of dump heaps)) are
+    ∙ ap (row_at index s (sized_binary dump (stored_of index s))) count
+    ∙ sym (get_or-map (λ (s : StoredAt). binary_row dump heaps (stored_of index s)) list k no_place d here))
+    ∙ sym (map-map (binary_row dump heaps) (stored_of index) list) ∙ ap (map (binary_row dump heaps)) are

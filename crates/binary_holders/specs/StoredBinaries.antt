@@ -3,7 +3,7 @@ use Rattle.std.specs.Prelude.{ℕ, Bool, ◌==◌, List, [], ◌∷◌, Option, 
 use Rattle.std.specs.List.{filter_map, list_any}
 use Rattle.dump_sections.specs.Bodies.{body_of}
 use Rattle.dump_sections.specs.Sections.{Section}
-use Rattle.stored_binaries.specs.StoredBinaries.{number_of, size_stated}
+use Rattle.stored_binaries.specs.StoredBinaries.{binary_number, size_stated}
 
 -- a binary: its number, and its section
 pub record Stored : Type 0 where
@@ -16,7 +16,7 @@ stored_at section number = record { number = number; section = section }
 
 -- the binary of a section that has one
 abbrev pub binary_of : Section → Option Stored
-binary_of section = option_map (stored_at section) (number_of section)
+binary_of section = option_map (stored_at section) (binary_number section)
 
 -- whether a number is one of these
 abbrev pub is_among : List ℕ → ℕ → Bool

@@ -26,16 +26,16 @@ abbrev pub stored_in : Contents → List Stored
 stored_in index = stored (sections_in index)
 
 -- a stored binary as its number and its size
-abbrev pub sized : List ℕ → Stored → Binary
-sized dump binary = record { number = binary.number; size = size_in dump binary }
+abbrev pub sized_binary : List ℕ → Stored → Binary
+sized_binary dump binary = record { number = binary.number; size = size_in dump binary }
 
 -- all of them
 abbrev pub binaries_in : List ℕ → Contents → List Binary
-binaries_in dump index = map (sized dump) (stored_in index)
+binaries_in dump index = map (sized_binary dump) (stored_in index)
 
 -- the row of a stored binary: its size, how many heaps hold it, its number, and the offset of its section
-abbrev pub row_of : List ℕ → List (List ℕ) → Stored → BinaryRow
-row_of dump heaps binary = record {
+abbrev pub binary_row : List ℕ → List (List ℕ) → Stored → BinaryRow
+binary_row dump heaps binary = record {
   size = size_in dump binary;
   holders = holders_of heaps binary.number;
   number = binary.number;
@@ -44,7 +44,7 @@ row_of dump heaps binary = record {
 
 -- the rows of the stored binaries, in dump order
 abbrev pub rows_in : List ℕ → Contents → List (List ℕ) → List BinaryRow
-rows_in dump index heaps = map (row_of dump heaps) (stored_in index)
+rows_in dump index heaps = map (binary_row dump heaps) (stored_in index)
 
 -- what is found of the binaries of a dump: which processes hold how much, the most first; the
 -- binaries, the largest first; their sizes together; and how many of them a process holds
@@ -89,6 +89,6 @@ abbrev pub fronts_length : Contents → ℕ
 fronts_length index = 20 * count_by (λ section. has_tag (codes "binary") section.text) (sections_in index)
 
 -- why holders aren't found: the device failed; memory may be lacking at any time
-abbrev pub IsCauseOf : DeviceState → DeviceState → HolderFault → Type 0
-IsCauseOf before after Read = DeviceFailed before after
-IsCauseOf before after Memory = Unit {0}
+abbrev pub IsHolderCauseOf : DeviceState → DeviceState → HolderFault → Type 0
+IsHolderCauseOf before after Read = DeviceFailed before after
+IsHolderCauseOf before after Memory = Unit {0}

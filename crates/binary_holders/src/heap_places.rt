@@ -4,7 +4,7 @@ ghost use Rattle.std.specs.Option.{option_copied};
 ghost use Rattle.dump_io.specs.Limits.{usual};
 ghost use Rattle.dump_sections.specs.Bodies.{section_at};
 ghost use Rattle.dump_sections.specs.Index.{sections_in};
-ghost use Rattle.process_table.specs.Processes.{IsOver};
+ghost use Rattle.process_table.specs.Processes.{AreProcessesOver};
 ghost use Rattle.binary_holders.specs.Inner.Heaps.{AreHeaps, AreApart, heap_id};
 ghost use Rattle.binary_holders.specs.Inner.Places.{IsWithin, heap_place};
 
@@ -73,7 +73,7 @@ pub(crate) fn heap_places(
     index: &Index,
     procs: &Procs,
 ) -> Result<Vec<Option<usize>>, AllocError>
-    requires { IsOver index.now procs.now }
+    requires { AreProcessesOver index.now procs.now }
     ensures places { IfOk result (λ heaps. heaps.items ≡ map (λ process. heap_place (sections_in index.now) process.pid) procs.now.processes) }
     ensures within { IfOk result (λ heaps. All (IsWithin index.now) heaps.items) }
     ensures few { IfOk result (λ heaps. length heaps.items ≤ usual.sections) }

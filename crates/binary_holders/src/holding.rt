@@ -4,7 +4,7 @@ ghost use Rattle.std.specs.List.{sum_by};
 ghost use Rattle.dump_io.specs.Dumps.{told, DeviceFailed, ReadsAtMost};
 ghost use Rattle.dump_sections.specs.Index.{IsBuiltOver};
 ghost use Rattle.binary_holders.specs.Held.{holdings};
-ghost use Rattle.binary_holders.specs.Usage.{IsCauseOf, NamesProcess};
+ghost use Rattle.binary_holders.specs.Usage.{IsHolderCauseOf, NamesProcess};
 ghost use Rattle.binary_holders.specs.Inner.Places.{IsWithin, references_at, size_at};
 ghost use Rattle.binary_holders.specs.Inner.Tallies.{HasHeard, HasRoom, Hears, KeepsRoom, counted};
 ghost use Rattle.binary_holders.specs.declared.scanning.TheConstants.{ROOM};
@@ -82,7 +82,7 @@ fn hear_process<D: Dumps>(
     requires room { HasRoom (length sought.now) tally.old }
     requires turn { tally.old.turn + 1 < 2 ^ 32 }
     ensures reads { ReadsAtMost (D.state dumps.old) (D.state dumps.new) (size_at index.now place) }
-    ensures fault { IfErr result (IsCauseOf (D.state dumps.old) (D.state dumps.new)) }
+    ensures fault { IfErr result (IsHolderCauseOf (D.state dumps.old) (D.state dumps.new)) }
     ensures turn { OnOk result (tally.new.turn ≡ tally.old.turn + 1) }
     ensures room { OnOk result (HasRoom (length sought.now) tally.new) }
     ensures held { OnOk result ((dump : List ℕ) → (D.state dumps.old).now ≡ told dump → (before : List (List ℕ)) → process ≡ length before
@@ -117,7 +117,7 @@ pub(crate) fn hear_all<D: Dumps>(
     requires room { HasRoom (length sought.now) tally.old }
     requires heard { HasHeard sought.now [] [] tally.old }
     ensures reads { ReadsAtMost (D.state dumps.old) (D.state dumps.new) (sum_by (size_at index.now) heaps.now) }
-    ensures fault { IfErr result (IsCauseOf (D.state dumps.old) (D.state dumps.new)) }
+    ensures fault { IfErr result (IsHolderCauseOf (D.state dumps.old) (D.state dumps.new)) }
     ensures room { OnOk result (HasRoom (length sought.now) tally.new) }
     ensures held { IfOk result (λ held. (dump : List ℕ) → (D.state dumps.old).now ≡ told dump
         → held.items ≡ holdings sought.now (map (references_at dump index.now) heaps.now)) }

@@ -2,7 +2,7 @@
 ghost use Rattle.std.specs.Prelude.{◌≡◌, ℕ, List, ◌+◌, ◌*◌, ◌<◌, ◌≤◌, length, map, take, All, IfOk, OnOk, IfErr};
 ghost use Rattle.dump_io.specs.Dumps.{told, ReadsAtMost};
 ghost use Rattle.dump_sections.specs.Index.{IsBuiltOver, sections_in};
-ghost use Rattle.binary_holders.specs.Usage.{sized, IsCauseOf};
+ghost use Rattle.binary_holders.specs.Usage.{sized_binary, IsHolderCauseOf};
 ghost use Rattle.binary_holders.specs.Inner.Finding.{AreFound, numbers_of, stored_of};
 ghost use Rattle.binary_holders.specs.Inner.Places.{numbers_in};
 
@@ -71,9 +71,9 @@ fn read_binary<D: Dumps>(
     requires over { IsBuiltOver (D.state dumps.old).now index.now }
     requires within { stored.now.section < length index.now.headers }
     ensures reads { ReadsAtMost (D.state dumps.old) (D.state dumps.new) 17 }
-    ensures fault { IfErr result (IsCauseOf (D.state dumps.old) (D.state dumps.new)) }
+    ensures fault { IfErr result (IsHolderCauseOf (D.state dumps.old) (D.state dumps.new)) }
     ensures number { IfOk result (λ binary. binary.number ≡ stored.now.number) }
-    ensures size { IfOk result (λ binary. (dump : List ℕ) → (D.state dumps.old).now ≡ told dump → binary ≡ sized dump (stored_of index.now stored.now)) }
+    ensures size { IfOk result (λ binary. (dump : List ℕ) → (D.state dumps.old).now ≡ told dump → binary ≡ sized_binary dump (stored_of index.now stored.now)) }
 {
     let Ok(size) = read_size(dumps, index, stored.section) else {
         return Err(HolderFault::Read);
@@ -94,10 +94,10 @@ pub(crate) fn read_sizes<D: Dumps>(
     requires over { IsBuiltOver (D.state dumps.old).now index.now }
     requires within { All (λ binary. binary.section < length index.now.headers) stored.now }
     ensures reads { ReadsAtMost (D.state dumps.old) (D.state dumps.new) (17 * length stored.now) }
-    ensures fault { IfErr result (IsCauseOf (D.state dumps.old) (D.state dumps.new)) }
+    ensures fault { IfErr result (IsHolderCauseOf (D.state dumps.old) (D.state dumps.new)) }
     ensures numbers { IfOk result (λ binaries. numbers_in binaries.items ≡ numbers_of stored.now) }
     ensures sizes { IfOk result (λ binaries. (dump : List ℕ) → (D.state dumps.old).now ≡ told dump
-        → binaries.items ≡ map (λ binary. sized dump (stored_of index.now binary)) stored.now) }
+        → binaries.items ≡ map (λ binary. sized_binary dump (stored_of index.now binary)) stored.now) }
 {
     let mut binaries = Vec::new(alloc);
     for binary in stored {

@@ -3,10 +3,10 @@ ghost use Rattle.std.specs.Prelude.{◌≡◌, ℕ, List, [], ◌∷◌, ◌+◌
 ghost use Rattle.std.specs.List.{sum_by, count_by};
 ghost use Rattle.dump_io.specs.Dumps.{told, ReadsAtMost};
 ghost use Rattle.dump_sections.specs.Index.{IsBuiltOver};
-ghost use Rattle.process_table.specs.Processes.{IsOver};
+ghost use Rattle.process_table.specs.Processes.{AreProcessesOver};
 ghost use Rattle.binary_holders.specs.Held.{capped, holdings};
 ghost use Rattle.size_order.specs.Sorting.{most_first};
-ghost use Rattle.binary_holders.specs.Usage.{IsCauseOf, NamesProcess, binaries_in, fronts_length, heaps_length, heaps_of, holders_in, shown_use, stored_in, usage_of};
+ghost use Rattle.binary_holders.specs.Usage.{IsHolderCauseOf, NamesProcess, binaries_in, fronts_length, heaps_length, heaps_of, holders_in, shown_use, stored_in, usage_of};
 ghost use Rattle.binary_holders.specs.Inner.Finding.{numbers_of, stored_of};
 ghost use Rattle.binary_holders.specs.Inner.Places.{numbers_in};
 ghost use Rattle.binary_holders.specs.Inner.Rows.{AreRows, row_at};
@@ -131,9 +131,9 @@ fn hear_binaries<D: Dumps>(
     sought: &Sought,
 ) -> Result<(Vec<Holding>, Tally), HolderFault>
     requires over { IsBuiltOver (D.state dumps.old).now index.now }
-    requires procs { IsOver index.now procs.now }
+    requires procs { AreProcessesOver index.now procs.now }
     ensures reads { ReadsAtMost (D.state dumps.old) (D.state dumps.new) (heaps_length index.now (map (λ process. process.pid) procs.now.processes)) }
-    ensures fault { IfErr result (IsCauseOf (D.state dumps.old) (D.state dumps.new)) }
+    ensures fault { IfErr result (IsHolderCauseOf (D.state dumps.old) (D.state dumps.new)) }
     ensures room { IfOk result (λ found. length found.1.holders.items ≡ length sought.now) }
     ensures held { IfOk result (λ found. (dump : List ℕ) → (D.state dumps.old).now ≡ told dump
         → found.0.items ≡ holdings sought.now (heaps_of dump index.now (map (λ process. process.pid) procs.now.processes))) }
@@ -170,7 +170,7 @@ fn stored_sought<D: Dumps>(
 ) -> Result<(Vec<StoredAt>, Sought), HolderFault>
     requires { IsBuiltOver (D.state dumps.old).now index.now }
     ensures reads { ReadsAtMost (D.state dumps.old) (D.state dumps.new) (fronts_length index.now) }
-    ensures fault { IfErr result (IsCauseOf (D.state dumps.old) (D.state dumps.new)) }
+    ensures fault { IfErr result (IsHolderCauseOf (D.state dumps.old) (D.state dumps.new)) }
     ensures within { IfOk result (λ found. All (λ binary. binary.section < length index.now.headers) found.0.items) }
     ensures stored { IfOk result (λ found. map (stored_of index.now) found.0.items ≡ stored_in index.now) }
     ensures numbers { IfOk result (λ found. numbers_in found.1 ≡ numbers_of found.0.items) }
@@ -205,13 +205,13 @@ pub fn binary_use<D: Dumps>(
     procs: &Procs,
 ) -> Result<BinaryUse, HolderFault>
     requires over { IsBuiltOver (D.state dumps.old).now index.now }
-    requires procs { IsOver index.now procs.now }
+    requires procs { AreProcessesOver index.now procs.now }
     ensures reads { ReadsAtMost (D.state dumps.old) (D.state dumps.new)
         (fronts_length index.now + heaps_length index.now (map (λ process. process.pid) procs.now.processes)) }
     ensures found { IfOk result (λ found. (dump : List ℕ) → (D.state dumps.old).now ≡ told dump
         → shown_use found ≡ usage_of dump index.now (map (λ process. process.pid) procs.now.processes)) }
     ensures named { IfOk result (λ found. All (NamesProcess (length procs.now.processes)) found.held.items) }
-    ensures fault { IfErr result (IsCauseOf (D.state dumps.old) (D.state dumps.new)) }
+    ensures fault { IfErr result (IsHolderCauseOf (D.state dumps.old) (D.state dumps.new)) }
 {
     let (stored, sought) = stored_sought(alloc, dumps, index)?;
     let (held, tally) = hear_binaries(alloc, dumps, index, procs, &sought)?;
@@ -250,12 +250,12 @@ pub fn holders<D: Dumps>(
     number: u64,
 ) -> Result<Vec<Holding>, HolderFault>
     requires over { IsBuiltOver (D.state dumps.old).now index.now }
-    requires procs { IsOver index.now procs.now }
+    requires procs { AreProcessesOver index.now procs.now }
     ensures reads { ReadsAtMost (D.state dumps.old) (D.state dumps.new) (heaps_length index.now (map (λ process. process.pid) procs.now.processes)) }
     ensures found { IfOk result (λ found. (dump : List ℕ) → (D.state dumps.old).now ≡ told dump
         → found.items ≡ holders_in dump index.now (map (λ process. process.pid) procs.now.processes) number) }
     ensures named { IfOk result (λ found. All (NamesProcess (length procs.now.processes)) found.items) }
-    ensures fault { IfErr result (IsCauseOf (D.state dumps.old) (D.state dumps.new)) }
+    ensures fault { IfErr result (IsHolderCauseOf (D.state dumps.old) (D.state dumps.new)) }
 {
     let Ok(sought) = one_sought(alloc, number) else {
         return Err(HolderFault::Memory);

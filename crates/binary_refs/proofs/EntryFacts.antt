@@ -16,7 +16,7 @@ use Rattle.dump_sections.specs.Laws.{option_or-none}
 use Rattle.heap_cells.specs.Cells.{Cell, kind_of}
 use Rattle.heap_cells.specs.HeapMap.{form_at}
 use Rattle.binary_refs.specs.declared.entries.Entry.{Entry}
-use Rattle.binary_refs.specs.Previews.{previews_of, entry_of, by_number, stated, stating, binaries, entry_at, AreFor}
+use Rattle.binary_refs.specs.Previews.{previews_of, preview_entry, by_number, stated, stating, binaries, entry_at, AreFor}
 use Rattle.binary_refs.specs.Inner.Kinds.{refers}
 
 -- ---- looking entries up
@@ -250,7 +250,7 @@ not-stated n (Some (RefBin address offset size)) other = absurd (true≢false ot
 not-stated n (Some (SubBin address offset size)) other = absurd (true≢false other)
 not-stated n (Some form) other = refl
 
-pub no-entry : (dump : List ℕ) (index : Contents) (enc : Enc) (cells : List Cell) (n : ℕ) (o : Option HeapForm) → refers (option_map kind_of o) ≡ false → option_and_then (entry_of dump index enc cells n) o ≡ None
+pub no-entry : (dump : List ℕ) (index : Contents) (enc : Enc) (cells : List Cell) (n : ℕ) (o : Option HeapForm) → refers (option_map kind_of o) ≡ false → option_and_then (preview_entry dump index enc cells n) o ≡ None
 no-entry dump index enc cells n None other = refl
 no-entry dump index enc cells n (Some (RefBin address offset size)) other = absurd (true≢false other)
 no-entry dump index enc cells n (Some (SubBin address offset size)) other = absurd (true≢false other)
@@ -258,12 +258,12 @@ no-entry dump index enc cells n (Some form) other = refl
 
 -- ---- heaps without a reference to a binary
 
-stated-of : (dump : List ℕ) (index : Contents) (enc : Enc) (cells : List Cell) (n : ℕ) (form : HeapForm) → stated n form ≡ None → entry_of dump index enc cells n form ≡ None
+stated-of : (dump : List ℕ) (index : Contents) (enc : Enc) (cells : List Cell) (n : ℕ) (form : HeapForm) → stated n form ≡ None → preview_entry dump index enc cells n form ≡ None
 stated-of dump index enc cells n (RefBin address offset size) none = absurd (let e : Some (n, size) ≡ None = none in cc)
 stated-of dump index enc cells n (SubBin address offset size) none = absurd (let e : Some (n, size) ≡ None = none in cc)
 stated-of dump index enc cells n form none = refl
 
-none-of : (dump : List ℕ) (index : Contents) (enc : Enc) (cells : List Cell) (n : ℕ) (o : Option HeapForm) → option_to_list (option_and_then (stated n) o) ≡ [] → option_to_list (option_and_then (entry_of dump index enc cells n) o) ≡ []
+none-of : (dump : List ℕ) (index : Contents) (enc : Enc) (cells : List Cell) (n : ℕ) (o : Option HeapForm) → option_to_list (option_and_then (stated n) o) ≡ [] → option_to_list (option_and_then (preview_entry dump index enc cells n) o) ≡ []
 none-of dump index enc cells n None none = refl
 none-of dump index enc cells n (Some form) none = ap option_to_list (stated-of dump index enc cells n form (no-list (stated n form) none))
   where
@@ -276,11 +276,11 @@ both-none : {X : Type 0} (xs ys : List X) → xs ++ ys ≡ [] → (xs ≡ []) ×
 both-none [] ys none = (refl, none)
 both-none (x ∷ xs) ys none = absurd (let e : x ∷ (xs ++ ys) ≡ [] = none in cc)
 
-upto-none : (dump : List ℕ) (index : Contents) (enc : Enc) (cells : List Cell) (n : ℕ) → by_number stated cells n ≡ [] → by_number (entry_of dump index enc cells) cells n ≡ []
+upto-none : (dump : List ℕ) (index : Contents) (enc : Enc) (cells : List Cell) (n : ℕ) → by_number stated cells n ≡ [] → by_number (preview_entry dump index enc cells) cells n ≡ []
 upto-none dump index enc cells zero none = refl
 upto-none dump index enc cells (suc n) none =
     let parts = both-none (by_number stated cells n) (option_to_list (one_stated cells n)) none in
-    ap (λ l. l ++ option_to_list (option_and_then (entry_of dump index enc cells n) (form_at cells n))) (upto-none dump index enc cells n parts.0)
+    ap (λ l. l ++ option_to_list (option_and_then (preview_entry dump index enc cells n) (form_at cells n))) (upto-none dump index enc cells n parts.0)
     ∙ none-of dump index enc cells n (form_at cells n) parts.1
 
 -- where no cell refers to a binary there are no previews

@@ -4,6 +4,6 @@ use Rattle.binary_refs.specs.declared.faults.PreviewFault.{PreviewFault}
 use Rattle.binary_refs.specs.declared.faults.PreviewFault.TheVariants.{Read, Memory}
 
 -- the device failed; memory may be lacking at any time
-abbrev pub IsCauseOf : DeviceState → DeviceState → PreviewFault → Type 0
-IsCauseOf before after Read = DeviceFailed before after
-IsCauseOf before after Memory = Unit {0}
+abbrev pub IsPreviewCauseOf : DeviceState → DeviceState → PreviewFault → Type 0
+IsPreviewCauseOf before after Read = DeviceFailed before after
+IsPreviewCauseOf before after Memory = Unit {0}

@@ -39,11 +39,11 @@ abbrev pub entry : ℕ → ℕ → Option (List ℕ) → Entry
 entry cell size bytes = record { cell = cell; size = size; bytes = bytes }
 
 -- the entry of a cell with this number and form; references to binaries and sub binaries have one
-abbrev pub entry_of : List ℕ → Contents → Enc → List Cell → ℕ → HeapForm → Option Entry
-entry_of dump index enc cells n (RefBin address offset size) = Some (entry n size (in_dump dump index enc address offset size))
-entry_of dump index enc cells n (SubBin address offset size) =
+abbrev pub preview_entry : List ℕ → Contents → Enc → List Cell → ℕ → HeapForm → Option Entry
+preview_entry dump index enc cells n (RefBin address offset size) = Some (entry n size (in_dump dump index enc address offset size))
+preview_entry dump index enc cells n (SubBin address offset size) =
     Some (entry n size (in_part (heap_binary cells address) dump index enc address offset size))
-entry_of dump index enc cells n form = None
+preview_entry dump index enc cells n form = None
 
 -- what the first n cells give, by their numbers and forms, in order
 abbrev pub by_number : {X : Type 0} → (ℕ → HeapForm → Option X) → List Cell → ℕ → List X
@@ -52,7 +52,7 @@ by_number f cells (suc n) = by_number f cells n ++ option_to_list (option_and_th
 
 -- the previews of a heap's cells over the bytes of a dump
 abbrev pub previews_of : List ℕ → Contents → Enc → List Cell → List Entry
-previews_of dump index enc cells = by_number (entry_of dump index enc cells) cells (length cells)
+previews_of dump index enc cells = by_number (preview_entry dump index enc cells) cells (length cells)
 
 -- the number of a cell that refers to a binary, and the size that it states
 abbrev pub stated : ℕ → HeapForm → Option (ℕ × ℕ)

@@ -19,8 +19,8 @@ use Rattle.stored_binaries.specs.Payloads.{payload_of}
 use Rattle.stored_binaries.specs.StoredBinaries.{binary_section}
 
 -- the text of a body's first line; an empty body has none
-abbrev pub first_text : List ℕ → Option (List ℕ)
-first_text body = option_map (λ line. line.text) (slice_get (text_lines body) 0)
+abbrev pub first_line_text : List ℕ → Option (List ℕ)
+first_line_text body = option_map (λ line. line.text) (slice_get (text_lines body) 0)
 
 -- the bytes of a text that is a length in hex, `:`, and the payload of that many bytes
 abbrev pub bytes_of_text : Enc → List ℕ → Option (List ℕ)
@@ -28,7 +28,7 @@ bytes_of_text enc text = option_and_then (λ led. payload_of enc led.0 led.1) (l
 
 -- the bytes of a `binary` section's body, if its first line is such a text
 abbrev pub bytes_of_body : Enc → List ℕ → Option (List ℕ)
-bytes_of_body enc body = option_and_then (bytes_of_text enc) (first_text body)
+bytes_of_body enc body = option_and_then (bytes_of_text enc) (first_line_text body)
 
 -- the bytes of the first `binary` section with this address, from the bytes of a dump
 abbrev pub whole_bytes : List ℕ → Contents → ℕ → Option (List ℕ)

@@ -9,8 +9,8 @@ ghost use Rattle.term_forms.specs.Seen.{number_rest};
 ghost use Rattle.term_forms.specs.SeenForms.{heap_form};
 ghost use Rattle.heap_cells.specs.HeapMap.{form_at};
 ghost use Rattle.heap_cells.specs.Targets.{number};
-ghost use Rattle.binary_refs.specs.Loading.{IsCauseOf};
-ghost use Rattle.binary_refs.specs.Previews.{own_binary, heap_binary, in_heap, in_part, entry, entry_of, previews_of, stated, stating, binaries, entry_at, AreFor, IsFew, told_entry};
+ghost use Rattle.binary_refs.specs.Loading.{IsPreviewCauseOf};
+ghost use Rattle.binary_refs.specs.Previews.{own_binary, heap_binary, in_heap, in_part, entry, preview_entry, previews_of, stated, stating, binaries, entry_at, AreFor, IsFew, told_entry};
 ghost use Rattle.binary_refs.specs.Inner.Kinds.{is_own, refers};
 
 use crate::entries::{Entry, Preview};
@@ -108,7 +108,7 @@ fn read_form<D: Dumps>(
     ensures reads { ReadsAtMost (D.state dumps.old) (D.state dumps.new) (128 * length (option_to_list (stated n (heap_form form.now)))) }
     ensures failed { OnErr result (DeviceFailed (D.state dumps.old) (D.state dumps.new)) }
     ensures stated { IfOk result (λ entry. option_map stating entry ≡ stated n (heap_form form.now)) }
-    ensures entry { IfOk result (λ entry. (dump : List ℕ) → (D.state dumps.old).now ≡ told dump → entry ≡ entry_of dump places.now heap.now.enc heap.now.cells n (heap_form form.now)) }
+    ensures entry { IfOk result (λ entry. (dump : List ℕ) → (D.state dumps.old).now ≡ told dump → entry ≡ preview_entry dump places.now heap.now.enc heap.now.cells n (heap_form form.now)) }
 {
     match form {
         Form::RefBin(address, offset, size) => {
@@ -145,7 +145,7 @@ fn read_entry<D: Dumps>(
     ensures failed { OnErr result (DeviceFailed (D.state dumps.old) (D.state dumps.new)) }
     ensures stated { IfOk result (λ entry. option_map stating entry ≡ option_and_then (stated n) (form_at heap.now.cells n)) }
     ensures entry { IfOk result (λ entry. (dump : List ℕ) → (D.state dumps.old).now ≡ told dump
-        → entry ≡ option_and_then (entry_of dump places.now heap.now.enc heap.now.cells n) (form_at heap.now.cells n)) }
+        → entry ≡ option_and_then (preview_entry dump places.now heap.now.enc heap.now.cells n) (form_at heap.now.cells n)) }
 {
     let ix = heap.cell(n);
     if !refers(heap.kind(ix)) {
@@ -168,10 +168,10 @@ fn push_entry<D: Dumps>(
     requires over { IsBuiltOver (D.state dumps.old).now places.now }
     requires cell { n < length heap.now.cells }
     ensures reads { ReadsAtMost (D.state dumps.old) (D.state dumps.new) (128 * length (option_to_list (option_and_then (stated n) (form_at heap.now.cells n)))) }
-    ensures fault { IfErr result (IsCauseOf (D.state dumps.old) (D.state dumps.new)) }
+    ensures fault { IfErr result (IsPreviewCauseOf (D.state dumps.old) (D.state dumps.new)) }
     ensures stated { OnOk result (map stating entries.new.items ≡ map stating entries.old.items ++ option_to_list (option_and_then (stated n) (form_at heap.now.cells n))) }
     ensures entry { OnOk result ((dump : List ℕ) → (D.state dumps.old).now ≡ told dump
-        → entries.new.items ≡ entries.old.items ++ option_to_list (option_and_then (entry_of dump places.now heap.now.enc heap.now.cells n) (form_at heap.now.cells n))) }
+        → entries.new.items ≡ entries.old.items ++ option_to_list (option_and_then (preview_entry dump places.now heap.now.enc heap.now.cells n) (form_at heap.now.cells n))) }
 {
     let Ok(entry) = read_entry(dumps, places, heap, n) else {
         return Err(PreviewFault::Read);
@@ -193,7 +193,7 @@ fn read_entries<D: Dumps>(
 ) -> Result<Vec<Entry>, PreviewFault>
     requires over { IsBuiltOver (D.state dumps.old).now places.now }
     ensures reads { ReadsAtMost (D.state dumps.old) (D.state dumps.new) (128 * length (binaries heap.now.cells)) }
-    ensures fault { IfErr result (IsCauseOf (D.state dumps.old) (D.state dumps.new)) }
+    ensures fault { IfErr result (IsPreviewCauseOf (D.state dumps.old) (D.state dumps.new)) }
     ensures stated { IfOk result (λ entries. map stating entries.items ≡ binaries heap.now.cells) }
     ensures entries { IfOk result (λ entries. (dump : List ℕ) → (D.state dumps.old).now ≡ told dump → entries.items ≡ previews_of dump places.now heap.now.enc heap.now.cells) }
 {
@@ -285,7 +285,7 @@ impl Previews {
         ensures previews { IfOk result (λ previews. (dump : List ℕ) → (D.state dumps.old).now ≡ told dump → previews ≡ previews_of dump index.now heap.now.enc heap.now.cells) }
         ensures stated { IfOk result (λ previews. map stating previews ≡ binaries heap.now.cells) }
         ensures each { IfOk result (AreFor heap.now.cells) }
-        ensures fault { IfErr result (IsCauseOf (D.state dumps.old) (D.state dumps.new)) }
+        ensures fault { IfErr result (IsPreviewCauseOf (D.state dumps.old) (D.state dumps.new)) }
     {
         // A heap without a reference to a binary needs no order of the sections.
         if !has_reference(heap) {
@@ -311,7 +311,7 @@ impl Previews {
         ensures previews { IfOk result (λ previews. (dump : List ℕ) → (D.state dumps.old).now ≡ told dump → previews ≡ previews_of dump places.now heap.now.enc heap.now.cells) }
         ensures stated { IfOk result (λ previews. map stating previews ≡ binaries heap.now.cells) }
         ensures each { IfOk result (AreFor heap.now.cells) }
-        ensures fault { IfErr result (IsCauseOf (D.state dumps.old) (D.state dumps.new)) }
+        ensures fault { IfErr result (IsPreviewCauseOf (D.state dumps.old) (D.state dumps.new)) }
     {
         let entries = read_entries(alloc, dumps, places, heap)?;
         Ok(Previews { entries })

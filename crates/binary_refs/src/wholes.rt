@@ -7,7 +7,7 @@ ghost use Rattle.dump_sections.specs.Index.{IsBuiltOver, sections_in};
 ghost use Rattle.heap_cells.specs.Loading.{enc_of};
 ghost use Rattle.stored_binaries.specs.StoredBinaries.{binary_section};
 ghost use Rattle.stored_binaries.specs.Payloads.{bytes_in};
-ghost use Rattle.binary_refs.specs.Wholes.{first_text, bytes_of_body, whole_bytes, bin_fault_of, refused, IsBinAnswerFor, LoadsBinary};
+ghost use Rattle.binary_refs.specs.Wholes.{first_line_text, bytes_of_body, whole_bytes, bin_fault_of, refused, IsBinAnswerFor, LoadsBinary};
 
 use crate::faults::BinFault;
 use dump_io::{Dumps, Limits};
@@ -20,7 +20,7 @@ use term_forms::{Enc, heap_line};
 
 // The text of a body's first line.
 fn first_text(body: &[u8]) -> Option<&[u8]>
-    ensures { option_copied result ≡ first_text body.now }
+    ensures { option_copied result ≡ first_line_text body.now }
 {
     let line = lines(body).next()?;
     Some(line.text)

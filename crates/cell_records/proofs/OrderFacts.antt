@@ -15,7 +15,7 @@ use Rattle.std.proofs.lemmas.Option.{slice_get-get_or}
 use Rattle.std.specs.List.{position, position_or_len}
 use Rattle.std.proofs.lemmas.List.Sums.{position_or_len_is}
 use Rattle.cell_records.specs.declared.cells.CellRecord.{CellRecord}
-use Rattle.cell_records.specs.Order.{address_in, rank, IsOrder, record_with, IsPairOf, ArePairs, AreRanked}
+use Rattle.cell_records.specs.Order.{address_in, rank, IsOrder, record_with, IsRecordPair, AreRecordPairs, AreRanked}
 use Rattle.cell_records.specs.Inner.References.{IsFirstFrom}
 use Rattle.cell_records.specs.Inner.Ranks.{pair_at, AreNumbered}
 use Rattle.cell_records.specs.declared.ranks.Kept.{Kept}
@@ -136,20 +136,20 @@ pairs-more rs pairs more i count each is = (
     before d j inside = ap (λ l. get_or l j d) is ∙ get_or_append_left pairs ((address_in rs i, i) ∷ []) d j (omega (arith, inside, count)) ∙ each j d inside
 
 pub pairs-all : (rs : List CellRecord) (pairs : List (ℕ × ℕ)) (i : ℕ) → length pairs ≡ i → ((k : ℕ) (d : ℕ × ℕ) → k < i → get_or pairs k d ≡ (address_in rs k, k))
-    → i ≡ length rs → ArePairs rs pairs
+    → i ≡ length rs → AreRecordPairs rs pairs
 pairs-all rs pairs i count each all = record {
-  each = λ k d inside. subst (IsPairOf rs) (sym (each k d (omega (arith, inside, count)))) (pair k (omega (arith, inside, count, all)));
+  each = λ k d inside. subst (IsRecordPair rs) (sym (each k d (omega (arith, inside, count)))) (pair k (omega (arith, inside, count, all)));
   complete = λ n inside. (n, omega (arith, inside, count, all), each n (address_in rs n, n) (omega (arith, inside, all)));
 }
   where
-    pair : (k : ℕ) → k < length rs → IsPairOf rs (address_in rs k, k)
+    pair : (k : ℕ) → k < length rs → IsRecordPair rs (address_in rs k, k)
     pair k inside = record { within = inside; address = refl }
 
 -- ---- sorted pairs
 
-pub pairs-moved : (rs : List CellRecord) (pairs sorted : List (ℕ × ℕ)) → ArePairs rs pairs → IsPermutation pairs sorted → ArePairs rs sorted
+pub pairs-moved : (rs : List CellRecord) (pairs sorted : List (ℕ × ℕ)) → AreRecordPairs rs pairs → IsPermutation pairs sorted → AreRecordPairs rs sorted
 pairs-moved rs pairs sorted are moved = record {
-  each = All-permutation (IsPairOf rs) pairs sorted moved are.each;
+  each = All-permutation (IsRecordPair rs) pairs sorted moved are.each;
   complete = λ n inside. Contains-permutation pairs sorted (address_in rs n, n) moved (are.complete n inside);
 }
 
@@ -177,7 +177,7 @@ pairs-ranked pairs few sorted =
     not-less (get_or pairs k d).0 (get_or pairs k d).1 (get_or pairs (k + 1) d).0 (get_or pairs (k + 1) d).1 (omega (arith, one)) (omega (arith, other)) (sorted k d (omega arith) inside))
 
 -- the numbers of sorted pairs
-pub order-is : (rs : List CellRecord) (pairs : List (ℕ × ℕ)) (order : List ℕ) → ArePairs rs pairs → IsNonDecreasingBy (λ (p : ℕ × ℕ). rank p.0 p.1) pairs
+pub order-is : (rs : List CellRecord) (pairs : List (ℕ × ℕ)) (order : List ℕ) → AreRecordPairs rs pairs → IsNonDecreasingBy (λ (p : ℕ × ℕ). rank p.0 p.1) pairs
     → map (λ (p : ℕ × ℕ). p.1) pairs ≡ order → IsOrder rs order
 order-is rs pairs order are sorted is = subst (IsOrder rs) is (record {
   within = All-map (λ n. n < length rs) (λ (p : ℕ × ℕ). p.1) pairs (λ k d inside. (are.each k d inside).within);
@@ -204,7 +204,7 @@ pub order-of : (rs : List CellRecord) (pairs : List (ℕ × ℕ)) → AreRanked 
 order-of rs pairs are = order-is rs pairs (numbers_of pairs) are.pairs_are are.sorted refl
 
 -- the address of the record whose number stands at a place
-pub address-at : (rs : List CellRecord) (pairs : List (ℕ × ℕ)) (k d : ℕ) → ArePairs rs pairs → k < length pairs
+pub address-at : (rs : List CellRecord) (pairs : List (ℕ × ℕ)) (k d : ℕ) → AreRecordPairs rs pairs → k < length pairs
     → address_in rs (get_or (numbers_of pairs) k d) ≡ (get_or pairs k (0, 0)).0
 address-at rs pairs k d are inside = ap (address_in rs) (get_or-map (λ (p : ℕ × ℕ). p.1) pairs k (0, 0) d inside) ∙ (are.each k (0, 0) inside).address
 
@@ -213,7 +213,7 @@ pub addresses-rise : (pairs : List (ℕ × ℕ)) (i j : ℕ) → All (λ (p : �
 addresses-rise pairs i j few sorted up inside =
     lesser (get_or pairs i (0, 0)).0 (get_or pairs j (0, 0)).0 (get_or pairs i (0, 0)).1 (get_or pairs j (0, 0)).1 (few i (0, 0) (omega arith)) (few j (0, 0) inside) (sorted i j (0, 0) up inside)
 
-few-pairs : (rs : List CellRecord) (pairs : List (ℕ × ℕ)) → length rs ≤ 100000000 → ArePairs rs pairs → All (λ (p : ℕ × ℕ). p.1 < 4294967296) pairs
+few-pairs : (rs : List CellRecord) (pairs : List (ℕ × ℕ)) → length rs ≤ 100000000 → AreRecordPairs rs pairs → All (λ (p : ℕ × ℕ). p.1 < 4294967296) pairs
 few-pairs rs pairs few are k d inside = let one = (are.each k d inside).within in omega (arith, one, few)
 
 point-of : (rs : List CellRecord) (pairs : List (ℕ × ℕ)) (address at : ℕ) → length rs ≤ 100000000 → AreRanked rs pairs → IsFirstFrom pairs address at

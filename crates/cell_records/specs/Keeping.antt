@@ -33,6 +33,6 @@ pub record AreFirstKept (all : Arena) (own : ℕ) (found : Indexed) : Type 0 whe
   pub own_is : found.own ≡ length (kept_upto all.cells.items all.slots.items own).0
 
 -- the records that are the first with their address, with their order by address
-pub record IsIndexOf (all : Arena) (own : ℕ) (found : Indexed) : Type 0 where
+pub record IsArenaIndex (all : Arena) (own : ℕ) (found : Indexed) : Type 0 where
   pub kept : AreAllKept all own found ⊎ AreFirstKept all own found
   pub ranks_are : AreRanked found.arena.cells.items found.ranks

@@ -29,16 +29,16 @@ abbrev pub is_first : List CellRecord → ℕ → Bool
 is_first records n = not (list_any (λ r. r.address == address_in records n) (take n records))
 
 -- a record's address and its number
-pub record IsPairOf (records : List CellRecord) (pair : ℕ × ℕ) : Type 0 where
+pub record IsRecordPair (records : List CellRecord) (pair : ℕ × ℕ) : Type 0 where
   pub within : pair.1 < length records
   pub address : address_in records pair.1 ≡ pair.0
 
 -- the pairs of all records
-pub record ArePairs (records : List CellRecord) (pairs : List (ℕ × ℕ)) : Type 0 where
-  pub each : All (IsPairOf records) pairs
+pub record AreRecordPairs (records : List CellRecord) (pairs : List (ℕ × ℕ)) : Type 0 where
+  pub each : All (IsRecordPair records) pairs
   pub complete : (n : ℕ) → n < length records → Contains pairs (address_in records n, n)
 
 -- the same, sorted by address and then by number
 pub record AreRanked (records : List CellRecord) (pairs : List (ℕ × ℕ)) : Type 0 where
-  pub pairs_are : ArePairs records pairs
+  pub pairs_are : AreRecordPairs records pairs
   pub sorted : IsNonDecreasingBy (λ pair. rank pair.0 pair.1) pairs

@@ -1,6 +1,6 @@
 // Keeping the first of the cells with each address.
 ghost use Rattle.std.specs.Prelude.{◌≡◌, ◌+◌, ◌<◌, ◌≤◌, ◌++◌, length, OnOk, IfOk};
-ghost use Rattle.cell_records.specs.Keeping.{moved_record, kept_upto, IsIndexOf};
+ghost use Rattle.cell_records.specs.Keeping.{moved_record, kept_upto, IsArenaIndex};
 ghost use Rattle.cell_records.specs.Inner.Firsts.{AreFirsts};
 ghost use Rattle.cell_records.specs.Slots.{slots_at, start_at, AreOrdered};
 
@@ -97,7 +97,7 @@ pub fn index_cells(alloc: Global, all: Arena, own: usize) -> Result<Indexed, All
     requires cells { length all.cells.items ≤ 100000000 }
     requires slots { length all.slots.items < 4294967296 }
     requires ordered { AreOrdered all.cells.items (length all.slots.items) }
-    ensures { IfOk result (IsIndexOf all own) }
+    ensures { IfOk result (IsArenaIndex all own) }
 {
     let ranks = ranks_of(alloc, &all.cells)?;
     if are_apart(&ranks) {

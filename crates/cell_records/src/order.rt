@@ -1,7 +1,7 @@
 // The numbers of cells by address.
 ghost use Rattle.std.specs.Prelude.{◌≡◌, ◌<◌, ◌≤◌, ◌||◌, ◌-◌, ◌==◌, length, nat_lt, not, true, false, IfOk, slice_index_or};
 ghost use Rattle.std.specs.List.Sorted.{IsNonDecreasingBy, IsPartitionPoint};
-ghost use Rattle.cell_records.specs.Order.{address_in, IsOrder, record_with, ArePairs, AreRanked};
+ghost use Rattle.cell_records.specs.Order.{address_in, IsOrder, record_with, AreRecordPairs, AreRanked};
 ghost use Rattle.cell_records.specs.Inner.Firsts.{AreFirsts};
 
 use crate::cells::CellRecord;
@@ -45,7 +45,7 @@ pub fn number_of(order: &[u32], cells: &[CellRecord], address: u64) -> Option<u3
 // The address of each cell, with the cell's number.
 fn pairs_of(alloc: Global, cells: &[CellRecord]) -> Result<Ranks, AllocError>
     requires { length cells.now ≤ 100000000 }
-    ensures { IfOk result (ArePairs cells.now) }
+    ensures { IfOk result (AreRecordPairs cells.now) }
 {
     let mut pairs = Ranks::around(alloc, address_of(cells, 0), cells.len())?;
     for i in 0..cells.len() {

@@ -1,6 +1,6 @@
 ghost use Rattle.std.specs.Prelude.{◌≡◌, All};
 ghost use Rattle.dump_sections.specs.Index.{IsBuiltOver};
-ghost use Rattle.process_table.specs.Processes.{IsIn};
+ghost use Rattle.process_table.specs.Processes.{IsProcessIn};
 ghost use Rattle.link_graph.specs.Graph.{graph_of};
 ghost use Rattle.dump_audit.specs.Fitting.{Fits};
 
@@ -43,7 +43,7 @@ fn put_found<K: Sink>(
     limit: u64,
 ) -> Result<(), Fail>
     requires graph { graph.now ≡ graph_of procs.now.processes }
-    requires sections { All (IsIn index.now) procs.now.processes }
+    requires sections { All (IsProcessIn index.now) procs.now.processes }
 {
     let found = audit_with(alloc, index, procs, graph, limit, None)?;
     put_both(alloc, sink, index, procs, graph, &found)
@@ -56,7 +56,7 @@ fn put_among<K: Sink>(
     procs: &Procs,
     limit: u64,
 ) -> Result<(), Fail>
-    requires { All (IsIn index.now) procs.now.processes }
+    requires { All (IsProcessIn index.now) procs.now.processes }
 {
     let graph = Graph::build(alloc, procs)?;
     put_found(alloc, sink, index, procs, &graph, limit)

@@ -52,33 +52,33 @@ pub data Command : Type 0 where
   trial : ℕ → ℕ → Command
 
 -- the value of a command whose words are borrowed
-abbrev pub shown : Cmd → Command
-shown (Index file) = index file.now
-shown (Info file) = info file.now
-shown (Procs file) = procs file.now
-shown (Proc file pid) = proc file.now pid.now
-shown (Memory file) = memory file.now
-shown (Ets file) = table kinds.Ets file.now
-shown (Ports file) = table kinds.Ports file.now
-shown (Nodes file) = table kinds.Nodes file.now
-shown (Mods file) = table kinds.Mods file.now
-shown (Stack file pid nodes marked) = roots bodies.Stack file.now pid.now nodes marked
-shown (Dict file pid nodes marked) = roots bodies.Dict file.now pid.now nodes marked
-shown (Mail file pid nodes marked) = roots bodies.Mail file.now pid.now nodes marked
-shown (Term file pid addr nodes marked) = term file.now pid.now addr nodes marked
-shown (Ext file pid addr) = ext file.now pid.now addr
-shown (Reach file pid) = reach file.now pid.now
-shown (Cells file pid) = cells file.now pid.now
-shown (Binary file addr) = binary file.now addr
-shown (Binaries file) = binaries file.now
-shown (Holders file addr) = holders file.now addr
-shown (Triage file count) = triage file.now count
-shown (Links file) = links file.now
-shown (Redact file) = redact file.now
-shown (Audit file limit full) = audit file.now limit full
-shown (AuditJson file limit full) = audit_json file.now limit full
-shown (Make seed count) = make seed count
-shown (Trial seed count) = trial seed count
+abbrev pub shown_command : Cmd → Command
+shown_command (Index file) = index file.now
+shown_command (Info file) = info file.now
+shown_command (Procs file) = procs file.now
+shown_command (Proc file pid) = proc file.now pid.now
+shown_command (Memory file) = memory file.now
+shown_command (Ets file) = table kinds.Ets file.now
+shown_command (Ports file) = table kinds.Ports file.now
+shown_command (Nodes file) = table kinds.Nodes file.now
+shown_command (Mods file) = table kinds.Mods file.now
+shown_command (Stack file pid nodes marked) = roots bodies.Stack file.now pid.now nodes marked
+shown_command (Dict file pid nodes marked) = roots bodies.Dict file.now pid.now nodes marked
+shown_command (Mail file pid nodes marked) = roots bodies.Mail file.now pid.now nodes marked
+shown_command (Term file pid addr nodes marked) = term file.now pid.now addr nodes marked
+shown_command (Ext file pid addr) = ext file.now pid.now addr
+shown_command (Reach file pid) = reach file.now pid.now
+shown_command (Cells file pid) = cells file.now pid.now
+shown_command (Binary file addr) = binary file.now addr
+shown_command (Binaries file) = binaries file.now
+shown_command (Holders file addr) = holders file.now addr
+shown_command (Triage file count) = triage file.now count
+shown_command (Links file) = links file.now
+shown_command (Redact file) = redact file.now
+shown_command (Audit file limit full) = audit file.now limit full
+shown_command (AuditJson file limit full) = audit_json file.now limit full
+shown_command (Make seed count) = make seed count
+shown_command (Trial seed count) = trial seed count
 
 -- a command with one word, which is the name of a file; `triage` then shows 10 rows of each table
 abbrev pub file_command : List ℕ → List ℕ → Option Command
@@ -158,28 +158,28 @@ command (name ∷ file ∷ word ∷ []) = word_command name file word
 command (name ∷ file ∷ word ∷ more ∷ words) = process_command name file word (more ∷ words)
 
 -- the name of the file that a command opens, if it opens one
-abbrev pub file_of : Command → Option (List ℕ)
-file_of (index file) = Some file
-file_of (info file) = Some file
-file_of (procs file) = Some file
-file_of (proc file pid) = Some file
-file_of (memory file) = Some file
-file_of (table kind file) = Some file
-file_of (roots kind file pid nodes marked) = Some file
-file_of (term file pid addr nodes marked) = Some file
-file_of (ext file pid addr) = Some file
-file_of (reach file pid) = Some file
-file_of (cells file pid) = Some file
-file_of (binary file addr) = Some file
-file_of (binaries file) = Some file
-file_of (holders file addr) = Some file
-file_of (triage file count) = Some file
-file_of (links file) = Some file
-file_of (redact file) = Some file
-file_of (audit file limit full) = Some file
-file_of (audit_json file limit full) = Some file
-file_of (make seed count) = None
-file_of (trial seed count) = None
+abbrev pub file_name : Command → Option (List ℕ)
+file_name (index file) = Some file
+file_name (info file) = Some file
+file_name (procs file) = Some file
+file_name (proc file pid) = Some file
+file_name (memory file) = Some file
+file_name (table kind file) = Some file
+file_name (roots kind file pid nodes marked) = Some file
+file_name (term file pid addr nodes marked) = Some file
+file_name (ext file pid addr) = Some file
+file_name (reach file pid) = Some file
+file_name (cells file pid) = Some file
+file_name (binary file addr) = Some file
+file_name (binaries file) = Some file
+file_name (holders file addr) = Some file
+file_name (triage file count) = Some file
+file_name (links file) = Some file
+file_name (redact file) = Some file
+file_name (audit file limit full) = Some file
+file_name (audit_json file limit full) = Some file
+file_name (make seed count) = None
+file_name (trial seed count) = None
 
 -- the numbers of a command are in the ranges that it takes
 abbrev pub IsInRange : Command → Type 0

@@ -1,7 +1,7 @@
 // The words of a command that makes a dump.
 ghost use Rattle.std.specs.Prelude.{◌≡◌, option_map};
 ghost use Rattle.std.specs.Option.{IfSome};
-ghost use Rattle.command_words.specs.Command.{made_command, make, shown, trial, IsInRange};
+ghost use Rattle.command_words.specs.Command.{made_command, make, shown_command, trial, IsInRange};
 
 use crate::numbers::number_upto;
 use crate::words::Cmd;
@@ -12,8 +12,8 @@ const MOST_PROCESSES: u32 = 200_000;
 
 /// The command that makes a dump.
 pub(crate) fn make_command<'a>(seed: &str, count: &str) -> Option<Cmd<'a>>
-    ensures reads { option_map shown result ≡ made_command make seed.now count.now }
-    ensures range { IfSome result (λ cmd. IsInRange (shown cmd)) }
+    ensures reads { option_map shown_command result ≡ made_command make seed.now count.now }
+    ensures range { IfSome result (λ cmd. IsInRange (shown_command cmd)) }
 {
     let seed = dec_u64(seed.as_bytes())?;
     let count = number_upto(count, MOST_PROCESSES)?;
@@ -22,8 +22,8 @@ pub(crate) fn make_command<'a>(seed: &str, count: &str) -> Option<Cmd<'a>>
 
 /// The command that summarizes the reports on such a dump.
 pub(crate) fn trial_command<'a>(seed: &str, count: &str) -> Option<Cmd<'a>>
-    ensures reads { option_map shown result ≡ made_command trial seed.now count.now }
-    ensures range { IfSome result (λ cmd. IsInRange (shown cmd)) }
+    ensures reads { option_map shown_command result ≡ made_command trial seed.now count.now }
+    ensures range { IfSome result (λ cmd. IsInRange (shown_command cmd)) }
 {
     let seed = dec_u64(seed.as_bytes())?;
     let count = number_upto(count, MOST_PROCESSES)?;

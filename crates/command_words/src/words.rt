@@ -2,7 +2,7 @@
 ghost use Rattle.std.specs.Prelude.{◌≡◌, [], map, option_map};
 ghost use Rattle.std.specs.Option.{IfSome};
 ghost use Rattle.std.specs.String.{string_bytes};
-ghost use Rattle.command_words.specs.Command.{audit, audit_command, audit_json, binary, command, ext_command, file_command, full_of, holders, process_command, roots_command, term_command, triage, word_command, shown, IsInRange};
+ghost use Rattle.command_words.specs.Command.{audit, audit_command, audit_json, binary, command, ext_command, file_command, full_of, holders, process_command, roots_command, term_command, triage, word_command, shown_command, IsInRange};
 ghost use Rattle.command_words.specs.Ranges.{number_upto};
 ghost use Rattle.dump_io.specs.Numbers.{hex_number};
 
@@ -162,8 +162,8 @@ pub enum Cmd<'a> {
 
 /// The command that the words after the program's name are. Returns `None` exactly when they are no command.
 pub fn read_words(words: &[String]) -> Option<Cmd<'_>>
-    ensures reads { option_map shown result ≡ command (map string_bytes words.now) }
-    ensures range { IfSome result (λ cmd. IsInRange (shown cmd)) }
+    ensures reads { option_map shown_command result ≡ command (map string_bytes words.now) }
+    ensures range { IfSome result (λ cmd. IsInRange (shown_command cmd)) }
 {
     match words {
         [name, file] => file_command(name.as_str(), file.as_str()),
@@ -179,8 +179,8 @@ pub fn read_words(words: &[String]) -> Option<Cmd<'_>>
 }
 
 fn file_command<'a>(name: &str, file: &'a str) -> Option<Cmd<'a>>
-    ensures reads { option_map shown result ≡ file_command name.now file.now }
-    ensures range { IfSome result (λ cmd. IsInRange (shown cmd)) }
+    ensures reads { option_map shown_command result ≡ file_command name.now file.now }
+    ensures range { IfSome result (λ cmd. IsInRange (shown_command cmd)) }
 {
     match name {
         "index" => Some(Cmd::Index { file }),
@@ -203,8 +203,8 @@ fn file_command<'a>(name: &str, file: &'a str) -> Option<Cmd<'a>>
 }
 
 fn word_command<'a>(name: &str, file: &'a str, word: &'a str) -> Option<Cmd<'a>>
-    ensures reads { option_map shown result ≡ word_command name.now file.now word.now }
-    ensures range { IfSome result (λ cmd. IsInRange (shown cmd)) }
+    ensures reads { option_map shown_command result ≡ word_command name.now file.now word.now }
+    ensures range { IfSome result (λ cmd. IsInRange (shown_command cmd)) }
 {
     match name {
         "proc" => Some(Cmd::Proc { file, pid: word }),
@@ -220,32 +220,32 @@ fn word_command<'a>(name: &str, file: &'a str, word: &'a str) -> Option<Cmd<'a>>
 }
 
 fn binary_command<'a>(file: &'a str, word: &str) -> Option<Cmd<'a>>
-    ensures reads { option_map shown result ≡ option_map (binary file.now) (hex_number word.now) }
-    ensures range { IfSome result (λ cmd. IsInRange (shown cmd)) }
+    ensures reads { option_map shown_command result ≡ option_map (binary file.now) (hex_number word.now) }
+    ensures range { IfSome result (λ cmd. IsInRange (shown_command cmd)) }
 {
     let addr = hex_u64(word.as_bytes())?;
     Some(Cmd::Binary { file, addr })
 }
 
 fn holders_command<'a>(file: &'a str, word: &str) -> Option<Cmd<'a>>
-    ensures reads { option_map shown result ≡ option_map (holders file.now) (hex_number word.now) }
-    ensures range { IfSome result (λ cmd. IsInRange (shown cmd)) }
+    ensures reads { option_map shown_command result ≡ option_map (holders file.now) (hex_number word.now) }
+    ensures range { IfSome result (λ cmd. IsInRange (shown_command cmd)) }
 {
     let addr = hex_u64(word.as_bytes())?;
     Some(Cmd::Holders { file, addr })
 }
 
 fn triage_command<'a>(file: &'a str, word: &str) -> Option<Cmd<'a>>
-    ensures reads { option_map shown result ≡ option_map (triage file.now) (number_upto 1000 word.now) }
-    ensures range { IfSome result (λ cmd. IsInRange (shown cmd)) }
+    ensures reads { option_map shown_command result ≡ option_map (triage file.now) (number_upto 1000 word.now) }
+    ensures range { IfSome result (λ cmd. IsInRange (shown_command cmd)) }
 {
     let count = number_upto(word, MOST_ROWS)?;
     Some(Cmd::Triage { file, count })
 }
 
 fn process_command<'a>(name: &str, file: &'a str, pid: &'a str, words: &[String]) -> Option<Cmd<'a>>
-    ensures reads { option_map shown result ≡ process_command name.now file.now pid.now (map string_bytes words.now) }
-    ensures range { IfSome result (λ cmd. IsInRange (shown cmd)) }
+    ensures reads { option_map shown_command result ≡ process_command name.now file.now pid.now (map string_bytes words.now) }
+    ensures range { IfSome result (λ cmd. IsInRange (shown_command cmd)) }
 {
     match name {
         "stack" => roots_command(RootKind::Stack, file, pid, words),
@@ -265,8 +265,8 @@ fn roots_command<'a>(
     pid: &'a str,
     words: &[String],
 ) -> Option<Cmd<'a>>
-    ensures reads { option_map shown result ≡ roots_command kind file.now pid.now (map string_bytes words.now) }
-    ensures range { IfSome result (λ cmd. IsInRange (shown cmd)) }
+    ensures reads { option_map shown_command result ≡ roots_command kind file.now pid.now (map string_bytes words.now) }
+    ensures range { IfSome result (λ cmd. IsInRange (shown_command cmd)) }
 {
     let Budget { nodes, marked } = read_budget(words)?;
     Some(match kind {
@@ -292,8 +292,8 @@ fn roots_command<'a>(
 }
 
 fn term_command<'a>(file: &'a str, pid: &'a str, words: &[String]) -> Option<Cmd<'a>>
-    ensures reads { option_map shown result ≡ term_command file.now pid.now (map string_bytes words.now) }
-    ensures range { IfSome result (λ cmd. IsInRange (shown cmd)) }
+    ensures reads { option_map shown_command result ≡ term_command file.now pid.now (map string_bytes words.now) }
+    ensures range { IfSome result (λ cmd. IsInRange (shown_command cmd)) }
 {
     let [addr, rest @ ..] = words else {
         return None;
@@ -310,8 +310,8 @@ fn term_command<'a>(file: &'a str, pid: &'a str, words: &[String]) -> Option<Cmd
 }
 
 fn ext_command<'a>(file: &'a str, pid: &'a str, words: &[String]) -> Option<Cmd<'a>>
-    ensures reads { option_map shown result ≡ ext_command file.now pid.now (map string_bytes words.now) }
-    ensures range { IfSome result (λ cmd. IsInRange (shown cmd)) }
+    ensures reads { option_map shown_command result ≡ ext_command file.now pid.now (map string_bytes words.now) }
+    ensures range { IfSome result (λ cmd. IsInRange (shown_command cmd)) }
 {
     let [addr] = words else {
         return None;
@@ -332,8 +332,8 @@ fn full_of(words: &[String]) -> Option<bool>
 }
 
 fn audit_command<'a>(file: &'a str, limit: &str, words: &[String]) -> Option<Cmd<'a>>
-    ensures reads { option_map shown result ≡ audit_command audit file.now limit.now (map string_bytes words.now) }
-    ensures range { IfSome result (λ cmd. IsInRange (shown cmd)) }
+    ensures reads { option_map shown_command result ≡ audit_command audit file.now limit.now (map string_bytes words.now) }
+    ensures range { IfSome result (λ cmd. IsInRange (shown_command cmd)) }
 {
     let limit = dec_u64(limit.as_bytes())?;
     let full = full_of(words)?;
@@ -341,8 +341,8 @@ fn audit_command<'a>(file: &'a str, limit: &str, words: &[String]) -> Option<Cmd
 }
 
 fn audit_json_command<'a>(file: &'a str, limit: &str, words: &[String]) -> Option<Cmd<'a>>
-    ensures reads { option_map shown result ≡ audit_command audit_json file.now limit.now (map string_bytes words.now) }
-    ensures range { IfSome result (λ cmd. IsInRange (shown cmd)) }
+    ensures reads { option_map shown_command result ≡ audit_command audit_json file.now limit.now (map string_bytes words.now) }
+    ensures range { IfSome result (λ cmd. IsInRange (shown_command cmd)) }
 {
     let limit = dec_u64(limit.as_bytes())?;
     let full = full_of(words)?;

@@ -14,7 +14,7 @@ use Rattle.link_entries.specs.Kinds.{Kind, Link, LinkPort, To, From}
 use Rattle.link_entries.specs.Entries.{LinkEntry}
 use Rattle.link_entries.specs.Texts.{is_local}
 use Rattle.link_graph.specs.Graph.{links_of}
-use Rattle.dump_audit.specs.Findings.{Audit, count_findings, entry_finding, entry_findings, findings, gone, is_dumped, link_findings, mail_of, one_sided, partner_finding, place_of, process_findings, queue_findings, section_offset, stated_findings}
+use Rattle.dump_audit.specs.Findings.{Audit, count_findings, entry_finding, entry_findings, findings, gone, is_dumped, link_findings, mail_of, one_sided, partner_finding, process_place, process_findings, queue_findings, section_offset, stated_findings}
 use Rattle.dump_audit.specs.Fitting.{Fits, HasEntry, is_link, is_to, is_from}
 use Rattle.dump_audit.specs.declared.finding.Finding.{Finding}
 use Rattle.dump_audit.specs.declared.finding.Finding.TheVariants.{UnreadLinks, UnreadQueue, Mailbox, QueueCount}
@@ -61,7 +61,7 @@ within : (n size : ℕ) (b : Bool) → nat_lt n size ≡ b → IfSome (cond b (S
 within n size true is = ltb-true n size is
 within n size false is = tt
 
-place-within : (processes : List Process) (pid : List ℕ) → IfSome (place_of processes pid) (λ q. q < length processes)
+place-within : (processes : List Process) (pid : List ℕ) → IfSome (process_place processes pid) (λ q. q < length processes)
 place-within processes pid =
     let n = position_or_len (λ process. bytes_eq pid process.pid) processes in within n (length processes) (nat_lt n (length processes)) refl
 
@@ -83,11 +83,11 @@ kind-fits : (a : Audit) (p entry at : ℕ) (process : Process) (kind : Kind)
     → ((is_kind : Kind → Bool) → is_kind kind ≡ true → HasEntry is_kind a.processes p entry)
     → IfSome (entry_finding a p process entry at kind) (Fits a.processes)
 kind-fits a p entry at process (Link pid) has =
-    partner-fits a p process entry at (Link pid) pid (place_of a.processes pid) (place-within a.processes pid) (λ q other inside. (has is_link refl, inside)) (λ other. has is_link refl)
+    partner-fits a p process entry at (Link pid) pid (process_place a.processes pid) (place-within a.processes pid) (λ q other inside. (has is_link refl, inside)) (λ other. has is_link refl)
 kind-fits a p entry at process (To pid reference) has =
-    partner-fits a p process entry at (To pid reference) pid (place_of a.processes pid) (place-within a.processes pid) (λ q other inside. (has is_to refl, inside)) (λ other. has is_to refl)
+    partner-fits a p process entry at (To pid reference) pid (process_place a.processes pid) (place-within a.processes pid) (λ q other inside. (has is_to refl, inside)) (λ other. has is_to refl)
 kind-fits a p entry at process (From pid reference) has =
-    partner-fits a p process entry at (From pid reference) pid (place_of a.processes pid) (place-within a.processes pid) (λ q other inside. (has is_from refl, inside)) (λ other. has is_from refl)
+    partner-fits a p process entry at (From pid reference) pid (process_place a.processes pid) (place-within a.processes pid) (λ q other inside. (has is_from refl, inside)) (λ other. has is_from refl)
 kind-fits a p entry at process LinkPort has = tt
 kind-fits a p entry at process kind has = tt
 

@@ -6,7 +6,7 @@ use Rattle.std.specs.Str.{bytes_eq}
 use Rattle.dump_io.specs.Numbers.{dec_number}
 use Rattle.dump_sections.specs.declared.index.State.{State}
 use Rattle.dump_sections.specs.declared.index.State.TheVariants.{Whole, TruncatedIn}
-use Rattle.dump_sections.specs.Index.{Contents, state_of}
+use Rattle.dump_sections.specs.Index.{Contents, dump_state}
 use Rattle.dump_sections.specs.Bodies.{section_at}
 use Rattle.section_rows.specs.Rows.{Kept}
 use Rattle.process_table.specs.Processes.{Process, process_at}
@@ -44,7 +44,7 @@ is_whole (TruncatedIn last) = false
 
 -- a process is dumped unless the dump is truncated in its section
 abbrev pub is_dumped : Contents → Process → Bool
-is_dumped index process = not (is_cut (state_of index.headers) process.section)
+is_dumped index process = not (is_cut (dump_state index.headers) process.section)
 
 -- its entries are judged by its partners', and theirs by its own: it
 -- is dumped, it is of the dumped node, and its link list isn't unread
@@ -95,12 +95,12 @@ gone (From pid reference) p entry at other = Some (FromGone p entry at other)
 gone kind p entry at other = None
 
 -- the place of the process with this pid
-abbrev pub place_of : List Process → List ℕ → Option ℕ
-place_of processes pid = position (λ process. bytes_eq pid process.pid) processes
+abbrev pub process_place : List Process → List ℕ → Option ℕ
+process_place processes pid = position (λ process. bytes_eq pid process.pid) processes
 
 -- a full audit of a whole dump reports the processes of the dumped node that aren't in it
 abbrev pub names_gone : Audit → Bool
-names_gone a = is_some a.mails && is_whole (state_of a.index.headers)
+names_gone a = is_some a.mails && is_whole (dump_state a.index.headers)
 
 -- the finding on an entry of a process, whose partner is at a place or isn't in the dump
 abbrev pub partner_finding : Audit → ℕ → Process → ℕ → ℕ → Kind → List ℕ → Option ℕ → Option Finding
@@ -114,7 +114,7 @@ partner_finding a p process entry at kind pid None =
 -- the finding on an entry of a process, by its partner
 abbrev pub entry_finding : Audit → ℕ → Process → ℕ → ℕ → Kind → Option Finding
 entry_finding a p process entry at kind =
-    option_and_then (λ pid. partner_finding a p process entry at kind pid (place_of a.processes pid)) (partner_pid kind)
+    option_and_then (λ pid. partner_finding a p process entry at kind pid (process_place a.processes pid)) (partner_pid kind)
 
 -- the findings on the entries of a process, in their order
 abbrev pub entry_findings : Audit → ℕ → Process → List LinkEntry → List Finding

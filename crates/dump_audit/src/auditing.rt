@@ -1,7 +1,7 @@
 // The audit of a dump.
 ghost use Rattle.std.specs.Prelude.{◌≡◌, ◌<◌, ◌^◌, ◌&&◌, ◌++◌, true, not, length, map, All, is_some, None, Some, IfOk, OnOk};
 ghost use Rattle.std.specs.Option.{option_copied, option_map};
-ghost use Rattle.process_table.specs.Processes.{IsIn, process_at};
+ghost use Rattle.process_table.specs.Processes.{IsProcessIn, process_at};
 ghost use Rattle.link_entries.specs.Texts.{is_local};
 ghost use Rattle.link_graph.specs.Graph.{links_of, graph_of};
 ghost use Rattle.dump_audit.specs.Findings.{audit_of, is_cut, is_whole, is_dumped, is_judged, section_offset, link_findings, process_findings, findings};
@@ -148,7 +148,7 @@ pub fn audit_with(
     mails: Option<&[Option<u64>]>,
 ) -> Result<Vec<Finding>, AllocError>
     requires graph { graph.now ≡ graph_of procs.now.processes }
-    requires sections { All (IsIn index.now) procs.now.processes }
+    requires sections { All (IsProcessIn index.now) procs.now.processes }
     ensures found { IfOk result (λ found. found.items ≡ findings (audit_of index.now procs.now.processes limit (option_copied mails.entry))) }
     ensures fits { IfOk result (λ found. All (Fits procs.now.processes) found.items) }
 {
@@ -182,7 +182,7 @@ pub fn audit(
     limit: u64,
 ) -> Result<Vec<Finding>, AllocError>
     requires graph { graph.now ≡ graph_of procs.now.processes }
-    requires sections { All (IsIn index.now) procs.now.processes }
+    requires sections { All (IsProcessIn index.now) procs.now.processes }
     ensures found { IfOk result (λ found. found.items ≡ findings (audit_of index.now procs.now.processes limit None)) }
     ensures fits { IfOk result (λ found. All (Fits procs.now.processes) found.items) }
 {
@@ -201,7 +201,7 @@ pub fn audit_full(
     mails: &[Option<u64>],
 ) -> Result<Vec<Finding>, AllocError>
     requires graph { graph.now ≡ graph_of procs.now.processes }
-    requires sections { All (IsIn index.now) procs.now.processes }
+    requires sections { All (IsProcessIn index.now) procs.now.processes }
     requires mails { length mails.now ≡ length procs.now.processes }
     ensures found { IfOk result (λ found. found.items ≡ findings (audit_of index.now procs.now.processes limit (Some mails.now))) }
     ensures fits { IfOk result (λ found. All (Fits procs.now.processes) found.items) }

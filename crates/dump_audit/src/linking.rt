@@ -1,13 +1,15 @@
 // The findings on links and monitors.
-ghost use Rattle.std.specs.Prelude.{◌≡◌, ◌<◌, ◌++◌, length, slice_get, Some, OnOk};
+ghost use Rattle.std.specs.Prelude.{◌≡◌, ◌<◌, ◌||◌, ◌++◌, length, slice_get, Some, OnOk};
 ghost use Rattle.std.specs.Option.{option_to_list};
-ghost use Rattle.link_entries.specs.Kinds.{Link, To, From};
+ghost use Rattle.process_table.specs.Processes.{process_at};
+ghost use Rattle.link_graph.specs.Graph.{links_of};
 ghost use Rattle.link_entries.specs.Seen.{shown_kind, shown_entry};
-ghost use Rattle.dump_audit.specs.Findings.{entry_finding, entry_findings};
+ghost use Rattle.dump_audit.specs.Findings.{is_own_link, is_answered, one_sided, gone, entry_finding, entry_findings};
 ghost use Rattle.dump_audit.specs.Inner.Audited.{IsHolder, entries_in, held};
 
 use crate::audited::{Audited, Holder, Partner};
 use crate::finding::Finding;
+use crate::named::partner_pid;
 use link_graph::{Entry, EntryKind};
 use std::alloc::AllocError;
 
@@ -24,107 +26,84 @@ pub(crate) fn push_found(
     Ok(())
 }
 
+// The finding that an entry has no counterpart in the link list of its partner `q`.
+fn one_sided(
+    kind: EntryKind<'_>,
+    p: u32,
+    q: u32,
+    entry: u32,
+    at: u64,
+    other: u64,
+) -> Option<Finding>
+    ensures { result ≡ one_sided (shown_kind kind.entry) p q entry at other }
+{
+    match kind {
+        EntryKind::Link(_) => Some(Finding::LinkOneSided {
+            p,
+            q,
+            entry,
+            at,
+            other,
+        }),
+        EntryKind::To(_, _) => Some(Finding::MonitorTo {
+            p,
+            q,
+            entry,
+            at,
+            other,
+        }),
+        EntryKind::From(_, _) => Some(Finding::MonitorFrom {
+            p,
+            q,
+            entry,
+            at,
+            other,
+        }),
+        _ => None,
+    }
+}
+
+// The finding that the partner of an entry isn't in the dump.
+fn gone(kind: EntryKind<'_>, p: u32, entry: u32, at: u64, other: u64) -> Option<Finding>
+    ensures { result ≡ gone (shown_kind kind.entry) p entry at other }
+{
+    match kind {
+        EntryKind::Link(_) => Some(Finding::LinkGone {
+            p,
+            entry,
+            at,
+            other,
+        }),
+        EntryKind::To(_, _) => Some(Finding::ToGone {
+            p,
+            entry,
+            at,
+            other,
+        }),
+        EntryKind::From(_, _) => Some(Finding::FromGone {
+            p,
+            entry,
+            at,
+            other,
+        }),
+        _ => None,
+    }
+}
+
 impl<'a> Audited<'a> {
-    // The finding on a link to the process with this pid.
-    fn link(&self, holder: &Holder<'_>, entry: u32, at: u64, pid: &[u8]) -> Option<Finding>
-        requires { IsHolder self.now holder.now }
-        ensures { result ≡ entry_finding self.now holder.now.p (held self.now holder.now) entry at (Link pid.now) }
+    // Whether an entry has a counterpart in the link list of its partner `q`, or needs none, as a link to itself.
+    fn is_settled(&self, holder: &Holder<'_>, kind: EntryKind<'_>, q: usize) -> bool
+        requires { q < length self.now.processes }
+        ensures { result ≡ (is_own_link (shown_kind kind.entry) holder.now.p q
+            || is_answered holder.now.pid.now (shown_kind kind.entry) (links_of (process_at self.now.processes q).links)) }
     {
-        let p = holder.p as u32;
-        match self.partner(pid) {
-            Partner::Passed => None,
-            Partner::Gone => Some(Finding::LinkGone {
-                p,
-                entry,
-                at,
-                other: self.offset(holder.p),
-            }),
-            Partner::At(q) => {
-                if q == holder.p || self.graph.has_link(q, holder.pid) {
-                    return None;
-                }
-                Some(Finding::LinkOneSided {
-                    p,
-                    q: q as u32,
-                    entry,
-                    at,
-                    other: self.offset(q),
-                })
+        match kind {
+            EntryKind::Link(_) => q == holder.p || self.graph.has_link(q, holder.pid),
+            EntryKind::To(_, reference) => self.graph.has_from(q, holder.pid, reference),
+            EntryKind::From(_, reference) => {
+                self.graph.has_to(q, holder.pid, reference) || self.graph.has_to_name(q, reference)
             }
-        }
-    }
-
-    // The finding on a monitor of the process with this pid.
-    fn monitor_to(
-        &self,
-        holder: &Holder<'_>,
-        entry: u32,
-        at: u64,
-        pid: &[u8],
-        reference: &[u8],
-    ) -> Option<Finding>
-        requires { IsHolder self.now holder.now }
-        ensures { result ≡ entry_finding self.now holder.now.p (held self.now holder.now) entry at (To pid.now reference.now) }
-    {
-        let p = holder.p as u32;
-        match self.partner(pid) {
-            Partner::Passed => None,
-            Partner::Gone => Some(Finding::ToGone {
-                p,
-                entry,
-                at,
-                other: self.offset(holder.p),
-            }),
-            Partner::At(q) => {
-                if self.graph.has_from(q, holder.pid, reference) {
-                    return None;
-                }
-                Some(Finding::MonitorTo {
-                    p,
-                    q: q as u32,
-                    entry,
-                    at,
-                    other: self.offset(q),
-                })
-            }
-        }
-    }
-
-    // The finding on a monitor by the process with this pid.
-    fn monitor_from(
-        &self,
-        holder: &Holder<'_>,
-        entry: u32,
-        at: u64,
-        pid: &[u8],
-        reference: &[u8],
-    ) -> Option<Finding>
-        requires { IsHolder self.now holder.now }
-        ensures { result ≡ entry_finding self.now holder.now.p (held self.now holder.now) entry at (From pid.now reference.now) }
-    {
-        let p = holder.p as u32;
-        match self.partner(pid) {
-            Partner::Passed => None,
-            Partner::Gone => Some(Finding::FromGone {
-                p,
-                entry,
-                at,
-                other: self.offset(holder.p),
-            }),
-            Partner::At(q) => {
-                if self.graph.has_to(q, holder.pid, reference)
-                    || self.graph.has_to_name(q, reference)
-                {
-                    return None;
-                }
-                Some(Finding::MonitorFrom {
-                    p,
-                    q: q as u32,
-                    entry,
-                    at,
-                    other: self.offset(q),
-                })
-            }
+            _ => false,
         }
     }
 
@@ -133,15 +112,17 @@ impl<'a> Audited<'a> {
         requires { IsHolder self.now holder.now }
         ensures { result ≡ entry_finding self.now holder.now.p (held self.now holder.now) number entry.now.at (shown_kind entry.now.kind) }
     {
-        match entry.kind {
-            EntryKind::Link(pid) => self.link(holder, number, entry.at, pid),
-            EntryKind::To(pid, reference) => {
-                self.monitor_to(holder, number, entry.at, pid, reference)
+        let p = holder.p as u32;
+        let pid = partner_pid(entry.kind)?;
+        match self.partner(pid) {
+            Partner::Passed => None,
+            Partner::Gone => gone(entry.kind, p, number, entry.at, self.offset(holder.p)),
+            Partner::At(q) => {
+                if self.is_settled(holder, entry.kind, q) {
+                    return None;
+                }
+                one_sided(entry.kind, p, q as u32, number, entry.at, self.offset(q))
             }
-            EntryKind::From(pid, reference) => {
-                self.monitor_from(holder, number, entry.at, pid, reference)
-            }
-            _ => None,
         }
     }
 

@@ -1,8 +1,10 @@
 // What a finding names, by the places of processes and the numbers of entries in it.
 ghost use Rattle.std.specs.Prelude.{◌≡◌, ◌<◌, length};
+ghost use Rattle.std.specs.Option.{option_copied};
 ghost use Rattle.link_entries.specs.Lists.{links_at};
 ghost use Rattle.link_entries.specs.Seen.{shown_kind};
 ghost use Rattle.link_graph.specs.Graph.{graph_of};
+ghost use Rattle.dump_audit.specs.Findings.{partner_pid};
 ghost use Rattle.dump_audit.specs.FindingNames.{kind_at, partner_in, reference_in};
 
 use link_graph::{EntryKind, Graph};
@@ -19,14 +21,21 @@ pub fn kind<'a>(procs: &Procs, graph: &'a Graph<'a>, p: u32, entry: u32) -> Entr
     entry.kind
 }
 
-/// The pid that an entry speaks of: that of a link or of a monitor. Any other entry has none, so the text is empty.
+/// The pid of the process that an entry speaks of: that of a link or of a monitor. Any other entry has none.
+pub(crate) fn partner_pid<'a>(kind: EntryKind<'a>) -> Option<&'a [u8]>
+    ensures { option_copied result ≡ partner_pid (shown_kind kind.entry) }
+{
+    match kind {
+        EntryKind::Link(pid) | EntryKind::To(pid, _) | EntryKind::From(pid, _) => Some(pid),
+        _ => None,
+    }
+}
+
+/// The pid that an entry speaks of; if it speaks of none, the text is empty.
 pub fn partner<'a>(kind: EntryKind<'a>) -> &'a [u8]
     ensures { result.now ≡ partner_in (shown_kind kind.entry) }
 {
-    match kind {
-        EntryKind::Link(pid) | EntryKind::To(pid, _) | EntryKind::From(pid, _) => pid,
-        _ => b"",
-    }
+    partner_pid(kind).unwrap_or(b"")
 }
 
 /// The reference of a monitor of or by a pid. Any other entry has an empty text here.

@@ -4,7 +4,7 @@ use Rattle.std.specs.Prelude.{IfOk, IsTrue}
 use Rattle.dump_io.specs.Dumps.{DeviceState, told}
 use Rattle.dump_io.specs.Limits.{Numbers}
 use Rattle.dump_io.specs.Lines.{headers}
-use Rattle.dump_sections.specs.Index.{Contents, IsIndexOf, index_of, sections_in, state_of}
+use Rattle.dump_sections.specs.Index.{Contents, IsIndexOf, index_of, sections_in, dump_state}
 use Rattle.dump_sections.specs.Laws.{index-is}
 use Rattle.dump_sections.specs.Loading.{LoadsBodies}
 use Rattle.dump_sections.specs.declared.bodies.BodyFault.{BodyFault}
@@ -26,15 +26,15 @@ use Rattle.dump_command.proofs.Runs.{sections-index}
 
 -- the numbers of messages
 mails-told : (bytes : List ℕ) (index : Contents) → IsIndexOf bytes index
-    → map (mail_in bytes (state_of index.headers) (sections_in index)) (mailbox_places (sections_in index)) ≡ mails bytes
+    → map (mail_in bytes (dump_state index.headers) (sections_in index)) (mailbox_places (sections_in index)) ≡ mails bytes
 mails-told bytes index of =
-    ap (λ h. map (mail_in bytes (state_of h) (sections_in index)) (mailbox_places (sections_in index))) of.headers
-    ∙ ap (λ ss. map (mail_in bytes (state_of (headers bytes)) ss) (mailbox_places ss)) (sections-index bytes index of)
+    ap (λ h. map (mail_in bytes (dump_state h) (sections_in index)) (mailbox_places (sections_in index))) of.headers
+    ∙ ap (λ ss. map (mail_in bytes (dump_state (headers bytes)) ss) (mailbox_places ss)) (sections-index bytes index of)
 
 -- what is audited
 audit-told : (bytes : List ℕ) (index : Contents) (processes : List Process) (limit : ℕ) (full : Bool) (counts : Option (List (Option ℕ))) → IsIndexOf bytes index
     → processes ≡ (process_table bytes).processes
-    → counts ≡ (if full then Some (map (mail_in bytes (state_of index.headers) (sections_in index)) (mailbox_places (sections_in index))) else None)
+    → counts ≡ (if full then Some (map (mail_in bytes (dump_state index.headers) (sections_in index)) (mailbox_places (sections_in index))) else None)
     → audit_of index processes limit counts ≡ audit_in limit full bytes
 audit-told bytes index processes limit full counts of table counted =
     ap (λ i. audit_of i processes limit counts) (index-is bytes index of)

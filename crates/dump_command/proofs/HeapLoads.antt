@@ -16,7 +16,7 @@ use Rattle.dump_sections.specs.Lookups.{first_named}
 use Rattle.dump_sections.specs.Sections.{Section, sections}
 use Rattle.heap_cells.specs.Cells.{cells_of, own_count, weight, Cell}
 use Rattle.heap_cells.specs.HeapMap.{HeapMap, number_at, form_at}
-use Rattle.heap_cells.specs.Loading.{enc_of, heap_section, literals_section, bodies_fault, heap_fault_of, IsMapOf, IsHeapOf, IsCauseOf, heap_bodies}
+use Rattle.heap_cells.specs.Loading.{enc_of, heap_section, literals_section, bodies_fault, heap_fault_of, IsMapOf, IsHeapOf, IsHeapCauseOf, heap_bodies}
 use Rattle.heap_cells.specs.declared.faults.HeapFault.{HeapFault}
 use Rattle.report_text.specs.declared.refusals.Refusal.{Refusal}
 use Rattle.report_text.specs.declared.refusals.Refusal.TheVariants.{SectionTooLarge, TooDense}
@@ -25,11 +25,11 @@ use Rattle.dump_io.specs.Dumps.{Now, DeviceState, told, DeviceFailed, ReadsAtMos
 use Rattle.dump_io.specs.Limits.{Numbers}
 use Rattle.dump_sections.specs.declared.bodies.BodyFault.{BodyFault}
 use Rattle.binary_refs.specs.Previews.{binaries, previews_of}
-use Rattle.binary_refs.specs.Loading.{IsCauseOf as IsPreviewCause}
+use Rattle.binary_refs.specs.Loading.{IsPreviewCauseOf as IsPreviewCause}
 use Rattle.binary_refs.specs.declared.entries.Entry.{Entry}
 use Rattle.binary_refs.specs.declared.faults.PreviewFault.{PreviewFault}
 use Rattle.term_forms.specs.Elements.{Element}
-use Rattle.term_unfold.specs.Walks.{answer, walk}
+use Rattle.term_unfold.specs.Walks.{answer, new_walk}
 use Rattle.root_views.specs.declared.kinds.RootKind.{RootKind}
 use Rattle.root_views.specs.Kinds.{roots_in, roots_tag}
 use Rattle.term_text.specs.Roots.{answer_over, roots_report, term_report, ext_report}
@@ -37,16 +37,17 @@ use Rattle.command_words.specs.Command.{Command, roots, term, reach, cells, ext}
 use Rattle.heap_reach.specs.Rounds.{reached_by}
 use Rattle.heap_reach.specs.Unreached.{ascending, count_below, missed_below}
 use Rattle.root_views.specs.declared.kinds.RootKind.TheVariants.{Stack, Dict, Mail}
-use Rattle.term_text.specs.Reach.{terms_of, totals_line, unreached_line}
+use Rattle.term_text.specs.Reach.{root_elements, totals_line, unreached_line}
 use Rattle.term_text.specs.Cells.{cells_report, cells_text}
 use Rattle.dump_command.specs.Report.{too_large, bodies, no_process, no_subject, refusal_held, refusal_listed, reread, root_bodies}
-use Rattle.dump_command.specs.Terms.{heap_body, heap_map, literals_body, payloads_of, address_cause, answer_in, base_of, binary_count, dense_cause, no_address, previews_in, roots_of, roots_over, term_of, too_dense, reach_of, root_terms, terms_in, ext_of, external_at, external_cause, external_in, no_external}
+use Rattle.heap_cells.specs.DumpHeaps.{heap_body, heap_map, literals_body, payloads_of}
+use Rattle.dump_command.specs.Terms.{address_cause, answer_in, base_of, binary_count, dense_cause, no_address, previews_in, roots_of, roots_over, term_of, too_dense, reach_of, root_terms, terms_in, ext_of, external_at, external_cause, external_in, no_external}
 use Rattle.dump_trial.specs.Trial.{root_section}
 use Rattle.dump_command.specs.Inner.Stops.{stop_of_heap, Judges, stop_of_previews, stop_of_body}
 use Rattle.dump_command.specs.declared.stop.Stop.TheVariants.{Refused}
 use Rattle.dump_command.specs.Inner.Reading.{heap_listed, HoldsHeap, IsHeapless, IsIndexed, IsHalted, Takes, ReadsFor}
 use Rattle.dump_command.specs.declared.stop.Stop.{Stop}
-use Rattle.dump_command.specs.Inner.Loads.{roots_at, reach_text, terms_loaded, ArePlaces, HoldsRoots, IsUnread}
+use Rattle.dump_command.specs.Inner.Loads.{roots_at, reach_text, terms_loaded, ArePlaces, HoldsRoots, AreUnread}
 use Rattle.dump_command.specs.declared.commands.reach.RootPlaces.{RootPlaces}
 use Rattle.dump_command.specs.declared.commands.reach.RootBodies.{RootBodies}
 use Rattle.dump_command.specs.declared.commands.reach.Loaded.{Loaded}
@@ -204,7 +205,7 @@ module _ (pid : List ℕ) (before : List Section) (limits : Numbers) (index : Co
 
 module _ (pid : List ℕ) (before : List Section) (limits : Numbers) (index : Contents) (clear : IsClear pid before limits index) where
   -- the heap itself wasn't loaded: a body that is too large stands before a heap that is too dense
-  pub IsHeapless-heap : (old new : DeviceState) (fault : HeapFault) → IsCauseOf (bodies_fault limits.section (heap_bodies pid (sections_in index))) limits.dense old new fault
+  pub IsHeapless-heap : (old new : DeviceState) (fault : HeapFault) → IsHeapCauseOf (bodies_fault limits.section (heap_bodies pid (sections_in index))) limits.dense old new fault
       → ((f : HeapFault) → bodies_fault limits.section (heap_bodies pid (sections_in index)) ≡ Some f → IsErrOf {T = HeapMap} (Err fault) f)
       → IsHeapOf old.now index (heap_section pid (sections_in index)) (literals_section (sections_in index)) limits.dense (Err fault)
       → IsHeapless pid before limits index old new (stop_of_heap fault)
@@ -345,7 +346,7 @@ module _ (pid : List ℕ) (before : List Section) (limits : Numbers) (index : Co
 
   -- with its previews it answers as the process in the dump
   answer-told : (previews : List Entry) (nodes : ℕ) (marked : Bool) → previews ≡ previews_of bytes index heap.enc heap.cells
-      → answer_over (walk heap previews) nodes marked ≡ answer_in pid nodes marked bytes
+      → answer_over (new_walk heap previews) nodes marked ≡ answer_in pid nodes marked bytes
   answer-told previews nodes marked shown =
       let right = heap_map pid bytes in
       let known : previews ≡ previews_in bytes right = shown ∙ ap (λ i. previews_of bytes i heap.enc heap.cells) (index-is bytes index all.of)
@@ -356,12 +357,12 @@ module _ (pid : List ℕ) (before : List Section) (limits : Numbers) (index : Co
       ∙ ap (λ cs. λ (e : Element). answer right.enc (previews_in bytes right) cs e nodes marked) (holds.cells bytes all)
 
   pub term-told : (previews : List Entry) (addr nodes : ℕ) (marked : Bool) → previews ≡ previews_of bytes index heap.enc heap.cells
-      → term_report (answer_over (walk heap previews) nodes marked) addr ≡ term_of pid addr nodes marked bytes
+      → term_report (answer_over (new_walk heap previews) nodes marked) addr ≡ term_of pid addr nodes marked bytes
   term-told previews addr nodes marked shown = ap (λ say. term_report say addr) (answer-told previews nodes marked shown)
 
   pub roots-told : (kind : RootKind) (previews : List Entry) (nodes : ℕ) (marked : Bool) (found : Option Section) (base : ℕ) (body : List ℕ)
       → found ≡ root_section kind pid (sections_in index) → previews ≡ previews_of bytes index heap.enc heap.cells → base ≡ base_of found → body ≡ body_in bytes found
-      → roots_report (answer_over (walk heap previews) nodes marked) base (roots_in kind body) ≡ roots_of kind pid nodes marked bytes
+      → roots_report (answer_over (new_walk heap previews) nodes marked) base (roots_in kind body) ≡ roots_of kind pid nodes marked bytes
   roots-told kind previews nodes marked found base body here shown based held =
       ap (λ say. roots_report say base (roots_in kind body)) (answer-told previews nodes marked shown)
       ∙ ap (λ b. roots_report (answer_in pid nodes marked bytes) b (roots_in kind body)) based
@@ -409,7 +410,7 @@ IsOfHeap-reach file pid limits index places of =
 
 -- the bodies with the roots weren't read
 pub IsHalted-roots : (cmd : Command) (pid : List ℕ) (before : List Section) (limits : Numbers) (index : Contents) (now : Now) (heap : HeapMap) (old new last last' : DeviceState) (fault : BodyFault)
-    → Takes cmd limits index old new → HoldsHeap pid before limits index now heap → IsUnread (first_large limits.section before) last last' fault → (DeviceFailed last last' → DeviceFailed old new)
+    → Takes cmd limits index old new → HoldsHeap pid before limits index now heap → AreUnread (first_large limits.section before) last last' fault → (DeviceFailed last last' → DeviceFailed old new)
     → IsHalted cmd limits index old new (stop_of_body fault)
 IsHalted-roots cmd pid before limits index now heap old new last last' body_faults.Read takes holds cause later = record { takes = takes; cause = later cause }
 IsHalted-roots cmd pid before limits index now heap old new last last' body_faults.Memory takes holds cause later = record { takes = takes; cause = tt }
@@ -436,15 +437,15 @@ told_of cs own elements =
 module _ (pid : List ℕ) (limits : Numbers) (index : Contents) (now : Now) (bytes : List ℕ) (all : IsIndexed bytes limits index now) where
   -- the terms of one body
   terms-told : (kind : RootKind) (place : Option ℕ) (body : List ℕ) → section_in index place ≡ root_section kind pid (sections_in index)
-      → body ≡ body_in bytes (section_in index place) → terms_of (roots_in kind body) ≡ terms_in kind pid bytes
+      → body ≡ body_in bytes (section_in index place) → root_elements (roots_in kind body) ≡ terms_in kind pid bytes
   terms-told kind place body here held =
-      ap (λ b. terms_of (roots_in kind b)) (held ∙ ap (body_in bytes) (here ∙ ap (root_section kind pid) (sections-index bytes index all.of)))
+      ap (λ b. root_elements (roots_in kind b)) (held ∙ ap (body_in bytes) (here ∙ ap (root_section kind pid) (sections-index bytes index all.of)))
 
   -- those of all three
   all-told : (places : RootPlaces) (roots : RootBodies) → ArePlaces pid index places → HoldsRoots index (told bytes) places roots → terms_loaded roots ≡ root_terms pid bytes
   all-told places loaded of held =
-      ap (λ ts. (ts ++ terms_of (roots_in Dict loaded.dict.bytes.items)) ++ terms_of (roots_in Mail loaded.mail.bytes.items)) (terms-told Stack places.stack loaded.stack.bytes.items of.stack held.stack)
-      ∙ ap (λ ts. (terms_in Stack pid bytes ++ ts) ++ terms_of (roots_in Mail loaded.mail.bytes.items)) (terms-told Dict places.dict loaded.dict.bytes.items of.dict held.dict)
+      ap (λ ts. (ts ++ root_elements (roots_in Dict loaded.dict.bytes.items)) ++ root_elements (roots_in Mail loaded.mail.bytes.items)) (terms-told Stack places.stack loaded.stack.bytes.items of.stack held.stack)
+      ∙ ap (λ ts. (terms_in Stack pid bytes ++ ts) ++ root_elements (roots_in Mail loaded.mail.bytes.items)) (terms-told Dict places.dict loaded.dict.bytes.items of.dict held.dict)
       ∙ ap (λ ts. (terms_in Stack pid bytes ++ terms_in Dict pid bytes) ++ ts) (terms-told Mail places.mail loaded.mail.bytes.items of.mail held.mail)
 
   pub reach-told : (before : List Section) (places : RootPlaces) (loaded : Loaded) → HoldsHeap pid before limits index now loaded.heap → ArePlaces pid index places

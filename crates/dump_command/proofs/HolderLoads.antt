@@ -11,7 +11,7 @@ use Rattle.dump_sections.specs.declared.bodies.BodyFault.{BodyFault}
 use Rattle.dump_sections.specs.Loading.{bodies_length, first_large, large_fault, LoadsBodies}
 use Rattle.process_table.specs.Processes.{Process, ProcessTable, process_table}
 use Rattle.process_table.specs.Records.{record_sections}
-use Rattle.binary_holders.specs.Usage.{Usage, fronts_length, heaps_length, holders_in, usage_of, IsCauseOf}
+use Rattle.binary_holders.specs.Usage.{Usage, fronts_length, heaps_length, holders_in, usage_of, IsHolderCauseOf}
 use Rattle.binary_holders.specs.declared.faults.HolderFault.{HolderFault}
 use Rattle.binary_holders.specs.declared.faults.HolderFault.TheVariants as holder_faults
 use Rattle.binary_holders.specs.declared.rows.Holding.{Holding}
@@ -69,7 +69,7 @@ module _ (cmd : Command) (limits : Numbers) (index : Contents) (more : List ℕ 
 
 -- the heaps weren't heard
 pub IsHalted-holders : (cmd : Command) (limits : Numbers) (index : Contents) (before after last last' : DeviceState) (fault : HolderFault) → Takes cmd limits index before after
-    → IsCauseOf last last' fault → (DeviceFailed last last' → DeviceFailed before after) → IsHalted cmd limits index before after (stop_of_holders fault)
+    → IsHolderCauseOf last last' fault → (DeviceFailed last last' → DeviceFailed before after) → IsHalted cmd limits index before after (stop_of_holders fault)
 IsHalted-holders cmd limits index before after last last' holder_faults.Read takes cause later = record { takes = takes; cause = later cause }
 IsHalted-holders cmd limits index before after last last' holder_faults.Memory takes cause later = record { takes = takes; cause = tt }
 

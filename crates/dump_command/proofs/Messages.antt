@@ -10,7 +10,7 @@ use Rattle.std.proofs.lemmas.Option.{IfSome_then}
 use Rattle.dump_io.specs.Colons.{has_colon, is_colon}
 use Rattle.dump_io.specs.Lines.{headers, lf, lines_after, lines_from, raw_lines}
 use Rattle.field_lines.specs.Lines.{TextLine, text_line, text_lines}
-use Rattle.dump_sections.specs.Index.{state_of}
+use Rattle.dump_sections.specs.Index.{dump_state}
 use Rattle.dump_sections.specs.Sections.{Section, sections}
 use Rattle.dump_sections.specs.declared.index.State.{State}
 use Rattle.term_forms.specs.Elements.{Element}
@@ -116,8 +116,8 @@ mail-small bytes state ss place size = IfSome_then (mail_in bytes state ss place
 
 counts : (bytes : List ℕ) (full : Bool) → length bytes < 2 ^ 64 → AreCounts (if full then Some (mails bytes) else None)
 counts bytes true size =
-    All-map (λ count. IfSome count (λ n. n < 2 ^ 64)) (mail_in bytes (state_of (headers bytes)) (sections bytes)) (mailbox_places (sections bytes))
-    (λ k d l. mail-small bytes (state_of (headers bytes)) (sections bytes) (slice_index_or (mailbox_places (sections bytes)) k d) size)
+    All-map (λ count. IfSome count (λ n. n < 2 ^ 64)) (mail_in bytes (dump_state (headers bytes)) (sections bytes)) (mailbox_places (sections bytes))
+    (λ k d l. mail-small bytes (dump_state (headers bytes)) (sections bytes) (slice_index_or (mailbox_places (sections bytes)) k d) size)
 counts bytes false size = tt
 
 pub audits-read-back : ReadsBack → AuditsReadBack

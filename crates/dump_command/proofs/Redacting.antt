@@ -9,7 +9,7 @@ use Rattle.dump_sections.specs.Bodies.{body_length}
 use Rattle.dump_sections.specs.Index.{Contents, sections_in}
 use Rattle.dump_sections.specs.Sections.{Section}
 use Rattle.dump_redact.specs.Redacted.{redacted}
-use Rattle.dump_redact.specs.Refusals.{heap_sections, large_fault, IsCauseOf}
+use Rattle.dump_redact.specs.Refusals.{heap_sections, large_heap, IsRedactCauseOf}
 use Rattle.dump_sections.specs.Loading.{first_large}
 use Rattle.dump_redact.specs.declared.faults.RedactFault.{RedactFault}
 use Rattle.dump_redact.specs.declared.faults.RedactFault.TheVariants as faults
@@ -47,7 +47,7 @@ same-refusal (Some s) at len is = let place : s.at ≡ at = cc is in let size : 
 -- a dump that was opened and redacted, with what the call says of reads and of a heap that is too large
 module _ (a b c : DeviceState) (file : List ℕ) (limits : Numbers) (index : Contents) (out out' : SinkState)
     (opened : HasOpened file limits a b index) (reads : ReadsAtMost b c index.size)
-    (unread : IsSome (large_fault limits.section (sections_in index)) → ReadsAtMost b c 0) (unwritten : IsSome (large_fault limits.section (sections_in index)) → IsKept out out') where
+    (unread : IsSome (large_heap limits.section (sections_in index)) → ReadsAtMost b c 0) (unwritten : IsSome (large_heap limits.section (sections_in index)) → IsKept out out') where
   abbrev large : Option Section
   large = first_large limits.section (heap_sections (sections_in index))
 
@@ -88,9 +88,9 @@ module _ (a b c : DeviceState) (file : List ℕ) (limits : Numbers) (index : Con
       record { absent = λ gone. absurd (known.there gone); told = λ bytes dump. left bytes dump (front bytes (known.told bytes dump).0.opened) }
 
   pub Runs-redact : (result : Result (Unit {0}) RedactFault) → ((bytes : List ℕ) → b.now ≡ told bytes → WritesAll out.written out'.written (redacted bytes) result)
-      → IfErr result (IsCauseOf (large_fault limits.section (sections_in index)) b c out out')
-      → OnOk result (large_fault limits.section (sections_in index) ≡ None)
-      → ((fault : RedactFault) → large_fault limits.section (sections_in index) ≡ Some fault → IsErrOf result fault)
+      → IfErr result (IsRedactCauseOf (large_heap limits.section (sections_in index)) b c out out')
+      → OnOk result (large_heap limits.section (sections_in index) ≡ None)
+      → ((fault : RedactFault) → large_heap limits.section (sections_in index) ≡ Some fault → IsErrOf result fault)
       → Runs (redact file) limits a c out out' (redact_end result)
   Runs-redact (Ok done) writes cause none too_large =
       record {

@@ -12,7 +12,7 @@ use Rattle.section_index.specs.Answers.{IsFileOf, IsHeld}
 use Rattle.dump_sections.specs.Sections.{sections, sections_of}
 use Rattle.report_text.specs.declared.refusals.Refusal.{Refusal}
 use Rattle.report_text.specs.declared.refusals.Refusal.TheVariants.{Open}
-use Rattle.command_words.specs.Command.{Command, redact, file_of}
+use Rattle.command_words.specs.Command.{Command, redact, file_name}
 use Rattle.report_text.specs.Refusals.{refusal_line}
 use Rattle.dump_command.specs.Report.{report, report_status, refusal, refusal_held, refusal_listed, refusal_unread, reread}
 use Rattle.dump_command.specs.Run.{EndsTold, IsDumpOf, IsLeft, IsLeftOf, IsMissing, TakesAtMost, Ends, IsFrontOf, IsRunOf, Reports}
@@ -30,11 +30,11 @@ sections-index bytes index of =
     ap (λ hs. sections_of hs index.size) of.headers ∙ ap (λ n. sections_of (headers bytes) n) of.size
 
 -- the bytes of a command are those of its file
-file-of : (cmd : Command) (name : List ℕ) (before after : DeviceState) (bytes : List ℕ) → file_of cmd ≡ Some name → IsDumpOf before after cmd bytes → IsFileOf before after name bytes
+file-of : (cmd : Command) (name : List ℕ) (before after : DeviceState) (bytes : List ℕ) → file_name cmd ≡ Some name → IsDumpOf before after cmd bytes → IsFileOf before after name bytes
 file-of cmd name before after bytes named dump = subst (λ f. MatchOption f (bytes ≡ []) (λ n. IsFileOf before after n bytes)) named dump
 
 -- a command with a file is refused for the opening, and else for what stands behind it
-refusal-named : (cmd : Command) (name bytes : List ℕ) (limits : Numbers) → file_of cmd ≡ Some name
+refusal-named : (cmd : Command) (name bytes : List ℕ) (limits : Numbers) → file_name cmd ≡ Some name
     → refusal cmd bytes limits ≡ option_or (refusal_unread cmd bytes limits) (refusal_held cmd bytes limits)
 refusal-named cmd name bytes limits named = ap (λ f. option_and f (option_or (refusal_unread cmd bytes limits) (refusal_held cmd bytes limits))) named
 
@@ -44,7 +44,7 @@ unread-indexed cmd bytes limits index now all =
     ap (λ o. option_or (option_map Open o) (refusal_listed cmd (sections bytes) limits)) all.accepted
     ∙ ap (λ ss. refusal_listed cmd ss limits) (sym (sections-index bytes index all.of))
 
-refusal-indexed : (cmd : Command) (name bytes : List ℕ) (limits : Numbers) (index : Contents) (now : Now) → file_of cmd ≡ Some name
+refusal-indexed : (cmd : Command) (name bytes : List ℕ) (limits : Numbers) (index : Contents) (now : Now) → file_name cmd ≡ Some name
     → IsIndexed bytes limits index now → refusal cmd bytes limits ≡ refusal_over cmd index bytes limits
 refusal-indexed cmd name bytes limits index now named all =
     refusal-named cmd name bytes limits named ∙ ap (λ o. option_or o (refusal_held cmd bytes limits)) (unread-indexed cmd bytes limits index now all)
@@ -61,7 +61,7 @@ IsLeft-kept cmd limits before after out out' kept = kept
 
 -- ---- a dump that wasn't opened
 
-pub Runs-unopened : (cmd : Command) (name : List ℕ) (limits : Numbers) (before after : DeviceState) (out out' : SinkState) (stop : Stop) → file_of cmd ≡ Some name
+pub Runs-unopened : (cmd : Command) (name : List ℕ) (limits : Numbers) (before after : DeviceState) (out out' : SinkState) (stop : Stop) → file_name cmd ≡ Some name
     → IsUnopened name limits before after stop → IsKept out out' → Runs cmd limits before after out out' (Err stop)
 Runs-unopened cmd name limits before after out out' stop named un kept =
     record {
@@ -108,7 +108,7 @@ taken-few : (listed : Option Refusal) (before after : DeviceState) (count most :
 taken-few None before after count most reads few unread = omega (arith, reads.taken_most, few)
 taken-few (Some why) before after count most reads few unread = (unread refl).taken_most
 
-pub through : {a b c : DeviceState} (cmd : Command) (name : List ℕ) (limits : Numbers) (index : Contents) → file_of cmd ≡ Some name
+pub through : {a b c : DeviceState} (cmd : Command) (name : List ℕ) (limits : Numbers) (index : Contents) → file_name cmd ≡ Some name
     → HasOpened name limits a b index → Takes cmd limits index b c → IsThrough cmd limits index b.now a c
 through {a} {b} {c} cmd name limits index named opened takes =
     let file : (bytes : List ℕ) → IsDumpOf a c cmd bytes → IsFileOf a b name bytes =
@@ -128,7 +128,7 @@ through {a} {b} {c} cmd name limits index named opened takes =
     }
 
 -- a command that stopped while it read
-pub Runs-halted : {a b c : DeviceState} {out out' : SinkState} (cmd : Command) (name : List ℕ) (limits : Numbers) (index : Contents) (stop : Stop) → file_of cmd ≡ Some name
+pub Runs-halted : {a b c : DeviceState} {out out' : SinkState} (cmd : Command) (name : List ℕ) (limits : Numbers) (index : Contents) (stop : Stop) → file_name cmd ≡ Some name
     → HasOpened name limits a b index → IsHalted cmd limits index b c stop → IsKept out out' → Runs cmd limits a c out out' (Err stop)
 Runs-halted {a} {b} {c} {out} {out'} cmd name limits index stop named opened halted kept =
     record { left = left stop halted.cause; gone = λ gone. absurd (known.there gone); taken = known.taken }
@@ -187,7 +187,7 @@ told-is cmd limits before after out out' text status ended ready tells =
 
 -- a command that has read all, and told its report or not
 pub Runs-told : {a b c : DeviceState} {out out' : SinkState} (cmd : Command) (name : List ℕ) (limits : Numbers) (index : Contents) (text : List ℕ) (status : ℕ) (ended : Result ℕ Stop)
-    → file_of cmd ≡ Some name → HasOpened name limits a b index → HasRead cmd limits index b c text status → Tells out out' text status ended → Runs cmd limits a c out out' ended
+    → file_name cmd ≡ Some name → HasOpened name limits a b index → HasRead cmd limits index b c text status → Tells out out' text status ended → Runs cmd limits a c out out' ended
 Runs-told {a} {b} {c} {out} {out'} cmd name limits index text status ended named opened read tells =
     let known = through cmd name limits index named opened read.takes in
     told-is cmd limits a c out out' text status ended
@@ -202,7 +202,7 @@ Runs-told {a} {b} {c} {out} {out'} cmd name limits index text status ended named
     tells
 
 -- a command that opens no file: it is neither refused nor unread, and reports of no bytes
-pub RunsAlone-told : (cmd : Command) (out out' : SinkState) (text : List ℕ) (ended : Result ℕ Stop) → file_of cmd ≡ None
+pub RunsAlone-told : (cmd : Command) (out out' : SinkState) (text : List ℕ) (ended : Result ℕ Stop) → file_name cmd ≡ None
     → text ≡ report cmd [] → 0 ≡ report_status cmd [] → Tells out out' text 0 ended → RunsAlone cmd out out' ended
 RunsAlone-told cmd out out' text ended none right status tells limits before after small same =
     told-is cmd limits before after out out' text 0 ended
@@ -229,7 +229,7 @@ EndsTold-put status result line before after (Err fault) is puts = inr (is, puts
 
 module _ {D : Type 0} {state : D → DeviceState} {limits : Numbers} {old new : D} {out out' : SinkState} {ended : Result ℕ Stop} {cmd run : Command} (is : cmd ≡ run) where
   -- what the run of one form of a command that opens a file leaves, the run of the other does
-  pub runs-file : {name : List ℕ} → file_of run ≡ Some name → Runs run limits (state old) (state new) out out' ended → RunsOn state cmd limits old new out out' ended
+  pub runs-file : {name : List ℕ} → file_name run ≡ Some name → Runs run limits (state old) (state new) out out' ended → RunsOn state cmd limits old new out out' ended
   runs-file some runs =
       subst (λ c. RunsOn state c limits old new out out' ended) (sym is)
       (record { runs = runs; idle = λ none. absurd (let no : ⊥ = cc (sym some ∙ none) in no) })
@@ -337,7 +337,7 @@ IsRunOf-complete cmd limits status before after out out' err err' run bytes dump
         absurd (let no : IsSomeAnd None (λ (why : Refusal). Gained err err' (refusal_line why)) =
         subst (λ r. IsSomeAnd r (λ why. Gained err err' (refusal_line why))) accepted (row.1.told bytes dump) in no)
     by (inr (inr (inl row))) = inl (row.0 ∙ (row.1.told bytes dump).ends)
-    by (inr (inr (inr (inl row)))) = absurd (there before after (file_of cmd) bytes dump (λ gone. (run.missing gone).1) device_well row.1)
+    by (inr (inr (inr (inl row)))) = absurd (there before after (file_name cmd) bytes dump (λ gone. (run.missing gone).1) device_well row.1)
     by (inr (inr (inr (inr (inl row))))) = absurd (elim row.1.failed [ inl rose ↦ out_well rose | inr rose ↦ err_well rose ])
     by (inr (inr (inr (inr (inr row))))) = inr row.0
 

@@ -1,7 +1,7 @@
 -- The findings, the heaps and the trees of a redacted dump differ in the characters of binaries on heaps alone.
 use Rattle.term_unfold.specs.declared.node.NodeKind.TheVariants as kinds
 use Rattle.std.proofs.Common.{◌≡◌, ℕ, Bool, true, false, List, [], ◌∷◌, map, codes, Option, None, Some, if◌then◌else◌, refl, sym, ◌∙◌, ap, ◌⊎◌, ◌+◌, ◌-◌, ◌++◌, length, subst, inl, inr, zero, suc, take}
-use Rattle.std.specs.Prelude.{All, ◌&&◌, is_some, get_or, ◌==◌, cond, find, min, option_and_then, option_map, nat_lt, not}
+use Rattle.std.specs.Prelude.{All, ◌&&◌, is_some, get_or, ◌==◌, cond, find, option_and_then, option_map, nat_lt, not}
 use Rattle.std.specs.Option.{option_eq}
 use Rattle.std.specs.Str.{bytes_eq}
 use Rattle.std.specs.List.{between, cons_option, filter_map, list_any, position_or_len, slice_get, take-map}
@@ -9,22 +9,22 @@ use Rattle.std.proofs.lemmas.List.Elements.{All-nil, All-cons, All-head, All-tai
 use Rattle.std.proofs.lemmas.List.Quantifiers.{position-Some}
 use Rattle.std.proofs.lemmas.Option.{unwrap_or-slice_get, slice_get-map}
 use Rattle.std.proofs.lemmas.Slice.Eq.{bytes_eq-Decides}
-use Rattle.std.proofs.lemmas.List.{length-drop, length-map, length-take, map-append}
+use Rattle.std.proofs.lemmas.List.{length-map, map-append}
 use Rattle.dump_io.specs.Lines.{headers, Line, lines_from, raw_lines, text_of}
-use Rattle.dump_sections.specs.Index.{index_of, state_of}
+use Rattle.dump_sections.specs.Index.{index_of, dump_state}
 use Rattle.dump_sections.specs.Lookups.{has_tag, is_named}
 use Rattle.dump_sections.specs.Sections.{Section, section, sections, id_of, tag_of}
 use Rattle.dump_sections.specs.declared.index.State.{State}
 use Rattle.dump_sections.specs.Bodies.{body_of, body_in, at_place}
 use Rattle.process_table.specs.Processes.{Process, ProcessTable, process_in, process_table}
-use Rattle.process_table.specs.Records.{Placed, first_of_each, is_process, placed, process_sections, records, repeated}
+use Rattle.process_table.specs.Records.{PlacedSection, first_of_each, is_process, placed_sections, process_sections, records, repeated}
 use Rattle.audit_bodies.specs.Mailboxes.{mail_in, mailbox_place, mailbox_places, mails, pids_in}
 use Rattle.root_views.specs.Roots.{message_count}
 use Rattle.dump_audit.specs.Findings.{audit_of, findings, is_cut}
 use Rattle.dump_audit.specs.Laws.{all-numbered}
 use Rattle.binary_payloads.specs.declared.enc.Enc.{Enc}
 use Rattle.dump_redact.specs.Bodies.{redacted_body}
-use Rattle.dump_redact.specs.Laws.{IsRedacted, KeepsIndex, KeepsOthers, KeepsSections, KeepsState, RedactsSections, KeepsLength, RedactsLines}
+use Rattle.dump_redact.specs.Laws.{IsRedacted, KeepsIndex, KeepsOthers, KeepsSections, KeepsState, RedactsSections, RedactsLines}
 use Rattle.heap_cells.specs.Loading.{enc_of, heap_section, literals_section}
 use Rattle.dump_redact.specs.Redacted.{part_of, redacted, bin_chars, without, blanked_line}
 use Rattle.term_forms.specs.Forms.{HeapForm, HeapBin, Cons, Tuple, RefBin, SubBin, Flat, Node}
@@ -39,12 +39,13 @@ use Rattle.binary_refs.specs.declared.entries.Entry.{Entry}
 use Rattle.term_unfold.specs.Leaves.{leaf_text}
 use Rattle.term_unfold.specs.Rules.{Child, Term, Item, Opening, leaf, bad, node, is_on, unless_on, terms, items, pairs, flat_opening, cell_opening, term_opening, opening}
 use Rattle.term_unfold.specs.Trees.{Value, OfCell, Tree, Leaf, Bad, Branch, Trees, none, more, pre, pre_all, first_bad, verdict}
-use Rattle.term_unfold.specs.Unfolding.{trees, grown, unfold_by, unfolded, unfolding_of}
+use Rattle.term_unfold.specs.Unfolding.{trees, grown_tree, unfold_by, unfolded, unfolding_of}
 use Rattle.root_views.specs.declared.kinds.RootKind.{RootKind}
 use Rattle.root_views.specs.declared.kinds.RootKind.TheVariants.{Stack}
 use Rattle.root_views.specs.Kinds.{roots_in, roots_tag}
 use Rattle.dump_command.specs.Laws.{KeepsFindings, KeepsProcesses, KeepsAddresses, KeepsHeaps, blank_cell, blank_form, blank_heap, KeepsLeaves, KeepsRoots, KeepsTrees, KeepsVerdicts, blank_tree, blank_trees, blank_value, is_binary}
-use Rattle.dump_command.specs.Terms.{heap_body, heap_map, heap_with, literals_body, payloads_of, previews_in}
+use Rattle.heap_cells.specs.DumpHeaps.{heap_body, heap_map, heap_with, literals_body, payloads_of}
+use Rattle.dump_command.specs.Terms.{previews_in}
 use Rattle.dump_trial.specs.Trial.{root_section}
 
 -- a line of a heap with its payload made blank
@@ -58,7 +59,7 @@ map-same f g [] same = refl
 map-same f g (x ∷ xs) same =
     ap (λ y. y ∷ map f xs) (All-head (λ x. f x ≡ g x) x xs same) ∙ ap (λ ys. g x ∷ ys) (map-same f g xs (All-tail (λ x. f x ≡ g x) x xs same))
 
-all-firsts : (P : Placed → Type 0) (ps : List Placed) → All P ps → All P (first_of_each ps)
+all-firsts : (P : PlacedSection → Type 0) (ps : List PlacedSection) → All P ps → All P (first_of_each ps)
 all-firsts P [] all = All-nil P
 all-firsts P (p ∷ ps) all =
     All-cons P p _ (All-head P p ps all) (All-filter _ P (first_of_each ps) (all-firsts P ps (All-tail P p ps all)))
@@ -88,11 +89,11 @@ module _ (enc : Enc) (before after : List ℕ) (others : KeepsOthers) where
   module _ (ss : List Section) (all : All (IsRedacted enc before after) ss) where
     same-bodies : All (λ p. body_of after p.1 ≡ body_of before p.1) (records ss)
     same-bodies =
-        let placed_all : All (λ p. IsRedacted enc before after p.1) (placed ss) = all-numbered (IsRedacted enc before after) 0 ss all in
-        let kept = All-filter (λ p. is_process p.1) (λ p. IsRedacted enc before after p.1) (placed ss) placed_all in
-        let passed = filter_passes (λ p. is_process p.1) (placed ss) in
-        all-firsts (λ p. body_of after p.1 ≡ body_of before p.1) (process_sections (placed ss))
-        (λ k d l. let s = (get_or (process_sections (placed ss)) k d).1 in same-body s (kept k d l) (process-other s (passed k d l)))
+        let placed_all : All (λ p. IsRedacted enc before after p.1) (placed_sections ss) = all-numbered (IsRedacted enc before after) 0 ss all in
+        let kept = All-filter (λ p. is_process p.1) (λ p. IsRedacted enc before after p.1) (placed_sections ss) placed_all in
+        let passed = filter_passes (λ p. is_process p.1) (placed_sections ss) in
+        all-firsts (λ p. body_of after p.1 ≡ body_of before p.1) (process_sections (placed_sections ss))
+        (λ k d l. let s = (get_or (process_sections (placed_sections ss)) k d).1 in same-body s (kept k d l) (process-other s (passed k d l)))
 
     same-processes : map (λ p. process_in p (body_of after p.1)) (records ss) ≡ map (λ p. process_in p (body_of before p.1)) (records ss)
     same-processes =
@@ -136,8 +137,8 @@ module _ (same : KeepsSections) (redacts : RedactsSections) (others : KeepsOther
     keeps-mails : (bytes : List ℕ) → mails (redacted bytes) ≡ mails bytes
     keeps-mails bytes =
         ap (λ s. map (mail_in (redacted bytes) s (sections (redacted bytes))) (mailbox_places (sections (redacted bytes)))) (state bytes)
-        ∙ ap (λ ss. map (mail_in (redacted bytes) (state_of (headers bytes)) ss) (mailbox_places ss)) (same bytes)
-        ∙ same-mails (enc_of (index_of bytes).version) bytes (redacted bytes) others (sections bytes) (redacts bytes) (state_of (headers bytes)) (pids_in (sections bytes))
+        ∙ ap (λ ss. map (mail_in (redacted bytes) (dump_state (headers bytes)) ss) (mailbox_places ss)) (same bytes)
+        ∙ same-mails (enc_of (index_of bytes).version) bytes (redacted bytes) others (sections bytes) (redacts bytes) (dump_state (headers bytes)) (pids_in (sections bytes))
 
     pub keeps-findings : KeepsFindings
     keeps-findings bytes limit full =
@@ -256,13 +257,7 @@ module _ (enc : Enc) where
 
       -- ---- the bodies of a dump
 
-      module _ (before after : List ℕ) (sized : length after ≡ length before) (ss : List Section) (all : All (IsRedacted enc before after) ss) where
-        same-size : (found : Option Section) → length (body_in after found) ≡ length (body_in before found)
-        same-size None = refl
-        same-size (Some s) =
-            length-take (s.end - s.body) _ ∙ ap (min (s.end - s.body)) (length-drop s.body after ∙ ap (λ n. n - s.body) sized ∙ sym (length-drop s.body before))
-            ∙ sym (length-take (s.end - s.body) _)
-
+      module _ (before after : List ℕ) (ss : List Section) (all : All (IsRedacted enc before after) ss) where
         heap-body : (test : Section → Bool) → ((s : Section) → test s ≡ true → part_of (tag_of s.text) ≡ part_of (codes "proc_heap"))
             → body_in after (find test ss) ≡ redacted_heap (body_in before (find test ss))
         heap-body test part =
@@ -280,10 +275,6 @@ module _ (enc : Enc) where
         shared-body : body_in after (literals_section ss) ≡ redacted_heap (body_in before (literals_section ss))
         shared-body = heap-body (λ s. has_tag (codes "literals") s.text) (λ s is. tag-heap (codes "literals") s.text refl is)
 
-        abbrev with_parts : List Cell → ℕ → ℕ → ℕ → HeapMap
-        with_parts cells own heap_size literals_size =
-            record { cells = cells; own = own; enc = enc; heap_size = heap_size; literals_size = literals_size }
-
         same-heap : (pid : List ℕ)
             → heap_with enc (body_in after (heap_section pid ss)) (body_in after (literals_section ss))
             ≡ blank_heap (heap_with enc (body_in before (heap_section pid ss)) (body_in before (literals_section ss)))
@@ -295,10 +286,8 @@ module _ (enc : Enc) where
             let cells : cells_of enc heap_after literals_after ≡ map (blank_cell enc) (cells_of enc heap literals) =
             ap (λ h. cells_of enc h literals_after) (own-body pid) ∙ ap (cells_of enc (redacted_heap heap)) shared-body ∙ blank-cells heap literals in
             let own : own_count enc heap_after ≡ own_count enc heap = ap (own_count enc) (own-body pid) ∙ blank-own heap in
-            ap (λ cs. with_parts cs (own_count enc heap_after) (length heap_after) (length literals_after)) cells
-            ∙ ap (λ n. with_parts (map (blank_cell enc) (cells_of enc heap literals)) n (length heap_after) (length literals_after)) own
-            ∙ ap (λ n. with_parts (map (blank_cell enc) (cells_of enc heap literals)) (own_count enc heap) n (length literals_after)) (same-size (heap_section pid ss))
-            ∙ ap (λ n. with_parts (map (blank_cell enc) (cells_of enc heap literals)) (own_count enc heap) (length heap) n) (same-size (literals_section ss))
+            ap (λ cs. record { cells = cs; own = own_count enc heap_after; enc = enc }) cells
+            ∙ ap (λ n. record { cells = map (blank_cell enc) (cells_of enc heap literals); own = n; enc = enc }) own
 
 -- ---- the dump
 
@@ -306,13 +295,13 @@ same-addresses : (enc : Enc) (cs : List Cell) → addresses (map (blank_cell enc
 same-addresses enc [] = refl
 same-addresses enc (c ∷ cs) = ap (λ l. c.address ∷ l) (same-addresses enc cs)
 
-module _ (sized : KeepsLength) (same : KeepsSections) (index : KeepsIndex) (redacts : RedactsSections) (lines : RedactsLines) (binaries : (enc : Enc) → KeepsBinaries enc) where
+module _ (same : KeepsSections) (index : KeepsIndex) (redacts : RedactsSections) (lines : RedactsLines) (binaries : (enc : Enc) → KeepsBinaries enc) where
   pub keeps-heaps : KeepsHeaps
   keeps-heaps bytes pid =
       let enc = payloads_of bytes in
       ap (λ i. heap_with (enc_of i.version) (heap_body pid (redacted bytes)) (literals_body (redacted bytes))) (index bytes)
       ∙ ap (λ ss. heap_with enc (body_in (redacted bytes) (heap_section pid ss)) (body_in (redacted bytes) (literals_section ss))) (same bytes)
-      ∙ same-heap enc (binaries enc) lines bytes (redacted bytes) (sized bytes) (sections bytes)
+      ∙ same-heap enc (binaries enc) lines bytes (redacted bytes) (sections bytes)
       (redacts bytes) pid
 
   pub keeps-addresses : KeepsAddresses
@@ -494,7 +483,7 @@ module _ (enc : Enc) where
       ap (λ t. more t (trees new children)) (same child) ∙ ap (more (blank_tree enc (old child))) (trees-same new old same children)
 
   grown-same : (new old : ℕ → Child → Tree) → ((a : ℕ) (child : Child) → new a child ≡ blank_tree enc (old a child)) → (off : Opening)
-      → grown new (blank_opening off) ≡ blank_tree enc (grown old off)
+      → grown_tree new (blank_opening off) ≡ blank_tree enc (grown_tree old off)
   grown-same new old same (leaf value) = refl
   grown-same new old same (bad a why) = refl
   grown-same new old same (node a kind children) = ap (Branch kind) (trees-same (new a) (old a) (same a) children)
@@ -503,7 +492,7 @@ module _ (enc : Enc) where
   unfolding unfold_by
   levels-same zero heap path child = refl
   levels-same (suc levels) heap path child =
-      ap (grown (λ a. unfold_by levels (blanked heap) (a ∷ path))) (opens-same heap path child)
+      ap (grown_tree (λ a. unfold_by levels (blanked heap) (a ∷ path))) (opens-same heap path child)
       ∙ grown-same (λ a. unfold_by levels (blanked heap) (a ∷ path)) (λ a. unfold_by levels heap (a ∷ path)) (λ a below. levels-same levels heap (a ∷ path) below) (opening heap path child)
 
   pub unfolds-same : (heap : List Cell) (path : List ℕ) (child : Child) → unfolded (blanked heap) path child ≡ blank_tree enc (unfolded heap path child)

@@ -13,7 +13,7 @@ use Rattle.dump_sections.specs.Sections.{Section}
 use Rattle.dump_sections.specs.declared.bodies.BodyFault.{BodyFault}
 use Rattle.dump_sections.specs.declared.bodies.BodyFault.TheVariants as body_faults
 use Rattle.dump_sections.specs.LoadingLaws.{large-append, small-both}
-use Rattle.dump_sections.specs.Loading.{bodies_length, first_large, large_fault, AreRefused, IsUnread}
+use Rattle.dump_sections.specs.Loading.{bodies_length, first_large, large_fault, AreRefused, IsUnloaded}
 use Rattle.process_table.specs.Records.{record_sections}
 use Rattle.table_sections.specs.declared.kinds.TableKind.TheVariants.{Ets}
 use Rattle.table_sections.specs.Tables.{listed}
@@ -31,11 +31,11 @@ use Rattle.dump_command.proofs.Reading.{body_fault, refused, HasRead-listed, Sto
 use Rattle.dump_command.proofs.Runs.{sections-index}
 
 -- bodies of which none is too large aren't read where the device fails or memory lacks
-pub IsUnread-small : (limit : ℕ) (ss : List Section) (before after step step' : DeviceState) (fault : BodyFault) → large_fault limit ss ≡ None → (DeviceFailed step step' → DeviceFailed before after)
-    → AreRefused ss limit step step' fault → IsUnread before after fault
-IsUnread-small limit ss before after step step' body_faults.Read none later cause = inl (refl, later cause.0)
-IsUnread-small limit ss before after step step' body_faults.Memory none later cause = inr refl
-IsUnread-small limit ss before after step step' (body_faults.SectionTooLarge at len) none later cause = absurd (let no : ⊥ = cc (sym none ∙ cause) in no)
+pub IsUnloaded-small : (limit : ℕ) (ss : List Section) (before after step step' : DeviceState) (fault : BodyFault) → large_fault limit ss ≡ None → (DeviceFailed step step' → DeviceFailed before after)
+    → AreRefused ss limit step step' fault → IsUnloaded before after fault
+IsUnloaded-small limit ss before after step step' body_faults.Read none later cause = inl (refl, later cause.0)
+IsUnloaded-small limit ss before after step step' body_faults.Memory none later cause = inr refl
+IsUnloaded-small limit ss before after step step' (body_faults.SectionTooLarge at len) none later cause = absurd (let no : ⊥ = cc (sym none ∙ cause) in no)
 
 -- ---- the bodies of a triage
 
@@ -120,10 +120,10 @@ module _ {index : Contents} {places : Places} (found : AreFound index places) wh
 
 -- they weren't read
 pub not-read : {index : Contents} {before after : DeviceState} (result : Result Loaded BodyFault) (fault : BodyFault) → IsErrAnd result (λ e. e ≡ fault)
-    → ReadsAtMost before after (bodies_length (triage_sections (sections_in index))) → IsUnread before after fault → ReadsBodies index before after result
+    → ReadsAtMost before after (bodies_length (triage_sections (sections_in index))) → IsUnloaded before after fault → ReadsBodies index before after result
 not-read (Ok loaded) fault is reads cause = absurd is
 not-read {before = before} {after = after} (Err e) fault is reads cause =
-    record { reads = reads; bodies = tt; fits = tt; fault = subst (IsUnread before after) (sym is) cause }
+    record { reads = reads; bodies = tt; fits = tt; fault = subst (IsUnloaded before after) (sym is) cause }
 
 -- ---- the command
 
@@ -158,7 +158,7 @@ module _ (file : List ℕ) (most : ℕ) (limits : Numbers) (index : Contents) (b
 
   -- they weren't read
   pub IsHalted-unread : (fault : BodyFault) → None ≡ large_fault limits.section (triage_sections (sections_in index))
-      → ReadsAtMost before after (bodies_length (triage_sections (sections_in index))) → IsUnread before after fault → IsHalted (triage file most) limits index before after (stop_of_body fault)
+      → ReadsAtMost before after (bodies_length (triage_sections (sections_in index))) → IsUnloaded before after fault → IsHalted (triage file most) limits index before after (stop_of_body fault)
   IsHalted-unread fault small reads (inl cause) =
       subst (λ f. IsHalted (triage file most) limits index before after (stop_of_body f)) (sym cause.0) (record { takes = takes-triage small reads; cause = cause.1 })
   IsHalted-unread fault small reads (inr is) =

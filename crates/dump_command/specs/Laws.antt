@@ -18,7 +18,8 @@ use Rattle.process_table.specs.Processes.{process_table}
 use Rattle.dump_audit.specs.Findings.{findings}
 use Rattle.dump_redact.specs.Redacted.{blank, redacted}
 use Rattle.dump_command.specs.Audits.{audit_in}
-use Rattle.dump_command.specs.Terms.{heap_map, payloads_of, walk_of}
+use Rattle.heap_cells.specs.DumpHeaps.{heap_map, payloads_of}
+use Rattle.dump_command.specs.Terms.{walk_of}
 use Rattle.dump_trial.specs.Trial.{root_section}
 
 -- it has the same processes
@@ -43,13 +44,7 @@ blank_cell enc cell = record { address = cell.address; form = option_map (blank_
 -- a heap with such cells in the same order, as many of them its own
 abbrev pub blank_heap : HeapMap → HeapMap
 blank_heap heap =
-    record {
-      cells = map (blank_cell heap.enc) heap.cells;
-      own = heap.own;
-      enc = heap.enc;
-      heap_size = heap.heap_size;
-      literals_size = heap.literals_size;
-    }
+    record { cells = map (blank_cell heap.enc) heap.cells; own = heap.own; enc = heap.enc }
 
 -- the heap of a process differs only in the characters of its heap binaries
 abbrev pub KeepsHeaps : Type 0

@@ -7,7 +7,7 @@ use Rattle.dump_io.specs.Lines.{headers}
 use Rattle.dump_sections.specs.Bodies.{at_place, body_in, body_length, body_of}
 use Rattle.dump_sections.specs.Index.{index_of}
 use Rattle.dump_sections.specs.Versions.{first_id}
-use Rattle.section_index.specs.Opening.{opening}
+use Rattle.section_index.specs.Opening.{open_fault}
 use Rattle.dump_sections.specs.Sections.{Section, sections}
 use Rattle.dump_sections.specs.Tags.{tag_counts, tags_in}
 use Rattle.report_text.specs.declared.refusals.Refusal.{Refusal}
@@ -33,10 +33,11 @@ use Rattle.dump_redact.specs.Redacted.{redacted}
 use Rattle.dump_redact.specs.Refusals.{heap_sections}
 use Rattle.audit_bodies.specs.Mailboxes.{audited_sections}
 use Rattle.dump_command.specs.Audits.{audit_in, status_of}
-use Rattle.command_words.specs.Command.{Command, index, info, procs, proc, memory, table, roots, term, ext, reach, cells, binary, binaries, holders, triage, links, redact, audit, audit_json, make, trial, file_of}
+use Rattle.command_words.specs.Command.{Command, index, info, procs, proc, memory, table, roots, term, ext, reach, cells, binary, binaries, holders, triage, links, redact, audit, audit_json, make, trial, file_name}
 use Rattle.dump_command.specs.Holders.{binaries_listing, fronts_bytes, heaps_bytes, holders_listing}
 use Rattle.dump_command.specs.Triage.{Told, triage_over}
-use Rattle.dump_command.specs.Terms.{base_of, binary_cause, bad_binary, binary_count, binary_of, ext_of, heap_map, no_address, no_external, reach_of, roots_of, term_of, too_dense}
+use Rattle.heap_cells.specs.DumpHeaps.{heap_map}
+use Rattle.dump_command.specs.Terms.{base_of, binary_cause, bad_binary, binary_count, binary_report_of, ext_of, no_address, no_external, reach_of, roots_of, term_of, too_dense}
 use Rattle.stored_binaries.specs.StoredBinaries.{binary_section}
 use Rattle.heap_cells.specs.Loading.{heap_bodies}
 
@@ -113,7 +114,7 @@ report (term file pid addr nodes marked) bytes = term_of pid addr nodes marked b
 report (ext file pid addr) bytes = ext_of pid addr bytes
 report (reach file pid) bytes = reach_of pid bytes
 report (cells file pid) bytes = cells_report (heap_map pid bytes)
-report (binary file addr) bytes = binary_of addr bytes
+report (binary file addr) bytes = binary_report_of addr bytes
 report (binaries file) bytes = binaries_listing bytes
 report (holders file addr) bytes = holders_listing addr bytes
 report (triage file most) bytes = triage_over most (index_of bytes) (told_in bytes (sections bytes))
@@ -174,12 +175,12 @@ refusal_held cmd bytes limits = None
 -- why a command on these bytes is refused before it reads a body:
 -- they aren't accepted as a dump, or it is refused for their sections
 abbrev pub refusal_unread : Command → List ℕ → Numbers → Option Refusal
-refusal_unread cmd bytes limits = option_or (option_map Open (opening bytes limits)) (refusal_listed cmd (sections bytes) limits)
+refusal_unread cmd bytes limits = option_or (option_map Open (open_fault bytes limits)) (refusal_listed cmd (sections bytes) limits)
 
 -- why a command on these bytes is refused under these limits, or `None`:
 -- the first cause that holds. A command without a file isn't refused
 abbrev pub refusal : Command → List ℕ → Numbers → Option Refusal
-refusal cmd bytes limits = option_and (file_of cmd) (option_or (refusal_unread cmd bytes limits) (refusal_held cmd bytes limits))
+refusal cmd bytes limits = option_and (file_name cmd) (option_or (refusal_unread cmd bytes limits) (refusal_held cmd bytes limits))
 
 -- the bytes of the bodies that a command loads
 abbrev pub loaded_bytes : Command → List ℕ → ℕ

@@ -8,20 +8,20 @@ use Rattle.dump_io.specs.Sinks.{SinkState, SinkFailed, IsKept, Gained, GainedFro
 use Rattle.section_index.specs.Answers.{IsFileOf}
 use Rattle.report_text.specs.declared.refusals.Refusal.{Refusal}
 use Rattle.report_text.specs.Refusals.{refusal_line}
-use Rattle.command_words.specs.Command.{Command, redact, file_of}
+use Rattle.command_words.specs.Command.{Command, redact, file_name}
 use Rattle.dump_command.specs.Report.{report, report_status, finds, refusal, allowance}
 
 -- these are the bytes on which this command reports: those of its file, and none if it has no file
 abbrev pub IsDumpOf : DeviceState → DeviceState → Command → List ℕ → Type 0
-IsDumpOf before after cmd bytes = MatchOption (file_of cmd) (bytes ≡ []) (λ name. IsFileOf before after name bytes)
+IsDumpOf before after cmd bytes = MatchOption (file_name cmd) (bytes ≡ []) (λ name. IsFileOf before after name bytes)
 
 -- the device tells its files, and none has the name of the command's file
 abbrev pub IsMissing : DeviceState → Command → Type 0
-IsMissing before cmd = IsSomeAnd (file_of cmd) (IsAbsent before.files)
+IsMissing before cmd = IsSomeAnd (file_name cmd) (IsAbsent before.files)
 
 -- the command's dump wasn't read: the device failed, or has no such file
 abbrev pub IsUnread : DeviceState → DeviceState → Command → Type 0
-IsUnread before after cmd = IsSomeAnd (file_of cmd) (λ name. DeviceFailed before after ⊎ IsAbsent before.files name)
+IsUnread before after cmd = IsSomeAnd (file_name cmd) (λ name. DeviceFailed before after ⊎ IsAbsent before.files name)
 
 -- the whole report on these bytes was written, for which
 -- nothing is refused, and the status is that of the report

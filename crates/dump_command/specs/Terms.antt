@@ -6,10 +6,9 @@ use Rattle.dump_sections.specs.Sections.{Section, sections}
 use Rattle.binary_payloads.specs.declared.enc.Enc.{Enc}
 use Rattle.term_forms.specs.Elements.{Element}
 use Rattle.term_forms.specs.Forms.{HeapForm, Ext}
-use Rattle.heap_cells.specs.Cells.{cells_of, own_count, weight}
 use Rattle.etf_terms.specs.Walks.{bad_place}
+use Rattle.heap_cells.specs.DumpHeaps.{heap_map, heap_weight}
 use Rattle.heap_cells.specs.HeapMap.{HeapMap, form_at, number_at}
-use Rattle.heap_cells.specs.Loading.{enc_of, heap_section, literals_section}
 use Rattle.dump_sections.specs.Bodies.{body_in}
 use Rattle.heap_reach.specs.Rounds.{reached_by}
 use Rattle.binary_refs.specs.declared.entries.Entry.{Entry}
@@ -17,42 +16,15 @@ use Rattle.binary_refs.specs.Previews.{binaries, previews_of}
 use Rattle.binary_refs.specs.Wholes.{whole_bytes}
 use Rattle.stored_binaries.specs.Payloads.{payload_of}
 use Rattle.stored_binaries.specs.StoredBinaries.{binary_section}
-use Rattle.term_unfold.specs.Walks.{Walk, walk}
+use Rattle.term_unfold.specs.Walks.{Walk, new_walk}
 use Rattle.report_text.specs.declared.refusals.Refusal.{Refusal}
 use Rattle.report_text.specs.declared.refusals.Refusal.TheVariants.{TooDense, NoAddress, NotExt, BadExt, NoBinary, BadBinary}
 use Rattle.root_views.specs.declared.kinds.RootKind.{RootKind}
 use Rattle.root_views.specs.declared.kinds.RootKind.TheVariants.{Stack, Dict, Mail}
-use Rattle.term_text.specs.Reach.{reach_report, terms_of}
+use Rattle.term_text.specs.Reach.{reach_report, root_elements}
 use Rattle.dump_trial.specs.Trial.{root_section}
 use Rattle.root_views.specs.Kinds.{roots_in}
 use Rattle.term_text.specs.Roots.{answer_over, binary_report, ext_report, roots_report, term_report}
-
--- how the payloads of a dump are written
-abbrev pub payloads_of : List ℕ → Enc
-payloads_of bytes = enc_of (index_of bytes).version
-
--- the body of the heap of the process with this pid
-abbrev pub heap_body : List ℕ → List ℕ → List ℕ
-heap_body pid bytes = body_in bytes (heap_section pid (sections bytes))
-
--- the body of the literals
-abbrev pub literals_body : List ℕ → List ℕ
-literals_body bytes = body_in bytes (literals_section (sections bytes))
-
--- the heap with these bodies
-abbrev pub heap_with : Enc → List ℕ → List ℕ → HeapMap
-heap_with enc heap literals =
-    record {
-      cells = cells_of enc heap literals;
-      own = own_count enc heap;
-      enc = enc;
-      heap_size = length heap;
-      literals_size = length literals;
-    }
-
--- the heap of the process with this pid
-abbrev pub heap_map : List ℕ → List ℕ → HeapMap
-heap_map pid bytes = heap_with (payloads_of bytes) (heap_body pid bytes) (literals_body bytes)
 
 -- what the references of a heap to binaries show
 abbrev pub previews_in : List ℕ → HeapMap → List Entry
@@ -60,7 +32,7 @@ previews_in bytes heap = previews_of bytes (index_of bytes) heap.enc heap.cells
 
 -- the heap of a process with what its references to binaries show
 abbrev pub walk_of : List ℕ → List ℕ → Walk
-walk_of pid bytes = walk (heap_map pid bytes) (previews_in bytes (heap_map pid bytes))
+walk_of pid bytes = new_walk (heap_map pid bytes) (previews_in bytes (heap_map pid bytes))
 
 -- the answer to an element of the process, within this many nodes, with bad addresses marked or not
 abbrev pub answer_in : List ℕ → ℕ → Bool → List ℕ → Element → List ℕ
@@ -88,7 +60,7 @@ dense_cause limit count = if nat_lt limit count then Some (TooDense count) else 
 
 -- why the heap of a process is too dense, or `None`
 abbrev pub too_dense : ℕ → List ℕ → List ℕ → Option Refusal
-too_dense limit pid bytes = dense_cause limit (weight (payloads_of bytes) (heap_body pid bytes) (literals_body bytes))
+too_dense limit pid bytes = dense_cause limit (heap_weight pid bytes)
 
 -- the heap has no cell at the address
 abbrev pub address_cause : ℕ → Option ℕ → Option Refusal
@@ -123,7 +95,7 @@ ext_of pid addr bytes = ext_report (unwrap_or (external_at addr (heap_map pid by
 
 -- the terms among the roots of one kind of a process
 abbrev pub terms_in : RootKind → List ℕ → List ℕ → List Element
-terms_in kind pid bytes = terms_of (roots_in kind (body_in bytes (root_section kind pid (sections bytes))))
+terms_in kind pid bytes = root_elements (roots_in kind (body_in bytes (root_section kind pid (sections bytes))))
 
 -- those among all its roots: of its stack, its dictionary and its mailbox
 abbrev pub root_terms : List ℕ → List ℕ → List Element
@@ -142,8 +114,8 @@ abbrev pub binary_count : List ℕ → List ℕ → ℕ
 binary_count pid bytes = length (binaries (heap_map pid bytes).cells)
 
 -- the report of the binary at an address, with the bytes that its section writes
-abbrev pub binary_of : ℕ → List ℕ → List ℕ
-binary_of addr bytes = binary_report addr (unwrap_or (whole_bytes bytes (index_of bytes) addr) [])
+abbrev pub binary_report_of : ℕ → List ℕ → List ℕ
+binary_report_of addr bytes = binary_report addr (unwrap_or (whole_bytes bytes (index_of bytes) addr) [])
 
 -- its section writes no bytes
 abbrev pub bad_cause : Option Section → Option (List ℕ) → Option Refusal

@@ -1,5 +1,5 @@
 // Each command: what it loads, and what it writes.
-ghost use Rattle.command_words.specs.Command.{shown, IsInRange};
+ghost use Rattle.command_words.specs.Command.{shown_command, IsInRange};
 ghost use Rattle.dump_command.specs.Inner.Runs.{RunsOn};
 
 mod audit;
@@ -62,8 +62,8 @@ pub(crate) fn run_command<D: Dumps, K: Sink>(
     dumps: &mut D,
     out: &mut K,
 ) -> Result<u8, Stop>
-    requires { IsInRange (shown cmd) }
-    ensures { RunsOn D.state (shown cmd.entry) limits.now dumps.old dumps.new (K.state out.old) (K.state out.new) result }
+    requires { IsInRange (shown_command cmd) }
+    ensures { RunsOn D.state (shown_command cmd.entry) limits.now dumps.old dumps.new (K.state out.old) (K.state out.new) result }
 {
     match cmd {
         Cmd::Index { file } => run_report(alloc, &Index { file }, limits, dumps, out),

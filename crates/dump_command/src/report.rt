@@ -1,7 +1,7 @@
 // A command that opens a dump: what it reads, what it writes, and its run.
 ghost use Rattle.std.specs.Prelude.{◌≡◌, ◌≤◌, ℕ, List, length, Some, IfOk};
 ghost use Rattle.dump_sections.specs.Index.{Contents, IsBuiltOver};
-ghost use Rattle.command_words.specs.Command.{Command, file_of};
+ghost use Rattle.command_words.specs.Command.{Command, file_name};
 ghost use Rattle.dump_command.specs.Inner.Runs.{Runs};
 ghost use Rattle.dump_command.specs.Inner.Reading.{ReadsFor, Tells};
 
@@ -32,7 +32,7 @@ pub(crate) trait Report {
 
     /// The name of the dump.
     fn file(&self) -> &str
-        ensures { file_of (command self.now) ≡ Some result.now };
+        ensures { file_name (command self.now) ≡ Some result.now };
 
     /// Reads what the report needs, or returns why it didn't.
     fn read<D: Dumps>(&self, at: &Opened<'_>, dumps: &mut D) -> Result<Self::Loaded, Stop>

@@ -4,7 +4,7 @@ ghost use Rattle.std.specs.Option.{option_and_then};
 ghost use Rattle.std.specs.String.{string_bytes};
 ghost use Rattle.dump_io.specs.Dumps.{DeviceFailed};
 ghost use Rattle.dump_io.specs.Sinks.{SinkFailed};
-ghost use Rattle.command_words.specs.Command.{Command, command, file_of};
+ghost use Rattle.command_words.specs.Command.{Command, command, file_name};
 ghost use Rattle.dump_command.specs.Report.{refusal, report_status};
 ghost use Rattle.dump_command.specs.Run.{IsDumpOf, IsRunOf, IsUsage};
 
@@ -48,7 +48,7 @@ pub fn run<D: Dumps, K: Sink, E: Sink>(
         → IsUsage result (K.state out.old) (K.state out.new) (E.state err.old) (E.state err.new) }
 
     // If they are none, or one that opens no file, the device plays no part.
-    ensures idle { option_and_then file_of (command (map string_bytes words.now)) ≡ None → dumps.new ≡ dumps.old }
+    ensures idle { option_and_then file_name (command (map string_bytes words.now)) ≡ None → dumps.new ≡ dumps.old }
 
     // What is left if they are one.
     ensures ends { (cmd : Command) → command (map string_bytes words.now) ≡ Some cmd → IsRunOf cmd limits.now result

@@ -2,8 +2,12 @@
 use Rattle.std.specs.Prelude.{ℕ, ◌^◌, ◌/◌, ◌%◌, Bool, true, ◌&&◌, List, [], ◌∷◌, length, Option, None, Some, nat_le, nat_lt, if◌then◌else◌}
 use Rattle.std.specs.Fmt.{digit_glyph, digits}
 use Rattle.std.specs.List.{list_all}
-use Rattle.std.specs.Char.{digit_value}
+use Rattle.std.specs.Char.{digit_value, is_ascii_digit}
 use Rattle.std.specs.Str.Parse.{digits_value}
+
+-- one or more decimal digits
+abbrev pub is_digits : List ℕ → Bool
+is_digits text = nat_lt 0 (length text) && list_all is_ascii_digit text
 
 -- whether the text is 1 to `most` digits of the base and writes a number below 2^64
 abbrev pub is_numeral : ℕ → ℕ → List ℕ → Bool

@@ -1,8 +1,9 @@
 // The numbers in a dump's text, and decimal numbers in a report.
 ghost use Rattle.std.specs.Prelude.{◌≡◌, ◌+◌, ◌*◌, ◌<◌, ◌≤◌, ◌^◌, decimal};
 ghost use Rattle.std.specs.Option.{SomeIff};
-ghost use Rattle.std.specs.Char.{digit_value};
-ghost use Rattle.dump_io.specs.Numbers.{number_of, hex_number, dec_number};
+ghost use Rattle.std.specs.Char.{digit_value, is_ascii_digit};
+ghost use Rattle.std.specs.List.{list_all};
+ghost use Rattle.dump_io.specs.Numbers.{is_digits, number_of, hex_number, dec_number};
 ghost use Rattle.dump_io.specs.Sinks.{Puts};
 
 use crate::dumps::Failed;
@@ -35,6 +36,19 @@ fn number(text: &[u8], base: u32, most: usize) -> Option<u64>
         n = with_digit(n, *digit, base)?;
     }
     Some(n)
+}
+
+fn all_digits(text: &[u8]) -> bool
+    ensures { result ≡ list_all is_ascii_digit text.now }
+{
+    text.iter().all(|c| c.is_ascii_digit())
+}
+
+/// Whether a text is one or more decimal digits.
+pub fn is_digits(text: &[u8]) -> bool
+    ensures { result ≡ is_digits text.now }
+{
+    !text.is_empty() && all_digits(text)
 }
 
 /// The number that a text of 1 to 20 decimal digits writes, if it is

@@ -19,7 +19,7 @@ use Rattle.binary_payloads.specs.declared.enc.Enc.{Enc}
 use Rattle.heap_cells.specs.Loading.{enc_of}
 use Rattle.dump_redact.specs.declared.faults.RedactFault.{RedactFault}
 use Rattle.dump_redact.specs.declared.faults.RedactFault.TheVariants.{SectionTooLarge}
-use Rattle.dump_redact.specs.Refusals.{heap_sections, large_fault}
+use Rattle.dump_redact.specs.Refusals.{heap_sections, large_heap}
 use Rattle.dump_sections.specs.Loading.{first_large}
 use Rattle.dump_redact.specs.Inner.Places.{fault_at, offset_of, text_between, text_of_section, redacted_between}
 use Rattle.dump_redact.specs.declared.parts.Part.{Part}
@@ -39,7 +39,7 @@ abbrev fault_in : ℕ → Bool → Section → List Section → Option RedactFau
 fault_in limit heap s heaps = option_map fault_of (first_large limit (cond heap (s ∷ heaps) heaps))
 
 -- the first section is refused, or else those behind it decide
-pub one-more : (limit : ℕ) (s : Section) (sections : List Section) → large_fault limit (s ∷ sections) ≡ option_or (fault_at limit s) (large_fault limit sections)
+pub one-more : (limit : ℕ) (s : Section) (sections : List Section) → large_heap limit (s ∷ sections) ≡ option_or (fault_at limit s) (large_heap limit sections)
 one-more limit s sections = by (is_heap_tag (tag_of s.text)) (nat_lt limit (body_length s)) refl
   where
     heaps : List Section
@@ -61,14 +61,14 @@ drop-at (first ∷ sections) (suc i) s is =
 
 -- the section at a place is refused, or those behind it decide
 module _ (limit : ℕ) (sections : List Section) (i : ℕ) (s : Section) (is : slice_get sections i ≡ Some s) where
-  left : large_fault limit (drop i sections) ≡ option_or (fault_at limit s) (large_fault limit (drop (i + 1) sections))
-  left = ap (large_fault limit) (drop-at sections i s is) ∙ one-more limit s (drop (i + 1) sections)
+  left : large_heap limit (drop i sections) ≡ option_or (fault_at limit s) (large_heap limit (drop (i + 1) sections))
+  left = ap (large_heap limit) (drop-at sections i s is) ∙ one-more limit s (drop (i + 1) sections)
 
-  pub found-here : (fault : RedactFault) → fault_at limit s ≡ Some fault → large_fault limit (drop i sections) ≡ Some fault
-  found-here fault found = left ∙ ap (λ o. option_or o (large_fault limit (drop (i + 1) sections))) found
+  pub found-here : (fault : RedactFault) → fault_at limit s ≡ Some fault → large_heap limit (drop i sections) ≡ Some fault
+  found-here fault found = left ∙ ap (λ o. option_or o (large_heap limit (drop (i + 1) sections))) found
 
-  pub passed-here : fault_at limit s ≡ None → large_fault limit (drop i sections) ≡ large_fault limit (drop (i + 1) sections)
-  passed-here none = left ∙ ap (λ o. option_or o (large_fault limit (drop (i + 1) sections))) none
+  pub passed-here : fault_at limit s ≡ None → large_heap limit (drop i sections) ≡ large_heap limit (drop (i + 1) sections)
+  passed-here none = left ∙ ap (λ o. option_or o (large_heap limit (drop (i + 1) sections))) none
 
 -- the section at a place is one of the list
 pub place-at : (index : Contents) (i : ℕ) → i < length (sections_in index) → slice_get (sections_in index) i ≡ Some (section_at index i)

@@ -2,7 +2,7 @@
 use Rattle.std.specs.Prelude.{◌≡◌, ℕ, List, length, All}
 use Rattle.std.specs.List.{between}
 use Rattle.dump_io.specs.Lines.{headers, raw_lines}
-use Rattle.dump_sections.specs.Index.{state_of, index_of}
+use Rattle.dump_sections.specs.Index.{dump_state, index_of}
 use Rattle.dump_sections.specs.Sections.{Section, sections, tag_of}
 use Rattle.binary_payloads.specs.declared.enc.Enc.{Enc}
 use Rattle.dump_redact.specs.declared.parts.Part.{Part}
@@ -21,7 +21,7 @@ KeepsSections = (bytes : List ℕ) → sections (redacted bytes) ≡ sections by
 
 -- it is whole, or truncated, as before
 abbrev pub KeepsState : Type 0
-KeepsState = (bytes : List ℕ) → state_of (headers (redacted bytes)) ≡ state_of (headers bytes)
+KeepsState = (bytes : List ℕ) → dump_state (headers (redacted bytes)) ≡ dump_state (headers bytes)
 
 -- its index is the same
 abbrev pub KeepsIndex : Type 0

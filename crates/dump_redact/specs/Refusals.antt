@@ -14,18 +14,18 @@ abbrev pub heap_sections : List Section → List Section
 heap_sections sections = filter (λ s. is_heap_tag (tag_of s.text)) sections
 
 -- the refusal of the first heap or literals whose body has more bytes than the limit
-abbrev pub large_fault : ℕ → List Section → Option RedactFault
-large_fault limit sections = option_map (λ s. SectionTooLarge s.at (body_length s)) (first_large limit (heap_sections sections))
+abbrev pub large_heap : ℕ → List Section → Option RedactFault
+large_heap limit sections = option_map (λ s. SectionTooLarge s.at (body_length s)) (first_large limit (heap_sections sections))
 
 -- why the dump isn't redacted to its end: it is refused for this cause,
 -- or the device or the sink failed; memory may be lacking at any time
-abbrev pub IsCauseOf : Option RedactFault → DeviceState → DeviceState → SinkState → SinkState → RedactFault → Type 0
-IsCauseOf refusal before after sink sink' (SectionTooLarge at len) = refusal ≡ Some (SectionTooLarge at len)
-IsCauseOf refusal before after sink sink' Read = DeviceFailed before after
-IsCauseOf refusal before after sink sink' Write = SinkFailed sink sink'
-IsCauseOf refusal before after sink sink' Memory = Unit {0}
+abbrev pub IsRedactCauseOf : Option RedactFault → DeviceState → DeviceState → SinkState → SinkState → RedactFault → Type 0
+IsRedactCauseOf refusal before after sink sink' (SectionTooLarge at len) = refusal ≡ Some (SectionTooLarge at len)
+IsRedactCauseOf refusal before after sink sink' Read = DeviceFailed before after
+IsRedactCauseOf refusal before after sink sink' Write = SinkFailed sink sink'
+IsRedactCauseOf refusal before after sink sink' Memory = Unit {0}
 
 -- what the call does that redacts a dump of so many bytes with these sections, between two states of its device and of its sink
 abbrev pub LoadsDump : {D T : Type 0} → (D → DeviceState) → ℕ → List Section → ℕ → SinkState → SinkState → D → D → Result T RedactFault → Type 0
 LoadsDump state size sections limit sink sink' before after result =
-    let refusal = large_fault limit sections in Loads state size refusal (λ d d'. IsCauseOf refusal d d' sink sink') before after result
+    let refusal = large_heap limit sections in Loads state size refusal (λ d d'. IsRedactCauseOf refusal d d' sink sink') before after result

@@ -3,7 +3,7 @@ ghost use Rattle.std.specs.Prelude.{◌≡◌, ◌+◌, ◌<◌, ◌≤◌, ◌+
 ghost use Rattle.dump_io.specs.Lines.{IsEnded};
 ghost use Rattle.dump_redact.specs.Bodies.{redacted_body};
 ghost use Rattle.dump_redact.specs.Redacted.{blank, blanked_line};
-ghost use Rattle.dump_redact.specs.Inner.Places.{place_of, AreMarksFrom};
+ghost use Rattle.dump_redact.specs.Inner.Places.{payload_place, AreMarksFrom};
 
 use crate::parts::Part;
 use binary_payloads::is_digit;
@@ -40,7 +40,7 @@ pub(crate) fn blank_all(chars: &mut [u8], enc: Enc)
 // Where the payload begins in the line, if it is a heap line with one. Any
 // other form is recognized by its first two characters, and isn't read.
 fn payload_at(raw: &[u8], enc: Enc) -> Option<usize>
-    ensures place { result ≡ place_of enc raw.now }
+    ensures place { result ≡ payload_place enc raw.now }
     ensures within { IfSome result (λ at. at ≤ length raw.now) }
 {
     form_is_read(enc);

@@ -5,7 +5,7 @@ ghost use Rattle.dump_io.specs.Sinks.{WritesAll};
 ghost use Rattle.dump_sections.specs.Bodies.{section_at};
 ghost use Rattle.dump_sections.specs.Index.{IsBuiltOver, sections_in};
 ghost use Rattle.dump_redact.specs.Redacted.{redacted};
-ghost use Rattle.dump_redact.specs.Refusals.{large_fault, LoadsDump};
+ghost use Rattle.dump_redact.specs.Refusals.{large_heap, LoadsDump};
 ghost use Rattle.dump_redact.specs.declared.faults.RedactFault.{RedactFault};
 ghost use Rattle.dump_redact.specs.Inner.Copying.{Copies};
 ghost use Rattle.dump_redact.specs.Inner.Places.{length_between, text_between, HasRoom, fault_at};
@@ -36,7 +36,7 @@ fn judge(index: &Index, i: usize, limits: &Limits) -> Option<RedactFault>
 
 // The first such refusal.
 fn large(index: &Index, limits: &Limits) -> Option<RedactFault>
-    ensures refusal { result ≡ large_fault limits.now.section (sections_in index.now) }
+    ensures refusal { result ≡ large_heap limits.now.section (sections_in index.now) }
     ensures some { 0 < index.now.size }
 {
     for i in 0..index.len() {
@@ -207,8 +207,8 @@ pub fn redact<D: Dumps, K: Sink>(
     ensures writes { (bytes : List ℕ) → (D.state dumps.old).now ≡ told bytes → WritesAll (K.state sink.old).written (K.state sink.new).written (redacted bytes) result }
 
     // A body that is too large is always refused as such, whatever the device and the sink do.
-    ensures too_large { (fault : RedactFault) → large_fault limits.now.section (sections_in index.now) ≡ Some fault → IsErrOf result fault }
-    ensures unwritten { IsSome (large_fault limits.now.section (sections_in index.now)) → sink.new ≡ sink.old }
+    ensures too_large { (fault : RedactFault) → large_heap limits.now.section (sections_in index.now) ≡ Some fault → IsErrOf result fault }
+    ensures unwritten { IsSome (large_heap limits.now.section (sections_in index.now)) → sink.new ≡ sink.old }
 {
     if let Some(fault) = large(index, limits) {
         return Err(fault);

@@ -7,7 +7,7 @@ use Rattle.std.proofs.lemmas.List.Sums.{sum_by-cons}
 use Rattle.std.proofs.lemmas.List.Elements.{All-head, All-tail}
 use Rattle.dump_io.specs.Lines.{raw_lines, is_header, Header, headers, lines_from, header_of, Line}
 use Rattle.dump_io.specs.Laws.Lines.{AreLines-raw}
-use Rattle.dump_sections.specs.Cuts.{AreCut}
+use Rattle.dump_sections.specs.Cuts.{AreCutSections}
 use Rattle.dump_sections.specs.Sections.{Section, section, sections_of, next_at, sections}
 use Rattle.dump_sections.specs.TilingLaws.{line_at, headers_in, is_header-first}
 
@@ -109,7 +109,7 @@ counted-first m first rest before =
 not_counted-first : (m : ℕ) (first : Section) (rest : List Section) → m ≤ first.at → count_by (λ (s : Section). nat_lt s.at m) (first ∷ rest) ≡ count_by (λ (s : Section). nat_lt s.at m) rest
 not_counted-first m first rest behind = grind arith
 
-AreCut-headers : (m n : ℕ) (front whole : List Header) → AreCutHeaders m front whole → AreCut (sections_of front m) (sections_of whole n) m
+AreCut-headers : (m n : ℕ) (front whole : List Header) → AreCutHeaders m front whole → AreCutSections (sections_of front m) (sections_of whole n) m
 AreCut-headers m n [] [] are = record { count = refl; all_but_last = refl; places = refl }
 AreCut-headers m n [] (header ∷ whole) are =
     let rest = AreCut-headers m n [] whole are.1 in
@@ -144,22 +144,22 @@ AreCut-headers m n (head ∷ next ∷ front) (header ∷ other ∷ whole) are =
     }
 
 -- a front no longer than the whole
-sections_within : (bytes : List ℕ) (n : ℕ) → n ≤ length bytes → AreCut (sections (take n bytes)) (sections bytes) (length (take n bytes))
+sections_within : (bytes : List ℕ) (n : ℕ) → n ≤ length bytes → AreCutSections (sections (take n bytes)) (sections bytes) (length (take n bytes))
 sections_within bytes n inside =
     let raws = raw_lines bytes in
     let start : 0 + n ≡ n = omega arith in
     let cut : AreCutHeaders n (headers_in (lines_from 0 (cut_lines n raws))) (headers bytes) =
     subst (λ m. AreCutHeaders m (headers_in (lines_from 0 (cut_lines n raws))) (headers bytes)) start (headers-cut 0 n raws (AreLines-raw bytes).some) in
-    subst (λ l. AreCut (sections_of (headers_in (lines_from 0 l)) (length (take n bytes))) (sections bytes) (length (take n bytes))) (sym (raw_lines-take n bytes))
-    (subst (λ m. AreCut (sections_of (headers_in (lines_from 0 (cut_lines n raws))) m) (sections bytes) m) (sym (length-take-le n bytes inside))
+    subst (λ l. AreCutSections (sections_of (headers_in (lines_from 0 l)) (length (take n bytes))) (sections bytes) (length (take n bytes))) (sym (raw_lines-take n bytes))
+    (subst (λ m. AreCutSections (sections_of (headers_in (lines_from 0 (cut_lines n raws))) m) (sections bytes) m) (sym (length-take-le n bytes inside))
     (AreCut-headers n (length bytes) (headers_in (lines_from 0 (cut_lines n raws))) (headers bytes) cut))
 
 -- the law of cuts
-pub sections_cut : (bytes : List ℕ) (n : ℕ) → AreCut (sections (take n bytes)) (sections bytes) (length (take n bytes))
+pub sections_cut : (bytes : List ℕ) (n : ℕ) → AreCutSections (sections (take n bytes)) (sections bytes) (length (take n bytes))
 sections_cut bytes n =
     ⊎_elim
     (λ past.
-    subst (λ l. AreCut (sections l) (sections bytes) (length l)) (take_all (length bytes) bytes (omega arith) ∙ sym (take_all n bytes (omega arith)))
+    subst (λ l. AreCutSections (sections l) (sections bytes) (length l)) (take_all (length bytes) bytes (omega arith) ∙ sym (take_all n bytes (omega arith)))
     (sections_within bytes (length bytes) (omega arith)))
     (λ inside. sections_within bytes n inside)
     (cases_lt (length bytes) n)

@@ -2,7 +2,7 @@
 use Rattle.std.proofs.Common.{◌≡◌, ℕ, zero, suc, ◌+◌, List, [], ◌∷◌, length, slice_get, Some, ap, Bool, codes, if◌then◌else◌, arith}
 use Rattle.dump_io.specs.Lines.{Header}
 use Rattle.dump_sections.specs.Sections.{section, sections_of, end_at, tag_of}
-use Rattle.dump_sections.specs.Index.{last_text, state_of}
+use Rattle.dump_sections.specs.Index.{last_text, dump_state}
 use Rattle.dump_sections.specs.declared.index.State.TheVariants.{Whole, TruncatedIn}
 use Rattle.std.specs.Str.{bytes_eq}
 
@@ -21,5 +21,5 @@ last_text-at (first ∷ next ∷ rest) (suc i) header last is = last_text-at (ne
 
 -- the state, by the tag of the last header
 pub state_of-last : (headers : List Header) (i : ℕ) (header : Header) (tag : List ℕ) (b : Bool) → i + 1 ≡ length headers → slice_get headers i ≡ Some header
-    → tag ≡ tag_of header.text → b ≡ bytes_eq tag (codes "end") → state_of headers ≡ (if b then Whole else TruncatedIn i)
+    → tag ≡ tag_of header.text → b ≡ bytes_eq tag (codes "end") → dump_state headers ≡ (if b then Whole else TruncatedIn i)
 state_of-last headers i header tag b last is same whole = grind (arith, last_text-at)

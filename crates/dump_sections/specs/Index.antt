@@ -44,8 +44,8 @@ last_text (header ∷ []) = header.text
 last_text (header ∷ next ∷ rest) = last_text (next ∷ rest)
 
 -- a dump is whole if the tag of its last section is `end`, and otherwise truncated in that section
-abbrev pub state_of : List Header → State
-state_of headers = if bytes_eq (tag_of (last_text headers)) (codes "end") then Whole else TruncatedIn (length headers - 1)
+abbrev pub dump_state : List Header → State
+dump_state headers = if bytes_eq (tag_of (last_text headers)) (codes "end") then Whole else TruncatedIn (length headers - 1)
 
 -- a truncated dump is truncated in its last section
 abbrev pub IsLastPlace : State → ℕ → Type 0

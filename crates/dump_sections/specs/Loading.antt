@@ -44,5 +44,5 @@ abbrev pub LoadsBodies : {D T : Type 0} → (D → DeviceState) → List Section
 LoadsBodies state sections limit before after result = Loads state (bodies_length sections) (large_fault limit sections) (AreRefused sections limit) before after result
 
 -- why bodies none of which is too large aren't loaded: the device failed, or memory was lacking
-abbrev pub IsUnread : DeviceState → DeviceState → BodyFault → Type 0
-IsUnread before after fault = ((fault ≡ Read) × DeviceFailed before after) ⊎ (fault ≡ Memory)
+abbrev pub IsUnloaded : DeviceState → DeviceState → BodyFault → Type 0
+IsUnloaded before after fault = ((fault ≡ Read) × DeviceFailed before after) ⊎ (fault ≡ Memory)

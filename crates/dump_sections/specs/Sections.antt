@@ -4,16 +4,16 @@ use Rattle.dump_io.specs.Colons.{has_colon, before_colon, after_colon}
 use Rattle.dump_io.specs.Lines.{Header, headers}
 
 -- a header's text after its equals sign
-abbrev pub name_of : List ℕ → List ℕ
-name_of text = drop 1 text
+abbrev pub header_name : List ℕ → List ℕ
+header_name text = drop 1 text
 
 -- the tag stands between the equals sign and the first colon, or the end of the text
 abbrev pub tag_of : List ℕ → List ℕ
-tag_of text = before_colon (name_of text)
+tag_of text = before_colon (header_name text)
 
 -- the id follows that colon; without a colon there is no id
 abbrev pub id_of : List ℕ → Option (List ℕ)
-id_of text = if has_colon (name_of text) then Some (after_colon (name_of text)) else None
+id_of text = if has_colon (header_name text) then Some (after_colon (header_name text)) else None
 
 -- a section: where its header begins, where its body begins and ends, and its header's text
 pub record Section : Type 0 where

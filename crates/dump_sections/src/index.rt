@@ -3,7 +3,7 @@ ghost use Rattle.std.specs.Prelude.{◌≡◌, ◌+◌, ◌<◌, ◌≤◌, leng
 ghost use Rattle.std.specs.Option.{option_copied};
 ghost use Rattle.dump_io.specs.Limits.{usual};
 ghost use Rattle.dump_sections.specs.Bodies.{section_at};
-ghost use Rattle.dump_sections.specs.Index.{Contents, AreBounded, HasShortLine, sections_in, state_of, IsLastPlace};
+ghost use Rattle.dump_sections.specs.Index.{Contents, AreBounded, HasShortLine, sections_in, dump_state, IsLastPlace};
 ghost use Rattle.dump_sections.specs.Sections.{section, sections_of, end_at, tag_of, id_of};
 ghost use Rattle.dump_sections.specs.Tiling.{Tile};
 
@@ -124,7 +124,7 @@ impl Index {
 
     /// Whether the dump is whole, or the place of the section in which it is truncated.
     pub fn state(&self) -> State
-        ensures value { result ≡ state_of self.now.headers }
+        ensures value { result ≡ dump_state self.now.headers }
         ensures last { IsLastPlace result (length self.now.headers) }
     {
         let last = self.headers.len() - 1;

@@ -13,17 +13,17 @@ use Rattle.section_rows.specs.Rows.{Row, row_at}
 use Rattle.process_table.specs.Processes.{Process, nobody, process_at}
 use Rattle.dump_audit.specs.Laws.{told-at}
 use Rattle.dump_triage.specs.declared.ranked.Ranked.{Ranked}
-use Rattle.dump_triage.specs.Ranking.{AreWithin, first_rows, largest, row_of, rows_by}
-use Rattle.dump_triage.specs.Triage.{Fits, count_at_first, number_in, state_text, state_texts, triage_of, words_in}
+use Rattle.dump_triage.specs.Ranking.{AreWithin, first_rows, largest, ranked_row, rows_by}
+use Rattle.dump_triage.specs.Triage.{FitsTriage, count_at_first, stated_number, process_state_text, state_texts, triage_of, words_in}
 
 -- the row of one place more
 pub rows-more : {X : Type 0} (number : ℕ × X → Option ℕ) (items : List X) (i : ℕ) (x : X) (told : Option ℕ) (before after : List Ranked) → slice_get items i ≡ Some x
-    → before ≡ rows_by number (take i items) → told ≡ number (i, x) → after ≡ before ++ option_to_list (row_of i told) → after ≡ rows_by number (take (i + 1) items)
+    → before ≡ rows_by number (take i items) → told ≡ number (i, x) → after ≡ before ++ option_to_list (ranked_row i told) → after ≡ rows_by number (take (i + 1) items)
 rows-more number items i x told before after at were is more =
     more
-    ∙ ap (λ l. l ++ option_to_list (row_of i told)) were
-    ∙ ap (λ n. rows_by number (take i items) ++ option_to_list (row_of i n)) is
-    ∙ sym (told-at (λ item. row_of item.0 (number item)) items i x at)
+    ∙ ap (λ l. l ++ option_to_list (ranked_row i told)) were
+    ∙ ap (λ n. rows_by number (take i items) ++ option_to_list (ranked_row i n)) is
+    ∙ sym (told-at (λ item. ranked_row item.0 (number item)) items i x at)
 
 -- once each place has its row, the first of the rows are what is largest in the list
 pub largest-all : {X E : Type 0} (number : ℕ × X → Option ℕ) (items : List X) (i most : ℕ) (rows : List Ranked) (result : Result (Vec Ranked) E) → length items ≤ i → rows ≡ rows_by number (take i items)
@@ -43,14 +43,14 @@ row-there rows i inside =
 -- ---- each row is of a place
 
 rows-within : {X : Type 0} (number : ℕ × X → Option ℕ) (count n : ℕ) (items : List X) → n + length items ≤ count
-    → AreWithin count (filter_map (λ item. row_of item.0 (number item)) (enumerate_from n items))
+    → AreWithin count (filter_map (λ item. ranked_row item.0 (number item)) (enumerate_from n items))
 rows-within number count n [] few = All-nil (λ (row : Ranked). row.place < count)
 rows-within number count n (x ∷ items) few = by (number (n, x)) (rows-within number count (n + 1) items (omega (arith, few)))
   where
     rest : List Ranked
-    rest = filter_map (λ item. row_of item.0 (number item)) (enumerate_from (n + 1) items)
+    rest = filter_map (λ item. ranked_row item.0 (number item)) (enumerate_from (n + 1) items)
 
-    by : (o : Option ℕ) → AreWithin count rest → AreWithin count (cons_option (row_of n o) rest)
+    by : (o : Option ℕ) → AreWithin count rest → AreWithin count (cons_option (ranked_row n o) rest)
     by None all = all
     by (Some zero) all = all
     by (Some (suc less)) all = All-cons (λ (row : Ranked). row.place < count) (record { place = n; number = suc less }) rest (omega (arith, few)) all
@@ -73,10 +73,10 @@ largest-within most number items count few =
     let size = λ (row : Ranked). row.number in
     All-take P most (most_first size (rows_by number items)) (All-most P size (rows_by number items) (rows-within number count 0 items (omega (arith, few))))
 
-pub triage-fits : (index : Contents) (processes : List Process) (rows : List Row) (most : ℕ) → Fits processes rows (triage_of index processes rows most)
+pub triage-fits : (index : Contents) (processes : List Process) (rows : List Row) (most : ℕ) → FitsTriage processes rows (triage_of index processes rows most)
 triage-fits index processes rows most = record {
-  states = largest-within most (count_at_first (state_texts processes)) (state_texts processes) (length processes) (omega (arith, length-map processes state_text));
-  queues = largest-within most (λ item. number_in item.1.queue) processes (length processes) (omega arith);
-  memory = largest-within most (λ item. number_in item.1.memory) processes (length processes) (omega arith);
+  states = largest-within most (count_at_first (state_texts processes)) (state_texts processes) (length processes) (omega (arith, length-map processes process_state_text));
+  queues = largest-within most (λ item. stated_number item.1.queue) processes (length processes) (omega arith);
+  memory = largest-within most (λ item. stated_number item.1.memory) processes (length processes) (omega arith);
   tables = largest-within most (λ item. words_in item.1) rows (length rows) (omega arith);
 }

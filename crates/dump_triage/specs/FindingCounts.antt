@@ -5,9 +5,9 @@ use Rattle.dump_audit.specs.declared.finding.Finding.TheVariants.{LinkOneSided, 
 use Rattle.dump_triage.specs.declared.finding_counts.FindingCounts.{FindingCounts}
 
 -- a link to a process that has none back
-abbrev pub is_link : Finding → Bool
-is_link (LinkOneSided p q entry at other) = true
-is_link finding = false
+abbrev pub is_link_finding : Finding → Bool
+is_link_finding (LinkOneSided p q entry at other) = true
+is_link_finding finding = false
 
 -- a monitor of a process that doesn't know of it
 abbrev pub is_monitor_to : Finding → Bool
@@ -32,7 +32,7 @@ is_unread_queue finding = false
 -- how many findings of each of these kinds there are; others aren't counted
 abbrev pub counts_of : List Finding → FindingCounts
 counts_of found = record {
-  links = count_by is_link found;
+  links = count_by is_link_finding found;
   monitors_to = count_by is_monitor_to found;
   monitors_from = count_by is_monitor_from found;
   unread_links = count_by is_unread_links found;

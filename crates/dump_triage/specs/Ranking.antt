@@ -5,14 +5,14 @@ use Rattle.size_order.specs.Sorting.{most_first}
 use Rattle.dump_triage.specs.declared.ranked.Ranked.{Ranked}
 
 -- the row of a place, if its number is known and isn't 0
-abbrev pub row_of : ℕ → Option ℕ → Option Ranked
-row_of place None = None
-row_of place (Some zero) = None
-row_of place (Some (suc less)) = Some (record { place = place; number = suc less })
+abbrev pub ranked_row : ℕ → Option ℕ → Option Ranked
+ranked_row place None = None
+ranked_row place (Some zero) = None
+ranked_row place (Some (suc less)) = Some (record { place = place; number = suc less })
 
 -- the rows of a list's places, in their order
 abbrev pub rows_by : {X : Type 0} → (ℕ × X → Option ℕ) → List X → List Ranked
-rows_by number items = filter_map (λ item. row_of item.0 (number item)) (enumerate_from 0 items)
+rows_by number items = filter_map (λ item. ranked_row item.0 (number item)) (enumerate_from 0 items)
 
 -- the first of some rows, at most `most`: the largest number comes first, and of equal ones the first place
 abbrev pub first_rows : ℕ → List Ranked → List Ranked

@@ -15,20 +15,20 @@ use Rattle.dump_triage.specs.declared.ranked.Ranked.{Ranked}
 -- ---- states
 
 -- the text of a process's state, which is `-` if there is none
-abbrev pub state_text : Process → List ℕ
-state_text process = unwrap_or (text_in process.state) (codes "-")
+abbrev pub process_state_text : Process → List ℕ
+process_state_text process = unwrap_or (text_in process.state) (codes "-")
 
 -- the texts of the states of processes
 abbrev pub state_texts : List Process → List (List ℕ)
-state_texts processes = map state_text processes
+state_texts processes = map process_state_text processes
 
 -- how many of some texts are this one
-abbrev pub count_of : List (List ℕ) → List ℕ → ℕ
-count_of texts text = count_by (bytes_eq text) texts
+abbrev pub text_count : List (List ℕ) → List ℕ → ℕ
+text_count texts text = count_by (bytes_eq text) texts
 
 -- how often the text at a place occurs in the list, given only at the first of its places
 abbrev pub count_at_first : List (List ℕ) → ℕ × List ℕ → Option ℕ
-count_at_first texts (place, text) = if nat_lt 0 (count_of (take place texts) text) then None else Some (count_of texts text)
+count_at_first texts (place, text) = if nat_lt 0 (text_count (take place texts) text) then None else Some (text_count texts text)
 
 -- the states that most processes are in: for each the first process in it, and how many processes are
 abbrev pub commonest_states : ℕ → List Process → List Ranked
@@ -37,20 +37,20 @@ commonest_states most processes = largest most (count_at_first (state_texts proc
 -- ---- numbers of processes and tables
 
 -- the number that the text of a cell writes
-abbrev pub number_in : Option Kept → Option ℕ
-number_in cell = option_and_then dec_number (text_in cell)
+abbrev pub stated_number : Option Kept → Option ℕ
+stated_number cell = option_and_then dec_number (text_in cell)
 
 -- the processes with the longest message queues
 abbrev pub longest_queues : ℕ → List Process → List Ranked
-longest_queues most processes = largest most (λ item. number_in item.1.queue) processes
+longest_queues most processes = largest most (λ item. stated_number item.1.queue) processes
 
 -- the processes with the most memory, in bytes
 abbrev pub largest_processes : ℕ → List Process → List Ranked
-largest_processes most processes = largest most (λ item. number_in item.1.memory) processes
+largest_processes most processes = largest most (λ item. stated_number item.1.memory) processes
 
 -- the words of an ETS table, in the last of its columns
 abbrev pub words_in : Row → Option ℕ
-words_in row = number_in (cell_at row 4)
+words_in row = stated_number (cell_at row 4)
 
 -- the ETS tables with the most words
 abbrev pub largest_tables : ℕ → List Row → List Ranked
@@ -78,7 +78,7 @@ triage_of index processes rows most = record {
 }
 
 -- the rows name places of these processes and of these tables
-pub record Fits (processes : List Process) (rows : List Row) (triage : Triaged) : Type 0 where
+pub record FitsTriage (processes : List Process) (rows : List Row) (triage : Triaged) : Type 0 where
   pub states : AreWithin (length processes) triage.states
   pub queues : AreWithin (length processes) triage.queues
   pub memory : AreWithin (length processes) triage.memory

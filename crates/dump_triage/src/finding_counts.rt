@@ -1,6 +1,6 @@
 // How many findings of each kind an audit has.
 ghost use Rattle.std.specs.Prelude.{◌≡◌, count_by};
-ghost use Rattle.dump_triage.specs.FindingCounts.{counts_of, is_link, is_monitor_from, is_monitor_to, is_unread_links, is_unread_queue};
+ghost use Rattle.dump_triage.specs.FindingCounts.{counts_of, is_link_finding, is_monitor_from, is_monitor_to, is_unread_links, is_unread_queue};
 
 use dump_audit::Finding;
 
@@ -20,7 +20,7 @@ pub struct FindingCounts {
 }
 
 fn count_links(findings: &[Finding]) -> u64
-    ensures { result ≡ count_by is_link findings.now }
+    ensures { result ≡ count_by is_link_finding findings.now }
 {
     findings
         .iter()

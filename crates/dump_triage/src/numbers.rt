@@ -2,7 +2,7 @@
 ghost use Rattle.std.specs.Prelude.{◌≡◌, ◌<◌, length, IfOk};
 ghost use Rattle.section_rows.specs.Rows.{row_at};
 ghost use Rattle.section_rows.specs.Shown.{shown_cell};
-ghost use Rattle.dump_triage.specs.Triage.{largest_processes, largest_tables, longest_queues, number_in, words_in};
+ghost use Rattle.dump_triage.specs.Triage.{largest_processes, largest_tables, longest_queues, stated_number, words_in};
 
 use crate::ranked::{Ranked, first_rows, push_row};
 use dump_io::dec_u64;
@@ -12,7 +12,7 @@ use table_sections::Rows;
 
 // The number that the text of a cell writes.
 fn number_in(cell: &Option<Kept<'_>>) -> Option<u64>
-    ensures { result ≡ number_in (shown_cell cell.now) }
+    ensures { result ≡ stated_number (shown_cell cell.now) }
 {
     let Some(kept) = cell else {
         return None;

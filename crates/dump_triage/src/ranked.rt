@@ -1,7 +1,7 @@
 // Places with a number each, the largest number first.
 ghost use Rattle.std.specs.Prelude.{◌≡◌, ◌++◌, IfOk, OnOk};
 ghost use Rattle.std.specs.Option.{option_to_list};
-ghost use Rattle.dump_triage.specs.Ranking.{first_rows, row_of};
+ghost use Rattle.dump_triage.specs.Ranking.{first_rows, ranked_row};
 
 use size_order::{Measured, sort_most_first};
 use std::alloc::AllocError;
@@ -29,7 +29,7 @@ pub(crate) fn push_row(
     place: usize,
     number: Option<u64>,
 ) -> Result<(), AllocError>
-    ensures { OnOk result (rows.new.items ≡ rows.old.items ++ option_to_list (row_of place number)) }
+    ensures { OnOk result (rows.new.items ≡ rows.old.items ++ option_to_list (ranked_row place number)) }
 {
     match number {
         None | Some(0) => Ok(()),

@@ -4,7 +4,7 @@ ghost use Rattle.std.specs.Prelude.{◌≡◌, ◌+◌, ◌<◌, ◌^◌, codes,
 ghost use Rattle.section_rows.specs.Rows.{text_in};
 ghost use Rattle.section_rows.specs.Shown.{shown_cell};
 ghost use Rattle.process_table.specs.Processes.{process_at};
-ghost use Rattle.dump_triage.specs.Triage.{commonest_states, count_at_first, state_text, state_texts};
+ghost use Rattle.dump_triage.specs.Triage.{commonest_states, count_at_first, process_state_text, state_texts};
 ghost use Rattle.dump_triage.specs.Inner.States.{AreCounted, AreLeft, counted};
 
 use crate::ranked::{Ranked, first_rows, push_row};
@@ -25,7 +25,7 @@ fn state_text<'a>(state: &Option<Kept<'a>>) -> &'a [u8]
 // The state of the process at a place.
 fn state_at(procs: &Procs, p: usize) -> &[u8]
     requires { p < length procs.now.processes }
-    ensures { result.now ≡ state_text (process_at procs.now.processes p) }
+    ensures { result.now ≡ process_state_text (process_at procs.now.processes p) }
 {
     let process = procs.at(p);
     state_text(&process.state)
@@ -71,7 +71,7 @@ fn count_states<'a>(alloc: Global, procs: &'a Procs) -> Result<BTreeMap<&'a [u8]
 fn take_count<'a>(counts: &mut BTreeMap<&'a [u8], u64>, procs: &'a Procs, p: usize) -> Option<u64>
     requires place { p < length procs.now.processes }
     requires left { AreLeft counts.old (state_texts procs.now.processes) p }
-    ensures count { result ≡ count_at_first (state_texts procs.now.processes) (p, state_text (process_at procs.now.processes p)) }
+    ensures count { result ≡ count_at_first (state_texts procs.now.processes) (p, process_state_text (process_at procs.now.processes p)) }
     ensures left { AreLeft counts.new (state_texts procs.now.processes) (p + 1) }
 {
     counts.remove(state_at(procs, p))

@@ -1,11 +1,11 @@
 // What stands out in a dump.
 ghost use Rattle.std.specs.Prelude.{◌≡◌, ◌-◌, ◌^◌, None, All, IfOk};
-ghost use Rattle.process_table.specs.Processes.{IsIn};
-ghost use Rattle.table_sections.specs.Tables.{IsOver};
+ghost use Rattle.process_table.specs.Processes.{IsProcessIn};
+ghost use Rattle.table_sections.specs.Tables.{IsTableOver};
 ghost use Rattle.table_sections.specs.declared.kinds.TableKind.TheVariants.{Ets};
 ghost use Rattle.dump_audit.specs.Findings.{audit_of, findings};
 ghost use Rattle.dump_triage.specs.FindingCounts.{counts_of};
-ghost use Rattle.dump_triage.specs.Triage.{Fits, triage_of};
+ghost use Rattle.dump_triage.specs.Triage.{FitsTriage, triage_of};
 
 use crate::finding_counts::{FindingCounts, counts_of};
 use crate::numbers::{largest_processes, largest_tables, longest_queues};
@@ -47,7 +47,7 @@ impl Model for Triage {
 // How many findings of each kind there are in an audit that
 // isn't full and in which no message queue is too long.
 fn count_findings(alloc: Global, index: &Index, procs: &Procs) -> Result<FindingCounts, AllocError>
-    requires { All (IsIn index.now) procs.now.processes }
+    requires { All (IsProcessIn index.now) procs.now.processes }
     ensures { IfOk result (λ counts. counts ≡ counts_of (findings (audit_of index.now procs.now.processes (2 ^ 64 - 1) None))) }
 {
     let graph = Graph::build(alloc, procs)?;
@@ -69,10 +69,10 @@ impl Triage {
         tables: &Rows,
         most: u64,
     ) -> Result<Triage, AllocError>
-        requires sections { All (IsIn index.now) procs.now.processes }
-        requires tables { IsOver Ets index.now tables.now }
+        requires sections { All (IsProcessIn index.now) procs.now.processes }
+        requires tables { IsTableOver Ets index.now tables.now }
         ensures value { IfOk result (λ triage. triage ≡ triage_of index.now procs.now.processes tables.now.rows most) }
-        ensures fits { IfOk result (Fits procs.now.processes tables.now.rows) }
+        ensures fits { IfOk result (FitsTriage procs.now.processes tables.now.rows) }
     {
         Ok(Triage {
             states: commonest_states(alloc, procs, most)?,

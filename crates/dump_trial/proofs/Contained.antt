@@ -11,7 +11,7 @@ use Rattle.dump_sections.specs.Bodies.{body_length, section_at, section_in}
 use Rattle.dump_sections.specs.Index.{Contents, sections_in}
 use Rattle.dump_sections.specs.Loading.{large_fault}
 use Rattle.dump_sections.specs.declared.bodies.BodyFault.TheVariants.{SectionTooLarge}
-use Rattle.process_table.specs.Records.{Placed, is_process, first_of_each, has_same_pid, placed, process_sections, records, record_sections}
+use Rattle.process_table.specs.Records.{PlacedSection, is_process, first_of_each, has_same_pid, placed_sections, process_sections, records, record_sections}
 
 -- the body of a section is within the usual limit
 abbrev pub IsSmall : Section → Type 0
@@ -32,7 +32,7 @@ small-in index None all = All-nil IsSmall
 small-in index (Some i) all = All-cons IsSmall (section_at index i) [] (small-at index i all) (All-nil IsSmall)
 
 -- the same with a place
-abbrev pub IsSmallPlaced : Placed → Type 0
+abbrev pub IsSmallPlaced : PlacedSection → Type 0
 IsSmallPlaced p = IsSmall p.1
 
 small-placed : (n : ℕ) (sections : List Section) → All IsSmall sections → All IsSmallPlaced (enumerate_from n sections)
@@ -40,7 +40,7 @@ small-placed n [] all = All-nil IsSmallPlaced
 small-placed n (s ∷ sections) all =
     All-cons IsSmallPlaced (n, s) (enumerate_from (n + 1) sections) (All-head IsSmall s sections all) (small-placed (n + 1) sections (All-tail IsSmall s sections all))
 
-small-first : (ps : List Placed) → All IsSmallPlaced ps → All IsSmallPlaced (first_of_each ps)
+small-first : (ps : List PlacedSection) → All IsSmallPlaced ps → All IsSmallPlaced (first_of_each ps)
 small-first [] all = All-nil IsSmallPlaced
 small-first (p ∷ ps) all =
     All-cons IsSmallPlaced p _ (All-head IsSmallPlaced p ps all)
@@ -49,8 +49,8 @@ small-first (p ∷ ps) all =
 -- the sections of processes
 pub small-records : (sections : List Section) → All IsSmall sections → All IsSmall (record_sections sections)
 small-records sections all =
-    All-map IsSmall (λ (r : Placed). r.1) (records sections)
-    (small-first (process_sections (placed sections)) (All-filter (λ (p : Placed). is_process p.1) IsSmallPlaced (placed sections) (small-placed 0 sections all)))
+    All-map IsSmall (λ (r : PlacedSection). r.1) (records sections)
+    (small-first (process_sections (placed_sections sections)) (All-filter (λ (p : PlacedSection). is_process p.1) IsSmallPlaced (placed_sections sections) (small-placed 0 sections all)))
 
 -- none of them is too large
 pub none-large : (sections : List Section) → All IsSmall sections → large_fault usual.section sections ≡ None

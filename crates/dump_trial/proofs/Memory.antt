@@ -40,8 +40,8 @@ memory-bodies sections before after body_faults.Memory all works cause = refl
 
 -- of a heap
 pub memory-heap : (version : Version) (heap literals : List ℕ) (bodies : List Section) (before after : DeviceState) (fault : HeapFault) → All IsSmall bodies
-    → weight (enc_of version) heap literals ≤ usual.dense → (DeviceFailed before after → ⊥) → heaps.IsAnswerFor (enc_of version) heap literals usual.dense (Err fault)
-    → heaps.IsCauseOf (bodies_fault usual.section bodies) usual.dense before after fault → fault ≡ heap_faults.Memory
+    → weight (enc_of version) heap literals ≤ usual.dense → (DeviceFailed before after → ⊥) → heaps.IsHeapAnswerFor (enc_of version) heap literals usual.dense (Err fault)
+    → heaps.IsHeapCauseOf (bodies_fault usual.section bodies) usual.dense before after fault → fault ≡ heap_faults.Memory
 memory-heap version heap literals bodies before after (heap_faults.SectionTooLarge at len) all few works answer cause =
     absurd (none-some _ (sym (ap (option_map heap_fault_of) (none-large bodies all)) ∙ cause))
 memory-heap version heap literals bodies before after (heap_faults.TooDense count) all few works answer cause = absurd (omega (arith, few, answer.0, answer.1))

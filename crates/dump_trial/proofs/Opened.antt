@@ -50,8 +50,8 @@ bodies-opened old new sections limits fault held all cause =
 abbrev IsStopped : HeldDump → HeldDump → Option ℕ → Option ℕ → HeapFault → Contents → Numbers → Type 0
 IsStopped old new heap literals fault index limits =
     let bytes = bytes_in (now_of old) in
-    heaps.IsAnswerFor (enc_of index.version) (body_in bytes (section_in index heap)) (body_in bytes (section_in index literals)) limits.dense (Err fault)
-    × heaps.IsCauseOf (bodies_fault limits.section (two_bodies (section_in index heap) (section_in index literals))) limits.dense (state_of old) (state_of new) fault
+    heaps.IsHeapAnswerFor (enc_of index.version) (body_in bytes (section_in index heap)) (body_in bytes (section_in index literals)) limits.dense (Err fault)
+    × heaps.IsHeapCauseOf (bodies_fault limits.section (two_bodies (section_in index heap) (section_in index literals))) limits.dense (state_of old) (state_of new) fault
 
 -- for a heap, by the places of its sections
 pub heap-opened : (old new : HeldDump) (at index : Contents) (limits : Numbers) (pid : List ℕ) (heap literals : Option ℕ) (fault : HeapFault)
@@ -65,7 +65,9 @@ heap-opened old new at index limits pid heap literals fault held of same own sha
     subst (λ i. IsStopped old new heap literals fault i usual) same (subst (IsStopped old new heap literals fault at) held.bounds stopped) in
     let few : weight (enc_of index.version) (body_in bytes (section_in index heap)) (body_in bytes (section_in index literals)) ≤ usual.dense =
     subst (λ h. weight (enc_of index.version) (body_in bytes h) (body_in bytes (section_in index literals)) ≤ usual.dense) (sym own)
-    (subst (λ l. weight (enc_of index.version) (body_in bytes (heap_section pid (sections_in index))) (body_in bytes l) ≤ usual.dense) (sym shared) (held.good.heaps index pid)) in
+    (subst (λ l. weight (enc_of index.version) (body_in bytes (heap_section pid (sections_in index))) (body_in bytes l) ≤ usual.dense) (sym shared)
+    (subst (λ (i : Contents). weight (enc_of i.version) (body_in bytes (heap_section pid (sections_in i))) (body_in bytes (literals_section (sections_in i))) ≤ usual.dense)
+    (sym (index-is bytes index of)) (held.good.heaps pid))) in
     memory-heap index.version (body_in bytes (section_in index heap)) (body_in bytes (section_in index literals))
     (two_bodies (section_in index heap) (section_in index literals)) (state_of old) (state_of new) fault
     (All-append IsSmall (option_to_list (section_in index heap)) (option_to_list (section_in index literals)) (small-in index heap all) (small-in index literals all))

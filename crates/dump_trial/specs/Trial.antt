@@ -6,8 +6,8 @@ use Rattle.dump_sections.specs.Index.{index_of}
 use Rattle.dump_sections.specs.Lookups.{first_named}
 use Rattle.dump_sections.specs.Sections.{Section, sections}
 use Rattle.process_table.specs.Processes.{Process, process_table}
-use Rattle.heap_cells.specs.Cells.{Cell, cells_of}
-use Rattle.heap_cells.specs.Loading.{enc_of, heap_section, literals_section}
+use Rattle.heap_cells.specs.Cells.{Cell}
+use Rattle.heap_cells.specs.DumpHeaps.{heap_map}
 use Rattle.root_views.specs.Roots.{BodyRoot}
 use Rattle.dump_audit.specs.Findings.{audit_of, findings}
 use Rattle.dump_write.specs.Made.{made}
@@ -27,12 +27,6 @@ abbrev pub queue_limit : ℕ
 queue_limit = 8
 
 -- ---- the roots of a process
-
--- the cells of the heap of a pid, followed by the literals
-abbrev pub cells_in : List ℕ → List ℕ → List Cell
-cells_in bytes pid =
-    let heap = body_in bytes (heap_section pid (sections bytes)) in
-    cells_of (enc_of (index_of bytes).version) heap (body_in bytes (literals_section (sections bytes)))
 
 -- the first section with roots of this kind whose id is this pid
 abbrev pub root_section : RootKind → List ℕ → List Section → Option Section
@@ -54,7 +48,7 @@ tally_in cells roots = record { roots = length roots; bad = bad_roots cells judg
 
 -- the same for the roots of a pid
 abbrev pub process_tally : List ℕ → List ℕ → Tally
-process_tally bytes pid = tally_in (cells_in bytes pid) (process_roots bytes pid)
+process_tally bytes pid = tally_in (heap_map pid bytes).cells (process_roots bytes pid)
 
 -- the sums over these processes
 abbrev pub tally_of : List ℕ → List Process → Tally

@@ -1,10 +1,11 @@
 // A good dump that is held in memory.
 ghost use Rattle.std.specs.Prelude.{◌≡◌, ◌≤◌, length, All, IfOk};
 ghost use Rattle.dump_io.specs.Limits.{usual};
-ghost use Rattle.process_table.specs.Processes.{IsIn, process_table};
+ghost use Rattle.process_table.specs.Processes.{IsProcessIn, process_table};
 ghost use Rattle.binary_refs.specs.Previews.{AreFor};
 ghost use Rattle.dump_sections.specs.Index.{IsIndexOf};
-ghost use Rattle.dump_trial.specs.Trial.{cells_in, root_body};
+ghost use Rattle.heap_cells.specs.DumpHeaps.{heap_map};
+ghost use Rattle.dump_trial.specs.Trial.{root_body};
 ghost use Rattle.dump_trial.specs.Inner.Held.{IsGood};
 
 use crate::finder::Finder;
@@ -61,7 +62,7 @@ impl Held {
     pub(crate) fn procs(&mut self, alloc: Global, index: &Index) -> Result<Procs, AllocError>
         requires { IsIndexOf self.old index.now }
         ensures table { IfOk result (λ procs. procs ≡ process_table self.old) }
-        ensures named { IfOk result (λ procs. All (IsIn index.now) procs.processes) }
+        ensures named { IfOk result (λ procs. All (IsProcessIn index.now) procs.processes) }
         ensures same { self.new ≡ self.old }
     {
         match Procs::load(alloc, &mut self.dumps, index, &self.limits) {
@@ -101,7 +102,7 @@ impl Held {
         pid: &[u8],
     ) -> Result<Heap, AllocError>
         requires { IsIndexOf self.old finder.now }
-        ensures cells { IfOk result (λ heap. heap.cells ≡ cells_in self.old pid.now) }
+        ensures cells { IfOk result (λ heap. heap.cells ≡ (heap_map pid.now self.old).cells) }
         ensures same { self.new ≡ self.old }
     {
         let place = finder.heap(pid);

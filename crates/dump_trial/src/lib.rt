@@ -3,6 +3,11 @@
 //! [`trial`] makes a dump from a seed and a count of processes, opens it under
 //! the usual limits, reads its processes with their heaps, stacks, dictionaries
 //! and mailboxes, judges each root and audits the links and the message queues.
+//!
+//! ```text
+//! let summary = trial(alloc, 7, 200)?;
+//! put_trial(&mut out, &summary)?;
+//! ```
 #![tactic(auto)]
 
 mod counting;

@@ -1,7 +1,7 @@
 // Holding a made dump in memory and reading it.
 ghost use Rattle.std.specs.Prelude.{◌≡◌, ◌≤◌, length, All, None, IfOk};
 ghost use Rattle.dump_sections.specs.Index.{IsIndexOf};
-ghost use Rattle.process_table.specs.Processes.{IsIn, process_table};
+ghost use Rattle.process_table.specs.Processes.{IsProcessIn, process_table};
 ghost use Rattle.dump_audit.specs.Findings.{audit_of, findings};
 ghost use Rattle.dump_trial.specs.Trial.{queue_limit, summary_of, tally_of, trial_of};
 
@@ -22,7 +22,7 @@ const QUEUE_LIMIT: u64 = 8;
 
 // How much an audit finds.
 fn count_findings(alloc: Global, index: &Index, procs: &Procs) -> Result<u64, AllocError>
-    requires { All (IsIn index.now) procs.now.processes }
+    requires { All (IsProcessIn index.now) procs.now.processes }
     ensures { IfOk result (λ count. count ≡ length (findings (audit_of index.now procs.now.processes queue_limit None))) }
 {
     let graph = Graph::build(alloc, procs)?;
@@ -53,7 +53,7 @@ fn summarize_processes(
 ) -> Result<Summary, AllocError>
     requires index { IsIndexOf held.old index.now }
     requires table { procs.now ≡ process_table held.old }
-    requires sections { All (IsIn index.now) procs.now.processes }
+    requires sections { All (IsProcessIn index.now) procs.now.processes }
     ensures { IfOk result (λ summary. summary ≡ summary_of held.old) }
 {
     let tally = count_all_roots(alloc, held, index, procs)?;

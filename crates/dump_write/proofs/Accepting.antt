@@ -14,7 +14,7 @@ use Rattle.line_source.specs.Streams.{begins_with_equals, length_before_lf}
 use Rattle.dump_sections.specs.declared.index.State.TheVariants.{Whole, TruncatedIn}
 use Rattle.section_index.specs.declared.opening.OpenFault.TheVariants.{TooLarge, TooManySections, HeadersTooLarge, HeaderTooLong}
 use Rattle.dump_sections.specs.Bodies.{body_length}
-use Rattle.dump_sections.specs.Index.{last_text, state_of}
+use Rattle.dump_sections.specs.Index.{last_text, dump_state}
 use Rattle.dump_sections.specs.Versions.{first_in, version_named}
 use Rattle.section_index.specs.Opening.{version_fault, text_bytes, headers_upto, IsAccepted, fault_of, header_fault, earlier, surplus_header, large_headers, other_version}
 use Rattle.dump_sections.specs.Sections.{tag_of, id_of, next_at, sections_of, sections}
@@ -88,7 +88,7 @@ last_in_push [] text = refl
 last_in_push (one ∷ []) text = refl
 last_in_push (one ∷ next ∷ texts) text = last_in_push (next ∷ texts) text
 
-pub whole : (texts : List (List ℕ)) → list_all is_line_text (texts ++ codes "=end" ∷ []) ≡ true → state_of (headers (lines_of (texts ++ codes "=end" ∷ []))) ≡ Whole
+pub whole : (texts : List (List ℕ)) → list_all is_line_text (texts ++ codes "=end" ∷ []) ≡ true → dump_state (headers (lines_of (texts ++ codes "=end" ∷ []))) ≡ Whole
 whole texts are =
     let all = texts ++ codes "=end" ∷ [] in
     let hs = headers (lines_of all) in

@@ -6,10 +6,10 @@ use Rattle.dump_io.specs.Limits.{usual}
 use Rattle.dump_io.specs.Lines.{headers}
 use Rattle.dump_sections.specs.declared.index.State.TheVariants.{Whole}
 use Rattle.dump_sections.specs.Bodies.{body_length}
-use Rattle.dump_sections.specs.Index.{state_of}
+use Rattle.dump_sections.specs.Index.{dump_state}
 use Rattle.section_index.specs.Opening.{IsAccepted}
 use Rattle.dump_sections.specs.Sections.{sections}
-use Rattle.dump_write.specs.Made.{made, made_texts, first_sections, process_sections, last_sections}
+use Rattle.dump_write.specs.Made.{made, made_texts, first_sections, made_process, last_sections}
 use Rattle.dump_write.specs.Written.{is_line_text, lines_of}
 use Rattle.dump_sections.specs.Laws.{length-sections_of}
 use Rattle.dump_write.proofs.Accepting.{accepted, whole, bodies_are_short}
@@ -26,19 +26,19 @@ module _ (seed count : ℕ) (small : seed < 2 ^ 64) (some : 1 ≤ count) (few : 
 
   -- all texts but the last
   front : List (List ℕ)
-  front = first_sections seed count ++ (flat_map (process_sections seed count) (range_with_len 1 count) ++ take 4 last_sections)
+  front = first_sections seed count ++ (flat_map (made_process seed count) (range_with_len 1 count) ++ take 4 last_sections)
 
   last_apart : front ++ codes "=end" ∷ [] ≡ made_texts seed count
   unfolding front
   last_apart =
-      let processes = flat_map (process_sections seed count) (range_with_len 1 count) in
+      let processes = flat_map (made_process seed count) (range_with_len 1 count) in
       append_assoc (first_sections seed count) (processes ++ take 4 last_sections) (codes "=end" ∷ [])
       ∙ ap (λ l. first_sections seed count ++ l) (append_assoc processes (take 4 last_sections) (codes "=end" ∷ []))
 
-  pub made_whole : state_of (headers (made seed count)) ≡ Whole
+  pub made_whole : dump_state (headers (made seed count)) ≡ Whole
   unfolding made
   made_whole =
-      subst (λ texts. state_of (headers (lines_of texts)) ≡ Whole) last_apart
+      subst (λ texts. dump_state (headers (lines_of texts)) ≡ Whole) last_apart
       (whole front (subst (λ texts. list_all is_line_text texts ≡ true) (sym last_apart) made_line_texts))
 
   pub made_sections : length (sections (made seed count)) ≡ 5 * count + 5

@@ -3,7 +3,7 @@ use Rattle.std.proofs.Common.{◌≡◌, ℕ, ◌+◌, ◌*◌, ◌^◌, ◌<◌
 use Rattle.std.specs.Prelude.{codes, decimal}
 use Rattle.std.specs.List.{concat}
 use Rattle.dump_io.specs.Numbers.{hexadecimal}
-use Rattle.dump_write.specs.Made.{queue_of, next_of, previous_of, heap_of, link_list, proc_section, stack_section, dictionary_section, messages_section, second_cell, cells, heap_section, process_sections, first_sections, last_sections, made_texts}
+use Rattle.dump_write.specs.Made.{queue_of, next_of, previous_of, heap_of, link_list, proc_section, stack_section, dictionary_section, messages_section, second_cell, cells, made_heap, made_process, first_sections, last_sections, made_texts}
 use Rattle.line_source.specs.Streams.{begins_with_equals}
 use Rattle.dump_write.proofs.Numerals.{hexadecimal_is_plain, plain_is_no_header}
 use Rattle.dump_write.proofs.TextLists.{IsPart, none, literal, before, within, decimal_part, hexadecimal_part, AreTexts, no_texts, head, body, texts_then, texts_within, texts_with_heads, copies, texts_for}
@@ -88,12 +88,12 @@ cells_texts i queue heap few q low =
     (body (before binary (before (literal (codes ":Yc20:1:3") refl) none)) refl
     (address_begins (heap + 64) (concat (codes ":Yc20:1:3" ∷ [])) (omega (arith, low))) no_texts))))
 
-heap_texts : (i queue : ℕ) → i ≤ 200000 → queue < 10 → AreTexts (heap_section i queue) 1 152
+heap_texts : (i queue : ℕ) → i ≤ 200000 → queue < 10 → AreTexts (made_heap i queue) 1 152
 heap_texts i queue few q =
     head (before (literal (codes "=proc_heap:<0.") refl) (before (process_number i few) (before (literal (codes ".0>") refl) none))) refl refl
     (cells_texts i queue (heap_of i) few q (omega (arith, few)))
 
-process_texts : (seed count i : ℕ) → 1 ≤ i → i ≤ count → count ≤ 200000 → AreTexts (process_sections seed count i) 5 428
+process_texts : (seed count i : ℕ) → 1 ≤ i → i ≤ count → count ≤ 200000 → AreTexts (made_process seed count i) 5 428
 process_texts seed count i first last few =
     let low : i ≤ 200000 = omega (arith, last, few) in
     let queue = queue_of seed i in
@@ -123,4 +123,4 @@ made_are_texts seed count small some few =
     texts_with_heads (omega arith)
     (texts_within (omega (arith, few))
     (texts_then (first_texts seed count small few)
-    (texts_then (texts_for (process_sections seed count) 5 428 1 count (λ i first last. process_texts seed count i first (omega (arith, last)) few)) last_texts)))
+    (texts_then (texts_for (made_process seed count) 5 428 1 count (λ i first last. process_texts seed count i first (omega (arith, last)) few)) last_texts)))

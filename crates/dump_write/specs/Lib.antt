@@ -1,4 +1,3 @@
-pub mod Heaps
 pub mod Inner
 pub mod Made
 pub mod Written

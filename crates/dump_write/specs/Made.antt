@@ -69,18 +69,18 @@ cells i queue heap =
     ∷ []
 
 -- the heap has five cells
-abbrev pub heap_section : ℕ → ℕ → List (List ℕ)
-heap_section i queue = concat (codes "=proc_heap:<0." ∷ decimal i ∷ codes ".0>" ∷ []) ∷ cells i queue (heap_of i)
+abbrev pub made_heap : ℕ → ℕ → List (List ℕ)
+made_heap i queue = concat (codes "=proc_heap:<0." ∷ decimal i ∷ codes ".0>" ∷ []) ∷ cells i queue (heap_of i)
 
 -- the sections of process i, whose mailbox has this many messages
 abbrev pub sections_with : ℕ → ℕ → ℕ → List (List ℕ)
 sections_with count i queue =
     proc_section i queue (next_of count i) (previous_of count i)
-    ++ (stack_section i ++ (dictionary_section i ++ (messages_section i queue ++ heap_section i queue)))
+    ++ (stack_section i ++ (dictionary_section i ++ (messages_section i queue ++ made_heap i queue)))
 
 -- the sections of process i
-abbrev pub process_sections : ℕ → ℕ → ℕ → List (List ℕ)
-process_sections seed count i = sections_with count i (queue_of seed i)
+abbrev pub made_process : ℕ → ℕ → ℕ → List (List ℕ)
+made_process seed count i = sections_with count i (queue_of seed i)
 
 -- what stands before the processes
 abbrev pub first_sections : ℕ → ℕ → List (List ℕ)
@@ -104,7 +104,7 @@ last_sections =
 -- the texts of all lines
 abbrev pub made_texts : ℕ → ℕ → List (List ℕ)
 made_texts seed count =
-    first_sections seed count ++ (flat_map (process_sections seed count) (range_with_len 1 count) ++ last_sections)
+    first_sections seed count ++ (flat_map (made_process seed count) (range_with_len 1 count) ++ last_sections)
 
 -- the made dump
 unfoldable pub made : ℕ → ℕ → List ℕ

@@ -3,11 +3,11 @@ ghost use Rattle.std.specs.Prelude.{◌≡◌, ◌+◌, ◌*◌, ◌≤◌, ℕ,
 ghost use Rattle.dump_io.specs.Limits.{usual};
 ghost use Rattle.dump_io.specs.Lines.{headers};
 ghost use Rattle.dump_sections.specs.Bodies.{body_length};
-ghost use Rattle.dump_sections.specs.Index.{Contents, state_of};
+ghost use Rattle.dump_sections.specs.Index.{dump_state};
 ghost use Rattle.section_index.specs.Opening.{IsAccepted};
 ghost use Rattle.dump_sections.specs.Sections.{sections};
 ghost use Rattle.dump_sections.specs.declared.index.State.TheVariants.{Whole};
-ghost use Rattle.dump_write.specs.Heaps.{heap_weight};
+ghost use Rattle.heap_cells.specs.DumpHeaps.{heap_weight};
 ghost use Rattle.dump_write.specs.Made.{made};
 
 use term_forms::{Enc, form_is_read, number_is_read};
@@ -18,10 +18,10 @@ pub fn made_dump_is_accepted(seed: u64, count: u32)
     requires some { 1 ≤ count }
     requires few { count ≤ 200000 }
     ensures accepted { IsAccepted (made seed count) usual }
-    ensures whole { state_of (headers (made seed count)) ≡ Whole }
+    ensures whole { dump_state (headers (made seed count)) ≡ Whole }
     ensures sections { length (sections (made seed count)) ≡ 5 * count + 5 }
     ensures bodies { All (λ section. body_length section ≤ usual.section) (sections (made seed count)) }
-    ensures heaps { (index : Contents) (pid : List ℕ) → heap_weight (made seed count) index pid ≤ usual.dense }
+    ensures heaps { (pid : List ℕ) → heap_weight pid (made seed count) ≤ usual.dense }
 {
     number_is_read();
     form_is_read(Enc::Hex);

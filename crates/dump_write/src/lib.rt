@@ -2,6 +2,13 @@
 //!
 //! [`put_header`], [`put_line`] and [`put_heap`] append a line to a vector. [`make`] makes the
 //! dump of a node with a given number of processes, with which a reader of dumps can be tried.
+//!
+//! ```text
+//! put_header(&mut dump, b"erl_crash_dump", Some(b"0.5"))?;
+//! put_line(&mut dump, b"Slogan: no more room")?;
+//! put_header(&mut dump, b"end", None)?;
+//! let made = make(alloc, 7, 200)?;
+//! ```
 #![tactic(auto)]
 
 mod appending;

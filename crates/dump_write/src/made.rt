@@ -3,7 +3,7 @@
 // and then the whole dump is dropped, so no clause says what was appended by then.
 ghost use Rattle.std.specs.Prelude.{◌≡◌, ◌++◌, ◌∷◌, [], ◌≤◌, IfOk, OnOk};
 ghost use Rattle.std.specs.List.{flat_map, range_with_len};
-ghost use Rattle.dump_write.specs.Made.{heap_of, link_list, second_cell, proc_section, stack_section, dictionary_section, messages_section, heap_section, process_sections, first_sections, last_sections, made};
+ghost use Rattle.dump_write.specs.Made.{heap_of, link_list, second_cell, proc_section, stack_section, dictionary_section, messages_section, made_heap, made_process, first_sections, last_sections, made};
 ghost use Rattle.dump_write.specs.Written.{lines_of};
 
 use crate::appending::append_lines;
@@ -143,7 +143,7 @@ fn put_second_cell(into: &mut Vec<u8>, queue: u64, first: u64) -> Result<(), All
 
 fn put_heap_section(into: &mut Vec<u8>, i: u64, queue: u64) -> Result<(), AllocError>
     requires { i ≤ 200000 }
-    ensures { OnOk result (into.new.items ≡ into.old.items ++ lines_of (heap_section i queue)) }
+    ensures { OnOk result (into.new.items ≡ into.old.items ++ lines_of (made_heap i queue)) }
 {
     let first = heap_of(i);
     let second = first + 16;
@@ -184,7 +184,7 @@ fn put_process(into: &mut Vec<u8>, seed: u64, count: u64, i: u64) -> Result<(), 
     requires few { count ≤ 200000 }
     requires first { 1 ≤ i }
     requires last { i ≤ count }
-    ensures { OnOk result (into.new.items ≡ into.old.items ++ lines_of (process_sections seed count i)) }
+    ensures { OnOk result (into.new.items ≡ into.old.items ++ lines_of (made_process seed count i)) }
 {
     let queue = (seed % 10 + 7 * i) % 10;
     let next = i % count + 1;
@@ -200,7 +200,7 @@ fn put_processes(into: &mut Vec<u8>, seed: u64, count: u64) -> Result<(), AllocE
     requires some { 1 ≤ count }
     requires few { count ≤ 200000 }
     ensures { OnOk result (into.new.items
-        ≡ into.old.items ++ lines_of (flat_map (process_sections seed count) (range_with_len 1 count))) }
+        ≡ into.old.items ++ lines_of (flat_map (made_process seed count) (range_with_len 1 count))) }
 {
     for i in 1..=count {
         put_process(into, seed, count, i)?;

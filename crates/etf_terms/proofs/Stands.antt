@@ -10,7 +10,7 @@ use Rattle.etf_terms.specs.declared.stack.Entry.{Entry}
 use Rattle.etf_terms.specs.Depth.{depth, deepest}
 use Rattle.etf_terms.specs.Heads.{Head, kids}
 use Rattle.etf_terms.specs.Terms.{Term, node, Terms, none, more, count, IsTerm, AreTerms}
-use Rattle.etf_terms.specs.Text.{kind_of, closing, own_text, inner, text}
+use Rattle.etf_terms.specs.Text.{terms_kind, closing, own_text, inner, text}
 use Rattle.etf_terms.specs.Inner.Parts.{head_of}
 use Rattle.etf_terms.specs.Inner.Standing.{entry_of, entered, ended, next_of, Stands, IsPart, Moves}
 use Rattle.etf_terms.proofs.Firsts.{first-of, regroup, same-head, not-both, depth-own, no-terms}
@@ -36,11 +36,11 @@ inner-none kind n i (more t ts) e = absurd (omega (arith, e))
 -- a head that was read has terms, or it has none
 enters-by : (room : ℕ) (t : Bool) (h : Head) (ks : Terms) (es : List Entry) (own others later : List ℕ) → ((t ≡ true) × (kids h ≡ 0)) ⊎ ((t ≡ false) × (kids h ≡ 0 → ⊥))
     → AreTerms own ks → count ks ≡ kids h → length es + depth (node h ks) ≤ room → Stands room es others later
-    → (after : List ℕ) × (inner (kind_of h) (kids h) 0 ks ++ later ≡ cond t (closing (kind_of h) (kids h)) [] ++ after) × Stands room (cond t es (entry_of h ∷ es)) (own ++ others) after
+    → (after : List ℕ) × (inner (terms_kind h) (kids h) 0 ks ++ later ≡ cond t (closing (terms_kind h) (kids h)) [] ++ after) × Stands room (cond t es (entry_of h ∷ es)) (own ++ others) after
 enters-by room true h ks es own others later is are counts fits s =
     let leaf : kids h ≡ 0 = ⊎_elim (λ p. p.1) (λ p. absurd (true≢false p.0)) is in (
       later,
-      ap (λ l. l ++ later) (inner-none (kind_of h) (kids h) 0 ks (counts ∙ leaf)),
+      ap (λ l. l ++ later) (inner-none (terms_kind h) (kids h) 0 ks (counts ∙ leaf)),
       subst (λ l. Stands room es (l ++ others) later) (sym (no-terms ks own (counts ∙ leaf) are)) s,
     )
 enters-by room false h ks es own others later is are counts fits s =
@@ -48,7 +48,7 @@ enters-by room false h ks es own others later is are counts fits s =
     let deep = depth-own h ks (λ e. some (sym counts ∙ e)) in
     let all : count ks + 0 ≡ kids h = omega (arith, counts) in
     let own_fits : suc (length es) + deepest ks ≤ room = omega (arith, fits, deep) in
-    (inner (kind_of h) (kids h) 0 ks ++ later, refl, (ks, own, others, later, refl, are, all, refl, own_fits, s))
+    (inner (terms_kind h) (kids h) 0 ks ++ later, refl, (ks, own, others, later, refl, are, all, refl, own_fits, s))
 
 record Opens (room : ℕ) (e : Entry) (es : List Entry) (rest to_come : List ℕ) : Type 0 where
   pub head : Head
@@ -75,7 +75,7 @@ opens room e es rest to_come wants (more (node h ks) us, front, behind, below, r
       behind = f.front ++ (f.rest ++ behind);
       read = f.read;
       later = enters.0;
-      splits = t ∙ regroup own (inner (kind_of h) (kids h) 0 ks) (inner e.kind e.kids (e.next + 1) us) below ∙ ap (λ l. own ++ l) enters.1 ∙ sym (append_assoc own (ended h) enters.0);
+      splits = t ∙ regroup own (inner (terms_kind h) (kids h) 0 ks) (inner e.kind e.kids (e.next + 1) us) below ∙ ap (λ l. own ++ l) enters.1 ∙ sym (append_assoc own (ended h) enters.0);
       stands = enters.2;
       fits = λ some.
           let deep = depth-own h ks (λ none_left. omega (arith, some, f.count_own, none_left)) in

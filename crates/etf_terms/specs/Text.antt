@@ -10,24 +10,24 @@ use Rattle.etf_terms.specs.Heads.{Head, Float, Bits, Pid, Port, Ref, Small, Int,
 use Rattle.etf_terms.specs.Terms.{Term, node, Terms, none, more}
 
 -- how the terms after a head are written
-abbrev pub kind_of : Head → Kind
-kind_of (Tuple n) = kinds.Tuple
-kind_of (Linked n) = kinds.Linked
-kind_of (Fun name index arity n) = kinds.Fun
-kind_of (Pairs n) = kinds.Pairs
-kind_of head = kinds.Plain
+abbrev pub terms_kind : Head → Kind
+terms_kind (Tuple n) = kinds.Tuple
+terms_kind (Linked n) = kinds.Linked
+terms_kind (Fun name index arity n) = kinds.Fun
+terms_kind (Pairs n) = kinds.Pairs
+terms_kind head = kinds.Plain
 
 -- the first 32 bytes of a binary, in upper-case hex
-abbrev pub preview_text : List ℕ → List ℕ
-preview_text bytes = flat_map hex_byte (take 32 bytes) ++ ((if nat_lt 32 (length bytes) then codes ".." else []) ++ codes ">")
+abbrev pub first_bytes_text : List ℕ → List ℕ
+first_bytes_text bytes = flat_map hex_byte (take 32 bytes) ++ ((if nat_lt 32 (length bytes) then codes ".." else []) ++ codes ">")
 
 -- the size of a binary, and its first bytes
 abbrev pub bin_text : List ℕ → List ℕ
-bin_text bytes = codes "#Bin<" ++ (decimal (length bytes) ++ (codes ":" ++ preview_text bytes))
+bin_text bytes = codes "#Bin<" ++ (decimal (length bytes) ++ (codes ":" ++ first_bytes_text bytes))
 
 -- the size of a bit string, how many bits of its last byte count, and its first bytes
 abbrev pub bits_text : ℕ → List ℕ → List ℕ
-bits_text bits bytes = codes "#Bits<" ++ (decimal (length bytes) ++ (codes "/" ++ (decimal bits ++ (codes ":" ++ preview_text bytes))))
+bits_text bits bytes = codes "#Bits<" ++ (decimal (length bytes) ++ (codes "/" ++ (decimal bits ++ (codes ":" ++ first_bytes_text bytes))))
 
 -- the eight bytes of a float in hex
 abbrev pub float_text : List ℕ → List ℕ
@@ -42,8 +42,8 @@ abbrev pub pid_text : List ℕ → ℕ → ℕ → ℕ → List ℕ
 pid_text name id serial creation = codes "#Pid<" ++ (atom_text name ++ (dotted id ++ (dotted serial ++ (dotted creation ++ codes ">"))))
 
 -- the node's name, and the two numbers of a port
-abbrev pub port_text : List ℕ → ℕ → ℕ → List ℕ
-port_text name id creation = codes "#Port<" ++ (atom_text name ++ (dotted id ++ (dotted creation ++ codes ">")))
+abbrev pub external_port_text : List ℕ → ℕ → ℕ → List ℕ
+external_port_text name id creation = codes "#Port<" ++ (atom_text name ++ (dotted id ++ (dotted creation ++ codes ">")))
 
 -- each word of four bytes
 abbrev pub words_text : List ℕ → List ℕ
@@ -77,26 +77,26 @@ big_text sign digits =
     (if sign == 1 then codes "-" else []) ++ (codes "16#" ++ (if length digits == 0 then codes "00" else flat_map hex_byte (reverse digits)))
 
 -- a head's own text, before its terms
-abbrev pub opening : Head → List ℕ
-opening (Float bytes) = float_text bytes
-opening (Bits bits bytes) = bits_text bits bytes
-opening (Pid name id serial creation) = pid_text name id serial creation
-opening (Port name id creation) = port_text name id creation
-opening (Ref name creation words) = ref_text name creation words
-opening (Small value) = decimal value
-opening (Int value) = int_text value
-opening (Atom name) = atom_text name
-opening (Tuple n) = codes "{"
-opening Nil = codes "[]"
-opening (Chars bytes) = chars_text bytes
+abbrev pub opening_text : Head → List ℕ
+opening_text (Float bytes) = float_text bytes
+opening_text (Bits bits bytes) = bits_text bits bytes
+opening_text (Pid name id serial creation) = pid_text name id serial creation
+opening_text (Port name id creation) = external_port_text name id creation
+opening_text (Ref name creation words) = ref_text name creation words
+opening_text (Small value) = decimal value
+opening_text (Int value) = int_text value
+opening_text (Atom name) = atom_text name
+opening_text (Tuple n) = codes "{"
+opening_text Nil = codes "[]"
+opening_text (Chars bytes) = chars_text bytes
 -- without elements it is only the tail
-opening (Linked n) = if n == 0 then [] else codes "["
-opening (Bin bytes) = bin_text bytes
-opening (Big sign digits) = big_text sign digits
-opening (Fun name index arity n) = fun_text name index arity
-opening (Export name function arity) =
+opening_text (Linked n) = if n == 0 then [] else codes "["
+opening_text (Bin bytes) = bin_text bytes
+opening_text (Big sign digits) = big_text sign digits
+opening_text (Fun name index arity n) = fun_text name index arity
+opening_text (Export name function arity) =
     codes "fun " ++ (atom_text name ++ (codes ":" ++ (atom_text function ++ (codes "/" ++ decimal arity))))
-opening (Pairs n) = codes "#{"
+opening_text (Pairs n) = codes "#{"
 
 -- what comes after this many terms
 abbrev pub closing : Kind → ℕ → List ℕ
@@ -122,12 +122,12 @@ is_end kind count i head = false
 
 -- what comes before the terms of the term with number i
 abbrev pub own_text : Kind → ℕ → ℕ → Head → List ℕ
-own_text kind count i head = if is_end kind count i head then [] else between kind count i ++ opening head
+own_text kind count i head = if is_end kind count i head then [] else between kind count i ++ opening_text head
 
 abbrev mutual
   -- a head's own text, and its terms
   pub text : Term → List ℕ
-  text (node head terms) = opening head ++ inner (kind_of head) (kids head) 0 terms
+  text (node head terms) = opening_text head ++ inner (terms_kind head) (kids head) 0 terms
 
   -- the terms of a head from number i on
   pub inner : Kind → ℕ → ℕ → Terms → List ℕ
@@ -136,4 +136,4 @@ abbrev mutual
 
   -- the term with number i, and what comes before it
   pub placed : Kind → ℕ → ℕ → Term → List ℕ
-  placed kind count i (node head terms) = own_text kind count i head ++ inner (kind_of head) (kids head) 0 terms
+  placed kind count i (node head terms) = own_text kind count i head ++ inner (terms_kind head) (kids head) 0 terms

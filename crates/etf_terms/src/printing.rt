@@ -10,7 +10,7 @@ ghost use Rattle.etf_terms.specs.Inner.Parts.{head};
 ghost use Rattle.etf_terms.specs.Inner.Serving.{Serves};
 ghost use Rattle.etf_terms.specs.Inner.Standing.{entered, ended, Stands, Moves, Falls};
 ghost use Rattle.etf_terms.specs.Terms.{Term, IsTerm};
-ghost use Rattle.etf_terms.specs.Text.{kind_of, dotted, float_text, bits_text, pid_text, port_text, words_text, ref_text, int_text, comma_number, chars_text, fun_text, preview_text, bin_text, big_text, opening, closing, between, is_end, own_text, text};
+ghost use Rattle.etf_terms.specs.Text.{terms_kind, dotted, float_text, bits_text, pid_text, external_port_text, words_text, ref_text, int_text, comma_number, chars_text, fun_text, first_bytes_text, bin_text, big_text, opening_text, closing, between, is_end, own_text, text};
 
 use crate::heads::{HeadRead, number4, read_head};
 use crate::stack::{Entry, Kind, Stack};
@@ -71,7 +71,7 @@ fn ends(kind: Kind, kids: u64, i: u64, found: &HeadRead<'_>) -> bool
 }
 
 fn kind(found: &HeadRead<'_>) -> Kind
-    ensures { result ≡ kind_of (head found.now) }
+    ensures { result ≡ terms_kind (head found.now) }
 {
     match *found {
         HeadRead::Tuple(_) => Kind::Tuple,
@@ -100,7 +100,7 @@ fn first_bytes(bytes: &[u8]) -> &[u8]
 
 // The first bytes of a binary, and what closes it.
 fn put_preview<K: Sink>(sink: &mut K, bytes: &[u8]) -> Result<(), Failed>
-    ensures { Puts (K.state sink.old) (K.state sink.new) (preview_text bytes.now) result }
+    ensures { Puts (K.state sink.old) (K.state sink.new) (first_bytes_text bytes.now) result }
 {
     put_hex_bytes(sink, first_bytes(bytes))?;
     write_all(sink, dots(bytes.len()))?;
@@ -235,7 +235,7 @@ fn put_pid<K: Sink>(
 }
 
 fn put_port<K: Sink>(sink: &mut K, name: &[u8], id: u64, creation: u32) -> Result<(), Failed>
-    ensures { Puts (K.state sink.old) (K.state sink.new) (port_text name.now id creation) result }
+    ensures { Puts (K.state sink.old) (K.state sink.new) (external_port_text name.now id creation) result }
 {
     let pieces = [
         Piece::Bytes(b"."),
@@ -332,7 +332,7 @@ fn bracket(n: u32) -> &'static [u8]
 }
 
 fn put_opening<K: Sink>(sink: &mut K, found: &HeadRead<'_>) -> Result<(), Failed>
-    ensures { Puts (K.state sink.old) (K.state sink.new) (opening (head found.now)) result }
+    ensures { Puts (K.state sink.old) (K.state sink.new) (opening_text (head found.now)) result }
 {
     match *found {
         HeadRead::Float(bytes) => put_float(sink, bytes),
@@ -356,7 +356,7 @@ fn put_opening<K: Sink>(sink: &mut K, found: &HeadRead<'_>) -> Result<(), Failed
 }
 
 fn put_placed<K: Sink>(sink: &mut K, front: &[u8], found: &HeadRead<'_>) -> Result<(), Failed>
-    ensures { Puts (K.state sink.old) (K.state sink.new) (front.now ++ opening (head found.now)) result }
+    ensures { Puts (K.state sink.old) (K.state sink.new) (front.now ++ opening_text (head found.now)) result }
 {
     write_all(sink, front)?;
     put_opening(sink, found)

@@ -6,7 +6,7 @@ use Rattle.std.proofs.lemmas.Bool.{cases_lt}
 use Rattle.std.proofs.lemmas.List.{drop-drop, drop-take}
 use Rattle.std.proofs.Math.Seq.{drop-length}
 use Rattle.dump_io.specs.Colons.{is_colon}
-use Rattle.field_lines.specs.Fields.{space, without_space, value_of, has_key, place_of}
+use Rattle.field_lines.specs.Fields.{space_byte, without_space, value_of, has_key, place_of}
 use Rattle.field_lines.specs.Lines.{TextLine, IsPart}
 use Rattle.field_lines.specs.declared.shapes.FieldAt.{FieldAt}
 
@@ -41,7 +41,7 @@ IsEnd-then a b c first next =
 IsEnd-without_space : (bytes : List ℕ) → IsEnd bytes (without_space bytes)
 IsEnd-without_space [] = record { within = omega arith; ends = refl }
 IsEnd-without_space (c ∷ bytes) =
-    elim (c == space) as (λ b. IsEnd (c ∷ bytes) (if b then bytes else c ∷ bytes)) [
+    elim (c == space_byte) as (λ b. IsEnd (c ∷ bytes) (if b then bytes else c ∷ bytes)) [
       | true ↦ (let one : length (c ∷ bytes) - length bytes ≡ 1 = omega arith in
           record { within = omega arith; ends = ap (λ n. drop n (c ∷ bytes)) one })
       | false ↦ (let zero : length (c ∷ bytes) - length (c ∷ bytes) ≡ 0 = omega arith in

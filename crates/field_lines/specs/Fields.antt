@@ -6,13 +6,13 @@ use Rattle.field_lines.specs.declared.shapes.FieldAt.{FieldAt}
 use Rattle.field_lines.specs.Lines.{TextLine, text_lines}
 
 -- the byte of a space
-abbrev pub space : ℕ
-space = 32
+abbrev pub space_byte : ℕ
+space_byte = 32
 
 -- bytes without one leading space
 abbrev pub without_space : List ℕ → List ℕ
 without_space [] = []
-without_space (c ∷ bytes) = if c == space then bytes else c ∷ bytes
+without_space (c ∷ bytes) = if c == space_byte then bytes else c ∷ bytes
 
 -- a field's key stands before the first colon of its line
 abbrev pub key_of : List ℕ → List ℕ

@@ -10,7 +10,7 @@ use Rattle.std.proofs.lemmas.Slice.Eq.{bytes_eq-Decides}
 use Rattle.dump_io.specs.Colons.{colon, is_colon, has_colon, after_colon}
 use Rattle.dump_io.specs.Lines.{lf, lines_after, raw_lines, lines_from}
 use Rattle.dump_io.specs.Laws.Colons.{colon-within}
-use Rattle.field_lines.specs.Fields.{Field, field_of, space, without_space, key_of, value_of, has_key}
+use Rattle.field_lines.specs.Fields.{Field, field_of, space_byte, without_space, key_of, value_of, has_key}
 use Rattle.field_lines.specs.Lines.{TextLine, text_line, text_lines}
 
 length-lines_after : (c : ℕ) (raws : List (List ℕ)) → length (lines_after c raws) ≤ suc (length raws)
@@ -45,7 +45,7 @@ field_of-value text field =
 length-without_space : (bytes : List ℕ) → length (without_space bytes) ≤ length bytes
 length-without_space [] = omega arith
 length-without_space (c ∷ bytes) =
-    elim (c == space) as (λ b. length (if b then bytes else c ∷ bytes) ≤ length (c ∷ bytes)) [
+    elim (c == space_byte) as (λ b. length (if b then bytes else c ∷ bytes) ≤ length (c ∷ bytes)) [
       | true ↦ omega arith
       | false ↦ omega arith
     ]

@@ -7,7 +7,7 @@ use Rattle.process_table.specs.Processes.{Process, process_at}
 use Rattle.binary_holders.specs.declared.rows.BinaryRow.{BinaryRow}
 use Rattle.binary_holders.specs.declared.rows.Holding.{Holding}
 use Rattle.binary_holders.specs.Usage.{Usage}
-use Rattle.report_lines.specs.Lines.{line_of, space, tab, total_line}
+use Rattle.report_lines.specs.Lines.{line_of, word_space, tab, total_line}
 use Rattle.report_text.specs.Tables.{process_end}
 
 -- the line of a process that holds binaries: how many bytes they
@@ -25,7 +25,7 @@ stored_line row = line_of tab (codes "binary" ∷ decimal row.size ∷ decimal r
 -- bytes they have together, and how many of them a process holds
 abbrev pub binaries_line : ℕ → ℕ → ℕ → List ℕ
 binaries_line count bytes held =
-    line_of space (codes "binaries" ∷ decimal count ∷ codes "bytes" ∷ decimal bytes ∷ codes "held" ∷ decimal held ∷ [])
+    line_of word_space (codes "binaries" ∷ decimal count ∷ codes "bytes" ∷ decimal bytes ∷ codes "held" ∷ decimal held ∷ [])
 
 -- the report of `binaries` on a dump with these sections and processes
 abbrev pub binaries_report : Contents → List Process → Usage → List ℕ

@@ -4,7 +4,7 @@ use Rattle.std.specs.List.{flat_map}
 use Rattle.dump_io.specs.Colons.{has_colon}
 use Rattle.field_lines.specs.Fields.{find_value, key_of, value_of}
 use Rattle.field_lines.specs.Lines.{TextLine, text_lines}
-use Rattle.dump_sections.specs.Index.{Contents, sections_in, state_of}
+use Rattle.dump_sections.specs.Index.{Contents, sections_in, dump_state}
 use Rattle.section_rows.specs.Rows.{Row, cell_at, row_at}
 use Rattle.process_table.specs.Processes.{Process, ProcessTable, process_at}
 use Rattle.dump_triage.specs.Triage.{Triaged}
@@ -65,4 +65,4 @@ abbrev pub triage_report : Contents → List ℕ → List ℕ → ProcessTable �
 triage_report index first_body memory_body table tables triage =
     triage_heading index first_body memory_body table
     ++ (triage_rows index table.processes tables triage
-    ++ (finding_counts triage.findings ++ state_line (sections_in index) (state_of index.headers)))
+    ++ (finding_counts triage.findings ++ state_line (sections_in index) (dump_state index.headers)))

@@ -2,7 +2,7 @@
 ghost use Rattle.std.specs.Prelude.{All, length};
 ghost use Rattle.std.specs.List.{flat_map};
 ghost use Rattle.dump_io.specs.Sinks.{Puts};
-ghost use Rattle.process_table.specs.Processes.{IsIn};
+ghost use Rattle.process_table.specs.Processes.{IsProcessIn};
 ghost use Rattle.binary_holders.specs.Usage.{NamesProcess, shown_use};
 ghost use Rattle.glance_text.specs.Holders.{binaries_line, binaries_report, held_line, holder_line, holders_report, stored_line};
 
@@ -21,7 +21,7 @@ fn put_held<K: Sink>(
     held: &Holding,
 ) -> Result<(), Failed>
     requires named { NamesProcess (length procs.now.processes) held.now }
-    requires processes { All (IsIn index.now) procs.now.processes }
+    requires processes { All (IsProcessIn index.now) procs.now.processes }
     ensures { Puts (K.state sink.old) (K.state sink.new) (held_line index.now procs.now.processes held.now) result }
 {
     let (pid, name, at) = process_end(index, procs, held.process);
@@ -46,7 +46,7 @@ fn put_all_held<K: Sink>(
     rows: &[Holding],
 ) -> Result<(), Failed>
     requires named { All (NamesProcess (length procs.now.processes)) rows.now }
-    requires processes { All (IsIn index.now) procs.now.processes }
+    requires processes { All (IsProcessIn index.now) procs.now.processes }
     ensures { Puts (K.state sink.old) (K.state sink.new) (flat_map (held_line index.now procs.now.processes) rows.now) result }
 {
     for held in rows {
@@ -113,7 +113,7 @@ pub fn put_binaries<K: Sink>(
     found: &BinaryUse,
 ) -> Result<(), Failed>
     requires named { All (NamesProcess (length procs.now.processes)) found.now.held.items }
-    requires processes { All (IsIn index.now) procs.now.processes }
+    requires processes { All (IsProcessIn index.now) procs.now.processes }
     ensures { Puts (K.state sink.old) (K.state sink.new) (binaries_report index.now procs.now.processes (shown_use found.now)) result }
 {
     put_all_held(sink, index, procs, &found.held)?;
@@ -129,7 +129,7 @@ fn put_holder<K: Sink>(
     held: &Holding,
 ) -> Result<(), Failed>
     requires named { NamesProcess (length procs.now.processes) held.now }
-    requires processes { All (IsIn index.now) procs.now.processes }
+    requires processes { All (IsProcessIn index.now) procs.now.processes }
     ensures { Puts (K.state sink.old) (K.state sink.new) (holder_line index.now procs.now.processes held.now) result }
 {
     let (pid, name, at) = process_end(index, procs, held.process);
@@ -143,7 +143,7 @@ fn put_each<K: Sink>(
     rows: &[Holding],
 ) -> Result<(), Failed>
     requires named { All (NamesProcess (length procs.now.processes)) rows.now }
-    requires processes { All (IsIn index.now) procs.now.processes }
+    requires processes { All (IsProcessIn index.now) procs.now.processes }
     ensures { Puts (K.state sink.old) (K.state sink.new) (flat_map (holder_line index.now procs.now.processes) rows.now) result }
 {
     for held in rows {
@@ -165,7 +165,7 @@ pub fn put_holders<K: Sink>(
     held: &[Holding],
 ) -> Result<(), Failed>
     requires named { All (NamesProcess (length procs.now.processes)) held.now }
-    requires processes { All (IsIn index.now) procs.now.processes }
+    requires processes { All (IsProcessIn index.now) procs.now.processes }
     ensures { Puts (K.state sink.old) (K.state sink.new) (holders_report index.now procs.now.processes held.now) result }
 {
     put_each(sink, index, procs, held)?;

@@ -4,11 +4,11 @@ ghost use Rattle.std.specs.List.{flat_map};
 ghost use Rattle.dump_io.specs.Sinks.{Puts};
 ghost use Rattle.field_lines.specs.Lines.{text_lines};
 ghost use Rattle.field_lines.specs.Shown.{shown_line};
-ghost use Rattle.process_table.specs.Processes.{IsIn};
-ghost use Rattle.table_sections.specs.Tables.{IsOver};
+ghost use Rattle.process_table.specs.Processes.{IsProcessIn};
+ghost use Rattle.table_sections.specs.Tables.{IsTableOver};
 ghost use Rattle.table_sections.specs.declared.kinds.TableKind.TheVariants.{Ets};
 ghost use Rattle.dump_triage.specs.Ranking.{AreWithin};
-ghost use Rattle.dump_triage.specs.Triage.{Fits};
+ghost use Rattle.dump_triage.specs.Triage.{FitsTriage};
 ghost use Rattle.report_lines.specs.Lines.{count_line};
 ghost use Rattle.glance_text.specs.Triage.{finding_counts, memory_line, process_number_line, state_count_line, table_words_line, triage_heading, triage_report, triage_rows};
 
@@ -94,7 +94,7 @@ fn put_process_number<'x, K: Sink>(
     row: &Ranked,
 ) -> Result<(), Failed>
     requires place { row.now.place < length procs.now.processes }
-    requires sections { All (IsIn index.now) procs.now.processes }
+    requires sections { All (IsProcessIn index.now) procs.now.processes }
     ensures { Puts (K.state sink.old) (K.state sink.new)
         (process_number_line word.now index.now procs.now.processes row.now) result }
 {
@@ -115,7 +115,7 @@ fn put_process_numbers<K: Sink>(
     rows: &[Ranked],
 ) -> Result<(), Failed>
     requires within { AreWithin (length procs.now.processes) rows.now }
-    requires sections { All (IsIn index.now) procs.now.processes }
+    requires sections { All (IsProcessIn index.now) procs.now.processes }
     ensures { Puts (K.state sink.old) (K.state sink.new)
         (flat_map (process_number_line word.now index.now procs.now.processes) rows.now) result }
 {
@@ -163,9 +163,9 @@ fn put_triage_rows<K: Sink>(
     tables: &Rows,
     triage: &Triage,
 ) -> Result<(), Failed>
-    requires sections { All (IsIn index.now) procs.now.processes }
+    requires sections { All (IsProcessIn index.now) procs.now.processes }
     requires width { tables.now.width ≡ 5 }
-    requires fits { Fits procs.now.processes tables.now.rows triage.now }
+    requires fits { FitsTriage procs.now.processes tables.now.rows triage.now }
     ensures { Puts (K.state sink.old) (K.state sink.new)
         (triage_rows index.now procs.now.processes tables.now.rows triage.now) result }
 {
@@ -211,9 +211,9 @@ pub fn put_triage<K: Sink>(
     tables: &Rows,
     triage: &Triage,
 ) -> Result<(), Failed>
-    requires sections { All (IsIn index.now) procs.now.processes }
-    requires tables { IsOver Ets index.now tables.now }
-    requires fits { Fits procs.now.processes tables.now.rows triage.now }
+    requires sections { All (IsProcessIn index.now) procs.now.processes }
+    requires tables { IsTableOver Ets index.now tables.now }
+    requires fits { FitsTriage procs.now.processes tables.now.rows triage.now }
     ensures { Puts (K.state sink.old) (K.state sink.new)
         (triage_report index.now first_body.now memory_body.now procs.now tables.now.rows triage.now) result }
 {

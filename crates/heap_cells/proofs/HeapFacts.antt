@@ -19,11 +19,11 @@ use Rattle.cell_records.specs.declared.keeping.Indexed.{Indexed}
 use Rattle.heap_cells.specs.declared.texts.Texts.{Texts}
 use Rattle.heap_cells.specs.Cells.{Cell, first_cells, line_cells, cells_of, own_count, addresses, cell_weight, weight_of}
 use Rattle.heap_cells.specs.HeapMap.{number_at}
-use Rattle.heap_cells.specs.Targets.{Target, Plain, At, Missing, target, target_at, slot_target}
+use Rattle.heap_cells.specs.Targets.{Target, Imm, At, Gone, target, target_at, slot_target}
 use Rattle.heap_cells.specs.Inner.Gathering.{AreAll}
 use Rattle.heap_cells.specs.Inner.Keeping.{IsIndexed}
 use Rattle.heap_cells.specs.Inner.Texts.{text_of, seam_of}
-use Rattle.cell_records.specs.Keeping.{IsIndexOf}
+use Rattle.cell_records.specs.Keeping.{IsArenaIndex}
 use Rattle.cell_records.specs.Order.{record_with, IsOrder}
 use Rattle.cell_records.specs.Slots.{start_at, slots_at, AreOrdered}
 use Rattle.heap_cells.specs.Inner.Records.{cell_in, cells_in, elements_by, AreLaid, AreSlots, Spells, AllSpell, IsArena}
@@ -106,9 +106,9 @@ first-distinct seen (cell ∷ cells) =
 -- ---- references that are resolved
 
 settled_target : List Cell → Target → Target
-settled_target known Plain = Plain
+settled_target known Imm = Imm
 settled_target known (At n) = At n
-settled_target known (Missing address) = target_at address (number_at known address)
+settled_target known (Gone address) = target_at address (number_at known address)
 
 found-target : (address : ℕ) (found : Option ℕ) → slot_target (option_map_or (λ n. slot.Cell (record { 0 = n })) found (slot.Gone address)) ≡ target_at address found
 found-target address None = refl
@@ -203,7 +203,7 @@ own-within texts g own whole =
       length-map g.arena.cells.items (cell_in (text_of texts) texts.enc),
     )
 
-pub whole-indexed : (texts : Texts) (g : Gathering) (own : ℕ) (found : Indexed) → IsWhole texts g own → IsIndexOf g.arena own found → is-indexed texts g own found
+pub whole-indexed : (texts : Texts) (g : Gathering) (own : ℕ) (found : Indexed) → IsWhole texts g own → IsArenaIndex g.arena own found → is-indexed texts g own found
 whole-indexed texts g own found whole is =
     indexed (text_of texts) (seam_of texts) texts.enc g.arena own found (own-within texts g own whole) whole.all.gathered.slots_are is
 

@@ -11,7 +11,7 @@ use Rattle.cell_records.specs.declared.arena.Arena.{Arena}
 use Rattle.cell_records.specs.declared.cells.CellRecord.{CellRecord}
 use Rattle.cell_records.specs.declared.cells.Slot.{Slot}
 use Rattle.cell_records.specs.declared.keeping.Indexed.{Indexed}
-use Rattle.cell_records.specs.Keeping.{moved_record, kept_upto, AreAllKept, AreFirstKept, IsIndexOf}
+use Rattle.cell_records.specs.Keeping.{moved_record, kept_upto, AreAllKept, AreFirstKept, IsArenaIndex}
 use Rattle.heap_cells.specs.Cells.{Cell, first_cells, addresses}
 use Rattle.heap_cells.specs.Inner.Keeping.{IsKept, IsIndexed}
 use Rattle.cell_records.specs.Order.{address_in, is_first, AreRanked}
@@ -168,7 +168,7 @@ first-indexed text seam enc all own found few slots ranks is =
     }
 
 pub indexed : (text : List ℕ) (seam : ℕ) (enc : Enc) (all : Arena) (own : ℕ) (found : Indexed) → own ≤ length all.cells.items → AreSlots text seam enc [] all.cells.items all.slots.items
-    → IsIndexOf all own found → IsIndexed text seam enc (cells_in text enc all.cells.items) own found
+    → IsArenaIndex all own found → IsIndexed text seam enc (cells_in text enc all.cells.items) own found
 indexed text seam enc all own found few slots is = by-case is.kept
   where
     by-case : AreAllKept all own found ⊎ AreFirstKept all own found → IsIndexed text seam enc (cells_in text enc all.cells.items) own found

@@ -7,22 +7,18 @@ use Rattle.term_forms.specs.Elements.{Element}
 use Rattle.term_forms.specs.Forms.{HeapForm, IsForm}
 use Rattle.heap_cells.specs.Cells.{Cell, elements_in, addresses, weight_of}
 
--- the cells, numbered from 0; how many of them come from the heap's own body;
--- how payloads are written; and how many bytes each of the two bodies has
+-- the cells, numbered from 0; how many of them come from the
+-- heap's own body; and how payloads are written
 pub record HeapMap : Type 0 where
   pub cells : List Cell
   pub own : ℕ
   pub enc : Enc
-  pub heap_size : ℕ
-  pub literals_size : ℕ
 
--- no address occurs twice; there are at most 100,000,000 cells and elements; each body has at most 512 MiB
+-- no address occurs twice, and there are at most 100,000,000 cells and elements
 pub record IsBounded (heap : HeapMap) : Type 0 where
   pub distinct : IsDistinct nat_eq (addresses heap.cells)
   pub weight : weight_of heap.cells ≤ 100000000
   pub own : heap.own ≤ length heap.cells
-  pub heap_size : heap.heap_size ≤ 536870912
-  pub literals_size : heap.literals_size ≤ 536870912
 
 -- the number of the cell that has the address
 abbrev pub number_at : List Cell → ℕ → Option ℕ

@@ -1,4 +1,5 @@
 pub mod Cells
+pub mod DumpHeaps
 pub mod HeapMap
 pub mod Inner
 pub mod Loading

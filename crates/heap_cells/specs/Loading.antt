@@ -57,26 +57,26 @@ pub record IsMapOf (enc : Enc) (heap literals : List ℕ) (found : HeapMap) : Ty
   pub own : found.own ≡ own_count enc heap
 
 -- what an answer says of these bodies: their map, or that they have more lines and elements than the limit
-abbrev pub IsAnswerFor : Enc → List ℕ → List ℕ → ℕ → Result HeapMap HeapFault → Type 0
-IsAnswerFor enc heap literals dense (Ok found) = IsMapOf enc heap literals found × (weight enc heap literals ≤ dense)
-IsAnswerFor enc heap literals dense (Err (TooDense count)) = (count ≡ weight enc heap literals) × (dense < count)
-IsAnswerFor enc heap literals dense (Err fault) = Unit {0}
+abbrev pub IsHeapAnswerFor : Enc → List ℕ → List ℕ → ℕ → Result HeapMap HeapFault → Type 0
+IsHeapAnswerFor enc heap literals dense (Ok found) = IsMapOf enc heap literals found × (weight enc heap literals ≤ dense)
+IsHeapAnswerFor enc heap literals dense (Err (TooDense count)) = (count ≡ weight enc heap literals) × (dense < count)
+IsHeapAnswerFor enc heap literals dense (Err fault) = Unit {0}
 
 -- what an answer says of two sections: a heap has the encoding of the dump's version,
 -- and what is answered is right for their bodies, if the device tells the bytes
 pub record IsHeapOf (now : Now) (index : Contents) (heap literals : Option Section) (dense : ℕ) (answer : Result HeapMap HeapFault) : Type 0 where
   pub enc : IfOk answer (λ found. found.enc ≡ enc_of index.version)
-  pub told : (dump : List ℕ) → now ≡ told dump → IsAnswerFor (enc_of index.version) (body_in dump heap) (body_in dump literals) dense answer
+  pub told : (dump : List ℕ) → now ≡ told dump → IsHeapAnswerFor (enc_of index.version) (body_in dump heap) (body_in dump literals) dense answer
 
 -- why a heap isn't loaded: one of these bodies is too large, and this is the first; the
 -- heap is too dense; or the device failed; memory may be lacking at any time
-abbrev pub IsCauseOf : Option HeapFault → ℕ → DeviceState → DeviceState → HeapFault → Type 0
-IsCauseOf refused dense before after (SectionTooLarge at len) = refused ≡ Some (SectionTooLarge at len)
-IsCauseOf refused dense before after (TooDense count) = dense < count
-IsCauseOf refused dense before after Read = DeviceFailed before after
-IsCauseOf refused dense before after Memory = Unit {0}
+abbrev pub IsHeapCauseOf : Option HeapFault → ℕ → DeviceState → DeviceState → HeapFault → Type 0
+IsHeapCauseOf refused dense before after (SectionTooLarge at len) = refused ≡ Some (SectionTooLarge at len)
+IsHeapCauseOf refused dense before after (TooDense count) = dense < count
+IsHeapCauseOf refused dense before after Read = DeviceFailed before after
+IsHeapCauseOf refused dense before after Memory = Unit {0}
 
 -- what each call does that loads the heap with these bodies
 abbrev pub LoadsHeap : {D T : Type 0} → (D → DeviceState) → List Section → Numbers → D → D → Result T HeapFault → Type 0
 LoadsHeap state bodies limits before after result =
-    let refusal = bodies_fault limits.section bodies in Loads state (bodies_length bodies) refusal (IsCauseOf refusal limits.dense) before after result
+    let refusal = bodies_fault limits.section bodies in Loads state (bodies_length bodies) refusal (IsHeapCauseOf refusal limits.dense) before after result

@@ -15,31 +15,31 @@ pub use Rattle.cell_records.specs.Numbers.{number}
 -- what an element leads to: nothing, since it is no reference;
 -- the cell with a number; or an address that no cell has
 pub data Target : Type 0 where
-  Plain : Target
+  Imm : Target
   At : ℕ → Target
-  Missing : ℕ → Target
+  Gone : ℕ → Target
 
 -- where a reference to an address leads, from the number of the cell with that address, if the map has one
 abbrev pub target_at : ℕ → Option ℕ → Target
-target_at address None = Missing address
+target_at address None = Gone address
 target_at address (Some number) = At number
 
 -- where an element leads: a reference to a cell or to a missing address, any other element nowhere
 abbrev pub target : List Cell → Element → Target
 target cells (Ref address) = target_at address (number_at cells address)
-target cells element = Plain
+target cells element = Imm
 
 -- where a slot leads; the span in an `Imm` plays no part
 abbrev pub slot_target : Slot → Target
-slot_target (slot.Imm span) = Plain
+slot_target (slot.Imm span) = Imm
 slot_target (slot.Cell ix) = At (number ix)
-slot_target (slot.Gone address) = Missing address
+slot_target (slot.Gone address) = Gone address
 
 -- where an element leads, as it is lent
 abbrev pub kid_target : Kid → Target
-kid_target (kid.Imm e) = Plain
+kid_target (kid.Imm e) = Imm
 kid_target (kid.Cell ix) = At (number ix)
-kid_target (kid.Gone address) = Missing address
+kid_target (kid.Gone address) = Gone address
 
 -- an immediate is kept as it is
 abbrev pub KeepsElement : Kid → Element → Type 0

@@ -6,7 +6,7 @@ ghost use Rattle.heap_cells.specs.Cells.{kind_of};
 ghost use Rattle.heap_cells.specs.HeapMap.{IsBounded, address_at, form_at, elements_at, IsSpelled};
 ghost use Rattle.dump_sections.specs.Index.{IsBuiltOver, sections_in};
 ghost use Rattle.heap_cells.specs.declared.faults.HeapFault.{HeapFault};
-ghost use Rattle.heap_cells.specs.Loading.{heap_section, literals_section, two_bodies, heap_bodies, bodies_fault, IsAnswerFor, IsHeapOf, LoadsHeap};
+ghost use Rattle.heap_cells.specs.Loading.{heap_section, literals_section, two_bodies, heap_bodies, bodies_fault, IsHeapAnswerFor, IsHeapOf, LoadsHeap};
 ghost use Rattle.heap_cells.specs.Inner.Faults.{IsOfTheTexts};
 ghost use Rattle.dump_sections.specs.Bodies.{section_in};
 ghost use Rattle.heap_cells.specs.Targets.{number, target, slot_target, kid_target, KeepsElement, IsSeatOf, IsWithin};
@@ -36,7 +36,6 @@ pub struct Heap {
 }
 
 impl Model for Heap {
-    ghost use Rattle.std.specs.Prelude.{length};
     ghost use Rattle.heap_cells.specs.HeapMap.{HeapMap};
     ghost use Rattle.heap_cells.specs.Inner.Texts.{text_of, seam_of};
     ghost use Rattle.heap_cells.specs.Inner.Records.{cells_in, IsArena};
@@ -47,8 +46,6 @@ impl Model for Heap {
       cells = cells_in (text_of h.texts) h.texts.enc h.arena.cells.items;
       own = h.own;
       enc = h.texts.enc;
-      heap_size = length h.texts.heap.items;
-      literals_size = length h.texts.literals.items;
     } };
 
     ghost invariant = { λ h. IsArena (text_of h.texts) (seam_of h.texts) h.texts.enc h.arena.cells.items h.arena.slots.items h.order.items h.own };
@@ -119,7 +116,7 @@ impl Heap {
         requires heap { length texts.heap.items ≤ 536870912 }
         requires literals { length texts.literals.items ≤ 536870912 }
         requires limit { dense ≤ 100000000 }
-        ensures answer { IsAnswerFor texts.enc texts.heap.items texts.literals.items dense result }
+        ensures answer { IsHeapAnswerFor texts.enc texts.heap.items texts.literals.items dense result }
         ensures enc { IfOk result (λ heap. heap.enc ≡ texts.enc) }
         ensures fault { IfErr result IsOfTheTexts }
     {

@@ -12,7 +12,7 @@ use Rattle.term_forms.specs.Forms.{HeapForm, HeapBin, SubBin}
 use Rattle.cell_records.specs.declared.cells.Kind.TheVariants as kind
 use Rattle.heap_cells.specs.Cells.{Cell, elements_in, kind_of}
 use Rattle.heap_cells.specs.HeapMap.{form_at, number_at}
-use Rattle.heap_cells.specs.Targets.{Target, Plain, At, Missing, target, target_at}
+use Rattle.heap_cells.specs.Targets.{Target, Imm, At, Gone, target, target_at}
 use Rattle.heap_reach.specs.Reached.{IsBinAt, Leads, targets_at}
 use Rattle.heap_reach.specs.Rounds.{is_at, is_bin, is_bin_at, is_part_of, leads_to}
 
@@ -31,9 +31,9 @@ any-place test (x ∷ xs) is =
     ]
 
 pub is_at-true : (n : ℕ) (t : Target) → is_at n t ≡ true → t ≡ At n
-is_at-true n Plain is = absurd (false≢true is)
+is_at-true n Imm is = absurd (false≢true is)
 is_at-true n (At m) is = ap At (eqb-true m n is)
-is_at-true n (Missing address) is = absurd (false≢true is)
+is_at-true n (Gone address) is = absurd (false≢true is)
 
 pub at-is_at : (n : ℕ) (t : Target) → t ≡ At n → is_at n t ≡ true
 at-is_at n t is = ap (is_at n) is ∙ eq-eqb n n refl

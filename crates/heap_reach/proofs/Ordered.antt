@@ -3,7 +3,7 @@ use Rattle.std.proofs.Common.{◌≡◌, ℕ, zero, suc, ◌<◌, ◌==◌, ◌�
 use Rattle.std.specs.List.Sorted.{IsStrictlyIncreasing}
 use Rattle.std.proofs.lemmas.Bool.{cases_order, eqb-true, ltb-false, ltb-true, eq-eqb}
 use Rattle.std.proofs.lemmas.List.Kept.{AllPairs-from_increasing}
-use Rattle.heap_reach.specs.Unreached.{ascending, placed}
+use Rattle.heap_reach.specs.Unreached.{ascending, inserted}
 use Rattle.heap_reach.proofs.Missed.{no-Contains}
 
 -- ---- what a list has
@@ -99,22 +99,22 @@ above x y other past =
       | inr (inr more) ↦ more
     ]
 
-placed-has : (x : ℕ) (ys : List ℕ) (a : ℕ) → Contains (placed x ys) a → (x ≡ a) ⊎ Contains ys a
+placed-has : (x : ℕ) (ys : List ℕ) (a : ℕ) → Contains (inserted x ys) a → (x ≡ a) ⊎ Contains ys a
 placed-has x [] a has = has-parts x [] a has
-placed-has x (y ∷ ys) a has = chosen-has (x == y) (nat_lt x y) x y ys (placed x ys) a (placed-has x ys a) has
+placed-has x (y ∷ ys) a has = chosen-has (x == y) (nat_lt x y) x y ys (inserted x ys) a (placed-has x ys a) has
 
-placed-kept : (x : ℕ) (ys : List ℕ) (a : ℕ) → Contains ys a → Contains (placed x ys) a
+placed-kept : (x : ℕ) (ys : List ℕ) (a : ℕ) → Contains ys a → Contains (inserted x ys) a
 placed-kept x [] a has = absurd (no-Contains a has)
-placed-kept x (y ∷ ys) a has = chosen-kept (x == y) (nat_lt x y) x y ys (placed x ys) a (placed-kept x ys a) has
+placed-kept x (y ∷ ys) a has = chosen-kept (x == y) (nat_lt x y) x y ys (inserted x ys) a (placed-kept x ys a) has
 
-placed-new : (x : ℕ) (ys : List ℕ) → Contains (placed x ys) x
+placed-new : (x : ℕ) (ys : List ℕ) → Contains (inserted x ys) x
 placed-new x [] = head-has x []
-placed-new x (y ∷ ys) = chosen-new (x == y) (nat_lt x y) x y ys (placed x ys) (eqb-true x y) (placed-new x ys)
+placed-new x (y ∷ ys) = chosen-new (x == y) (nat_lt x y) x y ys (inserted x ys) (eqb-true x y) (placed-new x ys)
 
-placed-rises : (x : ℕ) (ys : List ℕ) → Rises ys → Rises (placed x ys)
+placed-rises : (x : ℕ) (ys : List ℕ) → Rises ys → Rises (inserted x ys)
 placed-rises x [] up = (λ a has. absurd (no-Contains a has), tt)
 placed-rises x (y ∷ ys) up =
-    chosen-rises (x == y) (nat_lt x y) x y ys (placed x ys) (ltb-true x y) (above x y) up.0 up.1 (placed-rises x ys up.1) (placed-has x ys)
+    chosen-rises (x == y) (nat_lt x y) x y ys (inserted x ys) (ltb-true x y) (above x y) up.0 up.1 (placed-rises x ys up.1) (placed-has x ys)
 
 -- ---- a list in order
 
@@ -131,7 +131,7 @@ ascending-kept : (xs : List ℕ) (a : ℕ) → Contains xs a → Contains (ascen
 ascending-kept [] a has = absurd (no-Contains a has)
 ascending-kept (x ∷ xs) a has =
     elim (has-parts x xs a has) [
-      | inl same ↦ subst (λ z. Contains (placed x (ascending xs)) z) same (placed-new x (ascending xs))
+      | inl same ↦ subst (λ z. Contains (inserted x (ascending xs)) z) same (placed-new x (ascending xs))
       | inr later ↦ placed-kept x (ascending xs) a (ascending-kept xs a later)
     ]
 

@@ -22,14 +22,14 @@ pub record IsMissed (cells : List Cell) (set : ℕ → Bool) (count address : �
   pub here : address_at cells number ≡ Some address
 
 -- a number inserted among numbers that rise
-abbrev pub placed : ℕ → List ℕ → List ℕ
-placed x [] = x ∷ []
-placed x (y ∷ ys) = if x == y then y ∷ ys else (if nat_lt x y then x ∷ y ∷ ys else y ∷ placed x ys)
+abbrev pub inserted : ℕ → List ℕ → List ℕ
+inserted x [] = x ∷ []
+inserted x (y ∷ ys) = if x == y then y ∷ ys else (if nat_lt x y then x ∷ y ∷ ys else y ∷ inserted x ys)
 
 -- the numbers of a list, ascending and each once
 abbrev pub ascending : List ℕ → List ℕ
 ascending [] = []
-ascending (x ∷ xs) = placed x (ascending xs)
+ascending (x ∷ xs) = inserted x (ascending xs)
 
 -- the addresses of a heap's own cells that aren't in the set, ascending
 abbrev pub unreached_of : HeapMap → (ℕ → Bool) → List ℕ

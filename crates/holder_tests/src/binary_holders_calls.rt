@@ -1,5 +1,5 @@
 ghost use Rattle.dump_sections.specs.Index.{IsBuiltOver};
-ghost use Rattle.process_table.specs.Processes.{IsOver};
+ghost use Rattle.process_table.specs.Processes.{AreProcessesOver};
 
 use binary_holders::{BinaryUse, Holding, binary_use, holders};
 use dump_io::{Dumps, Limits, MemDumps};
@@ -105,7 +105,7 @@ fn draw_use<D: Dumps>(
     procs: &Procs,
 ) -> Result<Vec<u8>, Fail>
     requires over { IsBuiltOver (D.state dumps.old).now index.now }
-    requires procs { IsOver index.now procs.now }
+    requires procs { AreProcessesOver index.now procs.now }
 {
     let found = binary_use(alloc, dumps, index, procs)?;
     Ok(drawn(alloc, &found)?)
@@ -119,7 +119,7 @@ fn draw_holders<D: Dumps>(
     number: u64,
 ) -> Result<Vec<u8>, Fail>
     requires over { IsBuiltOver (D.state dumps.old).now index.now }
-    requires procs { IsOver index.now procs.now }
+    requires procs { AreProcessesOver index.now procs.now }
 {
     let held = holders(alloc, dumps, index, procs, number)?;
     let mut out = Vec::new(alloc);

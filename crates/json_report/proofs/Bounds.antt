@@ -21,13 +21,13 @@ use Rattle.link_entries.specs.Texts.{before, behind, inside, is_local}
 use Rattle.link_graph.specs.Graph.{links_of}
 use Rattle.dump_sections.specs.Sections.{Section, section, sections}
 use Rattle.dump_sections.specs.Tiling.{Tile}
-use Rattle.process_table.specs.Records.{Placed, first_of_each, has_same_pid, is_process, placed, process_sections, records}
+use Rattle.process_table.specs.Records.{PlacedSection, first_of_each, has_same_pid, is_process, placed_sections, process_sections, records}
 use Rattle.dump_audit.specs.Laws.{all-numbered}
 use Rattle.dump_io.specs.Numbers.{dec_number}
 use Rattle.dump_sections.specs.Bodies.{section_at, body_of}
 use Rattle.process_table.specs.Processes.{Process, process_at, process_in, process_table}
 use Rattle.link_entries.specs.Kinds.{Kind, Link, To, From}
-use Rattle.dump_audit.specs.Findings.{Audit, count_findings, entry_finding, entry_findings, gone, is_dumped, mail_of, one_sided, partner_finding, place_of, process_findings, queue_findings, section_offset, stated_findings, audit_of, findings}
+use Rattle.dump_audit.specs.Findings.{Audit, count_findings, entry_finding, entry_findings, gone, is_dumped, mail_of, one_sided, partner_finding, process_place, process_findings, queue_findings, section_offset, stated_findings, audit_of, findings}
 use Rattle.dump_audit.specs.declared.finding.Finding.{Finding}
 use Rattle.dump_audit.specs.declared.finding.Finding.TheVariants.{UnreadLinks, UnreadQueue, Mailbox, QueueCount}
 use Rattle.dump_sections.specs.Index.{index_of}
@@ -271,23 +271,23 @@ total-filter : {X : Type 0} (w : X → ℕ) (test : X → Bool) (xs : List X) �
 total-filter w test [] = omega arith
 total-filter w test (x ∷ xs) = total-kept w x xs (filter test xs) (test x) (total-filter w test xs)
 
-total-firsts : (w : Placed → ℕ) (ps : List Placed) → total w (first_of_each ps) ≤ total w ps
+total-firsts : (w : PlacedSection → ℕ) (ps : List PlacedSection) → total w (first_of_each ps) ≤ total w ps
 total-firsts w [] = omega arith
 total-firsts w (p ∷ ps) = omega (arith, total-filter w (λ other. not (has_same_pid p other)) (first_of_each ps), total-firsts w ps)
 
 -- the records of the process table have no more than all sections
 pub total-records : (w : Section → ℕ) (ss : List Section) → total (λ p. w p.1) (records ss) ≤ total w ss
 total-records w ss =
-    omega (arith, total-firsts (λ p. w p.1) (process_sections (placed ss)), total-filter (λ p. w p.1) (λ p. is_process p.1) (placed ss), total-numbered w 0 ss)
+    omega (arith, total-firsts (λ p. w p.1) (process_sections (placed_sections ss)), total-filter (λ p. w p.1) (λ p. is_process p.1) (placed_sections ss), total-numbered w 0 ss)
 
-all-firsts : (P : Placed → Type 0) (ps : List Placed) → All P ps → All P (first_of_each ps)
+all-firsts : (P : PlacedSection → Type 0) (ps : List PlacedSection) → All P ps → All P (first_of_each ps)
 all-firsts P [] all = All-nil P
 all-firsts P (p ∷ ps) all =
     All-cons P p _ (All-head P p ps all) (All-filter _ P (first_of_each ps) (all-firsts P ps (All-tail P p ps all)))
 
 pub all-records : (P : Section → Type 0) (ss : List Section) → All P ss → All (λ p. P p.1) (records ss)
 all-records P ss all =
-    all-firsts (λ p. P p.1) (process_sections (placed ss)) (All-filter (λ p. is_process p.1) (λ p. P p.1) (placed ss) (all-numbered P 0 ss all))
+    all-firsts (λ p. P p.1) (process_sections (placed_sections ss)) (All-filter (λ p. is_process p.1) (λ p. P p.1) (placed_sections ss) (all-numbered P 0 ss all))
 
 -- ---- the numbers of what an audit finds have 64 bits, and what it finds is no more than the dump has bytes
 
@@ -391,9 +391,9 @@ module _ (a : Audit) (begins : (place : ℕ) → (section_at a.index place).at <
       some-if _ _ (one_sided-small kind p q entry at (section_offset a.index partner) low (begins partner.section))
 
   entry-small : (p : ℕ) (process : Process) (entry at : ℕ) (kind : Kind) → at < 2 ^ 64 → IfSome (entry_finding a p process entry at kind) Has64Bits
-  entry-small p process entry at (Link pid) low = partner-small p process entry at (Link pid) pid (place_of a.processes pid) low
-  entry-small p process entry at (To pid reference) low = partner-small p process entry at (To pid reference) pid (place_of a.processes pid) low
-  entry-small p process entry at (From pid reference) low = partner-small p process entry at (From pid reference) pid (place_of a.processes pid) low
+  entry-small p process entry at (Link pid) low = partner-small p process entry at (Link pid) pid (process_place a.processes pid) low
+  entry-small p process entry at (To pid reference) low = partner-small p process entry at (To pid reference) pid (process_place a.processes pid) low
+  entry-small p process entry at (From pid reference) low = partner-small p process entry at (From pid reference) pid (process_place a.processes pid) low
   entry-small p process entry at kind low = tt
 
   entries-small : (p : ℕ) (process : Process) (entries : List LinkEntry) → All (λ e. e.at < 2 ^ 64) entries → AreSmall (length entries) (entry_findings a p process entries)
@@ -439,7 +439,7 @@ module _ (a : Audit) (begins : (place : ℕ) → (section_at a.index place).at <
       (both _ _ _ _ (links-small p base size process process.links (is_local process.pid) end links) (queue-small p base size process process.queue end queue)))
       (none size)
 
-  pub all-small : (weight : Placed → ℕ) (made : Placed → Process) (n : ℕ) (ps : List Placed)
+  pub all-small : (weight : PlacedSection → ℕ) (made : PlacedSection → Process) (n : ℕ) (ps : List PlacedSection)
       → All (λ p. (i : ℕ) → AreSmall (weight p) (process_findings a (i, made p))) ps
       → AreSmall (total weight ps) (flat_map (process_findings a) (enumerate_from n (map made ps)))
   all-small weight made n [] all = none 0

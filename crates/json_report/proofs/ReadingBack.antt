@@ -15,7 +15,7 @@ use Rattle.serde_json.specs.Read.{read, of_json, of_items, of_members, max_depth
 use Rattle.serde_json.specs.Written.{outline, items_outline, members_outline, compact_text, has_float, items_have_float}
 use Rattle.serde_json.proofs.Numbers.{number_of-decimal}
 use Rattle.serde_json.proofs.Texts.{print-outline}
-use Rattle.dump_sections.specs.Index.{Contents, state_of}
+use Rattle.dump_sections.specs.Index.{Contents, dump_state}
 use Rattle.process_table.specs.Processes.{Process}
 use Rattle.dump_audit.specs.declared.finding.Finding.{Finding}
 use Rattle.dump_audit.specs.declared.finding.Finding.TheVariants.{LinkOneSided, MonitorTo, MonitorFrom, Mailbox, UnreadLinks, UnreadQueue, LinkGone, ToGone, FromGone, QueueCount}
@@ -177,7 +177,7 @@ plain-tree ps found state few bits =
 
 pub reads-back : (index : Contents) (ps : List Process) (found : List Finding) → length found < 2 ^ 64 → All Has64Bits found → IsReadBack (finding_tree index ps found)
 reads-back index ps found few bits =
-    read-back (finding_tree index ps found) (plain-deeper 3 max_depth _ (omega arith) (plain-tree ps found (state_text index (state_of index.headers)) few bits))
+    read-back (finding_tree index ps found) (plain-deeper 3 max_depth _ (omega arith) (plain-tree ps found (state_text index (dump_state index.headers)) few bits))
 
 -- what the text of a tree is read as
 pub read-as : (text : List ℕ) (tree d : Data) → text ≡ compact_text tree → IsReadBack tree → read text ≡ Some d → d ≡ tree

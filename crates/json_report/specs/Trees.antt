@@ -7,7 +7,7 @@ use Rattle.serde_json.specs.Written.{compact_text}
 use Rattle.dump_sections.specs.declared.index.State.{State}
 use Rattle.dump_sections.specs.declared.index.State.TheVariants.{Whole, TruncatedIn}
 use Rattle.dump_sections.specs.Bodies.{section_at}
-use Rattle.dump_sections.specs.Index.{Contents, state_of}
+use Rattle.dump_sections.specs.Index.{Contents, dump_state}
 use Rattle.process_table.specs.Processes.{Process}
 use Rattle.dump_audit.specs.FindingNames.{pid_at, partner_at, reference_at}
 use Rattle.dump_audit.specs.Findings.{Audit, findings}
@@ -83,7 +83,7 @@ tree_object count objects state = object (members (
 -- the tree of these findings, in their order, on a dump with these sections and processes
 abbrev pub finding_tree : Contents → List Process → List Finding → Data
 finding_tree index processes found =
-    tree_object (length found) (items_of (map (finding_object processes) found)) (state_text index (state_of index.headers))
+    tree_object (length found) (items_of (map (finding_object processes) found)) (state_text index (dump_state index.headers))
 
 -- the tree of an audit
 abbrev pub audit_tree : Audit → Data

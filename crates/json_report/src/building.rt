@@ -3,7 +3,7 @@ ghost use Rattle.std.specs.Prelude.{◌≡◌, Some, false, string_bytes, All, I
 ghost use Rattle.serde_json.specs.Read.{read};
 ghost use Rattle.serde_json.specs.View.{view};
 ghost use Rattle.serde_json.specs.Written.{compact_text, has_float};
-ghost use Rattle.dump_sections.specs.Index.{state_of};
+ghost use Rattle.dump_sections.specs.Index.{dump_state};
 ghost use Rattle.link_graph.specs.Graph.{graph_of};
 ghost use Rattle.dump_audit.specs.Fitting.{Fits};
 ghost use Rattle.json_report.specs.Inner.Parts.{tree_of};
@@ -21,7 +21,7 @@ use std::alloc::{AllocError, Global};
 
 // The text on the state of the dump.
 fn state_text(alloc: Global, index: &Index) -> Result<String, AllocError>
-    ensures { IfOk result (λ s. string_bytes s ≡ state_text index.now (state_of index.now.headers)) }
+    ensures { IfOk result (λ s. string_bytes s ≡ state_text index.now (dump_state index.now.headers)) }
 {
     match index.state() {
         State::Whole => String::from_str(alloc, "whole"),

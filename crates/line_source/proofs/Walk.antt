@@ -6,7 +6,7 @@ use Rattle.std.proofs.lemmas.Bool.{cond-true, cond-false}
 use Rattle.std.proofs.lemmas.List.{drop_at, length_push}
 use Rattle.dump_io.specs.Lines.{lf, cr, equals_sign, lines_after, raw_lines, Line, lines_from, text_of, is_header, Header, header_of, headers}
 use Rattle.line_source.specs.Laws.{text_of-open}
-use Rattle.line_source.specs.Streams.{has_lf, begins_with_equals, kind_of, LastLine, ended, plain, header, last_line, ended_headers, open_headers, too_long, is_too_long, length_before_lf}
+use Rattle.line_source.specs.Streams.{has_lf, begins_with_equals, line_kind, LastLine, ended, plain, header, last_line, ended_headers, open_headers, too_long, is_too_long, length_before_lf}
 
 -- what is known of the last line after one more byte
 abbrev pub step : LastLine → ℕ → LastLine
@@ -107,7 +107,7 @@ pub raw_lines-ends : (t : List ℕ) (b : ℕ) (s : List ℕ) → IsOpen t → (b
 raw_lines-ends t b s is e = is.before (b ∷ s) ∙ ap (lines_behind t) (raw_lines-lf b s e) ∙ lines_behind-lf t b (raw_lines s)
 
 -- ---- the last line, where it lacks its LF
-last-none : (t : List ℕ) → has_lf t ≡ false → fold (λ _ raw. kind_of raw) ended (lines_behind t []) ≡ open_kind t
+last-none : (t : List ℕ) → has_lf t ≡ false → fold (λ _ raw. line_kind raw) ended (lines_behind t []) ≡ open_kind t
 last-none t e = grind arith
 
 -- the headers whose lines have their LF
@@ -272,7 +272,7 @@ split-ended n t b rest e later =
 
 -- ---- what the lines of open bytes, and of those behind them, come to byte by byte
 pub record AreWalked (n : ℕ) (t s : List ℕ) (ls : List Line) : Type 0 where
-  pub last : fold (λ _ raw. kind_of raw) ended (raw_lines (t ++ s)) ≡ last_by (open_kind t) s
+  pub last : fold (λ _ raw. line_kind raw) ended (raw_lines (t ++ s)) ≡ last_by (open_kind t) s
   pub heard : ended_of ls ≡ heard_by (n + length t) (open_kind t) s
   pub long : (limit : ℕ) → long_of limit ls ≡ long_open limit n t ++ long_by limit (n + length t) (open_kind t) s
   pub left : open_of ls ≡ open_by (n + length t + length s) (last_by (open_kind t) s)

@@ -47,9 +47,9 @@ pub data LastLine : Type 0 where
   header : List ℕ → LastLine
 
 -- which of these a raw line is
-abbrev pub kind_of : List ℕ → LastLine
-kind_of raw = if has_lf raw then ended else (if begins_with_equals raw then header raw else plain)
+abbrev pub line_kind : List ℕ → LastLine
+line_kind raw = if has_lf raw then ended else (if begins_with_equals raw then header raw else plain)
 
 -- the last raw line of the bytes
 abbrev pub last_line : List ℕ → LastLine
-last_line bytes = fold (λ _ raw. kind_of raw) ended (raw_lines bytes)
+last_line bytes = fold (λ _ raw. line_kind raw) ended (raw_lines bytes)

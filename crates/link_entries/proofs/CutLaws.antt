@@ -3,7 +3,7 @@ use Rattle.std.proofs.Common.{◌≡◌, ℕ, ◌<◌, ◌==◌, Bool, true, fal
 use Rattle.std.specs.Prelude.{All}
 use Rattle.std.proofs.lemmas.Bool.{eqb-true, and_parts, false_from_ne_true}
 use Rattle.std.proofs.lemmas.List.Elements.{All-nil, All-cons, All-head, All-tail}
-use Rattle.link_entries.specs.Entries.{gap, is_gap, led_by, cut, HasNoGap, joined, AreCut}
+use Rattle.link_entries.specs.Entries.{gap, is_gap, led_by, cut, HasNoGap, joined, AreCutParts}
 
 -- ---- what is cut keeps the rule
 some-led_by : (c : ℕ) (parts : List (List ℕ)) → 0 < length (led_by c parts)
@@ -55,7 +55,7 @@ whole-cut [] = All-cons HasNoGap [] [] no_gap-nil (All-nil HasNoGap)
 whole-cut (c ∷ []) = All-cons HasNoGap (c ∷ []) [] (no_gap-one c) (All-nil HasNoGap)
 whole-cut (c ∷ d ∷ text) = whole-pair c d text (is_gap c d) refl (whole-cut text) (whole-cut (d ∷ text))
 
-pub AreCut-cut : (text : List ℕ) → AreCut text (cut text)
+pub AreCut-cut : (text : List ℕ) → AreCutParts text (cut text)
 AreCut-cut text = record { some = some-cut text; together = joined-cut text; whole = whole-cut text }
 
 -- ---- no other parts do
@@ -93,5 +93,5 @@ cut-joined (part ∷ []) h whole = cut-one part (All-head HasNoGap part [] whole
 cut-joined (part ∷ next ∷ parts) h whole =
     cc (cut-behind part (joined (next ∷ parts)) (All-head HasNoGap part (next ∷ parts) whole), cut-joined (next ∷ parts) (omega arith) (All-tail HasNoGap part (next ∷ parts) whole))
 
-pub AreCut-only : (text : List ℕ) (parts : List (List ℕ)) → AreCut text parts → parts ≡ cut text
+pub AreCut-only : (text : List ℕ) (parts : List (List ℕ)) → AreCutParts text parts → parts ≡ cut text
 AreCut-only text parts is = sym (cut-joined parts is.some is.whole) ∙ ap cut is.together

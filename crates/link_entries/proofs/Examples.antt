@@ -3,7 +3,7 @@ use Rattle.std.proofs.Common.{◌≡◌, true, false, [], ◌∷◌, None, Some,
 use Rattle.std.specs.Prelude.{codes}
 use Rattle.link_entries.specs.Texts.{behind, before, inside, at_first_dot, is_pair, is_triple, is_pid, is_local, is_port, is_reference, is_braced}
 use Rattle.link_entries.specs.Kinds.{Link, LinkPort, To, ToPort, ToName, From, FromPort, Other}
-use Rattle.link_entries.specs.Reading.{at_last_comma, parties, to_kind, from_kind, monitor_kind, kind_of}
+use Rattle.link_entries.specs.Reading.{at_last_comma, parties, to_kind, from_kind, monitor_kind, entry_kind}
 use Rattle.link_entries.specs.Entries.{cut, list_parts}
 
 -- a pid has three numbers
@@ -30,15 +30,15 @@ unfolding behind before inside is_reference
 references = refl
 
 -- one entry of each kind
-kinds : map kind_of (codes "<0.7.0>" ∷ codes "#Port<0.3>" ∷ codes "{to,<0.1.0>,#Ref<0.9>}" ∷ codes "{to,#Port<0.3>,#Ref<0.9>}" ∷ codes "{to,{q,n@h},#Ref<0.9>}" ∷ codes "{from,<0.1.0>,#Ref<0.9>}" ∷ codes "{from,#Port<0.3>,#Ref<0.9>}" ∷ [])
+kinds : map entry_kind (codes "<0.7.0>" ∷ codes "#Port<0.3>" ∷ codes "{to,<0.1.0>,#Ref<0.9>}" ∷ codes "{to,#Port<0.3>,#Ref<0.9>}" ∷ codes "{to,{q,n@h},#Ref<0.9>}" ∷ codes "{from,<0.1.0>,#Ref<0.9>}" ∷ codes "{from,#Port<0.3>,#Ref<0.9>}" ∷ [])
     ≡ Link (codes "<0.7.0>") ∷ LinkPort ∷ To (codes "<0.1.0>") (codes "#Ref<0.9>") ∷ ToPort ∷ ToName (codes "#Ref<0.9>") ∷ From (codes "<0.1.0>") (codes "#Ref<0.9>") ∷ FromPort ∷ []
-unfolding behind before inside at_first_dot is_pair is_triple is_pid is_port is_reference is_braced at_last_comma parties to_kind from_kind monitor_kind kind_of
+unfolding behind before inside at_first_dot is_pair is_triple is_pid is_port is_reference is_braced at_last_comma parties to_kind from_kind monitor_kind entry_kind
 kinds = refl
 
 -- a name may hold braces and commas, and nothing that lacks a part is a monitor
-other_kinds : map kind_of (codes "{to,{},{,},#Ref<0.9>}" ∷ codes "{to,{q},#Ref<0.9>" ∷ codes "{to,q,#Ref<0.9>}" ∷ codes "{to,<0.1.0>}" ∷ codes "{from,{q},#Ref<0.9>}" ∷ codes "{to,<0.1.0>,<0.2.0>}" ∷ codes "x" ∷ [] ∷ [])
+other_kinds : map entry_kind (codes "{to,{},{,},#Ref<0.9>}" ∷ codes "{to,{q},#Ref<0.9>" ∷ codes "{to,q,#Ref<0.9>}" ∷ codes "{to,<0.1.0>}" ∷ codes "{from,{q},#Ref<0.9>}" ∷ codes "{to,<0.1.0>,<0.2.0>}" ∷ codes "x" ∷ [] ∷ [])
     ≡ ToName (codes "#Ref<0.9>") ∷ Other ∷ Other ∷ Other ∷ Other ∷ Other ∷ Other ∷ Other ∷ []
-unfolding behind before inside at_first_dot is_pair is_triple is_pid is_port is_reference is_braced at_last_comma parties to_kind from_kind monitor_kind kind_of
+unfolding behind before inside at_first_dot is_pair is_triple is_pid is_port is_reference is_braced at_last_comma parties to_kind from_kind monitor_kind entry_kind
 other_kinds = refl
 
 -- a list is cut at each comma with a space behind it

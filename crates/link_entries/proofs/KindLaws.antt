@@ -8,7 +8,7 @@ use Rattle.std.proofs.lemmas.Bool.{false≢true, and_parts}
 use Rattle.std.proofs.lemmas.Grind.{common_steps}
 use Rattle.link_entries.specs.Texts.{behind, inside, is_dot, is_dotted, is_pid, is_port, is_reference, is_braced}
 use Rattle.link_entries.specs.Kinds.{Kind, Link, LinkPort, To, ToPort, ToName, From, FromPort, Other, to_opening, from_opening, IsMonitor, Spells, IsKind}
-use Rattle.link_entries.specs.Reading.{is_comma, at_last_comma, parties, to_kind, from_kind, monitor_kind, kind_of}
+use Rattle.link_entries.specs.Reading.{is_comma, at_last_comma, parties, to_kind, from_kind, monitor_kind, entry_kind}
 use Rattle.link_entries.proofs.Fronts.{inside_around, inside_parts}
 use Rattle.link_entries.proofs.Commas.{at_last_comma-more, at_last_comma-parts, at_last_comma-from}
 use Rattle.link_entries.proofs.Opening.{kind_opened, monitor_in, brace_is_no_pid, brace_is_no_port}
@@ -64,34 +64,34 @@ unfolding inside behind
 from_not_to rest = refl
 
 -- the kind of a text that begins with a brace
-opened : (text : List ℕ) → kind_of (123 ∷ text) ≡ monitor_in (123 ∷ text)
+opened : (text : List ℕ) → entry_kind (123 ∷ text) ≡ monitor_in (123 ∷ text)
 opened text = kind_opened (123 ∷ text) refl
 
 -- a monitor by what stands between its opening and its `}`
 regrouped : (opening partner reference : List ℕ) → opening ++ (partner ++ (codes "," ++ (reference ++ codes "}"))) ≡ opening ++ ((partner ++ 44 ∷ reference) ++ codes "}")
 regrouped opening partner reference = ap (λ t. opening ++ t) (sym (append_assoc partner (44 ∷ reference) (codes "}")))
 
-to_read : (is_partner : List ℕ → Bool) (text partner reference : List ℕ) → IsMonitor to_opening is_partner text partner reference → kind_of text ≡ to_kind (partner, reference)
+to_read : (is_partner : List ℕ → Bool) (text partner reference : List ℕ) → IsMonitor to_opening is_partner text partner reference → entry_kind text ≡ to_kind (partner, reference)
 unfolding monitor_kind
 to_read is_partner text partner reference is =
     let inner = partner ++ 44 ∷ reference in
     let spelled : text ≡ to_opening ++ (inner ++ codes "}") = is.spelled ∙ regrouped to_opening partner reference in
-    ap kind_of spelled ∙ opened (codes "to," ++ (inner ++ codes "}"))
+    ap entry_kind spelled ∙ opened (codes "to," ++ (inner ++ codes "}"))
     ∙ ap (λ o. monitor_kind o (inside from_opening (codes "}") (to_opening ++ (inner ++ codes "}")))) (inside_around to_opening (codes "}") inner)
     ∙ ap (λ (o : Option (List ℕ × List ℕ)). option_map_or to_kind o Other) (parties_from partner reference is.reference_is)
 
-from_read : (is_partner : List ℕ → Bool) (text partner reference : List ℕ) → IsMonitor from_opening is_partner text partner reference → kind_of text ≡ from_kind (partner, reference)
+from_read : (is_partner : List ℕ → Bool) (text partner reference : List ℕ) → IsMonitor from_opening is_partner text partner reference → entry_kind text ≡ from_kind (partner, reference)
 unfolding monitor_kind
 from_read is_partner text partner reference is =
     let inner = partner ++ 44 ∷ reference in
     let spelled : text ≡ from_opening ++ (inner ++ codes "}") = is.spelled ∙ regrouped from_opening partner reference in
-    ap kind_of spelled ∙ opened (codes "from," ++ (inner ++ codes "}"))
+    ap entry_kind spelled ∙ opened (codes "from," ++ (inner ++ codes "}"))
     ∙ ap (λ o. monitor_kind o (inside from_opening (codes "}") (from_opening ++ (inner ++ codes "}")))) (from_not_to (inner ++ codes "}"))
     ∙ ap (monitor_kind None) (inside_around from_opening (codes "}") inner)
     ∙ ap (λ (o : Option (List ℕ × List ℕ)). option_map_or from_kind o Other) (parties_from partner reference is.reference_is)
 
-pub kind_full : (text : List ℕ) (kind : Kind) → Spells text kind → kind_of text ≡ kind
-unfolding kind_of to_kind from_kind
+pub kind_full : (text : List ℕ) (kind : Kind) → Spells text kind → entry_kind text ≡ kind
+unfolding entry_kind to_kind from_kind
 kind_full text (Link pid) h = ap (λ b. if b then Link text else (if is_port text then LinkPort else monitor_kind (inside to_opening (codes "}") text) (inside from_opening (codes "}") text))) (ap is_pid h.0 ∙ h.1) ∙ ap Link h.0
 kind_full text LinkPort h = grind (arith, port_not_pid)
 kind_full text (To pid reference) h =
@@ -144,18 +144,18 @@ monitor_sound text None (Some from) e d = of (parties from) refl
     of (Some found) p = from_sound text from found (inside_parts from_opening (codes "}") text from d) (parties_are from found p)
 monitor_sound text None None e d = inl refl
 
-pub kind_sound : (text : List ℕ) → IsSound text (kind_of text)
-unfolding kind_of
+pub kind_sound : (text : List ℕ) → IsSound text (entry_kind text)
+unfolding entry_kind
 kind_sound text = grind (arith, monitor_sound)
 
-spelled_other : (text : List ℕ) (kind : Kind) → kind_of text ≡ Other → Spells text kind → ⊥
+spelled_other : (text : List ℕ) (kind : Kind) → entry_kind text ≡ Other → Spells text kind → ⊥
 spelled_other text kind h spells = let same : kind ≡ Other = sym (kind_full text kind spells) ∙ h in subst (Spells text) same spells
 
-spells_read : (text : List ℕ) (kind : Kind) → kind_of text ≡ kind → (kind ≡ Other → ⊥) → Spells text kind
+spells_read : (text : List ℕ) (kind : Kind) → entry_kind text ≡ kind → (kind ≡ Other → ⊥) → Spells text kind
 spells_read text kind h other = elim (subst (IsSound text) h (kind_sound text)) [ inl e ↦ absurd (other e) | inr spells ↦ spells ]
 
-pub is_kind : (text : List ℕ) (kind : Kind) → (kind_of text ≡ kind) ↔ IsKind text kind
-is_kind text Other = (λ h kind spells. spelled_other text kind h spells, λ none. elim (kind_sound text) [ inl e ↦ e | inr spells ↦ absurd (none (kind_of text) spells) ])
+pub is_kind : (text : List ℕ) (kind : Kind) → (entry_kind text ≡ kind) ↔ IsKind text kind
+is_kind text Other = (λ h kind spells. spelled_other text kind h spells, λ none. elim (kind_sound text) [ inl e ↦ e | inr spells ↦ absurd (none (entry_kind text) spells) ])
 is_kind text (Link pid) = (λ h. spells_read text (Link pid) h (λ e. cc), kind_full text (Link pid))
 is_kind text LinkPort = (λ h. spells_read text LinkPort h (λ e. cc), kind_full text LinkPort)
 is_kind text (To pid reference) = (λ h. spells_read text (To pid reference) h (λ e. cc), kind_full text (To pid reference))

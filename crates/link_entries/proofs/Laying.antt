@@ -4,7 +4,7 @@ use Rattle.std.specs.Prelude.{codes}
 use Rattle.std.specs.List.{between}
 use Rattle.std.proofs.lemmas.List.{drop_at, take-append-le, take_all}
 use Rattle.link_entries.specs.Kinds.{Kind, Link, LinkPort, To, ToPort, ToName, From, FromPort, Other, Spells, to_opening, from_opening}
-use Rattle.link_entries.specs.Reading.{kind_of}
+use Rattle.link_entries.specs.Reading.{entry_kind}
 use Rattle.link_entries.specs.Inner.Layouts.{reference_in, partner_in, layout_of, IsLaidOut}
 use Rattle.link_entries.proofs.KindLaws.{is_kind}
 
@@ -33,7 +33,7 @@ module _ (opening partner reference : List ℕ) where
       ∙ middle front reference (codes "}") (length whole - 1 - length reference) (length whole - 1) (omega (arith, size, count)) (omega (arith, size, count))
 
 -- each kind's texts lie as its layout tells
-lies : (text : List ℕ) (kind : Kind) → kind_of text ≡ kind → IsLaidOut (layout_of kind) text
+lies : (text : List ℕ) (kind : Kind) → entry_kind text ≡ kind → IsLaidOut (layout_of kind) text
 lies text (Link pid) is = let spells : Spells text (Link pid) = (is_kind text (Link pid)).0 is in record { kind = ap Link spells.0 ∙ sym is; room = omega arith }
 lies text LinkPort is = record { kind = sym is; room = omega arith }
 lies text (To pid reference) is =
@@ -59,5 +59,5 @@ lies text (From pid reference) is =
 lies text FromPort is = record { kind = sym is; room = omega arith }
 lies text Other is = record { kind = sym is; room = omega arith }
 
-pub IsLaidOut-own : (text : List ℕ) → IsLaidOut (layout_of (kind_of text)) text
-IsLaidOut-own text = lies text (kind_of text) refl
+pub IsLaidOut-own : (text : List ℕ) → IsLaidOut (layout_of (entry_kind text)) text
+IsLaidOut-own text = lies text (entry_kind text) refl

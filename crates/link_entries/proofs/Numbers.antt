@@ -5,7 +5,8 @@ use Rattle.std.specs.List.{list_all}
 use Rattle.std.specs.Option.{option_map, option_map_or}
 use Rattle.std.specs.Char.{is_ascii_digit}
 use Rattle.std.proofs.lemmas.Bool.{eqb-true}
-use Rattle.link_entries.specs.Texts.{is_dot, is_digits, at_first_dot, is_pair, is_triple}
+use Rattle.dump_io.specs.Numbers.{is_digits}
+use Rattle.link_entries.specs.Texts.{is_dot, at_first_dot, is_pair, is_triple}
 use Rattle.link_entries.specs.Inner.Numbers.{behind_digits, behind_number}
 
 lt_first : (n : ℕ) → nat_lt 0 (suc n) ≡ true

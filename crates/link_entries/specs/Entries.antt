@@ -3,7 +3,7 @@ use Rattle.std.specs.Prelude.{◌≡◌, ◌≢◌, ℕ, ◌+◌, ◌<◌, ◌==
 use Rattle.std.specs.Option.{option_map}
 use Rattle.link_entries.specs.Texts.{inside}
 use Rattle.link_entries.specs.Kinds.{Kind}
-use Rattle.link_entries.specs.Reading.{kind_of}
+use Rattle.link_entries.specs.Reading.{entry_kind}
 
 -- what stands between two entries
 abbrev pub gap : List ℕ
@@ -51,7 +51,7 @@ pub record LinkEntry : Type 0 where
 
 -- the entry that a part is
 abbrev pub entry_of : Part → LinkEntry
-entry_of part = record { at = part.at; text = part.text; kind = kind_of part.text }
+entry_of part = record { at = part.at; text = part.text; kind = entry_kind part.text }
 
 -- the entries of a list that begins at the offset, or `None` if the text isn't a list
 abbrev pub entries_at : ℕ → List ℕ → Option (List LinkEntry)
@@ -72,7 +72,7 @@ joined (part ∷ []) = part
 joined (part ∷ next ∷ parts) = part ++ (gap ++ joined (next ∷ parts))
 
 -- the rule of cutting: with a gap between each two, the parts make up the text, and none contains a gap
-pub record AreCut (text : List ℕ) (parts : List (List ℕ)) : Type 0 where
+pub record AreCutParts (text : List ℕ) (parts : List (List ℕ)) : Type 0 where
   pub some : 0 < length parts
   pub together : joined parts ≡ text
   pub whole : All HasNoGap parts

@@ -37,8 +37,8 @@ monitor_kind None (Some from) = option_map_or from_kind (parties from) Other
 monitor_kind None None = Other
 
 -- the kind of a text: a link, a link to a port or a monitor, and otherwise `Other`
-unfoldable pub kind_of : List ℕ → Kind
-kind_of text =
+unfoldable pub entry_kind : List ℕ → Kind
+entry_kind text =
     if is_pid text then Link text
     else (if is_port text then LinkPort
     else monitor_kind (inside to_opening (codes "}") text) (inside from_opening (codes "}") text))

@@ -3,6 +3,7 @@ use Rattle.std.specs.Prelude.{ℕ, ◌+◌, ◌-◌, ◌==◌, Bool, false, ◌&
 use Rattle.std.specs.List.{list_all, starts_with, ends_with, position}
 use Rattle.std.specs.Option.{is_some, option_and_then, option_map_or}
 use Rattle.std.specs.Char.{is_ascii_digit}
+use Rattle.dump_io.specs.Numbers.{is_digits}
 
 infixl 10 ◌>>=◌
 -- a value, if there is one, passed on to a function that may give none
@@ -24,10 +25,6 @@ inside front back text = behind front text >>= before back
 -- whether a byte is a dot
 abbrev pub is_dot : ℕ → Bool
 is_dot c = c == 46
-
--- one or more digits
-abbrev pub is_digits : List ℕ → Bool
-is_digits text = nat_lt 0 (length text) && list_all is_ascii_digit text
 
 -- one or more digits and dots
 abbrev pub is_dotted : List ℕ → Bool

@@ -1,7 +1,7 @@
 // The kind of an entry.
 ghost use Rattle.std.specs.Prelude.{◌≡◌, codes};
 ghost use Rattle.std.specs.Option.{option_map};
-ghost use Rattle.link_entries.specs.Reading.{at_last_comma, parties, to_kind, from_kind, monitor_kind, kind_of};
+ghost use Rattle.link_entries.specs.Reading.{at_last_comma, parties, to_kind, from_kind, monitor_kind, entry_kind};
 ghost use Rattle.link_entries.specs.Seen.{shown_kind};
 ghost use Rattle.link_entries.specs.Texts.{inside};
 ghost use Rattle.link_entries.specs.Kinds.{to_opening, from_opening};
@@ -102,7 +102,7 @@ fn is_opened(text: &[u8]) -> bool
 
 // What a text says as an entry. Its first byte tells a monitor from everything else.
 pub(crate) fn kind(text: &[u8]) -> EntryKind<'_>
-    ensures { shown_kind result ≡ kind_of text.now }
+    ensures { shown_kind result ≡ entry_kind text.now }
 {
     if is_opened(text) {
         return monitor_kind(text);

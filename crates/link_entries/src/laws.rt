@@ -1,17 +1,17 @@
 //! The laws of entries. Each is the contract of a function that does nothing.
 ghost use Rattle.std.specs.Prelude.{◌≡◌, ◌↔◌, ℕ, List};
 ghost use Rattle.link_entries.specs.Kinds.{Kind, IsKind};
-ghost use Rattle.link_entries.specs.Reading.{kind_of};
-ghost use Rattle.link_entries.specs.Entries.{cut, AreCut};
+ghost use Rattle.link_entries.specs.Reading.{entry_kind};
+ghost use Rattle.link_entries.specs.Entries.{cut, AreCutParts};
 
 /// Each text is of exactly one kind, which `kind_of` computes.
 pub fn an_entry_has_one_kind()
-    ensures { (text : List ℕ) (kind : Kind) → (kind_of text ≡ kind) ↔ IsKind text kind }
+    ensures { (text : List ℕ) (kind : Kind) → (entry_kind text ≡ kind) ↔ IsKind text kind }
 {}
 
 /// The parts that `cut` computes are the only list that has
 /// a gap between each two members and none within them.
 pub fn a_list_is_cut_at_gaps()
-    ensures divides { (text : List ℕ) → AreCut text (cut text) }
-    ensures only { (text : List ℕ) (parts : List (List ℕ)) → AreCut text parts → parts ≡ cut text }
+    ensures divides { (text : List ℕ) → AreCutParts text (cut text) }
+    ensures only { (text : List ℕ) (parts : List (List ℕ)) → AreCutParts text parts → parts ≡ cut text }
 {}

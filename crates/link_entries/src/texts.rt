@@ -3,8 +3,10 @@ ghost use Rattle.std.specs.Prelude.{◌≡◌, ◌+◌, ◌||◌, not, length, I
 ghost use Rattle.std.specs.List.{list_all, position};
 ghost use Rattle.std.specs.Option.{option_copied};
 ghost use Rattle.std.specs.Char.{is_ascii_digit};
-ghost use Rattle.link_entries.specs.Texts.{behind, before, inside, is_dot, is_digits, is_dotted, is_pair, is_triple, is_pid, is_local, is_port, is_reference, is_braced};
+ghost use Rattle.link_entries.specs.Texts.{behind, before, inside, is_dot, is_dotted, is_pair, is_triple, is_pid, is_local, is_port, is_reference, is_braced};
 ghost use Rattle.link_entries.specs.Inner.Numbers.{behind_number};
+
+use dump_io::is_digits;
 
 // What stands after `front`, if the text begins with it.
 pub(crate) fn behind<'a>(text: &'a [u8], front: &[u8]) -> Option<&'a [u8]>
@@ -30,22 +32,10 @@ pub(crate) fn inside<'a>(text: &'a [u8], front: &[u8], back: &[u8]) -> Option<&'
     before(behind(text, front)?, back)
 }
 
-fn all_digits(text: &[u8]) -> bool
-    ensures { result ≡ list_all is_ascii_digit text.now }
-{
-    text.iter().all(|c| c.is_ascii_digit())
-}
-
 fn all_dotted(text: &[u8]) -> bool
     ensures { result ≡ list_all (λ c. is_ascii_digit c || is_dot c) text.now }
 {
     text.iter().all(|c| c.is_ascii_digit() || *c == b'.')
-}
-
-fn is_digits(text: &[u8]) -> bool
-    ensures { result ≡ is_digits text.now }
-{
-    !text.is_empty() && all_digits(text)
 }
 
 fn is_dotted(text: &[u8]) -> bool

@@ -18,8 +18,8 @@ abbrev pub element_at : List Cell → ℕ → ℕ → Element
 element_at heap n place = slice_index_or (elements_at heap n) place Nil
 
 -- the form of the cell with the address, if there is one; a malformed cell's form is `None`
-abbrev pub form_with : List Cell → ℕ → Option (Option HeapForm)
-form_with heap address = option_map (form_at heap) (number_at heap address)
+abbrev pub form_at_address : List Cell → ℕ → Option (Option HeapForm)
+form_at_address heap address = option_map (form_at heap) (number_at heap address)
 
 -- The keys of a flat map.
 pub data Keys : Type 0 where
@@ -39,7 +39,7 @@ cell_keys k size (Some form) = bad_keys k Malformed
 -- the keys of this many values, from the keys element; if
 -- that is no reference, it is bad at the map's own address
 abbrev pub element_keys : List Cell → ℕ → ℕ → Element → Keys
-element_keys heap map size (Ref k) = cell_keys k size (form_with heap k)
+element_keys heap map size (Ref k) = cell_keys k size (form_at_address heap k)
 element_keys heap map size element = bad_keys map Malformed
 
 -- the keys of the flat map at an address, from its keys element and its values
@@ -76,5 +76,5 @@ cell_member a (Some form) = bad_member a Malformed
 
 -- the child that an element stands for; an immediate is bad at the address of its parent
 abbrev pub member_of : List Cell → ℕ → Element → Member
-member_of heap parent (Ref a) = cell_member a (form_with heap a)
+member_of heap parent (Ref a) = cell_member a (form_at_address heap a)
 member_of heap parent element = bad_member parent Malformed

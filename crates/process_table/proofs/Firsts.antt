@@ -8,7 +8,7 @@ use Rattle.std.proofs.lemmas.List.Elements.{filter-append}
 use Rattle.std.proofs.lemmas.Option.{get_or_from_slice_get, slice_get_within}
 use Rattle.std.proofs.lemmas.Slice.Eq.{bytes_eq-Decides}
 use Rattle.dump_sections.specs.Sections.{Section}
-use Rattle.process_table.specs.Records.{Placed, placed, is_process, pid_of, process_sections, has_same_pid, first_of_each}
+use Rattle.process_table.specs.Records.{PlacedSection, placed_sections, is_process, pid_of, process_sections, has_same_pid, first_of_each}
 
 bytes_eq-same : (x y : List ℕ) → bytes_eq x y ≡ true → x ≡ y
 bytes_eq-same x y e = (bytes_eq-Decides x y).0 e
@@ -17,24 +17,24 @@ bytes_eq-swap : (x y : List ℕ) → bytes_eq x y ≡ bytes_eq y x
 bytes_eq-swap x y = grind (arith, false≢true, bytes_eq-Decides, bytes_eq-same)
 
 -- whether one of these sections has the pid
-abbrev pub is_among : Placed → List Placed → Bool
+abbrev pub is_among : PlacedSection → List PlacedSection → Bool
 is_among p sections = list_any (λ q. bytes_eq (pid_of p.1) (pid_of q.1)) sections
 
 -- those whose pid is another's
-abbrev others : Placed → List Placed → List Placed
+abbrev others : PlacedSection → List PlacedSection → List PlacedSection
 others first sections = filter (λ other. not (has_same_pid first other)) sections
 
 -- where two pids differ, the sections of the one are no sections of the other
-is_among-others : (first p : Placed) (sections : List Placed) → has_same_pid first p ≡ false → is_among p (others first sections) ≡ is_among p sections
+is_among-others : (first p : PlacedSection) (sections : List PlacedSection) → has_same_pid first p ≡ false → is_among p (others first sections) ≡ is_among p sections
 is_among-others first p [] differ = refl
 is_among-others first p (q ∷ sections) differ = grind (arith, is_among-others first p sections differ, bytes_eq-same, bytes_eq-swap)
 
 -- a section behind the others, where it is one of the first's or not
-others-more : (first p : Placed) (sections : List Placed) (same : Bool) → has_same_pid first p ≡ same
+others-more : (first p : PlacedSection) (sections : List PlacedSection) (same : Bool) → has_same_pid first p ≡ same
     → others first (sections ++ p ∷ []) ≡ (if same then others first sections else others first sections ++ p ∷ [])
 others-more first p sections same e = grind (arith, filter-append, append-nil)
 
-step : (first p : Placed) (firsts : List Placed) → first ∷ others first (if is_among p firsts then firsts else firsts ++ p ∷ [])
+step : (first p : PlacedSection) (firsts : List PlacedSection) → first ∷ others first (if is_among p firsts then firsts else firsts ++ p ∷ [])
     ≡ (if is_among p (first ∷ others first firsts) then first ∷ others first firsts else (first ∷ others first firsts) ++ p ∷ [])
 step first p firsts = by (has_same_pid first p) (is_among p firsts) refl refl
   where
@@ -60,7 +60,7 @@ step first p firsts = by (has_same_pid first p) (is_among p firsts) refl refl
         ends false false e = ap (λ l. first ∷ l) (others-more first p firsts false e)
 
 -- a further section counts where its pid isn't there yet
-pub first_of_each-more : (sections : List Placed) (p : Placed)
+pub first_of_each-more : (sections : List PlacedSection) (p : PlacedSection)
     → first_of_each (sections ++ p ∷ []) ≡ (if is_among p (first_of_each sections) then first_of_each sections else first_of_each sections ++ p ∷ [])
 first_of_each-more [] p = refl
 first_of_each-more (first ∷ sections) p = ap (λ l. first ∷ others first l) (first_of_each-more sections p) ∙ step first p (first_of_each sections)
@@ -71,16 +71,16 @@ enumerated-at n [] i s is = cc
 enumerated-at n (first ∷ sections) zero s is = grind arith
 enumerated-at n (first ∷ sections) (suc i) s is = grind (arith, enumerated-at (n + 1) sections i s is)
 
-pub placed-at : (sections : List Section) (i : ℕ) (s : Section) → slice_get sections i ≡ Some s → slice_get (placed sections) i ≡ Some (i, s)
+pub placed-at : (sections : List Section) (i : ℕ) (s : Section) → slice_get sections i ≡ Some s → slice_get (placed_sections sections) i ≡ Some (i, s)
 placed-at sections i s is = let zero_more : 0 + i ≡ i = omega arith in enumerated-at 0 sections i s is ∙ ap (λ k. Some (k, s)) zero_more
 
 -- one section more
-pub take-placed : (sections : List Section) (i : ℕ) (s : Section) → slice_get sections i ≡ Some s → take (i + 1) (placed sections) ≡ take i (placed sections) ++ (i, s) ∷ []
+pub take-placed : (sections : List Section) (i : ℕ) (s : Section) → slice_get sections i ≡ Some s → take (i + 1) (placed_sections sections) ≡ take i (placed_sections sections) ++ (i, s) ∷ []
 take-placed sections i s is =
     let at = placed-at sections i s is in
-    take_more (placed sections) i (i, s) (slice_get_within (placed sections) i (i, s) at)
-    ∙ ap (λ p. take i (placed sections) ++ p ∷ []) (get_or_from_slice_get (placed sections) i (i, s) (i, s) at)
+    take_more (placed_sections sections) i (i, s) (slice_get_within (placed_sections sections) i (i, s) at)
+    ∙ ap (λ p. take i (placed_sections sections) ++ p ∷ []) (get_or_from_slice_get (placed_sections sections) i (i, s) (i, s) at)
 
 -- a further section, which is that of a process or not
-pub process_sections-more : (sections : List Placed) (p : Placed) → process_sections (sections ++ p ∷ []) ≡ process_sections sections ++ cond (is_process p.1) (p ∷ []) []
+pub process_sections-more : (sections : List PlacedSection) (p : PlacedSection) → process_sections (sections ++ p ∷ []) ≡ process_sections sections ++ cond (is_process p.1) (p ∷ []) []
 process_sections-more sections p = filter-append (λ q. is_process q.1) sections (p ∷ [])

@@ -8,7 +8,7 @@ use Rattle.std.proofs.lemmas.List.Sums.{length-filter, count_by-le-length}
 use Rattle.dump_sections.specs.Sections.{Section}
 use Rattle.process_table.specs.declared.pids.PidPlace.{PidPlace}
 use Rattle.process_table.specs.declared.finding.Found.{Found}
-use Rattle.process_table.specs.Records.{Placed, is_process, named_place, pid_of, process_sections, first_of_each}
+use Rattle.process_table.specs.Records.{PlacedSection, is_process, named_place, pid_of, process_sections, first_of_each}
 use Rattle.process_table.specs.Inner.Finding.{named_places, has_pid, pid_in, AreFound}
 use Rattle.process_table.proofs.Positions.{some-position}
 use Rattle.process_table.proofs.Firsts.{first_of_each-more, process_sections-more}
@@ -20,8 +20,8 @@ pub pid_in-some : (s : Section) (pid : List ℕ) → pid_in s ≡ Some pid → (
 pid_in-some s pid some = grind arith
 
 -- whether a pid stands there
-there-is : (pid : List ℕ) (places : List PidPlace) (firsts : List Placed) → named_places places ≡ map named_place firsts
-    → is_some (position (has_pid pid) places) ≡ list_any (λ (q : Placed). bytes_eq pid (pid_of q.1)) firsts
+there-is : (pid : List ℕ) (places : List PidPlace) (firsts : List PlacedSection) → named_places places ≡ map named_place firsts
+    → is_some (position (has_pid pid) places) ≡ list_any (λ (q : PlacedSection). bytes_eq pid (pid_of q.1)) firsts
 there-is pid places firsts same =
     cc (some-position (has_pid pid) places, of_images (λ (e : List ℕ × ℕ). bytes_eq pid e.0) (λ (place : PidPlace). (place.pid.items, place.section)) places, of_images (λ (e : List ℕ × ℕ). bytes_eq pid e.0) named_place firsts)
   where
@@ -29,7 +29,7 @@ there-is pid places firsts same =
     of_images p f [] = refl
     of_images p f (x ∷ xs) = ap (λ b. p (f x) || b) (of_images p f xs)
 
-module _ (found : Found) (among : List Placed) (p : Placed) (are : AreFound found among) where
+module _ (found : Found) (among : List PlacedSection) (p : PlacedSection) (are : AreFound found among) where
   -- a section that is none of a process changes nothing
   pub AreFound-passed : is_process p.1 ≡ false → AreFound found (among ++ p ∷ [])
   AreFound-passed other = grind (arith, process_sections-more, append-nil)
@@ -72,11 +72,11 @@ module _ (found : Found) (among : List Placed) (p : Placed) (are : AreFound foun
   }
 
 -- no more are repeated than there are, nor are there more processes
-pub repeated-few : (found : Found) (among : List Placed) → AreFound found among → found.repeated ≤ length among
-repeated-few found among are = omega (arith, are.all, length-filter (λ (q : Placed). is_process q.1) among, count_by-le-length (λ (q : Placed). is_process q.1) among)
+pub repeated-few : (found : Found) (among : List PlacedSection) → AreFound found among → found.repeated ≤ length among
+repeated-few found among are = omega (arith, are.all, length-filter (λ (q : PlacedSection). is_process q.1) among, count_by-le-length (λ (q : PlacedSection). is_process q.1) among)
 
-pub entries-few : (found : Found) (among : List Placed) → AreFound found among → length found.places.items ≤ length among
-entries-few found among are = omega (arith, are.all, length-filter (λ (q : Placed). is_process q.1) among, count_by-le-length (λ (q : Placed). is_process q.1) among)
+pub entries-few : (found : Found) (among : List PlacedSection) → AreFound found among → length found.places.items ≤ length among
+entries-few found among are = omega (arith, are.all, length-filter (λ (q : PlacedSection). is_process q.1) among, count_by-le-length (λ (q : PlacedSection). is_process q.1) among)
 
 pub none_where : {X : Type 0} (o : Option X) → is_some o ≡ false → o ≡ None
 none_where None e = refl

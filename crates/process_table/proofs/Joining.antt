@@ -7,7 +7,7 @@ use Rattle.std.proofs.lemmas.Option.{unwrap_or-slice_get, slice_get_cases, slice
 use Rattle.std.proofs.lemmas.List.Elements.{All-head, All-tail, All-nil, All-cons}
 use Rattle.section_rows.specs.Rows.{Kept, Row, row_at, cell_at, IsBoundedCell}
 use Rattle.process_table.specs.declared.pids.PidPlace.{PidPlace}
-use Rattle.process_table.specs.Processes.{Process, IsBounded, nobody, process_at}
+use Rattle.process_table.specs.Processes.{Process, IsBoundedProcess, nobody, process_at}
 use Rattle.process_table.specs.Inner.Finding.{named_places, has_pid}
 use Rattle.process_table.specs.Inner.Joined.{joined, all_joined}
 use Rattle.dump_io.specs.Laws.Lists.{position-map}
@@ -54,15 +54,15 @@ cell_at-read rows i c cell is = ap (λ (read : Option (Option Kept)). unwrap_or 
 cell_at-bounded : (row : Row) (c : ℕ) → All IsBoundedCell row.cells → IsBoundedCell (cell_at row c)
 cell_at-bounded row c bounded = grind (arith, unwrap_or-slice_get, slice_get_cases, get_or_past)
 
-joined-bounded : (entry : List ℕ × ℕ) (row : Row) → All IsBoundedCell row.cells → IsBounded (joined entry row)
+joined-bounded : (entry : List ℕ × ℕ) (row : Row) → All IsBoundedCell row.cells → IsBoundedProcess (joined entry row)
 joined-bounded entry row bounded = grind (arith, cell_at-bounded)
 
-pub all_joined-bounded : (entries : List (List ℕ × ℕ)) (rows : List Row) → All (λ (row : Row). All IsBoundedCell row.cells) rows → All IsBounded (all_joined entries rows)
-all_joined-bounded [] rows bounded = All-nil IsBounded
-all_joined-bounded (entry ∷ entries) [] bounded = All-nil IsBounded
+pub all_joined-bounded : (entries : List (List ℕ × ℕ)) (rows : List Row) → All (λ (row : Row). All IsBoundedCell row.cells) rows → All IsBoundedProcess (all_joined entries rows)
+all_joined-bounded [] rows bounded = All-nil IsBoundedProcess
+all_joined-bounded (entry ∷ entries) [] bounded = All-nil IsBoundedProcess
 all_joined-bounded (entry ∷ entries) (row ∷ rows) bounded =
     let inside : Row → Type 0 = λ (r : Row). All IsBoundedCell r.cells in
-    All-cons IsBounded (joined entry row) (all_joined entries rows) (joined-bounded entry row (All-head inside row rows bounded)) (all_joined-bounded entries rows (All-tail inside row rows bounded))
+    All-cons IsBoundedProcess (joined entry row) (all_joined entries rows) (joined-bounded entry row (All-head inside row rows bounded)) (all_joined-bounded entries rows (All-tail inside row rows bounded))
 
 -- the place of a pid among the keys is that among the processes
 pub place_of_pid : (pid : List ℕ) (places : List PidPlace) (rows : List Row) → length rows ≡ length places

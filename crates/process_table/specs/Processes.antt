@@ -6,7 +6,7 @@ use Rattle.dump_sections.specs.Index.{Contents, sections_in}
 use Rattle.dump_sections.specs.Lookups.{is_named}
 use Rattle.dump_sections.specs.Sections.{sections}
 use Rattle.section_rows.specs.Rows.{Kept, IsBoundedCell, field_kept}
-use Rattle.process_table.specs.Records.{Placed, records, repeated, pid_of}
+use Rattle.process_table.specs.Records.{PlacedSection, records, repeated, pid_of}
 
 -- a process: the place of its section among those of the dump, from 0, its pid, and, of the
 -- body of its section, the first field with each of these keys, with offsets in the file
@@ -20,7 +20,7 @@ pub record Process : Type 0 where
   pub links : Option Kept
 
 -- the process of a section with this body
-abbrev pub process_in : Placed → List ℕ → Process
+abbrev pub process_in : PlacedSection → List ℕ → Process
 process_in (place, s) body =
     let field : List ℕ → Option Kept = field_kept s.body body in
     record {
@@ -55,19 +55,19 @@ abbrev pub process_at : List Process → ℕ → Process
 process_at processes p = unwrap_or (slice_get processes p) nobody
 
 -- the process names a section of the index whose tag is `proc` and whose id is the pid
-pub record IsIn (index : Contents) (process : Process) : Type 0 where
+pub record IsProcessIn (index : Contents) (process : Process) : Type 0 where
   pub place : process.section < length index.headers
   pub named : is_named (codes "proc") (Some process.pid) (section_at index process.section).text ≡ true
 
 -- the processes are those of the index, whatever their fields are
-pub record IsOver (index : Contents) (table : ProcessTable) : Type 0 where
+pub record AreProcessesOver (index : Contents) (table : ProcessTable) : Type 0 where
   pub sections : map (λ p. p.section) table.processes ≡ map (λ r. r.0) (records (sections_in index))
   pub pids : map (λ p. p.pid) table.processes ≡ map (λ r. pid_of r.1) (records (sections_in index))
   pub repeated : table.repeated ≡ repeated (sections_in index)
-  pub named : All (IsIn index) table.processes
+  pub named : All (IsProcessIn index) table.processes
 
 -- the offsets of its fields are within the largest dump, and their texts no longer than the largest body
-pub record IsBounded (p : Process) : Type 0 where
+pub record IsBoundedProcess (p : Process) : Type 0 where
   pub state : IsBoundedCell p.state
   pub name : IsBoundedCell p.name
   pub queue : IsBoundedCell p.queue
@@ -75,6 +75,6 @@ pub record IsBounded (p : Process) : Type 0 where
   pub links : IsBoundedCell p.links
 
 -- there are no more processes than an index has sections, and each is bounded
-pub record AreBounded (table : ProcessTable) : Type 0 where
+pub record AreBoundedProcesses (table : ProcessTable) : Type 0 where
   pub count : length table.processes ≤ usual.sections
-  pub fields : All IsBounded table.processes
+  pub fields : All IsBoundedProcess table.processes

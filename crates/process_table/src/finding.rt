@@ -4,7 +4,7 @@ ghost use Rattle.std.specs.Option.{option_copied};
 ghost use Rattle.dump_io.specs.Limits.{usual};
 ghost use Rattle.dump_sections.specs.Index.{sections_in};
 ghost use Rattle.dump_sections.specs.Bodies.{section_at};
-ghost use Rattle.process_table.specs.Records.{placed};
+ghost use Rattle.process_table.specs.Records.{placed_sections};
 ghost use Rattle.process_table.specs.Inner.Finding.{AreFound, AreFoundRising, AreNumbered, AreOrdered, AreOwn, AreRanked, pid_in};
 
 use crate::pids::{PidOrder, PidPlace, comes_behind, order_of, push_place};
@@ -43,9 +43,9 @@ fn find_at<'a>(
 ) -> Result<(), AllocError>
     requires place { i < length index.now.headers }
     requires few { i < 2 ^ 32 }
-    requires before { AreFound found.old (take i (placed (sections_in index.now))) }
+    requires before { AreFound found.old (take i (placed_sections (sections_in index.now))) }
     requires numbered { AreNumbered numbers.old found.old.places.items }
-    ensures found { OnOk result (AreFound found.new (take (i + 1) (placed (sections_in index.now)))) }
+    ensures found { OnOk result (AreFound found.new (take (i + 1) (placed_sections (sections_in index.now)))) }
     ensures numbered { OnOk result (AreNumbered numbers.new found.new.places.items) }
 {
     let Some(pid) = pid_of(index, i) else {
@@ -62,7 +62,7 @@ fn find_at<'a>(
 
 // Finds the first section of each process, and the order of their pids, in whatever order they come.
 fn find_ranked(alloc: Global, index: &Index) -> Result<(Found, Vec<u32>), AllocError>
-    ensures found { IfOk result (λ found. AreFound found.0 (placed (sections_in index.now))) }
+    ensures found { IfOk result (λ found. AreFound found.0 (placed_sections (sections_in index.now))) }
     ensures own { IfOk result (λ found. AreOwn found.0.places.items) }
     ensures ranked { IfOk result (λ found. AreRanked found.0.places.items found.1.items) }
     ensures count { IfOk result (λ found. length found.0.places.items ≤ usual.sections) }
@@ -88,8 +88,8 @@ fn find_rising_at(
     i: usize,
 ) -> Result<bool, AllocError>
     requires place { i < length index.now.headers }
-    requires before { AreFoundRising places.old (take i (placed (sections_in index.now))) }
-    ensures { IfOk result (λ rises. rises ≡ true → AreFoundRising places.new (take (i + 1) (placed (sections_in index.now)))) }
+    requires before { AreFoundRising places.old (take i (placed_sections (sections_in index.now))) }
+    ensures { IfOk result (λ rises. rises ≡ true → AreFoundRising places.new (take (i + 1) (placed_sections (sections_in index.now)))) }
 {
     let Some(pid) = pid_of(index, i) else {
         return Ok(true);
@@ -104,7 +104,7 @@ fn find_rising_at(
 // Finds the first section of each process, if each pid is greater than those before it: then none
 // is repeated, and no further check is needed that it is new. Returns `None` if some pid isn't.
 fn find_rising(alloc: Global, index: &Index) -> Result<Option<Vec<PidPlace>>, AllocError>
-    ensures found { IfOk result (λ found. IfSome found (λ places. AreFoundRising places (placed (sections_in index.now)))) }
+    ensures found { IfOk result (λ found. IfSome found (λ places. AreFoundRising places (placed_sections (sections_in index.now)))) }
     ensures count { IfOk result (λ found. IfSome found (λ places. length places.items ≤ usual.sections)) }
 {
     let mut places = Vec::new(alloc);
@@ -118,7 +118,7 @@ fn find_rising(alloc: Global, index: &Index) -> Result<Option<Vec<PidPlace>>, Al
 
 // Finds the first section of each process of an index, and the order of their pids.
 pub(crate) fn find(alloc: Global, index: &Index) -> Result<(Found, PidOrder), AllocError>
-    ensures found { IfOk result (λ found. AreFound found.0 (placed (sections_in index.now))) }
+    ensures found { IfOk result (λ found. AreFound found.0 (placed_sections (sections_in index.now))) }
     ensures ordered { IfOk result (λ found. AreOrdered found.0.places.items found.1) }
     ensures count { IfOk result (λ found. length found.0.places.items ≤ usual.sections) }
 {

@@ -4,6 +4,14 @@
 //! [`Procs::load`] finds the first section of each process and reads the bodies of
 //! these sections one after another. A caller may take the two steps itself:
 //! [`ProcSections::find`] needs only the index, and [`Procs::read`] reads the bodies.
+//!
+//! ```text
+//! let procs = Procs::load(alloc, &mut dumps, &index, &limits)?;
+//! for i in 0..procs.len() {
+//!     let process = procs.at(i);
+//! }
+//! let place = procs.get(b"<0.1.0>");
+//! ```
 #![tactic(auto)]
 
 mod finding;

@@ -7,7 +7,7 @@ ghost use Rattle.dump_sections.specs.Loading.{LoadsBodies};
 ghost use Rattle.section_rows.specs.Rows.{AreRowsOf};
 ghost use Rattle.section_rows.specs.Shown.{shown_cell};
 ghost use Rattle.process_table.specs.Records.{proc_places, records, record_sections};
-ghost use Rattle.process_table.specs.Processes.{AreBounded, IsOver, process_at, process_table};
+ghost use Rattle.process_table.specs.Processes.{AreBoundedProcesses, AreProcessesOver, process_at, process_table};
 ghost use Rattle.process_table.specs.Shown.{shown_process};
 ghost use Rattle.process_table.specs.Inner.Finding.{named_places, IsRecordOf};
 ghost use Rattle.process_table.specs.Inner.Joined.{all_joined, AreJoined, field_columns};
@@ -124,7 +124,7 @@ impl Procs {
         requires { IsBuiltOver (D.state dumps.old).now index.now }
         ensures loads { LoadsBodies D.state (record_sections (sections_in index.now)) limits.now.section dumps.old dumps.new result }
         ensures table { IfOk result (λ procs. (bytes : List ℕ) → (D.state dumps.old).now ≡ told bytes → procs ≡ process_table bytes) }
-        ensures over { IfOk result (IsOver index.now) }
+        ensures over { IfOk result (AreProcessesOver index.now) }
     {
         let Ok(found) = ProcSections::find(alloc, index) else {
             return Err(BodyFault::Memory);
@@ -148,7 +148,7 @@ impl Procs {
         requires found { found ≡ proc_places (sections_in index.now) }
         ensures loads { LoadsBodies D.state (record_sections (sections_in index.now)) limits.now.section dumps.old dumps.new result }
         ensures table { IfOk result (λ procs. (bytes : List ℕ) → (D.state dumps.old).now ≡ told bytes → procs ≡ process_table bytes) }
-        ensures over { IfOk result (IsOver index.now) }
+        ensures over { IfOk result (AreProcessesOver index.now) }
     {
         let (places, order, sections, repeated) = found.into_parts();
         let Ok(hints) = Hints::of(alloc, &places) else {
@@ -167,7 +167,7 @@ impl Procs {
     /// The number of processes.
     pub fn len(&self) -> usize
         ensures value { result ≡ length self.now.processes }
-        ensures bounded { AreBounded self.now }
+        ensures bounded { AreBoundedProcesses self.now }
     {
         self.fields.len()
     }

@@ -2,8 +2,8 @@
 use Rattle.std.specs.Prelude.{ℕ, zero, suc, List, [], ◌∷◌, ◌++◌, decimal, codes, unwrap_or, Option}
 
 -- what stands between two words
-abbrev pub space : List ℕ
-space = codes " "
+abbrev pub word_space : List ℕ
+word_space = codes " "
 
 -- what stands between two cells of a row
 abbrev pub tab : List ℕ
@@ -25,7 +25,7 @@ line_of between (part ∷ rest) = part ++ (between ++ line_of between rest)
 
 -- the last line of a list: what its lines are, and how many there are
 abbrev pub total_line : List ℕ → ℕ → List ℕ
-total_line word count = line_of space (word ∷ decimal count ∷ [])
+total_line word count = line_of word_space (word ∷ decimal count ∷ [])
 
 -- the line of something that is counted: a word, the number and what it is; what doesn't occur has none
 abbrev pub count_line : List ℕ → List ℕ → ℕ → List ℕ

@@ -1,4 +1,11 @@
-//! Parts of lines that several reports have.
+//! Lines that several reports have: parts with the same bytes between
+//! them, how many of something there are, and the state of the dump.
+//!
+//! ```text
+//! put_line(&mut out, b" ", &[Piece::Bytes(b"link"), Piece::Bytes(pid), Piece::Dec(at)])?;
+//! put_total_line(&mut out, b"findings", 1)?;
+//! put_state(&mut out, &index)?;
+//! ```
 #![tactic(auto)]
 
 mod count_lines;

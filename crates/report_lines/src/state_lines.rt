@@ -1,7 +1,7 @@
 // The line on the state of a dump.
 ghost use Rattle.std.specs.Prelude.{◌<◌};
 ghost use Rattle.dump_io.specs.Sinks.{Puts};
-ghost use Rattle.dump_sections.specs.Index.{sections_in, state_of};
+ghost use Rattle.dump_sections.specs.Index.{sections_in, dump_state};
 ghost use Rattle.report_lines.specs.States.{state_line};
 
 use crate::count_lines::put_line;
@@ -12,7 +12,7 @@ use dump_sections::{Index, State};
 ///
 /// Returns `Failed` only if the sink failed; a proper prefix of the line was written then.
 pub fn put_state<K: Sink>(sink: &mut K, index: &Index) -> Result<(), Failed>
-    ensures { Puts (K.state sink.old) (K.state sink.new) (state_line (sections_in index.now) (state_of index.now.headers)) result }
+    ensures { Puts (K.state sink.old) (K.state sink.new) (state_line (sections_in index.now) (dump_state index.now.headers)) result }
 {
     match index.state() {
         State::Whole => write_all(sink, b"whole\n"),

@@ -6,7 +6,7 @@ use Rattle.process_table.specs.Processes.{Process}
 use Rattle.link_entries.specs.Kinds.{Kind, Link, LinkPort, To, ToPort, ToName, From, FromPort, Other}
 use Rattle.link_entries.specs.Entries.{LinkEntry}
 use Rattle.link_graph.specs.Graph.{links_of}
-use Rattle.report_lines.specs.Lines.{line_of, space, total_line}
+use Rattle.report_lines.specs.Lines.{line_of, word_space, total_line}
 
 -- the word for a kind of entry
 abbrev pub kind_word : Kind → List ℕ
@@ -21,12 +21,12 @@ kind_word Other = codes "other"
 
 -- the line of an entry of the process with this pid: where it begins, the pid, the word of its kind, and its text
 abbrev pub entry_line : List ℕ → LinkEntry → List ℕ
-entry_line pid entry = line_of space (decimal entry.at ∷ pid ∷ kind_word entry.kind ∷ entry.text ∷ [])
+entry_line pid entry = line_of word_space (decimal entry.at ∷ pid ∷ kind_word entry.kind ∷ entry.text ∷ [])
 
 -- the line of an unread link list: where its field's line begins
 abbrev pub unread_line : List ℕ → Option Kept → List ℕ
 unread_line pid None = []
-unread_line pid (Some list) = line_of space (decimal list.at ∷ pid ∷ codes "unread" ∷ [])
+unread_line pid (Some list) = line_of word_space (decimal list.at ∷ pid ∷ codes "unread" ∷ [])
 
 -- the lines of a process
 abbrev pub process_links : Process → List ℕ

@@ -2,7 +2,7 @@
 use Rattle.std.specs.Prelude.{ℕ, List, [], ◌∷◌, decimal, codes}
 use Rattle.dump_io.specs.Numbers.{hexadecimal}
 use Rattle.section_index.specs.declared.opening.OpenFault.TheVariants.{Compressed, NotADump, Version, TooLarge, HeaderTooLong, TooManySections, HeadersTooLarge, Read, Memory}
-use Rattle.report_lines.specs.Lines.{line_of, space}
+use Rattle.report_lines.specs.Lines.{line_of, word_space}
 use Rattle.report_text.specs.declared.refusals.Refusal.{Refusal}
 use Rattle.report_text.specs.declared.refusals.Refusal.TheVariants.{Open, NoProcess, SectionTooLarge, TooDense, NoAddress, NotExt, BadExt, NoBinary, BadBinary}
 
@@ -28,7 +28,7 @@ cause_of (BadBinary at) = codes "bad binary at" ∷ decimal at ∷ []
 
 -- the line of a refusal
 abbrev pub refusal_line : Refusal → List ℕ
-refusal_line refusal = line_of space (codes "refused:" ∷ cause_of refusal)
+refusal_line refusal = line_of word_space (codes "refused:" ∷ cause_of refusal)
 
 -- a refusal that has a cause
 abbrev pub IsRefusal : Refusal → Type 0

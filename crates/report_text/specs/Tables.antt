@@ -9,7 +9,7 @@ use Rattle.dump_sections.specs.Bodies.{section_at}
 use Rattle.dump_sections.specs.Index.{Contents}
 use Rattle.process_table.specs.Processes.{Process, ProcessTable}
 use Rattle.section_rows.specs.Rows.{Kept, Row, Table, text_in}
-use Rattle.report_lines.specs.Lines.{line_of, space, tab, text_or_dash, total_line}
+use Rattle.report_lines.specs.Lines.{line_of, word_space, tab, text_or_dash, total_line}
 
 -- the text of a cell, or `-` if there is none
 abbrev pub cell_text : Option Kept → List ℕ
@@ -25,7 +25,7 @@ process_end index p = p.pid ∷ cell_text p.name ∷ decimal (section_at index p
 
 -- the last line: how many processes there are, and how many sections were passed over
 abbrev pub processes_line : ℕ → ℕ → List ℕ
-processes_line count repeated = line_of space (codes "processes" ∷ decimal count ∷ codes "repeated" ∷ decimal repeated ∷ [])
+processes_line count repeated = line_of word_space (codes "processes" ∷ decimal count ∷ codes "repeated" ∷ decimal repeated ∷ [])
 
 -- the report of `procs`
 abbrev pub procs_report : ProcessTable → List ℕ

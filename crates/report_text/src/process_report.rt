@@ -3,7 +3,7 @@ ghost use Rattle.std.specs.Prelude.{◌≡◌, ◌<◌, [], ◌∷◌, All, leng
 ghost use Rattle.std.specs.List.{flat_map};
 ghost use Rattle.dump_io.specs.Pieces.{piece_text};
 ghost use Rattle.dump_io.specs.Sinks.{Puts};
-ghost use Rattle.process_table.specs.Processes.{IsIn, process_at};
+ghost use Rattle.process_table.specs.Processes.{IsProcessIn, process_at};
 ghost use Rattle.process_table.specs.Shown.{shown_process};
 ghost use Rattle.section_rows.specs.Shown.{shown_cell};
 ghost use Rattle.report_text.specs.Tables.{cell_text, process_end, process_line, processes_line, procs_report};
@@ -47,7 +47,7 @@ pub fn process_end<'x>(
     place: usize,
 ) -> (Piece<'x>, Piece<'x>, Piece<'x>)
     requires place { place < length procs.now.processes }
-    requires processes { All (IsIn index.now) procs.now.processes }
+    requires processes { All (IsProcessIn index.now) procs.now.processes }
     ensures { piece_text result.0 ∷ piece_text result.1 ∷ piece_text result.2 ∷ [] ≡ process_end index.now (process_at procs.now.processes place) }
 {
     let process = procs.at(place);

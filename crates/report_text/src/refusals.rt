@@ -2,7 +2,7 @@
 ghost use Rattle.std.specs.Prelude.{[], ◌∷◌, codes, decimal};
 ghost use Rattle.dump_io.specs.Pieces.{piece_text};
 ghost use Rattle.dump_io.specs.Sinks.{Puts};
-ghost use Rattle.report_lines.specs.Lines.{line_of, space};
+ghost use Rattle.report_lines.specs.Lines.{line_of, word_space};
 ghost use Rattle.report_text.specs.Refusals.{IsRefusal, refusal_line};
 
 use dump_io::{Failed, Piece, Sink, Text, write_all};
@@ -36,7 +36,7 @@ pub enum Refusal {
 
 // Writes a line whose cause is a text followed by a piece.
 fn put_cause<'x, K: Sink>(sink: &mut K, cause: &'x [u8], what: Piece<'x>) -> Result<(), Failed>
-    ensures { Puts (K.state sink.old) (K.state sink.new) (line_of space (codes "refused:" ∷ cause.now ∷ piece_text what.entry ∷ [])) result }
+    ensures { Puts (K.state sink.old) (K.state sink.new) (line_of word_space (codes "refused:" ∷ cause.now ∷ piece_text what.entry ∷ [])) result }
 {
     put_line(
         sink,
@@ -53,7 +53,7 @@ fn put_long_cause<'x, K: Sink>(
     link: &'x [u8],
     number: u64,
 ) -> Result<(), Failed>
-    ensures { Puts (K.state sink.old) (K.state sink.new) (line_of space (codes "refused:" ∷ cause.now ∷ piece_text what.entry ∷ link.now ∷ decimal number ∷ [])) result }
+    ensures { Puts (K.state sink.old) (K.state sink.new) (line_of word_space (codes "refused:" ∷ cause.now ∷ piece_text what.entry ∷ link.now ∷ decimal number ∷ [])) result }
 {
     put_line(
         sink,

@@ -11,7 +11,7 @@ use Rattle.section_index.specs.declared.opening.OpenFault.{OpenFault}
 use Rattle.section_index.specs.declared.opening.OpenFault.TheVariants.{Read}
 use Rattle.dump_sections.specs.declared.version.Version.{Version}
 use Rattle.dump_sections.specs.Versions.{signature}
-use Rattle.section_index.specs.Opening.{header_fault, opening}
+use Rattle.section_index.specs.Opening.{header_fault, open_fault}
 use Rattle.section_index.specs.Inner.Beginning.{IsAllOrLong, BeginsAs, IsJudged, IsOfTheBeginning}
 use Rattle.section_index.specs.Opening.{fault_of}
 use Rattle.section_index.specs.Inner.Scanning.{IsHeaderFault, IsOfAHeader}
@@ -25,7 +25,7 @@ use Rattle.section_index.proofs.Grown.{Gives-whole}
 pub first-piece : (all first : List ℕ) (size : ℕ) → length first ≡ min 16384 (size - 0) → length all ≡ size → IsAllOrLong first (drop (length first) all)
 first-piece all first size count whole short = grind (arith, common_steps, length-drop)
 
-opening-small : (bytes : List ℕ) (limits : Numbers) → length bytes ≤ limits.dump → opening bytes limits ≡ fault_of bytes limits
+opening-small : (bytes : List ℕ) (limits : Numbers) → length bytes ≤ limits.dump → open_fault bytes limits ≡ fault_of bytes limits
 opening-small bytes limits small = grind arith
 
 pub answer-judged : (bytes : List ℕ) (limits : Numbers) (fault : OpenFault) → length bytes ≤ limits.dump → IsJudged limits bytes (Err fault) → IsAnswerFor bytes limits (Err fault)

@@ -12,28 +12,28 @@ use Rattle.line_source.specs.Streams.{too_long}
 use Rattle.line_source.specs.Feeding.{first_too_long}
 use Rattle.section_index.specs.declared.opening.OpenFault.{OpenFault}
 use Rattle.section_index.specs.declared.opening.OpenFault.TheVariants.{HeaderTooLong, TooManySections, HeadersTooLarge}
-use Rattle.section_index.specs.Opening.{long_header, surplus_header, text_bytes, headers_upto, headers_over, large_headers, place_of, earlier, header_fault}
+use Rattle.section_index.specs.Opening.{long_header, surplus_header, text_bytes, headers_upto, headers_over, large_headers, fault_place, earlier, header_fault}
 use Rattle.section_index.proofs.Rising.{AreRising, filter-all, filter-none, rising-right, rising-apart, headers-rising}
 
 -- a refusal, if any, names a header at this offset or behind it
 abbrev pub IsFrom : ℕ → Option OpenFault → Type 0
 IsFrom at None = Unit {0}
-IsFrom at (Some fault) = at ≤ place_of fault
+IsFrom at (Some fault) = at ≤ fault_place fault
 
-earlier-first : (first : OpenFault) (second : Option OpenFault) → IsFrom (place_of first) second → earlier (Some first) second ≡ Some first
+earlier-first : (first : OpenFault) (second : Option OpenFault) → IsFrom (fault_place first) second → earlier (Some first) second ≡ Some first
 earlier-first first second from = grind (arith, cond-false, le-ltb)
 
-earlier-second : (first : Option OpenFault) (second : OpenFault) → IsFrom (place_of second + 1) first → earlier first (Some second) ≡ Some second
+earlier-second : (first : Option OpenFault) (second : OpenFault) → IsFrom (fault_place second + 1) first → earlier first (Some second) ≡ Some second
 earlier-second first second from = grind arith
 
-from-if : (q : Bool) (at : ℕ) (first second : OpenFault) → at ≤ place_of first → at ≤ place_of second → IsFrom at (cond q (Some second) (Some first))
+from-if : (q : Bool) (at : ℕ) (first second : OpenFault) → at ≤ fault_place first → at ≤ fault_place second → IsFrom at (cond q (Some second) (Some first))
 from-if q at first second a b = grind arith
 
 earlier-from : (at : ℕ) (first second : Option OpenFault) → IsFrom at first → IsFrom at second → IsFrom at (earlier first second)
 earlier-from at first second a b = grind arith
 
 -- the refusals of one kind, by the place of a header
-pub element-from : {X : Type 0} (place : X → ℕ) (fault : X → OpenFault) → ((x : X) → place_of (fault x) ≡ place x) → (at n : ℕ) (xs : List X)
+pub element-from : {X : Type 0} (place : X → ℕ) (fault : X → OpenFault) → ((x : X) → fault_place (fault x) ≡ place x) → (at n : ℕ) (xs : List X)
     → All (λ x. at ≤ place x) xs → IsFrom at (option_map fault (slice_get xs n))
 element-from place fault same at n [] all = tt
 element-from place fault same at zero (x ∷ xs) all = grind (arith, All-head)

@@ -21,8 +21,8 @@ version_fault id None = Some (UnknownVersion id)
 version_fault id (Some version) = None
 
 -- the refusal of more bytes than the limit
-abbrev pub too_large : List ℕ → Numbers → Option OpenFault
-too_large bytes limits = if nat_lt limits.dump (length bytes) then Some (TooLarge (length bytes)) else None
+abbrev pub dump_too_large : List ℕ → Numbers → Option OpenFault
+dump_too_large bytes limits = if nat_lt limits.dump (length bytes) then Some (TooLarge (length bytes)) else None
 
 -- the refusal of bytes that begin as gzip writes
 abbrev pub compressed : List ℕ → Option OpenFault
@@ -64,17 +64,17 @@ abbrev pub large_headers : List Header → Numbers → Option OpenFault
 large_headers headers limits = option_map (λ header. HeadersTooLarge header.at) (slice_get (headers_over limits.pool headers) 0)
 
 -- the offset of the header that a refusal names
-abbrev pub place_of : OpenFault → ℕ
-place_of (HeaderTooLong at) = at
-place_of (TooManySections at) = at
-place_of (HeadersTooLarge at) = at
-place_of fault = 0
+abbrev pub fault_place : OpenFault → ℕ
+fault_place (HeaderTooLong at) = at
+fault_place (TooManySections at) = at
+fault_place (HeadersTooLarge at) = at
+fault_place fault = 0
 
 -- of two refusals, the one whose header begins first; for the same header, the first of the two
 abbrev pub earlier : Option OpenFault → Option OpenFault → Option OpenFault
 earlier None second = second
 earlier (Some first) None = Some first
-earlier (Some first) (Some second) = if nat_lt (place_of second) (place_of first) then Some second else Some first
+earlier (Some first) (Some second) = if nat_lt (fault_place second) (fault_place first) then Some second else Some first
 
 -- the refusal of a header: that of the first refused header
 -- in the dump, and of its refusals the first of these three
@@ -88,13 +88,13 @@ fault_of bytes limits =
     option_or (compressed bytes) (option_or (unsigned bytes) (option_or (other_version bytes limits) (header_fault bytes limits)))
 
 -- why the bytes of a dump are refused under these limits: the first cause that holds, or none
-abbrev pub opening : List ℕ → Numbers → Option OpenFault
-opening bytes limits = option_or (too_large bytes limits) (fault_of bytes limits)
+abbrev pub open_fault : List ℕ → Numbers → Option OpenFault
+open_fault bytes limits = option_or (dump_too_large bytes limits) (fault_of bytes limits)
 
 -- the bytes are accepted
 abbrev pub IsAccepted : List ℕ → Numbers → Type 0
-IsAccepted bytes limits = opening bytes limits ≡ None
+IsAccepted bytes limits = open_fault bytes limits ≡ None
 
 -- the bytes are refused for this cause, the first that holds
 abbrev pub IsRefusedFor : List ℕ → Numbers → OpenFault → Type 0
-IsRefusedFor bytes limits fault = opening bytes limits ≡ Some fault
+IsRefusedFor bytes limits fault = open_fault bytes limits ≡ Some fault

@@ -5,16 +5,16 @@ use Rattle.std.proofs.lemmas.List.{length-take, length-drop}
 use Rattle.std.proofs.lemmas.Option.{same_Some}
 use Rattle.dump_io.specs.Colons.{is_colon, has_colon, after_colon}
 use Rattle.dump_io.specs.Laws.Colons.{colon-within}
-use Rattle.dump_sections.specs.Sections.{name_of, tag_of, id_of}
+use Rattle.dump_sections.specs.Sections.{header_name, tag_of, id_of}
 
 -- the text has an equals sign, the tag, a colon and the id
 pub id-within : (text id : List ℕ) → id_of text ≡ Some id → length (tag_of text) + length id + 2 ≤ length text
-id-within text id is = by (has_colon (name_of text)) refl is
+id-within text id is = by (has_colon (header_name text)) refl is
   where
-    by : (b : Bool) → has_colon (name_of text) ≡ b → (if b then Some (after_colon (name_of text)) else None) ≡ Some id → length (tag_of text) + length id + 2 ≤ length text
+    by : (b : Bool) → has_colon (header_name text) ≡ b → (if b then Some (after_colon (header_name text)) else None) ≡ Some id → length (tag_of text) + length id + 2 ≤ length text
     by false e is = cc
     by true e is =
-        let name = name_of text in
+        let name = header_name text in
         let k = position_or_len is_colon name in
         omega (
           arith,

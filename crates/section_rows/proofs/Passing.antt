@@ -10,7 +10,7 @@ use Rattle.dump_sections.specs.Laws.{option_or-none}
 use Rattle.section_rows.specs.declared.columns.Kept.{Kept as LentKept}
 use Rattle.section_rows.specs.declared.columns.Column.{Column as LentColumn}
 use Rattle.section_rows.specs.declared.columns.Column.TheVariants.{Tag}
-use Rattle.section_rows.specs.Rows.{Kept, Column, tag, id, field, id_kept, cell_of}
+use Rattle.section_rows.specs.Rows.{Kept, Column, tag, id, field, id_kept, column_cell}
 use Rattle.section_rows.specs.Shown.{shown_cell, shown_column}
 use Rattle.section_rows.specs.Inner.Passing.{own_cell, later_cell, IsSettled, AreSettled, IsOver, AreOver}
 use Rattle.section_rows.specs.Inner.Places.{HasRoom}
@@ -97,18 +97,18 @@ by-place f (column ∷ columns) (cell ∷ cells) count each =
 
 module _ (s : Section) (body : List ℕ) (columns : List LentColumn) (cells : List (Option LentKept)) where
   -- once no line is left
-  pub cells-whole : (left : List TextLine) → left ≡ [] → AreSettled s body columns left cells → map shown_cell cells ≡ map (cell_of s body) (map shown_column columns)
+  pub cells-whole : (left : List TextLine) → left ≡ [] → AreSettled s body columns left cells → map shown_cell cells ≡ map (column_cell s body) (map shown_column columns)
   cells-whole left none all =
-      by-place (cell_of s body) columns cells all.count (λ k inside.
+      by-place (column_cell s body) columns cells all.count (λ k inside.
       let column = shown_column (get_or columns k Tag) in
       let cell = shown_cell (get_or cells k None) in
       sym ((all.each k inside).value ∙ ap (λ ls. option_or cell (later_cell s.body ls column)) none
       ∙ ap (option_or cell) (later-none s.body column) ∙ option_or-none cell))
 
   -- or once no line that is left matters
-  pub cells-over : (left : List TextLine) → AreOver columns cells → AreSettled s body columns left cells → map shown_cell cells ≡ map (cell_of s body) (map shown_column columns)
+  pub cells-over : (left : List TextLine) → AreOver columns cells → AreSettled s body columns left cells → map shown_cell cells ≡ map (column_cell s body) (map shown_column columns)
   cells-over left over all =
-      by-place (cell_of s body) columns cells all.count (λ k inside. sym ((all.each k inside).value ∙ (over k inside).stays s.body left))
+      by-place (column_cell s body) columns cells all.count (λ k inside. sym ((all.each k inside).value ∙ (over k inside).stays s.body left))
 
   pub cells-room : (left : List TextLine) → AreSettled s body columns left cells → All (λ (cell : Option LentKept). HasRoom s.at (shown_cell cell)) cells
   cells-room left all =

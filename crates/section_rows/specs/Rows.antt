@@ -35,10 +35,10 @@ abbrev pub field_kept : ℕ → List ℕ → List ℕ → Option Kept
 field_kept base body key = option_map (λ line. kept (base + line.at) (base + (place_of line).from) (value_of line.text)) (find_line body key)
 
 -- the cell of a column, for a section with this body
-abbrev pub cell_of : Section → List ℕ → Column → Option Kept
-cell_of s body tag = Some (tag_kept s)
-cell_of s body id = id_kept s
-cell_of s body (field key) = field_kept s.body body key
+abbrev pub column_cell : Section → List ℕ → Column → Option Kept
+column_cell s body tag = Some (tag_kept s)
+column_cell s body id = id_kept s
+column_cell s body (field key) = field_kept s.body body key
 
 -- a row: the offset of its section, and a cell for each column
 pub record Row : Type 0 where
@@ -47,7 +47,7 @@ pub record Row : Type 0 where
 
 -- the row of a section with this body
 abbrev pub row_of : List Column → Section → List ℕ → Row
-row_of columns s body = record { at = s.at; cells = map (cell_of s body) columns }
+row_of columns s body = record { at = s.at; cells = map (column_cell s body) columns }
 
 -- the rows of these sections of a dump
 abbrev pub rows_of : List ℕ → List Column → List Section → List Row
@@ -81,15 +81,15 @@ abbrev pub AreEven : Table → Type 0
 AreEven table = All (λ row. length row.cells ≡ table.width) table.rows
 
 -- offsets are within the largest dump, and a text is no longer than the largest body
-pub record IsBounded (k : Kept) : Type 0 where
+pub record IsBoundedText (k : Kept) : Type 0 where
   pub at : k.at ≤ usual.dump
   pub value_at : k.value_at ≤ usual.dump
   pub text : length k.text ≤ usual.section
 
 -- if there is a cell, it is within the bounds
 abbrev pub IsBoundedCell : Option Kept → Type 0
-IsBoundedCell cell = IfSome cell IsBounded
+IsBoundedCell cell = IfSome cell IsBoundedText
 
 -- all cells of a table are within the bounds
-abbrev pub AreBounded : Table → Type 0
-AreBounded table = All (λ row. All IsBoundedCell row.cells) table.rows
+abbrev pub AreBoundedCells : Table → Type 0
+AreBoundedCells table = All (λ row. All IsBoundedCell row.cells) table.rows

@@ -3,6 +3,12 @@
 //!
 //! [`SectionRows::load`] reads the bodies of the sections one after
 //! another, takes from each what the columns ask for, and frees it.
+//!
+//! ```text
+//! let columns = [Column::Id, Column::Field(b"Memory")];
+//! let rows = SectionRows::load(alloc, &mut dumps, &index, &places, &columns, &limits)?;
+//! let memory = rows.cell(0, 1);
+//! ```
 #![tactic(auto)]
 
 mod columns;

@@ -3,7 +3,7 @@ ghost use Rattle.std.specs.Prelude.{◌≡◌, ◌<◌, ◌≤◌, length, map, 
 ghost use Rattle.dump_io.specs.Dumps.{ReadsAtMost};
 ghost use Rattle.dump_sections.specs.Bodies.{section_at, body_length};
 ghost use Rattle.dump_sections.specs.Index.{IsBuiltOver};
-ghost use Rattle.dump_sections.specs.Loading.{sections_at, bodies_length, IsUnread};
+ghost use Rattle.dump_sections.specs.Loading.{sections_at, bodies_length, IsUnloaded};
 ghost use Rattle.section_rows.specs.Shown.{shown_column};
 ghost use Rattle.section_rows.specs.Inner.Gains.{GainsRow, HoldsRows};
 ghost use Rattle.section_rows.specs.Inner.Lent.{IsLent, shown_section};
@@ -41,7 +41,7 @@ fn load_row<D: Dumps>(
     requires within { AreWithin store.old }
     ensures reads { ReadsAtMost (D.state dumps.old) (D.state dumps.new) (body_length (section_at index.now i)) }
     ensures row { OnOk result (GainsRow (D.state dumps.old).now (map shown_column columns.now) (section_at index.now i) store.old store.new) }
-    ensures fault { IfErr result (IsUnread (D.state dumps.old) (D.state dumps.new)) }
+    ensures fault { IfErr result (IsUnloaded (D.state dumps.old) (D.state dumps.new)) }
 {
     let section = lent(index, i);
     let body = read_body(alloc, dumps, index, i, limits)?;
@@ -64,7 +64,7 @@ pub(crate) fn load_rows<D: Dumps>(
     requires small { All (λ i. body_length (section_at index.now i) ≤ limits.now.section) sections.now }
     ensures reads { ReadsAtMost (D.state dumps.old) (D.state dumps.new) (bodies_length (sections_at index.now sections.now)) }
     ensures rows { IfOk result (HoldsRows (D.state dumps.old).now (map shown_column columns.now) (sections_at index.now sections.now)) }
-    ensures fault { IfErr result (IsUnread (D.state dumps.old) (D.state dumps.new)) }
+    ensures fault { IfErr result (IsUnloaded (D.state dumps.old) (D.state dumps.new)) }
 {
     let mut store = Store::new(alloc, columns.len());
     for i in sections {

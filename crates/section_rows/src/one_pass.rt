@@ -3,7 +3,7 @@ ghost use Rattle.std.specs.Prelude.{◌≡◌, ℕ, List, ◌+◌, ◌<◌, ◌�
 ghost use Rattle.dump_io.specs.Limits.{usual};
 ghost use Rattle.field_lines.specs.Lines.{TextLine, text_lines};
 ghost use Rattle.field_lines.specs.Shown.{shown_line};
-ghost use Rattle.section_rows.specs.Rows.{cell_of};
+ghost use Rattle.section_rows.specs.Rows.{column_cell};
 ghost use Rattle.section_rows.specs.Shown.{shown_cell, shown_column};
 ghost use Rattle.section_rows.specs.Inner.Lent.{IsLent, shown_section};
 ghost use Rattle.section_rows.specs.Inner.Passing.{IsSettled, AreSettled, IsOver, AreOver};
@@ -110,7 +110,7 @@ pub(crate) fn cells_of<'a>(
     requires lent { IsLent section.now }
     requires body { section.now.body + length body.now ≤ section.now.end }
     requires small { length body.now ≤ usual.section }
-    ensures cells { IfOk result (λ cells. map shown_cell cells.items ≡ map (cell_of (shown_section section.now) body.now) (map shown_column columns.now)) }
+    ensures cells { IfOk result (λ cells. map shown_cell cells.items ≡ map (column_cell (shown_section section.now) body.now) (map shown_column columns.now)) }
     ensures room { IfOk result (λ cells. All (λ cell. HasRoom section.now.at (shown_cell cell)) cells.items) }
 {
     let mut cells = own_cells(alloc, section, columns)?;

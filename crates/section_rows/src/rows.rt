@@ -2,7 +2,7 @@
 ghost use Rattle.std.specs.Prelude.{◌≡◌, ◌<◌, length, map, slice_get, Some, None, All, IfOk, IsErrOf, IfSome};
 ghost use Rattle.dump_sections.specs.Index.{IsBuiltOver};
 ghost use Rattle.dump_sections.specs.Loading.{sections_at, large_fault, LoadsBodies};
-ghost use Rattle.section_rows.specs.Rows.{row_at, AreRowsOf, AreEven, AreBounded};
+ghost use Rattle.section_rows.specs.Rows.{row_at, AreRowsOf, AreEven, AreBoundedCells};
 ghost use Rattle.section_rows.specs.Shown.{shown_cell, shown_column};
 
 use crate::columns::{Column, Kept};
@@ -65,7 +65,7 @@ impl SectionRows {
     pub fn len(&self) -> usize
         ensures value { result ≡ length self.now.rows }
         ensures even { AreEven self.now }
-        ensures bounded { AreBounded self.now }
+        ensures bounded { AreBoundedCells self.now }
     {
         self.store.len()
     }

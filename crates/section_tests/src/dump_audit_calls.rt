@@ -1,6 +1,6 @@
 ghost use Rattle.std.specs.Prelude.{All};
 ghost use Rattle.dump_sections.specs.Index.{IsBuiltOver};
-ghost use Rattle.process_table.specs.Processes.{IsIn};
+ghost use Rattle.process_table.specs.Processes.{IsProcessIn};
 
 use dump_audit::{Finding, audit, audit_full};
 use dump_io::{Dumps, Limits, MemDumps};
@@ -22,7 +22,7 @@ fn findings_among(
     limit: u64,
     mails: Option<&[Option<u64>]>,
 ) -> Result<Vec<Finding>, AllocError>
-    requires { All (IsIn index.now) procs.now.processes }
+    requires { All (IsProcessIn index.now) procs.now.processes }
 {
     let graph = Graph::build(alloc, procs)?;
     match mails {

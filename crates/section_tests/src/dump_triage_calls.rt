@@ -1,6 +1,6 @@
 ghost use Rattle.std.specs.Prelude.{All};
 ghost use Rattle.dump_sections.specs.Index.{IsBuiltOver};
-ghost use Rattle.process_table.specs.Processes.{IsIn};
+ghost use Rattle.process_table.specs.Processes.{IsProcessIn};
 
 use dump_io::{Dumps, Failed, Limits, MemDumps, MemSink, Sink, put_dec, write_all};
 use dump_sections::Index;
@@ -75,7 +75,7 @@ fn triage_with<D: Dumps>(
     most: u64,
 ) -> Result<Triage, Fail>
     requires over { IsBuiltOver (D.state dumps.old).now index.now }
-    requires sections { All (IsIn index.now) procs.now.processes }
+    requires sections { All (IsProcessIn index.now) procs.now.processes }
 {
     let tables = Rows::load(alloc, dumps, index, TableKind::Ets, &Limits::usual())?;
     Ok(Triage::of(alloc, index, procs, &tables, most)?)

@@ -17,7 +17,7 @@ use Rattle.dump_io.specs.Numbers.{hex_number}
 use Rattle.dump_io.specs.Laws.Lists.{position-at, position-none}
 use Rattle.dump_sections.specs.Lookups.{has_hex, has_tag}
 use Rattle.dump_sections.specs.Sections.{Section, section, id_of}
-use Rattle.stored_binaries.specs.StoredBinaries.{number_of}
+use Rattle.stored_binaries.specs.StoredBinaries.{binary_number}
 use Rattle.stored_binaries.specs.Inner.Places.{number_at, rank, IsPairOf, ArePairs, AreOrdered}
 
 -- ---- the test of a section
@@ -32,10 +32,10 @@ only-number false o a is = absurd (true≢false (sym is))
 only-number true None a is = absurd (true≢false (sym is))
 only-number true (Some n) a is = ap Some (eqb-true n a is)
 
-has-hex : (s : Section) (a : ℕ) → number_of s ≡ Some a → has_hex (codes "binary") a s.text ≡ true
+has-hex : (s : Section) (a : ℕ) → binary_number s ≡ Some a → has_hex (codes "binary") a s.text ≡ true
 has-hex s a is = has-number (has_tag (codes "binary") s.text) (option_and_then hex_number (id_of s.text)) a is
 
-lacks-hex : (s : Section) (a : ℕ) → (number_of s ≡ Some a → ⊥) → has_hex (codes "binary") a s.text ≡ false
+lacks-hex : (s : Section) (a : ℕ) → (binary_number s ≡ Some a → ⊥) → has_hex (codes "binary") a s.text ≡ false
 lacks-hex s a other =
     false_from_ne_true _ (λ same. other (only-number (has_tag (codes "binary") s.text) (option_and_then hex_number (id_of s.text)) a same))
 
@@ -48,8 +48,8 @@ binary_place sections address = position (λ section. has_hex (codes "binary") a
 no_section : Section
 no_section = section 0 0 0 []
 
-at-place : (ss : List Section) (n : ℕ) → n < length ss → number_at ss n ≡ number_of (get_or ss n no_section)
-at-place ss n inside = ap (option_and_then number_of) (slice_get-get_or ss n no_section inside)
+at-place : (ss : List Section) (n : ℕ) → n < length ss → number_at ss n ≡ binary_number (get_or ss n no_section)
+at-place ss n inside = ap (option_and_then binary_number) (slice_get-get_or ss n no_section inside)
 
 place-first : (ss : List Section) (a n : ℕ) → n < length ss → number_at ss n ≡ Some a → ((m : ℕ) → m < n → number_at ss m ≡ Some a → ⊥) → binary_place ss a ≡ Some n
 place-first ss a n inside is none =

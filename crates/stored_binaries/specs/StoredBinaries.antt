@@ -7,8 +7,8 @@ use Rattle.dump_sections.specs.Sections.{Section, id_of}
 use Rattle.term_forms.specs.Words.{led_of}
 
 -- the number of a section whose tag is `binary` and whose id is that number in hex
-abbrev pub number_of : Section → Option ℕ
-number_of section = if has_tag (codes "binary") section.text then option_and_then hex_number (id_of section.text) else None
+abbrev pub binary_number : Section → Option ℕ
+binary_number section = if has_tag (codes "binary") section.text then option_and_then hex_number (id_of section.text) else None
 
 -- the first `binary` section whose id is the address in hex
 abbrev pub binary_section : ℕ → List Section → Option Section

@@ -5,7 +5,7 @@ ghost use Rattle.std.specs.Str.{bytes_eq};
 ghost use Rattle.dump_io.specs.Numbers.{hex_number};
 ghost use Rattle.dump_sections.specs.Bodies.{section_at, section_in};
 ghost use Rattle.dump_sections.specs.Index.{sections_in};
-ghost use Rattle.stored_binaries.specs.StoredBinaries.{binary_section, number_of};
+ghost use Rattle.stored_binaries.specs.StoredBinaries.{binary_section, binary_number};
 
 use dump_io::hex_u64;
 use dump_sections::Index;
@@ -25,7 +25,7 @@ fn number_with(tag: &[u8], id: Option<&[u8]>) -> Option<u64>
 /// in hex. `None` if its tag isn't `binary`, or if its id isn't hex.
 pub fn binary_number(index: &Index, i: usize) -> Option<u64>
     requires { i < length index.now.headers }
-    ensures number { result ≡ number_of (section_at index.now i) }
+    ensures number { result ≡ binary_number (section_at index.now i) }
     ensures section { slice_get (sections_in index.now) i ≡ Some (section_at index.now i) }
 {
     let section = index.section(i);

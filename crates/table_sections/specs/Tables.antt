@@ -29,6 +29,6 @@ pub record AreListed (index : Contents) (found : TablePlaces) : Type 0 where
   pub within : All (λ i. i < length index.headers) found.places
 
 -- the rows are those of the index's sections, whatever their cells are
-pub record IsOver (kind : TableKind) (index : Contents) (table : Table) : Type 0 where
+pub record IsTableOver (kind : TableKind) (index : Contents) (table : Table) : Type 0 where
   pub width : table.width ≡ length (columns_of kind)
   pub places : map (λ row. row.at) table.rows ≡ map (λ s. s.at) (listed kind (sections_in index))

@@ -3,6 +3,13 @@
 //!
 //! [`Rows::load`] finds the sections of a table and reads their bodies one after another.
 //! [`TableSections::find`] only finds them, for a caller that has more to judge before [`Rows::read`].
+//!
+//! ```text
+//! let rows = Rows::load(alloc, &mut dumps, &index, TableKind::Ets, &limits)?;
+//! for i in 0..rows.len() {
+//!     let id = rows.cell(i, 0);
+//! }
+//! ```
 #![tactic(auto)]
 
 mod kinds;

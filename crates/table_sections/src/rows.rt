@@ -5,7 +5,7 @@ ghost use Rattle.dump_io.specs.Dumps.{told};
 ghost use Rattle.dump_sections.specs.Index.{IsBuiltOver, sections_in};
 ghost use Rattle.dump_sections.specs.Loading.{LoadsBodies};
 ghost use Rattle.section_rows.specs.Rows.{row_at, cell_at, text_in, AreEven};
-ghost use Rattle.table_sections.specs.Tables.{listed, table_of, AreListed, IsOver};
+ghost use Rattle.table_sections.specs.Tables.{listed, table_of, AreListed, IsTableOver};
 
 use crate::kinds::{TableKind, columns};
 use crate::places::TableSections;
@@ -47,7 +47,7 @@ impl Rows {
         requires { IsBuiltOver (D.state dumps.old).now index.now }
         ensures loads { LoadsBodies D.state (listed kind (sections_in index.now)) limits.now.section dumps.old dumps.new result }
         ensures table { IfOk result (λ rows. (bytes : List ℕ) → (D.state dumps.old).now ≡ told bytes → rows ≡ table_of kind bytes) }
-        ensures over { IfOk result (IsOver kind index.now) }
+        ensures over { IfOk result (IsTableOver kind index.now) }
     {
         let Ok(found) = TableSections::find(alloc, index, kind) else {
             return Err(BodyFault::Memory);
@@ -71,7 +71,7 @@ impl Rows {
         requires found { AreListed index.now found }
         ensures loads { LoadsBodies D.state (listed found.kind (sections_in index.now)) limits.now.section dumps.old dumps.new result }
         ensures table { IfOk result (λ rows. (bytes : List ℕ) → (D.state dumps.old).now ≡ told bytes → rows ≡ table_of found.kind bytes) }
-        ensures over { IfOk result (IsOver found.kind index.now) }
+        ensures over { IfOk result (IsTableOver found.kind index.now) }
     {
         let (kind, places) = found.into_parts();
         let rows = SectionRows::load(alloc, dumps, index, &places, columns(kind), limits)?;

@@ -10,7 +10,8 @@ use Rattle.std.proofs.lemmas.List.Sums.{prefix_len-le-length}
 use Rattle.std.proofs.lemmas.List.Folds.{length-prefix_len}
 use Rattle.std.proofs.lemmas.Slice.Eq.{starts_is}
 use Rattle.std.proofs.Math.Seq.{take-append-add}
-use Rattle.term_forms.specs.Words.{is_digits, is_integer, is_dotted, IsBracketed}
+use Rattle.dump_io.specs.Numbers.{is_digits}
+use Rattle.term_forms.specs.Words.{is_integer, is_number_byte, IsBracketed}
 use Rattle.term_forms.specs.Inner.Chain.{◌>>=◌}
 use Rattle.term_forms.specs.Inner.Fronts.{digits_len, integer_len, bracketed_len, minus, less, greater}
 use Rattle.term_forms.proofs.Steps.{bind_some, bind_from, chosen, guard_some, guard_from}
@@ -92,7 +93,7 @@ integer_sound (c ∷ text) n h = of (chosen (c == minus) (digits_len text >>= λ
         )
 
 -- how a text in brackets is read, by where its dotted bytes end
-bracketed_at : (c : ℕ) (text : List ℕ) (n : ℕ) → prefix_len is_dotted text ≡ n → (c == less) ≡ true → 0 < n → starts_with nat_eq (drop n text) (greater ∷ []) ≡ true
+bracketed_at : (c : ℕ) (text : List ℕ) (n : ℕ) → prefix_len is_number_byte text ≡ n → (c == less) ≡ true → 0 < n → starts_with nat_eq (drop n text) (greater ∷ []) ≡ true
     → bracketed_len (c ∷ text) ≡ Some (n + 2)
 unfolding bracketed_len
 bracketed_at c text n run first some last =
@@ -106,12 +107,12 @@ bracketed_full text rest is =
     let inner = is.0 in
     let split : text ++ rest ≡ less ∷ (inner ++ greater ∷ rest) = ap (λ t. t ++ rest) is.3 ∙ ap (λ t. less ∷ t) (append_assoc inner (greater ∷ []) rest) in
     let size : length inner + 2 ≡ length text = omega (arith, ap length is.3, length-append inner (greater ∷ [])) in
-    let over : prefix_len is_dotted (inner ++ greater ∷ rest) ≡ length inner + 0 = run_over is_dotted inner (greater ∷ rest) is.2 in
-    let run : prefix_len is_dotted (inner ++ greater ∷ rest) ≡ length inner = omega (arith, over) in
+    let over : prefix_len is_number_byte (inner ++ greater ∷ rest) ≡ length inner + 0 = run_over is_number_byte inner (greater ∷ rest) is.2 in
+    let run : prefix_len is_number_byte (inner ++ greater ∷ rest) ≡ length inner = omega (arith, over) in
     let last : starts_with nat_eq (drop (length inner) (inner ++ greater ∷ rest)) (greater ∷ []) ≡ true = ap (λ t. starts_with nat_eq t (greater ∷ [])) (drop_at inner (greater ∷ rest) (length inner) refl) in
     ap bracketed_len split ∙ bracketed_at less (inner ++ greater ∷ rest) (length inner) run refl is.1 last ∙ ap Some size
 
-bracketed_split : (c : ℕ) (text : List ℕ) (n : ℕ) (inner rest : List ℕ) → text ≡ inner ++ greater ∷ rest → c ≡ less → 0 < length inner → list_all is_dotted inner ≡ true → length inner + 2 ≡ n
+bracketed_split : (c : ℕ) (text : List ℕ) (n : ℕ) (inner rest : List ℕ) → text ≡ inner ++ greater ∷ rest → c ≡ less → 0 < length inner → list_all is_number_byte inner ≡ true → length inner + 2 ≡ n
     → (n ≤ length (c ∷ text)) × IsBracketed (take n (c ∷ text))
 bracketed_split c text n inner rest split first some dotted size =
     let count : length text ≡ length inner + suc (length rest) = ap length split ∙ length-append inner (greater ∷ rest) in
@@ -130,14 +131,14 @@ pub bracketed_sound : (text : List ℕ) (n : ℕ) → bracketed_len text ≡ Som
 unfolding bracketed_len
 bracketed_sound [] n h = absurd (let e : None ≡ Some n = h in cc)
 bracketed_sound (c ∷ text) n h =
-    let found = guard_some ((c == less) && nat_lt 0 (prefix_len is_dotted text) && starts_with nat_eq (drop (prefix_len is_dotted text) text) (greater ∷ [])) (prefix_len is_dotted text + 2) n h in
-    let outer = and_parts ((c == less) && nat_lt 0 (prefix_len is_dotted text)) (starts_with nat_eq (drop (prefix_len is_dotted text) text) (greater ∷ [])) found.0 in
-    let both = and_parts (c == less) (nat_lt 0 (prefix_len is_dotted text)) outer.0 in
-    let split : text ≡ take (prefix_len is_dotted text) text ++ (greater ∷ drop 1 (drop (prefix_len is_dotted text) text)) =
-    sym (take-append-drop (prefix_len is_dotted text) text)
-    ∙ ap (λ t. take (prefix_len is_dotted text) text ++ t) (starts_parts (drop (prefix_len is_dotted text) text) (greater ∷ []) outer.1) in
-    let count : length (take (prefix_len is_dotted text) text) ≡ prefix_len is_dotted text = length-prefix_len is_dotted text in
-    let some : 0 < prefix_len is_dotted text = ltb-true 0 (prefix_len is_dotted text) both.1 in
-    let size : prefix_len is_dotted text + 2 ≡ n = found.1 in
-    bracketed_split c text n (take (prefix_len is_dotted text) text) (drop 1 (drop (prefix_len is_dotted text) text)) split (eqb-true c less both.0)
-    (omega (arith, count, some)) (run_passes is_dotted text) (omega (arith, size, count))
+    let found = guard_some ((c == less) && nat_lt 0 (prefix_len is_number_byte text) && starts_with nat_eq (drop (prefix_len is_number_byte text) text) (greater ∷ [])) (prefix_len is_number_byte text + 2) n h in
+    let outer = and_parts ((c == less) && nat_lt 0 (prefix_len is_number_byte text)) (starts_with nat_eq (drop (prefix_len is_number_byte text) text) (greater ∷ [])) found.0 in
+    let both = and_parts (c == less) (nat_lt 0 (prefix_len is_number_byte text)) outer.0 in
+    let split : text ≡ take (prefix_len is_number_byte text) text ++ (greater ∷ drop 1 (drop (prefix_len is_number_byte text) text)) =
+    sym (take-append-drop (prefix_len is_number_byte text) text)
+    ∙ ap (λ t. take (prefix_len is_number_byte text) text ++ t) (starts_parts (drop (prefix_len is_number_byte text) text) (greater ∷ []) outer.1) in
+    let count : length (take (prefix_len is_number_byte text) text) ≡ prefix_len is_number_byte text = length-prefix_len is_number_byte text in
+    let some : 0 < prefix_len is_number_byte text = ltb-true 0 (prefix_len is_number_byte text) both.1 in
+    let size : prefix_len is_number_byte text + 2 ≡ n = found.1 in
+    bracketed_split c text n (take (prefix_len is_number_byte text) text) (drop 1 (drop (prefix_len is_number_byte text) text)) split (eqb-true c less both.0)
+    (omega (arith, count, some)) (run_passes is_number_byte text) (omega (arith, size, count))

@@ -3,7 +3,7 @@ use Rattle.std.specs.Prelude.{◌≡◌, ℕ, ◌<◌, ◌==◌, Bool, false, �
 use Rattle.std.specs.List.{list_all, starts_with}
 use Rattle.std.specs.Char.{digit_value, is_ascii_digit}
 use Rattle.dump_io.specs.Colons.{has_colon, before_colon, after_colon}
-use Rattle.dump_io.specs.Numbers.{hex_number}
+use Rattle.dump_io.specs.Numbers.{hex_number, is_digits}
 pub use Rattle.dump_io.specs.Colons.{colon}
 
 -- the byte of a text of one letter
@@ -23,23 +23,19 @@ bar = 124
 abbrev pub is_hex_digit : ℕ → Bool
 is_hex_digit c = nat_lt (digit_value c) 16
 
--- one or more decimal digits
-abbrev pub is_digits : List ℕ → Bool
-is_digits text = nat_lt 0 (length text) && list_all is_ascii_digit text
-
 -- an optional minus, and digits
 abbrev pub is_integer : List ℕ → Bool
 is_integer [] = false
 is_integer (c ∷ text) = if c == letter (codes "-") then is_digits text else is_digits (c ∷ text)
 
 -- a byte of the number of a pid or a port
-abbrev pub is_dotted : ℕ → Bool
-is_dotted c = is_ascii_digit c || c == letter (codes ".")
+abbrev pub is_number_byte : ℕ → Bool
+is_number_byte c = is_ascii_digit c || c == letter (codes ".")
 
 -- `<`, one or more of `0` to `9` and `.`, and `>`
 abbrev pub IsBracketed : List ℕ → Type 0
 IsBracketed text =
-    (inner : List ℕ) × (0 < length inner) × IsTrue (list_all is_dotted inner) × (text ≡ codes "<" ++ (inner ++ codes ">"))
+    (inner : List ℕ) × (0 < length inner) × IsTrue (list_all is_number_byte inner) × (text ≡ codes "<" ++ (inner ++ codes ">"))
 
 -- the text is a hex number n, a colon, and the rest
 abbrev pub IsLed : List ℕ → ℕ → List ℕ → Type 0

@@ -4,11 +4,11 @@ ghost use Rattle.std.specs.List.{prefix_len, list_all};
 ghost use Rattle.std.specs.Option.{option_map};
 ghost use Rattle.std.specs.Char.{is_ascii_digit};
 ghost use Rattle.dump_io.specs.Numbers.{hex_number};
-ghost use Rattle.term_forms.specs.Words.{is_hex_digit, is_dotted, is_digits, is_hex_digits, is_based, is_long, IsLed, led_of};
+ghost use Rattle.term_forms.specs.Words.{is_hex_digit, is_number_byte, is_hex_digits, is_based, is_long, IsLed, led_of};
 ghost use Rattle.term_forms.specs.Inner.Fronts.{digits_len, integer_len, bracketed_len};
 ghost use Rattle.term_forms.specs.Seen.{number_rest};
 
-use dump_io::{hex_u64, split_at_colon};
+use dump_io::{hex_u64, is_digits, split_at_colon};
 
 // A hex number of 1 to 16 digits before the first colon, such as an
 // arity, a length or an address, and what stands after that colon.
@@ -62,7 +62,7 @@ fn digit_run(text: &[u8]) -> usize
 }
 
 fn dotted_run(text: &[u8]) -> usize
-    ensures exact { result ≡ prefix_len is_dotted text.now }
+    ensures exact { result ≡ prefix_len is_number_byte text.now }
     ensures within { result ≤ length text.now }
 {
     text.iter()
@@ -119,22 +119,10 @@ pub(crate) fn bracketed_prefix(text: &[u8]) -> Option<usize>
     }
 }
 
-fn all_digits(text: &[u8]) -> bool
-    ensures { result ≡ list_all is_ascii_digit text.now }
-{
-    text.iter().all(|c| c.is_ascii_digit())
-}
-
 fn all_hex_digits(text: &[u8]) -> bool
     ensures { result ≡ list_all is_hex_digit text.now }
 {
     text.iter().all(|c| char::from(*c).is_digit(16))
-}
-
-fn is_digits(text: &[u8]) -> bool
-    ensures { result ≡ is_digits text.now }
-{
-    !text.is_empty() && all_digits(text)
 }
 
 fn is_hex_digits(text: &[u8]) -> bool

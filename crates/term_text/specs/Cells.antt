@@ -12,21 +12,21 @@ use Rattle.cell_records.specs.declared.cells.Kind.TheVariants as kind
 use Rattle.report_lines.specs.Lines.{count_line, line_of, tab, text_or_dash, total_line}
 
 -- the word for a kind of cells; a cell without a kind is malformed
-abbrev pub kind_word : Option Kind → List ℕ
-kind_word None = codes "malformed"
-kind_word (Some kind.List) = codes "list"
-kind_word (Some kind.Tuple) = codes "tuple"
-kind_word (Some kind.Float) = codes "float"
-kind_word (Some kind.Long) = codes "bignum"
-kind_word (Some kind.Pid) = codes "pid"
-kind_word (Some kind.Port) = codes "port"
-kind_word (Some kind.Ext) = codes "external"
-kind_word (Some kind.HeapBin) = codes "heap-binary"
-kind_word (Some kind.RefBin) = codes "ref-binary"
-kind_word (Some kind.SubBin) = codes "sub-binary"
-kind_word (Some kind.Flat) = codes "flat-map"
-kind_word (Some kind.Hash) = codes "hash-map"
-kind_word (Some kind.Node) = codes "map-node"
+abbrev pub cell_word : Option Kind → List ℕ
+cell_word None = codes "malformed"
+cell_word (Some kind.List) = codes "list"
+cell_word (Some kind.Tuple) = codes "tuple"
+cell_word (Some kind.Float) = codes "float"
+cell_word (Some kind.Long) = codes "bignum"
+cell_word (Some kind.Pid) = codes "pid"
+cell_word (Some kind.Port) = codes "port"
+cell_word (Some kind.Ext) = codes "external"
+cell_word (Some kind.HeapBin) = codes "heap-binary"
+cell_word (Some kind.RefBin) = codes "ref-binary"
+cell_word (Some kind.SubBin) = codes "sub-binary"
+cell_word (Some kind.Flat) = codes "flat-map"
+cell_word (Some kind.Hash) = codes "hash-map"
+cell_word (Some kind.Node) = codes "map-node"
 
 -- all kinds in the order in which they are counted
 abbrev pub all_kinds : List (Option Kind)
@@ -36,34 +36,34 @@ all_kinds =
 
 -- how large a form is: the number of its elements or its bytes,
 -- or what a hash map states; numbers, pids and ports have no size
-abbrev pub size_in : HeapForm → Option ℕ
-size_in (Cons head tail) = Some 2
-size_in (Tuple elements) = Some (length elements)
-size_in (Ext size chars) = Some size
-size_in (HeapBin size chars) = Some size
-size_in (RefBin address offset size) = Some size
-size_in (SubBin address offset size) = Some size
-size_in (Flat keys values) = Some (length values)
-size_in (Hash size children) = Some size
-size_in (Node children) = Some (length children)
-size_in form = None
+abbrev pub form_size : HeapForm → Option ℕ
+form_size (Cons head tail) = Some 2
+form_size (Tuple elements) = Some (length elements)
+form_size (Ext size chars) = Some size
+form_size (HeapBin size chars) = Some size
+form_size (RefBin address offset size) = Some size
+form_size (SubBin address offset size) = Some size
+form_size (Flat keys values) = Some (length values)
+form_size (Hash size children) = Some size
+form_size (Node children) = Some (length children)
+form_size form = None
 
 -- the word for the kind of a form
 abbrev pub word_of : Option HeapForm → List ℕ
-word_of form = kind_word (option_map kind_of form)
+word_of form = cell_word (option_map kind_of form)
 
 -- the line of a cell: its address, its kind and its size, or `-` if it has none
 abbrev pub cell_line : Cell → List ℕ
 cell_line cell =
-    line_of tab (hexadecimal cell.address ∷ word_of cell.form ∷ text_or_dash (option_map decimal (option_and_then size_in cell.form)) ∷ [])
+    line_of tab (hexadecimal cell.address ∷ word_of cell.form ∷ text_or_dash (option_map decimal (option_and_then form_size cell.form)) ∷ [])
 
 -- how many of some cells have the kind with this word
-abbrev pub count_of : List Cell → List ℕ → ℕ
-count_of cells word = count_by (λ cell. bytes_eq (word_of cell.form) word) cells
+abbrev pub word_count : List Cell → List ℕ → ℕ
+word_count cells word = count_by (λ cell. bytes_eq (word_of cell.form) word) cells
 
 -- the line of a kind among some cells
 abbrev pub kind_line : List Cell → Option Kind → List ℕ
-kind_line cells kind = count_line (codes "kind") (kind_word kind) (count_of cells (kind_word kind))
+kind_line cells kind = count_line (codes "kind") (cell_word kind) (word_count cells (cell_word kind))
 
 -- the report of some cells
 abbrev pub cells_text : List Cell → List ℕ

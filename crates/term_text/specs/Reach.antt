@@ -6,7 +6,7 @@ use Rattle.term_forms.specs.Elements.{Element}
 use Rattle.root_views.specs.Roots.{BodyRoot, Content, Term}
 use Rattle.heap_cells.specs.HeapMap.{HeapMap}
 use Rattle.heap_reach.specs.Unreached.{count_below, unreached_of}
-use Rattle.report_lines.specs.Lines.{line_of, space}
+use Rattle.report_lines.specs.Lines.{line_of, word_space}
 
 -- the element of a root, if it is a term
 abbrev pub term_in : Content → List Element
@@ -14,17 +14,17 @@ term_in (Term e) = e ∷ []
 term_in content = []
 
 -- the elements of the roots that are terms
-abbrev pub terms_of : List BodyRoot → List Element
-terms_of roots = flat_map (λ root. term_in root.content) roots
+abbrev pub root_elements : List BodyRoot → List Element
+root_elements roots = flat_map (λ root. term_in root.content) roots
 
 -- the line of a cell that isn't reached
 abbrev pub unreached_line : ℕ → List ℕ
-unreached_line address = line_of space (codes "unreached" ∷ hexadecimal address ∷ [])
+unreached_line address = line_of word_space (codes "unreached" ∷ hexadecimal address ∷ [])
 
 -- the last line: how many cells a heap has of its own, how many of them are reached, and how many literals are reached
 abbrev pub totals_line : ℕ → ℕ → ℕ → List ℕ
 totals_line own reached literals =
-    line_of space (codes "own" ∷ decimal own ∷ codes "reached" ∷ decimal reached ∷ codes "literals" ∷ decimal literals ∷ [])
+    line_of word_space (codes "own" ∷ decimal own ∷ codes "reached" ∷ decimal reached ∷ codes "literals" ∷ decimal literals ∷ [])
 
 -- the report on a heap of which this set of cells is reached: the literals come after its own cells
 abbrev pub reach_report : HeapMap → (ℕ → Bool) → List ℕ

@@ -6,7 +6,7 @@ use Rattle.etf_terms.specs.Reading.{external_text}
 use Rattle.term_forms.specs.Elements.{Element, Ref}
 use Rattle.term_unfold.specs.Walks.{Walk, answer}
 use Rattle.root_views.specs.Roots.{Content, Term, Info, Dist, Unread, BodyRoot}
-use Rattle.report_lines.specs.Lines.{line_of, newline, space, total_line}
+use Rattle.report_lines.specs.Lines.{line_of, newline, word_space, total_line}
 
 -- the answer to an element within a budget of nodes, over a heap and its previews
 abbrev pub answer_over : Walk → ℕ → Bool → Element → List ℕ
@@ -21,7 +21,7 @@ content_text say Unread = codes "?"
 
 -- the line of a root: its offset, given where the body begins, its label, and what it is
 abbrev pub root_line : (Element → List ℕ) → ℕ → BodyRoot → List ℕ
-root_line say base root = line_of space (decimal (base + root.at) ∷ root.label ∷ content_text say root.content ∷ [])
+root_line say base root = line_of word_space (decimal (base + root.at) ∷ root.label ∷ content_text say root.content ∷ [])
 
 -- the report of the roots of a body that begins at this offset
 abbrev pub roots_report : (Element → List ℕ) → ℕ → List BodyRoot → List ℕ
@@ -50,7 +50,7 @@ line_count bytes = (length bytes + 31) / 32
 
 -- the first line: the address of a binary, and how many bytes it has
 abbrev pub binary_heading : ℕ → ℕ → List ℕ
-binary_heading address size = line_of space (codes "binary" ∷ hexadecimal address ∷ codes "size" ∷ decimal size ∷ [])
+binary_heading address size = line_of word_space (codes "binary" ∷ hexadecimal address ∷ codes "size" ∷ decimal size ∷ [])
 
 -- the report of the binary with this address
 abbrev pub binary_report : ℕ → List ℕ → List ℕ

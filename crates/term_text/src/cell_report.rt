@@ -8,7 +8,7 @@ ghost use Rattle.dump_io.specs.Sinks.{Puts};
 ghost use Rattle.term_forms.specs.SeenForms.{heap_form};
 ghost use Rattle.heap_cells.specs.Targets.{number};
 ghost use Rattle.report_lines.specs.Lines.{text_or_dash, total_line};
-ghost use Rattle.term_text.specs.Cells.{all_kinds, cell_line, cells_report, count_of, kind_line, kind_word, size_in, word_of};
+ghost use Rattle.term_text.specs.Cells.{all_kinds, cell_line, cells_report, word_count, kind_line, cell_word, form_size, word_of};
 ghost use Rattle.term_text.specs.Inner.Cells.{cell_at};
 
 use dump_io::{Failed, Piece, Sink};
@@ -17,7 +17,7 @@ use report_lines::{put_count_line, put_line, put_total_line};
 use term_forms::shapes::Form;
 
 fn kind_word(kind: Option<Kind>) -> &'static [u8]
-    ensures { result.now ≡ kind_word kind }
+    ensures { result.now ≡ cell_word kind }
 {
     match kind {
         None => b"malformed",
@@ -39,7 +39,7 @@ fn kind_word(kind: Option<Kind>) -> &'static [u8]
 
 // The size of a form, if it has one.
 fn size_in(form: &Form<'_>) -> Option<u64>
-    ensures { result ≡ size_in (heap_form form.now) }
+    ensures { result ≡ form_size (heap_form form.now) }
 {
     match form {
         Form::List(_, _) => Some(2),
@@ -56,7 +56,7 @@ fn size_in(form: &Form<'_>) -> Option<u64>
 }
 
 fn size_of(form: &Option<Form<'_>>) -> Option<u64>
-    ensures { result ≡ option_and_then size_in (option_map heap_form form.now) }
+    ensures { result ≡ option_and_then form_size (option_map heap_form form.now) }
 {
     match form {
         None => None,
@@ -107,7 +107,7 @@ fn has_word(heap: &Heap, ix: CellIx, word: &[u8]) -> bool
 
 // How many of the heap's own cells have the kind with this word.
 fn count_of(heap: &Heap, word: &[u8]) -> u32
-    ensures { result ≡ count_of (take heap.now.own heap.now.cells) word.now }
+    ensures { result ≡ word_count (take heap.now.own heap.now.cells) word.now }
 {
     let mut count = 0;
     for n in 0..heap.own() {

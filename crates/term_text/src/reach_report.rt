@@ -8,7 +8,7 @@ ghost use Rattle.term_forms.specs.Elements.{Element};
 ghost use Rattle.heap_reach.specs.Reached.{is_in};
 ghost use Rattle.heap_reach.specs.Rounds.{reached_by, IsReachOf};
 ghost use Rattle.heap_reach.specs.Unreached.{count_below, one_if, unreached_of};
-ghost use Rattle.term_text.specs.Reach.{reach_report, term_in, terms_of, totals_line, unreached_line};
+ghost use Rattle.term_text.specs.Reach.{reach_report, term_in, root_elements, totals_line, unreached_line};
 
 use dump_io::{Failed, Piece, Sink};
 use heap_cells::Heap;
@@ -29,7 +29,7 @@ fn add_content(reach: &mut Reach<'_>, what: &What<'_>)
 /// Adds what those roots of a body reach that are terms. Takes no memory.
 pub fn add_roots(reach: &mut Reach<'_>, kind: RootKind, body: &[u8])
     ensures heap { reach.new.heap ≡ reach.old.heap }
-    ensures roots { (roots : List Element) → IsReachOf reach.old roots → IsReachOf reach.new (roots ++ terms_of (roots_in kind body.now)) }
+    ensures roots { (roots : List Element) → IsReachOf reach.old roots → IsReachOf reach.new (roots ++ root_elements (roots_in kind body.now)) }
 {
     for found in kind.roots(body) {
         add_content(reach, &found.what);

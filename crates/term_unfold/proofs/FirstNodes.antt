@@ -5,9 +5,9 @@ use Rattle.std.proofs.lemmas.List.{take-map, map-append}
 use Rattle.term_forms.specs.Elements.{Nil}
 use Rattle.term_unfold.specs.declared.node.NodeKind.{NodeKind}
 use Rattle.term_unfold.specs.declared.node.NodeKind.TheVariants as kinds
-use Rattle.term_unfold.specs.Places.{is_nil, Face, LeafFace, BadFace, BranchFace, Placed, placed, placed_all, nodes_of}
+use Rattle.term_unfold.specs.Places.{is_nil, Face, LeafFace, BadFace, BranchFace, PlacedNode, placed, placed_all, nodes_of}
 use Rattle.term_unfold.specs.Terms.{count, IsTerm, IsItem, AreTerms, AreItems}
-use Rattle.term_unfold.specs.Text.{Shown, shown, led, ◌then◌, Stand, Cut, At, go_on, left_at, closed, comma, valued, node_text, head_text, tail_text, elements_text, keys_text, values_text, items_text, item_text, pair_text, value_text, show}
+use Rattle.term_unfold.specs.Text.{Shown, shown, led, ◌then◌, Stand, Cut, At, go_on, left_at, closed, comma_text, valued, node_text, head_text, tail_text, elements_text, keys_text, values_text, items_text, item_text, pair_text, value_text, show}
 use Rattle.term_unfold.specs.Trees.{Value, Immediate, Tree, Leaf, Bad, Branch, Trees, none, more}
 use Rattle.term_unfold.proofs.Turning.{barred}
 
@@ -23,7 +23,7 @@ abbrev mutual
   faces_all leaf none = []
   faces_all leaf (more tree trees) = faces leaf tree ++ faces_all leaf trees
 
-abbrev face_of : Placed → Face
+abbrev face_of : PlacedNode → Face
 face_of p = p.1
 
 mutual
@@ -82,11 +82,11 @@ same-followed s t f g vs ws xs ys first second =
     }
 
 same-key : (came : Bool) (s t : Shown ℕ) (f g : ℕ → Shown Stand) (vs ws xs ys : List Face) → Same s t vs ws → ((k : ℕ) → take k vs ≡ take k ws → SameItems (f k) (g k) xs ys)
-    → SameItems (led (comma came) (s then f)) (led (comma came) (t then g)) xs ys
+    → SameItems (led (comma_text came) (s then f)) (led (comma_text came) (t then g)) xs ys
 same-key came s t f g vs ws xs ys first second =
     let next = second s.left first.rest in
     record {
-      shown = ap (λ r. shown (comma came ++ (s.text ++ r.text)) r.left) next.shown ∙ ap (λ r. led (comma came) (r then g)) first.shown;
+      shown = ap (λ r. shown (comma_text came ++ (s.text ++ r.text)) r.left) next.shown ∙ ap (λ r. led (comma_text came) (r then g)) first.shown;
       rest = next.rest;
     }
 
@@ -242,7 +242,7 @@ mutual
   same-elements leaf came none none m xs ys a b size h = record { shown = refl; rest = h }
   same-elements leaf came (more t ts) (more u us) zero xs ys a b size h = record { shown = refl; rest = refl }
   same-elements leaf came (more t ts) (more u us) (suc m) xs ys a b size h =
-      same-led (comma came) (node_text leaf t m then elements_text leaf true ts) (node_text leaf u m then elements_text leaf true us) xs ys
+      same-led (comma_text came) (node_text leaf t m then elements_text leaf true ts) (node_text leaf u m then elements_text leaf true us) xs ys
       (same-then (node_text leaf t m) (node_text leaf u m) (elements_text leaf true ts) (elements_text leaf true us) (faces_all leaf ts ++ xs) (faces_all leaf us ++ ys) xs ys
       (same-node leaf t u m (faces_all leaf ts ++ xs) (faces_all leaf us ++ ys) a.0 b.0 (agree-behind (suc m) (faces leaf t) (faces_all leaf ts) xs (faces leaf u) (faces_all leaf us) ys h))
       (λ k rest. same-elements leaf true ts us k xs ys a.1 b.1 (omega (arith, size)) rest))
@@ -253,7 +253,7 @@ mutual
   same-keys leaf came none none m xs ys a b size h = record { shown = refl; rest = h }
   same-keys leaf came (more t ts) (more u us) zero xs ys a b size h = record { shown = refl; rest = refl }
   same-keys leaf came (more t ts) (more u us) (suc m) xs ys a b size h =
-      same-led (comma came) (node_text leaf t m then values_text leaf ts) (node_text leaf u m then values_text leaf us) xs ys
+      same-led (comma_text came) (node_text leaf t m then values_text leaf ts) (node_text leaf u m then values_text leaf us) xs ys
       (same-then (node_text leaf t m) (node_text leaf u m) (values_text leaf ts) (values_text leaf us) (faces_all leaf ts ++ xs) (faces_all leaf us ++ ys) xs ys
       (same-node leaf t u m (faces_all leaf ts ++ xs) (faces_all leaf us ++ ys) a.0 b.0 (agree-behind (suc m) (faces leaf t) (faces_all leaf ts) xs (faces leaf u) (faces_all leaf us) ys h))
       (λ k rest. same-values leaf ts us k xs ys a.1 b.1 (omega (arith, size)) rest))

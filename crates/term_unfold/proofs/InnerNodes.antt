@@ -3,7 +3,7 @@ use Rattle.std.proofs.Common.{◌≡◌, ℕ, zero, suc, ◌+◌, Bool, false, L
 use Rattle.std.specs.Prelude.{codes}
 use Rattle.term_unfold.specs.declared.node.NodeKind.TheVariants as kinds
 use Rattle.term_unfold.specs.Laws.{joined}
-use Rattle.term_unfold.specs.Text.{Shown, shown, Stand, Cut, At, led, ◌then◌, go_on, closed, comma, items_text, item_text, show}
+use Rattle.term_unfold.specs.Text.{Shown, shown, Stand, Cut, At, led, ◌then◌, go_on, closed, comma_text, items_text, item_text, show}
 use Rattle.term_unfold.specs.Trees.{Value, Branch, Trees, none, more}
 
 -- what follows in two steps
@@ -19,7 +19,7 @@ followed-parts text (At came m) all front back each =
 items-joined : (leaf : Value → List ℕ) (came : Bool) (children rest : Trees) (m : ℕ)
     → items_text leaf came (joined children rest) m ≡ (items_text leaf came children m then go_on (λ c. items_text leaf c rest))
 items-joined leaf came none rest m = refl
-items-joined leaf came (more child children) rest zero = ap (λ t. shown t Cut) (sym (append-nil (comma came ++ codes "...")))
+items-joined leaf came (more child children) rest zero = ap (λ t. shown t Cut) (sym (append-nil (comma_text came ++ codes "...")))
 items-joined leaf came (more child children) rest (suc m) =
     let first = item_text leaf came child m in
     followed-parts first.text first.left (λ c. items_text leaf c (joined children rest)) (λ c. items_text leaf c children) (λ c. items_text leaf c rest)

@@ -13,11 +13,11 @@ use Rattle.term_forms.specs.Forms.{HeapForm, Cons, Tuple, Flat, Hash, Node}
 use Rattle.heap_cells.specs.Cells.{Cell, addresses}
 use Rattle.heap_cells.specs.HeapMap.{number_at, form_at}
 use Rattle.cell_records.specs.declared.cells.Why.TheVariants.{OnPath}
-use Rattle.map_nodes.specs.Rules.{Keys, no_keys, keys_at, bad_keys, keys_of_map, cell_member, form_with}
+use Rattle.map_nodes.specs.Rules.{Keys, no_keys, keys_at, bad_keys, keys_of_map, cell_member, form_at_address}
 use Rattle.term_unfold.specs.Laws.{IsPath}
 use Rattle.term_unfold.specs.Rules.{Child, Term, Item, Opening, leaf, bad, node, is_on, unless_on, keyed, cell_opening, item_opening, opening}
 use Rattle.term_unfold.specs.Trees.{Tree, Branch, more}
-use Rattle.term_unfold.specs.Unfolding.{trees, grown, unfold_by, unfolded}
+use Rattle.term_unfold.specs.Unfolding.{trees, grown_tree, unfold_by, unfolded}
 
 -- a path is no longer than the heap
 
@@ -71,7 +71,7 @@ pub levels-more : (heap : List Cell) (path : List ℕ) → length path ≤ lengt
 levels-more heap path few = omega arith
 
 pub unfolded-rule : (heap : List Cell) (path : List ℕ) (child : Child) → length path ≤ length heap
-    → unfolded heap path child ≡ grown (λ a. unfolded heap (a ∷ path)) (opening heap path child)
+    → unfolded heap path child ≡ grown_tree (λ a. unfolded heap (a ∷ path)) (opening heap path child)
 unfolding unfolded unfold_by
 unfolded-rule heap path child few = ap (λ levels. unfold_by levels heap path child) (levels-more heap path few)
 
@@ -89,7 +89,7 @@ IsOpening heap path (bad a why) = Unit {0}
 IsOpening heap path (node a kind children) = IsPath heap (a ∷ path)
 
 grown-same : (heap : List Cell) (f g : ℕ → Child → Tree) (path : List ℕ) (o : Opening) → IsOpening heap path o
-    → ((a : ℕ) (child : Child) → IsPath heap (a ∷ path) → f a child ≡ g a child) → grown f o ≡ grown g o
+    → ((a : ℕ) (child : Child) → IsPath heap (a ∷ path) → f a child ≡ g a child) → grown_tree f o ≡ grown_tree g o
 grown-same heap f g path (leaf value) is h = refl
 grown-same heap f g path (bad a why) is h = refl
 grown-same heap f g path (node a kind children) is h = ap (Branch kind) (trees-same (f a) (g a) children (λ child. h a child is))
@@ -133,9 +133,9 @@ cell_member-is heap path a (Some n) is = member-is heap path a (form_at heap n) 
 
 opening-is : (heap : List Cell) (path : List ℕ) (child : Child) → IsPath heap path → IsOpening heap path (opening heap path child)
 opening-is heap path (Term (Ref a)) is =
-    unless-is heap path (is_on a path) a (cell_opening heap path a (form_with heap a)) (λ off. cell-is heap path a (number_at heap a) (λ some. (some, off, is)))
+    unless-is heap path (is_on a path) a (cell_opening heap path a (form_at_address heap a)) (λ off. cell-is heap path a (number_at heap a) (λ some. (some, off, is)))
 opening-is heap path (Item parent (Ref a)) is =
-    unless-is heap path (is_on a path) a (item_opening (cell_member a (form_with heap a))) (λ off. cell_member-is heap path a (number_at heap a) (λ some. (some, off, is)))
+    unless-is heap path (is_on a path) a (item_opening (cell_member a (form_at_address heap a))) (λ off. cell_member-is heap path a (number_at heap a) (λ some. (some, off, is)))
 opening-is heap path child is = tt
 
 -- two numbers of levels that are enough give the same tree
@@ -154,5 +154,5 @@ unfolding unfolded
 enough levels heap path child is h =
     levels-enough levels (suc (length heap) - length path) heap path child is h (omega (arith, length-path heap path is))
 
-pub follows_rules : (heap : List Cell) (path : List ℕ) (child : Child) → IsPath heap path → unfolded heap path child ≡ grown (λ a. unfolded heap (a ∷ path)) (opening heap path child)
+pub follows_rules : (heap : List Cell) (path : List ℕ) (child : Child) → IsPath heap path → unfolded heap path child ≡ grown_tree (λ a. unfolded heap (a ∷ path)) (opening heap path child)
 follows_rules heap path child is = unfolded-rule heap path child (length-path heap path is)

@@ -1,4 +1,4 @@
-pub mod Kidded
+pub mod ChildFacts
 mod Examples
 pub mod HexTexts
 pub mod InnerNodes

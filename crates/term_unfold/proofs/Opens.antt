@@ -16,19 +16,19 @@ use Rattle.cell_records.specs.declared.cells.Kind.TheVariants as cell_kind
 use Rattle.cell_records.specs.declared.cells.Why.{Why}
 use Rattle.cell_records.specs.declared.cells.Why.TheVariants.{Missing, Malformed, OnPath}
 use Rattle.heap_cells.specs.HeapMap.{HeapMap, number_at, form_at}
-use Rattle.heap_cells.specs.Targets.{Plain, At, number, target}
+use Rattle.heap_cells.specs.Targets.{Imm, At, number, target}
 use Rattle.map_nodes.specs.Laws.Targets.{leads-at, leads-nowhere}
-use Rattle.map_nodes.specs.Rules.{no_keys, keys_at, bad_keys, cell_keys, element_keys, form_keys, pair_at, inner_at, cell_member, member_of, address_of, form_with}
+use Rattle.map_nodes.specs.Rules.{no_keys, keys_at, bad_keys, cell_keys, element_keys, form_keys, pair_at, inner_at, cell_member, member_of, address_of, form_at_address}
 use Rattle.term_unfold.specs.declared.node.NodeKind.TheVariants as kinds
 use Rattle.term_unfold.specs.declared.path.Entry.{Entry}
 use Rattle.term_unfold.specs.Inner.Entries.{Entered, numbers_of, path_of, IsLine}
 use Rattle.term_unfold.specs.declared.openings.Opened.{Opened}
 use Rattle.term_unfold.specs.declared.openings.Opened.TheVariants as opened
-use Rattle.term_unfold.specs.Inner.Kids.{members_in, found_elements, flat_kids}
+use Rattle.term_unfold.specs.Inner.Children.{members_in, found_elements, flat_children}
 use Rattle.term_unfold.specs.Inner.Openings.{Opens}
 use Rattle.term_unfold.specs.Rules.{Term, Item, leaf, bad, node, is_on, unless_on, terms, items, pairs, keyed, cell_opening, term_opening, item_opening, opening}
 use Rattle.term_unfold.specs.Trees.{OfCell}
-use Rattle.term_unfold.proofs.Kidded.{flat_kids-at}
+use Rattle.term_unfold.proofs.ChildFacts.{flat_kids-at}
 
 -- addresses and numbers
 
@@ -92,7 +92,7 @@ item-at heap path parent k e leads off =
 
 -- an element that leads nowhere, or to no cell
 
-pub item-plain : (heap : List Cell) (path : List ℕ) (parent : ℕ) (e : Element) → target heap e ≡ Plain → opening heap path (Item parent e) ≡ bad parent Malformed
+pub item-plain : (heap : List Cell) (path : List ℕ) (parent : ℕ) (e : Element) → target heap e ≡ Imm → opening heap path (Item parent e) ≡ bad parent Malformed
 item-plain heap path parent e h =
     leads-nowhere (λ e. opening heap path (Item parent e) ≡ bad parent Malformed) heap e h refl (λ _. refl) (λ _. refl) (λ _. refl) (λ _. refl)
 
@@ -129,25 +129,25 @@ none-number : (heap : List Cell) (found : Option ℕ) → option_map (form_at he
 none-number heap None h = refl
 none-number heap (Some n) h = cc
 
-off-missing : (heap : List Cell) (b : ℕ) (entries : List Entry) → form_with heap b ≡ None → IsLine (length heap) (numbers_of entries) → is_on b (path_of heap entries) ≡ false
+off-missing : (heap : List Cell) (b : ℕ) (entries : List Entry) → form_at_address heap b ≡ None → IsLine (length heap) (numbers_of entries) → is_on b (path_of heap entries) ≡ false
 off-missing heap b entries none line = off-path heap b entries (none-number heap (number_at heap b) none) line
 
 -- the same below one cell more
-pub off-missing_below : (heap : List Cell) (b n : ℕ) (entries : List Entry) → form_with heap b ≡ None → IsLine (length heap) (n ∷ numbers_of entries) → is_on b (address_of heap n ∷ path_of heap entries) ≡ false
+pub off-missing_below : (heap : List Cell) (b n : ℕ) (entries : List Entry) → form_at_address heap b ≡ None → IsLine (length heap) (n ∷ numbers_of entries) → is_on b (address_of heap n ∷ path_of heap entries) ≡ false
 off-missing_below heap b n entries none line =
     ap (λ x. x || is_on b (path_of heap entries)) (address-none heap b n (none-number heap (number_at heap b) none) line.0) ∙ off-missing heap b entries none line.2
 
-term-missing : (heap : List Cell) (path : List ℕ) (e : Element) (b : ℕ) → e ≡ Ref b → is_on b path ≡ false → form_with heap b ≡ None → opening heap path (Term e) ≡ bad b Missing
+term-missing : (heap : List Cell) (path : List ℕ) (e : Element) (b : ℕ) → e ≡ Ref b → is_on b path ≡ false → form_at_address heap b ≡ None → opening heap path (Term e) ≡ bad b Missing
 term-missing heap path e b is off none =
     ap (λ e. opening heap path (Term e)) is ∙ ap (λ x. cond x (bad b OnPath) (term_opening heap path (Ref b))) off ∙ ap (cell_opening heap path b) none
 
-item-missing : (heap : List Cell) (path : List ℕ) (parent : ℕ) (e : Element) (b : ℕ) → e ≡ Ref b → is_on b path ≡ false → form_with heap b ≡ None → opening heap path (Item parent e) ≡ bad b Missing
+item-missing : (heap : List Cell) (path : List ℕ) (parent : ℕ) (e : Element) (b : ℕ) → e ≡ Ref b → is_on b path ≡ false → form_at_address heap b ≡ None → opening heap path (Item parent e) ≡ bad b Missing
 item-missing heap path parent e b is off none =
     ap (λ e. opening heap path (Item parent e)) is ∙ ap (λ x. cond x (bad b OnPath) (item_opening (member_of heap parent (Ref b)))) off ∙ ap (λ f. item_opening (cell_member b f)) none
 
 -- what is found there
 module _ (heap : HeapMap) (path : Entered) (b : ℕ) {found : Opened} (is : found ≡ opened.Bad b Missing) (size : path.cells ≡ length heap.cells)
-    (line : IsLine path.cells (numbers_of path.entries)) (none : form_with heap.cells b ≡ None) where
+    (line : IsLine path.cells (numbers_of path.entries)) (none : form_at_address heap.cells b ≡ None) where
   off : is_on b (path_of heap.cells path.entries) ≡ false
   off = off-missing heap.cells b path.entries none (subst (λ m. IsLine m (numbers_of path.entries)) size line)
 
@@ -170,7 +170,7 @@ number-is heap n distinct within =
     (λ lt. ap (λ b. eqb b a) (sym (address-cell heap n within)) ∙ eq-eqb a a refl) in
     ap (λ k. cond (ltb k (length heap)) (Some k) None) place ∙ ap (λ b. cond b (Some n) None) (lt-ltb n (length heap) within)
 
-form-is : (heap : List Cell) (n : ℕ) → IsDistinct eqb (addresses heap) → n < length heap → form_with heap (address_of heap n) ≡ Some (form_at heap n)
+form-is : (heap : List Cell) (n : ℕ) → IsDistinct eqb (addresses heap) → n < length heap → form_at_address heap (address_of heap n) ≡ Some (form_at heap n)
 form-is heap n distinct within = ap (option_map (form_at heap)) (number-is heap n distinct within)
 
 pub term-at : (heap : List Cell) (path : List ℕ) (n : ℕ) → is_on (address_of heap n) path ≡ false → IsDistinct eqb (addresses heap) → n < length heap
@@ -234,12 +234,12 @@ pairs-none : (ks : List Element) → pairs ks [] ≡ []
 pairs-none [] = refl
 pairs-none (k ∷ ks) = refl
 
-flat-alone : (heap : List Cell) (keys : Element) → flat_kids heap (keys ∷ []) ≡ []
-flat-alone heap (Ref k) = pairs-none (found_elements (form_with heap k))
+flat-alone : (heap : List Cell) (keys : Element) → flat_children heap (keys ∷ []) ≡ []
+flat-alone heap (Ref k) = pairs-none (found_elements (form_at_address heap k))
 flat-alone heap keys = refl
 
 pub flat-empty : (heap : List Cell) (path : List ℕ) (a : ℕ) (form : Option HeapForm) → option_map kind_of form ≡ Some cell_kind.Flat → length (elements_in form) < 2
-    → cell_opening heap path a (Some form) ≡ node a kinds.Flat (flat_kids heap (elements_in form))
+    → cell_opening heap path a (Some form) ≡ node a kinds.Flat (flat_children heap (elements_in form))
 flat-empty heap path a None h few = cc
 flat-empty heap path a (Some (Flat keys [])) h few = ap (node a kinds.Flat) (sym (flat-alone heap keys))
 flat-empty heap path a (Some (Flat keys (v ∷ vs))) h few = absurd (omega (arith, few))
@@ -262,7 +262,7 @@ keys-some heap a (Some (Flat keys (v ∷ vs))) h some =
     ap (λ n. element_keys heap a n keys) size
 keys-some heap a (Some form) h some = cc
 
-pub flat-plain : (heap : List Cell) (path : List ℕ) (a : ℕ) (form : Option HeapForm) → option_map kind_of form ≡ Some cell_kind.Flat → 2 ≤ length (elements_in form) → target heap (get_or (elements_in form) 0 Nil) ≡ Plain
+pub flat-plain : (heap : List Cell) (path : List ℕ) (a : ℕ) (form : Option HeapForm) → option_map kind_of form ≡ Some cell_kind.Flat → 2 ≤ length (elements_in form) → target heap (get_or (elements_in form) 0 Nil) ≡ Imm
     → cell_opening heap path a (Some form) ≡ bad a Malformed
 flat-plain heap path a form h some plain =
     flat-some heap path a form h some
@@ -272,7 +272,7 @@ flat-plain heap path a form h some plain =
 
 -- the keys element refers to an address
 flat-ref : (heap : List Cell) (path : List ℕ) (a b : ℕ) (form : Option HeapForm) (found : Option (Option HeapForm)) → option_map kind_of form ≡ Some cell_kind.Flat → 2 ≤ length (elements_in form)
-    → get_or (elements_in form) 0 Nil ≡ Ref b → form_with heap b ≡ found
+    → get_or (elements_in form) 0 Nil ≡ Ref b → form_at_address heap b ≡ found
     → cell_opening heap path a (Some form) ≡ cond (is_on b (a ∷ path)) (bad b OnPath) (keyed a (drop 1 (elements_in form)) (cell_keys b (length (elements_in form) - 1) found))
 flat-ref heap path a b form found h some is with_is =
     flat-some heap path a form h some
@@ -284,11 +284,11 @@ pub flat-on : (heap : List Cell) (path : List ℕ) (a k : ℕ) (form : Option He
     → target heap (get_or (elements_in form) 0 Nil) ≡ At k → is_on (address_of heap k) (a ∷ path) ≡ true → cell_opening heap path a (Some form) ≡ bad (address_of heap k) OnPath
 flat-on heap path a k form h some leads on =
     let b = address_of heap k in
-    flat-ref heap path a b form (form_with heap b) h some (leads-at heap k (get_or (elements_in form) 0 Nil) leads).element refl
-    ∙ ap (λ x. cond x (bad b OnPath) (keyed a (drop 1 (elements_in form)) (cell_keys b (length (elements_in form) - 1) (form_with heap b)))) on
+    flat-ref heap path a b form (form_at_address heap b) h some (leads-at heap k (get_or (elements_in form) 0 Nil) leads).element refl
+    ∙ ap (λ x. cond x (bad b OnPath) (keyed a (drop 1 (elements_in form)) (cell_keys b (length (elements_in form) - 1) (form_at_address heap b)))) on
 
 pub flat-missing : (heap : List Cell) (path : List ℕ) (a b : ℕ) (form : Option HeapForm) → option_map kind_of form ≡ Some cell_kind.Flat → 2 ≤ length (elements_in form)
-    → get_or (elements_in form) 0 Nil ≡ Ref b → is_on b (a ∷ path) ≡ false → form_with heap b ≡ None → cell_opening heap path a (Some form) ≡ bad b Missing
+    → get_or (elements_in form) 0 Nil ≡ Ref b → is_on b (a ∷ path) ≡ false → form_at_address heap b ≡ None → cell_opening heap path a (Some form) ≡ bad b Missing
 flat-missing heap path a b form h some is off none =
     flat-ref heap path a b form None h some is none
     ∙ ap (λ x. cond x (bad b OnPath) (bad b Missing)) off
@@ -314,7 +314,7 @@ keys-at heap a k form h some leads =
 pub flat-keyed : (heap : List Cell) (path : List ℕ) (a k c : ℕ) (ks : List Element) (form : Option HeapForm) → option_map kind_of form ≡ Some cell_kind.Flat → 2 ≤ length (elements_in form)
     → target heap (get_or (elements_in form) 0 Nil) ≡ At k → is_on (address_of heap k) (a ∷ path) ≡ false
     → cell_keys (address_of heap k) (length (elements_in form) - 1) (Some (form_at heap k)) ≡ keys_at c ks
-    → cell_opening heap path a (Some form) ≡ node a kinds.Flat (flat_kids heap (elements_in form))
+    → cell_opening heap path a (Some form) ≡ node a kinds.Flat (flat_children heap (elements_in form))
 flat-keyed heap path a k c ks form h some leads off keys =
     let to = leads-at heap k (get_or (elements_in form) 0 Nil) leads in
     let elements = elements_in form in

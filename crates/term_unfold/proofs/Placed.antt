@@ -7,7 +7,7 @@ use Rattle.term_forms.specs.Elements.{Element, Nil}
 use Rattle.term_forms.specs.Seen.{element}
 use Rattle.heap_cells.specs.Cells.{Cell}
 use Rattle.heap_cells.specs.HeapMap.{elements_at}
-use Rattle.heap_cells.specs.Targets.{number, Plain, target, kid_target, KeepsElement}
+use Rattle.heap_cells.specs.Targets.{number, Imm, target, kid_target, KeepsElement}
 use Rattle.heap_cells.specs.declared.cells.Kid.{Kid}
 use Rattle.heap_cells.specs.declared.cells.Kid.TheVariants as kid
 use Rattle.map_nodes.specs.Laws.Targets.{leads-at, leads-missing}
@@ -30,4 +30,4 @@ pub lent-placed : (heap : List Cell) (n place : ℕ) (found : Kid) → place < l
 lent-placed heap n place found within leads kept =
     let xs = elements_at heap n in
     let there : slice_get xs place ≡ Some (element_at heap n place) = slice_get-get_or xs place Nil within in
-    lent heap found (element_at heap n place) (ap (λ o. unwrap_or o Plain) (sym (ap (option_map (target heap)) there) ∙ leads)) (subst (λ o. IfSome o (KeepsElement found)) there kept)
+    lent heap found (element_at heap n place) (ap (λ o. unwrap_or o Imm) (sym (ap (option_map (target heap)) there) ∙ leads)) (subst (λ o. IfSome o (KeepsElement found)) there kept)

@@ -1,13 +1,15 @@
 -- What the open cells still have to write, where a child is visited.
 use Rattle.std.proofs.Common.{◌≡◌, ℕ, zero, suc, ◌+◌, ◌≤◌, Bool, true, false, not, cond, List, [], ◌∷◌, ◌++◌, length, take, Some, None, refl, sym, ◌∙◌, ap, inl, inr, append_assoc, arith, add-one}
-use Rattle.std.specs.Prelude.{codes, slice_get}
+use Rattle.std.specs.Prelude.{codes, slice_get, nat_lt}
+use Rattle.std.specs.Option.{option_map_or}
+use Rattle.std.proofs.lemmas.Bool.{lt-ltb}
 use Rattle.term_forms.specs.Elements.{Element, Nil, Ref}
 use Rattle.term_forms.specs.Forms.{HeapForm}
 use Rattle.heap_cells.specs.Cells.{Cell}
 use Rattle.heap_cells.specs.HeapMap.{form_at, elements_at}
 use Rattle.heap_cells.specs.Targets.{number}
 use Rattle.cell_records.specs.declared.cells.Why.{Why}
-use Rattle.map_nodes.specs.Rules.{address_of, form_with}
+use Rattle.map_nodes.specs.Rules.{address_of, form_at_address}
 use Rattle.term_unfold.specs.declared.node.NodeKind.{NodeKind}
 use Rattle.term_unfold.specs.declared.node.NodeKind.TheVariants as kinds
 use Rattle.term_unfold.specs.declared.openings.Opened.{Opened}
@@ -15,12 +17,12 @@ use Rattle.term_unfold.specs.declared.openings.Opened.TheVariants as opened
 use Rattle.term_unfold.specs.declared.path.Entry.{Entry}
 use Rattle.term_unfold.specs.Inner.Coming.{left_of, entered_by}
 use Rattle.term_unfold.specs.Inner.Entries.{path_of, next_of, is_item}
-use Rattle.term_unfold.specs.Inner.Kids.{kids_of, members_in, found_elements, flat_kids}
-use Rattle.term_unfold.specs.Inner.Openings.{element_of, is_item_child, is_nil_term, is_list, IsOpened}
-use Rattle.term_unfold.specs.Inner.Rest.{closing, list_rest, is_value, flat_rest, term_rest, pair_rest, item_rest, run, resume, rest, to_show, to_list, bracket, cell_text, own_text, HasItems}
+use Rattle.term_unfold.specs.Inner.Children.{children_of, members_in, found_elements, flat_children}
+use Rattle.term_unfold.specs.Inner.Openings.{element_of, is_item_child, immediate_of, is_nil_term, is_list, IsOpened}
+use Rattle.term_unfold.specs.Inner.Rest.{closing, list_rest, is_value, flat_rest, term_rest, pair_rest, item_rest, run, resume, rest, to_show, to_list, bracket, cell_text, child_text, front_of, is_next_value, HasItems, HasTerms}
 use Rattle.term_unfold.specs.Places.{is_nil}
-use Rattle.term_unfold.specs.Rules.{Child, Term, Item, terms, items, pairs}
-use Rattle.term_unfold.specs.Text.{Shown, shown, led, ◌then◌, Stand, Cut, At, go_on, closed, comma, bad_text, node_text, head_text, tail_text, elements_text, keys_text, values_text, items_text, item_text, pair_text, value_text}
+use Rattle.term_unfold.specs.Rules.{Child, Term, Item, leaf as opens_leaf, opening, terms, items, pairs}
+use Rattle.term_unfold.specs.Text.{Shown, shown, led, ◌then◌, Stand, Cut, At, go_on, closed, comma_text, bad_text, node_text, head_text, tail_text, elements_text, keys_text, values_text, items_text, item_text, pair_text, value_text}
 use Rattle.term_unfold.specs.Trees.{Value, Immediate, OfCell, Tree, Leaf, Bad, Branch, Trees, none, more}
 use Rattle.term_unfold.specs.Unfolding.{trees, unfolded}
 use Rattle.term_unfold.proofs.Turning.{barred, run-then, run-led, run-barred, left-more, left-none, term-at, item-at, HasChild}
@@ -49,7 +51,7 @@ cell_text-is : (leaf : Value → List ℕ) (heap : List Cell) (n : ℕ) (form : 
 cell_text-is leaf heap n form is = sym (ap (cell_text leaf (address_of heap n)) is)
 
 pub show-opened : (leaf : Value → List ℕ) (heap : List Cell) (before : List Entry) (child : Child) (o : Opened) (m : ℕ) → length before ≤ length heap → is_item_child child ≡ false → IsOpened heap (path_of heap before) child o
-    → to_show leaf heap before child m ≡ own_text leaf heap child o ++ rest leaf heap (entered_by o false before) m
+    → to_show leaf heap before child m ≡ child_text leaf heap child o ++ rest leaf heap (entered_by o false before) m
 show-opened leaf heap before child opened.Immediate m few term is =
     show-as leaf heap before child (Leaf (Immediate (element_of child))) m (unfolded-as heap before child _ few is)
 show-opened leaf heap before child (opened.Leaf ix) m few term is =
@@ -58,7 +60,7 @@ show-opened leaf heap before child (opened.Leaf ix) m few term is =
 show-opened leaf heap before child (opened.Bad address why) m few term is =
     show-as leaf heap before child (Bad address why) m (unfolded-as heap before child _ few is)
 show-opened leaf heap before child (opened.Node ix kind) m few term is =
-    let ts = trees (unfolded heap (address_of heap (number ix) ∷ path_of heap before)) (kids_of heap kind (number ix)) in
+    let ts = trees (unfolded heap (address_of heap (number ix) ∷ path_of heap before)) (children_of heap kind (number ix)) in
     let e : Entry = record { cell = ix; next = 0; kind = kind; came = false } in
     show-as leaf heap before child (Branch kind ts) m (unfolded-as heap before child _ few is.opens)
     ∙ bracketed leaf kind ts m (rest leaf heap before) (is.fits ∙ term)
@@ -87,20 +89,20 @@ step-term leaf heap c e es child m k front later is term has now behind =
     ∙ run-at s (λ n. run (later n) (rest leaf heap es)) (rest leaf heap (next_of c e ∷ es))
     (ap (λ x. run x (rest leaf heap es)) (behind s.left) ∙ sym (term-at leaf heap (next_of c e) es c s.left k is term)))
 
-pub step-tuple : (leaf : Value → List ℕ) (heap : List Cell) (e : Entry) (es : List Entry) (child : Child) (m : ℕ) → e.kind ≡ kinds.Tuple → HasChild heap e child
-    → rest leaf heap (e ∷ es) (suc m) ≡ comma e.came ++ to_show leaf heap (next_of true e ∷ es) child m
+step-tuple : (leaf : Value → List ℕ) (heap : List Cell) (e : Entry) (es : List Entry) (child : Child) (m : ℕ) → e.kind ≡ kinds.Tuple → HasChild heap e child
+    → rest leaf heap (e ∷ es) (suc m) ≡ comma_text e.came ++ to_show leaf heap (next_of true e ∷ es) child m
 step-tuple leaf heap e es child m is has =
-    step-term leaf heap true e es child m kinds.Tuple (comma e.came) (elements_text leaf true (left_of heap (next_of true e) es)) is refl has refl (λ n. refl)
+    step-term leaf heap true e es child m kinds.Tuple (comma_text e.came) (elements_text leaf true (left_of heap (next_of true e) es)) is refl has refl (λ n. refl)
 
-pub step-key : (leaf : Value → List ℕ) (heap : List Cell) (e : Entry) (es : List Entry) (child : Child) (m : ℕ) → e.kind ≡ kinds.Flat → is_value e.next ≡ false → HasChild heap e child
-    → rest leaf heap (e ∷ es) (suc m) ≡ comma e.came ++ to_show leaf heap (next_of true e ∷ es) child m
+step-key : (leaf : Value → List ℕ) (heap : List Cell) (e : Entry) (es : List Entry) (child : Child) (m : ℕ) → e.kind ≡ kinds.Flat → is_value e.next ≡ false → HasChild heap e child
+    → rest leaf heap (e ∷ es) (suc m) ≡ comma_text e.came ++ to_show leaf heap (next_of true e ∷ es) child m
 step-key leaf heap e es child m is key has =
     let ts = left_of heap (next_of true e) es in
-    step-term leaf heap true e es child m kinds.Flat (comma e.came) (values_text leaf ts) is refl has
+    step-term leaf heap true e es child m kinds.Flat (comma_text e.came) (values_text leaf ts) is refl has
     (ap (λ b. flat_rest leaf b e.came (more (unfolded heap (path_of heap (next_of true e ∷ es)) child) ts) (suc m)) key)
     (λ n. ap (λ b. flat_rest leaf b true ts n) (sym (is_value-next e.next false key)))
 
-pub step-value : (leaf : Value → List ℕ) (heap : List Cell) (e : Entry) (es : List Entry) (child : Child) (m : ℕ) → e.kind ≡ kinds.Flat → is_value e.next ≡ true → HasChild heap e child
+step-value : (leaf : Value → List ℕ) (heap : List Cell) (e : Entry) (es : List Entry) (child : Child) (m : ℕ) → e.kind ≡ kinds.Flat → is_value e.next ≡ true → HasChild heap e child
     → rest leaf heap (e ∷ es) (suc m) ≡ codes "=>" ++ to_show leaf heap (next_of true e ∷ es) child m
 step-value leaf heap e es child m is value has =
     let ts = left_of heap (next_of true e) es in
@@ -128,7 +130,7 @@ two-left [] n = refl
 two-left (x ∷ []) n = refl
 two-left (x ∷ y ∷ es) n = refl
 
-second-last : (heap : List Cell) (came : Bool) (e : Entry) (es : List Entry) (n : ℕ) → kids_of heap e.kind (number e.cell) ≡ terms (take 2 (elements_at heap (number e.cell))) → e.next ≡ suc n
+second-last : (heap : List Cell) (came : Bool) (e : Entry) (es : List Entry) (n : ℕ) → children_of heap e.kind (number e.cell) ≡ terms (take 2 (elements_at heap (number e.cell))) → e.next ≡ suc n
     → left_of heap (next_of came e) es ≡ none
 second-last heap came e es n kids at =
     let next : e.next + 1 ≡ suc (suc n) = omega (arith, at) in
@@ -143,7 +145,7 @@ list-none leaf came (suc next) m = refl
 behind-tail : (leaf : Value → List ℕ) (heap : List Cell) (came : Bool) (e : Entry) (es : List Entry) (n m : ℕ) → e.kind ≡ kinds.Cons → e.next ≡ suc n
     → rest leaf heap (next_of came e ∷ es) m ≡ closing came ++ rest leaf heap es m
 behind-tail leaf heap came e es n m is at =
-    term-at leaf heap (next_of came e) es came m kinds.Cons is refl ∙ ap (λ l. run (list_rest leaf came (e.next + 1) l m) (rest leaf heap es)) (second-last heap came e es n (ap (λ k. kids_of heap k (number e.cell)) is) at)
+    term-at leaf heap (next_of came e) es came m kinds.Cons is refl ∙ ap (λ l. run (list_rest leaf came (e.next + 1) l m) (rest leaf heap es)) (second-last heap came e es n (ap (λ k. children_of heap k (number e.cell)) is) at)
     ∙ ap (λ s. run s (rest leaf heap es)) (list-none leaf came (e.next + 1) m)
 
 -- a list in front of its tail
@@ -171,13 +173,38 @@ step-nil leaf heap e es child n m is at has few nil =
     ∙ ap (λ c. run (tail_text leaf (more (unfolded heap (path_of heap (e ∷ es)) c) (left_of heap (next_of false e) es)) (suc m)) (rest leaf heap es)) same
     ∙ ap (λ t. run (tail_text leaf (more t (left_of heap (next_of false e) es)) (suc m)) (rest leaf heap es)) (unfolded-as heap (e ∷ es) (Term Nil) _ few refl)
 
+-- a tail is an immediate
+
+pub nil-by : (child : Child) → is_nil_term child ≡ option_map_or (λ e. is_nil (Immediate e)) (immediate_of child) false
+nil-by (Term (Ref a)) = refl
+nil-by (Term e) = refl
+nil-by (Item parent e) = refl
+
+immediate-leaf : (heap : List Cell) (path : List ℕ) (child : Child) (e : Element) → immediate_of child ≡ Some e → (e ≡ element_of child) × (opening heap path child ≡ opens_leaf (Immediate (element_of child)))
+immediate-leaf heap path (Term (Ref a)) e h = cc
+immediate-leaf heap path (Term x) e h = (cc, refl)
+immediate-leaf heap path (Item parent x) e h = cc
+
+leaf-immediate : (heap : List Cell) (path : List ℕ) (child : Child) (o : Opened) → opening heap path child ≡ opens_leaf (Immediate (element_of child)) → IsOpened heap path child o → o ≡ opened.Immediate
+leaf-immediate heap path child opened.Immediate h is = refl
+leaf-immediate heap path child (opened.Leaf ix) h is = let other = sym h ∙ is.opens in cc
+leaf-immediate heap path child (opened.Bad address why) h is = cc
+leaf-immediate heap path child (opened.Node ix kind) h is = let other = sym h ∙ is.opens in cc
+
+-- what it is, is its own text
+pub immediate-text : (leaf : Value → List ℕ) (heap : List Cell) (path : List ℕ) (child : Child) (o : Opened) (e : Element) → immediate_of child ≡ Some e → IsOpened heap path child o
+    → child_text leaf heap child o ≡ leaf (Immediate e)
+immediate-text leaf heap path child o e is opens =
+    let at = immediate-leaf heap path child e is in
+    ap (child_text leaf heap child) (leaf-immediate heap path child o at.1 opens) ∙ ap (λ x. leaf (Immediate x)) (sym at.0)
+
 -- a tail that goes on with the list
 
 pub step-cons : (leaf : Value → List ℕ) (heap : List Cell) (e : Entry) (es : List Entry) (child : Child) (o : Opened) (n m : ℕ) → e.kind ≡ kinds.Cons → e.next ≡ suc n → HasChild heap e child
     → length (e ∷ es) ≤ length heap → IsOpened heap (path_of heap (e ∷ es)) child o → is_list o ≡ true
     → rest leaf heap (e ∷ es) (suc m) ≡ codes "," ++ rest leaf heap (entered_by o false (next_of false e ∷ es)) m
 step-cons leaf heap e es child (opened.Node ix kinds.Cons) n m is at has few opens list =
-    let ts = trees (unfolded heap (address_of heap (number ix) ∷ path_of heap (e ∷ es))) (kids_of heap kinds.Cons (number ix)) in
+    let ts = trees (unfolded heap (address_of heap (number ix) ∷ path_of heap (e ∷ es))) (children_of heap kinds.Cons (number ix)) in
     let inner : Entry = record { cell = ix; next = 0; kind = kinds.Cons; came = false } in
     let s = head_text leaf ts m in
     at-tail leaf heap false e es child n m is at has
@@ -237,8 +264,8 @@ pair-none : (leaf : Value → List ℕ) (came : Bool) (next m : ℕ) → pair_re
 pair-none leaf came zero m = refl
 pair-none leaf came (suc next) m = refl
 
-pub step-pair_key : (leaf : Value → List ℕ) (heap : List Cell) (e : Entry) (es : List Entry) (child : Child) (m : ℕ) → e.kind ≡ kinds.Pair → e.next ≡ 0 → HasChild heap e child
-    → rest leaf heap (e ∷ es) (suc m) ≡ comma e.came ++ to_show leaf heap (next_of true e ∷ es) child m
+step-pair_key : (leaf : Value → List ℕ) (heap : List Cell) (e : Entry) (es : List Entry) (child : Child) (m : ℕ) → e.kind ≡ kinds.Pair → e.next ≡ 0 → HasChild heap e child
+    → rest leaf heap (e ∷ es) (suc m) ≡ comma_text e.came ++ to_show leaf heap (next_of true e ∷ es) child m
 step-pair_key leaf heap e es child m is at has =
     let t = unfolded heap (path_of heap (next_of true e ∷ es)) child in
     let ts = left_of heap (next_of true e) es in
@@ -247,12 +274,12 @@ step-pair_key leaf heap e es child m is at has =
     let next : e.next + 1 ≡ suc 0 = omega (arith, at) in
     item-at leaf heap e es e.came (suc m) kinds.Pair is refl ∙ ap (λ l. run (pair_rest leaf e.came e.next l (suc m)) (resume leaf heap es)) (left-more heap true e es child has)
     ∙ ap (λ n. run (pair_rest leaf e.came n (more t ts) (suc m)) (resume leaf heap es)) at
-    ∙ append_assoc (comma e.came) (s.text ++ value.text) (resume leaf heap es value.left)
-    ∙ ap (λ l. comma e.came ++ l) (append_assoc s.text value.text (resume leaf heap es value.left)
+    ∙ append_assoc (comma_text e.came) (s.text ++ value.text) (resume leaf heap es value.left)
+    ∙ ap (λ l. comma_text e.came ++ l) (append_assoc s.text value.text (resume leaf heap es value.left)
     ∙ ap (λ l. s.text ++ l) (sym (item-at leaf heap (next_of true e) es true s.left kinds.Pair is refl ∙ ap (λ n. run (pair_rest leaf true n ts s.left) (resume leaf heap es)) next
     ∙ ap (λ x. run x (resume leaf heap es)) (pair-later leaf true 0 ts s.left))))
 
-pub step-pair_value : (leaf : Value → List ℕ) (heap : List Cell) (e : Entry) (es : List Entry) (child : Child) (n m : ℕ) → e.kind ≡ kinds.Pair → e.next ≡ suc n → HasChild heap e child
+step-pair_value : (leaf : Value → List ℕ) (heap : List Cell) (e : Entry) (es : List Entry) (child : Child) (n m : ℕ) → e.kind ≡ kinds.Pair → e.next ≡ suc n → HasChild heap e child
     → rest leaf heap (e ∷ es) (suc m) ≡ codes "=>" ++ to_show leaf heap (next_of true e ∷ es) child m
 step-pair_value leaf heap e es child n m is at has =
     let t = unfolded heap (path_of heap (next_of true e ∷ es)) child in
@@ -262,8 +289,34 @@ step-pair_value leaf heap e es child n m is at has =
     ∙ ap (λ k. run (pair_rest leaf e.came k (more t ts) (suc m)) (resume leaf heap es)) at
     ∙ append_assoc (codes "=>") s.text (resume leaf heap es (At true s.left))
     ∙ ap (λ l. codes "=>" ++ (s.text ++ l)) (sym (item-at leaf heap (next_of true e) es true s.left kinds.Pair is refl
-    ∙ ap (λ l. run (pair_rest leaf true (e.next + 1) l s.left) (resume leaf heap es)) (second-last heap true e es n (ap (λ k. kids_of heap k (number e.cell)) is) at)
+    ∙ ap (λ l. run (pair_rest leaf true (e.next + 1) l s.left) (resume leaf heap es)) (second-last heap true e es n (ap (λ k. children_of heap k (number e.cell)) is) at)
     ∙ ap (λ x. run x (resume leaf heap es)) (pair-none leaf true (e.next + 1) s.left)))
+
+-- the next child of a tuple or of a map
+
+step-flat : (leaf : Value → List ℕ) (heap : List Cell) (e : Entry) (es : List Entry) (child : Child) (b : Bool) (m : ℕ) → e.kind ≡ kinds.Flat → is_value e.next ≡ b → HasChild heap e child
+    → rest leaf heap (e ∷ es) (suc m) ≡ cond b (codes "=>") (comma_text e.came) ++ to_show leaf heap (next_of true e ∷ es) child m
+step-flat leaf heap e es child true m is at has = step-value leaf heap e es child m is at has
+step-flat leaf heap e es child false m is at has = step-key leaf heap e es child m is at has
+
+step-pair : (leaf : Value → List ℕ) (heap : List Cell) (e : Entry) (es : List Entry) (child : Child) (n m : ℕ) → e.kind ≡ kinds.Pair → e.next ≡ n → HasChild heap e child
+    → rest leaf heap (e ∷ es) (suc m) ≡ cond (nat_lt 0 n) (codes "=>") (comma_text e.came) ++ to_show leaf heap (next_of true e ∷ es) child m
+step-pair leaf heap e es child zero m is at has = step-pair_key leaf heap e es child m is at has
+step-pair leaf heap e es child (suc n) m is at has =
+    step-pair_value leaf heap e es child n m is at has
+    ∙ ap (λ b. cond b (codes "=>") (comma_text e.came) ++ to_show leaf heap (next_of true e ∷ es) child m) (sym (lt-ltb 0 (suc n) (omega arith)))
+
+abbrev front_by : Entry → NodeKind → List ℕ
+front_by e k = cond (is_next_value k e.next) (codes "=>") (comma_text e.came)
+
+pub step-terms : (leaf : Value → List ℕ) (heap : List Cell) (e : Entry) (es : List Entry) (child : Child) (m : ℕ) → HasTerms e.kind → HasChild heap e child
+    → rest leaf heap (e ∷ es) (suc m) ≡ front_of e ++ to_show leaf heap (next_of true e ∷ es) child m
+step-terms leaf heap e es child m (inl is) has =
+    step-tuple leaf heap e es child m is has ∙ ap (λ k. front_by e k ++ to_show leaf heap (next_of true e ∷ es) child m) (sym is)
+step-terms leaf heap e es child m (inr (inl is)) has =
+    step-flat leaf heap e es child (is_value e.next) m is refl has ∙ ap (λ k. front_by e k ++ to_show leaf heap (next_of true e ∷ es) child m) (sym is)
+step-terms leaf heap e es child m (inr (inr is)) has =
+    step-pair leaf heap e es child e.next m is refl has ∙ ap (λ k. front_by e k ++ to_show leaf heap (next_of true e ∷ es) child m) (sym is)
 
 -- items: a map ends behind them, and an inner node hands on where they stand
 
@@ -314,7 +367,7 @@ list-as : (leaf : Value → List ℕ) (heap : List Cell) (entries : List Entry) 
 list-as leaf heap entries came child t m is = ap (λ t. run (item_text leaf came t m) (resume leaf heap entries)) is
 
 pub list-bad : (leaf : Value → List ℕ) (heap : List Cell) (entries : List Entry) (came : Bool) (child : Child) (address : ℕ) (why : Why) (m : ℕ) → length entries ≤ length heap
-    → IsOpened heap (path_of heap entries) child (opened.Bad address why) → to_list leaf heap entries came child m ≡ (comma came ++ bad_text address why) ++ resume leaf heap entries (At true m)
+    → IsOpened heap (path_of heap entries) child (opened.Bad address why) → to_list leaf heap entries came child m ≡ (comma_text came ++ bad_text address why) ++ resume leaf heap entries (At true m)
 list-bad leaf heap entries came child address why m few is = list-as leaf heap entries came child (Bad address why) m (unfolded-as heap entries child _ few is)
 
 entered-item : (leaf : Value → List ℕ) (k : NodeKind) (came : Bool) (ts : Trees) (m : ℕ) → is_item k ≡ true → item_text leaf came (Branch k ts) m ≡ item_rest leaf k came 0 ts m
@@ -332,7 +385,7 @@ list-opened leaf heap c e es child (opened.Leaf ix) m few item is good =
     list-as leaf heap (next_of c e ∷ es) c child (Leaf (OfCell (address_of heap (number ix)) is.form)) m (unfolded-as heap (next_of c e ∷ es) child _ few is.opens)
 list-opened leaf heap c e es child (opened.Bad address why) m few item is good = absurd (good address why refl)
 list-opened leaf heap c e es child (opened.Node ix kind) m few item is good =
-    let ts = trees (unfolded heap (address_of heap (number ix) ∷ path_of heap (e ∷ es))) (kids_of heap kind (number ix)) in
+    let ts = trees (unfolded heap (address_of heap (number ix) ∷ path_of heap (e ∷ es))) (children_of heap kind (number ix)) in
     let inner : Entry = record { cell = ix; next = 0; kind = kind; came = c } in
     list-as leaf heap (next_of c e ∷ es) c child (Branch kind ts) m (unfolded-as heap (next_of c e ∷ es) child _ few is.opens)
     ∙ ap (λ l. run l (resume leaf heap (next_of c e ∷ es))) (entered-item leaf kind c ts m (is.fits ∙ item))
@@ -357,24 +410,29 @@ pairs-term (k ∷ ks) (v ∷ vs) zero child h = let same : Term k ≡ child = cc
 pairs-term (k ∷ ks) (v ∷ vs) (suc zero) child h = let same : Term v ≡ child = cc in ap is_item_child (sym same)
 pairs-term (k ∷ ks) (v ∷ vs) (suc (suc n)) child h = pairs-term ks vs n child h
 
-flat-term : (heap : List Cell) (es : List Element) (n : ℕ) (child : Child) → slice_get (flat_kids heap es) n ≡ Some child → is_item_child child ≡ false
-flat-term heap (Ref k ∷ es) n child h = pairs-term (found_elements (form_with heap k)) es n child h
+flat-term : (heap : List Cell) (es : List Element) (n : ℕ) (child : Child) → slice_get (flat_children heap es) n ≡ Some child → is_item_child child ≡ false
+flat-term heap (Ref k ∷ es) n child h = pairs-term (found_elements (form_at_address heap k)) es n child h
 flat-term heap es n child h = cc
 
-child-as : (heap : List Cell) (e : Entry) (k : NodeKind) (child : Child) → e.kind ≡ k → HasChild heap e child → slice_get (kids_of heap k (number e.cell)) e.next ≡ Some child
-child-as heap e k child is has = ap (λ k. slice_get (kids_of heap k (number e.cell)) e.next) (sym is) ∙ has
+child-as : (heap : List Cell) (e : Entry) (k : NodeKind) (child : Child) → e.kind ≡ k → HasChild heap e child → slice_get (children_of heap k (number e.cell)) e.next ≡ Some child
+child-as heap e k child is has = ap (λ k. slice_get (children_of heap k (number e.cell)) e.next) (sym is) ∙ has
 
 pub cons-term : (heap : List Cell) (e : Entry) (child : Child) → e.kind ≡ kinds.Cons → HasChild heap e child → is_item_child child ≡ false
 cons-term heap e child is has = terms-term (take 2 (elements_at heap (number e.cell))) e.next child (child-as heap e kinds.Cons child is has)
 
-pub tuple-term : (heap : List Cell) (e : Entry) (child : Child) → e.kind ≡ kinds.Tuple → HasChild heap e child → is_item_child child ≡ false
+tuple-term : (heap : List Cell) (e : Entry) (child : Child) → e.kind ≡ kinds.Tuple → HasChild heap e child → is_item_child child ≡ false
 tuple-term heap e child is has = terms-term (elements_at heap (number e.cell)) e.next child (child-as heap e kinds.Tuple child is has)
 
-pub pair-term : (heap : List Cell) (e : Entry) (child : Child) → e.kind ≡ kinds.Pair → HasChild heap e child → is_item_child child ≡ false
+pair-term : (heap : List Cell) (e : Entry) (child : Child) → e.kind ≡ kinds.Pair → HasChild heap e child → is_item_child child ≡ false
 pair-term heap e child is has = terms-term (take 2 (elements_at heap (number e.cell))) e.next child (child-as heap e kinds.Pair child is has)
 
-pub map-term : (heap : List Cell) (e : Entry) (child : Child) → e.kind ≡ kinds.Flat → HasChild heap e child → is_item_child child ≡ false
+map-term : (heap : List Cell) (e : Entry) (child : Child) → e.kind ≡ kinds.Flat → HasChild heap e child → is_item_child child ≡ false
 map-term heap e child is has = flat-term heap (elements_at heap (number e.cell)) e.next child (child-as heap e kinds.Flat child is has)
+
+pub terms-child : (heap : List Cell) (e : Entry) (child : Child) → HasTerms e.kind → HasChild heap e child → is_item_child child ≡ false
+terms-child heap e child (inl is) has = tuple-term heap e child is has
+terms-child heap e child (inr (inl is)) has = map-term heap e child is has
+terms-child heap e child (inr (inr is)) has = pair-term heap e child is has
 
 pub items-child : (heap : List Cell) (e : Entry) (child : Child) → HasItems e.kind → HasChild heap e child → is_item_child child ≡ true
 items-child heap e child (inl is) has = items-item (address_of heap (number e.cell)) (members_in (form_at heap (number e.cell))) e.next child (child-as heap e kinds.Hash child is has)

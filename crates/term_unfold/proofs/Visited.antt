@@ -13,11 +13,11 @@ use Rattle.term_unfold.specs.declared.verdict.Verdict.{Verdict}
 use Rattle.term_unfold.specs.declared.verdict.Verdict.TheVariants as verdicts
 use Rattle.term_unfold.specs.Inner.Coming.{to_come, entered_by, verdict_on, seen, or_else, Visits}
 use Rattle.term_unfold.specs.Inner.Entries.{path_of, stepped}
-use Rattle.term_unfold.specs.Inner.Kids.{kids_of}
+use Rattle.term_unfold.specs.Inner.Children.{children_of}
 use Rattle.term_unfold.specs.Inner.Openings.{element_of, IsOpened}
 use Rattle.term_unfold.specs.Rules.{Child, Opening, opening}
 use Rattle.term_unfold.specs.Trees.{Immediate, OfCell, Tree, Leaf, Bad, Branch, pre, pre_all, first_bad}
-use Rattle.term_unfold.specs.Unfolding.{trees, grown, unfolded}
+use Rattle.term_unfold.specs.Unfolding.{trees, grown_tree, unfolded}
 use Rattle.term_unfold.proofs.Levels.{unfolded-rule}
 
 -- the tree of a child, by what it opens
@@ -26,12 +26,12 @@ pub path-few : (heap : List Cell) (entries : List Entry) → length entries ≤ 
 path-few heap entries few = omega (arith, few, length-map entries (λ (e : Entry). address_of heap (number e.cell)))
 
 pub unfolded-as : (heap : List Cell) (entries : List Entry) (child : Child) (o : Opening) → length entries ≤ length heap → opening heap (path_of heap entries) child ≡ o
-    → unfolded heap (path_of heap entries) child ≡ grown (λ a. unfolded heap (a ∷ path_of heap entries)) o
+    → unfolded heap (path_of heap entries) child ≡ grown_tree (λ a. unfolded heap (a ∷ path_of heap entries)) o
 unfolded-as heap entries child o few is =
-    unfolded-rule heap (path_of heap entries) child (path-few heap entries few) ∙ ap (grown (λ a. unfolded heap (a ∷ path_of heap entries))) is
+    unfolded-rule heap (path_of heap entries) child (path-few heap entries few) ∙ ap (grown_tree (λ a. unfolded heap (a ∷ path_of heap entries))) is
 
 visits-as : (heap : List Cell) (before after : List Entry) (child : Child) (o : Opening) (verdict : Verdict) (tree : Tree) → length before ≤ length heap → opening heap (path_of heap before) child ≡ o
-    → pre (grown (λ a. unfolded heap (a ∷ path_of heap before)) o) ++ to_come heap before ≡ tree ∷ to_come heap after → verdict ≡ seen tree
+    → pre (grown_tree (λ a. unfolded heap (a ∷ path_of heap before)) o) ++ to_come heap before ≡ tree ∷ to_come heap after → verdict ≡ seen tree
     → Visits heap before after child verdict
 visits-as heap before after child o verdict tree few is first says = record {
   node = tree;
@@ -50,7 +50,7 @@ visits-opened heap before after child (opened.Leaf ix) came few is now =
 visits-opened heap before after child (opened.Bad address why) came few is now =
     visits-as heap before after child _ (verdicts.Bad address why) (Bad address why) few is (ap (λ es. Bad address why ∷ to_come heap es) (sym now)) refl
 visits-opened heap before after child (opened.Node ix kind) came few is now =
-    let tree : Tree = Branch kind (trees (unfolded heap (address_of heap (number ix) ∷ path_of heap before)) (kids_of heap kind (number ix))) in
+    let tree : Tree = Branch kind (trees (unfolded heap (address_of heap (number ix) ∷ path_of heap before)) (children_of heap kind (number ix))) in
     visits-as heap before after child _ verdicts.Clean tree few is.opens (ap (λ es. tree ∷ to_come heap es) (sym now)) refl
 
 -- children by place
@@ -66,24 +66,24 @@ drop-past_get (y ∷ ys) zero is = cc
 drop-past_get (y ∷ ys) (suc i) is = drop-past_get ys i is
 
 -- the innermost cell gives its next child
-to_come-next : (heap : List Cell) (came : Bool) (e : Entry) (es : List Entry) (s : Child) → slice_get (kids_of heap e.kind (number e.cell)) e.next ≡ Some s
+to_come-next : (heap : List Cell) (came : Bool) (e : Entry) (es : List Entry) (s : Child) → slice_get (children_of heap e.kind (number e.cell)) e.next ≡ Some s
     → to_come heap (e ∷ es) ≡ pre (unfolded heap (path_of heap (stepped came (e ∷ es))) s) ++ to_come heap (stepped came (e ∷ es))
 to_come-next heap came e es s is =
     let tree : Child → Tree = unfolded heap (path_of heap (e ∷ es)) in
-    let kids = kids_of heap e.kind (number e.cell) in
+    let kids = children_of heap e.kind (number e.cell) in
     ap (λ ss. pre_all (trees tree ss) ++ to_come heap es) (drop-at_get kids e.next s is)
     ∙ append_assoc (pre (tree s)) (pre_all (trees tree (drop (e.next + 1) kids))) (to_come heap es)
 
-pub to_come-step : (heap : List Cell) (came : Bool) (before after : List Entry) (e : Entry) (es : List Entry) (s : Child) → before ≡ e ∷ es → slice_get (kids_of heap e.kind (number e.cell)) e.next ≡ Some s
+pub to_come-step : (heap : List Cell) (came : Bool) (before after : List Entry) (e : Entry) (es : List Entry) (s : Child) → before ≡ e ∷ es → slice_get (children_of heap e.kind (number e.cell)) e.next ≡ Some s
     → after ≡ stepped came before → to_come heap before ≡ pre (unfolded heap (path_of heap after) s) ++ to_come heap after
 to_come-step heap came before after e es s was at step =
     let now : after ≡ stepped came (e ∷ es) = step ∙ ap (stepped came) was in
     ap (to_come heap) was ∙ to_come-next heap came e es s at ∙ ap (λ es. pre (unfolded heap (path_of heap es) s) ++ to_come heap es) (sym now)
 
 -- the innermost cell is left
-pub to_come-pop : (heap : List Cell) (before after : List Entry) (e : Entry) → before ≡ e ∷ after → slice_get (kids_of heap e.kind (number e.cell)) e.next ≡ None → to_come heap after ≡ to_come heap before
+pub to_come-pop : (heap : List Cell) (before after : List Entry) (e : Entry) → before ≡ e ∷ after → slice_get (children_of heap e.kind (number e.cell)) e.next ≡ None → to_come heap after ≡ to_come heap before
 to_come-pop heap before after e was at =
-    sym (ap (to_come heap) was ∙ ap (λ ss. pre_all (trees (unfolded heap (path_of heap (e ∷ after))) ss) ++ to_come heap after) (drop-past_get (kids_of heap e.kind (number e.cell)) e.next at))
+    sym (ap (to_come heap) was ∙ ap (λ ss. pre_all (trees (unfolded heap (path_of heap (e ∷ after))) ss) ++ to_come heap after) (drop-past_get (children_of heap e.kind (number e.cell)) e.next at))
 
 first_bad-first : (tree : Tree) (trees : List Tree) → or_else (seen tree) (first_bad trees) ≡ first_bad (tree ∷ trees)
 first_bad-first (Bad address why) trees = refl

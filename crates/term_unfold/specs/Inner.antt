@@ -1,7 +1,7 @@
 -- What the walk keeps, and what it stands for.
 pub mod Coming
 pub mod Entries
-pub mod Kids
+pub mod Children
 pub mod Openings
 pub mod Rest
 pub mod Steps

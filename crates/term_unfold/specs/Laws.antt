@@ -5,7 +5,7 @@ use Rattle.heap_cells.specs.HeapMap.{number_at}
 use Rattle.term_unfold.specs.Rules.{Child, Term, Item, is_on, opening}
 use Rattle.term_unfold.specs.Terms.{IsTerm, IsItem}
 use Rattle.term_unfold.specs.Trees.{Tree, Trees, none, more}
-use Rattle.term_unfold.specs.Unfolding.{grown, unfold_by, unfolded}
+use Rattle.term_unfold.specs.Unfolding.{grown_tree, unfold_by, unfolded}
 
 -- distinct addresses of the heap
 abbrev pub IsPath : List Cell → List ℕ → Type 0
@@ -15,7 +15,7 @@ IsPath heap (a ∷ path) = IsSome (number_at heap a) × (is_on a path ≡ false)
 -- the tree of what a child opens, without a bound on levels
 abbrev pub FollowsRules : (List Cell → List ℕ → Child → Tree) → Type 0
 FollowsRules tree = (heap : List Cell) (path : List ℕ) (child : Child) → IsPath heap path
-    → tree heap path child ≡ grown (λ a. tree heap (a ∷ path)) (opening heap path child)
+    → tree heap path child ≡ grown_tree (λ a. tree heap (a ∷ path)) (opening heap path child)
 
 -- any number of levels above that of the cells that are no ancestors gives the same tree
 abbrev pub IsEnough : Type 0

@@ -21,21 +21,21 @@ pub data Face : Type 0 where
   BranchFace : NodeKind → ℕ → Face
 
 -- a node with its place: the numbers of the children that lead to it from the root
-abbrev pub Placed : Type 0
-Placed = List ℕ × Face
+abbrev pub PlacedNode : Type 0
+PlacedNode = List ℕ × Face
 
 abbrev mutual
   -- the nodes in preorder, of a tree at a place
-  pub placed : (Value → List ℕ) → List ℕ → Tree → List Placed
+  pub placed : (Value → List ℕ) → List ℕ → Tree → List PlacedNode
   placed leaf place (Leaf value) = (place, LeafFace (is_nil value) (leaf value)) ∷ []
   placed leaf place (Bad address why) = (place, BadFace address why) ∷ []
   placed leaf place (Branch kind children) = (place, BranchFace kind (count children)) ∷ placed_all leaf place 0 children
 
   -- the same for the children of a place, from the one with number n on
-  pub placed_all : (Value → List ℕ) → List ℕ → ℕ → Trees → List Placed
+  pub placed_all : (Value → List ℕ) → List ℕ → ℕ → Trees → List PlacedNode
   placed_all leaf place n none = []
   placed_all leaf place n (more tree trees) = placed leaf (place ++ n ∷ []) tree ++ placed_all leaf place (suc n) trees
 
 -- the nodes of a whole tree
-abbrev pub nodes_of : (Value → List ℕ) → Tree → List Placed
+abbrev pub nodes_of : (Value → List ℕ) → Tree → List PlacedNode
 nodes_of leaf tree = placed leaf [] tree

@@ -6,7 +6,7 @@ use Rattle.term_forms.specs.Forms.{HeapForm, Cons, Tuple, Flat, Hash, Node}
 use Rattle.heap_cells.specs.Cells.{Cell}
 use Rattle.cell_records.specs.declared.cells.Why.{Why}
 use Rattle.cell_records.specs.declared.cells.Why.TheVariants.{Missing, Malformed, OnPath}
-use Rattle.map_nodes.specs.Rules.{Keys, no_keys, keys_at, bad_keys, keys_of_map, Member, pair_at, inner_at, bad_member, member_of, form_with}
+use Rattle.map_nodes.specs.Rules.{Keys, no_keys, keys_at, bad_keys, keys_of_map, Member, pair_at, inner_at, bad_member, member_of, form_at_address}
 use Rattle.term_unfold.specs.declared.node.NodeKind.{NodeKind}
 use Rattle.term_unfold.specs.declared.node.NodeKind.TheVariants as kinds
 use Rattle.term_unfold.specs.Trees.{Value, Immediate, OfCell}
@@ -70,7 +70,7 @@ cell_opening heap path a (Some (Some form)) = leaf (OfCell a form)
 
 -- what an element opens: a reference opens its cell, and any other element is a leaf
 abbrev pub term_opening : List Cell → List ℕ → Element → Opening
-term_opening heap path (Ref a) = cell_opening heap path a (form_with heap a)
+term_opening heap path (Ref a) = cell_opening heap path a (form_at_address heap a)
 term_opening heap path element = leaf (Immediate element)
 
 -- a child of a hash map or of an inner node

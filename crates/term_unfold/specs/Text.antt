@@ -46,12 +46,12 @@ abbrev pub closed : Shown Stand → Shown ℕ
 closed inside = shown (inside.text ++ codes "}") (left_at inside.left)
 
 -- the comma after a text
-abbrev pub comma : Bool → List ℕ
-comma came = if came then codes "," else []
+abbrev pub comma_text : Bool → List ℕ
+comma_text came = if came then codes "," else []
 
 -- `...` stands for all that is left of a hash map
-abbrev pub cut : Bool → Shown Stand
-cut came = shown (comma came ++ codes "...") Cut
+abbrev pub cut_map : Bool → Shown Stand
+cut_map came = shown (comma_text came ++ codes "...") Cut
 
 -- a value after its key, in a hash map
 abbrev pub valued : Shown ℕ → Shown Stand
@@ -99,14 +99,14 @@ abbrev mutual
   -- the elements of a tuple from one of them on, after some or none
   pub elements_text : (Value → List ℕ) → Bool → Trees → ℕ → Shown ℕ
   elements_text leaf came none m = shown (codes "}") m
-  elements_text leaf came (more element rest) zero = shown (comma came ++ codes "...}") 0
-  elements_text leaf came (more element rest) (suc m) = led (comma came) (node_text leaf element m then elements_text leaf true rest)
+  elements_text leaf came (more element rest) zero = shown (comma_text came ++ codes "...}") 0
+  elements_text leaf came (more element rest) (suc m) = led (comma_text came) (node_text leaf element m then elements_text leaf true rest)
 
   -- the pairs of a flat map from a key on, after some or none
   pub keys_text : (Value → List ℕ) → Bool → Trees → ℕ → Shown ℕ
   keys_text leaf came none m = shown (codes "}") m
-  keys_text leaf came (more key rest) zero = shown (comma came ++ codes "...}") 0
-  keys_text leaf came (more key rest) (suc m) = led (comma came) (node_text leaf key m then values_text leaf rest)
+  keys_text leaf came (more key rest) zero = shown (comma_text came ++ codes "...}") 0
+  keys_text leaf came (more key rest) (suc m) = led (comma_text came) (node_text leaf key m then values_text leaf rest)
 
   -- the same from a value on
   pub values_text : (Value → List ℕ) → Trees → ℕ → Shown ℕ
@@ -117,22 +117,22 @@ abbrev mutual
   -- the items of a hash map from one of them on, after an item's text or none
   pub items_text : (Value → List ℕ) → Bool → Trees → ℕ → Shown Stand
   items_text leaf came none m = shown [] (At came m)
-  items_text leaf came (more item rest) zero = cut came
+  items_text leaf came (more item rest) zero = cut_map came
   items_text leaf came (more item rest) (suc m) = item_text leaf came item m then go_on (λ c. items_text leaf c rest)
 
   -- an item that is visited; the children of an inner node take its place
   pub item_text : (Value → List ℕ) → Bool → Tree → ℕ → Shown Stand
   item_text leaf came (Branch kinds.Pair children) m = pair_text leaf came children m
   item_text leaf came (Branch kinds.Inner children) m = items_text leaf came children m
-  item_text leaf came (Bad address why) m = shown (comma came ++ bad_text address why) (At true m)
+  item_text leaf came (Bad address why) m = shown (comma_text came ++ bad_text address why) (At true m)
   -- no other node is an item
   item_text leaf came item m = shown [] (At came m)
 
   -- a pair of a hash map from its key on
   pub pair_text : (Value → List ℕ) → Bool → Trees → ℕ → Shown Stand
   pair_text leaf came none m = shown [] (At true m)
-  pair_text leaf came (more key rest) zero = cut came
-  pair_text leaf came (more key rest) (suc m) = led (comma came) (node_text leaf key m then value_text leaf rest)
+  pair_text leaf came (more key rest) zero = cut_map came
+  pair_text leaf came (more key rest) (suc m) = led (comma_text came) (node_text leaf key m then value_text leaf rest)
 
   -- a pair of a hash map from its value on
   pub value_text : (Value → List ℕ) → Trees → ℕ → Shown Stand

@@ -12,15 +12,15 @@ trees tree [] = none
 trees tree (child ∷ children) = more (tree child) (trees tree children)
 
 -- the tree of what was opened, given the trees below an address
-abbrev pub grown : (ℕ → Child → Tree) → Opening → Tree
-grown below (leaf value) = Leaf value
-grown below (bad address why) = Bad address why
-grown below (node a kind children) = Branch kind (trees (below a) children)
+abbrev pub grown_tree : (ℕ → Child → Tree) → Opening → Tree
+grown_tree below (leaf value) = Leaf value
+grown_tree below (bad address why) = Bad address why
+grown_tree below (node a kind children) = Branch kind (trees (below a) children)
 
 -- at most this many levels below the ancestors `path`
 unfoldable pub unfold_by : ℕ → List Cell → List ℕ → Child → Tree
 unfold_by zero heap path child = Bad 0 OnPath
-unfold_by (suc levels) heap path child = grown (λ a. unfold_by levels heap (a ∷ path)) (opening heap path child)
+unfold_by (suc levels) heap path child = grown_tree (λ a. unfold_by levels heap (a ∷ path)) (opening heap path child)
 
 -- Each level down adds one cell to the ancestors, so as many levels as
 -- there are cells that are no ancestors yet, and one more, are all.

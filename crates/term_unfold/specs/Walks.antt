@@ -21,8 +21,8 @@ pub record Walk : Type 0 where
   pub reserved : ℕ
 
 -- a walker over these two, with room for exactly one more entry than there are cells
-abbrev pub walk : HeapMap → List Entry → Walk
-walk heap previews = record { heap = heap; previews = previews; reserved = length heap.cells + 1 }
+abbrev pub new_walk : HeapMap → List Entry → Walk
+new_walk heap previews = record { heap = heap; previews = previews; reserved = length heap.cells + 1 }
 
 -- the first bad address, or the text if none is bad
 abbrev pub judged_text : Verdict → List ℕ → List ℕ

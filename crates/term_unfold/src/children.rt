@@ -3,7 +3,7 @@ ghost use Rattle.std.specs.Prelude.{◌<◌, length, take, drop};
 ghost use Rattle.heap_cells.specs.HeapMap.{IsBounded, elements_at, form_at};
 ghost use Rattle.heap_cells.specs.Targets.{number};
 ghost use Rattle.map_nodes.specs.Rules.{address_of};
-ghost use Rattle.term_unfold.specs.Inner.Kids.{kids_of, flat_kids, members_in, HasMembers, IsKidAt};
+ghost use Rattle.term_unfold.specs.Inner.Children.{children_of, flat_children, members_in, HasMembers, IsChildAt};
 ghost use Rattle.term_unfold.specs.Rules.{terms, items, pairs};
 
 use crate::node::NodeKind;
@@ -23,7 +23,7 @@ pub(crate) enum Child<'h> {
 fn term_at(heap: &Heap, ix: CellIx, place: u32) -> Option<Child<'_>>
     requires cell { number ix < length heap.now.cells }
     requires bounded { IsBounded heap.now }
-    ensures { IsKidAt heap.now.cells (terms (elements_at heap.now.cells (number ix))) place 100000000 result }
+    ensures { IsChildAt heap.now.cells (terms (elements_at heap.now.cells (number ix))) place 100000000 result }
 {
     let slot = heap.slots(ix).get(place as usize)?;
     Some(Child::Term(slot, ix, place))
@@ -34,7 +34,7 @@ fn term_at(heap: &Heap, ix: CellIx, place: u32) -> Option<Child<'_>>
 fn head_or_tail(heap: &Heap, ix: CellIx, place: u32) -> Option<Child<'_>>
     requires cell { number ix < length heap.now.cells }
     requires bounded { IsBounded heap.now }
-    ensures { IsKidAt heap.now.cells (terms (take 2 (elements_at heap.now.cells (number ix)))) place 2 result }
+    ensures { IsChildAt heap.now.cells (terms (take 2 (elements_at heap.now.cells (number ix)))) place 2 result }
 {
     if place < 2 {
         term_at(heap, ix, place)
@@ -49,7 +49,7 @@ fn key_or_value(heap: &Heap, ix: CellIx, keys: CellIx, place: u32) -> Option<Chi
     requires map { number ix < length heap.now.cells }
     requires keys { number keys < length heap.now.cells }
     requires bounded { IsBounded heap.now }
-    ensures { IsKidAt heap.now.cells (pairs (elements_at heap.now.cells (number keys)) (drop 1 (elements_at heap.now.cells (number ix)))) place 200000000 result }
+    ensures { IsChildAt heap.now.cells (pairs (elements_at heap.now.cells (number keys)) (drop 1 (elements_at heap.now.cells (number ix)))) place 200000000 result }
 {
     let key = term_at(heap, keys, place / 2)?;
     let value = term_at(heap, ix, place / 2 + 1)?;
@@ -65,7 +65,7 @@ fn key_or_value(heap: &Heap, ix: CellIx, keys: CellIx, place: u32) -> Option<Chi
 fn pair_part(heap: &Heap, ix: CellIx, place: u32) -> Option<Child<'_>>
     requires cell { number ix < length heap.now.cells }
     requires bounded { IsBounded heap.now }
-    ensures { IsKidAt heap.now.cells (flat_kids heap.now.cells (elements_at heap.now.cells (number ix))) place 200000000 result }
+    ensures { IsChildAt heap.now.cells (flat_children heap.now.cells (elements_at heap.now.cells (number ix))) place 200000000 result }
 {
     if heap.kids(ix) == 0 {
         return None;
@@ -82,7 +82,7 @@ fn item_at(heap: &Heap, ix: CellIx, place: u32) -> Option<Child<'_>>
     requires cell { number ix < length heap.now.cells }
     requires bounded { IsBounded heap.now }
     requires kind { HasMembers (form_at heap.now.cells (number ix)) }
-    ensures { IsKidAt heap.now.cells (items (address_of heap.now.cells (number ix)) (members_in (form_at heap.now.cells (number ix)))) place 100000000 result }
+    ensures { IsChildAt heap.now.cells (items (address_of heap.now.cells (number ix)) (members_in (form_at heap.now.cells (number ix)))) place 100000000 result }
 {
     if place >= heap.kids(ix) {
         return None;
@@ -95,7 +95,7 @@ fn item_at(heap: &Heap, ix: CellIx, place: u32) -> Option<Child<'_>>
 fn member_at(heap: &Heap, ix: CellIx, place: u32) -> Option<Child<'_>>
     requires cell { number ix < length heap.now.cells }
     requires bounded { IsBounded heap.now }
-    ensures { IsKidAt heap.now.cells (items (address_of heap.now.cells (number ix)) (members_in (form_at heap.now.cells (number ix)))) place 100000000 result }
+    ensures { IsChildAt heap.now.cells (items (address_of heap.now.cells (number ix)) (members_in (form_at heap.now.cells (number ix)))) place 100000000 result }
 {
     match heap.kind(ix) {
         Some(Kind::Hash) => item_at(heap, ix, place),
@@ -110,7 +110,7 @@ fn member_at(heap: &Heap, ix: CellIx, place: u32) -> Option<Child<'_>>
 pub(crate) fn child_at(heap: &Heap, ix: CellIx, kind: NodeKind, place: u32) -> Option<Child<'_>>
     requires cell { number ix < length heap.now.cells }
     requires bounded { IsBounded heap.now }
-    ensures { IsKidAt heap.now.cells (kids_of heap.now.cells kind (number ix)) place 200000000 result }
+    ensures { IsChildAt heap.now.cells (children_of heap.now.cells kind (number ix)) place 200000000 result }
 {
     match kind {
         NodeKind::Cons => head_or_tail(heap, ix, place),

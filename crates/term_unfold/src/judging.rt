@@ -3,7 +3,7 @@ ghost use Rattle.std.specs.Prelude.{◌≡◌, ◌<◌, ◌≤◌, ◌++◌, [],
 ghost use Rattle.term_forms.specs.Seen.{element};
 ghost use Rattle.term_unfold.specs.Inner.Coming.{to_come, entered_by, verdict_on, Visits};
 ghost use Rattle.term_unfold.specs.Inner.Entries.{path_of, Serves};
-ghost use Rattle.term_unfold.specs.Inner.Kids.{child_shown, IsKid};
+ghost use Rattle.term_unfold.specs.Inner.Children.{child_shown, IsChild};
 ghost use Rattle.term_unfold.specs.Inner.Openings.{MayEnter};
 ghost use Rattle.term_unfold.specs.Rules.{Term};
 ghost use Rattle.term_unfold.specs.Trees.{pre, verdict};
@@ -21,7 +21,7 @@ fn next_child<'h>(heap: &'h Heap, path: &mut Path) -> Option<Child<'h>>
     requires serves { Serves heap.now path.old.cells }
     ensures cells { path.new.cells ≡ path.old.cells }
     ensures few { IfSome result (λ _. length path.new.entries ≤ length heap.now.cells) }
-    ensures kid { IfSome result (IsKid heap.now.cells) }
+    ensures placed { IfSome result (IsChild heap.now.cells) }
     ensures next { MatchOption result
         (to_come heap.now.cells path.old.entries ≡ [])
         (λ child. to_come heap.now.cells path.old.entries
@@ -63,7 +63,7 @@ fn judge_opened(opened: Opened) -> Verdict
 fn visit(heap: &Heap, path: &mut Path, child: Child<'_>) -> Verdict
     requires serves { Serves heap.now path.old.cells }
     requires few { length path.old.entries ≤ length heap.now.cells }
-    requires kid { IsKid heap.now.cells child }
+    requires placed { IsChild heap.now.cells child }
     ensures cells { path.new.cells ≡ path.old.cells }
     ensures visits { Visits heap.now.cells path.old.entries path.new.entries (child_shown heap.now.cells child.entry) result }
 {

@@ -1,4 +1,16 @@
 //! What a term of a heap unfolds to: its first bad address, and its text, within a budget of nodes.
+//!
+//! A heap may be any graph, shared, cyclic or broken. A term unfolds to a finite tree, in which an address
+//! that no cell has, a malformed cell and a cell below itself are bad nodes; the budget says how many nodes
+//! of it are judged or written. A [`Walker`] takes its memory when it is made, and none for a walk.
+//!
+//! ```text
+//! let mut walker = Walker::new(alloc, &heap, &previews)?;
+//! match walker.judge(root, 10_000) {
+//!     Verdict::Clean => walker.print(root, 10_000, false, &mut out)?,
+//!     Verdict::Bad(address, why) => put_bad(&mut out, address, why)?,
+//! }
+//! ```
 #![tactic(auto)]
 
 mod children;

@@ -8,7 +8,7 @@ ghost use Rattle.term_forms.specs.Elements.{Ref};
 ghost use Rattle.term_forms.specs.Seen.{element};
 ghost use Rattle.map_nodes.specs.Rules.{address_of, element_at};
 ghost use Rattle.term_unfold.specs.Inner.Entries.{numbers_of, path_of, IsLine, Serves};
-ghost use Rattle.term_unfold.specs.Inner.Kids.{child_shown, IsItemAt, IsKid};
+ghost use Rattle.term_unfold.specs.Inner.Children.{child_shown, IsItemAt, IsChild};
 ghost use Rattle.term_unfold.specs.Inner.Openings.{Opens, OpensEach};
 ghost use Rattle.term_unfold.specs.Rules.{is_on, Term, Item};
 
@@ -170,7 +170,7 @@ fn open_item(heap: &Heap, path: &Path, parent: CellIx, place: u32) -> Opened
 /// A child of an open cell.
 #[inline(always)]
 pub(crate) fn open_child(heap: &Heap, path: &Path, child: Child<'_>) -> Opened
-    requires kid { IsKid heap.now.cells child }
+    requires placed { IsChild heap.now.cells child }
     requires serves { Serves heap.now path.now.cells }
     ensures { Opens heap.now path.now (child_shown heap.now.cells child.entry) result }
 {

@@ -1,5 +1,5 @@
 // The walk that prints.
-ghost use Rattle.std.specs.Prelude.{◌≡◌, ◌<◌, ◌≤◌, ◌-◌, [], ◌∷◌, length, drop, if◌then◌else◌};
+ghost use Rattle.std.specs.Prelude.{◌≡◌, ◌<◌, ◌≤◌, ◌-◌, [], ◌∷◌, length, drop};
 ghost use Rattle.dump_io.specs.Sinks.{Puts};
 ghost use Rattle.term_forms.specs.Seen.{element};
 ghost use Rattle.binary_refs.specs.Previews.{AreFor};
@@ -7,9 +7,9 @@ ghost use Rattle.term_unfold.specs.Inner.Entries.{Serves};
 ghost use Rattle.heap_cells.specs.HeapMap.{IsBounded};
 ghost use Rattle.heap_cells.specs.Targets.{number};
 ghost use Rattle.map_nodes.specs.Rules.{element_at};
-ghost use Rattle.term_unfold.specs.Inner.Kids.{child_shown, IsKid, IsPlace};
+ghost use Rattle.term_unfold.specs.Inner.Children.{child_shown, IsChild, IsPlace};
 ghost use Rattle.term_unfold.specs.Inner.Openings.{element_of};
-ghost use Rattle.term_unfold.specs.Inner.Rest.{bracket, own_text, turn_text, rest, LeafWithin};
+ghost use Rattle.term_unfold.specs.Inner.Rest.{bracket, child_text, own_text, turn_text, rest, LeafWithin, OwnWithin};
 ghost use Rattle.term_unfold.specs.Inner.Steps.{Steps, Falls, counted_of};
 ghost use Rattle.term_unfold.specs.Leaves.{element_text, leaf_text};
 ghost use Rattle.term_unfold.specs.Rules.{Term};
@@ -22,7 +22,7 @@ use crate::leaves::{put_bad, put_cell, put_element};
 use crate::node::NodeKind;
 use crate::openings::{Opened, open_root};
 use crate::path::{Entry, Path};
-use crate::turns::{Turn, close, cut, visit_next};
+use crate::turns::{Own, Turn, close, cut, visit_next};
 use binary_refs::Previews;
 use dump_io::{Failed, Sink, write_all};
 use heap_cells::{CellIx, Heap, Kid};
@@ -55,7 +55,7 @@ fn put_place<K: Sink>(sink: &mut K, heap: &Heap, ix: CellIx, place: u32) -> Resu
 
 // Writes a child that is an immediate.
 fn put_immediate<K: Sink>(sink: &mut K, heap: &Heap, child: Child<'_>) -> Result<(), Failed>
-    requires { IsKid heap.now.cells child }
+    requires { IsChild heap.now.cells child }
     ensures { Puts (K.state sink.old) (K.state sink.new) (element_text (element_of (child_shown heap.now.cells child.entry))) result }
 {
     match child {
@@ -65,7 +65,7 @@ fn put_immediate<K: Sink>(sink: &mut K, heap: &Heap, child: Child<'_>) -> Result
 }
 
 // Writes a child's own text, up to its children.
-fn put_own<K: Sink>(
+fn put_child<K: Sink>(
     sink: &mut K,
     heap: &Heap,
     previews: &Previews,
@@ -74,10 +74,10 @@ fn put_own<K: Sink>(
 ) -> Result<(), Failed>
     requires bounded { IsBounded heap.now }
     requires previews { AreFor heap.now.cells previews.now }
-    requires kid { IsKid heap.now.cells child }
+    requires placed { IsChild heap.now.cells child }
     requires cell { LeafWithin heap.now.cells opened }
     ensures { Puts (K.state sink.old) (K.state sink.new)
-        (own_text (leaf_text heap.now.enc heap.now.cells previews.now) heap.now.cells (child_shown heap.now.cells child.entry) opened) result }
+        (child_text (leaf_text heap.now.enc heap.now.cells previews.now) heap.now.cells (child_shown heap.now.cells child.entry) opened) result }
 {
     match opened {
         Opened::Immediate => put_immediate(sink, heap, child),
@@ -87,24 +87,25 @@ fn put_own<K: Sink>(
     }
 }
 
-fn put_own_if<K: Sink>(
+// Writes what a turn writes of a child itself.
+fn put_own<K: Sink>(
     sink: &mut K,
     heap: &Heap,
     previews: &Previews,
     child: Child<'_>,
-    turn: &Turn,
+    own: &Own<'_>,
 ) -> Result<(), Failed>
     requires bounded { IsBounded heap.now }
     requires previews { AreFor heap.now.cells previews.now }
-    requires kid { IsKid heap.now.cells child }
-    requires cell { LeafWithin heap.now.cells turn.now.opened }
+    requires placed { IsChild heap.now.cells child }
+    requires cell { OwnWithin heap.now.cells own.now }
     ensures { Puts (K.state sink.old) (K.state sink.new)
-        (if turn.now.own then own_text (leaf_text heap.now.enc heap.now.cells previews.now) heap.now.cells (child_shown heap.now.cells child.entry) turn.now.opened else []) result }
+        (own_text (leaf_text heap.now.enc heap.now.cells previews.now) heap.now.cells (child_shown heap.now.cells child.entry) own.now) result }
 {
-    if turn.own {
-        put_own(sink, heap, previews, child, turn.opened)
-    } else {
-        write_all(sink, b"")
+    match own {
+        Own::Nothing => write_all(sink, b""),
+        Own::Child(opened) => put_child(sink, heap, previews, child, *opened),
+        Own::Immediate(e) => put_element(sink, e),
     }
 }
 
@@ -114,17 +115,17 @@ fn put_turn<K: Sink>(
     heap: &Heap,
     previews: &Previews,
     child: Child<'_>,
-    turn: &Turn,
+    turn: &Turn<'_>,
 ) -> Result<(), Failed>
     requires bounded { IsBounded heap.now }
     requires previews { AreFor heap.now.cells previews.now }
-    requires kid { IsKid heap.now.cells child }
-    requires cell { LeafWithin heap.now.cells turn.now.opened }
+    requires placed { IsChild heap.now.cells child }
+    requires cell { OwnWithin heap.now.cells turn.now.own }
     ensures { Puts (K.state sink.old) (K.state sink.new)
         (turn_text (leaf_text heap.now.enc heap.now.cells previews.now) heap.now.cells (child_shown heap.now.cells child.entry) turn.now) result }
 {
     write_all(sink, turn.front)?;
-    put_own_if(sink, heap, previews, child, turn)
+    put_own(sink, heap, previews, child, &turn.own)
 }
 
 // The remaining count, if a text was written.
@@ -181,7 +182,7 @@ fn put_root<K: Sink>(
     requires previews { AreFor heap.now.cells previews.now }
     requires cell { LeafWithin heap.now.cells opened }
     ensures { Puts (K.state sink.old) (K.state sink.new)
-        (own_text (leaf_text heap.now.enc heap.now.cells previews.now) heap.now.cells (Term (element root.now)) opened) result }
+        (child_text (leaf_text heap.now.enc heap.now.cells previews.now) heap.now.cells (Term (element root.now)) opened) result }
 {
     match opened {
         Opened::Immediate => put_element(sink, root),

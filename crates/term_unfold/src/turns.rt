@@ -1,14 +1,16 @@
 // The steps of the walk that prints: what each writes, and where the walk is afterwards.
 ghost use Rattle.std.specs.Prelude.{◌≡◌, ℕ, ◌+◌, ◌<◌, ◌≤◌, ◌++◌, List, ◌∷◌, length, drop, slice_get, codes, ◌^◌, Some, IfSome};
+ghost use Rattle.std.specs.Option.{option_map};
+ghost use Rattle.term_forms.specs.Seen.{element};
 ghost use Rattle.heap_cells.specs.Cells.{Cell};
 ghost use Rattle.heap_cells.specs.Targets.{number};
 ghost use Rattle.term_unfold.specs.Inner.Coming.{left_of, entered_by};
 ghost use Rattle.term_unfold.specs.Inner.Entries.{stepped, outside, is_item, Serves};
-ghost use Rattle.term_unfold.specs.Inner.Kids.{kids_of, child_shown, IsKid};
-ghost use Rattle.term_unfold.specs.Inner.Openings.{MayEnter, is_nil_term, is_list, is_list_kind};
-ghost use Rattle.term_unfold.specs.Inner.Rest.{rest, AtChild, IsTurn, HasItems};
+ghost use Rattle.term_unfold.specs.Inner.Children.{children_of, child_shown, IsChild};
+ghost use Rattle.term_unfold.specs.Inner.Openings.{MayEnter, immediate_of, is_list, is_list_kind};
+ghost use Rattle.term_unfold.specs.Inner.Rest.{front_of, is_next_value, left_text, rest, AtChild, IsTurn, HasItems, HasTerms};
 ghost use Rattle.term_unfold.specs.Rules.{Child as Below};
-ghost use Rattle.term_unfold.specs.Text.{comma};
+ghost use Rattle.term_unfold.specs.Text.{comma_text};
 ghost use Rattle.term_unfold.specs.Trees.{Value, none};
 
 use crate::children::Child;
@@ -19,25 +21,68 @@ use crate::path::{Entry, Path};
 use heap_cells::{Heap, Kid, Slot};
 use term_forms::shapes::Elem;
 
-/// What the walk writes when it comes to a child: a text before it, and the child's own text or not.
+/// What the walk writes of a child itself.
 #[derive(Clone, Copy)]
-pub(crate) struct Turn {
+pub(crate) enum Own<'h> {
+    /// Nothing.
+    Nothing,
+    /// The text of what the child is, up to its children.
+    Child(Opened),
+    /// The text of the immediate that the child is, which is in hand.
+    Immediate(Elem<'h>),
+}
+
+/// What the walk writes when it comes to a child: a text before it, and something of the child itself.
+#[derive(Clone, Copy)]
+pub(crate) struct Turn<'h> {
     pub front: &'static [u8],
-    pub own: bool,
-    pub opened: Opened,
+    pub own: Own<'h>,
 }
 
 fn comma_text(came: bool) -> &'static [u8]
-    ensures { result.now ≡ comma came }
+    ensures { result.now ≡ comma_text came }
 {
     if came { b"," } else { b"" }
 }
 
 // What stands for all that is left of a node, after some text or none, and closes the node.
 fn cut_text(came: bool) -> &'static [u8]
-    ensures { result.now ≡ comma came ++ codes "...}" }
+    ensures { result.now ≡ comma_text came ++ codes "...}" }
 {
     if came { b",...}" } else { b"...}" }
+}
+
+// Whether the next child of a node is a value of a map.
+fn is_value(entry: Entry) -> bool
+    ensures { result ≡ is_next_value entry.kind entry.next }
+{
+    match entry.kind {
+        NodeKind::Flat => entry.next % 2 != 0,
+        NodeKind::Pair => entry.next != 0,
+        _ => false,
+    }
+}
+
+// What stands before the next child of a tuple or of a map.
+fn front_text(entry: Entry) -> &'static [u8]
+    ensures { result.now ≡ front_of entry }
+{
+    if is_value(entry) {
+        b"=>"
+    } else {
+        comma_text(entry.came)
+    }
+}
+
+// What stands for all that is left of a tuple or of a map.
+fn left_text(entry: Entry) -> &'static [u8]
+    ensures { result.now ≡ left_text entry }
+{
+    if is_value(entry) {
+        b"=>...}"
+    } else {
+        cut_text(entry.came)
+    }
 }
 
 fn is_item_kind(kind: NodeKind) -> bool
@@ -96,29 +141,13 @@ pub(crate) fn cut(path: &mut Path, entry: Entry) -> &'static [u8]
     requires top { path.old.entries ≡ entry ∷ drop 1 path.old.entries }
     ensures cells { path.new.cells ≡ path.old.cells }
     ensures fewer { length path.new.entries < length path.old.entries }
-    ensures text { (leaf : Value → List ℕ) (heap : List Cell) (child : Below) → slice_get (kids_of heap entry.kind (number entry.cell)) entry.next ≡ Some child
+    ensures text { (leaf : Value → List ℕ) (heap : List Cell) (child : Below) → slice_get (children_of heap entry.kind (number entry.cell)) entry.next ≡ Some child
         → rest leaf heap path.old.entries 0 ≡ result.now ++ rest leaf heap path.new.entries 0 }
 {
     leave_node(path);
     match entry.kind {
         NodeKind::Cons => { if entry.next == 0 { b"...]" } else { b"|...]" } }
-        NodeKind::Tuple => cut_text(entry.came),
-        NodeKind::Flat => {
-            if entry.next % 2 == 0 {
-                cut_text(entry.came)
-            } else {
-                b"=>...}"
-            }
-        }
-        NodeKind::Hash => cut_text(entry.came),
-        NodeKind::Inner => cut_text(entry.came),
-        NodeKind::Pair => {
-            if entry.next == 0 {
-                cut_text(entry.came)
-            } else {
-                b"=>...}"
-            }
-        }
+        _ => left_text(entry),
     }
 }
 
@@ -133,17 +162,17 @@ fn advance(path: &mut Path, opened: Opened, came: bool, inside: bool)
     enter(path, opened, inside);
 }
 
-// Whether a child is the leaf that ends a list.
-fn is_nil_child(heap: &Heap, child: Child<'_>) -> bool
-    requires { IsKid heap.now.cells child }
-    ensures { result ≡ is_nil_term (child_shown heap.now.cells child.entry) }
+// The immediate that a child is, if it is one.
+fn immediate<'h>(heap: &'h Heap, child: Child<'_>) -> Option<Elem<'h>>
+    requires { IsChild heap.now.cells child }
+    ensures { option_map element result ≡ immediate_of (child_shown heap.now.cells child.entry) }
 {
     match child {
-        Child::Term(Slot::Imm(_), cell, place) => {
-            matches!(heap.kid(cell, place), Kid::Imm(Elem::Nil))
-        }
-        Child::Term(_, _, _) => false,
-        Child::Item(_, _) => false,
+        Child::Term(Slot::Imm(_), cell, place) => match heap.kid(cell, place) {
+            Kid::Imm(e) => Some(e),
+            _ => None,
+        },
+        _ => None,
     }
 }
 
@@ -173,39 +202,55 @@ fn is_list(opened: Opened) -> bool
 }
 
 // Goes on with a list after its head.
-fn turn_tail(heap: &Heap, path: &mut Path, entry: Entry, child: Child<'_>, opened: Opened) -> Turn
+fn turn_tail<'h>(
+    heap: &'h Heap,
+    path: &mut Path,
+    entry: Entry,
+    child: Child<'_>,
+    opened: Opened,
+) -> Turn<'h>
     requires at { AtChild heap.now path.old entry child opened }
     requires kind { entry.kind ≡ NodeKind.Cons }
     requires next { 0 < entry.next }
     ensures cells { path.new.cells ≡ path.old.cells }
     ensures turn { IsTurn heap.now.cells path.old.entries path.new.entries (child_shown heap.now.cells child.entry) result }
 {
-    if is_nil_child(heap, child) {
-        path.pop();
-        return Turn {
-            front: b"]",
-            own: false,
-            opened,
-        };
-    }
     if is_list(opened) {
         advance(path, opened, false, false);
         return Turn {
             front: b",",
-            own: false,
-            opened,
+            own: Own::Nothing,
+        };
+    }
+    let Some(last) = immediate(heap, child) else {
+        advance(path, opened, true, false);
+        return Turn {
+            front: b"|",
+            own: Own::Child(opened),
+        };
+    };
+    if let Elem::Nil = last {
+        path.pop();
+        return Turn {
+            front: b"]",
+            own: Own::Nothing,
         };
     }
     advance(path, opened, true, false);
     Turn {
         front: b"|",
-        own: true,
-        opened,
+        own: Own::Immediate(last),
     }
 }
 
 // Goes on with a list.
-fn turn_list(heap: &Heap, path: &mut Path, entry: Entry, child: Child<'_>, opened: Opened) -> Turn
+fn turn_list<'h>(
+    heap: &'h Heap,
+    path: &mut Path,
+    entry: Entry,
+    child: Child<'_>,
+    opened: Opened,
+) -> Turn<'h>
     requires at { AtChild heap.now path.old entry child opened }
     requires kind { entry.kind ≡ NodeKind.Cons }
     ensures cells { path.new.cells ≡ path.old.cells }
@@ -217,72 +262,38 @@ fn turn_list(heap: &Heap, path: &mut Path, entry: Entry, child: Child<'_>, opene
     advance(path, opened, false, false);
     Turn {
         front: b"",
-        own: true,
-        opened,
+        own: Own::Child(opened),
     }
 }
 
-// Goes on with a tuple.
-fn turn_tuple(heap: &Heap, path: &mut Path, entry: Entry, child: Child<'_>, opened: Opened) -> Turn
+// Goes on with a tuple, a flat map or a pair of a hash map.
+fn turn_terms<'h>(
+    heap: &'h Heap,
+    path: &mut Path,
+    entry: Entry,
+    child: Child<'_>,
+    opened: Opened,
+) -> Turn<'h>
     requires at { AtChild heap.now path.old entry child opened }
-    requires kind { entry.kind ≡ NodeKind.Tuple }
+    requires kind { HasTerms entry.kind }
     ensures cells { path.new.cells ≡ path.old.cells }
     ensures turn { IsTurn heap.now.cells path.old.entries path.new.entries (child_shown heap.now.cells child.entry) result }
 {
     advance(path, opened, true, false);
     Turn {
-        front: comma_text(entry.came),
-        own: true,
-        opened,
-    }
-}
-
-// Goes on with a flat map.
-fn turn_flat(heap: &Heap, path: &mut Path, entry: Entry, child: Child<'_>, opened: Opened) -> Turn
-    requires at { AtChild heap.now path.old entry child opened }
-    requires kind { entry.kind ≡ NodeKind.Flat }
-    ensures cells { path.new.cells ≡ path.old.cells }
-    ensures turn { IsTurn heap.now.cells path.old.entries path.new.entries (child_shown heap.now.cells child.entry) result }
-{
-    advance(path, opened, true, false);
-    if entry.next % 2 == 0 {
-        return Turn {
-            front: comma_text(entry.came),
-            own: true,
-            opened,
-        };
-    }
-    Turn {
-        front: b"=>",
-        own: true,
-        opened,
-    }
-}
-
-// Goes on with a pair of a hash map.
-fn turn_pair(heap: &Heap, path: &mut Path, entry: Entry, child: Child<'_>, opened: Opened) -> Turn
-    requires at { AtChild heap.now path.old entry child opened }
-    requires kind { entry.kind ≡ NodeKind.Pair }
-    ensures cells { path.new.cells ≡ path.old.cells }
-    ensures turn { IsTurn heap.now.cells path.old.entries path.new.entries (child_shown heap.now.cells child.entry) result }
-{
-    advance(path, opened, true, false);
-    if entry.next == 0 {
-        return Turn {
-            front: comma_text(entry.came),
-            own: true,
-            opened,
-        };
-    }
-    Turn {
-        front: b"=>",
-        own: true,
-        opened,
+        front: front_text(entry),
+        own: Own::Child(opened),
     }
 }
 
 // Goes on with the items of a hash map or of an inner node.
-fn turn_item(heap: &Heap, path: &mut Path, entry: Entry, child: Child<'_>, opened: Opened) -> Turn
+fn turn_item<'h>(
+    heap: &'h Heap,
+    path: &mut Path,
+    entry: Entry,
+    child: Child<'_>,
+    opened: Opened,
+) -> Turn<'h>
     requires at { AtChild heap.now path.old entry child opened }
     requires kind { HasItems entry.kind }
     ensures cells { path.new.cells ≡ path.old.cells }
@@ -292,42 +303,51 @@ fn turn_item(heap: &Heap, path: &mut Path, entry: Entry, child: Child<'_>, opene
         advance(path, opened, true, false);
         return Turn {
             front: comma_text(entry.came),
-            own: true,
-            opened,
+            own: Own::Child(opened),
         };
     }
     advance(path, opened, entry.came, entry.came);
     Turn {
         front: b"",
-        own: false,
-        opened,
+        own: Own::Nothing,
     }
 }
 
 // Goes on with the innermost cell, given what was found for its next child.
-fn turn_by(heap: &Heap, path: &mut Path, entry: Entry, child: Child<'_>, opened: Opened) -> Turn
+fn turn_by<'h>(
+    heap: &'h Heap,
+    path: &mut Path,
+    entry: Entry,
+    child: Child<'_>,
+    opened: Opened,
+) -> Turn<'h>
     requires at { AtChild heap.now path.old entry child opened }
     ensures cells { path.new.cells ≡ path.old.cells }
     ensures turn { IsTurn heap.now.cells path.old.entries path.new.entries (child_shown heap.now.cells child.entry) result }
 {
     match entry.kind {
         NodeKind::Cons => turn_list(heap, path, entry, child, opened),
-        NodeKind::Tuple => turn_tuple(heap, path, entry, child, opened),
-        NodeKind::Flat => turn_flat(heap, path, entry, child, opened),
+        NodeKind::Tuple => turn_terms(heap, path, entry, child, opened),
+        NodeKind::Flat => turn_terms(heap, path, entry, child, opened),
         NodeKind::Hash => turn_item(heap, path, entry, child, opened),
         NodeKind::Inner => turn_item(heap, path, entry, child, opened),
-        NodeKind::Pair => turn_pair(heap, path, entry, child, opened),
+        NodeKind::Pair => turn_terms(heap, path, entry, child, opened),
     }
 }
 
 /// Visits the next child of the innermost cell.
-pub(crate) fn visit_next(heap: &Heap, path: &mut Path, entry: Entry, child: Child<'_>) -> Turn
+pub(crate) fn visit_next<'h>(
+    heap: &'h Heap,
+    path: &mut Path,
+    entry: Entry,
+    child: Child<'_>,
+) -> Turn<'h>
     requires serves { Serves heap.now path.old.cells }
     requires top { path.old.entries ≡ entry ∷ drop 1 path.old.entries }
     requires few { length path.old.entries ≤ length heap.now.cells }
     requires next_few { entry.next < 200000000 }
-    requires at { slice_get (kids_of heap.now.cells entry.kind (number entry.cell)) entry.next ≡ Some (child_shown heap.now.cells child) }
-    requires kid { IsKid heap.now.cells child }
+    requires at { slice_get (children_of heap.now.cells entry.kind (number entry.cell)) entry.next ≡ Some (child_shown heap.now.cells child) }
+    requires placed { IsChild heap.now.cells child }
     ensures cells { path.new.cells ≡ path.old.cells }
     ensures turn { IsTurn heap.now.cells path.old.entries path.new.entries (child_shown heap.now.cells child.entry) result }
 {

@@ -7,7 +7,7 @@ ghost use Rattle.term_unfold.specs.Leaves.{leaf_text};
 ghost use Rattle.term_unfold.specs.Text.{show};
 ghost use Rattle.term_unfold.specs.Trees.{verdict};
 ghost use Rattle.term_unfold.specs.Unfolding.{unfolding_of};
-ghost use Rattle.term_unfold.specs.Walks.{walk};
+ghost use Rattle.term_unfold.specs.Walks.{new_walk};
 
 use crate::judging::first_bad;
 use crate::path::Path;
@@ -53,7 +53,7 @@ impl<'h> Walker<'h> {
         previews: &'h Previews,
     ) -> Result<Walker<'h>, AllocError>
         requires { AreFor heap.now.cells previews.now }
-        ensures { IfOk result (λ walker. walker ≡ walk heap.now previews.now) }
+        ensures { IfOk result (λ walker. walker ≡ new_walk heap.now previews.now) }
     {
         let path = Path::new(alloc, heap.cells() as usize)?;
         Ok(Walker {

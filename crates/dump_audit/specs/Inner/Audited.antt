@@ -1,13 +1,13 @@
 -- What the code keeps for an audit.
 use Rattle.std.specs.Prelude.{◌≡◌, ℕ, ◌<◌, ◌^◌, Bool, true, false, ◌&&◌, ◌⊎◌, List, length, map, None, Some, All}
-use Rattle.dump_sections.specs.Index.{state_of}
+use Rattle.dump_sections.specs.Index.{dump_state}
 use Rattle.dump_sections.specs.declared.index.State.{State}
-use Rattle.process_table.specs.Processes.{Process, IsIn, process_at}
+use Rattle.process_table.specs.Processes.{Process, IsProcessIn, process_at}
 use Rattle.link_entries.specs.Texts.{is_local}
 use Rattle.link_entries.specs.Lists.{Links}
 use Rattle.link_entries.specs.Entries.{LinkEntry}
 use Rattle.link_graph.specs.Graph.{links_of, graph_of}
-use Rattle.dump_audit.specs.Findings.{Audit, is_judged, place_of, names_gone}
+use Rattle.dump_audit.specs.Findings.{Audit, is_judged, process_place, names_gone}
 use Rattle.dump_audit.specs.declared.audited.Holder.{Holder}
 use Rattle.dump_audit.specs.declared.audited.Partner.{Partner}
 use Rattle.dump_audit.specs.declared.audited.Partner.TheVariants.{At, Gone, Passed}
@@ -16,11 +16,11 @@ use Rattle.dump_audit.specs.declared.audited.Partner.TheVariants.{At, Gone, Pass
 -- kept, and whether those that aren't in the dump are reported
 pub record IsKept (a : Audit) (links : List Links) (seen : State) (tests : List Bool) (named : Bool) : Type 0 where
   pub graph : links ≡ graph_of a.processes
-  pub state : seen ≡ state_of a.index.headers
+  pub state : seen ≡ dump_state a.index.headers
   pub judged : tests ≡ map (is_judged a.index) a.processes
   pub gone : named ≡ names_gone a
   pub few : length a.processes < 2 ^ 32
-  pub sections : All (IsIn a.index) a.processes
+  pub sections : All (IsProcessIn a.index) a.processes
 
 -- the process of a holder
 abbrev pub held : Audit → Holder → Process
@@ -35,11 +35,11 @@ pub record IsHolder (a : Audit) (holder : Holder) : Type 0 where
 -- the process with this pid is at that place and judged; or
 -- there is none, and that is reported; or nothing is reported
 abbrev pub IsPartner : Audit → List ℕ → Partner → Type 0
-IsPartner a pid (At q) = (place_of a.processes pid ≡ Some q) × (is_judged a.index (process_at a.processes q) ≡ true)
-IsPartner a pid Gone = (place_of a.processes pid ≡ None) × ((names_gone a && is_local pid) ≡ true)
+IsPartner a pid (At q) = (process_place a.processes pid ≡ Some q) × (is_judged a.index (process_at a.processes q) ≡ true) × (q < 2 ^ 32)
+IsPartner a pid Gone = (process_place a.processes pid ≡ None) × ((names_gone a && is_local pid) ≡ true)
 IsPartner a pid Passed =
-    ((place_of a.processes pid ≡ None) × ((names_gone a && is_local pid) ≡ false))
-    ⊎ ((q : ℕ) × (place_of a.processes pid ≡ Some q) × (is_judged a.index (process_at a.processes q) ≡ false))
+    ((process_place a.processes pid ≡ None) × ((names_gone a && is_local pid) ≡ false))
+    ⊎ ((q : ℕ) × (process_place a.processes pid ≡ Some q) × (is_judged a.index (process_at a.processes q) ≡ false))
 
 -- the entries of a process
 abbrev pub entries_in : Process → List LinkEntry

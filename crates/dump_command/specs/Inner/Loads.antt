@@ -5,10 +5,10 @@ use Rattle.report_text.specs.Tables.{fields_report}
 use Rattle.dump_sections.specs.Index.{Contents, sections_in}
 use Rattle.dump_sections.specs.Tags.{tag_counts, tags_in}
 use Rattle.report_text.specs.Reports.{info_report, version_text}
-use Rattle.process_table.specs.Processes.{ProcessTable, IsIn, process_table}
+use Rattle.process_table.specs.Processes.{ProcessTable, IsProcessIn, process_table}
 use Rattle.binary_holders.specs.Usage.{NamesProcess}
 use Rattle.binary_holders.specs.declared.rows.Holding.{Holding}
-use Rattle.term_unfold.specs.Walks.{walk}
+use Rattle.term_unfold.specs.Walks.{new_walk}
 use Rattle.root_views.specs.declared.kinds.RootKind.{RootKind}
 use Rattle.root_views.specs.Kinds.{roots_in}
 use Rattle.term_text.specs.Roots.{answer_over, roots_report}
@@ -24,11 +24,11 @@ use Rattle.term_forms.specs.Elements.{Element}
 use Rattle.dump_sections.specs.Bodies.{section_in, IsBodyIn}
 use Rattle.heap_reach.specs.Rounds.{reached_by}
 use Rattle.root_views.specs.declared.kinds.RootKind.TheVariants.{Stack, Dict, Mail}
-use Rattle.term_text.specs.Reach.{reach_report, terms_of}
-use Rattle.dump_sections.specs.Loading.{bodies_length, IsUnread as IsUnreadBody}
+use Rattle.term_text.specs.Reach.{reach_report, root_elements}
+use Rattle.dump_sections.specs.Loading.{bodies_length, IsUnloaded}
 use Rattle.process_table.specs.Records.{proc_places}
 use Rattle.table_sections.specs.declared.kinds.TableKind.TheVariants.{Ets}
-use Rattle.table_sections.specs.Tables.{table_of, AreListed, IsOver}
+use Rattle.table_sections.specs.Tables.{table_of, AreListed, IsTableOver}
 use Rattle.dump_command.specs.declared.commands.subjects.Body.{Body}
 use Rattle.dump_command.specs.declared.commands.roots.Loaded.{Loaded as RootsLoaded}
 use Rattle.dump_command.specs.Audits.{status_of}
@@ -67,7 +67,7 @@ info_text index body =
 
 -- each process is one of the index, and each holding is that of a process
 pub record AreNamed (index : Contents) (table : ProcessTable) (held : List Holding) : Type 0 where
-  pub sections : All (IsIn index) table.processes
+  pub sections : All (IsProcessIn index) table.processes
   pub holders : All (NamesProcess (length table.processes)) held
 
 -- ---- from what the report on roots is written
@@ -75,7 +75,7 @@ pub record AreNamed (index : Contents) (table : ProcessTable) (held : List Holdi
 -- the text of the roots
 abbrev pub roots_text : RootKind → ℕ → Bool → RootsLoaded → List ℕ
 roots_text kind nodes marked loaded =
-    roots_report (answer_over (walk loaded.heap loaded.previews) nodes marked) loaded.body.base (roots_in kind loaded.body.bytes.items)
+    roots_report (answer_over (new_walk loaded.heap loaded.previews) nodes marked) loaded.body.base (roots_in kind loaded.body.bytes.items)
 
 -- ---- from what the reports of an audit are written
 
@@ -124,15 +124,15 @@ pub record HoldsRoots (index : Contents) (now : Now) (places : RootPlaces) (root
   pub mail : IsBodyIn now (section_in index places.mail) roots.mail.bytes.items
 
 -- why they weren't read: one is too large, or the device failed; memory may be lacking at any time
-abbrev pub IsUnread : Option Section → DeviceState → DeviceState → BodyFault → Type 0
-IsUnread large before after (SectionTooLarge at len) = IsSome large
-IsUnread large before after Read = DeviceFailed before after
-IsUnread large before after Memory = Unit {0}
+abbrev pub AreUnread : Option Section → DeviceState → DeviceState → BodyFault → Type 0
+AreUnread large before after (SectionTooLarge at len) = IsSome large
+AreUnread large before after Read = DeviceFailed before after
+AreUnread large before after Memory = Unit {0}
 
 -- the terms among the roots
 abbrev pub terms_loaded : RootBodies → List Element
 terms_loaded roots =
-    (terms_of (roots_in Stack roots.stack.bytes.items) ++ terms_of (roots_in Dict roots.dict.bytes.items)) ++ terms_of (roots_in Mail roots.mail.bytes.items)
+    (root_elements (roots_in Stack roots.stack.bytes.items) ++ root_elements (roots_in Dict roots.dict.bytes.items)) ++ root_elements (roots_in Mail roots.mail.bytes.items)
 
 -- the text on what they reach
 abbrev pub reach_text : ReachLoaded → List ℕ
@@ -165,12 +165,12 @@ pub record HoldsBodies (index : Contents) (now : Now) (loaded : TriageLoaded) : 
 
 -- each process and each table is one of the index
 pub record Fits (index : Contents) (loaded : TriageLoaded) : Type 0 where
-  pub sections : All (IsIn index) loaded.procs.processes
-  pub tables : IsOver Ets index loaded.tables
+  pub sections : All (IsProcessIn index) loaded.procs.processes
+  pub tables : IsTableOver Ets index loaded.tables
 
 -- the bodies, none of which is too large, were read, or not
 pub record ReadsBodies (index : Contents) (before after : DeviceState) (loaded : Result TriageLoaded BodyFault) : Type 0 where
   pub reads : ReadsAtMost before after (bodies_length (triage_sections (sections_in index)))
   pub bodies : IfOk loaded (HoldsBodies index before.now)
   pub fits : IfOk loaded (Fits index)
-  pub fault : IfErr loaded (IsUnreadBody before after)
+  pub fault : IfErr loaded (IsUnloaded before after)

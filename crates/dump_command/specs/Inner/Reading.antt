@@ -20,7 +20,8 @@ use Rattle.dump_command.specs.declared.stop.Stop.TheVariants.{Refused, NotRead, 
 use Rattle.dump_command.specs.Report.{report, report_status, refusal_held, refusal_listed, reread, no_process, too_large}
 use Rattle.heap_cells.specs.Loading.{heap_bodies}
 use Rattle.dump_command.specs.Inner.Runs.{IsEnding}
-use Rattle.dump_command.specs.Terms.{heap_map, too_dense}
+use Rattle.heap_cells.specs.DumpHeaps.{heap_map}
+use Rattle.dump_command.specs.Terms.{too_dense}
 
 -- these bytes are accepted and open, and this is their index
 pub record IsIndexed (bytes : List ℕ) (limits : Numbers) (index : Contents) (now : Now) : Type 0 where

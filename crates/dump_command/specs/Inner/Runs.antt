@@ -5,7 +5,7 @@ use Rattle.dump_io.specs.Limits.{Numbers}
 use Rattle.dump_io.specs.Sinks.{SinkState, SinkFailed, IsKept, GainedFront}
 use Rattle.report_text.specs.declared.refusals.Refusal.{Refusal}
 use Rattle.report_text.specs.Refusals.{IsRefusal}
-use Rattle.command_words.specs.Command.{Command, file_of}
+use Rattle.command_words.specs.Command.{Command, file_name}
 use Rattle.dump_command.specs.Report.{report, finds, refusal}
 use Rattle.dump_command.specs.Run.{IsDumpOf, IsMissing, IsUnread, IsReported, IsLeft, TakesAtMost}
 use Rattle.dump_command.specs.declared.stop.Stop.{Stop}
@@ -49,7 +49,7 @@ pub record Runs (cmd : Command) (limits : Numbers) (before after : DeviceState) 
 -- the same over a device, which a command without a file leaves as it is
 pub record RunsOn {D : Type 0} (state : D → DeviceState) (cmd : Command) (limits : Numbers) (old new : D) (out out' : SinkState) (ended : Result ℕ Stop) : Type 0 where
   pub runs : Runs cmd limits (state old) (state new) out out' ended
-  pub idle : file_of cmd ≡ None → new ≡ old
+  pub idle : file_name cmd ≡ None → new ≡ old
 
 -- ---- what a command that opens no file leaves
 

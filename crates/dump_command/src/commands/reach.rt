@@ -7,7 +7,7 @@ ghost use Rattle.dump_sections.specs.Bodies.{section_in};
 ghost use Rattle.heap_reach.specs.Rounds.{IsReachOf};
 ghost use Rattle.command_words.specs.Command.{reach};
 ghost use Rattle.dump_trial.specs.Trial.{root_section};
-ghost use Rattle.dump_command.specs.Inner.Loads.{reach_text, roots_at, terms_loaded, ArePlaces, AreWithin, HoldsRoots, IsUnread};
+ghost use Rattle.dump_command.specs.Inner.Loads.{reach_text, roots_at, terms_loaded, ArePlaces, AreWithin, HoldsRoots, AreUnread};
 
 use crate::commands::subjects::{Body, load_behind, read_found};
 use crate::open::Opened;
@@ -88,7 +88,7 @@ fn read_roots<D: Dumps>(
     requires within { AreWithin at.now.index.now places }
     ensures reads { ReadsAtMost (D.state dumps.old) (D.state dumps.new) (bodies_length (roots_at at.now.index.now places)) }
     ensures bodies { IfOk result (HoldsRoots at.now.index.now (D.state dumps.old).now places) }
-    ensures fault { IfErr result (IsUnread (first_large at.now.limits.now.section (roots_at at.now.index.now places)) (D.state dumps.old) (D.state dumps.new)) }
+    ensures fault { IfErr result (AreUnread (first_large at.now.limits.now.section (roots_at at.now.index.now places)) (D.state dumps.old) (D.state dumps.new)) }
 {
     let stack = read_found(at, dumps, places.stack)?;
     let dict = read_found(at, dumps, places.dict)?;

@@ -2,7 +2,7 @@
 ghost use Rattle.std.specs.Prelude.{◌<◌};
 ghost use Rattle.binary_refs.specs.Previews.{AreFor};
 ghost use Rattle.command_words.specs.Command.{term};
-ghost use Rattle.term_unfold.specs.Walks.{walk};
+ghost use Rattle.term_unfold.specs.Walks.{new_walk};
 ghost use Rattle.term_text.specs.Roots.{answer_over, term_report};
 
 use crate::commands::subjects::{find_cell, load_heap};
@@ -37,7 +37,7 @@ impl Report for Term<'_> {
 
     ghost command = { λ c. term c.file.now c.pid.now c.addr c.nodes c.marked };
 
-    ghost text = { λ c _ loaded. term_report (answer_over (walk loaded.heap loaded.previews) c.nodes c.marked) c.addr };
+    ghost text = { λ c _ loaded. term_report (answer_over (new_walk loaded.heap loaded.previews) c.nodes c.marked) c.addr };
 
     ghost asked = { λ c. 0 < c.nodes };
 

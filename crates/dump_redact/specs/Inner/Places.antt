@@ -16,8 +16,8 @@ use Rattle.dump_redact.specs.Bodies.{redacted_body}
 use Rattle.dump_redact.specs.Redacted.{is_heap_tag, payload_in}
 
 -- where the payload begins in a heap line, if it has one
-abbrev pub place_of : Enc → List ℕ → Option ℕ
-place_of enc raw = option_map (λ chars. length (text_of raw) - length chars) (payload_in enc Heap (text_of raw))
+abbrev pub payload_place : Enc → List ℕ → Option ℕ
+payload_place enc raw = option_map (λ chars. length (text_of raw) - length chars) (payload_in enc Heap (text_of raw))
 
 -- each `:Yh` has its `Y` at this place or behind it
 abbrev pub AreMarksFrom : ℕ → List ℕ → Type 0

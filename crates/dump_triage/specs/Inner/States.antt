@@ -4,7 +4,7 @@ use Rattle.std.specs.BTreeMap.{BTreeMap, get_by}
 use Rattle.std.specs.Cmp.Lexicographic.{slice_cmp}
 use Rattle.std.specs.Ordering.{nat_cmp}
 use denote.Ref.{Bor}
-use Rattle.dump_triage.specs.Triage.{count_of}
+use Rattle.dump_triage.specs.Triage.{text_count}
 
 -- a number, if it isn't 0
 abbrev pub unless_zero : ℕ → Option ℕ
@@ -17,9 +17,9 @@ counted counts text = get_by (λ key. slice_cmp nat_cmp text key.now) counts
 
 -- the tree has for each text how often it occurs among these
 pub record AreCounted (counts : BTreeMap (Bor (List ℕ)) ℕ) (texts : List (List ℕ)) : Type 0 where
-  pub each : (text : List ℕ) → counted counts text ≡ unless_zero (count_of texts text)
+  pub each : (text : List ℕ) → counted counts text ≡ unless_zero (text_count texts text)
 
 -- the same, without the texts that occur before a place
 pub record AreLeft (counts : BTreeMap (Bor (List ℕ)) ℕ) (texts : List (List ℕ)) (place : ℕ) : Type 0 where
   pub each : (text : List ℕ)
-      → counted counts text ≡ (if nat_lt 0 (count_of (take place texts) text) then None else unless_zero (count_of texts text))
+      → counted counts text ≡ (if nat_lt 0 (text_count (take place texts) text) then None else unless_zero (text_count texts text))

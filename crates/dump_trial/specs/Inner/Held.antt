@@ -3,16 +3,15 @@ use Rattle.std.specs.Prelude.{◌≡◌, ℕ, ◌≤◌, List, [], All}
 use Rattle.dump_io.specs.Dumps.{Now, told}
 use Rattle.dump_io.specs.Limits.{Numbers, usual}
 use Rattle.dump_sections.specs.Bodies.{body_length}
-use Rattle.dump_sections.specs.Index.{Contents}
 use Rattle.section_index.specs.Opening.{IsAccepted}
 use Rattle.dump_sections.specs.Sections.{sections}
-use Rattle.dump_write.specs.Heaps.{heap_weight}
+use Rattle.heap_cells.specs.DumpHeaps.{heap_weight}
 
 -- the bytes of a dump are accepted under the usual limits, and no body and no heap of it exceeds one
 pub record IsGood (bytes : List ℕ) : Type 0 where
   pub accepted : IsAccepted bytes usual
   pub bodies : All (λ section. body_length section ≤ usual.section) (sections bytes)
-  pub heaps : (index : Contents) (pid : List ℕ) → heap_weight bytes index pid ≤ usual.dense
+  pub heaps : (pid : List ℕ) → heap_weight pid bytes ≤ usual.dense
 
 -- the bytes of what is open, if the device tells them
 abbrev pub bytes_in : Now → List ℕ

@@ -6,12 +6,12 @@ use Rattle.etf_terms.specs.declared.stack.Entry.{Entry}
 use Rattle.etf_terms.specs.Depth.{deepest}
 use Rattle.etf_terms.specs.Heads.{Head, kids}
 use Rattle.etf_terms.specs.Terms.{Terms, count, AreTerms}
-use Rattle.etf_terms.specs.Text.{kind_of, closing, inner}
+use Rattle.etf_terms.specs.Text.{terms_kind, closing, inner}
 use Rattle.etf_terms.specs.Inner.Open.{Open}
 
 -- a head that was just read
 abbrev pub entry_of : Head → Entry
-entry_of head = record { kind = kind_of head; kids = kids head; next = 0 }
+entry_of head = record { kind = terms_kind head; kids = kids head; next = 0 }
 
 -- the entries, with it in front if it has terms
 abbrev pub entered : Head → List Entry → List Entry
@@ -19,7 +19,7 @@ entered head entries = if kids head == 0 then entries else entry_of head ∷ ent
 
 -- what closes it at once, if it has none
 abbrev pub ended : Head → List ℕ
-ended head = if kids head == 0 then closing (kind_of head) (kids head) else []
+ended head = if kids head == 0 then closing (terms_kind head) (kids head) else []
 
 -- the same head, one term further
 abbrev pub next_of : Entry → Entry

@@ -2,7 +2,7 @@
 use Rattle.std.specs.Prelude.{◌≡◌, ℕ, ◌+◌, ◌-◌, ◌≤◌, List, length}
 use Rattle.std.specs.List.{between}
 use Rattle.link_entries.specs.Kinds.{Kind, Link, LinkPort, To, ToPort, ToName, From, FromPort, Other}
-use Rattle.link_entries.specs.Reading.{kind_of}
+use Rattle.link_entries.specs.Reading.{entry_kind}
 use Rattle.link_entries.specs.declared.listed.Layout.{Layout}
 use Rattle.link_entries.specs.declared.listed.Layout.TheVariants as layout
 
@@ -45,5 +45,5 @@ least_size _ = 0
 
 -- the layout is that of the text's kind
 pub record IsLaidOut (layout : Layout) (text : List ℕ) : Type 0 where
-  pub kind : laid_out layout text ≡ kind_of text
+  pub kind : laid_out layout text ≡ entry_kind text
   pub room : least_size layout ≤ length text

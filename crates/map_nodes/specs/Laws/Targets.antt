@@ -10,14 +10,14 @@ use Rattle.heap_cells.specs.Cells.{Cell}
 use Rattle.heap_cells.specs.HeapMap.{number_at, address_at, form_at}
 use Rattle.cell_records.specs.declared.cells.Slot.{Slot}
 use Rattle.cell_records.specs.declared.cells.Slot.TheVariants as slot
-use Rattle.heap_cells.specs.Targets.{Plain, At, Missing, target_at, target, slot_target}
-use Rattle.map_nodes.specs.Rules.{address_of, form_with}
+use Rattle.heap_cells.specs.Targets.{Imm, At, Gone, target_at, target, slot_target}
+use Rattle.map_nodes.specs.Rules.{address_of, form_at_address}
 
 -- a reference to the cell with a number
 pub record IsRefTo (heap : List Cell) (n : ℕ) (e : Element) : Type 0 where
   pub element : e ≡ Ref (address_of heap n)
   pub found : number_at heap (address_of heap n) ≡ Some n
-  pub form : form_with heap (address_of heap n) ≡ Some (form_at heap n)
+  pub form : form_at_address heap (address_of heap n) ≡ Some (form_at heap n)
 
 abbrev no_cell : Cell
 no_cell = record { address = 0; form = None }
@@ -35,13 +35,13 @@ at-found : (a n : ℕ) (found : Option ℕ) → target_at a found ≡ At n → f
 at-found a n None h = cc
 at-found a n (Some m) h = cc
 
-missing-found : (a b : ℕ) (found : Option ℕ) → target_at a found ≡ Missing b → (a ≡ b) × (found ≡ None)
+missing-found : (a b : ℕ) (found : Option ℕ) → target_at a found ≡ Gone b → (a ≡ b) × (found ≡ None)
 missing-found a b None h =
     let same : a ≡ b = cc in
     (same, refl)
 missing-found a b (Some m) h = cc
 
-plain-found : {X : Type 0} (a : ℕ) (found : Option ℕ) → target_at a found ≡ Plain → X
+plain-found : {X : Type 0} (a : ℕ) (found : Option ℕ) → target_at a found ≡ Imm → X
 plain-found a None h = cc
 plain-found a (Some m) h = cc
 
@@ -53,19 +53,19 @@ leads-at heap n (Ref a) h =
     record {
       element = ap Ref (sym same);
       found = ap (number_at heap) same ∙ found;
-      form = ap (form_with heap) same ∙ ap (option_map (form_at heap)) found;
+      form = ap (form_at_address heap) same ∙ ap (option_map (form_at heap)) found;
     }
 leads-at heap n e h = cc
 
 -- an element that leads to an address that no cell has
-pub leads-missing : (heap : List Cell) (b : ℕ) (e : Element) → target heap e ≡ Missing b → (e ≡ Ref b) × (form_with heap b ≡ None)
+pub leads-missing : (heap : List Cell) (b : ℕ) (e : Element) → target heap e ≡ Gone b → (e ≡ Ref b) × (form_at_address heap b ≡ None)
 leads-missing heap b (Ref a) h =
     let found = missing-found a b (number_at heap a) h in
-    (ap Ref found.0, ap (form_with heap) (sym found.0) ∙ ap (option_map (form_at heap)) found.1)
+    (ap Ref found.0, ap (form_at_address heap) (sym found.0) ∙ ap (option_map (form_at heap)) found.1)
 leads-missing heap b e h = cc
 
 -- an element that leads nowhere is an immediate
-pub leads-nowhere : (P : Element → Type 0) (heap : List Cell) (e : Element) → target heap e ≡ Plain → P Nil → ((integer : List ℕ) → P (Small integer)) → ((bytes : List ℕ) → P (Atom bytes))
+pub leads-nowhere : (P : Element → Type 0) (heap : List Cell) (e : Element) → target heap e ≡ Imm → P Nil → ((integer : List ℕ) → P (Small integer)) → ((bytes : List ℕ) → P (Atom bytes))
     → ((pid : List ℕ) → P (Pid pid)) → ((port : List ℕ) → P (Port port)) → P e
 leads-nowhere P heap Nil h nil small atom pid port = nil
 leads-nowhere P heap (Small integer) h nil small atom pid port = small integer
@@ -82,4 +82,4 @@ no_slot = slot.Imm (record { at = 0; len = 0 })
 pub slot-leads : (heap : List Cell) (slots : List Slot) (elements : List Element) (n : ℕ) (s : Slot) → map slot_target slots ≡ map (target heap) elements → get_or slots n no_slot ≡ s
     → target heap (get_or elements n Nil) ≡ slot_target s
 slot-leads heap slots elements n s same is =
-    sym (get_or-map (target heap) elements n Nil) ∙ ap (λ l. get_or l n Plain) (sym same) ∙ get_or-map slot_target slots n no_slot ∙ ap slot_target is
+    sym (get_or-map (target heap) elements n Nil) ∙ ap (λ l. get_or l n Imm) (sym same) ∙ get_or-map slot_target slots n no_slot ∙ ap slot_target is

@@ -18,7 +18,7 @@ use Rattle.process_table.specs.declared.finding.Found.{Found}
 use Rattle.process_table.specs.declared.pids.PidOrder.{PidOrder}
 use Rattle.process_table.specs.declared.pids.PidOrder.TheVariants.{Rising, Ranked}
 use Rattle.process_table.specs.declared.pids.PidPlace.{PidPlace}
-use Rattle.process_table.specs.Records.{Placed, is_process, process_sections, first_of_each, named_place}
+use Rattle.process_table.specs.Records.{PlacedSection, is_process, process_sections, first_of_each, named_place}
 
 -- the pid, if the section is that of a process
 abbrev pub pid_in : Section → Option (List ℕ)
@@ -93,7 +93,7 @@ pub record AreListed (places : List PidPlace) (order : PidOrder) (sections : Lis
   pub ordered : AreOrdered places order
 
 -- these are the first sections of the processes among some sections, and the number of their further sections
-pub record AreFound (found : Found) (among : List Placed) : Type 0 where
+pub record AreFound (found : Found) (among : List PlacedSection) : Type 0 where
   pub records : named_places found.places.items ≡ map named_place (first_of_each (process_sections among))
   pub all : found.repeated + length found.places.items ≡ length (process_sections among)
 
@@ -102,12 +102,12 @@ abbrev pub found_rising : Vec PidPlace → Found
 found_rising places = record { places = places; repeated = 0 }
 
 -- these are all sections of processes among some sections, and their pids rise
-pub record AreFoundRising (places : Vec PidPlace) (among : List Placed) : Type 0 where
+pub record AreFoundRising (places : Vec PidPlace) (among : List PlacedSection) : Type 0 where
   pub rising : AreRising places.items
   pub found : AreFound (found_rising places) among
 
 -- the record is that of a process, and of a section of the index at its place
-pub record IsRecordOf (index : Contents) (r : Placed) : Type 0 where
+pub record IsRecordOf (index : Contents) (r : PlacedSection) : Type 0 where
   pub place : r.0 < length index.headers
   pub section : section_at index r.0 ≡ r.1
   pub process : is_process r.1 ≡ true

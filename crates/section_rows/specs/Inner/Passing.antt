@@ -7,7 +7,7 @@ use Rattle.dump_sections.specs.Sections.{Section}
 use Rattle.section_rows.specs.declared.columns.Kept.{Kept as LentKept}
 use Rattle.section_rows.specs.declared.columns.Column.{Column as LentColumn}
 use Rattle.section_rows.specs.declared.columns.Column.TheVariants.{Tag}
-use Rattle.section_rows.specs.Rows.{Kept, kept, Column, tag, id, field, tag_kept, id_kept, cell_of}
+use Rattle.section_rows.specs.Rows.{Kept, kept, Column, tag, id, field, tag_kept, id_kept, column_cell}
 use Rattle.section_rows.specs.Shown.{shown_cell, shown_column}
 use Rattle.section_rows.specs.Inner.Places.{HasRoom}
 
@@ -39,7 +39,7 @@ later_cell base lines (field key) = option_map (kept_in base) (find (has_key key
 
 -- the cell is that of the column, or is still to come from the lines that are left
 pub record IsSettled (s : Section) (body : List ℕ) (column : Column) (left : List TextLine) (cell : Option Kept) : Type 0 where
-  pub value : cell_of s body column ≡ option_or cell (later_cell s.body left column)
+  pub value : column_cell s body column ≡ option_or cell (later_cell s.body left column)
   pub room : HasRoom s.at cell
 
 -- so it is for each column

@@ -4,7 +4,7 @@ use Rattle.std.specs.List.{between, sum_by}
 use Rattle.section_rows.specs.declared.store.Place.{Place}
 use Rattle.section_rows.specs.declared.store.Head.{Head}
 use Rattle.section_rows.specs.declared.store.Store.{Store}
-use Rattle.section_rows.specs.Rows.{Kept, kept, Row, IsBounded, IsBoundedCell}
+use Rattle.section_rows.specs.Rows.{Kept, kept, Row, IsBoundedText, IsBoundedCell}
 
 -- how many bytes the text of a cell has
 abbrev pub place_len : Option Place → ℕ
@@ -69,4 +69,4 @@ pub record IsNear (base : ℕ) (k : Kept) : Type 0 where
 
 -- if there is a cell, its text fits the numbers of a place, and is within the bounds
 abbrev pub HasRoom : ℕ → Option Kept → Type 0
-HasRoom base cell = IfSome cell (λ k. IsNear base k × IsBounded k)
+HasRoom base cell = IfSome cell (λ k. IsNear base k × IsBoundedText k)

@@ -3,11 +3,11 @@ use Rattle.std.specs.Prelude.{◌≡◌, ℕ, ◌+◌, ◌*◌, ◌<◌, List, l
 use Rattle.std.specs.Option.{option_and_then}
 use Rattle.std.specs.List.Sorted.{IsNonDecreasingBy}
 use Rattle.dump_sections.specs.Sections.{Section}
-use Rattle.stored_binaries.specs.StoredBinaries.{number_of}
+use Rattle.stored_binaries.specs.StoredBinaries.{binary_number}
 
 -- the number of the section at a place; `None` if it is no `binary` section with a hex id
 abbrev pub number_at : List Section → ℕ → Option ℕ
-number_at sections n = option_and_then number_of (slice_get sections n)
+number_at sections n = option_and_then binary_number (slice_get sections n)
 
 -- an address and a place as one number, which orders pairs by address, and those with the same address by place
 abbrev pub rank : ℕ × ℕ → ℕ

@@ -3,7 +3,7 @@ use Rattle.std.specs.Prelude.{ℕ, ◌+◌, ◌-◌, ◌==◌, ◌&&◌, List, [
 use Rattle.std.specs.List.{prefix_len, starts_with}
 use Rattle.std.specs.Char.{is_ascii_digit}
 use Rattle.dump_io.specs.Numbers.{hex_number}
-use Rattle.term_forms.specs.Words.{is_hex_digit, is_dotted, led_of}
+use Rattle.term_forms.specs.Words.{is_hex_digit, is_number_byte, led_of}
 use Rattle.term_forms.specs.Elements.{Element, Small, Atom, Pid, Port, Ref}
 use Rattle.term_forms.specs.Inner.Chain.{◌>>=◌}
 
@@ -36,7 +36,7 @@ integer_len (c ∷ text) = if c == minus then (digits_len text >>= λ n. Some (n
 unfoldable pub bracketed_len : List ℕ → Option ℕ
 bracketed_len [] = None
 bracketed_len (c ∷ text) =
-    let n = prefix_len is_dotted text in
+    let n = prefix_len is_number_byte text in
     if c == less && nat_lt 0 n && starts_with nat_eq (drop n text) (greater ∷ []) then Some (n + 2) else None
 
 -- each reader of an element is given what stands after the first byte, and counts that byte too

@@ -8,14 +8,14 @@ use Rattle.term_unfold.specs.declared.path.Entry.{Entry}
 use Rattle.term_unfold.specs.declared.verdict.Verdict.{Verdict}
 use Rattle.term_unfold.specs.declared.verdict.Verdict.TheVariants as verdicts
 use Rattle.term_unfold.specs.Inner.Entries.{path_of}
-use Rattle.term_unfold.specs.Inner.Kids.{kids_of}
+use Rattle.term_unfold.specs.Inner.Children.{children_of}
 use Rattle.term_unfold.specs.Rules.{Child}
 use Rattle.term_unfold.specs.Trees.{Tree, Bad, Trees, pre, pre_all}
 use Rattle.term_unfold.specs.Unfolding.{trees, unfolded}
 
 -- the trees of the remaining children of the innermost cell
 abbrev pub left_of : List Cell → Entry → List Entry → Trees
-left_of heap e es = trees (unfolded heap (path_of heap (e ∷ es))) (drop e.next (kids_of heap e.kind (number e.cell)))
+left_of heap e es = trees (unfolded heap (path_of heap (e ∷ es))) (drop e.next (children_of heap e.kind (number e.cell)))
 
 abbrev pub to_come : List Cell → List Entry → List Tree
 to_come heap [] = []

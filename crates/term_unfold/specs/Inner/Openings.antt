@@ -1,6 +1,6 @@
 -- What the walk finds when it comes to a child.
-use Rattle.std.specs.Prelude.{◌≡◌, ℕ, ◌<◌, Bool, true, false, List, ◌∷◌, length, Some}
-use Rattle.term_forms.specs.Elements.{Element}
+use Rattle.std.specs.Prelude.{◌≡◌, ℕ, ◌<◌, Bool, true, false, List, ◌∷◌, length, Option, None, Some}
+use Rattle.term_forms.specs.Elements.{Element, Ref}
 use Rattle.term_forms.specs.Forms.{HeapForm}
 use Rattle.heap_cells.specs.Cells.{Cell}
 use Rattle.heap_cells.specs.HeapMap.{HeapMap, form_at}
@@ -11,7 +11,7 @@ use Rattle.term_unfold.specs.declared.node.NodeKind.TheVariants as kinds
 use Rattle.term_unfold.specs.declared.openings.Opened.{Opened}
 use Rattle.term_unfold.specs.declared.openings.Opened.TheVariants as opened
 use Rattle.term_unfold.specs.Inner.Entries.{Entered, numbers_of, path_of, is_item, IsLine}
-use Rattle.term_unfold.specs.Inner.Kids.{kids_of}
+use Rattle.term_unfold.specs.Inner.Children.{children_of}
 use Rattle.term_unfold.specs.Rules.{Child, Term, Item, leaf, bad, node, opening}
 use Rattle.term_unfold.specs.Places.{is_nil}
 use Rattle.term_unfold.specs.Trees.{Immediate, OfCell}
@@ -23,6 +23,12 @@ element_of (Item parent element) = element
 abbrev pub is_item_child : Child → Bool
 is_item_child (Term element) = false
 is_item_child (Item parent element) = true
+
+-- the immediate that a child is, if it is one
+abbrev pub immediate_of : Child → Option Element
+immediate_of (Term (Ref address)) = None
+immediate_of (Term element) = Some element
+immediate_of (Item parent element) = None
 
 -- whether a child is the leaf that ends a list
 abbrev pub is_nil_term : Child → Bool
@@ -49,7 +55,7 @@ pub record IsLeafAt (heap : List Cell) (path : List ℕ) (child : Child) (n : �
 pub record IsNodeAt (heap : List Cell) (path : List ℕ) (child : Child) (n : ℕ) (kind : NodeKind) : Type 0 where
   pub cell : n < length heap
   pub fits : is_item kind ≡ is_item_child child
-  pub opens : opening heap path child ≡ node (address_of heap n) kind (kids_of heap kind n)
+  pub opens : opening heap path child ≡ node (address_of heap n) kind (children_of heap kind n)
 
 abbrev pub IsOpened : List Cell → List ℕ → Child → Opened → Type 0
 IsOpened heap path child opened.Immediate = opening heap path child ≡ leaf (Immediate (element_of child))

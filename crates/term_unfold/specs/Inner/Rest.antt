@@ -1,23 +1,26 @@
 -- What the open cells of a walk have yet to write.
-use Rattle.std.specs.Prelude.{◌≡◌, ◌⊎◌, ℕ, zero, suc, ◌+◌, ◌<◌, ◌≤◌, length, drop, slice_get, Bool, true, false, not, if◌then◌else◌, List, [], ◌∷◌, ◌++◌, codes, Option, None, Some}
+use Rattle.std.specs.Prelude.{◌≡◌, ◌⊎◌, ℕ, zero, suc, ◌+◌, ◌<◌, ◌≤◌, length, drop, slice_get, Bool, true, false, not, nat_lt, if◌then◌else◌, List, [], ◌∷◌, ◌++◌, codes, Option, None, Some}
 use Rattle.term_forms.specs.Forms.{HeapForm}
+use Rattle.term_forms.specs.Seen.{element}
 use Rattle.heap_cells.specs.Cells.{Cell}
 use Rattle.heap_cells.specs.HeapMap.{HeapMap, form_at}
 use Rattle.heap_cells.specs.Targets.{number}
 use Rattle.map_nodes.specs.Rules.{address_of}
-use Rattle.term_unfold.specs.declared.children.Child.{Child as Kid}
+use Rattle.term_unfold.specs.declared.children.Child.{Child as PlacedChild}
 use Rattle.term_unfold.specs.declared.node.NodeKind.{NodeKind}
 use Rattle.term_unfold.specs.declared.node.NodeKind.TheVariants as kinds
 use Rattle.term_unfold.specs.declared.openings.Opened.{Opened}
 use Rattle.term_unfold.specs.declared.openings.Opened.TheVariants as opened
 use Rattle.term_unfold.specs.declared.path.Entry.{Entry}
+use Rattle.term_unfold.specs.declared.turns.Own.{Own}
+use Rattle.term_unfold.specs.declared.turns.Own.TheVariants as own
 use Rattle.term_unfold.specs.declared.turns.Turn.{Turn}
 use Rattle.term_unfold.specs.Inner.Coming.{left_of}
 use Rattle.term_unfold.specs.Inner.Entries.{Entered, came_of, is_item, path_of}
 use Rattle.term_unfold.specs.Inner.Openings.{element_of, Opens}
-use Rattle.term_unfold.specs.Inner.Kids.{kids_of, child_shown, IsKid}
+use Rattle.term_unfold.specs.Inner.Children.{children_of, child_shown, IsChild}
 use Rattle.term_unfold.specs.Rules.{Child}
-use Rattle.term_unfold.specs.Text.{Shown, shown, Stand, Cut, At, closed, bad_text, node_text, head_text, tail_text, elements_text, keys_text, values_text, items_text, item_text, pair_text, value_text}
+use Rattle.term_unfold.specs.Text.{Shown, shown, Stand, Cut, At, closed, comma_text, bad_text, node_text, head_text, tail_text, elements_text, keys_text, values_text, items_text, item_text, pair_text, value_text}
 use Rattle.term_unfold.specs.Trees.{Value, Immediate, OfCell, Trees, none, more}
 use Rattle.term_unfold.specs.Unfolding.{unfolded}
 
@@ -97,36 +100,65 @@ cell_text leaf a None = []
 cell_text leaf a (Some form) = leaf (OfCell a form)
 
 -- a child's own text, up to its children
-abbrev pub own_text : (Value → List ℕ) → List Cell → Child → Opened → List ℕ
-own_text leaf heap child opened.Immediate = leaf (Immediate (element_of child))
-own_text leaf heap child (opened.Leaf ix) = cell_text leaf (address_of heap (number ix)) (form_at heap (number ix))
-own_text leaf heap child (opened.Bad address why) = bad_text address why
-own_text leaf heap child (opened.Node ix kind) = bracket kind
+abbrev pub child_text : (Value → List ℕ) → List Cell → Child → Opened → List ℕ
+child_text leaf heap child opened.Immediate = leaf (Immediate (element_of child))
+child_text leaf heap child (opened.Leaf ix) = cell_text leaf (address_of heap (number ix)) (form_at heap (number ix))
+child_text leaf heap child (opened.Bad address why) = bad_text address why
+child_text leaf heap child (opened.Node ix kind) = bracket kind
 
--- what is written at a child: something before it, and its own text or not
+-- what is written of a child itself
+abbrev pub own_text : (Value → List ℕ) → List Cell → Child → Own → List ℕ
+own_text leaf heap child own.Nothing = []
+own_text leaf heap child (own.Child found) = child_text leaf heap child found
+own_text leaf heap child (own.Immediate e) = leaf (Immediate (element e))
+
+-- what is written at a child: something before it, and something of it
 abbrev pub turn_text : (Value → List ℕ) → List Cell → Child → Turn → List ℕ
-turn_text leaf heap child turn = turn.front.now ++ (if turn.own then own_text leaf heap child turn.opened else [])
+turn_text leaf heap child turn = turn.front.now ++ own_text leaf heap child turn.own
 
 -- a leaf's cell is one of the heap
 abbrev pub LeafWithin : List Cell → Opened → Type 0
 LeafWithin heap (opened.Leaf ix) = number ix < length heap
 LeafWithin heap found = Unit {0}
 
+-- the same for what is written of a child
+abbrev pub OwnWithin : List Cell → Own → Type 0
+OwnWithin heap (own.Child found) = LeafWithin heap found
+OwnWithin heap own = Unit {0}
+
+-- whether the next child of a node is a value of a map
+abbrev pub is_next_value : NodeKind → ℕ → Bool
+is_next_value kinds.Flat next = is_value next
+is_next_value kinds.Pair next = nat_lt 0 next
+is_next_value kind next = false
+
+-- what stands before the next child of a tuple or of a map
+abbrev pub front_of : Entry → List ℕ
+front_of e = if is_next_value e.kind e.next then codes "=>" else comma_text e.came
+
+-- what stands for all that is left of a tuple or of a map
+abbrev pub left_text : Entry → List ℕ
+left_text e = if is_next_value e.kind e.next then codes "=>...}" else comma_text e.came ++ codes "...}"
+
+-- a tuple, a flat map, or a pair of a hash map
+abbrev pub HasTerms : NodeKind → Type 0
+HasTerms kind = (kind ≡ kinds.Tuple) ⊎ (kind ≡ kinds.Flat) ⊎ (kind ≡ kinds.Pair)
+
 -- a hash map, or an inner node of one
 abbrev pub HasItems : NodeKind → Type 0
 HasItems kind = (kind ≡ kinds.Hash) ⊎ (kind ≡ kinds.Inner)
 
 -- the innermost cell has come to a child, and what was found there
-pub record AtChild (heap : HeapMap) (path : Entered) (entry : Entry) (child : Kid) (found : Opened) : Type 0 where
+pub record AtChild (heap : HeapMap) (path : Entered) (entry : Entry) (child : PlacedChild) (found : Opened) : Type 0 where
   pub top : path.entries ≡ entry ∷ drop 1 path.entries
   pub few : length path.entries ≤ length heap.cells
   pub next_few : entry.next < 200000000
-  pub at : slice_get (kids_of heap.cells entry.kind (number entry.cell)) entry.next ≡ Some (child_shown heap.cells child)
-  pub kid : IsKid heap.cells child
+  pub at : slice_get (children_of heap.cells entry.kind (number entry.cell)) entry.next ≡ Some (child_shown heap.cells child)
+  pub placed : IsChild heap.cells child
   pub opens : Opens heap path (child_shown heap.cells child) found
 
 -- with one more node to write, the open cells write what the turn says, and then what is open after it writes
 pub record IsTurn (heap : List Cell) (before after : List Entry) (child : Child) (turn : Turn) : Type 0 where
   pub text : (leaf : Value → List ℕ) (m : ℕ) → rest leaf heap before (suc m) ≡ turn_text leaf heap child turn ++ rest leaf heap after m
   pub more : length after ≤ length before + 1
-  pub cell : LeafWithin heap turn.opened
+  pub cell : OwnWithin heap turn.own

@@ -5,7 +5,7 @@ use Rattle.std.proofs.lemmas.Result.{err_from_is_err_and}
 use Rattle.std.proofs.lemmas.List.Sums.{sum_by-append}
 use Rattle.dump_io.specs.Laws.Reads.{ReadsAtMost-both, ReadsAtMost-within}
 use Rattle.dump_sections.specs.Bodies.{body_length}
-use Rattle.dump_sections.specs.Index.{sections_in, state_of}
+use Rattle.dump_sections.specs.Index.{sections_in, dump_state}
 use Rattle.dump_sections.specs.LoadingLaws.{small-both}
 use Rattle.dump_sections.specs.Loading.{bodies_length}
 use Rattle.process_table.specs.Records.{record_sections}
@@ -61,7 +61,7 @@ returns-clause-reads g c =
 pub returns-clause-bodies : goal.returns-clause-bodies
 returns-clause-bodies g c = λ bytes same.
     let sections = sections_in c.args.index.now in
-    let mail = mail_in bytes (state_of c.args.index.now.headers) sections in
+    let mail = mail_in bytes (dump_state c.args.index.now.headers) sections in
     record {
       procs = c.in_ok-procs.ensures.table bytes same;
       mails = ap (option_map (λ counts. counts.items)) c.then_some.ensures

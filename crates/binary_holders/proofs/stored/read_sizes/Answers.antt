@@ -3,7 +3,7 @@ use Rattle.std.proofs.lemmas.List.{map_push, map_more, take_all}
 use Rattle.dump_io.specs.Laws.Reads.{ReadsAtMost-both}
 use Rattle.binary_holders.specs.declared.sought.Binary.{Binary}
 use Rattle.binary_holders.specs.declared.stored.StoredAt.{StoredAt}
-use Rattle.binary_holders.specs.Usage.{sized}
+use Rattle.binary_holders.specs.Usage.{sized_binary}
 use Rattle.binary_holders.specs.Inner.Finding.{numbers_of, stored_of}
 use Rattle.binary_holders.specs.Inner.Places.{numbers_in}
 use Rattle.binary_holders.proofs.stored.read_sizes.Goals as goal
@@ -26,11 +26,11 @@ loop-binary-preserved g c =
       numbers = ap numbers_in items ∙ map_push (λ (b : Binary). b.number) old x ∙ ap (λ l. l ++ x.number ∷ []) before.numbers ∙ ap (λ n. numbers_of (take i list) ++ n ∷ []) one.number
           ∙ sym (map_more (λ (b : StoredAt). b.number) list i no_place inside);
       sizes = λ dump is.
-          let f : StoredAt → Binary = λ b. sized dump (stored_of c.args.index.now b) in
+          let f : StoredAt → Binary = λ b. sized_binary dump (stored_of c.args.index.now b) in
           items ∙ ap (λ l. l ++ x ∷ []) (before.sizes dump is) ∙ ap (λ y. map f (take i list) ++ y ∷ []) (one.size dump (before.reads.same_now ∙ is))
           ∙ sym (map_more f list i no_place inside);
     }
 
 pub returns-clause-sizes : goal.returns-clause-sizes
 returns-clause-sizes g c = λ dump is.
-    c.loop-binary.invariant.sizes dump is ∙ ap (map (λ (b : StoredAt). sized dump (stored_of c.args.index.now b))) (take_all c.loop-binary.binary-index c.args.stored.now c.loop-binary-test.false)
+    c.loop-binary.invariant.sizes dump is ∙ ap (map (λ (b : StoredAt). sized_binary dump (stored_of c.args.index.now b))) (take_all c.loop-binary.binary-index c.args.stored.now c.loop-binary-test.false)

@@ -1,7 +1,7 @@
 use Rattle.std.proofs.Common.{length, map, ◌∙◌, ap, arith}
 use Rattle.dump_io.specs.Laws.Reads.{ReadsAtMost-within}
 use Rattle.binary_holders.specs.declared.stored.StoredAt.{StoredAt}
-use Rattle.binary_holders.specs.Usage.{sized}
+use Rattle.binary_holders.specs.Usage.{sized_binary}
 use Rattle.binary_holders.specs.Inner.Finding.{stored_of}
 use Rattle.binary_holders.proofs.UsingFacts.{fronts-enough, sizes-are}
 use Rattle.binary_holders.proofs.using.stored_sought.Goals as goal
@@ -21,4 +21,4 @@ returns-clause-reads g c =
 pub returns-clause-sizes : goal.returns-clause-sizes
 returns-clause-sizes g c = λ dump is.
     c.in-Ok-new.ensures ∙ sizes-are dump c.args.index.now c.in-Ok.found.binaries.items c.in_ok-binaries.binaries.items c.in-Ok.ensures.are
-    (c.in_ok-binaries.ensures.sizes dump is ∙ ap (map (λ (b : StoredAt). sized dump (stored_of c.args.index.now b))) c.as_slice.ensures.value)
+    (c.in_ok-binaries.ensures.sizes dump is ∙ ap (map (λ (b : StoredAt). sized_binary dump (stored_of c.args.index.now b))) c.as_slice.ensures.value)

@@ -3,7 +3,7 @@ use Rattle.std.specs.Option.{option_and_then, option_to_list}
 use Rattle.dump_io.specs.Dumps.{ReadsAtMost}
 use Rattle.dump_io.specs.Laws.Reads.{ReadsAtMost-then, ReadsAtMost-both}
 use Rattle.heap_cells.specs.HeapMap.{form_at}
-use Rattle.binary_refs.specs.Previews.{entry_of, stated}
+use Rattle.binary_refs.specs.Previews.{preview_entry, stated}
 use Rattle.binary_refs.proofs.EntryFacts.{by_number-more, reads-more, reads-upto}
 use Rattle.binary_refs.proofs.previews.read_entries.Goals as goal
 
@@ -23,7 +23,7 @@ loop-n-preserved g c =
       reads = subst (ReadsAtMost (d.state c.args.dumps.now) (d.state c.push_entry.new.dumps)) (reads-more cells n) (ReadsAtMost-then before.reads one.reads);
       stated = one.stated ∙ (ap (λ l. l ++ option_to_list (option_and_then (stated n) (form_at cells n))) before.stated ∙ sym (by_number-more stated cells n));
       entries = λ dump is.
-          let f = entry_of dump c.args.places.now c.args.heap.now.enc cells in
+          let f = preview_entry dump c.args.places.now c.args.heap.now.enc cells in
           one.entry dump (before.reads.same_now ∙ is)
           ∙ (ap (λ l. l ++ option_to_list (option_and_then (f n) (form_at cells n))) (before.entries dump is) ∙ sym (by_number-more f cells n));
     }

@@ -2,7 +2,7 @@ use Rattle.std.proofs.Common.{◌≡◌, ◌<◌, ◌&&◌, ◌∷◌, [], ◌++
 use Rattle.std.specs.Prelude.{map}
 use Rattle.std.proofs.lemmas.List.{take_more, map-append}
 use Rattle.std.proofs.lemmas.Option.{unwrap_or-slice_get}
-use Rattle.dump_sections.specs.Index.{state_of}
+use Rattle.dump_sections.specs.Index.{dump_state}
 use Rattle.process_table.specs.Processes.{nobody, process_at}
 use Rattle.link_entries.specs.Texts.{is_local}
 use Rattle.link_entries.specs.Lists.{links_at}
@@ -24,7 +24,7 @@ loop-p-preserved c =
     ∙ ap (λ s. not (is_cut c.state-state.result s) && is_local c.pid.result.now && not c.unread.result) c.section.ensures
     ∙ ap (λ t. not (is_cut c.state-state.result process.section) && is_local t && not c.unread.result) c.pid.ensures
     ∙ ap (λ s. not (is_cut s process.section) && is_local process.pid && not c.unread.result) c.state-state.ensures.value
-    ∙ ap (λ u. not (is_cut (state_of c.args.index.now.headers) process.section) && is_local process.pid && not u) (c.unread.ensures ∙ ap (λ l. l.unread) links) in
+    ∙ ap (λ u. not (is_cut (dump_state c.args.index.now.headers) process.section) && is_local process.pid && not u) (c.unread.ensures ∙ ap (λ l. l.unread) links) in
     c.in_ok-push.ensures.items
     ∙ ap (λ l. l ++ c.is_judged.result ∷ []) c.loop-p.invariant
     ∙ ap (λ b. map test (take p processes) ++ b ∷ []) judged

@@ -10,10 +10,10 @@ each hex base64 Base64 = base64
 
 pub returns-clause-heaps : goal.returns-clause-heaps
 returns-clause-heaps c =
-    keeps-heaps c.sections_stay.ensures.length c.sections_stay.ensures.sections c.sections_stay.ensures.index
+    keeps-heaps c.sections_stay.ensures.sections c.sections_stay.ensures.index
     c.bodies_are_redacted.ensures.sections c.bodies_are_redacted.ensures.lines (each c.binaries_stay.ensures.hex c.binaries_stay.ensures.base64)
 
 pub returns-clause-addresses : goal.returns-clause-addresses
 returns-clause-addresses c =
-    keeps-addresses c.sections_stay.ensures.length c.sections_stay.ensures.sections c.sections_stay.ensures.index
+    keeps-addresses c.sections_stay.ensures.sections c.sections_stay.ensures.index
     c.bodies_are_redacted.ensures.sections c.bodies_are_redacted.ensures.lines (each c.binaries_stay.ensures.hex c.binaries_stay.ensures.base64)

@@ -1,8 +1,8 @@
 use Rattle.std.proofs.Common.{◌≡◌, take}
 use Rattle.dump_triage.specs.Ranking.{rows_by}
-use Rattle.dump_triage.specs.Triage.{number_in}
+use Rattle.dump_triage.specs.Triage.{stated_number}
 use Rattle.dump_triage.proofs.numbers.largest_processes.Given as goal
 
 -- the rows of the places so far
 abbrev pub invariant-loop-p : goal.invariant-loop-p
-invariant-loop-p l = l.rows.items ≡ rows_by (λ item. number_in item.1.memory) (take l.p l.procs.processes)
+invariant-loop-p l = l.rows.items ≡ rows_by (λ item. stated_number item.1.memory) (take l.p l.procs.processes)

@@ -1,7 +1,7 @@
 use Rattle.std.proofs.Common.{◌≡◌, ℕ, List, Some, sym, ◌∙◌, ap}
 use Rattle.std.specs.Prelude.{slice_get}
 use Rattle.process_table.specs.Processes.{process_at}
-use Rattle.dump_triage.specs.Triage.{state_text, state_texts}
+use Rattle.dump_triage.specs.Triage.{process_state_text, state_texts}
 use Rattle.dump_triage.specs.Inner.States.{counted}
 use Rattle.dump_triage.proofs.StateFacts.{left-here, left-more, state-there}
 use Rattle.dump_triage.proofs.states.take_count.Goals as goal
@@ -12,7 +12,7 @@ returns-clause-count c =
     let p = c.args.p in
     c.remove.ensures.value
     ∙ ap (counted c.args.counts.now) c.state_at.ensures
-    ∙ left-here c.args.counts.now (state_texts processes) p (state_text (process_at processes p)) (state-there processes p c.requires.place) c.requires.left
+    ∙ left-here c.args.counts.now (state_texts processes) p (process_state_text (process_at processes p)) (state-there processes p c.requires.place) c.requires.left
 
 pub returns-clause-left : goal.returns-clause-left
 returns-clause-left c =

@@ -1,7 +1,8 @@
 use Rattle.std.proofs.Common.{◌≡◌, ℕ, ◌^◌, ◌<◌, List, Some, arith, rules}
 use Rattle.std.specs.Prelude.{◌↔◌}
-use Rattle.dump_sections.specs.Index.{sections_in}
-use Rattle.heap_cells.specs.Loading.{enc_of, heap_section, literals_section}
+use Rattle.dump_sections.specs.Sections.{sections}
+use Rattle.heap_cells.specs.DumpHeaps.{payloads_of}
+use Rattle.heap_cells.specs.Loading.{heap_section, literals_section}
 use Rattle.term_forms.specs.Forms.{HeapForm, IsForm}
 use Rattle.term_forms.specs.ReadingForms.{form_of}
 use Rattle.dump_write.specs.Made.{made}
@@ -22,5 +23,5 @@ returns c =
       whole = made_whole seed count small some few;
       sections = made_sections seed count small some few;
       bodies = made_bodies seed count small some few;
-      heaps = λ index pid. omega (arith, weight-le c.number_is_read.ensures forms (enc_of index.version) (made seed count) (heap_section pid (sections_in index)) (literals_section (sections_in index)), made_size seed count small some few);
+      heaps = λ pid. let bytes = made seed count in omega (arith, weight-le c.number_is_read.ensures forms (payloads_of bytes) bytes (heap_section pid (sections bytes)) (literals_section (sections bytes)), made_size seed count small some few);
     }

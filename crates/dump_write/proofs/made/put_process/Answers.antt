@@ -1,5 +1,5 @@
 use Rattle.std.proofs.Common.{◌++◌}
-use Rattle.dump_write.specs.Made.{queue_of, next_of, previous_of, proc_section, stack_section, dictionary_section, messages_section, heap_section}
+use Rattle.dump_write.specs.Made.{queue_of, next_of, previous_of, proc_section, stack_section, dictionary_section, messages_section, made_heap}
 use Rattle.dump_write.proofs.Appends.{lines_then}
 use Rattle.dump_write.proofs.made.put_process.Goals as goal
 
@@ -11,7 +11,7 @@ returns c =
     let stack = stack_section i in
     let dictionary = dictionary_section i in
     let messages = messages_section i queue in
-    let heap = heap_section i queue in
+    let heap = made_heap i queue in
     let old = c.args.into.now.items in
     let first = c.put_proc_section.new.into.items in
     let second = c.put_stack_section.new.into.items in

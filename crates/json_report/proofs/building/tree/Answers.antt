@@ -1,6 +1,6 @@
 use Rattle.std.proofs.Common.{sym, ap, ◌∙◌, subst, arith}
 use Rattle.std.proofs.lemmas.Result.{IfOk-weaker}
-use Rattle.dump_sections.specs.Index.{state_of}
+use Rattle.dump_sections.specs.Index.{dump_state}
 use Rattle.serde_json.specs.Written.{has_float}
 use Rattle.json_report.specs.Laws.{IsReadBack}
 use Rattle.json_report.specs.Trees.{state_text}
@@ -15,7 +15,7 @@ returns-clause-tree c =
 pub returns-clause-no_float : goal.returns-clause-no_float
 returns-clause-no_float c =
     let index = c.args.index.now in
-    IfOk-weaker c.read_back.result _ _ (λ v is. ap has_float is ∙ whole-tree c.args.procs.now.processes c.args.findings.now (state_text index (state_of index.headers))) (returns-clause-tree c)
+    IfOk-weaker c.read_back.result _ _ (λ v is. ap has_float is ∙ whole-tree c.args.procs.now.processes c.args.findings.now (state_text index (dump_state index.headers))) (returns-clause-tree c)
 
 pub returns-clause-reads_back : goal.returns-clause-reads_back
 returns-clause-reads_back c =

@@ -1,6 +1,6 @@
 use Rattle.std.proofs.Common.{false, sym, ◌∙◌, ap}
 use Rattle.std.specs.Option.{option_map_or}
-use Rattle.link_entries.specs.Texts.{is_digits}
+use Rattle.dump_io.specs.Numbers.{is_digits}
 use Rattle.link_entries.proofs.Numbers.{pair_by_number}
 use Rattle.link_entries.proofs.texts.is_pair.Goals as goal
 

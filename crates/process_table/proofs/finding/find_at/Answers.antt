@@ -9,7 +9,7 @@ use Rattle.std.proofs.lemmas.List.{length-take}
 use Rattle.std.proofs.lemmas.Map.Text.{btree_map_updates_str}
 use Rattle.dump_sections.specs.Bodies.{section_at}
 use Rattle.dump_sections.specs.Index.{sections_in}
-use Rattle.process_table.specs.Records.{placed}
+use Rattle.process_table.specs.Records.{placed_sections}
 use Rattle.process_table.specs.Inner.Finding.{AreFound, AreNumbered, has_pid}
 use Rattle.process_table.proofs.Firsts.{take-placed}
 use Rattle.process_table.proofs.Hearing.{pid_in-none, pid_in-some, AreFound-passed, AreFound-repeated, AreFound-new, repeated-few, entries-few, none_where}
@@ -20,13 +20,13 @@ pub returns-in_default-clause-found : goal.returns-in_default-clause-found
 returns-in_default-clause-found c =
     let sections = sections_in c.args.index.now in
     let s = section_at c.args.index.now c.args.i in
-    let among = take c.args.i (placed sections) in
+    let among = take c.args.i (placed_sections sections) in
     subst (AreFound c.args.found.now) (sym (take-placed sections c.args.i s c.pid_of.ensures.section))
     (AreFound-passed c.args.found.now among (c.args.i, s) c.requires.before (pid_in-none s (sym c.in_default.ensures.pid)))
 
 pub overflow_add-found : goal.overflow_add-found
 overflow_add-found c =
-    let sections = placed (sections_in c.args.index.now) in
+    let sections = placed_sections (sections_in c.args.index.now) in
     omega (arith, c.requires.few, repeated-few c.args.found.now (take c.args.i sections) c.requires.before, length-take c.args.i sections)
 
 -- whether the pid stands among those that were found
@@ -38,7 +38,7 @@ pub returns-then-contains_key-clause-found : goal.returns-then-contains_key-clau
 returns-then-contains_key-clause-found c =
     let sections = sections_in c.args.index.now in
     let s = section_at c.args.index.now c.args.i in
-    let among = take c.args.i (placed sections) in
+    let among = take c.args.i (placed_sections sections) in
     let own = pid_in-some s c.in-Some.pid.now (sym c.in-Some.ensures.pid) in
     subst (AreFound _) (sym (take-placed sections c.args.i s c.pid_of.ensures.section))
     (AreFound-repeated c.args.found.now among (c.args.i, s) c.requires.before _ own.0
@@ -48,7 +48,7 @@ pub returns-clause-found : goal.returns-clause-found
 returns-clause-found c =
     let sections = sections_in c.args.index.now in
     let s = section_at c.args.index.now c.args.i in
-    let among = take c.args.i (placed sections) in
+    let among = take c.args.i (placed_sections sections) in
     let own = pid_in-some s c.in-Some.pid.now (sym c.in-Some.ensures.pid) in
     let absent = there c.args.found.now.places.items c.args.numbers.now _ _ false c.requires.numbered own.1 (sym c.if-contains_key.false ∙ c.contains_key.ensures) in
     let gained = c.in_ok-push_place.ensures in
@@ -70,5 +70,5 @@ returns-clause-numbered c =
 
 pub overflow_cast-len : goal.overflow_cast-len
 overflow_cast-len c =
-    let sections = placed (sections_in c.args.index.now) in
+    let sections = placed_sections (sections_in c.args.index.now) in
     omega (arith, c.requires.few, c.len.ensures, c.args.found.now.places.ok.0, entries-few c.args.found.now (take c.args.i sections) c.requires.before, length-take c.args.i sections)

@@ -2,7 +2,7 @@ use Rattle.std.proofs.Common.{◌≡◌, true, false, is_some, take, sym, ◌∙
 use Rattle.std.specs.Prelude.{position}
 use Rattle.dump_sections.specs.Bodies.{section_at}
 use Rattle.dump_sections.specs.Index.{sections_in}
-use Rattle.process_table.specs.Records.{placed, pid_of}
+use Rattle.process_table.specs.Records.{placed_sections, pid_of}
 use Rattle.process_table.specs.Inner.Finding.{found_rising, has_pid, is_behind, AreFoundRising, AreRising}
 use Rattle.process_table.proofs.Firsts.{take-placed}
 use Rattle.process_table.proofs.Hearing.{pid_in-none, pid_in-some, AreFound-passed, AreFound-new}
@@ -13,7 +13,7 @@ pub returns-in_default : goal.returns-in_default
 returns-in_default c = λ _.
     let sections = sections_in c.args.index.now in
     let s = section_at c.args.index.now c.args.i in
-    let among = take c.args.i (placed sections) in
+    let among = take c.args.i (placed_sections sections) in
     subst (AreFoundRising c.args.places.now) (sym (take-placed sections c.args.i s c.pid_of.ensures.section))
     (record {
       rising = c.requires.before.rising;
@@ -24,7 +24,7 @@ pub returns : goal.returns
 returns c = λ _.
     let sections = sections_in c.args.index.now in
     let s = section_at c.args.index.now c.args.i in
-    let among = take c.args.i (placed sections) in
+    let among = take c.args.i (placed_sections sections) in
     let places = c.args.places.now.items in
     let own = pid_in-some s c.in-Some.pid.now (sym c.in-Some.ensures.pid) in
     let gained = c.in_ok-push_place.ensures in

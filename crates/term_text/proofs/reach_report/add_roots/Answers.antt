@@ -2,7 +2,7 @@ use Rattle.std.proofs.Common.{◌++◌, sym, ◌∙◌, ap, subst}
 use Rattle.std.proofs.lemmas.List.{append_assoc}
 use Rattle.root_views.specs.Seen.{root}
 use Rattle.heap_reach.specs.Rounds.{IsReachOf}
-use Rattle.term_text.specs.Reach.{term_in, terms_of}
+use Rattle.term_text.specs.Reach.{term_in, root_elements}
 use Rattle.term_text.proofs.reach_report.add_roots.Goals as goal
 
 pub loop-found-preserved : goal.loop-found-preserved
@@ -15,7 +15,7 @@ loop-found-preserved c =
       c.add_content.ensures.heap ∙ c.loop-found.invariant.2,
       (
         so_far.0 ++ term_in first.content,
-        append_assoc so_far.0 (term_in first.content) (terms_of rest) ∙ ap (λ rs. so_far.0 ++ terms_of rs) (sym c.in-Some.ensures.steps) ∙ so_far.1,
+        append_assoc so_far.0 (term_in first.content) (root_elements rest) ∙ ap (λ rs. so_far.0 ++ root_elements rs) (sym c.in-Some.ensures.steps) ∙ so_far.1,
         λ roots exact. subst (IsReachOf c.add_content.new.reach) (append_assoc roots so_far.0 (term_in first.content))
             (c.add_content.ensures.roots (roots ++ so_far.0) (so_far.2 roots exact)),
       ),

@@ -1,14 +1,14 @@
 use Rattle.std.proofs.Common.{◌≡◌, ℕ, ◌+◌, List, [], ◌∷◌, ◌++◌, decimal, ◌∙◌, ap, append_assoc}
 use Rattle.dump_io.specs.Laws.Puts.{Puts-as, Puts-then, Puts-stopped}
 use Rattle.root_views.specs.Seen.{root}
-use Rattle.report_lines.specs.Lines.{line_of, newline, space}
+use Rattle.report_lines.specs.Lines.{line_of, newline, word_space}
 use Rattle.term_text.specs.Roots.{answer_over, content_text}
 use Rattle.term_text.proofs.root_report.put_root.Goals as goal
 
 -- two parts with a space behind each, a third one, and the end of the line are a line
-three-told : (a b c : List ℕ) → (a ++ (space ++ (b ++ (space ++ [])))) ++ (c ++ newline) ≡ line_of space (a ∷ b ∷ c ∷ [])
+three-told : (a b c : List ℕ) → (a ++ (word_space ++ (b ++ (word_space ++ [])))) ++ (c ++ newline) ≡ line_of word_space (a ∷ b ∷ c ∷ [])
 three-told a b c =
-    append_assoc a (space ++ (b ++ (space ++ []))) (c ++ newline) ∙ ap (λ rest. a ++ (space ++ rest)) (append_assoc b (space ++ []) (c ++ newline))
+    append_assoc a (word_space ++ (b ++ (word_space ++ []))) (c ++ newline) ∙ ap (λ rest. a ++ (word_space ++ rest)) (append_assoc b (word_space ++ []) (c ++ newline))
 
 pub returns-in_err-put_heading-clause-puts : goal.returns-in_err-put_heading-clause-puts
 returns-in_err-put_heading-clause-puts g c =

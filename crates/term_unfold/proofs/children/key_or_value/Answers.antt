@@ -1,7 +1,7 @@
 use Rattle.std.proofs.Common.{arith}
 use Rattle.heap_cells.specs.HeapMap.{elements_at}
 use Rattle.heap_cells.specs.Targets.{number}
-use Rattle.term_unfold.proofs.Kidded.{key-none, value-none, key-kid, value-kid}
+use Rattle.term_unfold.proofs.ChildFacts.{key-none, value-none, key-child, value-child}
 use Rattle.term_unfold.proofs.children.key_or_value.Goals as goal
 
 pub returns-in_err-key : goal.returns-in_err-key
@@ -16,10 +16,10 @@ returns-in_err-value c =
 
 pub returns-then-place-eq0 : goal.returns-then-place-eq0
 returns-then-place-eq0 c =
-    key-kid c.args.heap.now.cells (elements_at c.args.heap.now.cells (number c.args.keys)) (elements_at c.args.heap.now.cells (number c.args.ix)) c.args.place c.in_ok-key.key c.in_ok-value.value
+    key-child c.args.heap.now.cells (elements_at c.args.heap.now.cells (number c.args.keys)) (elements_at c.args.heap.now.cells (number c.args.ix)) c.args.place c.in_ok-key.key c.in_ok-value.value
     (c.in_ok-key.ensures) (c.in_ok-value.ensures) c.if-place-eq0.true
 
 pub returns-else-place-eq0 : goal.returns-else-place-eq0
 returns-else-place-eq0 c =
-    value-kid c.args.heap.now.cells (elements_at c.args.heap.now.cells (number c.args.keys)) (elements_at c.args.heap.now.cells (number c.args.ix)) c.args.place c.in_ok-key.key c.in_ok-value.value
+    value-child c.args.heap.now.cells (elements_at c.args.heap.now.cells (number c.args.keys)) (elements_at c.args.heap.now.cells (number c.args.ix)) c.args.place c.in_ok-key.key c.in_ok-value.value
     (c.in_ok-key.ensures) (c.in_ok-value.ensures) (omega (arith, c.if-place-eq0.false))

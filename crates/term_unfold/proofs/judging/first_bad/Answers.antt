@@ -1,5 +1,5 @@
 use Rattle.std.proofs.Common.{◌∙◌, arith}
-use Rattle.term_unfold.specs.Inner.Kids.{child_shown}
+use Rattle.term_unfold.specs.Inner.Children.{child_shown}
 use Rattle.term_unfold.proofs.Visited.{visited-next}
 use Rattle.term_unfold.proofs.judging.first_bad.Goals as goal
 

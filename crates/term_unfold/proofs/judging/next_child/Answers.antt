@@ -1,6 +1,6 @@
 use Rattle.std.proofs.Common.{◌∷◌, sym, ◌∙◌, ap}
 use Rattle.term_unfold.specs.Inner.Entries.{Entered}
-use Rattle.term_unfold.specs.Inner.Kids.{child_shown}
+use Rattle.term_unfold.specs.Inner.Children.{child_shown}
 use Rattle.term_unfold.proofs.Visited.{to_come-step, to_come-pop}
 use Rattle.term_unfold.proofs.judging.next_child.Goals as goal
 

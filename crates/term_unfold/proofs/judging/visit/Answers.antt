@@ -1,7 +1,7 @@
 use Rattle.std.proofs.Common.{false, sym, ap, subst}
 use Rattle.term_unfold.specs.Inner.Coming.{Visits}
 use Rattle.term_unfold.specs.Inner.Entries.{Entered}
-use Rattle.term_unfold.specs.Inner.Kids.{child_shown}
+use Rattle.term_unfold.specs.Inner.Children.{child_shown}
 use Rattle.term_unfold.proofs.Visited.{visits-opened}
 use Rattle.term_unfold.proofs.judging.visit.Goals as goal
 

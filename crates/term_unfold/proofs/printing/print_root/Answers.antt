@@ -4,7 +4,7 @@ use Rattle.term_unfold.specs.Inner.Entries.{Entered, path_of}
 use Rattle.term_unfold.specs.declared.path.Entry.{Entry}
 use Rattle.term_unfold.specs.Inner.Coming.{entered_by}
 use Rattle.term_unfold.specs.Inner.Openings.{IsOpened}
-use Rattle.term_unfold.specs.Inner.Rest.{rest, own_text}
+use Rattle.term_unfold.specs.Inner.Rest.{rest, child_text}
 use Rattle.term_unfold.specs.Leaves.{leaf_text}
 use Rattle.term_unfold.specs.Rules.{Term}
 use Rattle.term_unfold.specs.Text.{show}
@@ -21,7 +21,7 @@ returns-clause-step g c =
     let child = Term (element c.args.root.now) in
     let m = c.args.budget - 1 in
     let whole = show leaf (unfolding_of heap (element c.args.root.now)) c.args.budget in
-    let own = own_text leaf heap child o in
+    let own = child_text leaf heap child o in
     let count : c.args.budget ≡ suc (c.args.budget - 1) = omega (arith, c.requires.budget) in
     let opens : IsOpened heap [] child o = subst (λ es. IsOpened heap (path_of heap es) child o) c.requires.empty c.open_root-opened.ensures.found_is in
     let no_entries : List Entry = [] in

@@ -1,6 +1,6 @@
 use Rattle.std.proofs.Common.{◌≡◌, ◌-◌, suc, drop, sym, ◌∙◌, ap, arith}
 use Rattle.std.specs.Option.{option_map}
-use Rattle.term_unfold.specs.Inner.Kids.{child_shown}
+use Rattle.term_unfold.specs.Inner.Children.{child_shown}
 use Rattle.term_unfold.specs.Inner.Rest.{rest, turn_text}
 use Rattle.term_unfold.specs.Leaves.{leaf_text}
 use Rattle.term_unfold.proofs.Turning.{left-none}

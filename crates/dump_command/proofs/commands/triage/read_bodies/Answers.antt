@@ -2,11 +2,11 @@ use Rattle.std.proofs.Common.{Some, ◌∙◌, ap, subst}
 use Rattle.dump_sections.specs.Index.{sections_in}
 use Rattle.process_table.specs.Records.{record_sections}
 use Rattle.dump_sections.specs.Bodies.{section_in, IsBodyIn}
-use Rattle.table_sections.specs.Tables.{listed, table_of, IsOver}
+use Rattle.table_sections.specs.Tables.{listed, table_of, IsTableOver}
 use Rattle.dump_command.specs.Report.{memory_section}
 use Rattle.std.specs.Option.{option_to_list}
 use Rattle.dump_command.proofs.Reading.{failed-later, over-still}
-use Rattle.dump_command.proofs.TriageLoads.{reads-first, reads-memory, reads-procs, reads-tables, not-read, AreSmall-all, IsUnread-small}
+use Rattle.dump_command.proofs.TriageLoads.{reads-first, reads-memory, reads-procs, reads-tables, not-read, AreSmall-all, IsUnloaded-small}
 use Rattle.dump_command.proofs.commands.triage.read_bodies.Goals as goal
 
 pub read_found-requires-2-clause-over : goal.read_found-requires-2-clause-over
@@ -30,7 +30,7 @@ returns-in_err-first g c =
     let old = d.state c.args.dumps.now in
     let new = d.state c.read_found.new.dumps in
     not-read _ _ c.from_residual.ensures.1 (reads-first c.requires.places c.in_err-first.ensures.loads.reads)
-    (IsUnread-small limit (option_to_list (section_in index (Some 0))) old new old new _ (AreSmall-all limit index c.args.places c.requires.places c.requires.small).first (λ rose. rose) c.in_err-first.ensures.loads.fault)
+    (IsUnloaded-small limit (option_to_list (section_in index (Some 0))) old new old new _ (AreSmall-all limit index c.args.places c.requires.places c.requires.small).first (λ rose. rose) c.in_err-first.ensures.loads.fault)
 
 pub returns-in_err-memory : goal.returns-in_err-memory
 returns-in_err-memory g c =
@@ -40,7 +40,7 @@ returns-in_err-memory g c =
     let old = d.state c.args.dumps.now in
     let new = d.state c.read_found-2.new.dumps in
     not-read _ _ c.from_residual-in_err-memory.ensures.1 (reads-memory c.requires.places c.in_ok-first.ensures.loads.reads c.in_err-memory.ensures.loads.reads)
-    (IsUnread-small limit (option_to_list (section_in index c.args.places.memory)) old new (d.state c.read_found.new.dumps) new _ (AreSmall-all limit index c.args.places c.requires.places c.requires.small).memory (failed-later new c.in_ok-first.ensures.loads.reads) c.in_err-memory.ensures.loads.fault)
+    (IsUnloaded-small limit (option_to_list (section_in index c.args.places.memory)) old new (d.state c.read_found.new.dumps) new _ (AreSmall-all limit index c.args.places c.requires.places c.requires.small).memory (failed-later new c.in_ok-first.ensures.loads.reads) c.in_err-memory.ensures.loads.fault)
 
 pub returns-in_err-procs : goal.returns-in_err-procs
 returns-in_err-procs g c =
@@ -50,7 +50,7 @@ returns-in_err-procs g c =
     let old = d.state c.args.dumps.now in
     let new = d.state c.read.new.dumps in
     not-read _ _ c.from_residual-in_err-procs.ensures.1 (reads-procs c.requires.places c.in_ok-first.ensures.loads.reads c.in_ok-memory.ensures.loads.reads c.in_err-procs.ensures.loads.reads)
-    (IsUnread-small limit (record_sections (sections_in index)) old new (d.state c.read_found-2.new.dumps) new _ (AreSmall-all limit index c.args.places c.requires.places c.requires.small).procs (λ rose. failed-later new c.in_ok-first.ensures.loads.reads (failed-later new c.in_ok-memory.ensures.loads.reads rose)) c.in_err-procs.ensures.loads.fault)
+    (IsUnloaded-small limit (record_sections (sections_in index)) old new (d.state c.read_found-2.new.dumps) new _ (AreSmall-all limit index c.args.places c.requires.places c.requires.small).procs (λ rose. failed-later new c.in_ok-first.ensures.loads.reads (failed-later new c.in_ok-memory.ensures.loads.reads rose)) c.in_err-procs.ensures.loads.fault)
 
 pub returns-in_err-tables : goal.returns-in_err-tables
 returns-in_err-tables g c =
@@ -60,7 +60,7 @@ returns-in_err-tables g c =
     let old = d.state c.args.dumps.now in
     let new = d.state c.read-2.new.dumps in
     not-read _ _ c.from_residual-in_err-tables.ensures.1 (reads-tables c.requires.places c.in_ok-first.ensures.loads.reads c.in_ok-memory.ensures.loads.reads c.in_ok-procs.ensures.loads.reads c.in_err-tables.ensures.loads.reads)
-    (IsUnread-small limit (listed c.args.places.tables.kind (sections_in index)) old new (d.state c.read.new.dumps) new _ (AreSmall-all limit index c.args.places c.requires.places c.requires.small).tables (λ rose. failed-later new c.in_ok-first.ensures.loads.reads (failed-later new c.in_ok-memory.ensures.loads.reads (failed-later new c.in_ok-procs.ensures.loads.reads rose))) c.in_err-tables.ensures.loads.fault)
+    (IsUnloaded-small limit (listed c.args.places.tables.kind (sections_in index)) old new (d.state c.read.new.dumps) new _ (AreSmall-all limit index c.args.places c.requires.places c.requires.small).tables (λ rose. failed-later new c.in_ok-first.ensures.loads.reads (failed-later new c.in_ok-memory.ensures.loads.reads (failed-later new c.in_ok-procs.ensures.loads.reads rose))) c.in_err-tables.ensures.loads.fault)
 
 pub returns : goal.returns
 returns g c =
@@ -78,6 +78,6 @@ returns g c =
         procs = λ bytes same. procs.table bytes (memory.loads.reads.same_now ∙ first.loads.reads.same_now ∙ same);
         tables = λ bytes same. tables.table bytes (procs.loads.reads.same_now ∙ memory.loads.reads.same_now ∙ first.loads.reads.same_now ∙ same) ∙ ap (λ k. table_of k bytes) found.kind;
       };
-      fits = record { sections = procs.over.named; tables = subst (λ k. IsOver k c.args.at.now.index.now c.in_ok-tables.tables) found.kind tables.over };
+      fits = record { sections = procs.over.named; tables = subst (λ k. IsTableOver k c.args.at.now.index.now c.in_ok-tables.tables) found.kind tables.over };
       fault = tt;
     }

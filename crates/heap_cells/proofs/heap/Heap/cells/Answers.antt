@@ -1,4 +1,4 @@
-use Rattle.std.proofs.Common.{subst, arith, length-append}
+use Rattle.std.proofs.Common.{subst, arith}
 use Rattle.std.proofs.lemmas.List.{length-map}
 use Rattle.heap_cells.specs.HeapMap.{IsBounded}
 use Rattle.heap_cells.specs.Inner.Texts.{text_of, seam_of}
@@ -16,7 +16,5 @@ returns-clause-bounded c =
       distinct = i.distinct;
       weight = omega (arith, i.few, weighs);
       own = omega (arith, i.own_is, counts);
-      heap_size = i.heap_size;
-      literals_size = omega (arith, i.size, length-append h.texts.heap.items h.texts.literals.items);
     } in
     subst IsBounded c.self.view_is bounded

@@ -15,9 +15,9 @@ use Rattle.heap_cells.specs.HeapMap.{HeapMap, IsBounded, form_at, elements_at}
 use Rattle.heap_cells.specs.Targets.{At, number, target, slot_target, IsWithin}
 use Rattle.map_nodes.specs.Laws.Targets.{no_slot, slot-leads, leads-at}
 use Rattle.map_nodes.specs.Rules.{address_of}
-use Rattle.term_unfold.specs.declared.children.Child.{Child as Kid}
-use Rattle.term_unfold.specs.declared.children.Child.TheVariants as kid
-use Rattle.term_unfold.specs.Inner.Kids.{members_in, HasMembers, found_elements, flat_kids, child_shown, IsKidAt}
+use Rattle.term_unfold.specs.declared.children.Child.{Child as PlacedChild}
+use Rattle.term_unfold.specs.declared.children.Child.TheVariants as placed
+use Rattle.term_unfold.specs.Inner.Children.{members_in, HasMembers, found_elements, flat_children, child_shown, IsChildAt}
 use Rattle.term_unfold.specs.Rules.{Child, Term, Item, terms, items, pairs}
 
 -- a cell has no more elements than the heap weighs
@@ -32,21 +32,21 @@ elements-few heap n bounded = omega (arith, bounded.weight, weight-at heap.cells
 
 -- no child
 
-pub kid-none : (heap : List Cell) (children : List Child) (next most : ℕ) (found : Option Kid) → found ≡ None → slice_get children next ≡ None → IsKidAt heap children next most found
-kid-none heap children next most None is past = record { child = sym past; kid = tt; few = tt }
-kid-none heap children next most (Some k) is past = cc
+pub child-none : (heap : List Cell) (children : List Child) (next most : ℕ) (found : Option PlacedChild) → found ≡ None → slice_get children next ≡ None → IsChildAt heap children next most found
+child-none heap children next most None is past = record { child = sym past; placed = tt; few = tt }
+child-none heap children next most (Some k) is past = cc
 
 -- the child at a place
 
-pub term-kid : (heap : HeapMap) (ix : CellIx) (place : ℕ) (slots : List Slot) (slot : Bor Slot) → IsBounded heap → number ix < length heap.cells
+pub term-child : (heap : HeapMap) (ix : CellIx) (place : ℕ) (slots : List Slot) (slot : Bor Slot) → IsBounded heap → number ix < length heap.cells
     → place < length (elements_at heap.cells (number ix)) → map slot_target slots ≡ map (target heap.cells) (elements_at heap.cells (number ix))
     → get_or slots place no_slot ≡ slot.now → IsWithin (length heap.cells) (slot_target slot.now)
-    → IsKidAt heap.cells (terms (elements_at heap.cells (number ix))) place 100000000 (Some (kid.Term slot ix place))
-term-kid heap ix place slots slot bounded cell within same is inside =
+    → IsChildAt heap.cells (terms (elements_at heap.cells (number ix))) place 100000000 (Some (placed.Term slot ix place))
+term-child heap ix place slots slot bounded cell within same is inside =
     let elements = elements_at heap.cells (number ix) in
     record {
       child = sym (slice_get-map Term elements place ∙ ap (option_map Term) (slice_get-get_or elements place Nil within));
-      kid = record {
+      placed = record {
         at = record { cell = cell; within = within };
         leads = slot-leads heap.cells slots elements place slot.now same is;
         within = inside;
@@ -54,15 +54,15 @@ term-kid heap ix place slots slot bounded cell within same is inside =
       few = omega (arith, within, elements-few heap (number ix) bounded);
     }
 
-pub item-kid : (heap : HeapMap) (ix : CellIx) (place : ℕ) → IsBounded heap → number ix < length heap.cells → HasMembers (form_at heap.cells (number ix)) → members_in (form_at heap.cells (number ix)) ≡ elements_at heap.cells (number ix)
+pub item-child : (heap : HeapMap) (ix : CellIx) (place : ℕ) → IsBounded heap → number ix < length heap.cells → HasMembers (form_at heap.cells (number ix)) → members_in (form_at heap.cells (number ix)) ≡ elements_at heap.cells (number ix)
     → place < length (elements_at heap.cells (number ix))
-    → IsKidAt heap.cells (items (address_of heap.cells (number ix)) (members_in (form_at heap.cells (number ix)))) place 100000000 (Some (kid.Item ix place))
-item-kid heap ix place bounded cell has are within =
+    → IsChildAt heap.cells (items (address_of heap.cells (number ix)) (members_in (form_at heap.cells (number ix)))) place 100000000 (Some (placed.Item ix place))
+item-child heap ix place bounded cell has are within =
     let elements = elements_at heap.cells (number ix) in
     let a = address_of heap.cells (number ix) in
     record {
       child = sym (ap (λ l. slice_get (items a l) place) are ∙ slice_get-map (Item a) elements place ∙ ap (option_map (Item a)) (slice_get-get_or elements place Nil within));
-      kid = record { at = record { cell = cell; within = within }; kind = has };
+      placed = record { at = record { cell = cell; within = within }; kind = has };
       few = omega (arith, within, elements-few heap (number ix) bounded);
     }
 
@@ -131,41 +131,41 @@ none-at ks vs place h =
 small-place : (i place : ℕ) → i < 100000000 → i ≡ place / 2 → place < 200000000
 small-place i place h is = omega (arith, div-add-mod place 2)
 
-pub key-none : (heap : List Cell) (ks es : List Element) (place most : ℕ) (found out : Option Kid) → found ≡ None → IsKidAt heap (terms ks) (place / 2) most found → out ≡ None
-    → IsKidAt heap (pairs ks (drop 1 es)) place 200000000 out
+pub key-none : (heap : List Cell) (ks es : List Element) (place most : ℕ) (found out : Option PlacedChild) → found ≡ None → IsChildAt heap (terms ks) (place / 2) most found → out ≡ None
+    → IsChildAt heap (pairs ks (drop 1 es)) place 200000000 out
 key-none heap ks es place most found out none at is =
-    kid-none heap (pairs ks (drop 1 es)) place 200000000 out is (none-at ks (drop 1 es) place (pairs-no_key ks (drop 1 es) (place / 2) (sym at.child ∙ ap (option_map (child_shown heap)) none)))
+    child-none heap (pairs ks (drop 1 es)) place 200000000 out is (none-at ks (drop 1 es) place (pairs-no_key ks (drop 1 es) (place / 2) (sym at.child ∙ ap (option_map (child_shown heap)) none)))
 
-pub value-none : (heap : List Cell) (ks es : List Element) (place most : ℕ) (found out : Option Kid) → found ≡ None → IsKidAt heap (terms es) (place / 2 + 1) most found → out ≡ None
-    → IsKidAt heap (pairs ks (drop 1 es)) place 200000000 out
+pub value-none : (heap : List Cell) (ks es : List Element) (place most : ℕ) (found out : Option PlacedChild) → found ≡ None → IsChildAt heap (terms es) (place / 2 + 1) most found → out ≡ None
+    → IsChildAt heap (pairs ks (drop 1 es)) place 200000000 out
 value-none heap ks es place most found out none at is =
-    kid-none heap (pairs ks (drop 1 es)) place 200000000 out is
+    child-none heap (pairs ks (drop 1 es)) place 200000000 out is
     (none-at ks (drop 1 es) place (pairs-no_value ks (drop 1 es) (place / 2) (behind-first es (place / 2) ∙ sym at.child ∙ ap (option_map (child_shown heap)) none)))
 
-pub key-kid : (heap : List Cell) (ks es : List Element) (place : ℕ) (k v : Kid) → IsKidAt heap (terms ks) (place / 2) 100000000 (Some k) → IsKidAt heap (terms es) (place / 2 + 1) 100000000 (Some v) → place % 2 ≡ 0
-    → IsKidAt heap (pairs ks (drop 1 es)) place 200000000 (Some k)
-key-kid heap ks es place k v key value h =
+pub key-child : (heap : List Cell) (ks es : List Element) (place : ℕ) (k v : PlacedChild) → IsChildAt heap (terms ks) (place / 2) 100000000 (Some k) → IsChildAt heap (terms es) (place / 2 + 1) 100000000 (Some v) → place % 2 ≡ 0
+    → IsChildAt heap (pairs ks (drop 1 es)) place 200000000 (Some k)
+key-child heap ks es place k v key value h =
     record {
       child = sym (ap (slice_get (pairs ks (drop 1 es))) (even place h)
           ∙ pairs-key ks (drop 1 es) (place / 2) (child_shown heap k) (child_shown heap v) (sym key.child) (behind-first es (place / 2) ∙ sym value.child));
-      kid = key.kid;
+      placed = key.placed;
       few = small-place (place / 2) place key.few refl;
     }
 
-pub value-kid : (heap : List Cell) (ks es : List Element) (place : ℕ) (k v : Kid) → IsKidAt heap (terms ks) (place / 2) 100000000 (Some k) → IsKidAt heap (terms es) (place / 2 + 1) 100000000 (Some v) → 0 < place % 2
-    → IsKidAt heap (pairs ks (drop 1 es)) place 200000000 (Some v)
-value-kid heap ks es place k v key value h =
+pub value-child : (heap : List Cell) (ks es : List Element) (place : ℕ) (k v : PlacedChild) → IsChildAt heap (terms ks) (place / 2) 100000000 (Some k) → IsChildAt heap (terms es) (place / 2 + 1) 100000000 (Some v) → 0 < place % 2
+    → IsChildAt heap (pairs ks (drop 1 es)) place 200000000 (Some v)
+value-child heap ks es place k v key value h =
     record {
       child = sym (ap (slice_get (pairs ks (drop 1 es))) (odd place h)
           ∙ pairs-value ks (drop 1 es) (place / 2) (child_shown heap k) (child_shown heap v) (sym key.child) (behind-first es (place / 2) ∙ sym value.child));
-      kid = value.kid;
+      placed = value.placed;
       few = small-place (place / 2) place key.few refl;
     }
 
 -- a flat map whose keys element leads to a cell
 
-pub flat_kids-at : (heap : List Cell) (es : List Element) (k : ℕ) → 0 < length es → target heap (get_or es 0 Nil) ≡ At k → flat_kids heap es ≡ pairs (elements_at heap k) (drop 1 es)
+pub flat_kids-at : (heap : List Cell) (es : List Element) (k : ℕ) → 0 < length es → target heap (get_or es 0 Nil) ≡ At k → flat_children heap es ≡ pairs (elements_at heap k) (drop 1 es)
 flat_kids-at heap [] k some h = absurd (omega (arith, some))
 flat_kids-at heap (e ∷ es) k some h =
     let to = leads-at heap k e h in
-    ap (λ x. flat_kids heap (x ∷ es)) to.element ∙ ap (λ f. pairs (found_elements f) es) to.form
+    ap (λ x. flat_children heap (x ∷ es)) to.element ∙ ap (λ f. pairs (found_elements f) es) to.form

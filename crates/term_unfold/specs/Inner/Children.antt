@@ -8,11 +8,11 @@ use Rattle.cell_records.specs.declared.cells.Kind.TheVariants as cell_kind
 use Rattle.cell_records.specs.declared.cells.Slot.{Slot}
 use Rattle.heap_cells.specs.HeapMap.{form_at, elements_at}
 use Rattle.heap_cells.specs.Targets.{number, target, slot_target, IsWithin}
-use Rattle.map_nodes.specs.Rules.{address_of, element_at, form_with}
+use Rattle.map_nodes.specs.Rules.{address_of, element_at, form_at_address}
 use Rattle.term_unfold.specs.declared.node.NodeKind.{NodeKind}
 use Rattle.term_unfold.specs.declared.node.NodeKind.TheVariants as kinds
-use Rattle.term_unfold.specs.declared.children.Child.{Child as Kid}
-use Rattle.term_unfold.specs.declared.children.Child.TheVariants as kid
+use Rattle.term_unfold.specs.declared.children.Child.{Child as PlacedChild}
+use Rattle.term_unfold.specs.declared.children.Child.TheVariants as placed
 use Rattle.term_unfold.specs.Rules.{Child, Term, Item, terms, items, pairs}
 
 -- the children of a cell that is a hash map or an inner node
@@ -32,23 +32,23 @@ found_elements None = []
 found_elements (Some form) = elements_in form
 
 -- the children of a flat map with these elements: the keys element, then the values
-abbrev pub flat_kids : List Cell → List Element → List Child
-flat_kids heap [] = []
-flat_kids heap (Ref k ∷ values) = pairs (found_elements (form_with heap k)) values
-flat_kids heap (element ∷ values) = []
+abbrev pub flat_children : List Cell → List Element → List Child
+flat_children heap [] = []
+flat_children heap (Ref k ∷ values) = pairs (found_elements (form_at_address heap k)) values
+flat_children heap (element ∷ values) = []
 
-abbrev pub kids_of : List Cell → NodeKind → ℕ → List Child
-kids_of heap kinds.Cons n = terms (take 2 (elements_at heap n))
-kids_of heap kinds.Tuple n = terms (elements_at heap n)
-kids_of heap kinds.Flat n = flat_kids heap (elements_at heap n)
-kids_of heap kinds.Hash n = items (address_of heap n) (members_in (form_at heap n))
-kids_of heap kinds.Inner n = items (address_of heap n) (members_in (form_at heap n))
-kids_of heap kinds.Pair n = terms (take 2 (elements_at heap n))
+abbrev pub children_of : List Cell → NodeKind → ℕ → List Child
+children_of heap kinds.Cons n = terms (take 2 (elements_at heap n))
+children_of heap kinds.Tuple n = terms (elements_at heap n)
+children_of heap kinds.Flat n = flat_children heap (elements_at heap n)
+children_of heap kinds.Hash n = items (address_of heap n) (members_in (form_at heap n))
+children_of heap kinds.Inner n = items (address_of heap n) (members_in (form_at heap n))
+children_of heap kinds.Pair n = terms (take 2 (elements_at heap n))
 
 -- the child that a place in a cell stands for
-abbrev pub child_shown : List Cell → Kid → Child
-child_shown heap (kid.Term slot ix place) = Term (element_at heap (number ix) place)
-child_shown heap (kid.Item ix place) = Item (address_of heap (number ix)) (element_at heap (number ix) place)
+abbrev pub child_shown : List Cell → PlacedChild → Child
+child_shown heap (placed.Term slot ix place) = Term (element_at heap (number ix) place)
+child_shown heap (placed.Item ix place) = Item (address_of heap (number ix)) (element_at heap (number ix) place)
 
 -- a place of an element in a cell
 pub record IsPlace (heap : List Cell) (n place : ℕ) : Type 0 where
@@ -66,12 +66,12 @@ pub record IsItemAt (heap : List Cell) (n place : ℕ) : Type 0 where
   pub at : IsPlace heap n place
   pub kind : HasMembers (form_at heap n)
 
-abbrev pub IsKid : List Cell → Kid → Type 0
-IsKid heap (kid.Term slot ix place) = IsTermAt heap slot.now (number ix) place
-IsKid heap (kid.Item ix place) = IsItemAt heap (number ix) place
+abbrev pub IsChild : List Cell → PlacedChild → Type 0
+IsChild heap (placed.Term slot ix place) = IsTermAt heap slot.now (number ix) place
+IsChild heap (placed.Item ix place) = IsItemAt heap (number ix) place
 
 -- a child that was asked for by its place is that one of the children, and the place is small
-pub record IsKidAt (heap : List Cell) (children : List Child) (next most : ℕ) (found : Option Kid) : Type 0 where
+pub record IsChildAt (heap : List Cell) (children : List Child) (next most : ℕ) (found : Option PlacedChild) : Type 0 where
   pub child : option_map (child_shown heap) found ≡ slice_get children next
-  pub kid : IfSome found (IsKid heap)
+  pub placed : IfSome found (IsChild heap)
   pub few : IfSome found (λ _. next < most)
