@@ -5,7 +5,6 @@ pub mod InnerNodes
 pub mod FirstNodes
 pub mod Levels
 pub mod Opens
-pub mod Placed
 pub mod Previewed
 pub mod Sized
 pub mod Stepping

@@ -25,7 +25,7 @@ use Rattle.term_unfold.specs.Inner.Entries.{Entered, numbers_of, path_of, IsLine
 use Rattle.term_unfold.specs.declared.openings.Opened.{Opened}
 use Rattle.term_unfold.specs.declared.openings.Opened.TheVariants as opened
 use Rattle.term_unfold.specs.Inner.Children.{members_in, found_elements, flat_children}
-use Rattle.term_unfold.specs.Inner.Openings.{Opens}
+use Rattle.term_unfold.specs.Inner.Openings.{is_leaf_form, Opens}
 use Rattle.term_unfold.specs.Rules.{Term, Item, leaf, bad, node, is_on, unless_on, terms, items, pairs, keyed, cell_opening, term_opening, item_opening, opening}
 use Rattle.term_unfold.specs.Trees.{OfCell}
 use Rattle.term_unfold.proofs.ChildFacts.{flat_kids-at}
@@ -209,6 +209,7 @@ form-node heap path a (Some form) h = cc
 pub record IsLeafForm (heap : List Cell) (path : List ℕ) (a : ℕ) (form : Option HeapForm) : Type 0 where
   pub leaf_form : HeapForm
   pub form_is : form ≡ Some leaf_form
+  pub is_leaf : is_leaf_form leaf_form ≡ true
   pub opens : cell_opening heap path a (Some form) ≡ leaf (OfCell a leaf_form)
 
 pub form-leaf : (heap : List Cell) (path : List ℕ) (a : ℕ) (kind : Kind) (form : Option HeapForm) → option_map kind_of form ≡ Some kind → (kind ≡ cell_kind.List → ⊥) → (kind ≡ cell_kind.Tuple → ⊥)
@@ -219,14 +220,14 @@ form-leaf heap path a kind (Some (Tuple elements)) h l t f m n = let is : kind �
 form-leaf heap path a kind (Some (Flat keys values)) h l t f m n = let is : kind ≡ cell_kind.Flat = cc in absurd (f is)
 form-leaf heap path a kind (Some (Hash size children)) h l t f m n = let is : kind ≡ cell_kind.Hash = cc in absurd (m is)
 form-leaf heap path a kind (Some (Node children)) h l t f m n = let is : kind ≡ cell_kind.Node = cc in absurd (n is)
-form-leaf heap path a kind (Some (Float bytes)) h l t f m n = record { leaf_form = Float bytes; form_is = refl; opens = refl }
-form-leaf heap path a kind (Some (Long number)) h l t f m n = record { leaf_form = Long number; form_is = refl; opens = refl }
-form-leaf heap path a kind (Some (PidForm pid)) h l t f m n = record { leaf_form = PidForm pid; form_is = refl; opens = refl }
-form-leaf heap path a kind (Some (PortForm port)) h l t f m n = record { leaf_form = PortForm port; form_is = refl; opens = refl }
-form-leaf heap path a kind (Some (Ext size chars)) h l t f m n = record { leaf_form = Ext size chars; form_is = refl; opens = refl }
-form-leaf heap path a kind (Some (HeapBin size chars)) h l t f m n = record { leaf_form = HeapBin size chars; form_is = refl; opens = refl }
-form-leaf heap path a kind (Some (RefBin address offset size)) h l t f m n = record { leaf_form = RefBin address offset size; form_is = refl; opens = refl }
-form-leaf heap path a kind (Some (SubBin address offset size)) h l t f m n = record { leaf_form = SubBin address offset size; form_is = refl; opens = refl }
+form-leaf heap path a kind (Some (Float bytes)) h l t f m n = record { leaf_form = Float bytes; form_is = refl; is_leaf = refl; opens = refl }
+form-leaf heap path a kind (Some (Long number)) h l t f m n = record { leaf_form = Long number; form_is = refl; is_leaf = refl; opens = refl }
+form-leaf heap path a kind (Some (PidForm pid)) h l t f m n = record { leaf_form = PidForm pid; form_is = refl; is_leaf = refl; opens = refl }
+form-leaf heap path a kind (Some (PortForm port)) h l t f m n = record { leaf_form = PortForm port; form_is = refl; is_leaf = refl; opens = refl }
+form-leaf heap path a kind (Some (Ext size chars)) h l t f m n = record { leaf_form = Ext size chars; form_is = refl; is_leaf = refl; opens = refl }
+form-leaf heap path a kind (Some (HeapBin size chars)) h l t f m n = record { leaf_form = HeapBin size chars; form_is = refl; is_leaf = refl; opens = refl }
+form-leaf heap path a kind (Some (RefBin address offset size)) h l t f m n = record { leaf_form = RefBin address offset size; form_is = refl; is_leaf = refl; opens = refl }
+form-leaf heap path a kind (Some (SubBin address offset size)) h l t f m n = record { leaf_form = SubBin address offset size; form_is = refl; is_leaf = refl; opens = refl }
 
 -- flat maps
 

@@ -18,7 +18,7 @@ use Rattle.term_unfold.specs.declared.path.Entry.{Entry}
 use Rattle.term_unfold.specs.Inner.Coming.{left_of, entered_by}
 use Rattle.term_unfold.specs.Inner.Entries.{path_of, next_of, is_item}
 use Rattle.term_unfold.specs.Inner.Children.{children_of, members_in, found_elements, flat_children}
-use Rattle.term_unfold.specs.Inner.Openings.{element_of, is_item_child, immediate_of, is_nil_term, is_list, IsOpened}
+use Rattle.term_unfold.specs.Inner.Openings.{element_of, is_item_child, immediate_of, is_immediate, is_nil_term, is_list, IsOpened}
 use Rattle.term_unfold.specs.Inner.Rest.{closing, list_rest, is_value, flat_rest, term_rest, pair_rest, item_rest, run, resume, rest, to_show, to_list, bracket, cell_text, child_text, front_of, is_next_value, HasItems, HasTerms}
 use Rattle.term_unfold.specs.Places.{is_nil}
 use Rattle.term_unfold.specs.Rules.{Child, Term, Item, leaf as opens_leaf, opening, terms, items, pairs}
@@ -53,10 +53,10 @@ cell_text-is leaf heap n form is = sym (ap (cell_text leaf (address_of heap n)) 
 pub show-opened : (leaf : Value → List ℕ) (heap : List Cell) (before : List Entry) (child : Child) (o : Opened) (m : ℕ) → length before ≤ length heap → is_item_child child ≡ false → IsOpened heap (path_of heap before) child o
     → to_show leaf heap before child m ≡ child_text leaf heap child o ++ rest leaf heap (entered_by o false before) m
 show-opened leaf heap before child opened.Immediate m few term is =
-    show-as leaf heap before child (Leaf (Immediate (element_of child))) m (unfolded-as heap before child _ few is)
+    show-as leaf heap before child (Leaf (Immediate (element_of child))) m (unfolded-as heap before child _ few is.0)
 show-opened leaf heap before child (opened.Leaf ix) m few term is =
-    show-as leaf heap before child (Leaf (OfCell (address_of heap (number ix)) is.form)) m (unfolded-as heap before child _ few is.opens)
-    ∙ ap (λ l. l ++ rest leaf heap before m) (cell_text-is leaf heap (number ix) is.form is.form_is)
+    show-as leaf heap before child (Leaf (OfCell (address_of heap (number ix)) is.at.form)) m (unfolded-as heap before child _ few is.opens)
+    ∙ ap (λ l. l ++ rest leaf heap before m) (cell_text-is leaf heap (number ix) is.at.form is.at.form_is)
 show-opened leaf heap before child (opened.Bad address why) m few term is =
     show-as leaf heap before child (Bad address why) m (unfolded-as heap before child _ few is)
 show-opened leaf heap before child (opened.Node ix kind) m few term is =
@@ -191,6 +191,11 @@ leaf-immediate heap path child (opened.Leaf ix) h is = let other = sym h ∙ is.
 leaf-immediate heap path child (opened.Bad address why) h is = cc
 leaf-immediate heap path child (opened.Node ix kind) h is = let other = sym h ∙ is.opens in cc
 
+pub immediate-is : (child : Child) (e : Element) → immediate_of child ≡ Some e → is_immediate e ≡ true
+immediate-is (Term (Ref a)) e h = cc
+immediate-is (Term x) e h = cc
+immediate-is (Item parent x) e h = cc
+
 -- what it is, is its own text
 pub immediate-text : (leaf : Value → List ℕ) (heap : List Cell) (path : List ℕ) (child : Child) (o : Opened) (e : Element) → immediate_of child ≡ Some e → IsOpened heap path child o
     → child_text leaf heap child o ≡ leaf (Immediate e)
@@ -232,7 +237,7 @@ tail-other : (leaf : Value → List ℕ) (heap : List Cell) (entries : List Entr
     → IsOpened heap (path_of heap entries) child o → is_nil_term child ≡ false → is_list o ≡ false
     → tail_text leaf (more (unfolded heap (path_of heap entries) child) ts) (suc m) ≡ barred (node_text leaf (unfolded heap (path_of heap entries) child) m)
 tail-other leaf heap entries child opened.Immediate ts m few term opens nil list =
-    tail-as leaf _ _ ts m (unfolded-as heap entries child _ few opens) (tail-leaf leaf (Immediate (element_of child)) ts m (not-nil child term nil))
+    tail-as leaf _ _ ts m (unfolded-as heap entries child _ few opens.0) (tail-leaf leaf (Immediate (element_of child)) ts m (not-nil child term nil))
 tail-other leaf heap entries child (opened.Bad address why) ts m few term opens nil list =
     tail-as leaf _ _ ts m (unfolded-as heap entries child _ few opens) refl
 tail-other leaf heap entries child (opened.Node ix kinds.Cons) ts m few term opens nil list = cc
@@ -380,9 +385,9 @@ pub list-opened : (leaf : Value → List ℕ) (heap : List Cell) (c : Bool) (e :
     → IsOpened heap (path_of heap (e ∷ es)) child o → ((address : ℕ) (why : Why) → o ≡ opened.Bad address why → ⊥)
     → to_list leaf heap (next_of c e ∷ es) c child m ≡ rest leaf heap (entered_by o c (next_of c e ∷ es)) m
 list-opened leaf heap c e es child opened.Immediate m few item is good =
-    list-as leaf heap (next_of c e ∷ es) c child (Leaf (Immediate (element_of child))) m (unfolded-as heap (next_of c e ∷ es) child _ few is)
+    list-as leaf heap (next_of c e ∷ es) c child (Leaf (Immediate (element_of child))) m (unfolded-as heap (next_of c e ∷ es) child _ few is.0)
 list-opened leaf heap c e es child (opened.Leaf ix) m few item is good =
-    list-as leaf heap (next_of c e ∷ es) c child (Leaf (OfCell (address_of heap (number ix)) is.form)) m (unfolded-as heap (next_of c e ∷ es) child _ few is.opens)
+    list-as leaf heap (next_of c e ∷ es) c child (Leaf (OfCell (address_of heap (number ix)) is.at.form)) m (unfolded-as heap (next_of c e ∷ es) child _ few is.opens)
 list-opened leaf heap c e es child (opened.Bad address why) m few item is good = absurd (good address why refl)
 list-opened leaf heap c e es child (opened.Node ix kind) m few item is good =
     let ts = trees (unfolded heap (address_of heap (number ix) ∷ path_of heap (e ∷ es))) (children_of heap kind (number ix)) in

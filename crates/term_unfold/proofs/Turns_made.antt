@@ -17,16 +17,17 @@ use Rattle.term_unfold.specs.Inner.Coming.{entered_by}
 use Rattle.term_unfold.specs.Inner.Entries.{Entered, path_of, next_of, stepped, outside, is_item}
 use Rattle.term_unfold.specs.Inner.Children.{child_shown}
 use Rattle.term_unfold.specs.Inner.Openings.{immediate_of, is_item_child, IsOpened}
-use Rattle.term_unfold.specs.Inner.Rest.{rest, to_show, child_text, LeafWithin, IsTurn, HasItems, AtChild}
+use Rattle.term_unfold.specs.Inner.Rest.{rest, to_show, child_text, HasText, IsTurn, HasItems, AtChild}
 use Rattle.term_unfold.specs.Rules.{Child}
 use Rattle.term_unfold.specs.Text.{comma_text}
 use Rattle.term_unfold.specs.Places.{is_nil}
 use Rattle.term_unfold.specs.Trees.{Value, Immediate}
-use Rattle.term_unfold.proofs.Stepping.{show-opened, immediate-text, step-items, list-bad, list-opened, items-child}
+use Rattle.term_unfold.proofs.Stepping.{show-opened, immediate-is, immediate-text, step-items, list-bad, list-opened, items-child}
 
-leaf-within : (heap : List Cell) (path : List ℕ) (child : Child) (o : Opened) → IsOpened heap path child o → LeafWithin heap o
-leaf-within heap path child (opened.Leaf ix) is = is.cell
-leaf-within heap path child o is = tt
+pub opened-text : (heap : List Cell) (path : List ℕ) (child : Child) (o : Opened) → IsOpened heap path child o → HasText heap child o
+opened-text heap path child opened.Immediate is = is.1
+opened-text heap path child (opened.Leaf ix) is = is.at
+opened-text heap path child o is = tt
 
 entered-more : (o : Opened) (b : Bool) (entries : List Entry) → length (entered_by o b entries) ≤ length entries + 1
 entered-more opened.Immediate b entries = omega arith
@@ -69,7 +70,7 @@ module _ (heap : HeapMap) (path : Entered) (e : Entry) (placed : PlacedChild) (o
             ∙ sym (append_assoc words own last) ∙ ap (λ l. (l ++ own) ++ last) (sym front_is)
             ∙ ap (λ es. (front.now ++ own) ++ rest leaf heap.cells es m) (sym (advanced-top after false came now));
         more = advanced-more o false came path.entries after now;
-        cell = leaf-within heap.cells (path_of heap.cells path.entries) child o at.opens.found_is;
+        own = opened-text heap.cells (path_of heap.cells path.entries) child o at.opens.found_is;
       }
 
   -- the same for an immediate that is in hand
@@ -81,7 +82,7 @@ module _ (heap : HeapMap) (path : Entered) (e : Entry) (placed : PlacedChild) (o
         text = λ leaf m.
             turn.text leaf m ∙ ap (λ l. (front.now ++ l) ++ rest leaf heap.cells after m) (immediate-text leaf heap.cells (path_of heap.cells path.entries) (child_shown heap.cells placed) o (element e) is at.opens.found_is);
         more = turn.more;
-        cell = tt;
+        own = immediate-is (child_shown heap.cells placed) (element e) is;
       }
 
   -- a text in front alone
@@ -93,7 +94,7 @@ module _ (heap : HeapMap) (path : Entered) (e : Entry) (placed : PlacedChild) (o
         text = λ leaf m.
             ap (λ es. rest leaf heap.cells es (suc m)) at.top ∙ leads leaf m ∙ ap (λ l. l ++ rest leaf heap.cells after m) (sym front_is ∙ sym (append-nil front.now));
         more = more;
-        cell = tt;
+        own = tt;
       }
 
   -- a bad item
@@ -112,7 +113,7 @@ module _ (heap : HeapMap) (path : Entered) (e : Entry) (placed : PlacedChild) (o
             ∙ ap (λ es. (front.now ++ child_text leaf heap.cells child o) ++ rest leaf heap.cells es m)
             (sym (advanced-top after false true now ∙ ap (λ o. entered_by o false (next_of true e ∷ es)) is));
         more = advanced-more o false true path.entries after now;
-        cell = leaf-within heap.cells (path_of heap.cells path.entries) child o at.opens.found_is;
+        own = opened-text heap.cells (path_of heap.cells path.entries) child o at.opens.found_is;
       }
 
   -- another item

@@ -43,9 +43,9 @@ pub visits-opened : (heap : List Cell) (before after : List Entry) (child : Chil
     → after ≡ entered_by o came before → Visits heap before after child (verdict_on o)
 visits-opened heap before after child opened.Immediate came few is now =
     let tree : Tree = Leaf (Immediate (element_of child)) in
-    visits-as heap before after child _ verdicts.Clean tree few is (ap (λ es. tree ∷ to_come heap es) (sym now)) refl
+    visits-as heap before after child _ verdicts.Clean tree few is.0 (ap (λ es. tree ∷ to_come heap es) (sym now)) refl
 visits-opened heap before after child (opened.Leaf ix) came few is now =
-    let tree : Tree = Leaf (OfCell (address_of heap (number ix)) is.form) in
+    let tree : Tree = Leaf (OfCell (address_of heap (number ix)) is.at.form) in
     visits-as heap before after child _ verdicts.Clean tree few is.opens (ap (λ es. tree ∷ to_come heap es) (sym now)) refl
 visits-opened heap before after child (opened.Bad address why) came few is now =
     visits-as heap before after child _ (verdicts.Bad address why) (Bad address why) few is (ap (λ es. Bad address why ∷ to_come heap es) (sym now)) refl

@@ -1,13 +1,17 @@
 // The children of an open cell, one by one.
-ghost use Rattle.std.specs.Prelude.{◌<◌, length, take, drop};
+ghost use Rattle.std.specs.Prelude.{◌≡◌, ◌<◌, length, take, drop};
+ghost use Rattle.std.specs.Option.{option_map};
+ghost use Rattle.term_forms.specs.Seen.{element};
 ghost use Rattle.heap_cells.specs.HeapMap.{IsBounded, elements_at, form_at};
 ghost use Rattle.heap_cells.specs.Targets.{number};
 ghost use Rattle.map_nodes.specs.Rules.{address_of};
-ghost use Rattle.term_unfold.specs.Inner.Children.{children_of, flat_children, members_in, HasMembers, IsChildAt};
+ghost use Rattle.term_unfold.specs.Inner.Children.{child_shown, children_of, flat_children, members_in, HasMembers, IsChild, IsChildAt};
+ghost use Rattle.term_unfold.specs.Inner.Openings.{immediate_of};
 ghost use Rattle.term_unfold.specs.Rules.{terms, items, pairs};
 
 use crate::node::NodeKind;
-use heap_cells::{CellIx, Heap, Kind, Slot};
+use heap_cells::{CellIx, Heap, Kid, Kind, Slot};
+use term_forms::shapes::Elem;
 
 /// A child of an open cell, given by the place, from 0, at which its element stands in a cell.
 #[derive(Clone, Copy)]
@@ -119,5 +123,19 @@ pub(crate) fn child_at(heap: &Heap, ix: CellIx, kind: NodeKind, place: u32) -> O
         NodeKind::Hash => member_at(heap, ix, place),
         NodeKind::Inner => member_at(heap, ix, place),
         NodeKind::Pair => head_or_tail(heap, ix, place),
+    }
+}
+
+/// The immediate that a child is, if it is one.
+pub(crate) fn immediate<'h>(heap: &'h Heap, child: Child<'_>) -> Option<Elem<'h>>
+    requires { IsChild heap.now.cells child }
+    ensures { option_map element result ≡ immediate_of (child_shown heap.now.cells child.entry) }
+{
+    match child {
+        Child::Term(Slot::Imm(_), cell, place) => match heap.kid(cell, place) {
+            Kid::Imm(e) => Some(e),
+            _ => None,
+        },
+        _ => None,
     }
 }

@@ -1,5 +1,5 @@
 // The texts of leaves and of bad addresses.
-ghost use Rattle.std.specs.Prelude.{◌≡◌, ◌<◌, ◌≤◌, ◌*◌, ◌++◌, length, codes, is_some, IsSome, IfSome};
+ghost use Rattle.std.specs.Prelude.{◌≡◌, ◌≤◌, ◌*◌, ◌++◌, length, codes, true, is_some, IsSome, IfSome};
 ghost use Rattle.std.specs.List.{flat_map};
 ghost use Rattle.std.specs.Option.{option_map};
 ghost use Rattle.dump_io.specs.Sinks.{Puts};
@@ -11,6 +11,7 @@ ghost use Rattle.binary_payloads.specs.Payload.{IsPayloadOf};
 ghost use Rattle.term_forms.specs.Seen.{element};
 ghost use Rattle.term_forms.specs.SeenForms.{heap_form};
 ghost use Rattle.binary_refs.specs.Previews.{entry_at, stated, AreFor};
+ghost use Rattle.term_unfold.specs.Inner.Openings.{is_immediate, is_leaf_form, IsLeafCell};
 ghost use Rattle.term_unfold.specs.Inner.Rest.{cell_text};
 ghost use Rattle.term_unfold.specs.Leaves.{element_text, port_text, dots, preview_text, preview_of, sized_text, own_preview, form_text, leaf_text};
 ghost use Rattle.term_unfold.specs.Text.{reason, bad_text};
@@ -54,8 +55,9 @@ fn put_port<K: Sink>(sink: &mut K, port: &[u8]) -> Result<(), Failed>
     put_pieces(sink, &[Piece::Bytes(b"#Port"), Piece::Bytes(port)])
 }
 
-/// Writes an immediate: an element that is no reference.
+/// Writes an immediate.
 pub(crate) fn put_element<K: Sink>(sink: &mut K, e: &Elem<'_>) -> Result<(), Failed>
+    requires { is_immediate (element e.now) ≡ true }
     ensures { Puts (K.state sink.old) (K.state sink.new) (element_text (element e.now)) result }
 {
     match e {
@@ -64,7 +66,7 @@ pub(crate) fn put_element<K: Sink>(sink: &mut K, e: &Elem<'_>) -> Result<(), Fai
         Elem::Atom(name) => put_atom(sink, name),
         Elem::Pid(pid) => write_all(sink, pid),
         Elem::Port(port) => put_port(sink, port),
-        Elem::Ref(_) => write_all(sink, b""),
+        Elem::Ref(_) => unreachable!(),
     }
 }
 
@@ -172,7 +174,7 @@ fn put_reference<K: Sink>(
     put_sized(sink, b"#Bin<", size, preview_of(previews, ix))
 }
 
-// Writes a cell that has no children. If it refers to a binary, it has a preview.
+// Writes a leaf's form. If it refers to a binary, it has a preview.
 fn put_form<K: Sink>(
     sink: &mut K,
     enc: Enc,
@@ -180,6 +182,7 @@ fn put_form<K: Sink>(
     previews: &Previews,
     ix: CellIx,
 ) -> Result<(), Failed>
+    requires leaf { is_leaf_form (heap_form form.now) ≡ true }
     requires spelled { IsSpelled enc (heap_form form.now) }
     requires entry { is_some (entry_at previews.now (number ix)) ≡ is_some (stated (number ix) (heap_form form.now)) }
     ensures { Puts (K.state sink.old) (K.state sink.new) (form_text enc (preview_of previews.now (number ix)) (heap_form form.now)) result }
@@ -193,22 +196,18 @@ fn put_form<K: Sink>(
         Form::HeapBin(size, chars) => put_payload(sink, b"#Bin<", enc, *size, chars),
         Form::RefBin(_, _, size) => put_reference(sink, previews, ix, *size),
         Form::SubBin(_, _, size) => put_reference(sink, previews, ix, *size),
-        Form::List(_, _) => write_all(sink, b""),
-        Form::Tuple(_) => write_all(sink, b""),
-        Form::Flat(_, _) => write_all(sink, b""),
-        Form::Hash(_, _) => write_all(sink, b""),
-        Form::Node(_) => write_all(sink, b""),
+        _ => unreachable!(),
     }
 }
 
-/// Writes a cell that has no children.
+/// Writes a cell that is a leaf.
 pub(crate) fn put_cell<K: Sink>(
     sink: &mut K,
     heap: &Heap,
     previews: &Previews,
     ix: CellIx,
 ) -> Result<(), Failed>
-    requires cell { number ix < length heap.now.cells }
+    requires leaf { IsLeafCell heap.now.cells (number ix) }
     requires bounded { IsBounded heap.now }
     requires previews { AreFor heap.now.cells previews.now }
     ensures { Puts (K.state sink.old) (K.state sink.new)
@@ -216,6 +215,6 @@ pub(crate) fn put_cell<K: Sink>(
 {
     match heap.form(ix) {
         Some(form) => put_form(sink, heap.enc(), &form, previews, ix),
-        None => write_all(sink, b""),
+        None => unreachable!(),
     }
 }

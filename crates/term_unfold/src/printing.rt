@@ -9,14 +9,14 @@ ghost use Rattle.heap_cells.specs.Targets.{number};
 ghost use Rattle.map_nodes.specs.Rules.{element_at};
 ghost use Rattle.term_unfold.specs.Inner.Children.{child_shown, IsChild, IsPlace};
 ghost use Rattle.term_unfold.specs.Inner.Openings.{element_of};
-ghost use Rattle.term_unfold.specs.Inner.Rest.{bracket, child_text, own_text, turn_text, rest, LeafWithin, OwnWithin};
+ghost use Rattle.term_unfold.specs.Inner.Rest.{bracket, child_text, own_text, turn_text, rest, HasOwn, HasText};
 ghost use Rattle.term_unfold.specs.Inner.Steps.{Steps, Falls, counted_of};
 ghost use Rattle.term_unfold.specs.Leaves.{element_text, leaf_text};
 ghost use Rattle.term_unfold.specs.Rules.{Term};
 ghost use Rattle.term_unfold.specs.Text.{show};
 ghost use Rattle.term_unfold.specs.Unfolding.{unfolding_of};
 
-use crate::children::{Child, child_at};
+use crate::children::{Child, child_at, immediate};
 use crate::judging::enter;
 use crate::leaves::{put_bad, put_cell, put_element};
 use crate::node::NodeKind;
@@ -25,7 +25,7 @@ use crate::path::{Entry, Path};
 use crate::turns::{Own, Turn, close, cut, visit_next};
 use binary_refs::Previews;
 use dump_io::{Failed, Sink, write_all};
-use heap_cells::{CellIx, Heap, Kid};
+use heap_cells::Heap;
 use term_forms::shapes::Elem;
 
 fn bracket_text(kind: NodeKind) -> &'static [u8]
@@ -41,26 +41,15 @@ fn bracket_text(kind: NodeKind) -> &'static [u8]
     }
 }
 
-// Writes the element at a place of a cell; for a reference, nothing.
-fn put_place<K: Sink>(sink: &mut K, heap: &Heap, ix: CellIx, place: u32) -> Result<(), Failed>
-    requires { IsPlace heap.now.cells (number ix) place }
-    ensures { Puts (K.state sink.old) (K.state sink.new) (element_text (element_at heap.now.cells (number ix) place)) result }
-{
-    match heap.kid(ix, place) {
-        Kid::Imm(e) => put_element(sink, &e),
-        Kid::Cell(_) => write_all(sink, b""),
-        Kid::Gone(_) => write_all(sink, b""),
-    }
-}
-
 // Writes a child that is an immediate.
 fn put_immediate<K: Sink>(sink: &mut K, heap: &Heap, child: Child<'_>) -> Result<(), Failed>
-    requires { IsChild heap.now.cells child }
+    requires placed { IsChild heap.now.cells child }
+    requires immediate { HasText heap.now.cells (child_shown heap.now.cells child) Opened.Immediate }
     ensures { Puts (K.state sink.old) (K.state sink.new) (element_text (element_of (child_shown heap.now.cells child.entry))) result }
 {
-    match child {
-        Child::Term(_, ix, place) => put_place(sink, heap, ix, place),
-        Child::Item(ix, place) => put_place(sink, heap, ix, place),
+    match immediate(heap, child) {
+        Some(e) => put_element(sink, &e),
+        None => unreachable!(),
     }
 }
 
@@ -75,7 +64,7 @@ fn put_child<K: Sink>(
     requires bounded { IsBounded heap.now }
     requires previews { AreFor heap.now.cells previews.now }
     requires placed { IsChild heap.now.cells child }
-    requires cell { LeafWithin heap.now.cells opened }
+    requires text { HasText heap.now.cells (child_shown heap.now.cells child) opened }
     ensures { Puts (K.state sink.old) (K.state sink.new)
         (child_text (leaf_text heap.now.enc heap.now.cells previews.now) heap.now.cells (child_shown heap.now.cells child.entry) opened) result }
 {
@@ -98,7 +87,7 @@ fn put_own<K: Sink>(
     requires bounded { IsBounded heap.now }
     requires previews { AreFor heap.now.cells previews.now }
     requires placed { IsChild heap.now.cells child }
-    requires cell { OwnWithin heap.now.cells own.now }
+    requires own { HasOwn heap.now.cells (child_shown heap.now.cells child) own.now }
     ensures { Puts (K.state sink.old) (K.state sink.new)
         (own_text (leaf_text heap.now.enc heap.now.cells previews.now) heap.now.cells (child_shown heap.now.cells child.entry) own.now) result }
 {
@@ -120,7 +109,7 @@ fn put_turn<K: Sink>(
     requires bounded { IsBounded heap.now }
     requires previews { AreFor heap.now.cells previews.now }
     requires placed { IsChild heap.now.cells child }
-    requires cell { OwnWithin heap.now.cells turn.now.own }
+    requires own { HasOwn heap.now.cells (child_shown heap.now.cells child) turn.now.own }
     ensures { Puts (K.state sink.old) (K.state sink.new)
         (turn_text (leaf_text heap.now.enc heap.now.cells previews.now) heap.now.cells (child_shown heap.now.cells child.entry) turn.now) result }
 {
@@ -180,7 +169,7 @@ fn put_root<K: Sink>(
 ) -> Result<(), Failed>
     requires bounded { IsBounded heap.now }
     requires previews { AreFor heap.now.cells previews.now }
-    requires cell { LeafWithin heap.now.cells opened }
+    requires text { HasText heap.now.cells (Term (element root.now)) opened }
     ensures { Puts (K.state sink.old) (K.state sink.new)
         (child_text (leaf_text heap.now.enc heap.now.cells previews.now) heap.now.cells (Term (element root.now)) opened) result }
 {

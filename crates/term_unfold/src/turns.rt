@@ -13,7 +13,7 @@ ghost use Rattle.term_unfold.specs.Rules.{Child as Below};
 ghost use Rattle.term_unfold.specs.Text.{comma_text};
 ghost use Rattle.term_unfold.specs.Trees.{Value, none};
 
-use crate::children::Child;
+use crate::children::{Child, immediate};
 use crate::judging::enter;
 use crate::node::NodeKind;
 use crate::openings::{Opened, open_child};
@@ -160,20 +160,6 @@ fn advance(path: &mut Path, opened: Opened, came: bool, inside: bool)
 {
     path.step(came);
     enter(path, opened, inside);
-}
-
-// The immediate that a child is, if it is one.
-fn immediate<'h>(heap: &'h Heap, child: Child<'_>) -> Option<Elem<'h>>
-    requires { IsChild heap.now.cells child }
-    ensures { option_map element result ≡ immediate_of (child_shown heap.now.cells child.entry) }
-{
-    match child {
-        Child::Term(Slot::Imm(_), cell, place) => match heap.kid(cell, place) {
-            Kid::Imm(e) => Some(e),
-            _ => None,
-        },
-        _ => None,
-    }
 }
 
 fn is_list_kind(kind: NodeKind) -> bool

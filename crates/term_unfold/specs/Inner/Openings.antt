@@ -1,7 +1,7 @@
 -- What the walk finds when it comes to a child.
 use Rattle.std.specs.Prelude.{◌≡◌, ℕ, ◌<◌, Bool, true, false, List, ◌∷◌, length, Option, None, Some}
 use Rattle.term_forms.specs.Elements.{Element, Ref}
-use Rattle.term_forms.specs.Forms.{HeapForm}
+use Rattle.term_forms.specs.Forms.{HeapForm, Cons, Tuple, Flat, Hash, Node}
 use Rattle.heap_cells.specs.Cells.{Cell}
 use Rattle.heap_cells.specs.HeapMap.{HeapMap, form_at}
 use Rattle.heap_cells.specs.Targets.{number, target, Target}
@@ -24,6 +24,20 @@ abbrev pub is_item_child : Child → Bool
 is_item_child (Term element) = false
 is_item_child (Item parent element) = true
 
+-- an element that is no reference
+abbrev pub is_immediate : Element → Bool
+is_immediate (Ref address) = false
+is_immediate element = true
+
+-- a form without children, whose cell is a leaf
+abbrev pub is_leaf_form : HeapForm → Bool
+is_leaf_form (Cons head tail) = false
+is_leaf_form (Tuple elements) = false
+is_leaf_form (Flat keys values) = false
+is_leaf_form (Hash size children) = false
+is_leaf_form (Node children) = false
+is_leaf_form form = true
+
 -- the immediate that a child is, if it is one
 abbrev pub immediate_of : Child → Option Element
 immediate_of (Term (Ref address)) = None
@@ -44,12 +58,17 @@ abbrev pub is_list : Opened → Bool
 is_list (opened.Node ix kind) = is_list_kind kind
 is_list found = false
 
--- a cell that is a leaf
-pub record IsLeafAt (heap : List Cell) (path : List ℕ) (child : Child) (n : ℕ) : Type 0 where
+-- the cell with a number is a leaf
+pub record IsLeafCell (heap : List Cell) (n : ℕ) : Type 0 where
   pub cell : n < length heap
   pub form : HeapForm
   pub form_is : form_at heap n ≡ Some form
-  pub opens : opening heap path child ≡ leaf (OfCell (address_of heap n) form)
+  pub is_leaf : is_leaf_form form ≡ true
+
+-- a child that opens such a cell
+pub record IsLeafAt (heap : List Cell) (path : List ℕ) (child : Child) (n : ℕ) : Type 0 where
+  pub at : IsLeafCell heap n
+  pub opens : opening heap path child ≡ leaf (OfCell (address_of heap n) at.form)
 
 -- a cell that is a node
 pub record IsNodeAt (heap : List Cell) (path : List ℕ) (child : Child) (n : ℕ) (kind : NodeKind) : Type 0 where
@@ -58,7 +77,8 @@ pub record IsNodeAt (heap : List Cell) (path : List ℕ) (child : Child) (n : �
   pub opens : opening heap path child ≡ node (address_of heap n) kind (children_of heap kind n)
 
 abbrev pub IsOpened : List Cell → List ℕ → Child → Opened → Type 0
-IsOpened heap path child opened.Immediate = opening heap path child ≡ leaf (Immediate (element_of child))
+IsOpened heap path child opened.Immediate =
+    (opening heap path child ≡ leaf (Immediate (element_of child))) × (immediate_of child ≡ Some (element_of child))
 IsOpened heap path child (opened.Leaf ix) = IsLeafAt heap path child (number ix)
 IsOpened heap path child (opened.Bad address why) = opening heap path child ≡ bad address why
 IsOpened heap path child (opened.Node ix kind) = IsNodeAt heap path child (number ix) kind

@@ -17,7 +17,7 @@ use Rattle.term_unfold.specs.declared.turns.Own.TheVariants as own
 use Rattle.term_unfold.specs.declared.turns.Turn.{Turn}
 use Rattle.term_unfold.specs.Inner.Coming.{left_of}
 use Rattle.term_unfold.specs.Inner.Entries.{Entered, came_of, is_item, path_of}
-use Rattle.term_unfold.specs.Inner.Openings.{element_of, Opens}
+use Rattle.term_unfold.specs.Inner.Openings.{element_of, immediate_of, is_immediate, IsLeafCell, Opens}
 use Rattle.term_unfold.specs.Inner.Children.{children_of, child_shown, IsChild}
 use Rattle.term_unfold.specs.Rules.{Child}
 use Rattle.term_unfold.specs.Text.{Shown, shown, Stand, Cut, At, closed, comma_text, bad_text, node_text, head_text, tail_text, elements_text, keys_text, values_text, items_text, item_text, pair_text, value_text}
@@ -116,15 +116,17 @@ own_text leaf heap child (own.Immediate e) = leaf (Immediate (element e))
 abbrev pub turn_text : (Value → List ℕ) → List Cell → Child → Turn → List ℕ
 turn_text leaf heap child turn = turn.front.now ++ own_text leaf heap child turn.own
 
--- a leaf's cell is one of the heap
-abbrev pub LeafWithin : List Cell → Opened → Type 0
-LeafWithin heap (opened.Leaf ix) = number ix < length heap
-LeafWithin heap found = Unit {0}
+-- what a child was opened as can be written
+abbrev pub HasText : List Cell → Child → Opened → Type 0
+HasText heap child opened.Immediate = immediate_of child ≡ Some (element_of child)
+HasText heap child (opened.Leaf ix) = IsLeafCell heap (number ix)
+HasText heap child found = Unit {0}
 
 -- the same for what is written of a child
-abbrev pub OwnWithin : List Cell → Own → Type 0
-OwnWithin heap (own.Child found) = LeafWithin heap found
-OwnWithin heap own = Unit {0}
+abbrev pub HasOwn : List Cell → Child → Own → Type 0
+HasOwn heap child (own.Child found) = HasText heap child found
+HasOwn heap child (own.Immediate e) = is_immediate (element e) ≡ true
+HasOwn heap child own.Nothing = Unit {0}
 
 -- whether the next child of a node is a value of a map
 abbrev pub is_next_value : NodeKind → ℕ → Bool
@@ -161,4 +163,4 @@ pub record AtChild (heap : HeapMap) (path : Entered) (entry : Entry) (child : Pl
 pub record IsTurn (heap : List Cell) (before after : List Entry) (child : Child) (turn : Turn) : Type 0 where
   pub text : (leaf : Value → List ℕ) (m : ℕ) → rest leaf heap before (suc m) ≡ turn_text leaf heap child turn ++ rest leaf heap after m
   pub more : length after ≤ length before + 1
-  pub cell : OwnWithin heap turn.own
+  pub own : HasOwn heap child turn.own

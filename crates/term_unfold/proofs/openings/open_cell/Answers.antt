@@ -56,6 +56,6 @@ returns-in_default-kind c =
     let none = c.in_default-kind in
     let leaf = form-leaf _ _ _ c.in-Some.kind _ (sym c.kind.ensures ∙ c.in-Some.is) none.not-List none.not-Tuple none.not-Flat none.not-Hash none.not-Node in
     record {
-      found_is = record { cell = c.requires.cell; form = leaf.leaf_form; form_is = leaf.form_is; opens = off ∙ leaf.opens };
+      found_is = record { at = record { cell = c.requires.cell; form = leaf.leaf_form; form_is = leaf.form_is; is_leaf = leaf.is_leaf }; opens = off ∙ leaf.opens };
       enters = tt;
     }

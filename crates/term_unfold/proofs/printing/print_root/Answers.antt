@@ -10,8 +10,14 @@ use Rattle.term_unfold.specs.Rules.{Term}
 use Rattle.term_unfold.specs.Text.{show}
 use Rattle.term_unfold.specs.Unfolding.{unfolding_of}
 use Rattle.term_unfold.proofs.Stepping.{show-opened}
+use Rattle.term_unfold.proofs.Turns_made.{opened-text}
 use Rattle.term_unfold.proofs.Written.{Steps-text}
 use Rattle.term_unfold.proofs.printing.print_root.Goals as goal
+
+pub put_root-requires-clause-text : goal.put_root-requires-clause-text
+put_root-requires-clause-text g c =
+    let heap = c.args.heap.now.cells in
+    opened-text heap (path_of heap c.args.path.now.entries) (Term (element c.args.root.now)) c.open_root-opened.result c.open_root-opened.ensures.found_is
 
 pub returns-clause-step : goal.returns-clause-step
 returns-clause-step g c =
