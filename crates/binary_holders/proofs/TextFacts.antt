@@ -5,8 +5,7 @@ use Rattle.std.specs.Option.{option_and_then}
 use Rattle.dump_io.specs.Numbers.{hex_number}
 use Rattle.binary_payloads.specs.declared.enc.Enc.{Enc}
 use Rattle.term_forms.specs.Forms.{RefBin}
-use Rattle.term_forms.specs.ReadingForms.{form_of}
-use Rattle.term_forms.specs.Inner.FormParts.{binary_of, range_of}
+use Rattle.term_forms.specs.ReadingForms.{binary_of, form_of, range_of}
 use Rattle.term_forms.specs.Words.{led_of}
 use Rattle.binary_holders.specs.HeapReferences.{referred}
 use Rattle.binary_holders.specs.Inner.Lines.{text_reference}

@@ -13,8 +13,7 @@ use Rattle.base64.proofs.EngineFacts.{decode_of-encode_of}
 use Rattle.binary_payloads.specs.declared.enc.Enc.{Enc}
 use Rattle.binary_payloads.specs.declared.enc.Enc.TheVariants.{Hex, Base64}
 use Rattle.binary_payloads.specs.Payload.{IsPayload, base64_of, encoding, in_one_case}
-use Rattle.binary_payloads.specs.ReadingPayloads.{payload_bytes}
-use Rattle.binary_payloads.specs.Inner.Decoding.{base64_decoded, decoded, writes}
+use Rattle.binary_payloads.specs.ReadingPayloads.{payload_bytes, base64_decoded, decoded, writes}
 use Rattle.binary_payloads.proofs.Encodings.{length-payload}
 use Rattle.binary_payloads.proofs.HexDigits.{decode-upper}
 

@@ -1,4 +1,3 @@
 pub mod Cover
-pub mod Inner
 pub mod Payload
 pub mod ReadingPayloads

@@ -1,5 +1,6 @@
 -- Payloads: the characters that write the bytes of a binary.
-use Rattle.std.specs.Prelude.{◌≡◌, ℕ, ◌+◌, ◌*◌, ◌/◌, ◌==◌, ◌||◌, Bool, List, length, nat_lt}
+use Rattle.std.specs.Prelude.{◌≡◌, ℕ, ◌+◌, ◌*◌, ◌/◌, ◌||◌, Bool, List, length, codes, nat_eq, nat_lt}
+use Rattle.std.specs.List.{list_any}
 use Rattle.std.specs.Char.{digit_value, is_ascii_alphanumeric}
 use Rattle.std.specs.Str.{str_to_ascii_uppercase}
 use Rattle.hex.specs.Hex.{encode_upper}
@@ -41,7 +42,7 @@ group_of Base64 = 3
 -- whether the character may write a part of a byte: a hex digit of either case; in base64 a letter, a digit, `+` or `/`
 abbrev pub is_digit_of : Enc → ℕ → Bool
 is_digit_of Hex c = nat_lt (digit_value c) 16
-is_digit_of Base64 c = is_ascii_alphanumeric c || c == 43 || c == 47
+is_digit_of Base64 c = is_ascii_alphanumeric c || list_any (nat_eq c) (codes "+/")
 
 -- how many characters write this many bytes: in base64 four for each group of three, and for a part of one
 abbrev pub chars_of : Enc → ℕ → ℕ

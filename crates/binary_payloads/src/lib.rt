@@ -20,5 +20,6 @@ mod payloads;
 pub use covering::{cover, cover_holds_range, payload_part};
 pub use enc::Enc;
 pub use payloads::{
-    encoding_in_pieces, is_digit, is_payload, payload, payload_bytes_are_read, payload_is_of_one,
+    are_digits, encoding_in_pieces, is_digit, is_payload, payload, payload_bytes_are_read,
+    payload_is_of_one,
 };

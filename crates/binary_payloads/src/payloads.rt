@@ -47,8 +47,9 @@ pub fn is_digit(c: u8, enc: Enc) -> bool
     }
 }
 
-// Whether each character is one. It looks at all of them, so that it looks at several at a time.
-fn are_digits(chars: &[u8], enc: Enc) -> bool
+/// Whether each of the characters is one, as [`is_digit`] tells. It looks
+/// at all of them, since a processor then looks at several at a time.
+pub fn are_digits(chars: &[u8], enc: Enc) -> bool
     ensures { result ≡ list_all (is_digit_of enc) chars.now }
 {
     let mut all = true;

@@ -5,5 +5,6 @@ pub mod Fill
 pub mod FirstLines
 pub mod Fronts
 pub mod Grown
+pub mod HexFronts
 pub mod Numerals
 pub mod Splits

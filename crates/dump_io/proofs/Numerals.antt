@@ -13,7 +13,7 @@ use Rattle.dump_io.specs.Numbers.{is_numeral, number_of}
 abbrev pub is_digit_of : ℕ → ℕ → Bool
 is_digit_of base c = ltb (digit_value c) base
 
-refuted : (b : Bool) (v : ℕ) → (b ≡ true → ⊥) → (if b then Some v else None) ≡ None
+pub refuted : (b : Bool) (v : ℕ) → (b ≡ true → ⊥) → (if b then Some v else None) ≡ None
 refuted true v h = absurd (h refl)
 refuted false v h = refl
 

@@ -1,11 +1,12 @@
 -- The parts of a text before and after its first colon.
-use Rattle.std.specs.Prelude.{◌≡◌, ℕ, ◌==◌, Bool, true, false, List, Option, None, Some}
+use Rattle.std.specs.Prelude.{◌≡◌, ℕ, ◌==◌, Bool, true, false, List, codes, Option, None, Some}
 use Rattle.std.specs.List.{list_any, before_first, after_first}
+use Rattle.dump_io.specs.Letters.{letter}
 use denote.Ref.{Bor}
 
 -- the byte `:`
 abbrev pub colon : ℕ
-colon = 58
+colon = letter (codes ":")
 
 -- whether a byte is a colon
 abbrev pub is_colon : ℕ → Bool

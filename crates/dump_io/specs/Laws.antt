@@ -1,6 +1,7 @@
 -- Laws of the definitions, each with its proof, for the proofs of callers.
 pub mod Colons
 pub mod Digits
+pub mod HexNumbers
 pub mod Lines
 pub mod Lists
 pub mod Puts

@@ -6,6 +6,7 @@ pub mod Dumps
 pub mod File
 pub mod HeldDump
 pub mod Laws
+pub mod Letters
 pub mod Limits
 pub mod Lines
 pub mod MemDumps

@@ -1,6 +1,7 @@
 -- The lines of a dump and its headers. Offsets are counted in bytes from 0.
-use Rattle.std.specs.Prelude.{◌≡◌, ◌≢◌, ℕ, ◌+◌, ◌-◌, ◌<◌, ◌==◌, Bool, List, [], ◌∷◌, length, take, map, filter, nat_eq, slice_index, All, if◌then◌else◌}
+use Rattle.std.specs.Prelude.{◌≡◌, ◌≢◌, ℕ, ◌+◌, ◌-◌, ◌<◌, ◌==◌, Bool, List, [], ◌∷◌, length, take, map, filter, nat_eq, slice_index, codes, All, if◌then◌else◌}
 use Rattle.std.specs.List.{concat, starts_with, ends_with}
+use Rattle.dump_io.specs.Letters.{letter}
 
 -- the byte LF; lines and headers are recognized by it, CR and `=`
 abbrev pub lf : ℕ
@@ -12,7 +13,7 @@ cr = 13
 
 -- the byte `=`
 abbrev pub equals_sign : ℕ
-equals_sign = 61
+equals_sign = letter (codes "=")
 
 -- LF stands only as the last byte of the line
 abbrev pub HasLfLast : List ℕ → Type 0

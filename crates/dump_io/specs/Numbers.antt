@@ -9,6 +9,10 @@ use Rattle.std.specs.Str.Parse.{digits_value}
 abbrev pub is_digits : List ℕ → Bool
 is_digits text = nat_lt 0 (length text) && list_all is_ascii_digit text
 
+-- whether a byte is a hex digit of either case
+abbrev pub is_hex_digit : ℕ → Bool
+is_hex_digit c = nat_lt (digit_value c) 16
+
 -- whether the text is 1 to `most` digits of the base and writes a number below 2^64
 abbrev pub is_numeral : ℕ → ℕ → List ℕ → Bool
 is_numeral base most text =

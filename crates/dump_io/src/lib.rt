@@ -46,7 +46,7 @@ pub use limits::Limits;
 pub use lines::{line_len, line_text, lines_are_one, text_before_lf};
 pub use mem_dumps::MemDumps;
 pub use mem_sink::MemSink;
-pub use numbers::{dec_u64, hex_u64, is_digits, put_dec};
+pub use numbers::{dec_u64, hex_front, hex_u64, is_digits, put_dec};
 pub use pieces::{Piece, put_pieces};
 pub use read::read_full;
 pub use sink::{Sink, write_all};

@@ -1,41 +1,22 @@
 // The numbers in a dump's text, and decimal numbers in a report.
-ghost use Rattle.std.specs.Prelude.{◌≡◌, ◌+◌, ◌*◌, ◌<◌, ◌≤◌, ◌^◌, decimal};
+ghost use Rattle.std.specs.Prelude.{◌≡◌, ◌+◌, ◌*◌, ◌<◌, ◌≤◌, ◌^◌, decimal, length, take, Some};
 ghost use Rattle.std.specs.Option.{SomeIff};
 ghost use Rattle.std.specs.Char.{digit_value, is_ascii_digit};
-ghost use Rattle.std.specs.List.{list_all};
-ghost use Rattle.dump_io.specs.Numbers.{is_digits, number_of, hex_number, dec_number};
+ghost use Rattle.std.specs.List.{list_all, prefix_len};
+ghost use Rattle.dump_io.specs.Numbers.{is_digits, is_hex_digit, hex_number, dec_number};
 ghost use Rattle.dump_io.specs.Sinks.{Puts};
 
 use crate::dumps::Failed;
 use crate::sink::{Sink, write_all};
 use itoa::Buffer;
 
-// The number with one more digit, if that is a digit of the base and the number is below 2^64.
-fn with_digit(number: u64, digit: u8, base: u32) -> Option<u64>
-    requires low { 2 ≤ base }
-    requires high { base ≤ 36 }
-    ensures { SomeIff result ((digit_value digit < base) × (number * base + digit_value digit < 2 ^ 64))
-        (number * base + digit_value digit) }
+// The number with one more decimal digit, if it is one and the number is below 2^64.
+fn with_digit(number: u64, digit: u8) -> Option<u64>
+    ensures { SomeIff result ((digit_value digit < 10) × (number * 10 + digit_value digit < 2 ^ 64))
+        (number * 10 + digit_value digit) }
 {
-    let value = char::from(digit).to_digit(base)?;
-    number
-        .checked_mul(u64::from(base))?
-        .checked_add(u64::from(value))
-}
-
-fn number(text: &[u8], base: u32, most: usize) -> Option<u64>
-    requires low { 2 ≤ base }
-    requires high { base ≤ 36 }
-    ensures { result ≡ number_of base most text.now }
-{
-    if text.is_empty() || text.len() > most {
-        return None;
-    }
-    let mut n = 0;
-    for digit in text {
-        n = with_digit(n, *digit, base)?;
-    }
-    Some(n)
+    let value = char::from(digit).to_digit(10)?;
+    number.checked_mul(10)?.checked_add(u64::from(value))
 }
 
 fn all_digits(text: &[u8]) -> bool
@@ -56,14 +37,63 @@ pub fn is_digits(text: &[u8]) -> bool
 pub fn dec_u64(text: &[u8]) -> Option<u64>
     ensures { result ≡ dec_number text.now }
 {
-    number(text, 10, 20)
+    if text.is_empty() || text.len() > 20 {
+        return None;
+    }
+    let mut number = 0;
+    for digit in text {
+        number = with_digit(number, *digit)?;
+    }
+    Some(number)
+}
+
+fn is_hex_digit(c: u8) -> bool
+    ensures { result ≡ is_hex_digit c }
+{
+    c.is_ascii_hexdigit()
+}
+
+// The value of a hex digit, without a branch, which a processor couldn't foresee.
+fn hex_value(digit: u8) -> u64
+    requires { digit_value digit < 16 }
+    ensures { result ≡ digit_value digit }
+{
+    u64::from(digit % 16 + digit / 64 * 9)
+}
+
+// As many bytes as a hex number may have.
+fn longest_front(text: &[u8]) -> &[u8]
+    ensures { result.now ≡ take 16 text.now }
+{
+    &text[..text.len().min(16)]
+}
+
+/// How many hex digits of either case begin the text, up to
+/// 16, and the number that they write, if there are any.
+pub fn hex_front(text: &[u8]) -> (usize, u64)
+    ensures count { result.0 ≡ prefix_len is_hex_digit (take 16 text.now) }
+    ensures within { result.0 ≤ length text.now }
+    ensures number { 0 < result.0 → hex_number (take result.0 text.now) ≡ Some result.1 }
+{
+    let front = longest_front(text);
+    let mut number = 0;
+    let mut count = 0;
+    while count < front.len() && is_hex_digit(front[count]) {
+        number = number * 16 + hex_value(front[count]);
+        count += 1;
+    }
+    (count, number)
 }
 
 /// The number that a text of 1 to 16 hex digits of either case writes. Leading zeros are accepted.
 pub fn hex_u64(text: &[u8]) -> Option<u64>
     ensures { result ≡ hex_number text.now }
 {
-    number(text, 16, 16)
+    let (count, number) = hex_front(text);
+    if count == 0 || count < text.len() {
+        return None;
+    }
+    Some(number)
 }
 
 /// Writes a number in decimal, without leading zeros. Returns `Failed`

@@ -15,8 +15,8 @@ use Rattle.dump_sections.specs.Versions.{first_in}
 use Rattle.binary_payloads.specs.declared.enc.Enc.{Enc}
 use Rattle.binary_payloads.specs.declared.enc.Enc.TheVariants.{Hex, Base64}
 use Rattle.term_forms.specs.Words.{colon, led_of, is_hex_digit, IsLed}
-use Rattle.dump_redact.specs.declared.copying.Stretch.TheVariants.{Payload}
-use Rattle.dump_redact.specs.declared.copying.Stretch.{Stretch}
+use Rattle.dump_redact.specs.declared.blanks.Stretch.TheVariants.{Payload}
+use Rattle.dump_redact.specs.declared.blanks.Stretch.{Stretch}
 use Rattle.dump_redact.specs.declared.parts.Part.TheVariants.{Binary}
 use Rattle.dump_redact.specs.Bodies.{body_lines, redacted_body}
 use Rattle.dump_redact.specs.Redacted.{blank, blank_from, payload_in, without}

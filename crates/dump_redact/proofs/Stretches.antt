@@ -1,18 +1,21 @@
 -- Bytes that are copied in two parts, and a line that is made blank.
-use Rattle.std.proofs.Common.{◌≡◌, ℕ, ◌<◌, ◌≤◌, List, length, take, sym, ◌∙◌, arith, ◌+◌, ◌-◌, ◌==◌, true, false, [], ◌∷◌, ◌++◌, drop, map, if◌then◌else◌, refl, ap, subst}
+use Rattle.std.proofs.Common.{◌≡◌, ℕ, ◌<◌, ◌≤◌, List, length, take, sym, ◌∙◌, arith, ◌+◌, ◌-◌, ◌==◌, true, false, [], ◌∷◌, ◌++◌, drop, map, replicate, if◌then◌else◌, refl, ap, ap₂, subst}
 use Rattle.std.specs.Prelude.{◌≢◌, All}
-use Rattle.std.specs.List.{between}
-use Rattle.std.proofs.lemmas.Bool.{eq-eqb, ne_eqb, eqb-true}
+use Rattle.std.specs.List.{between, list_all}
+use Rattle.std.proofs.lemmas.Bool.{eq-eqb, ne_eqb, eqb-true, and_parts, false≢true}
 use Rattle.std.proofs.lemmas.List.{get_or-take, length-take-le, drop-drop, drop_more, take-append-drop}
 use Rattle.std.proofs.lemmas.List.Elements.{All-from_get_or, All-head, All-tail}
+use Rattle.std.proofs.lemmas.List.Folds.{list_all_at}
 use Rattle.std.proofs.Math.Seq.{take-length}
 use Rattle.memchr.specs.Find.{Passes, is_byte, Nowhere}
 use Rattle.dump_io.specs.Lines.{lf}
 use Rattle.dump_io.specs.Laws.Reads.{take-two}
 use Rattle.binary_payloads.specs.declared.enc.Enc.{Enc}
-use Rattle.dump_redact.specs.declared.copying.Stretch.{Stretch}
-use Rattle.dump_redact.specs.declared.copying.Stretch.TheVariants.{Plain, Payload}
-use Rattle.dump_redact.specs.Redacted.{blank}
+use Rattle.binary_payloads.specs.declared.enc.Enc.TheVariants.{Hex, Base64}
+use Rattle.binary_payloads.specs.Payload.{is_digit_of}
+use Rattle.dump_redact.specs.declared.blanks.Stretch.{Stretch}
+use Rattle.dump_redact.specs.declared.blanks.Stretch.TheVariants.{Plain, Payload}
+use Rattle.dump_redact.specs.Redacted.{blank, zero_of}
 use Rattle.dump_redact.specs.Inner.Copying.{blank_line, copied, stretch_behind}
 
 -- LF doesn't stand among the first n bytes
@@ -128,3 +131,39 @@ module _ (enc : Enc) (chars : List ℕ) (none : Nowhere (Passes (is_byte lf) cha
 
   pub open-behind : Payload enc ≡ stretch_behind (Payload enc) chars
   open-behind = sym (behind-free enc chars all-free)
+
+-- ---- digits that are made blank
+
+no-digit : (enc : Enc) → is_digit_of enc lf ≡ false
+no-digit Hex = refl
+no-digit Base64 = refl
+
+digits-free : (enc : Enc) (xs : List ℕ) → list_all (is_digit_of enc) xs ≡ true → All (λ c. c ≢ lf) xs
+digits-free enc xs digits =
+    All-from_get_or (λ c. c ≢ lf) xs 0 (λ i inside same.
+    false≢true (sym (list_all_at (is_digit_of enc) xs i 0 inside (ap (is_digit_of enc) same ∙ no-digit enc)) ∙ digits))
+
+-- each becomes the same character
+pub digits-zero : (enc : Enc) (xs : List ℕ) → list_all (is_digit_of enc) xs ≡ true → replicate (length xs) (zero_of enc) ≡ map (blank enc) xs
+digits-zero enc [] digits = refl
+digits-zero enc (c ∷ xs) digits =
+    let parts = and_parts (is_digit_of enc c) (list_all (is_digit_of enc) xs) digits in
+    ap₂ (λ x l. x ∷ l) (sym (ap (λ b. if b then zero_of enc else c) parts.0)) (digits-zero enc xs parts.1)
+
+module _ (enc : Enc) (chars : List ℕ) (n : ℕ) (digits : list_all (is_digit_of enc) (take n chars) ≡ true) where
+  -- no digit is an LF, so the bytes behind digits stand in the same stretch
+  behind-digits : stretch_behind (Payload enc) (take n chars) ≡ Payload enc
+  behind-digits = behind-free enc (take n chars) (digits-free enc (take n chars) digits)
+
+  pub digits-text : map (blank enc) (take n chars) ++ copied (Payload enc) (drop n chars) ≡ copied (Payload enc) chars
+  digits-text =
+      ap (λ l. l ++ copied (Payload enc) (drop n chars)) (sym (blank-free enc (take n chars) (digits-free enc (take n chars) digits)))
+      ∙ ap (λ s. copied (Payload enc) (take n chars) ++ copied s (drop n chars)) (sym behind-digits)
+      ∙ sym (copied-append (Payload enc) (take n chars) (drop n chars))
+      ∙ ap (copied (Payload enc)) (take-append-drop n chars)
+
+  pub digits-behind : stretch_behind (Payload enc) (drop n chars) ≡ stretch_behind (Payload enc) chars
+  digits-behind =
+      ap (λ s. stretch_behind s (drop n chars)) (sym behind-digits)
+      ∙ sym (behind-append (Payload enc) (take n chars) (drop n chars))
+      ∙ ap (stretch_behind (Payload enc)) (take-append-drop n chars)

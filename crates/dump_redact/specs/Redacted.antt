@@ -3,6 +3,7 @@
 use Rattle.std.specs.Prelude.{ℕ, ◌-◌, Bool, ◌||◌, List, [], ◌∷◌, ◌++◌, length, take, drop, map, codes, Option, None, Some, option_and_then, option_map, if◌then◌else◌}
 use Rattle.std.specs.List.{concat}
 use Rattle.std.specs.Str.{bytes_eq}
+use Rattle.dump_io.specs.Letters.{letter}
 use Rattle.dump_io.specs.Lines.{raw_lines, text_of, is_header}
 use Rattle.dump_sections.specs.Index.{index_of}
 use Rattle.dump_sections.specs.Sections.{tag_of}
@@ -18,8 +19,8 @@ use Rattle.dump_redact.specs.declared.parts.Part.TheVariants.{Heap, Binary, Othe
 
 -- the character that writes zero
 abbrev pub zero_of : Enc → ℕ
-zero_of Hex = 48
-zero_of Base64 = 65
+zero_of Hex = letter (codes "0")
+zero_of Base64 = letter (codes "A")
 
 -- a character that may write a part of a byte becomes zero, and any other stays, such as LF, CR, `=` and `:`
 abbrev pub blank : Enc → ℕ → ℕ

@@ -5,12 +5,13 @@ ghost use Rattle.dump_redact.specs.Bodies.{redacted_body};
 ghost use Rattle.dump_redact.specs.Inner.Copying.{copied, HasUpto, Copies};
 ghost use Rattle.dump_redact.specs.Inner.Places.{IsLeadOf};
 
-use crate::copying::{Stretch, copy, put_bytes, read_piece, rewrite};
+use crate::blanks::{Stretch, rewrite};
+use crate::copying::{copy, put_bytes, read_piece};
 use crate::faults::RedactFault;
 use crate::heaps::redact_heap;
 use crate::parts::Part;
 use dump_io::{Dumps, Sink};
-use term_forms::{Enc, number_is_read, split_digits};
+use term_forms::{Enc, heap_line, number_is_read};
 
 // Where the payload of a binary begins, from the first 17 bytes of its
 // body, or fewer: after a hex number of 1 to 16 digits and its colon.
@@ -19,7 +20,7 @@ fn lead_len(front: &[u8]) -> Option<usize>
     ensures lead { (body : List ℕ) → front.now ≡ take 17 body → IsLeadOf body result }
 {
     number_is_read();
-    let (_, chars) = split_digits(front)?;
+    let (_, chars) = heap_line(front)?;
     Some(front.len() - chars.len())
 }
 

@@ -5,24 +5,13 @@ ghost use Rattle.dump_io.specs.Dumps.{told, Gives, DeviceFailed, ReadsAtMost};
 ghost use Rattle.dump_io.specs.Sinks.{Puts};
 ghost use Rattle.dump_redact.specs.Inner.Copying.{copied, stretch_behind, HasUpto, Copies};
 
+use crate::blanks::{Stretch, rewrite};
 use crate::faults::RedactFault;
-use crate::heaps::blank_all;
 use dump_io::{Dumps, Sink, read_full, write_all};
-use memchr::memchr;
 use std::alloc::{AllocError, Global};
-use term_forms::Enc;
 
 // The most bytes in a piece.
 const PIECE: usize = 131_072;
-
-// How bytes are copied.
-#[derive(Clone, Copy)]
-pub(crate) enum Stretch {
-    // As they are.
-    Plain,
-    // Made blank up to the end of the line.
-    Payload(Enc),
-}
 
 // A buffer for a piece.
 pub(crate) fn make_buffer(alloc: Global) -> Result<Vec<u8>, AllocError>
@@ -45,34 +34,6 @@ pub(crate) fn make_room(alloc: Global, buffer: &mut Vec<u8>, len: usize) -> Resu
         *buffer = larger;
     }
     Ok(())
-}
-
-// Makes characters blank up to the first LF, and returns how to copy the bytes after them.
-fn blank_line(chars: &mut [u8], enc: Enc) -> Stretch
-    ensures text { chars.new ≡ copied (Stretch.Payload enc) chars.old }
-    ensures behind { result ≡ stretch_behind (Stretch.Payload enc) chars.old }
-{
-    match memchr(b'\n', chars) {
-        Some(lf) => {
-            blank_all(&mut chars[..lf], enc);
-            Stretch::Plain
-        }
-        None => {
-            blank_all(chars, enc);
-            Stretch::Payload(enc)
-        }
-    }
-}
-
-// Turns a piece into its copy, and returns how to copy the bytes after it.
-pub(crate) fn rewrite(piece: &mut [u8], stretch: Stretch) -> Stretch
-    ensures text { piece.new ≡ copied stretch piece.old }
-    ensures behind { result ≡ stretch_behind stretch piece.old }
-{
-    match stretch {
-        Stretch::Plain => Stretch::Plain,
-        Stretch::Payload(enc) => blank_line(piece, enc),
-    }
 }
 
 // Reads the bytes of the open file between two offsets, or as

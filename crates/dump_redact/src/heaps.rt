@@ -1,41 +1,20 @@
 // Redacting the body of a heap in place.
-ghost use Rattle.std.specs.Prelude.{◌≡◌, ◌+◌, ◌<◌, ◌≤◌, ◌++◌, false, length, take, drop, map, IfSome};
+ghost use Rattle.std.specs.Prelude.{◌≡◌, ◌+◌, ◌<◌, ◌≤◌, ◌++◌, false, length, take, drop, IfSome};
 ghost use Rattle.dump_io.specs.Lines.{IsEnded};
 ghost use Rattle.dump_redact.specs.Bodies.{redacted_body};
-ghost use Rattle.dump_redact.specs.Redacted.{blank, blanked_line};
+ghost use Rattle.dump_redact.specs.Redacted.{blanked_line};
 ghost use Rattle.dump_redact.specs.Inner.Places.{payload_place, AreMarksFrom};
 
+use crate::blanks::blank_all;
 use crate::parts::Part;
-use binary_payloads::is_digit;
 use dump_io::{line_len, line_text};
 use memchr::{memchr, memrchr};
 use term_forms::reading::form;
 use term_forms::shapes::Form;
-use term_forms::{Enc, form_is_read, number_is_read, split_digits};
+use term_forms::{Enc, form_is_read, heap_line, number_is_read};
 
 // How many bytes behind a letter count as near.
 const NEAR: usize = 16;
-
-fn blanked(c: u8, enc: Enc) -> u8
-    ensures { result ≡ blank enc c }
-{
-    if !is_digit(c, enc) {
-        return c;
-    }
-    match enc {
-        Enc::Hex => b'0',
-        Enc::Base64 => b'A',
-    }
-}
-
-// Makes all of these characters blank.
-pub(crate) fn blank_all(chars: &mut [u8], enc: Enc)
-    ensures { chars.new ≡ map (blank enc) chars.old }
-{
-    for c in chars.iter_mut() {
-        *c = blanked(*c, enc);
-    }
-}
 
 // Where the payload begins in the line, if it is a heap line with one. Any
 // other form is recognized by its first two characters, and isn't read.
@@ -45,7 +24,7 @@ fn payload_at(raw: &[u8], enc: Enc) -> Option<usize>
 {
     form_is_read(enc);
     let text = line_text(raw);
-    let (_, spelled) = split_digits(text)?;
+    let (_, spelled) = heap_line(text)?;
     if !spelled.starts_with(b"Yh") {
         return None;
     }

@@ -15,6 +15,7 @@
 //! section is loaded if it is a heap or literals, and copied in pieces if it is anything else.
 #![tactic(auto)]
 
+mod blanks;
 mod bodies;
 mod copying;
 mod faults;

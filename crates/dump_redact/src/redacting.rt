@@ -10,8 +10,9 @@ ghost use Rattle.dump_redact.specs.declared.faults.RedactFault.{RedactFault};
 ghost use Rattle.dump_redact.specs.Inner.Copying.{Copies};
 ghost use Rattle.dump_redact.specs.Inner.Places.{length_between, text_between, HasRoom, fault_at};
 
+use crate::blanks::Stretch;
 use crate::bodies::put_binary;
-use crate::copying::{Stretch, copy, make_buffer, make_room, put_bytes, read_piece};
+use crate::copying::{copy, make_buffer, make_room, put_bytes, read_piece};
 use crate::faults::RedactFault;
 use crate::parts::{Part, is_heap_tag, part_of};
 use crate::spans::{next_place, offset, redact_sections};

@@ -1,13 +1,14 @@
 -- The fields of a body: its lines with a colon.
-use Rattle.std.specs.Prelude.{ℕ, ◌+◌, ◌-◌, ◌==◌, Bool, ◌&&◌, List, [], ◌∷◌, length, Option, None, Some, find, option_map, if◌then◌else◌}
+use Rattle.std.specs.Prelude.{ℕ, ◌+◌, ◌-◌, ◌==◌, Bool, ◌&&◌, List, [], ◌∷◌, length, codes, Option, None, Some, find, option_map, if◌then◌else◌}
 use Rattle.std.specs.Str.{bytes_eq}
 use Rattle.dump_io.specs.Colons.{has_colon, before_colon, after_colon}
+use Rattle.dump_io.specs.Letters.{letter}
 use Rattle.field_lines.specs.declared.shapes.FieldAt.{FieldAt}
 use Rattle.field_lines.specs.Lines.{TextLine, text_lines}
 
 -- the byte of a space
 abbrev pub space_byte : ℕ
-space_byte = 32
+space_byte = letter (codes " ")
 
 -- bytes without one leading space
 abbrev pub without_space : List ℕ → List ℕ

@@ -4,7 +4,8 @@ use Rattle.std.specs.Prelude.{◌↔◌, IsSome}
 use Rattle.std.proofs.lemmas.Option.{same_Some}
 use Rattle.term_forms.specs.Elements.{Element, Nil, Small, Atom, Pid, Port, Ref, IsElem}
 use Rattle.term_forms.specs.Reading.{whole_of}
-use Rattle.term_forms.specs.Words.{letter, IsLed, led_of}
+use Rattle.dump_io.specs.Letters.{letter}
+use Rattle.term_forms.specs.Words.{IsLed, led_of}
 use Rattle.heap_cells.proofs.FoundFacts.{IsRead}
 
 -- what leads a text is read

@@ -1,6 +1,7 @@
 -- The entries of a link list.
 use Rattle.std.specs.Prelude.{◌≡◌, ◌≢◌, ℕ, ◌+◌, ◌<◌, ◌==◌, Bool, ◌&&◌, List, [], ◌∷◌, ◌++◌, length, Option, codes, map, All, if◌then◌else◌}
 use Rattle.std.specs.Option.{option_map}
+use Rattle.dump_io.specs.Letters.{letter}
 use Rattle.link_entries.specs.Texts.{inside}
 use Rattle.link_entries.specs.Kinds.{Kind}
 use Rattle.link_entries.specs.Reading.{entry_kind}
@@ -11,7 +12,7 @@ gap = codes ", "
 
 -- these two bytes are a gap
 abbrev pub is_gap : ℕ → ℕ → Bool
-is_gap c d = c == 44 && d == 32
+is_gap c d = c == letter (codes ",") && d == letter (codes " ")
 
 -- parts with one more byte at the front of the first
 abbrev pub led_by : ℕ → List (List ℕ) → List (List ℕ)

@@ -2,12 +2,13 @@
 -- `Kinds` describes.
 use Rattle.std.specs.Prelude.{ℕ, ◌==◌, Bool, List, [], ◌∷◌, Option, None, Some, codes, if◌then◌else◌}
 use Rattle.std.specs.Option.{option_map, option_map_or, option_or}
+use Rattle.dump_io.specs.Letters.{letter}
 use Rattle.link_entries.specs.Texts.{◌>>=◌, inside, is_pid, is_port, is_reference, is_braced}
 use Rattle.link_entries.specs.Kinds.{Kind, Link, LinkPort, To, ToPort, ToName, From, FromPort, Other, to_opening, from_opening}
 
 -- whether a byte is a comma
 abbrev pub is_comma : ℕ → Bool
-is_comma c = c == 44
+is_comma c = c == letter (codes ",")
 
 -- what stands before and after the last comma, if there is one
 unfoldable pub at_last_comma : List ℕ → Option (List ℕ × List ℕ)

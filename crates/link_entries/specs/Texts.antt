@@ -3,6 +3,7 @@ use Rattle.std.specs.Prelude.{ℕ, ◌+◌, ◌-◌, ◌==◌, Bool, false, ◌&
 use Rattle.std.specs.List.{list_all, starts_with, ends_with, position}
 use Rattle.std.specs.Option.{is_some, option_and_then, option_map_or}
 use Rattle.std.specs.Char.{is_ascii_digit}
+use Rattle.dump_io.specs.Letters.{letter}
 use Rattle.dump_io.specs.Numbers.{is_digits}
 
 infixl 10 ◌>>=◌
@@ -24,7 +25,7 @@ inside front back text = behind front text >>= before back
 
 -- whether a byte is a dot
 abbrev pub is_dot : ℕ → Bool
-is_dot c = c == 46
+is_dot c = c == letter (codes ".")
 
 -- one or more digits and dots
 abbrev pub is_dotted : List ℕ → Bool

@@ -97,6 +97,7 @@ impl<B: Bounds> Receiver<B> {
     pub fn keeps_to_its_limits(&self)
         ensures { KeepsTo B.limits self.now }
     {
+        // What holds of each receiver is known where one of its fields is named.
         let _ = &self.headers;
     }
 

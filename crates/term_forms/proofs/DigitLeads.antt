@@ -1,14 +1,12 @@
 -- The number that leads a text, by the hex digits with which the text begins.
 use Rattle.std.proofs.Common.{◌≡◌, ℕ, zero, suc, ◌+◌, ◌-◌, ◌<◌, ◌≤◌, true, List, [], ◌∷◌, ◌++◌, length, take, drop, get_or, Option, None, Some, refl, sym, ◌∙◌, ap, arith, append_assoc, length-append}
 use Rattle.std.specs.List.{list_all, prefix_len}
-use Rattle.std.specs.Str.Parse.{digits_value}
 use Rattle.std.proofs.Math.Seq.{take-append-add}
-use Rattle.std.proofs.lemmas.List.{get_or-append-add, length-take, length-take-le, take-append-drop, take-take, take_more}
-use Rattle.std.proofs.lemmas.List.Sums.{prefix_len-le-length}
+use Rattle.std.proofs.lemmas.List.{get_or-append-add, take-append-drop, take_more}
 use Rattle.dump_io.specs.Numbers.{hex_number}
 use Rattle.term_forms.specs.Words.{colon, is_hex_digit, led_of}
-use Rattle.term_forms.proofs.Hexes.{hex_from, hex_parts, led_full, led_sound}
-use Rattle.term_forms.proofs.Runs.{run_over, run_passes}
+use Rattle.term_forms.proofs.Hexes.{hex_parts, led_full, led_sound}
+use Rattle.term_forms.proofs.Runs.{run_over}
 
 none-of : {X : Type 0} (o : Option X) → ((x : X) → o ≡ Some x → ⊥) → o ≡ None
 none-of None never = refl
@@ -43,15 +41,9 @@ module _ (text : List ℕ) (n : ℕ) (run : n ≡ digits_of text) where
       ap (λ l. get_or l n 0) parts.2 ∙ ap (λ m. get_or (parts.0 ++ colon ∷ led.1) m 0) place ∙ get_or-append-add parts.0 (colon ∷ led.1) 0 0 in
       none (omega (arith, same, hex.some)) (omega (arith, same, size)) here)
 
-  pub digits-some : 1 ≤ n → n < length text → get_or text n 0 ≡ colon
-      → (number : ℕ) × (hex_number (take n text) ≡ Some number) × (led_of text ≡ Some (number, drop (n + 1) text))
-  digits-some some inside here =
-      let few : n ≤ 16 = omega (arith, run, prefix_len-le-length is_hex_digit (take 16 text), length-take 16 text) in
-      let len : length (take n text) ≡ n = length-take-le n text (omega (arith, inside)) in
-      let digits : list_all is_hex_digit (take n text) ≡ true =
-      ap (list_all is_hex_digit) (sym (take-take n 16 text few) ∙ ap (λ m. take m (take 16 text)) run) ∙ run_passes is_hex_digit (take 16 text) in
-      let number = digits_value 16 (take n text) in
-      let is : hex_number (take n text) ≡ Some number = hex_from (take n text) (omega (arith, len, some)) (omega (arith, len, few)) digits in
+  pub digits-some : n < length text → get_or text n 0 ≡ colon → (number : ℕ) → hex_number (take n text) ≡ Some number
+      → led_of text ≡ Some (number, drop (n + 1) text)
+  digits-some inside here number is =
       let whole =
       sym (take-append-drop (n + 1) text) ∙ ap (λ l. l ++ drop (n + 1) text) (take_more text n 0 inside ∙ ap (λ c. take n text ++ c ∷ []) here) ∙ append_assoc (take n text) (colon ∷ []) (drop (n + 1) text) in
-      (number, is, led_full text number (drop (n + 1) text) (take n text, is, whole))
+      led_full text number (drop (n + 1) text) (take n text, is, whole)

@@ -10,7 +10,7 @@ use Rattle.term_forms.specs.Places.{StandsAt}
 use Rattle.term_forms.specs.Reading.{front, whole_of}
 use Rattle.term_forms.specs.Seen.{number_rest}
 use Rattle.term_forms.specs.Inner.Ends.{IsEnd}
-use Rattle.term_forms.specs.Inner.Joins.{until_of, joined_of}
+use Rattle.term_forms.specs.ReadingForms.{until_of, joined_of}
 use Rattle.term_forms.proofs.Hexes.{led_sound}
 use Rattle.term_forms.proofs.FormParts.{until_sound, whole_sound}
 use Rattle.term_forms.proofs.Joins.{joined_length, joined_within}

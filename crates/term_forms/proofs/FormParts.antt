@@ -8,12 +8,8 @@ use Rattle.dump_io.specs.Numbers.{hex_number}
 use Rattle.binary_payloads.specs.declared.enc.Enc.{Enc}
 use Rattle.term_forms.specs.Words.{comma, IsBracketed, IsLed, led_of}
 use Rattle.binary_payloads.specs.Payload.{IsPayloadOf}
-use Rattle.term_forms.specs.Reading.{front, whole_of}
-use Rattle.term_forms.specs.Inner.Chain.{◌>>=◌}
-use Rattle.term_forms.specs.Inner.Fronts.{bracketed_len}
-use Rattle.term_forms.specs.Inner.Joins.{behind, until_of, joined_of}
-use Rattle.term_forms.specs.Inner.FormParts.{counted_of, bracketed_of, payload_of, range_of}
-use Rattle.term_forms.specs.Inner.PayloadTest.{payload_test}
+use Rattle.term_forms.specs.Reading.{front, whole_of, ◌>>=◌, bracketed_len}
+use Rattle.term_forms.specs.ReadingForms.{behind, until_of, joined_of, counted_of, bracketed_of, payload_of, range_of, payload_test}
 use Rattle.term_forms.specs.Elements.{Element, IsElem, EndsElement}
 use Rattle.term_forms.specs.Joined.{IsJoined}
 use Rattle.term_forms.specs.Forms.{IsRange}

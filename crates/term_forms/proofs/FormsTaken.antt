@@ -6,13 +6,9 @@ use Rattle.std.proofs.lemmas.Bool.{eqb-true}
 use Rattle.std.proofs.lemmas.Option.{same_Some}
 use Rattle.binary_payloads.specs.declared.enc.Enc.{Enc}
 use Rattle.term_forms.specs.Words.{colon, bar, is_long, IsLed, led_of}
-use Rattle.term_forms.specs.Reading.{whole_of}
-use Rattle.term_forms.specs.ReadingForms.{form_of}
-use Rattle.term_forms.specs.Inner.Chain.{◌>>=◌}
-use Rattle.term_forms.specs.Inner.Joins.{until_of, joined_of}
-use Rattle.term_forms.specs.Inner.FormParts.{cons_of, counted_of, float_of, bracketed_of, port_of, payload_of, range_of, binary_of, flat_of, hash_of, map_of}
+use Rattle.term_forms.specs.Reading.{whole_of, ◌>>=◌, port_word}
+use Rattle.term_forms.specs.ReadingForms.{form_of, until_of, joined_of, cons_of, counted_of, float_of, bracketed_of, port_of, payload_of, range_of, binary_of, flat_of, hash_of, map_of}
 use Rattle.term_forms.specs.Forms.{HeapForm, Cons, Tuple, Float, Long, Pid, Port, Ext, HeapBin, RefBin, SubBin, Flat, Hash, Node, IsForm}
-use Rattle.term_forms.specs.Inner.Fronts.{port_word}
 use Rattle.term_forms.proofs.Steps.{bind_some, chosen, guard_some}
 use Rattle.term_forms.proofs.Hexes.{led_sound}
 use Rattle.term_forms.proofs.WordTexts.{starts_parts}

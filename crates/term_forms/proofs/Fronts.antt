@@ -10,14 +10,13 @@ use Rattle.std.proofs.lemmas.List.Sums.{prefix_len-le-length}
 use Rattle.std.proofs.lemmas.Option.{same_Some}
 use Rattle.std.proofs.Math.Seq.{take-append_seam, take-append-add}
 use Rattle.dump_io.specs.Numbers.{hex_number}
+use Rattle.dump_io.specs.Laws.HexNumbers.{hex_number-digits}
 use Rattle.term_forms.specs.Words.{colon, is_hex_digit, is_integer, IsBracketed, IsLed, led_of}
-use Rattle.term_forms.specs.Reading.{front}
-use Rattle.term_forms.specs.Inner.Chain.{◌>>=◌}
-use Rattle.term_forms.specs.Inner.Fronts.{integer_len, bracketed_len, small_front, atom_front, pid_front, port_front, ref_front, port_word}
+use Rattle.term_forms.specs.Reading.{front, ◌>>=◌, integer_len, bracketed_len, small_front, atom_front, pid_front, port_front, ref_front, port_word}
 use Rattle.term_forms.specs.Elements.{Element, Nil, Small, Atom, Pid, Port, Ref, IsElem}
 use Rattle.term_forms.proofs.Steps.{bind_from, guard_from, some_pair}
 use Rattle.term_forms.proofs.Runs.{run_over, run_passes, run_shorter}
-use Rattle.term_forms.proofs.Hexes.{IsHex, hex_parts, hex_from, led_full}
+use Rattle.term_forms.proofs.Hexes.{IsHex, hex_parts, led_full}
 use Rattle.term_forms.proofs.WordTexts.{integer_full, bracketed_full, starts_from}
 
 -- nothing begins the text that could go on with a number
@@ -132,7 +131,7 @@ hex_run t rest address is =
       n = prefix_len is_hex_digit (take 16 (t ++ rest));
       n_is = refl;
       far = omega (arith, run);
-      number = hex_from (take (prefix_len is_hex_digit (take 16 (t ++ rest))) (t ++ rest)) (omega (arith, count, run, is.some)) (omega (arith, count, most)) digits;
+      number = hex_number-digits (take (prefix_len is_hex_digit (take 16 (t ++ rest))) (t ++ rest)) (omega (arith, count, run, is.some)) (omega (arith, count, most)) digits;
       exact = λ none. (let fewer = run_shorter is_hex_digit rest (16 - length t) in omega (arith, run, fewer, none));
     }
 

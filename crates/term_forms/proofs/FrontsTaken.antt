@@ -9,9 +9,7 @@ use Rattle.std.proofs.lemmas.Option.{same_Some}
 use Rattle.std.proofs.Math.Seq.{take-append-add}
 use Rattle.dump_io.specs.Numbers.{hex_number}
 use Rattle.term_forms.specs.Words.{colon, is_hex_digit, IsLed, led_of}
-use Rattle.term_forms.specs.Reading.{front}
-use Rattle.term_forms.specs.Inner.Chain.{◌>>=◌}
-use Rattle.term_forms.specs.Inner.Fronts.{integer_len, bracketed_len, small_front, atom_front, pid_front, port_front, ref_front, port_word}
+use Rattle.term_forms.specs.Reading.{front, ◌>>=◌, integer_len, bracketed_len, small_front, atom_front, pid_front, port_front, ref_front, port_word}
 use Rattle.term_forms.specs.Elements.{Element, Nil, Small, Atom, Pid, Port, Ref, IsElem}
 use Rattle.term_forms.proofs.Steps.{bind_some, chosen, guard_some}
 use Rattle.term_forms.proofs.Hexes.{led_sound}

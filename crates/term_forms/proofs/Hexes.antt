@@ -1,20 +1,17 @@
 -- Hex numbers, and what stands behind one and a colon.
-use Rattle.std.proofs.Common.{◌≡◌, ℕ, ◌+◌, ◌<◌, ◌≤◌, ◌^◌, Bool, true, false, not, ◌&&◌, ◌||◌, List, [], ◌∷◌, ◌++◌, length, take, drop, get_or, Some, None, refl, ◌∙◌, ap, subst, arith, if◌then◌else◌}
+use Rattle.std.proofs.Common.{◌≡◌, ℕ, ◌+◌, ◌<◌, ◌≤◌, ◌^◌, Bool, true, false, not, ◌&&◌, ◌||◌, List, [], ◌∷◌, ◌++◌, length, take, drop, get_or, Some, refl, ◌∙◌, ap, subst, arith}
 use Rattle.std.specs.Prelude.{nat_lt, nat_le}
 use Rattle.std.specs.List.{list_all, prefix_len, position_or_len}
-use Rattle.std.specs.Char.{digit_value}
-use Rattle.std.specs.Str.Parse.{digits_value, AllDigits}
-use Rattle.std.proofs.lemmas.Bool.{and_parts, and_from, ltb-true, leb-true, eqb-true, lt-ltb, le-leb, not-false, not_from_false, false≢true, false_from_ne_true}
+use Rattle.std.specs.Str.Parse.{digits_value}
+use Rattle.std.proofs.lemmas.Bool.{and_parts, ltb-true, leb-true, eqb-true, not-false, not_from_false, false≢true, false_from_ne_true}
 use Rattle.std.proofs.lemmas.List.Sums.{prefix_len_stops, split_at_first}
 use Rattle.std.proofs.lemmas.Option.{some_pair_parts}
 use Rattle.std.proofs.Math.Seq.{take-append_seam, drop-append-add}
-use Rattle.std.proofs.Math.Nat.{pow-le-pow_right}
-use Rattle.std.proofs.lemmas.Int.Digits.{digits_value-lt}
 use Rattle.dump_io.specs.Colons.{is_colon, has_colon, before_colon, after_colon}
 use Rattle.dump_io.specs.Numbers.{hex_number, is_numeral}
 use Rattle.dump_io.specs.Laws.Colons.{colon-within}
 use Rattle.term_forms.specs.Words.{colon, is_hex_digit, IsLed, led_of}
-use Rattle.term_forms.specs.Inner.Chain.{◌>>=◌}
+use Rattle.term_forms.specs.Reading.{◌>>=◌}
 use Rattle.term_forms.proofs.Steps.{bind_some, bind_from, guard_some, guard_from, guard_option}
 use Rattle.term_forms.proofs.Runs.{run_over, list_all_also}
 
@@ -40,27 +37,6 @@ hex_parts text n h =
       small = subst (λ k. k < 2 ^ 64) is.1 small;
       value = is.1;
     }
-
-all_digits : (text : List ℕ) → list_all is_hex_digit text ≡ true → AllDigits 16 text
-all_digits [] h = tt
-all_digits (c ∷ text) h =
-    let parts = and_parts (is_hex_digit c) (list_all is_hex_digit text) h in
-    (ltb-true (digit_value c) 16 parts.0, all_digits text parts.1)
-
-below_all : (n k : ℕ) → n < 16 ^ k → k ≤ 16 → n < 2 ^ 64
-below_all n k h few =
-    let all : 16 ^ k ≤ 16 ^ 16 = pow-le-pow_right {n = 16} (omega arith) {i = k} {j = 16} few in
-    omega (arith, h, all)
-
--- 1 to 16 hex digits are a number
-pub hex_from : (text : List ℕ) → 1 ≤ length text → length text ≤ 16 → list_all is_hex_digit text ≡ true → hex_number text ≡ Some (digits_value 16 text)
-hex_from text some few digits =
-    let below : digits_value 16 text < 16 ^ length text = digits_value-lt 16 text (all_digits text digits) in
-    let small : digits_value 16 text < 2 ^ 64 = below_all (digits_value 16 text) (length text) below few in
-    let count = and_from (nat_le 1 (length text)) (nat_le (length text) 16) (le-leb 1 (length text) some) (le-leb (length text) 16 few) in
-    let inner = and_from (nat_le 1 (length text) && nat_le (length text) 16) (list_all is_hex_digit text) count digits in
-    let is : is_numeral 16 16 text ≡ true = and_from (nat_le 1 (length text) && nat_le (length text) 16 && list_all is_hex_digit text) (nat_lt (digits_value 16 text) (2 ^ 64)) inner (lt-ltb (digits_value 16 text) (2 ^ 64) small) in
-    ap (λ b. if b then Some (digits_value 16 text) else None) is
 
 -- no hex digit is a colon
 no_colon : (c : ℕ) → is_hex_digit c ≡ true → not (is_colon c) ≡ true

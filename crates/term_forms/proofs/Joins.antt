@@ -2,9 +2,8 @@
 use Rattle.std.proofs.Common.{◌≡◌, ℕ, zero, suc, ◌-◌, ◌<◌, ◌≤◌, ◌==◌, true, List, [], ◌∷◌, length, Option, Some, None, refl, sym, ◌∙◌, ap, arith}
 use Rattle.std.specs.Option.{is_some, option_and_then, unwrap_or}
 use Rattle.term_forms.specs.Words.{comma}
-use Rattle.term_forms.specs.Reading.{front, whole_of}
-use Rattle.term_forms.specs.Inner.Chain.{◌>>=◌}
-use Rattle.term_forms.specs.Inner.Joins.{until_of, joined_of, joined_list, with_first}
+use Rattle.term_forms.specs.Reading.{front, whole_of, ◌>>=◌}
+use Rattle.term_forms.specs.ReadingForms.{until_of, joined_of, joined_list, with_first}
 use Rattle.term_forms.specs.Elements.{Element}
 use Rattle.std.proofs.lemmas.List.{length-append}
 use Rattle.term_forms.proofs.Steps.{bind_some}

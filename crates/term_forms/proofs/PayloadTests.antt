@@ -5,7 +5,7 @@ use Rattle.std.proofs.lemmas.Bool.{eq-eqb, eqb-true}
 use Rattle.binary_payloads.specs.declared.enc.Enc.{Enc}
 use Rattle.binary_payloads.specs.Payload.{IsPayload, IsPayloadOf}
 use Rattle.binary_payloads.specs.ReadingPayloads.{payload_bytes}
-use Rattle.term_forms.specs.Inner.PayloadTest.{payload_test}
+use Rattle.term_forms.specs.ReadingForms.{payload_test}
 
 -- the law of binary_payloads that is taken from its function
 abbrev pub PayloadIsRead : Enc → Type 0

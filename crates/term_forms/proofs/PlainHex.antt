@@ -7,8 +7,8 @@ use Rattle.std.proofs.lemmas.Bool.{and_from, lt-ltb}
 use Rattle.std.proofs.lemmas.Fmt.{digits_is_IsNumeral}
 use Rattle.dump_io.specs.Numbers.{hex_number, hexadecimal as hex}
 use Rattle.dump_io.specs.Laws.Digits.{length-hexadecimal-le}
+use Rattle.dump_io.specs.Laws.HexNumbers.{hex_number-digits}
 use Rattle.term_forms.specs.Words.{is_hex_digit}
-use Rattle.term_forms.proofs.Hexes.{hex_from}
 
 are_hex : (text : List ℕ) → AllDigits 16 text → list_all is_hex_digit text ≡ true
 are_hex [] h = refl
@@ -18,4 +18,4 @@ are_hex (c ∷ text) h = and_from (is_hex_digit c) (list_all is_hex_digit text) 
 pub hex_plain : (n : ℕ) → n < 2 ^ 64 → hex_number (hex n) ≡ Some n
 hex_plain n below =
     let is = digits_is_IsNumeral 16 true (omega arith) (omega arith) n (omega (arith, below)) in
-    hex_from (hex n) (omega (arith, is.0.0)) (length-hexadecimal-le 16 n (omega arith) (omega (arith, below))) (are_hex (hex n) is.0.1) ∙ ap Some is.1
+    hex_number-digits (hex n) (omega (arith, is.0.0)) (length-hexadecimal-le 16 n (omega arith) (omega (arith, below))) (are_hex (hex n) is.0.1) ∙ ap Some is.1

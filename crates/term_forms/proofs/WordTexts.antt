@@ -12,8 +12,7 @@ use Rattle.std.proofs.lemmas.Slice.Eq.{starts_is}
 use Rattle.std.proofs.Math.Seq.{take-append-add}
 use Rattle.dump_io.specs.Numbers.{is_digits}
 use Rattle.term_forms.specs.Words.{is_integer, is_number_byte, IsBracketed}
-use Rattle.term_forms.specs.Inner.Chain.{◌>>=◌}
-use Rattle.term_forms.specs.Inner.Fronts.{digits_len, integer_len, bracketed_len, minus, less, greater}
+use Rattle.term_forms.specs.Reading.{◌>>=◌, digits_len, integer_len, bracketed_len, minus, less, greater}
 use Rattle.term_forms.proofs.Steps.{bind_some, bind_from, chosen, guard_some, guard_from}
 use Rattle.term_forms.proofs.Runs.{run_over, run_passes}
 

@@ -1,27 +1,20 @@
 -- The words of which elements and forms are made.
 use Rattle.std.specs.Prelude.{◌≡◌, ℕ, ◌<◌, ◌==◌, Bool, false, ◌&&◌, ◌||◌, List, [], ◌∷◌, ◌++◌, length, drop, codes, Option, None, Some, option_and_then, nat_eq, nat_lt, IsTrue, if◌then◌else◌}
 use Rattle.std.specs.List.{list_all, starts_with}
-use Rattle.std.specs.Char.{digit_value, is_ascii_digit}
+use Rattle.std.specs.Char.{is_ascii_digit}
 use Rattle.dump_io.specs.Colons.{has_colon, before_colon, after_colon}
+use Rattle.dump_io.specs.Letters.{letter}
 use Rattle.dump_io.specs.Numbers.{hex_number, is_digits}
 pub use Rattle.dump_io.specs.Colons.{colon}
-
--- the byte of a text of one letter
-abbrev pub letter : List ℕ → ℕ
-letter [] = 0
-letter (c ∷ text) = c
+pub use Rattle.dump_io.specs.Numbers.{is_hex_digit}
 
 -- the byte `,`
 abbrev pub comma : ℕ
-comma = 44
+comma = letter (codes ",")
 
 -- the byte `|`
 abbrev pub bar : ℕ
-bar = 124
-
--- a hex digit of either case
-abbrev pub is_hex_digit : ℕ → Bool
-is_hex_digit c = nat_lt (digit_value c) 16
+bar = letter (codes "|")
 
 -- an optional minus, and digits
 abbrev pub is_integer : List ℕ → Bool

@@ -2,15 +2,14 @@
 ghost use Rattle.std.specs.Prelude.{◌≡◌, ℕ, ◌+◌, ◌≤◌, ◌∷◌, length, take, IfSome, IfNone};
 ghost use Rattle.std.specs.Option.{option_map};
 ghost use Rattle.term_forms.specs.Elements.{Element, IsElem, IsFront};
-ghost use Rattle.term_forms.specs.Reading.{front};
-ghost use Rattle.term_forms.specs.Inner.Fronts.{small_front, atom_front, pid_front, port_front, ref_front};
+ghost use Rattle.term_forms.specs.Reading.{front, small_front, atom_front, pid_front, port_front, ref_front};
 ghost use Rattle.term_forms.specs.Seen.{element, element_len};
 
 use crate::shapes::Elem;
-use crate::words::{bracketed_prefix, hex_run, integer_prefix, split_number};
-use dump_io::hex_u64;
+use crate::words::{bracketed_prefix, integer_prefix, split_number};
+use dump_io::hex_front;
 
-#[tactic(auto, unfolding(crate::specs::Inner::Fronts::small_front))]
+#[tactic(auto, unfolding(crate::specs::Reading::small_front))]
 fn small(text: &[u8]) -> Option<(Elem<'_>, usize)>
     ensures exact { option_map element_len result ≡ small_front text.now }
     ensures within { IfSome result (λ found. found.1 ≤ length text.now + 1) }
@@ -19,7 +18,7 @@ fn small(text: &[u8]) -> Option<(Elem<'_>, usize)>
     Some((Elem::Small(&text[..n]), n + 1))
 }
 
-#[tactic(auto, unfolding(crate::specs::Inner::Fronts::atom_front))]
+#[tactic(auto, unfolding(crate::specs::Reading::atom_front))]
 fn atom(text: &[u8]) -> Option<(Elem<'_>, usize)>
     ensures exact { option_map element_len result ≡ atom_front text.now }
     ensures within { IfSome result (λ found. found.1 ≤ length text.now + 1) }
@@ -32,7 +31,7 @@ fn atom(text: &[u8]) -> Option<(Elem<'_>, usize)>
     Some((Elem::Atom(&rest[..len]), text.len() - rest.len() + len + 1))
 }
 
-#[tactic(auto, unfolding(crate::specs::Inner::Fronts::pid_front))]
+#[tactic(auto, unfolding(crate::specs::Reading::pid_front))]
 fn pid(text: &[u8]) -> Option<(Elem<'_>, usize)>
     ensures exact { option_map element_len result ≡ pid_front text.now }
     ensures within { IfSome result (λ found. found.1 ≤ length text.now + 1) }
@@ -41,7 +40,7 @@ fn pid(text: &[u8]) -> Option<(Elem<'_>, usize)>
     Some((Elem::Pid(&text[..n]), n + 1))
 }
 
-#[tactic(auto, unfolding(crate::specs::Inner::Fronts::port_front))]
+#[tactic(auto, unfolding(crate::specs::Reading::port_front))]
 fn port(text: &[u8]) -> Option<(Elem<'_>, usize)>
     ensures exact { option_map element_len result ≡ port_front text.now }
     ensures within { IfSome result (λ found. found.1 ≤ length text.now + 1) }
@@ -52,13 +51,16 @@ fn port(text: &[u8]) -> Option<(Elem<'_>, usize)>
     Some((Elem::Port(&number[..n]), skip + n + 1))
 }
 
-#[tactic(auto, unfolding(crate::specs::Inner::Fronts::ref_front))]
+#[tactic(auto, unfolding(crate::specs::Reading::ref_front))]
 fn reference(text: &[u8]) -> Option<(Elem<'_>, usize)>
     ensures exact { option_map element_len result ≡ ref_front text.now }
     ensures within { IfSome result (λ found. found.1 ≤ length text.now + 1) }
 {
-    let n = hex_run(text);
-    Some((Elem::Ref(hex_u64(&text[..n])?), n + 1))
+    let (n, address) = hex_front(text);
+    if n == 0 {
+        return None;
+    }
+    Some((Elem::Ref(address), n + 1))
 }
 
 // The element whose first byte is the tag, and its length including the tag.

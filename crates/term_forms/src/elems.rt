@@ -4,7 +4,7 @@ ghost use Rattle.std.specs.Option.{option_map, option_copied};
 ghost use Rattle.std.specs.Iterator.{YieldsFirstBy, item_count};
 ghost use Rattle.term_forms.specs.Elements.{Element, IsElem};
 ghost use Rattle.term_forms.specs.Reading.{whole_of};
-ghost use Rattle.term_forms.specs.Inner.Joins.{until_of, behind, joined_of, joined_list, with_first};
+ghost use Rattle.term_forms.specs.ReadingForms.{until_of, behind, joined_of, joined_list, with_first};
 ghost use Rattle.term_forms.specs.Seen.{element};
 ghost use Rattle.term_forms.specs.Inner.Ends.{element_rest};
 
@@ -33,7 +33,7 @@ pub fn whole_elem(text: &[u8]) -> Option<Elem<'_>>
     read_whole(text)
 }
 
-#[tactic(auto, unfolding(crate::specs::Inner::Joins::behind))]
+#[tactic(auto, unfolding(crate::specs::ReadingForms::behind))]
 fn behind(stop: u8, text: &[u8]) -> Option<&[u8]>
     ensures { option_copied result ≡ behind stop text.now }
 {
@@ -42,7 +42,7 @@ fn behind(stop: u8, text: &[u8]) -> Option<&[u8]>
 }
 
 // The element that begins the text, and what stands after the stop byte, which follows it.
-#[tactic(auto, unfolding(crate::specs::Inner::Joins::until_of))]
+#[tactic(auto, unfolding(crate::specs::ReadingForms::until_of))]
 pub(crate) fn elem_until(text: &[u8], stop: u8) -> Option<(Elem<'_>, &[u8])>
     ensures { option_map element_rest result ≡ until_of stop text.now }
 {

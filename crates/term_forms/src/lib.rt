@@ -42,5 +42,5 @@ pub use laws::{
 };
 pub use opening::{Joined, open_form};
 pub use shapes::PlacedElem;
-pub use words::{heap_line, split_digits};
+pub use words::heap_line;
 pub use writing::{put_elem, put_form};

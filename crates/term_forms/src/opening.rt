@@ -5,9 +5,7 @@ ghost use Rattle.std.specs.Option.{option_map, option_and_then};
 ghost use Rattle.term_forms.specs.Unread.{IsFirstOf};
 ghost use Rattle.term_forms.specs.Places.{StandsAt};
 ghost use Rattle.term_forms.specs.Reading.{whole_of, led_of};
-ghost use Rattle.term_forms.specs.ReadingForms.{form_of};
-ghost use Rattle.term_forms.specs.Inner.FormParts.{cons_of, counted_of, flat_of, hash_of, map_of};
-ghost use Rattle.term_forms.specs.Inner.Joins.{until_of, joined_of, with_first};
+ghost use Rattle.term_forms.specs.ReadingForms.{form_of, cons_of, counted_of, flat_of, hash_of, map_of, until_of, joined_of, with_first};
 ghost use Rattle.term_forms.specs.Inner.Ends.{IsEnd, placed_rest};
 ghost use Rattle.term_forms.specs.Seen.{element, number_rest};
 ghost use Rattle.term_forms.specs.SeenOpened.{opened_form, IsOpenedIn};
@@ -32,7 +30,7 @@ pub struct Joined<'a> {
 impl<'a> Model for Joined<'a> {
     ghost use Rattle.term_forms.specs.Unread.{Unread};
     ghost use Rattle.term_forms.specs.Inner.Ends.{IsEnd};
-    ghost use Rattle.term_forms.specs.Inner.Joins.{joined_of};
+    ghost use Rattle.term_forms.specs.ReadingForms.{joined_of};
 
     ghost Value = { Unread };
 
@@ -135,7 +133,7 @@ impl<'a> Joined<'a> {
 }
 
 // A number, and that many elements.
-#[tactic(auto, unfolding(crate::specs::Inner::FormParts::counted_of))]
+#[tactic(auto, unfolding(crate::specs::ReadingForms::counted_of))]
 fn counted<'a>(text: &'a [u8], rest: &'a [u8]) -> Option<Joined<'a>>
     requires { IsEnd text.now rest.now }
     ensures elements { option_and_then (λ es. es.elements) result ≡ counted_of rest.now }
@@ -145,7 +143,7 @@ fn counted<'a>(text: &'a [u8], rest: &'a [u8]) -> Option<Joined<'a>>
     Some(Joined { text, rest, left })
 }
 
-#[tactic(auto, unfolding(crate::specs::Inner::FormParts::cons_of))]
+#[tactic(auto, unfolding(crate::specs::ReadingForms::cons_of))]
 fn list<'a>(text: &'a [u8], rest: &'a [u8]) -> Option<Opened<'a>>
     requires { IsEnd text.now rest.now }
     ensures form { option_and_then opened_form result ≡ cons_of rest.now }
@@ -156,7 +154,7 @@ fn list<'a>(text: &'a [u8], rest: &'a [u8]) -> Option<Opened<'a>>
     Some(Opened::List(head, tail))
 }
 
-#[tactic(auto, unfolding(crate::specs::Inner::FormParts::flat_of))]
+#[tactic(auto, unfolding(crate::specs::ReadingForms::flat_of))]
 fn flat<'a>(text: &'a [u8], rest: &'a [u8]) -> Option<Opened<'a>>
     requires { IsEnd text.now rest.now }
     ensures form { option_and_then opened_form result ≡ flat_of rest.now }
@@ -167,7 +165,7 @@ fn flat<'a>(text: &'a [u8], rest: &'a [u8]) -> Option<Opened<'a>>
     Some(Opened::Flat(keys, Joined { text, rest, left }))
 }
 
-#[tactic(auto, unfolding(crate::specs::Inner::FormParts::hash_of))]
+#[tactic(auto, unfolding(crate::specs::ReadingForms::hash_of))]
 fn hash<'a>(text: &'a [u8], rest: &'a [u8]) -> Option<Opened<'a>>
     requires { IsEnd text.now rest.now }
     ensures form { option_and_then opened_form result ≡ hash_of rest.now }
@@ -178,7 +176,7 @@ fn hash<'a>(text: &'a [u8], rest: &'a [u8]) -> Option<Opened<'a>>
     Some(Opened::Hash(size, children))
 }
 
-#[tactic(auto, unfolding(crate::specs::Inner::FormParts::map_of))]
+#[tactic(auto, unfolding(crate::specs::ReadingForms::map_of))]
 fn map<'a>(text: &'a [u8], rest: &'a [u8]) -> Option<Opened<'a>>
     requires { IsEnd text.now rest.now }
     ensures form { option_and_then opened_form result ≡ map_of rest.now }

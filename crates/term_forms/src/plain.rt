@@ -1,10 +1,8 @@
 // Reading forms without elements.
 ghost use Rattle.std.specs.Prelude.{◌≡◌, ◌≢◌, ◌∷◌, true, codes, IsSome};
 ghost use Rattle.std.specs.Option.{option_map, option_copied};
-ghost use Rattle.term_forms.specs.ReadingForms.{form_of};
-ghost use Rattle.term_forms.specs.Words.{letter};
-ghost use Rattle.term_forms.specs.Inner.FormParts.{float_of, bracketed_of, port_of, payload_of, range_of, binary_of};
-ghost use Rattle.term_forms.specs.Inner.PayloadTest.{payload_test};
+ghost use Rattle.dump_io.specs.Letters.{letter};
+ghost use Rattle.term_forms.specs.ReadingForms.{form_of, float_of, bracketed_of, port_of, payload_of, range_of, binary_of, payload_test};
 ghost use Rattle.term_forms.specs.Seen.{number_rest};
 ghost use Rattle.term_forms.specs.SeenForms.{heap_form};
 
@@ -13,7 +11,7 @@ use crate::words::{bracketed_prefix, is_long, split_number};
 use binary_payloads::{Enc, is_payload, payload_bytes_are_read};
 use dump_io::hex_u64;
 
-#[tactic(auto, unfolding(crate::specs::Inner::FormParts::float_of))]
+#[tactic(auto, unfolding(crate::specs::ReadingForms::float_of))]
 fn float(text: &[u8]) -> Option<Form<'_>>
     ensures { option_map heap_form result ≡ float_of text.now }
 {
@@ -26,7 +24,7 @@ fn float(text: &[u8]) -> Option<Form<'_>>
 }
 
 // The whole text, if it is a bracketed number.
-#[tactic(auto, unfolding(crate::specs::Inner::FormParts::bracketed_of))]
+#[tactic(auto, unfolding(crate::specs::ReadingForms::bracketed_of))]
 fn bracketed(text: &[u8]) -> Option<&[u8]>
     ensures { option_copied result ≡ bracketed_of text.now }
 {
@@ -34,7 +32,7 @@ fn bracketed(text: &[u8]) -> Option<&[u8]>
     if n == text.len() { Some(text) } else { None }
 }
 
-#[tactic(auto, unfolding(crate::specs::Inner::FormParts::port_of))]
+#[tactic(auto, unfolding(crate::specs::ReadingForms::port_of))]
 fn port(text: &[u8]) -> Option<Form<'_>>
     ensures { option_map heap_form result ≡ port_of text.now }
 {
@@ -61,7 +59,7 @@ fn has_payload(chars: &[u8], enc: Enc, size: u64, spelled: bool) -> bool
 }
 
 // A length, and the characters of that many bytes.
-#[tactic(auto, unfolding(crate::specs::Inner::FormParts::payload_of))]
+#[tactic(auto, unfolding(crate::specs::ReadingForms::payload_of))]
 fn sized(text: &[u8], enc: Enc, spelled: bool) -> Option<(u64, &[u8])>
     requires { spelled ≡ true → IsSome (payload_of enc text.now) }
     ensures { option_map number_rest result ≡ payload_of enc text.now }
@@ -75,7 +73,7 @@ fn sized(text: &[u8], enc: Enc, spelled: bool) -> Option<(u64, &[u8])>
 }
 
 // An address, an offset and a size.
-#[tactic(auto, unfolding(crate::specs::Inner::FormParts::range_of))]
+#[tactic(auto, unfolding(crate::specs::ReadingForms::range_of))]
 fn range(text: &[u8]) -> Option<(u64, u64, u64)>
     ensures { result ≡ range_of text.now }
 {
@@ -85,7 +83,7 @@ fn range(text: &[u8]) -> Option<(u64, u64, u64)>
     Some((address, offset, size))
 }
 
-#[tactic(auto, unfolding(crate::specs::Inner::FormParts::binary_of))]
+#[tactic(auto, unfolding(crate::specs::ReadingForms::binary_of))]
 fn binary(text: &[u8], enc: Enc, spelled: bool) -> Option<Form<'_>>
     requires { spelled ≡ true → IsSome (binary_of enc text.now) }
     ensures { option_map heap_form result ≡ binary_of enc text.now }

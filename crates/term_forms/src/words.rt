@@ -5,10 +5,10 @@ ghost use Rattle.std.specs.Option.{option_map};
 ghost use Rattle.std.specs.Char.{is_ascii_digit};
 ghost use Rattle.dump_io.specs.Numbers.{hex_number};
 ghost use Rattle.term_forms.specs.Words.{is_hex_digit, is_number_byte, is_hex_digits, is_based, is_long, IsLed, led_of};
-ghost use Rattle.term_forms.specs.Inner.Fronts.{digits_len, integer_len, bracketed_len};
+ghost use Rattle.term_forms.specs.Reading.{digits_len, integer_len, bracketed_len};
 ghost use Rattle.term_forms.specs.Seen.{number_rest};
 
-use dump_io::{hex_u64, is_digits, split_at_colon};
+use dump_io::{hex_front, is_digits};
 
 // A hex number of 1 to 16 digits before the first colon, such as an
 // arity, a length or an address, and what stands after that colon.
@@ -17,9 +17,11 @@ pub(crate) fn split_number(text: &[u8]) -> Option<(u64, &[u8])>
     ensures exact { option_map number_rest result ≡ led_of text.now }
     ensures shorter { IfSome result (λ found. length found.1.now < length text.now) }
 {
-    let (before, rest) = split_at_colon(text)?;
-    let number = hex_u64(before)?;
-    Some((number, rest))
+    let (count, number) = hex_front(text);
+    if count == 0 || count == text.len() || text[count] != b':' {
+        return None;
+    }
+    Some((number, &text[count + 1..]))
 }
 
 /// The address of a heap line and the text of its form: a hex number of 1 to 16
@@ -35,23 +37,6 @@ pub fn heap_line(text: &[u8]) -> Option<(u64, &[u8])>
     ensures shorter { IfSome result (λ found. length found.1.now < length text.now) }
 {
     split_number(text)
-}
-
-/// The digits of the number that leads a text, and what stands after its colon. It
-/// finds them where [`heap_line`] does, but doesn't compute the number, which takes longer.
-pub fn split_digits(text: &[u8]) -> Option<(&[u8], &[u8])>
-    ensures found { IfSome result (λ parts. (number : ℕ) × (hex_number parts.0.now ≡ Some number) × (led_of text.now ≡ Some (number, parts.1.now))) }
-    ensures none { IfNone result (led_of text.now ≡ None) }
-    ensures shorter { IfSome result (λ parts. length parts.1.now < length text.now) }
-{
-    let count = hex_run(text);
-    if count == 0 {
-        return None;
-    }
-    if count == text.len() || text[count] != b':' {
-        return None;
-    }
-    Some((&text[..count], &text[count + 1..]))
 }
 
 fn digit_run(text: &[u8]) -> usize
@@ -70,18 +55,7 @@ fn dotted_run(text: &[u8]) -> usize
         .count()
 }
 
-// How many hex digits begin the text, up to 16.
-pub(crate) fn hex_run(text: &[u8]) -> usize
-    ensures exact { result ≡ prefix_len is_hex_digit (take 16 text.now) }
-    ensures within { result ≤ length text.now }
-{
-    text.iter()
-        .take(16)
-        .take_while(|c| char::from(**c).is_digit(16))
-        .count()
-}
-
-#[tactic(auto, unfolding(crate::specs::Inner::Fronts::digits_len))]
+#[tactic(auto, unfolding(crate::specs::Reading::digits_len))]
 fn digits_prefix(text: &[u8]) -> Option<usize>
     ensures exact { result ≡ digits_len text.now }
     ensures within { IfSome result (λ n. n ≤ length text.now) }
@@ -91,7 +65,7 @@ fn digits_prefix(text: &[u8]) -> Option<usize>
 }
 
 // How many bytes the integer has that begins the text.
-#[tactic(auto, unfolding(crate::specs::Inner::Fronts::integer_len))]
+#[tactic(auto, unfolding(crate::specs::Reading::integer_len))]
 pub(crate) fn integer_prefix(text: &[u8]) -> Option<usize>
     ensures exact { result ≡ integer_len text.now }
     ensures within { IfSome result (λ n. n ≤ length text.now) }
@@ -105,7 +79,7 @@ pub(crate) fn integer_prefix(text: &[u8]) -> Option<usize>
 }
 
 // How many bytes the bracketed number has that begins the text.
-#[tactic(auto, unfolding(crate::specs::Inner::Fronts::bracketed_len))]
+#[tactic(auto, unfolding(crate::specs::Reading::bracketed_len))]
 pub(crate) fn bracketed_prefix(text: &[u8]) -> Option<usize>
     ensures exact { result ≡ bracketed_len text.now }
     ensures within { IfSome result (λ n. n ≤ length text.now) }
@@ -122,7 +96,7 @@ pub(crate) fn bracketed_prefix(text: &[u8]) -> Option<usize>
 fn all_hex_digits(text: &[u8]) -> bool
     ensures { result ≡ list_all is_hex_digit text.now }
 {
-    text.iter().all(|c| char::from(*c).is_digit(16))
+    text.iter().all(|c| c.is_ascii_hexdigit())
 }
 
 fn is_hex_digits(text: &[u8]) -> bool

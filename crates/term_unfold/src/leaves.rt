@@ -81,6 +81,7 @@ fn write_digits(bytes: &[u8], into: &mut [u8])
     requires { length into.old ≡ 2 * length bytes.now }
     ensures { into.new ≡ flat_map hex_byte bytes.now }
 {
+    // It fails only where the buffer has another length.
     let _ = encode_to_slice(bytes, into);
     into.make_ascii_uppercase();
 }

@@ -62,6 +62,7 @@ impl Path {
     pub fn line(&self)
         ensures { IsLine self.now.cells (numbers_of self.now.entries) }
     {
+        // What holds of each path is known where one of its fields is named.
         let _ = &self.marks;
     }
 

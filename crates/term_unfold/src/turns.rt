@@ -1,13 +1,11 @@
 // The steps of the walk that prints: what each writes, and where the walk is afterwards.
 ghost use Rattle.std.specs.Prelude.{◌≡◌, ℕ, ◌+◌, ◌<◌, ◌≤◌, ◌++◌, List, ◌∷◌, length, drop, slice_get, codes, ◌^◌, Some, IfSome};
-ghost use Rattle.std.specs.Option.{option_map};
-ghost use Rattle.term_forms.specs.Seen.{element};
 ghost use Rattle.heap_cells.specs.Cells.{Cell};
 ghost use Rattle.heap_cells.specs.Targets.{number};
 ghost use Rattle.term_unfold.specs.Inner.Coming.{left_of, entered_by};
 ghost use Rattle.term_unfold.specs.Inner.Entries.{stepped, outside, is_item, Serves};
 ghost use Rattle.term_unfold.specs.Inner.Children.{children_of, child_shown, IsChild};
-ghost use Rattle.term_unfold.specs.Inner.Openings.{MayEnter, immediate_of, is_list, is_list_kind};
+ghost use Rattle.term_unfold.specs.Inner.Openings.{MayEnter, is_list, is_list_kind};
 ghost use Rattle.term_unfold.specs.Inner.Rest.{front_of, is_next_value, left_text, rest, AtChild, IsTurn, HasItems, HasTerms};
 ghost use Rattle.term_unfold.specs.Rules.{Child as Below};
 ghost use Rattle.term_unfold.specs.Text.{comma_text};

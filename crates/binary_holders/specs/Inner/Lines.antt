@@ -1,7 +1,8 @@
 -- The lines of a heap's body that refer to binaries.
-use Rattle.std.specs.Prelude.{◌≡◌, ◌≢◌, ◌⊎◌, ℕ, ◌+◌, ◌-◌, ◌<◌, List, [], ◌∷◌, ◌++◌, length, All, Option, slice_index}
+use Rattle.std.specs.Prelude.{◌≡◌, ◌≢◌, ◌⊎◌, ℕ, ◌+◌, ◌-◌, ◌<◌, List, [], ◌∷◌, ◌++◌, codes, length, All, Option, slice_index}
 use Rattle.std.specs.List.{filter_map}
 use Rattle.std.specs.Option.{option_and_then}
+use Rattle.dump_io.specs.Letters.{letter}
 use Rattle.dump_io.specs.Lines.{lf, raw_lines, text_of}
 use Rattle.binary_payloads.specs.declared.enc.Enc.{Enc}
 use Rattle.term_forms.specs.ReadingForms.{form_of}
@@ -30,4 +31,4 @@ AreWhole bytes = (bytes ≡ []) ⊎ ((front : List ℕ) × (bytes ≡ front ++ l
 
 -- the byte before a place is `:`, and the one after it `c`
 abbrev pub IsMarked : List ℕ → ℕ → Type 0
-IsMarked bytes place = (0 < place) × (place + 1 < length bytes) × (slice_index bytes (place - 1) ≡ 58) × (slice_index bytes (place + 1) ≡ 99)
+IsMarked bytes place = (0 < place) × (place + 1 < length bytes) × (slice_index bytes (place - 1) ≡ letter (codes ":")) × (slice_index bytes (place + 1) ≡ letter (codes "c"))

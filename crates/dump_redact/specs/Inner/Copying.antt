@@ -4,8 +4,8 @@ use Rattle.dump_io.specs.Dumps.{Now, IsOpen, size_of, told, DeviceState, DeviceF
 use Rattle.dump_io.specs.Lines.{lf}
 use Rattle.dump_io.specs.Sinks.{SinkState, SinkFailed, Gained, WritesAll}
 use Rattle.binary_payloads.specs.declared.enc.Enc.{Enc}
-use Rattle.dump_redact.specs.declared.copying.Stretch.{Stretch}
-use Rattle.dump_redact.specs.declared.copying.Stretch.TheVariants.{Plain, Payload}
+use Rattle.dump_redact.specs.declared.blanks.Stretch.{Stretch}
+use Rattle.dump_redact.specs.declared.blanks.Stretch.TheVariants.{Plain, Payload}
 use Rattle.dump_redact.specs.declared.faults.RedactFault.{RedactFault}
 use Rattle.dump_redact.specs.declared.faults.RedactFault.TheVariants.{SectionTooLarge, Read, Write, Memory}
 use Rattle.dump_redact.specs.Redacted.{blank}

@@ -1,6 +1,6 @@
 use Rattle.std.proofs.Common.{◌≡◌, ◌++◌, ◌-◌, length, take, drop, ◌∙◌, ap, ap₂, arith}
 use Rattle.std.proofs.lemmas.List.{take_rest, length-take}
-use Rattle.dump_redact.specs.declared.copying.Stretch.TheVariants.{Payload}
+use Rattle.dump_redact.specs.declared.blanks.Stretch.TheVariants.{Payload}
 use Rattle.dump_redact.specs.Inner.Copying.{copied, stretch_behind}
 use Rattle.dump_redact.proofs.Leads.{piece-some, piece-none, piece-front, put-tail}
 use Rattle.dump_redact.proofs.bodies.redact_lead.Goals as goal

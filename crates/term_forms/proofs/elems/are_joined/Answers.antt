@@ -1,6 +1,6 @@
 use Rattle.std.proofs.Common.{◌≡◌, ◌-◌, ap, sym, ◌∙◌, arith}
 use Rattle.std.specs.Option.{is_some}
-use Rattle.term_forms.specs.Inner.Joins.{joined_of}
+use Rattle.term_forms.specs.ReadingForms.{joined_of}
 use Rattle.term_forms.specs.Seen.{element}
 use Rattle.term_forms.proofs.Joins.{joined_nothing, with_first_none, with_first_some}
 use Rattle.term_forms.proofs.elems.are_joined.Goals as goal

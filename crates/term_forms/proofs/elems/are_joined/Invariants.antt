@@ -1,6 +1,6 @@
 use Rattle.std.proofs.Common.{◌≡◌}
 use Rattle.std.specs.Option.{is_some}
-use Rattle.term_forms.specs.Inner.Joins.{joined_of}
+use Rattle.term_forms.specs.ReadingForms.{joined_of}
 use Rattle.term_forms.proofs.elems.are_joined.Given as goal
 
 abbrev pub invariant-loop-left : goal.invariant-loop-left

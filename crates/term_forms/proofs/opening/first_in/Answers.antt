@@ -1,8 +1,8 @@
 use Rattle.std.proofs.lemmas.List.{append-nil}
 use Rattle.std.proofs.Common.{◌≡◌, ◌-◌, Some, [], ◌∷◌, ◌++◌, ap, sym, ◌∙◌, arith}
 use Rattle.std.specs.Option.{option_map}
-use Rattle.term_forms.specs.Inner.Chain.{◌>>=◌}
-use Rattle.term_forms.specs.Inner.Joins.{joined_of, with_first}
+use Rattle.term_forms.specs.Reading.{◌>>=◌}
+use Rattle.term_forms.specs.ReadingForms.{joined_of, with_first}
 use Rattle.term_forms.specs.Seen.{element}
 use Rattle.term_forms.specs.Inner.Ends.{placed_rest}
 use Rattle.term_forms.proofs.Joins.{joined_one, joined_several, with_first_none, with_first_last}

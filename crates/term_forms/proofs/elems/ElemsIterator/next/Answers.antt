@@ -1,7 +1,7 @@
 use Rattle.std.proofs.Common.{◌≡◌, ◌-◌, ◌<◌, [], ◌∷◌, length, ap, sym, ◌∙◌, arith}
 use Rattle.std.specs.Option.{is_some}
 use Rattle.std.proofs.lemmas.Bool.{false≢true}
-use Rattle.term_forms.specs.Inner.Joins.{joined_list}
+use Rattle.term_forms.specs.ReadingForms.{joined_list}
 use Rattle.term_forms.specs.Seen.{element}
 use Rattle.term_forms.proofs.Joins.{joined_list_none, joined_list_first, with_first_none, with_first_some}
 use Rattle.term_forms.proofs.elems.ElemsIterator.next.Goals as goal

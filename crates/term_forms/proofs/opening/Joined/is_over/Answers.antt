@@ -1,6 +1,6 @@
 use Rattle.std.proofs.Common.{◌≡◌, None, Some, [], length, ap, sym, ◌∙◌}
 use Rattle.std.proofs.lemmas.Bool.{OnTrue_from, OnFalse_from, eqb-true, eqb-false}
-use Rattle.term_forms.specs.Inner.Joins.{joined_of}
+use Rattle.term_forms.specs.ReadingForms.{joined_of}
 use Rattle.term_forms.proofs.Ends.{over, not-over}
 use Rattle.term_forms.proofs.opening.Joined.is_over.Goals as goal
 

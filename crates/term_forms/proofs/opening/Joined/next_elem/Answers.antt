@@ -3,7 +3,7 @@ use Rattle.std.specs.Prelude.{IfNone}
 use Rattle.term_forms.specs.Seen.{element}
 use Rattle.term_forms.specs.SeenPlaces.{placed}
 use Rattle.term_forms.specs.Unread.{Unread, IsFirstOf}
-use Rattle.term_forms.specs.Inner.Joins.{joined_of}
+use Rattle.term_forms.specs.ReadingForms.{joined_of}
 use Rattle.term_forms.proofs.Joins.{with_first_none, with_first_is}
 use Rattle.term_forms.proofs.opening.Joined.next_elem.Goals as goal
 

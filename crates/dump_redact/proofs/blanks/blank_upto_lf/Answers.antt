@@ -1,6 +1,6 @@
 use Rattle.std.proofs.Common.{◌∙◌, ap, ◌++◌, drop}
 use Rattle.dump_redact.proofs.Stretches.{ended-text, ended-behind, open-text, open-behind}
-use Rattle.dump_redact.proofs.copying.blank_line.Goals as goal
+use Rattle.dump_redact.proofs.blanks.blank_upto_lf.Goals as goal
 
 pub returns-in-Some-clause-text : goal.returns-in-Some-clause-text
 returns-in-Some-clause-text c =

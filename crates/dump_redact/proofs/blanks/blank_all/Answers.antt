@@ -2,7 +2,7 @@ use Rattle.std.proofs.Common.{◌<◌, length, get_or, set, ◌∙◌, ap, arith
 use Rattle.std.proofs.lemmas.List.{get_or_default}
 use Rattle.std.proofs.lemmas.List.Edits.{map_over_more}
 use Rattle.dump_redact.specs.Redacted.{blank}
-use Rattle.dump_redact.proofs.heaps.blank_all.Goals as goal
+use Rattle.dump_redact.proofs.blanks.blank_all.Goals as goal
 
 pub loop-c-preserved : goal.loop-c-preserved
 loop-c-preserved c =

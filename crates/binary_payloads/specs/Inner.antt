@@ -1,2 +1,0 @@
--- How the bytes of a payload are computed. Nobody has to believe it.
-pub mod Decoding

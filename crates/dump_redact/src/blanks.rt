@@ -1,0 +1,114 @@
+// Making characters blank.
+ghost use Rattle.std.specs.Prelude.{◌≡◌, ◌+◌, ◌≤◌, true, length, take, drop, map};
+ghost use Rattle.std.specs.List.{list_all};
+ghost use Rattle.binary_payloads.specs.Payload.{is_digit_of};
+ghost use Rattle.dump_redact.specs.Redacted.{blank, zero_of};
+ghost use Rattle.dump_redact.specs.Inner.Copying.{copied, stretch_behind};
+
+use binary_payloads::{are_digits, is_digit};
+use memchr::memchr;
+use term_forms::Enc;
+
+// How many characters are tested at a time.
+const BLOCK: usize = 64;
+
+// How bytes are copied.
+#[derive(Clone, Copy)]
+pub(crate) enum Stretch {
+    // As they are.
+    Plain,
+    // Made blank up to the end of the line.
+    Payload(Enc),
+}
+
+// The character that writes zero.
+fn zero_of(enc: Enc) -> u8
+    ensures { result ≡ zero_of enc }
+{
+    match enc {
+        Enc::Hex => b'0',
+        Enc::Base64 => b'A',
+    }
+}
+
+fn blanked(c: u8, enc: Enc) -> u8
+    ensures { result ≡ blank enc c }
+{
+    if is_digit(c, enc) { zero_of(enc) } else { c }
+}
+
+// Makes all of these characters blank.
+pub(crate) fn blank_all(chars: &mut [u8], enc: Enc)
+    ensures { chars.new ≡ map (blank enc) chars.old }
+{
+    for c in chars.iter_mut() {
+        *c = blanked(*c, enc);
+    }
+}
+
+fn block(chars: &[u8], at: usize) -> &[u8]
+    requires { at + BLOCK ≤ length chars.now }
+    ensures { result.now ≡ take BLOCK (drop at chars.now) }
+{
+    &chars[at..at + BLOCK]
+}
+
+// How many whole blocks of digits begin the characters, counted in characters.
+fn digits_len(chars: &[u8], enc: Enc) -> usize
+    ensures within { result ≤ length chars.now }
+    ensures digits { list_all (is_digit_of enc) (take result chars.now) ≡ true }
+{
+    let mut len = 0;
+    while chars.len() - len >= BLOCK && are_digits(block(chars, len), enc) {
+        len += BLOCK;
+    }
+    len
+}
+
+// Makes digits blank, all of which become the same character.
+fn blank_digits(chars: &mut [u8], enc: Enc)
+    requires { list_all (is_digit_of enc) chars.old ≡ true }
+    ensures { chars.new ≡ map (blank enc) chars.old }
+{
+    chars.fill(zero_of(enc));
+}
+
+// Makes characters blank up to the first LF, and returns how to copy the bytes after them.
+fn blank_upto_lf(chars: &mut [u8], enc: Enc) -> Stretch
+    ensures text { chars.new ≡ copied (Stretch.Payload enc) chars.old }
+    ensures behind { result ≡ stretch_behind (Stretch.Payload enc) chars.old }
+{
+    match memchr(b'\n', chars) {
+        Some(lf) => {
+            blank_all(&mut chars[..lf], enc);
+            Stretch::Plain
+        }
+        None => {
+            blank_all(chars, enc);
+            Stretch::Payload(enc)
+        }
+    }
+}
+
+// The same. Nearly all of a payload are digits, among which there
+// is no LF, so it is looked for behind the blocks of digits alone.
+fn blank_line(chars: &mut [u8], enc: Enc) -> Stretch
+    ensures text { chars.new ≡ copied (Stretch.Payload enc) chars.old }
+    ensures behind { result ≡ stretch_behind (Stretch.Payload enc) chars.old }
+{
+    let len = digits_len(chars, enc);
+    let (digits, rest) = chars.split_at_mut(len);
+    blank_digits(digits, enc);
+    blank_upto_lf(rest, enc)
+}
+
+// Turns a piece into its copy, and returns how to copy the bytes after it.
+pub(crate) fn rewrite(piece: &mut [u8], stretch: Stretch) -> Stretch
+    ensures text { piece.new ≡ copied stretch piece.old }
+    ensures behind { result ≡ stretch_behind stretch piece.old }
+{
+    match stretch {
+        Stretch::Plain => Stretch::Plain,
+        Stretch::Payload(enc) => blank_line(piece, enc),
+    }
+}

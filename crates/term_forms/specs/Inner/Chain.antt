@@ -1,7 +1,0 @@
--- Readers are chains of steps, each of which may find nothing.
-use Rattle.std.specs.Prelude.{Option}
-use Rattle.std.specs.Option.{option_and_then}
-
-infixl 10 ◌>>=◌
-abbrev pub ◌>>=◌ : {A B : Type 0} → Option A → (A → Option B) → Option B
-o >>= f = option_and_then f o
