@@ -17,7 +17,7 @@ use Rattle.dump_sections.specs.Sections.{Section}
 use Rattle.stored_binaries.specs.StoredBinaries.{binary_number}
 use Rattle.binary_holders.specs.declared.stored.Found.{Found}
 use Rattle.binary_holders.specs.declared.stored.StoredAt.{StoredAt}
-use Rattle.binary_holders.specs.StoredBinaries.{Stored, stored, stored_at, binary_of, firsts, is_among}
+use Rattle.binary_holders.specs.StoredBinaries.{Stored, stored, stored_at, stored_binary, firsts, is_among}
 use Rattle.binary_holders.specs.Inner.Finding.{AreFound, numbers_of, stored_of}
 use Rattle.binary_holders.specs.Inner.Places.{ArePlaces, IsOnlyPlace}
 
@@ -55,9 +55,9 @@ firsts-push seen (x ∷ xs) y = by (is_among seen x.number) (firsts-push seen xs
         (or-swap (x.number == y.number) (is_among seen y.number) (is_among (numbers (firsts (x.number ∷ seen) xs)) y.number))
 
 pub stored-push : (before : List Section) (s : Section)
-    → stored (before ++ s ∷ []) ≡ firsts [] (filter_map binary_of before ++ option_to_list (binary_of s))
+    → stored (before ++ s ∷ []) ≡ firsts [] (filter_map stored_binary before ++ option_to_list (stored_binary s))
 stored-push before s =
-    ap (firsts []) (filter_map-append binary_of before (s ∷ []) ∙ ap (λ l. filter_map binary_of before ++ l) (by (binary_of s)))
+    ap (firsts []) (filter_map-append stored_binary before (s ∷ []) ∙ ap (λ l. filter_map stored_binary before ++ l) (by (stored_binary s)))
   where
     by : (o : Option Stored) → cons_option o [] ≡ option_to_list o
     by None = refl
@@ -66,14 +66,14 @@ stored-push before s =
 -- a section that is none
 stored-passed : (before : List Section) (s : Section) → binary_number s ≡ None → stored (before ++ s ∷ []) ≡ stored before
 stored-passed before s none =
-    stored-push before s ∙ ap (λ o. firsts [] (filter_map binary_of before ++ option_to_list (option_map (stored_at s) o))) none ∙ ap (firsts []) (append-nil (filter_map binary_of before))
+    stored-push before s ∙ ap (λ o. firsts [] (filter_map stored_binary before ++ option_to_list (option_map (stored_at s) o))) none ∙ ap (firsts []) (append-nil (filter_map stored_binary before))
 
 stored-more : (before : List Section) (s : Section) (n : ℕ) (b : Bool) → binary_number s ≡ Some n → is_among (numbers (stored before)) n ≡ b
     → stored (before ++ s ∷ []) ≡ stored before ++ (if b then [] else stored_at s n ∷ [])
 stored-more before s n b some among =
     stored-push before s
-    ∙ ap (λ o. firsts [] (filter_map binary_of before ++ option_to_list (option_map (stored_at s) o))) some
-    ∙ firsts-push [] (filter_map binary_of before) (stored_at s n)
+    ∙ ap (λ o. firsts [] (filter_map stored_binary before ++ option_to_list (option_map (stored_at s) o))) some
+    ∙ firsts-push [] (filter_map stored_binary before) (stored_at s n)
     ∙ ap (λ t. stored before ++ (if t then [] else stored_at s n ∷ [])) among
 
 -- ---- what is known of the places

@@ -21,7 +21,7 @@ use Rattle.binary_holders.specs.declared.stored.StoredAt.{StoredAt}
 use Rattle.binary_holders.specs.declared.tally.Tally.{Tally}
 use Rattle.binary_holders.specs.Held.{holders_of}
 use Rattle.binary_holders.specs.HeapReferences.{references}
-use Rattle.binary_holders.specs.StoredBinaries.{Stored, binary_of, firsts, is_among, stored_at}
+use Rattle.binary_holders.specs.StoredBinaries.{Stored, stored_binary, firsts, is_among, stored_at}
 use Rattle.binary_holders.specs.Usage.{Usage, binaries_in, fronts_length, heaps_length, heaps_of, binary_row, rows_in, sized_binary, stored_in}
 use Rattle.binary_holders.specs.Inner.Finding.{stored_of}
 use Rattle.binary_holders.specs.Inner.Places.{heap_place, references_at, size_at}
@@ -78,15 +78,15 @@ few-firsts seen (x ∷ xs) =
     elim (is_among seen x.number) as (λ b. length (if b then firsts seen xs else x ∷ firsts (x.number ∷ seen) xs) ≤ length (x ∷ xs))
     [ true ↦ omega (arith, few-firsts seen xs) | false ↦ omega (arith, few-firsts (x.number ∷ seen) xs) ]
 
-few-binaries : (sections : List Section) → length (filter_map binary_of sections) ≤ count_by (λ (s : Section). has_tag (codes "binary") s.text) sections
+few-binaries : (sections : List Section) → length (filter_map stored_binary sections) ≤ count_by (λ (s : Section). has_tag (codes "binary") s.text) sections
 few-binaries [] = omega arith
 few-binaries (s ∷ sections) =
     let count = sum_by-cons (λ (t : Section). cond (has_tag (codes "binary") t.text) 1 0) s sections in
-    let least : length (cons_option (binary_of s) (filter_map binary_of sections)) ≤ cond (has_tag (codes "binary") s.text) 1 0 + length (filter_map binary_of sections) =
+    let least : length (cons_option (stored_binary s) (filter_map stored_binary sections)) ≤ cond (has_tag (codes "binary") s.text) 1 0 + length (filter_map stored_binary sections) =
     by (has_tag (codes "binary") s.text) (option_and_then hex_number (id_of s.text)) in
     omega (arith, count, least, few-binaries sections)
   where
-    by : (b : Bool) (o : Option ℕ) → length (cons_option (option_map (stored_at s) (if b then o else None)) (filter_map binary_of sections)) ≤ cond b 1 0 + length (filter_map binary_of sections)
+    by : (b : Bool) (o : Option ℕ) → length (cons_option (option_map (stored_at s) (if b then o else None)) (filter_map stored_binary sections)) ≤ cond b 1 0 + length (filter_map stored_binary sections)
     by true None = omega arith
     by true (Some n) = omega arith
     by false o = omega arith
@@ -94,7 +94,7 @@ few-binaries (s ∷ sections) =
 pub fronts-enough : (index : Contents) (list : List StoredAt) → map (stored_of index) list ≡ stored_in index → 17 * length list ≤ fronts_length index
 fronts-enough index list are =
     let size : length list ≡ length (stored_in index) = sym (length-map list (stored_of index)) ∙ ap length are in
-    omega (arith, size, few-firsts [] (filter_map binary_of (sections_in index)), few-binaries (sections_in index))
+    omega (arith, size, few-firsts [] (filter_map stored_binary (sections_in index)), few-binaries (sections_in index))
 
 pub sizes-are : (dump : List ℕ) (index : Contents) (list : List StoredAt) (binaries : List Binary) → map (stored_of index) list ≡ stored_in index
     → binaries ≡ map (λ (b : StoredAt). sized_binary dump (stored_of index b)) list → binaries ≡ binaries_in dump index

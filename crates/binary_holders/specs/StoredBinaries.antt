@@ -15,8 +15,8 @@ abbrev pub stored_at : Section → ℕ → Stored
 stored_at section number = record { number = number; section = section }
 
 -- the binary of a section that has one
-abbrev pub binary_of : Section → Option Stored
-binary_of section = option_map (stored_at section) (binary_number section)
+abbrev pub stored_binary : Section → Option Stored
+stored_binary section = option_map (stored_at section) (binary_number section)
 
 -- whether a number is one of these
 abbrev pub is_among : List ℕ → ℕ → Bool
@@ -30,7 +30,7 @@ firsts seen (binary ∷ rest) =
 
 -- the stored binaries, in dump order: the first of the sections with each number
 abbrev pub stored : List Section → List Stored
-stored sections = firsts [] (filter_map binary_of sections)
+stored sections = firsts [] (filter_map stored_binary sections)
 
 -- the size of a stored binary, from the bytes of a dump
 abbrev pub size_in : List ℕ → Stored → ℕ

@@ -15,7 +15,7 @@ use Rattle.term_forms.specs.Words.{led_of}
 use Rattle.binary_refs.specs.declared.faults.BinFault.{BinFault}
 use Rattle.binary_refs.specs.declared.faults.BinFault.TheVariants.{NoBinary, SectionTooLarge, BadBinary, Read, Memory}
 use Rattle.heap_cells.specs.Loading.{enc_of}
-use Rattle.stored_binaries.specs.Payloads.{payload_of}
+use Rattle.stored_binaries.specs.Payloads.{counted_bytes}
 use Rattle.stored_binaries.specs.StoredBinaries.{binary_section}
 
 -- the text of a body's first line; an empty body has none
@@ -24,7 +24,7 @@ first_line_text body = option_map (λ line. line.text) (slice_get (text_lines bo
 
 -- the bytes of a text that is a length in hex, `:`, and the payload of that many bytes
 abbrev pub bytes_of_text : Enc → List ℕ → Option (List ℕ)
-bytes_of_text enc text = option_and_then (λ led. payload_of enc led.0 led.1) (led_of text)
+bytes_of_text enc text = option_and_then (λ led. counted_bytes enc led.0 led.1) (led_of text)
 
 -- the bytes of a `binary` section's body, if its first line is such a text
 abbrev pub bytes_of_body : Enc → List ℕ → Option (List ℕ)

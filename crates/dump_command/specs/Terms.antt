@@ -14,7 +14,7 @@ use Rattle.heap_reach.specs.Rounds.{reached_by}
 use Rattle.binary_refs.specs.declared.entries.Entry.{Entry}
 use Rattle.binary_refs.specs.Previews.{binaries, previews_of}
 use Rattle.binary_refs.specs.Wholes.{whole_bytes}
-use Rattle.stored_binaries.specs.Payloads.{payload_of}
+use Rattle.stored_binaries.specs.Payloads.{counted_bytes}
 use Rattle.stored_binaries.specs.StoredBinaries.{binary_section}
 use Rattle.term_unfold.specs.Walks.{Walk, new_walk}
 use Rattle.report_text.specs.declared.refusals.Refusal.{Refusal}
@@ -73,7 +73,7 @@ no_address addr pid bytes = address_cause addr (number_at (heap_map pid bytes).c
 -- the bytes of an external term, which its characters write,
 -- since such a form has a payload; any other form has none
 abbrev pub external_in : Enc → HeapForm → Option (List ℕ)
-external_in enc (Ext size chars) = Some (unwrap_or (payload_of enc size chars) [])
+external_in enc (Ext size chars) = Some (unwrap_or (counted_bytes enc size chars) [])
 external_in enc form = None
 
 -- those of the heap's cell at an address

@@ -14,7 +14,7 @@ use Rattle.binary_payloads.specs.declared.enc.Enc.TheVariants.{Hex, Base64}
 use Rattle.binary_payloads.specs.Payload.{IsPayload, IsPayloadOf, chars_of}
 use Rattle.binary_payloads.specs.ReadingPayloads.{payload_bytes}
 use Rattle.term_forms.specs.Words.{colon, led_of, IsLed}
-use Rattle.stored_binaries.specs.Payloads.{payload_of}
+use Rattle.stored_binaries.specs.Payloads.{counted_bytes}
 
 -- ---- what a body begins with
 
@@ -67,7 +67,7 @@ lead-none reads front body none is = none-of (led_of body) (λ p found.
 abbrev pub AreDecoded : Enc → Type 0
 AreDecoded enc = (chars bytes : List ℕ) → (payload_bytes enc chars ≡ Some bytes) ↔ IsPayload enc chars bytes
 
-pub payload-false : (enc : Enc) → AreDecoded enc → (chars : List ℕ) (n : ℕ) → (IsPayloadOf enc chars n → ⊥) → payload_of enc n chars ≡ None
+pub payload-false : (enc : Enc) → AreDecoded enc → (chars : List ℕ) (n : ℕ) → (IsPayloadOf enc chars n → ⊥) → counted_bytes enc n chars ≡ None
 payload-false enc law chars n none = by (payload_bytes enc chars) refl
   where
     by : (o : Option (List ℕ)) → payload_bytes enc chars ≡ o → option_and_then (λ found. if length found == n then Some found else None) o ≡ None

@@ -6,8 +6,8 @@ use Rattle.binary_payloads.specs.declared.enc.Enc.{Enc}
 use Rattle.binary_payloads.specs.ReadingPayloads.{payload_bytes}
 
 -- the bytes whose payload the characters are, if there are exactly this many
-abbrev pub payload_of : Enc → ℕ → List ℕ → Option (List ℕ)
-payload_of enc count chars = option_and_then (λ bytes. if length bytes == count then Some bytes else None) (payload_bytes enc chars)
+abbrev pub counted_bytes : Enc → ℕ → List ℕ → Option (List ℕ)
+counted_bytes enc count chars = option_and_then (λ bytes. if length bytes == count then Some bytes else None) (payload_bytes enc chars)
 
 -- the bytes of a vector, if there is one
 abbrev pub bytes_in : Option (Vec ℕ) → Option (List ℕ)

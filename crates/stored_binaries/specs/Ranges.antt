@@ -7,7 +7,7 @@ use Rattle.binary_payloads.specs.declared.covers.Cover.{Cover}
 use Rattle.binary_payloads.specs.declared.enc.Enc.{Enc}
 use Rattle.binary_payloads.specs.Cover.{cover_of}
 use Rattle.term_forms.specs.Words.{led_of}
-use Rattle.stored_binaries.specs.Payloads.{payload_of}
+use Rattle.stored_binaries.specs.Payloads.{counted_bytes}
 use Rattle.stored_binaries.specs.StoredBinaries.{binary_section}
 
 -- how many bytes of a range are shown
@@ -18,7 +18,7 @@ count_shown size = min size 32
 abbrev pub covered : Enc → List ℕ → Cover → Option (List ℕ)
 covered enc chars cover =
     if nat_le (cover.first + cover.chars) (length chars)
-    then payload_of enc cover.bytes (take cover.chars (drop cover.first chars)) else None
+    then counted_bytes enc cover.bytes (take cover.chars (drop cover.first chars)) else None
 
 -- this many of them, after those of the cover that come before the range
 abbrev pub covered_range : Enc → List ℕ → Cover → ℕ → Option (List ℕ)

@@ -1,6 +1,6 @@
 // The bytes that characters write.
 ghost use Rattle.std.specs.Prelude.{◌≡◌, IfOk};
-ghost use Rattle.stored_binaries.specs.Payloads.{bytes_in, payload_of};
+ghost use Rattle.stored_binaries.specs.Payloads.{bytes_in, counted_bytes};
 
 use std::alloc::{AllocError, Global};
 use term_forms::{Enc, payload, payload_bytes_are_read, payload_is_of_one};
@@ -13,7 +13,7 @@ pub fn decode_payload(
     count: u64,
     chars: &[u8],
 ) -> Result<Option<Vec<u8>>, AllocError>
-    ensures { IfOk result (λ bytes. bytes_in bytes ≡ payload_of enc count chars.now) }
+    ensures { IfOk result (λ bytes. bytes_in bytes ≡ counted_bytes enc count chars.now) }
 {
     payload_bytes_are_read(enc);
     payload_is_of_one(enc);

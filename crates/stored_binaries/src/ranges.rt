@@ -4,7 +4,7 @@ ghost use Rattle.std.specs.Option.{option_map};
 ghost use Rattle.dump_io.specs.Dumps.{told, DeviceFailed, ReadsAtMost};
 ghost use Rattle.dump_sections.specs.Bodies.{section_at, body_length, body_of};
 ghost use Rattle.dump_sections.specs.Index.{IsBuiltOver};
-ghost use Rattle.stored_binaries.specs.Payloads.{payload_of};
+ghost use Rattle.stored_binaries.specs.Payloads.{counted_bytes};
 ghost use Rattle.stored_binaries.specs.Ranges.{bytes_from, in_body, in_dump};
 
 use crate::few_bytes::FewBytes;
@@ -54,7 +54,7 @@ fn decoded(chars: &[u8], enc: Enc, cover: &Cover, count: u32) -> Option<FewBytes
     requires few { count ≤ 32 }
     requires bytes { cover.now.bytes ≤ 36 }
     requires within { cover.now.skip + count ≤ cover.now.bytes }
-    ensures { result ≡ option_map (λ bytes. take count (drop cover.now.skip bytes)) (payload_of enc cover.now.bytes chars.now) }
+    ensures { result ≡ option_map (λ bytes. take count (drop cover.now.skip bytes)) (counted_bytes enc cover.now.bytes chars.now) }
 {
     payload_bytes_are_read(enc);
     let mut buffer = [0; 36];
@@ -85,7 +85,7 @@ fn read_cover<D: Dumps>(
     ensures reads { ReadsAtMost (D.state dumps.old) (D.state dumps.new) 64 }
     ensures failed { OnErr result (DeviceFailed (D.state dumps.old) (D.state dumps.new)) }
     ensures bytes { IfOk result (λ bytes. (dump : List ℕ) → (D.state dumps.old).now ≡ told dump
-        → bytes ≡ option_map (λ bytes. take count (drop cover.now.skip bytes)) (payload_of enc cover.now.bytes (take cover.now.chars (drop from (body_of dump (section_at index.now place)))))) }
+        → bytes ≡ option_map (λ bytes. take count (drop cover.now.skip bytes)) (counted_bytes enc cover.now.bytes (take cover.now.chars (drop from (body_of dump (section_at index.now place)))))) }
 {
     let mut buffer = [0; 64];
     let chars = &mut buffer[..cover.chars as usize];
