@@ -3,10 +3,10 @@ use Rattle.std.proofs.Common.{◌≡◌, ℕ, zero, suc, ◌+◌, ◌-◌, ◌<�
 use Rattle.std.specs.Prelude.{codes, nat_eq, slice_index}
 use Rattle.std.specs.List.{concat, ends_with, filter_map, between}
 use Rattle.std.specs.Option.{option_and_then, option_to_list}
-use Rattle.std.proofs.lemmas.Bool.{and_parts, eqb-true, leb-true}
+use Rattle.std.proofs.lemmas.Bool.{eqb-true}
 use Rattle.std.proofs.lemmas.List.{take_all, get_or-take, get_or_append_left, get_or-append-add, take-append-drop, length-take-le, length-take, drop-drop, drop-take}
-use Rattle.std.proofs.lemmas.Option.{cond_some}
 use Rattle.memchr.specs.Find.{OccursAt, NoneBefore, Nowhere, Passes, is_byte}
+use Rattle.dump_io.specs.Laws.HexNumbers.{hex_number-short}
 use Rattle.dump_io.specs.Laws.Lines.{AreLines-raw}
 use Rattle.dump_io.specs.Laws.Reads.{take-two}
 use Rattle.dump_io.specs.Lines.{lf, cr, raw_lines, text_of}
@@ -83,27 +83,20 @@ refers enc leds forms text n is = by (led_of text) refl
 
 -- ---- its length
 
-hex-short : (hex : List ℕ) (n : ℕ) → hex_number hex ≡ Some n → length hex ≤ 16
-hex-short hex n is =
-    let all = (cond_some _ _ _ is).0 in
-    let digits = (and_parts _ _ all).0 in
-    let count = (and_parts _ _ digits).0 in
-    leb-true _ _ (and_parts _ _ count).1
-
 range-short : (range : List ℕ) (binary offset size : ℕ) → IsRange range binary offset size → length range ≤ 50
 range-short range binary offset size is =
     let first = is.2 in
     let second = is.3 in
-    let one = hex-short first.0 binary first.1 in
-    let two = hex-short second.0 offset second.1 in
-    let three = hex-short is.1 size is.4 in
+    let one = hex_number-short first.0 binary first.1 in
+    let two = hex_number-short second.0 offset second.1 in
+    let three = hex_number-short is.1 size is.4 in
     let whole = ap length first.2 ∙ length-append first.0 (colon ∷ is.0) in
     let behind = ap length second.2 ∙ length-append second.0 (colon ∷ is.1) in
     omega (arith, one, two, three, whole, behind)
 
 pub refers-short : (text : List ℕ) → Refers text → length text ≤ 69
 refers-short text is =
-    let one = hex-short is.hex is.address is.is_hex in
+    let one = hex_number-short is.hex is.address is.is_hex in
     let more = range-short is.range is.binary is.offset is.size is.is_range in
     let whole = ap length is.text_is ∙ length-append is.hex (mark ++ is.range) in
     omega (arith, one, more, whole)

@@ -1,6 +1,6 @@
 // The bytes that the lines of a case write.
 use dump_io::{dec_u64, hex_u64};
-use std::alloc::{AllocError, Global};
+use std::alloc::AllocError;
 
 fn put_text(into: &mut Vec<u8>, text: &str) -> Result<(), AllocError> {
     into.extend_from_slice(text.as_bytes())

@@ -1,16 +1,15 @@
 -- The first line behind the header of a binary: a number, its colon, and what is made blank.
-use Rattle.std.proofs.Common.{◌≡◌, ℕ, zero, suc, ◌+◌, ◌-◌, ◌<◌, ◌≤◌, ◌==◌, Bool, true, false, ◌&&◌, List, [], ◌∷◌, ◌++◌, length, take, drop, map, Option, None, Some, if◌then◌else◌, refl, sym, ◌∙◌, ap, ap₂, subst, arith, append_assoc, append-nil, length-append, ◌⊎◌, inl, inr}
+use Rattle.std.proofs.Common.{◌≡◌, ℕ, suc, ◌+◌, ◌-◌, ◌<◌, ◌≤◌, ◌==◌, Bool, true, false, ◌&&◌, List, [], ◌∷◌, ◌++◌, length, take, drop, map, Option, None, Some, if◌then◌else◌, refl, sym, ◌∙◌, ap, ap₂, subst, arith, append_assoc, append-nil, length-append, ◌⊎◌, inl, inr}
 use Rattle.std.specs.Prelude.{nat_eq, option_map, min}
 use Rattle.std.specs.List.{between, concat, list_all, ends_with}
 use Rattle.std.specs.Cmp.Lexicographic.{pointwise}
-use Rattle.std.proofs.lemmas.Bool.{and_parts, cases_lt, leb-true, eqb-true, false≢true, false_from_ne_true}
-use Rattle.std.proofs.lemmas.Option.{cond_some}
+use Rattle.std.proofs.lemmas.Bool.{and_parts, cases_lt, eqb-true, false≢true, false_from_ne_true}
 use Rattle.std.proofs.lemmas.List.{append_cancel_right, take_all, take-append-drop, take-take, drop_all, drop-append-le, drop-take, length-drop, length-take-le}
 use Rattle.std.proofs.lemmas.Slice.{take-put_mid}
 use borrow.Rule.Slice.PartMut.{put_mid}
 use Rattle.dump_io.specs.Lines.{lf, cr, raw_lines, lines_after, text_of}
+use Rattle.dump_io.specs.Laws.HexNumbers.{hex_number-all_digits}
 use Rattle.dump_io.specs.Laws.Lines.{AreLines-raw}
-use Rattle.dump_io.specs.Numbers.{hex_number}
 use Rattle.dump_sections.specs.Versions.{first_in}
 use Rattle.binary_payloads.specs.declared.enc.Enc.{Enc}
 use Rattle.binary_payloads.specs.declared.enc.Enc.TheVariants.{Hex, Base64}
@@ -26,57 +25,6 @@ use Rattle.dump_redact.proofs.Offsets.{length-part, piece-take, piece-drop, piec
 use Rattle.dump_redact.proofs.Places.{LedIsRead}
 use Rattle.dump_redact.proofs.Stretches.{copied-append}
 use Rattle.dump_redact.proofs.Alike.{kept, text-kept, blank_from-front}
-
--- ---- what a front of 17 bytes says of a body
-
-hex-short : (hex : List ℕ) (n : ℕ) → hex_number hex ≡ Some n → length hex ≤ 16
-hex-short hex n is =
-    let all = (cond_some _ _ _ is).0 in
-    let digits = (and_parts _ _ all).0 in
-    let count = (and_parts _ _ digits).0 in
-    leb-true _ _ (and_parts _ _ count).1
-
-hex-digits : (hex : List ℕ) (n : ℕ) → hex_number hex ≡ Some n → list_all is_hex_digit hex ≡ true
-hex-digits hex n is =
-    let all = (cond_some _ _ _ is).0 in
-    let digits = (and_parts _ _ all).0 in
-    (and_parts _ _ digits).1
-
-drop-behind : (hex rest : List ℕ) → drop (length hex + 1) (hex ++ colon ∷ rest) ≡ rest
-drop-behind [] rest = refl
-drop-behind (c ∷ hex) rest =
-    let more : length (c ∷ hex) + 1 ≡ suc (length hex + 1) = omega arith in
-    ap (λ n. drop n (c ∷ (hex ++ colon ∷ rest))) more ∙ drop-behind hex rest
-
-take-front : (hex rest : List ℕ) (n k : ℕ) → n ≡ length hex + 1 + k → take n (hex ++ colon ∷ rest) ≡ hex ++ colon ∷ take k rest
-take-front [] rest zero k is = absurd (omega (arith, is))
-take-front [] rest (suc n) k is = let same : n ≡ k = omega (arith, is) in ap (λ m. colon ∷ take m rest) same
-take-front (c ∷ hex) rest zero k is = absurd (omega (arith, is))
-take-front (c ∷ hex) rest (suc n) k is = ap (λ l. c ∷ l) (take-front hex rest n k (omega (arith, is)))
-
-none-of : {X : Type 0} (o : Option X) → ((x : X) → o ≡ Some x → ⊥) → o ≡ None
-none-of None never = refl
-none-of (Some x) never = absurd (never x refl)
-
-pub lead-some : (front body rest : List ℕ) (n : ℕ) → IsLed front n rest → front ≡ take 17 body → IsLeadOf body (Some (length front - length rest))
-lead-some front body rest n led is =
-    let hex = led.0 in
-    let more = drop 17 body in
-    let whole : body ≡ hex ++ colon ∷ (rest ++ more) =
-    sym (take-append-drop 17 body) ∙ (ap (λ f. f ++ more) (sym is ∙ led.2) ∙ append_assoc hex (colon ∷ rest) more) in
-    let count : length front - length rest ≡ length hex + 1 =
-    let e = ap length led.2 ∙ length-append hex (colon ∷ rest) in omega (arith, e) in
-    let behind : drop (length front - length rest) body ≡ rest ++ more = ap (λ k. drop k body) count ∙ (ap (drop (length hex + 1)) whole ∙ drop-behind hex (rest ++ more)) in
-    (n, subst (IsLed body n) (sym behind) (hex, led.1, whole))
-
-pub lead-none : LedIsRead → (front body : List ℕ) → led_of front ≡ None → front ≡ take 17 body → IsLeadOf body None
-lead-none law front body none is = none-of (led_of body) (λ p found.
-    let led = (law body p.0 p.1).0 found in
-    let short = hex-short led.0 p.0 led.1 in
-    let rest = take (16 - length led.0) p.1 in
-    let whole : front ≡ led.0 ++ colon ∷ rest = is ∙ (ap (take 17) led.2 ∙ take-front led.0 p.1 17 (16 - length led.0) (omega (arith, short))) in
-    let some = (law front p.0 rest).1 (led.0, led.1, whole) in
-    let no : ⊥ = cc (none, some) in no)
 
 -- ---- the first raw line of a body that begins so
 
@@ -180,7 +128,7 @@ blank-lines enc (c ∷ bytes) = by (c == lf) refl (blank-lines enc bytes)
 pub binary-some : LedIsRead → (enc : Enc) (body rest : List ℕ) (n : ℕ) → (led : IsLed body n rest) → redacted_body enc Binary body ≡ (led.0 ++ colon ∷ []) ++ blank_line enc rest
 binary-some law enc body rest n led =
     let hex = led.0 in
-    let digits = hex-digits hex n led.1 in
+    let digits = hex_number-all_digits hex n led.1 in
     let first = first_in (raw_lines rest) in
     let more = rest_of (raw_lines rest) in
     let raw = hex ++ colon ∷ first in

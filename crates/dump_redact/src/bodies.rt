@@ -11,7 +11,7 @@ use crate::faults::RedactFault;
 use crate::heaps::redact_heap;
 use crate::parts::Part;
 use dump_io::{Dumps, Sink};
-use term_forms::{Enc, heap_line, number_is_read};
+use term_forms::{Enc, heap_line, number_is_in_front, number_is_read};
 
 // Where the payload of a binary begins, from the first 17 bytes of its
 // body, or fewer: after a hex number of 1 to 16 digits and its colon.
@@ -20,6 +20,7 @@ fn lead_len(front: &[u8]) -> Option<usize>
     ensures lead { (body : List ℕ) → front.now ≡ take 17 body → IsLeadOf body result }
 {
     number_is_read();
+    number_is_in_front();
     let (_, chars) = heap_line(front)?;
     Some(front.len() - chars.len())
 }

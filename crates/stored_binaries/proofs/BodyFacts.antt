@@ -1,11 +1,9 @@
 -- Parts of bodies, and what is shown of them.
-use Rattle.std.proofs.Common.{◌≡◌, ℕ, zero, suc, ◌+◌, ◌-◌, ◌≤◌, ◌==◌, ◌↔◌, ⊎_elim, List, [], ◌∷◌, ◌++◌, length, take, drop, Option, None, Some, if◌then◌else◌, refl, sym, ◌∙◌, ap, arith, append_assoc, length-append}
+use Rattle.std.proofs.Common.{◌≡◌, ℕ, ◌-◌, ◌≤◌, ◌==◌, ◌↔◌, ⊎_elim, List, length, take, drop, Option, None, Some, if◌then◌else◌, refl, sym, ◌∙◌, ap, arith}
 use Rattle.std.specs.Prelude.{min, replicate}
 use Rattle.std.specs.Option.{option_and_then}
-use Rattle.std.proofs.lemmas.Bool.{cases_lt, and_parts, leb-true, ne_eqb}
-use Rattle.std.proofs.lemmas.Option.{cond_some}
-use Rattle.std.proofs.lemmas.List.{take_all, take-append-drop, length-take, length-take-le, length-drop}
-use Rattle.dump_io.specs.Numbers.{hex_number}
+use Rattle.std.proofs.lemmas.Bool.{cases_lt, ne_eqb}
+use Rattle.std.proofs.lemmas.List.{take_all, length-take, length-take-le, length-drop}
 use Rattle.dump_sections.specs.Bodies.{body_length, body_of}
 use Rattle.dump_sections.specs.Index.{Contents, IsIndexOf}
 use Rattle.dump_sections.specs.Sections.{Section}
@@ -13,54 +11,7 @@ use Rattle.binary_payloads.specs.declared.enc.Enc.{Enc}
 use Rattle.binary_payloads.specs.declared.enc.Enc.TheVariants.{Hex, Base64}
 use Rattle.binary_payloads.specs.Payload.{IsPayload, IsPayloadOf, chars_of}
 use Rattle.binary_payloads.specs.ReadingPayloads.{payload_bytes}
-use Rattle.term_forms.specs.Words.{colon, led_of, IsLed}
 use Rattle.stored_binaries.specs.Payloads.{counted_bytes}
-
--- ---- what a body begins with
-
-hex-short : (hex : List ℕ) (n : ℕ) → hex_number hex ≡ Some n → length hex ≤ 16
-hex-short hex n is =
-    let all = (cond_some _ _ _ is).0 in
-    let digits = (and_parts _ _ all).0 in
-    let count = (and_parts _ _ digits).0 in
-    leb-true _ _ (and_parts _ _ count).1
-
-abbrev pub AreRead : Type 0
-AreRead = (text : List ℕ) (n : ℕ) (rest : List ℕ) → (led_of text ≡ Some (n, rest)) ↔ IsLed text n rest
-
-drop-behind : (hex rest : List ℕ) → drop (length hex + 1) (hex ++ colon ∷ rest) ≡ rest
-drop-behind [] rest = refl
-drop-behind (c ∷ hex) rest =
-    let more : length (c ∷ hex) + 1 ≡ suc (length hex + 1) = omega arith in
-    ap (λ n. drop n (c ∷ (hex ++ colon ∷ rest))) more ∙ drop-behind hex rest
-
-pub lead-some : AreRead → (front body rest : List ℕ) (n : ℕ) → IsLed front n rest → front ≡ take 17 body → led_of body ≡ Some (n, drop (length front - length rest) body)
-lead-some reads front body rest n led is =
-    let hex = led.0 in
-    let more = drop 17 body in
-    let whole : body ≡ hex ++ colon ∷ (rest ++ more) =
-    sym (take-append-drop 17 body) ∙ (ap (λ f. f ++ more) (sym is ∙ led.2) ∙ append_assoc hex (colon ∷ rest) more) in
-    let count : length front - length rest ≡ length hex + 1 =
-    let e = ap length led.2 ∙ length-append hex (colon ∷ rest) in omega (arith, e) in
-    let behind : drop (length front - length rest) body ≡ rest ++ more = ap (λ k. drop k body) count ∙ (ap (drop (length hex + 1)) whole ∙ drop-behind hex (rest ++ more)) in
-    (reads body n (rest ++ more)).1 (hex, led.1, whole) ∙ ap (λ r. Some (n, r)) (sym behind)
-
-none-of : {X : Type 0} (o : Option X) → ((x : X) → o ≡ Some x → ⊥) → o ≡ None
-none-of None never = refl
-none-of (Some x) never = absurd (never x refl)
-
-take-front : (hex rest : List ℕ) (n k : ℕ) → n ≡ length hex + 1 + k → take n (hex ++ colon ∷ rest) ≡ hex ++ colon ∷ take k rest
-take-front [] rest zero k is = absurd (omega (arith, is))
-take-front [] rest (suc n) k is = let same : n ≡ k = omega (arith, is) in ap (λ m. colon ∷ take m rest) same
-take-front (c ∷ hex) rest zero k is = absurd (omega (arith, is))
-take-front (c ∷ hex) rest (suc n) k is = ap (λ l. c ∷ l) (take-front hex rest n k (omega (arith, is)))
-
-pub lead-none : AreRead → (front body : List ℕ) → ((n : ℕ) (rest : List ℕ) → IsLed front n rest → ⊥) → front ≡ take 17 body → led_of body ≡ None
-lead-none reads front body none is = none-of (led_of body) (λ p found.
-    let led = (reads body p.0 p.1).0 found in
-    let short = hex-short led.0 p.0 led.1 in
-    none p.0 (take (16 - length led.0) p.1)
-    (led.0, led.1, is ∙ (ap (take 17) led.2 ∙ take-front led.0 p.1 17 (16 - length led.0) (omega (arith, short)))))
 
 -- ---- what is shown by characters
 

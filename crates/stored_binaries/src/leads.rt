@@ -8,7 +8,7 @@ ghost use Rattle.stored_binaries.specs.Inner.Leads.{IsLeadOf};
 
 use dump_io::{Dumps, Failed, read_full};
 use dump_sections::Index;
-use term_forms::{heap_line, number_is_read};
+use term_forms::{heap_line, number_is_in_front};
 
 /// The number of bytes with which a body begins, and the place in the body at which the characters begin.
 #[derive(Clone, Copy)]
@@ -55,7 +55,7 @@ fn lead_of(front: &[u8]) -> Option<Lead>
     ensures within { IfSome result (λ lead. lead.chars ≤ length front.now) }
     ensures lead { (body : List ℕ) → front.now ≡ take 17 body → IsLeadOf body result }
 {
-    number_is_read();
+    number_is_in_front();
     let (length, rest) = heap_line(front)?;
     Some(Lead {
         length,

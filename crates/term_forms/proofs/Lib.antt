@@ -7,6 +7,7 @@ pub mod Fronts
 pub mod FrontsTaken
 pub mod Hexes
 pub mod Joins
+pub mod LedFronts
 pub mod LedLines
 pub mod OfElements
 pub mod OfForms

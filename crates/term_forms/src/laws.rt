@@ -1,5 +1,5 @@
 //! The laws of elements and forms. Each is the contract of a function that does nothing.
-ghost use Rattle.std.specs.Prelude.{◌≡◌, ◌↔◌, ℕ, List, ◌++◌, length, take, None, Some};
+ghost use Rattle.std.specs.Prelude.{◌≡◌, ◌↔◌, ℕ, ◌-◌, List, ◌++◌, length, take, drop, None, Some};
 ghost use Rattle.term_forms.specs.Elements.{Element, IsElem, IsFront, EndsElement, plain_elem};
 ghost use Rattle.term_forms.specs.Forms.{HeapForm, IsForm, plain_form};
 ghost use Rattle.term_forms.specs.Words.{led_of, IsLed};
@@ -65,4 +65,12 @@ pub fn form_is_read(enc: Enc)
 /// What `led_of` computes is the number that leads the text and what stands after its colon.
 pub fn number_is_read()
     ensures { (text : List ℕ) (n : ℕ) (rest : List ℕ) → (led_of text ≡ Some (n, rest)) ↔ IsLed text n rest }
+{}
+
+/// Whether a number leads a text, and which, is seen from the text's
+/// first 17 bytes: of these it takes at most 16, and its colon one.
+pub fn number_is_in_front()
+    ensures found { (text rest : List ℕ) (n : ℕ) → led_of (take 17 text) ≡ Some (n, rest)
+        → led_of text ≡ Some (n, drop (length (take 17 text) - length rest) text) }
+    ensures none { (text : List ℕ) → led_of (take 17 text) ≡ None → led_of text ≡ None }
 {}

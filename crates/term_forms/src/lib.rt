@@ -37,8 +37,9 @@ pub use binary_payloads::{
 pub use elems::{Elems, whole_elem};
 pub use forms::spelled_form;
 pub use laws::{
-    form_is_read, front_is_longest, front_of_element, number_is_read, plain_spelling_of_elements,
-    plain_spelling_of_forms, unique_reading_of_elements, unique_reading_of_forms, whole_is_read,
+    form_is_read, front_is_longest, front_of_element, number_is_in_front, number_is_read,
+    plain_spelling_of_elements, plain_spelling_of_forms, unique_reading_of_elements,
+    unique_reading_of_forms, whole_is_read,
 };
 pub use opening::{Joined, open_form};
 pub use shapes::PlacedElem;

@@ -1,9 +1,8 @@
 // The words of which elements and forms are made.
-ghost use Rattle.std.specs.Prelude.{◌≡◌, ℕ, ◌==◌, ◌<◌, ◌≤◌, List, length, take, Some, None, IfSome, IfNone};
+ghost use Rattle.std.specs.Prelude.{◌≡◌, ℕ, ◌==◌, ◌<◌, ◌≤◌, List, length, Some, None, IfSome, IfNone};
 ghost use Rattle.std.specs.List.{prefix_len, list_all};
 ghost use Rattle.std.specs.Option.{option_map};
 ghost use Rattle.std.specs.Char.{is_ascii_digit};
-ghost use Rattle.dump_io.specs.Numbers.{hex_number};
 ghost use Rattle.term_forms.specs.Words.{is_hex_digit, is_number_byte, is_hex_digits, is_based, is_long, IsLed, led_of};
 ghost use Rattle.term_forms.specs.Reading.{digits_len, integer_len, bracketed_len};
 ghost use Rattle.term_forms.specs.Seen.{number_rest};

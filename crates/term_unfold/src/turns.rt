@@ -16,7 +16,7 @@ use crate::judging::enter;
 use crate::node::NodeKind;
 use crate::openings::{Opened, open_child};
 use crate::path::{Entry, Path};
-use heap_cells::{Heap, Kid, Slot};
+use heap_cells::Heap;
 use term_forms::shapes::Elem;
 
 /// What the walk writes of a child itself.
