@@ -1,4 +1,5 @@
 pub mod Base64Payload
+pub mod Distances
 pub mod Encodings
 pub mod HexDigits
 pub mod HexPayload

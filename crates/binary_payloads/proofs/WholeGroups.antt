@@ -102,7 +102,7 @@ hex-digit c v less is =
 
 hex-digits : (a b : ℕ) (bytes : List ℕ) → length bytes ≡ 1 → IsPayload Hex (a ∷ b ∷ []) bytes → (is_digit_of Hex a ≡ true) × (is_digit_of Hex b ≡ true)
 unfolding encode_with
-hex-digits a b [] one is = cc one
+hex-digits a b [] one is = cc
 hex-digits a b (x ∷ y ∷ bytes) one is = cc one
 hex-digits a b (x ∷ []) one is =
     let small : x < 256 = is.are_bytes 0 in

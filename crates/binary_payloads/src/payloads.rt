@@ -1,5 +1,5 @@
 // The payloads of binaries: the characters that write their bytes.
-ghost use Rattle.std.specs.Prelude.{◌≡◌, ◌↔◌, ℕ, ◌-◌, ◌%◌, ◌^◌, ◌<◌, List, ◌++◌, length, IsTrue};
+ghost use Rattle.std.specs.Prelude.{◌≡◌, ◌↔◌, ◌==◌, ℕ, ◌-◌, ◌%◌, ◌^◌, ◌<◌, List, ◌++◌, length, IsTrue};
 ghost use Rattle.std.specs.List.{list_all};
 ghost use Rattle.binary_payloads.specs.Payload.{IsPayload, IsPayloadOf, encoding, chars_of, group_of, is_digit_of};
 ghost use Rattle.binary_payloads.specs.ReadingPayloads.{payload_bytes};
@@ -36,6 +36,17 @@ pub fn payload(chars: &[u8], enc: Enc, into: &mut [u8]) -> bool
     }
 }
 
+// How far the character is from the letters, from `/` to `9` and from `+`, whichever is nearest: 0
+// exactly if it is a digit of base64. A processor finds this out for 16 characters at once, and
+// in fewer steps than whether they are between these.
+fn distance(c: u8) -> u8
+    ensures { (result == 0) ≡ is_digit_of Enc.Base64 c }
+{
+    let letters = (c | 32).wrapping_sub(b'a').saturating_sub(25);
+    let others = c.wrapping_sub(b'/').saturating_sub(10);
+    letters.min(others).min(c ^ b'+')
+}
+
 /// Whether the character may write a part of a byte: a hex digit of
 /// either case; in base64 a letter, a digit, `+` or `/`, but no padding.
 pub fn is_digit(c: u8, enc: Enc) -> bool
@@ -43,7 +54,7 @@ pub fn is_digit(c: u8, enc: Enc) -> bool
 {
     match enc {
         Enc::Hex => c.is_ascii_hexdigit(),
-        Enc::Base64 => c.is_ascii_alphabetic() || c == b'+' || (b'/' <= c && c <= b'9'),
+        Enc::Base64 => distance(c) == 0,
     }
 }
 

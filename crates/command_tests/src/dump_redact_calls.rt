@@ -6,7 +6,7 @@ use std::process::Abort;
 use std::test::Fail;
 
 // How many bytes a piece has.
-const PIECE: usize = 131_072;
+const PIECE: usize = 65_536;
 
 // A dump with this payload in binaries and heaps; one of these
 // sections, which begins like this, ends at this offset.

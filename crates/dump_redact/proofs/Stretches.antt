@@ -2,10 +2,10 @@
 use Rattle.std.proofs.Common.{◌≡◌, ℕ, ◌<◌, ◌≤◌, List, length, take, sym, ◌∙◌, arith, ◌+◌, ◌-◌, ◌==◌, true, false, [], ◌∷◌, ◌++◌, drop, map, replicate, if◌then◌else◌, refl, ap, ap₂, subst}
 use Rattle.std.specs.Prelude.{◌≢◌, All}
 use Rattle.std.specs.List.{between, list_all}
-use Rattle.std.proofs.lemmas.Bool.{eq-eqb, ne_eqb, eqb-true, and_parts, false≢true}
+use Rattle.std.proofs.lemmas.Bool.{eq-eqb, ne_eqb, eqb-true, and_from, and_parts, false≢true}
 use Rattle.std.proofs.lemmas.List.{get_or-take, length-take-le, drop-drop, drop_more, take-append-drop}
 use Rattle.std.proofs.lemmas.List.Elements.{All-from_get_or, All-head, All-tail}
-use Rattle.std.proofs.lemmas.List.Folds.{list_all_at}
+use Rattle.std.proofs.lemmas.List.Folds.{list_all-append, list_all_at}
 use Rattle.std.proofs.Math.Seq.{take-length}
 use Rattle.memchr.specs.Find.{Passes, is_byte, Nowhere}
 use Rattle.dump_io.specs.Lines.{lf}
@@ -142,6 +142,18 @@ digits-free : (enc : Enc) (xs : List ℕ) → list_all (is_digit_of enc) xs ≡ 
 digits-free enc xs digits =
     All-from_get_or (λ c. c ≢ lf) xs 0 (λ i inside same.
     false≢true (sym (list_all_at (is_digit_of enc) xs i 0 inside (ap (is_digit_of enc) same ∙ no-digit enc)) ∙ digits))
+
+-- digits at the beginning, and digits from a place among them on
+pub digits-joined : (enc : Enc) (chars : List ℕ) (len from more : ℕ) → from ≤ len → list_all (is_digit_of enc) (take len chars) ≡ true
+    → list_all (is_digit_of enc) (take more (drop from chars)) ≡ true → list_all (is_digit_of enc) (take (from + more) chars) ≡ true
+digits-joined enc chars len from more among digits behind =
+    let is_digit = is_digit_of enc in
+    let front = take from chars in
+    let rest = take (len - from) (drop from chars) in
+    let count : from + (len - from) ≡ len = omega (arith, among) in
+    let all : list_all is_digit (front ++ rest) ≡ true = ap (list_all is_digit) (sym (take-two from (len - from) chars) ∙ ap (λ n. take n chars) count) ∙ digits in
+    let parts = and_parts (list_all is_digit front) (list_all is_digit rest) (sym (list_all-append is_digit front rest) ∙ all) in
+    ap (list_all is_digit) (take-two from more chars) ∙ list_all-append is_digit front (take more (drop from chars)) ∙ and_from _ _ parts.0 behind
 
 -- each becomes the same character
 pub digits-zero : (enc : Enc) (xs : List ℕ) → list_all (is_digit_of enc) xs ≡ true → replicate (length xs) (zero_of enc) ≡ map (blank enc) xs

@@ -54,13 +54,43 @@ fn block(chars: &[u8], at: usize) -> &[u8]
 }
 
 // How many whole blocks of digits begin the characters, counted in characters.
-fn digits_len(chars: &[u8], enc: Enc) -> usize
+fn blocks_len(chars: &[u8], enc: Enc) -> usize
     ensures within { result ≤ length chars.now }
     ensures digits { list_all (is_digit_of enc) (take result chars.now) ≡ true }
 {
     let mut len = 0;
     while chars.len() - len >= BLOCK && are_digits(block(chars, len), enc) {
         len += BLOCK;
+    }
+    len
+}
+
+// Where the last of the characters that is a digit ends.
+fn last_digit_end(chars: &[u8], enc: Enc) -> usize
+    ensures { result ≤ length chars.now }
+{
+    let mut end = chars.len();
+    while end > 0 && !is_digit(chars[end - 1], enc) {
+        end -= 1;
+    }
+    end
+}
+
+// How many characters at their beginning are known to be digits: of a payload that fills a block, with its
+// LF, all but the padding and the LF. The digits behind the blocks are tested in a block too, which ends where
+// they end: its first characters are tested twice, which takes less time than to test the last ones singly.
+fn digits_len(chars: &[u8], enc: Enc) -> usize
+    ensures within { result ≤ length chars.now }
+    ensures digits { list_all (is_digit_of enc) (take result chars.now) ≡ true }
+{
+    let len = blocks_len(chars, enc);
+    let end = last_digit_end(chars, enc);
+    if BLOCK <= len
+        && len < end
+        && end - len < BLOCK
+        && are_digits(block(chars, end - BLOCK), enc)
+    {
+        return end;
     }
     len
 }

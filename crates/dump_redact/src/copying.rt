@@ -11,7 +11,7 @@ use dump_io::{Dumps, Sink, read_full, write_all};
 use std::alloc::{AllocError, Global};
 
 // The most bytes in a piece.
-const PIECE: usize = 131_072;
+const PIECE: usize = 65_536;
 
 // A buffer for a piece.
 pub(crate) fn make_buffer(alloc: Global) -> Result<Vec<u8>, AllocError>

@@ -11,7 +11,7 @@
 //! ```
 //!
 //! `specs/Redacted.antt` says what a redacted dump is, over the lines of a dump; the laws in `specs/Laws.antt`
-//! say what stays. As many sections are redacted at once as lie whole in a piece of 128 KiB. A larger
+//! say what stays. As many sections are redacted at once as lie whole in a piece of 64 KiB. A larger
 //! section is loaded if it is a heap or literals, and copied in pieces if it is anything else.
 #![tactic(auto)]
 

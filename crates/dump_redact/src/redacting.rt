@@ -193,7 +193,7 @@ fn put_dump<D: Dumps, K: Sink>(
 /// on a section's body; it names the first in the dump, and nothing is read or written then. Returns
 /// `Read` only if the device's count of faults rose, and `Write` only if the sink's did; `Memory` may
 /// come from allocating room for a heap or for literals that don't fit into a piece, or the pieces of
-/// at most 131,072 bytes in which all other bytes are copied. After any of these three a proper prefix of
+/// at most 65,536 bytes in which all other bytes are copied. After any of these three a proper prefix of
 /// the redacted dump was written. Whatever it returns, at most as many bytes are read as the file has.
 pub fn redact<D: Dumps, K: Sink>(
     alloc: Global,

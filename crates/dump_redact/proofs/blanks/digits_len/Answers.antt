@@ -1,17 +1,17 @@
-use Rattle.std.proofs.Common.{◌≡◌, true, take, drop, sym, ◌∙◌, ap, arith}
+use Rattle.std.proofs.Common.{◌≡◌, ◌+◌, ◌-◌, true, take, drop, sym, ◌∙◌, ap, arith}
 use Rattle.std.specs.List.{list_all}
-use Rattle.std.proofs.lemmas.Bool.{and_from}
-use Rattle.std.proofs.lemmas.List.Folds.{list_all-append}
-use Rattle.dump_io.specs.Laws.Reads.{take-two}
 use Rattle.binary_payloads.specs.Payload.{is_digit_of}
+use Rattle.dump_redact.proofs.Stretches.{digits-joined}
 use Rattle.dump_redact.proofs.blanks.digits_len.Goals as goal
 
-pub loop-len-preserved : goal.loop-len-preserved
-loop-len-preserved c =
+pub returns-then-are_digits-clause-digits : goal.returns-then-are_digits-clause-digits
+returns-then-are_digits-clause-digits c =
+    let enc = c.args.enc in
     let chars = c.args.chars.now in
-    let len = c.loop-len.len in
-    let is_digit = is_digit_of c.args.enc in
-    let next : list_all is_digit (take 64 (drop len chars)) ≡ true = ap (list_all is_digit) (sym c.block.ensures) ∙ sym c.are_digits.ensures ∙ c.if-are_digits.true in (
-      omega (arith, c.loop-len-test.true, c.loop-len.invariant.0),
-      ap (list_all is_digit) (take-two len 64 chars) ∙ list_all-append is_digit (take len chars) (take 64 (drop len chars)) ∙ and_from _ _ c.loop-len.invariant.1 next,
-    )
+    let len = c.blocks_len-len.result in
+    let end = c.last_digit_end-end.result in
+    let last : list_all (is_digit_of enc) (take 64 (drop (end - 64) chars)) ≡ true =
+    ap (list_all (is_digit_of enc)) (sym c.block.ensures) ∙ sym c.are_digits.ensures ∙ c.if-are_digits.true in
+    let count : end - 64 + 64 ≡ end = omega (arith, c.if-len-ge-BLOCK.true, c.if-len-end.true) in
+    ap (λ n. list_all (is_digit_of enc) (take n chars)) (sym count)
+    ∙ digits-joined enc chars len (end - 64) 64 (omega (arith, c.if-end-len-lt-BLOCK.true)) c.blocks_len-len.ensures.digits last
