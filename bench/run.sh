@@ -202,12 +202,15 @@ for processes in 200000 400000; do
 done
 rm -f "$dump"
 
-# Binaries made zero, beside `cat` and beside a program in C that only reads the dump twice and writes it.
+# Binaries made zero, beside `cat` and beside a program in C that only reads the dump twice and writes it. Each round
+# has another order, since what a program takes depends on the one before it by up to a tenth.
 for size in 4095 399; do
     rm -f "$folder"/*.times
     "$bench" payloads "$dump" 1073741824 "$size" || exit 1
+    order="redact cat copy"
     for _ in $(seq "$rounds"); do
-        for name in redact cat copy; do
+        order="${order#* } ${order%% *}"
+        for name in $order; do
             rm -f "$folder/out"
             sync
             case $name in

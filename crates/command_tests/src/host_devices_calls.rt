@@ -7,7 +7,7 @@ use std::test::Fail;
 use std::{env, fs};
 
 // How many bytes a sink's buffer holds.
-const BUFFER: usize = 65_536;
+const BUFFER: usize = 131_072;
 
 #[test]
 fn a_file_of_the_machine_is_read(rt: HostRuntime) -> Result<(), Fail> {
@@ -89,7 +89,7 @@ fn a_stream_gets_what_was_gathered_until_it_fails(rt: HostRuntime) -> Result<(),
 }
 
 #[test]
-fn pieces_of_64_kib_and_more(rt: HostRuntime) -> Result<(), Fail> {
+fn pieces_larger_than_the_buffer(rt: HostRuntime) -> Result<(), Fail> {
     let taken = Taken {
         bytes: RefCell::new(Vec::new(rt.alloc())),
         room: Cell::new(1_000_000),
@@ -102,7 +102,7 @@ fn pieces_of_64_kib_and_more(rt: HostRuntime) -> Result<(), Fail> {
     let mut all = Vec::from_slice(rt.alloc(), b"0123456789")?;
     write_all(&mut sink, all.as_slice())?;
     let piece = vec![in rt.alloc(); b'a'; 2 * BUFFER + 10]?;
-    // The buffer is filled first, and then 64 KiB go past it.
+    // The buffer is filled first, and then as many bytes go past it.
     let (filled, rest) = piece.split_at(BUFFER - 10);
     assert_eq!(rt; sink.write(piece.as_slice())?, filled.len());
     assert!(rt; took(&taken, b""));

@@ -84,12 +84,12 @@ fn digits_len(chars: &[u8], enc: Enc) -> usize
     ensures digits { list_all (is_digit_of enc) (take result chars.now) ≡ true }
 {
     let len = blocks_len(chars, enc);
+    // What has no block, or a line behind it, isn't searched for its end.
+    if len < BLOCK || chars.len() - len >= 2 * BLOCK {
+        return len;
+    }
     let end = last_digit_end(chars, enc);
-    if BLOCK <= len
-        && len < end
-        && end - len < BLOCK
-        && are_digits(block(chars, end - BLOCK), enc)
-    {
+    if len < end && end - len < BLOCK && are_digits(block(chars, end - BLOCK), enc) {
         return end;
     }
     len

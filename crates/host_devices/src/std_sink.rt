@@ -9,10 +9,10 @@ use std::alloc::{AllocError, Global};
 use std::io::Write;
 
 // How many bytes a stream's buffer holds.
-const GATHERED: usize = 65_536;
+const GATHERED: usize = 131_072;
 
-/// A stream of the machine. The sink buffers what is written and passes it on once 64 KiB have
-/// accumulated, and on `flush`; while nothing is buffered, whole multiples of 64 KiB go past the buffer.
+/// A stream of the machine. The sink buffers what is written and passes it on once 128 KiB have
+/// accumulated, and on `flush`; while nothing is buffered, whole multiples of 128 KiB go past the buffer.
 /// It doesn't tell what was written, and counts each error as a fault, including a write that takes
 /// nothing. After a fault it passes on nothing more, and each later call fails. Until then, what the
 /// stream got and what is buffered are all that was taken, in order.
@@ -22,8 +22,8 @@ pub struct StdSink<W: Write + Drop> {
     gathered: Vec<u8>,
     is_broken: bool,
     faults: Count,
-    ghost within: { vec_len gathered ≤ 65536 },
-    ghost room: { 65536 ≤ vec_capacity gathered },
+    ghost within: { vec_len gathered ≤ 131072 },
+    ghost room: { 131072 ≤ vec_capacity gathered },
 }
 
 impl<W: Write + Drop> StdSink<W> {

@@ -12,6 +12,6 @@ returns-then-are_digits-clause-digits c =
     let end = c.last_digit_end-end.result in
     let last : list_all (is_digit_of enc) (take 64 (drop (end - 64) chars)) ≡ true =
     ap (list_all (is_digit_of enc)) (sym c.block.ensures) ∙ sym c.are_digits.ensures ∙ c.if-are_digits.true in
-    let count : end - 64 + 64 ≡ end = omega (arith, c.if-len-ge-BLOCK.true, c.if-len-end.true) in
+    let count : end - 64 + 64 ≡ end = omega (arith, c.if-len-lt-BLOCK.false, c.if-len-end.true) in
     ap (λ n. list_all (is_digit_of enc) (take n chars)) (sym count)
     ∙ digits-joined enc chars len (end - 64) 64 (omega (arith, c.if-end-len-lt-BLOCK.true)) c.blocks_len-len.ensures.digits last
