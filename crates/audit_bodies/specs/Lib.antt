@@ -1,3 +1,4 @@
+pub mod Audits
 pub mod Bodies
 pub mod Inner
 pub mod Mailboxes

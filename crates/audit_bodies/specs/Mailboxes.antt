@@ -4,7 +4,7 @@ use Rattle.std.specs.List.{filter_map}
 use Rattle.std.specs.Option.{option_and_then, option_map}
 use Rattle.dump_io.specs.Lines.{headers}
 use Rattle.dump_sections.specs.Bodies.{at_place, body_of}
-use Rattle.dump_sections.specs.Index.{dump_state}
+use Rattle.dump_sections.specs.Index.{Contents, sections_in, dump_state}
 use Rattle.dump_sections.specs.Lookups.{is_named}
 use Rattle.dump_sections.specs.Sections.{Section, sections}
 use Rattle.dump_sections.specs.declared.index.State.{State}
@@ -12,7 +12,7 @@ use Rattle.process_table.specs.Records.{record_sections, records, pid_of}
 use Rattle.root_views.specs.Roots.{message_count}
 use Rattle.dump_audit.specs.Findings.{is_cut}
 
--- the place of a process's mailbox: the first of the sections with messages whose id is its pid
+-- the place of a process's mailbox, which is the first section with messages whose id is its pid
 abbrev pub mailbox_place : List Section → List ℕ → Option ℕ
 mailbox_place sections pid = position (λ s. is_named (codes "proc_messages") (Some pid) s.text) sections
 
@@ -33,9 +33,13 @@ abbrev pub mail_at : List ℕ → State → List Section → ℕ → Option ℕ
 mail_at bytes state sections place =
     if is_cut state place then None else Some (message_count (body_of bytes (at_place sections place)))
 
--- the same if there is a mailbox
+-- how many it has, if there is a mailbox
 abbrev pub mail_in : List ℕ → State → List Section → Option ℕ → Option ℕ
 mail_in bytes state sections place = option_and_then (mail_at bytes state sections) place
+
+-- how many messages a mailbox has that was found in an index, if that is known
+abbrev pub mail_of : List ℕ → Contents → Option ℕ → Option ℕ
+mail_of bytes index place = mail_in bytes (dump_state index.headers) (sections_in index) place
 
 -- for each process of the table, how many messages it has, if that is known
 abbrev pub mails : List ℕ → List (Option ℕ)

@@ -1,18 +1,18 @@
 // The bodies of an audit: all of them are judged on the index before one is read.
 ghost use Rattle.std.specs.Prelude.{◌≡◌, ℕ, List, [], ◌++◌, length, All, Some, None, ◌<◌, IfOk, IfErr, if◌then◌else◌};
-ghost use Rattle.dump_io.specs.Dumps.{told, ReadsAtMost};
+ghost use Rattle.dump_io.specs.Dumps.{IfTold, ReadsAtMost};
 ghost use Rattle.dump_sections.specs.Index.{IsBuiltOver, sections_in};
 ghost use Rattle.dump_sections.specs.Loading.{bodies_length, large_fault, sections_at, IsUnloaded, LoadsBodies};
-ghost use Rattle.process_table.specs.Records.{proc_places, record_sections};
+ghost use Rattle.process_table.specs.Records.{proc_places};
 ghost use Rattle.audit_bodies.specs.Mailboxes.{audited_sections, mailbox_places, mailboxes_at};
 ghost use Rattle.audit_bodies.specs.Bodies.{AreBodiesOf, IsAuditable};
-ghost use Rattle.audit_bodies.specs.Inner.Places.{AreBodyPlaces};
+ghost use Rattle.audit_bodies.specs.Inner.Places.{AreBodyPlaces, sections_found};
 ghost use Rattle.audit_bodies.specs.Inner.Mailboxes.{IsWithin};
 
 use crate::mailboxes::{mailboxes, present};
 use crate::messages::count_messages;
 use dump_io::{Dumps, Limits};
-use dump_sections::{BodyFault, Index, large};
+use dump_sections::{BodyFault, Index, LargeSection, large};
 use process_table::{ProcSections, Procs};
 use std::alloc::{AllocError, Global};
 
@@ -43,7 +43,8 @@ fn find_mailboxes(
     full: bool,
 ) -> Result<Vec<Option<usize>>, AllocError>
     requires { found.now ≡ proc_places (sections_in index.now) }
-    ensures places { IfOk result (λ places. places.items ≡ (if full then mailbox_places (sections_in index.now) else [])) }
+    ensures places { IfOk result (λ places. places.items
+        ≡ (if full then mailbox_places (sections_in index.now) else [])) }
     ensures within { IfOk result (λ places. All (IsWithin index.now) places.items) }
 {
     if !full {
@@ -66,16 +67,17 @@ fn find_places(alloc: Global, index: &Index, full: bool) -> Result<BodyPlaces, A
     })
 }
 
-// The refusal of the first body that is too large. The sections of all processes come before their mailboxes.
-fn large_body(index: &Index, places: &BodyPlaces, limits: &Limits) -> Option<BodyFault>
+// The first body that is too large. The sections of all processes come before their mailboxes.
+fn large_body(index: &Index, places: &BodyPlaces, limits: &Limits) -> Option<LargeSection>
     requires found { places.now.found ≡ proc_places (sections_in index.now) }
-    requires present { sections_at index.now places.now.present.items ≡ mailboxes_at (sections_in index.now) places.now.mailboxes.items }
+    requires present { sections_at index.now places.now.present.items
+        ≡ mailboxes_at (sections_in index.now) places.now.mailboxes.items }
     requires within { All (λ i. i < length index.now.headers) places.now.present.items }
-    ensures { result ≡ large_fault limits.now.section (record_sections (sections_in index.now) ++ mailboxes_at (sections_in index.now) places.now.mailboxes.items) }
+    ensures { result ≡ large_fault limits.now.section (sections_found index.now places.now) }
 {
-    let fault = places.found.large(index, limits);
-    if fault.is_some() {
-        return fault;
+    let first = places.found.large(index, limits);
+    if first.is_some() {
+        return first;
     }
     large(index, places.present.as_slice(), limits)
 }
@@ -91,9 +93,11 @@ fn read_bodies<D: Dumps>(
 ) -> Result<AuditBodies, BodyFault>
     requires over { IsBuiltOver (D.state dumps.old).now index.now }
     requires places { AreBodyPlaces full index.now places }
-    requires small { large_fault limits.now.section (record_sections (sections_in index.now) ++ mailboxes_at (sections_in index.now) places.mailboxes.items) ≡ None }
-    ensures reads { ReadsAtMost (D.state dumps.old) (D.state dumps.new) (bodies_length (record_sections (sections_in index.now) ++ mailboxes_at (sections_in index.now) places.mailboxes.items)) }
-    ensures bodies { IfOk result (λ read. (bytes : List ℕ) → (D.state dumps.old).now ≡ told bytes → AreBodiesOf full index.now bytes read) }
+    requires small { large_fault limits.now.section (sections_found index.now places) ≡ None }
+    ensures reads { ReadsAtMost (D.state dumps.old) (D.state dumps.new)
+        (bodies_length (sections_found index.now places)) }
+    ensures bodies { IfOk result (λ read. IfTold (D.state dumps.old).now
+        (λ bytes. AreBodiesOf full index.now bytes read)) }
     ensures auditable { IfOk result (IsAuditable index.now) }
     ensures fault { IfErr result (IsUnloaded (D.state dumps.old) (D.state dumps.new)) }
 {
@@ -122,15 +126,17 @@ impl AuditBodies {
         limits: &Limits,
     ) -> Result<AuditBodies, BodyFault>
         requires { IsBuiltOver (D.state dumps.old).now index.now }
-        ensures loads { LoadsBodies D.state (audited_sections full (sections_in index.now)) limits.now.section dumps.old dumps.new result }
-        ensures bodies { IfOk result (λ read. (bytes : List ℕ) → (D.state dumps.old).now ≡ told bytes → AreBodiesOf full index.now bytes read) }
+        ensures loads { LoadsBodies D.state (audited_sections full (sections_in index.now)) limits.now.section
+            dumps.old dumps.new result }
+        ensures bodies { IfOk result (λ read. IfTold (D.state dumps.old).now
+            (λ bytes. AreBodiesOf full index.now bytes read)) }
         ensures auditable { IfOk result (IsAuditable index.now) }
     {
         let Ok(places) = find_places(alloc, index, full) else {
             return Err(BodyFault::Memory);
         };
-        if let Some(fault) = large_body(index, &places, limits) {
-            return Err(fault);
+        if let Some(large) = large_body(index, &places, limits) {
+            return Err(BodyFault::from(large));
         }
         read_bodies(alloc, dumps, index, places, full, limits)
     }

@@ -16,7 +16,8 @@ pub(crate) fn mailboxes(
     index: &Index,
     found: &ProcSections,
 ) -> Result<Vec<Option<usize>>, AllocError>
-    ensures places { IfOk result (λ places. places.items ≡ map (mailbox_place (sections_in index.now)) (map (λ p. p.0) found.now.places)) }
+    ensures places { IfOk result (λ places. places.items
+        ≡ map (mailbox_place (sections_in index.now)) (map (λ p. p.0) found.now.places)) }
     ensures within { IfOk result (λ places. All (IsWithin index.now) places.items) }
 {
     let firsts = FirstSections::find(alloc, index, b"proc_messages".as_slice())?;
@@ -36,8 +37,10 @@ pub(crate) fn present(
     places: &[Option<usize>],
 ) -> Result<Vec<usize>, AllocError>
     requires { All (IsWithin index.now) places.now }
-    ensures sections { IfOk result (λ present. sections_at index.now present.items ≡ mailboxes_at (sections_in index.now) places.now) }
-    ensures within { IfOk result (λ present. All (λ i. i < length index.now.headers) present.items) }
+    ensures sections { IfOk result (λ present. sections_at index.now present.items
+        ≡ mailboxes_at (sections_in index.now) places.now) }
+    ensures within { IfOk result (λ present.
+        All (λ i. i < length index.now.headers) present.items) }
 {
     let mut present = Vec::new(alloc);
     for place in places {

@@ -1,11 +1,11 @@
 // Counting the messages of processes, one mailbox after another.
-ghost use Rattle.std.specs.Prelude.{◌≡◌, ℕ, List, [], ◌∷◌, ◌<◌, ◌≤◌, length, map, All, IfOk, IfErr};
-ghost use Rattle.dump_io.specs.Dumps.{told, ReadsAtMost};
+ghost use Rattle.std.specs.Prelude.{◌≡◌, [], ◌∷◌, ◌<◌, ◌≤◌, length, map, Some, All, IfOk, IfErr};
+ghost use Rattle.dump_io.specs.Dumps.{IfTold, ReadsAtMost};
 ghost use Rattle.dump_sections.specs.Bodies.{section_at, body_length};
-ghost use Rattle.dump_sections.specs.Index.{IsBuiltOver, sections_in, dump_state};
-ghost use Rattle.dump_sections.specs.Loading.{bodies_length, IsUnloaded};
-ghost use Rattle.audit_bodies.specs.Mailboxes.{mail_at, mail_in, mailboxes_at};
-ghost use Rattle.audit_bodies.specs.Inner.Mailboxes.{IsSmall, IsWithin};
+ghost use Rattle.dump_sections.specs.Index.{IsBuiltOver};
+ghost use Rattle.dump_sections.specs.Loading.{IsUnloaded};
+ghost use Rattle.audit_bodies.specs.Mailboxes.{mail_of};
+ghost use Rattle.audit_bodies.specs.Inner.Mailboxes.{IsSmall, IsWithin, mails_length};
 
 use dump_audit::is_cut;
 use dump_io::{Dumps, Limits};
@@ -25,8 +25,10 @@ fn count_at<D: Dumps>(
     requires over { IsBuiltOver (D.state dumps.old).now index.now }
     requires place { i < length index.now.headers }
     requires small { body_length (section_at index.now i) ≤ limits.now.section }
-    ensures reads { ReadsAtMost (D.state dumps.old) (D.state dumps.new) (body_length (section_at index.now i)) }
-    ensures count { IfOk result (λ count. (bytes : List ℕ) → (D.state dumps.old).now ≡ told bytes → count ≡ mail_at bytes (dump_state index.now.headers) (sections_in index.now) i) }
+    ensures reads { ReadsAtMost (D.state dumps.old) (D.state dumps.new)
+        (body_length (section_at index.now i)) }
+    ensures count { IfOk result (λ count. IfTold (D.state dumps.old).now
+        (λ bytes. count ≡ mail_of bytes index.now (Some i))) }
     ensures fault { IfErr result (IsUnloaded (D.state dumps.old) (D.state dumps.new)) }
 {
     if is_cut(index.state(), i) {
@@ -36,7 +38,7 @@ fn count_at<D: Dumps>(
     Ok(Some(messages(body.as_slice())))
 }
 
-// The same for a process that may have no mailbox.
+// Counts the messages of a process, which may have no mailbox.
 fn count_in<D: Dumps>(
     alloc: Global,
     dumps: &mut D,
@@ -47,8 +49,10 @@ fn count_in<D: Dumps>(
     requires over { IsBuiltOver (D.state dumps.old).now index.now }
     requires within { IsWithin index.now place }
     requires small { IsSmall index.now limits.now.section place }
-    ensures reads { ReadsAtMost (D.state dumps.old) (D.state dumps.new) (bodies_length (mailboxes_at (sections_in index.now) (place ∷ []))) }
-    ensures count { IfOk result (λ count. (bytes : List ℕ) → (D.state dumps.old).now ≡ told bytes → count ≡ mail_in bytes (dump_state index.now.headers) (sections_in index.now) place) }
+    ensures reads { ReadsAtMost (D.state dumps.old) (D.state dumps.new)
+        (mails_length index.now (place ∷ [])) }
+    ensures count { IfOk result (λ count. IfTold (D.state dumps.old).now
+        (λ bytes. count ≡ mail_of bytes index.now place)) }
     ensures fault { IfErr result (IsUnloaded (D.state dumps.old) (D.state dumps.new)) }
 {
     match place {
@@ -69,8 +73,10 @@ pub(crate) fn count_messages<D: Dumps>(
     requires over { IsBuiltOver (D.state dumps.old).now index.now }
     requires within { All (IsWithin index.now) places.now }
     requires small { All (IsSmall index.now limits.now.section) places.now }
-    ensures reads { ReadsAtMost (D.state dumps.old) (D.state dumps.new) (bodies_length (mailboxes_at (sections_in index.now) places.now)) }
-    ensures counts { IfOk result (λ counts. (bytes : List ℕ) → (D.state dumps.old).now ≡ told bytes → counts.items ≡ map (mail_in bytes (dump_state index.now.headers) (sections_in index.now)) places.now) }
+    ensures reads { ReadsAtMost (D.state dumps.old) (D.state dumps.new)
+        (mails_length index.now places.now) }
+    ensures counts { IfOk result (λ counts. IfTold (D.state dumps.old).now
+        (λ bytes. counts.items ≡ map (mail_of bytes index.now) places.now)) }
     ensures all { IfOk result (λ counts. length counts.items ≡ length places.now) }
     ensures fault { IfErr result (IsUnloaded (D.state dumps.old) (D.state dumps.new)) }
 {

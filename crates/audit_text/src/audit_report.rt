@@ -33,7 +33,8 @@ fn put_finding<'x, K: Sink>(
 ) -> Result<(), Failed>
     requires graph { graph.now ≡ graph_of procs.now.processes }
     requires fits { Fits procs.now.processes finding }
-    ensures { Puts (K.state sink.old) (K.state sink.new) (finding_line procs.now.processes finding) result }
+    ensures { Puts (K.state sink.old) (K.state sink.new)
+        (finding_line procs.now.processes finding) result }
 {
     match finding {
         Finding::LinkOneSided {
@@ -199,7 +200,8 @@ fn put_all<K: Sink>(
 ) -> Result<(), Failed>
     requires graph { graph.now ≡ graph_of procs.now.processes }
     requires fits { All (Fits procs.now.processes) findings.now }
-    ensures { Puts (K.state sink.old) (K.state sink.new) (flat_map (finding_line procs.now.processes) findings.now) result }
+    ensures { Puts (K.state sink.old) (K.state sink.new)
+        (flat_map (finding_line procs.now.processes) findings.now) result }
 {
     for finding in findings {
         put_finding(sink, &*procs, &*graph, *finding)?;
@@ -219,7 +221,8 @@ pub fn put_findings<K: Sink>(
 ) -> Result<(), Failed>
     requires graph { graph.now ≡ graph_of procs.now.processes }
     requires fits { All (Fits procs.now.processes) findings.now }
-    ensures { Puts (K.state sink.old) (K.state sink.new) (findings_report index.now procs.now.processes findings.now) result }
+    ensures { Puts (K.state sink.old) (K.state sink.new)
+        (findings_report index.now procs.now.processes findings.now) result }
 {
     put_all(sink, procs, graph, findings)?;
     put_total_line(sink, b"findings", findings.len() as u64)?;

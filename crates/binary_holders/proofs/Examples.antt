@@ -10,12 +10,12 @@ stored_sections : map (λ b. b.section.at) (stored (sections (codes "=erl_crash_
 stored_sections = refl
 
 -- the second of three processes holds a binary of 5 bytes, by one cell
-one_holder : holdings (record { number = 1280; size = 5 } ∷ []) ([] ∷ (1280 ∷ 7 ∷ []) ∷ (7 ∷ []) ∷ []) ≡ record { process = 1; bytes = 5; count = 1; cells = 1 } ∷ []
+one_holder : holdings (record { number = 1280; size = 5 } ∷ []) ([] ∷ (1280 ∷ 7 ∷ []) ∷ (7 ∷ []) ∷ []) ≡ record { process = 1; bytes = 5; total = 5; count = 1; cells = 1 } ∷ []
 one_holder = refl
 
--- a binary counts once for a process, whatever many cells refer to it, and a sum ends at 2^64 - 1
+-- a binary counts once for a process, however many cells refer to it, and a sum is shown as at most 2^64 - 1
 counted_once : holdings (record { number = 1; size = 18446744073709551615 } ∷ record { number = 2; size = 3 } ∷ []) ((2 ∷ 2 ∷ []) ∷ (1 ∷ 2 ∷ []) ∷ [])
-    ≡ record { process = 0; bytes = 3; count = 1; cells = 2 } ∷ record { process = 1; bytes = 18446744073709551615; count = 2; cells = 2 } ∷ []
+    ≡ record { process = 0; bytes = 3; total = 3; count = 1; cells = 2 } ∷ record { process = 1; bytes = 18446744073709551615; total = 18446744073709551618; count = 2; cells = 2 } ∷ []
 counted_once = refl
 
 -- so many heaps hold a binary

@@ -8,14 +8,14 @@ use Rattle.dump_sections.specs.Bodies.{section_at}
 use Rattle.dump_sections.specs.Index.{Contents}
 use Rattle.heap_cells.specs.Loading.{enc_of}
 use Rattle.binary_holders.specs.declared.rows.Holding.{Holding}
-use Rattle.binary_holders.specs.declared.sought.Binary.{Binary}
-use Rattle.binary_holders.specs.declared.tally.Tally.{Tally}
+use Rattle.binary_holders.specs.declared.targets.Binary.{Binary}
+use Rattle.binary_holders.specs.declared.counts.Counts.{Counts}
 use Rattle.binary_holders.specs.Held.{holding_of, holdings}
 use Rattle.binary_holders.specs.Usage.{NamesProcess}
 use Rattle.binary_holders.specs.Inner.Places.{references_at}
-use Rattle.binary_holders.specs.Inner.Tallies.{counted, HasHeard}
+use Rattle.binary_holders.specs.Inner.Counting.{counted, HasCounted}
 use Rattle.binary_holders.proofs.Scans.{few-references}
-use Rattle.binary_holders.proofs.TallyFacts.{held-is}
+use Rattle.binary_holders.proofs.CountFacts.{held-is}
 
 enumerate-push : {X : Type 0} (n : ℕ) (xs : List X) (x : X) → enumerate_from n (xs ++ x ∷ []) ≡ enumerate_from n xs ++ (n + length xs, x) ∷ []
 enumerate-push n [] x = let here : n ≡ n + 0 = omega arith in ap (λ m. (m, x) ∷ []) here
@@ -36,21 +36,21 @@ holdings-push binaries heaps refs =
     ∙ filter-append has_some (map (holding_of binaries) (enumerate_from 0 heaps)) (holding_of binaries (length heaps, refs) ∷ [])
 
 -- one process more
-pub held-more : (binaries : List Binary) (heaps : List (List ℕ)) (refs : List ℕ) (held : List Holding) (tally : Tally) (process : ℕ) → held ≡ holdings binaries heaps → process ≡ length heaps
-    → HasHeard binaries heaps refs tally → length refs < 2 ^ 64
-    → held ++ (if nat_lt 0 tally.count then counted process tally ∷ [] else []) ≡ holdings binaries (heaps ++ refs ∷ [])
-held-more binaries heaps refs held tally process so_far place heard few =
-    let is : counted process tally ≡ holding_of binaries (length heaps, refs) = held-is binaries heaps refs tally process heard few ∙ ap (λ n. holding_of binaries (n, refs)) place in
-    ap (λ l. l ++ (if nat_lt 0 tally.count then counted process tally ∷ [] else [])) so_far
+pub held-more : (binaries : List Binary) (heaps : List (List ℕ)) (refs : List ℕ) (held : List Holding) (counts : Counts) (process : ℕ) → held ≡ holdings binaries heaps → process ≡ length heaps
+    → HasCounted binaries heaps refs counts → length refs < 2 ^ 64
+    → held ++ (if nat_lt 0 counts.count then counted process counts ∷ [] else []) ≡ holdings binaries (heaps ++ refs ∷ [])
+held-more binaries heaps refs held counts process so_far place had few =
+    let is : counted process counts ≡ holding_of binaries (length heaps, refs) = held-is binaries heaps refs counts process had few ∙ ap (λ n. holding_of binaries (n, refs)) place in
+    ap (λ l. l ++ (if nat_lt 0 counts.count then counted process counts ∷ [] else [])) so_far
     ∙ ap (λ (h : Holding). holdings binaries heaps ++ (if nat_lt 0 h.count then h ∷ [] else [])) is
     ∙ sym (holdings-push binaries heaps refs)
 
 -- each is one of so many processes
-pub named-more : (count process : ℕ) (held : List Holding) (tally : Tally) → process < count → All (NamesProcess count) held
-    → All (NamesProcess count) (held ++ (if nat_lt 0 tally.count then counted process tally ∷ [] else []))
-named-more count process held tally inside named =
-    elim (nat_lt 0 tally.count) as (λ b. All (NamesProcess count) (held ++ (if b then counted process tally ∷ [] else []))) [
-      | true ↦ All-push (NamesProcess count) held (counted process tally) named inside
+pub named-more : (count process : ℕ) (held : List Holding) (counts : Counts) → process < count → All (NamesProcess count) held
+    → All (NamesProcess count) (held ++ (if nat_lt 0 counts.count then counted process counts ∷ [] else []))
+named-more count process held counts inside named =
+    elim (nat_lt 0 counts.count) as (λ b. All (NamesProcess count) (held ++ (if b then counted process counts ∷ [] else []))) [
+      | true ↦ All-push (NamesProcess count) held (counted process counts) named inside
       | false ↦ subst (All (NamesProcess count)) (sym (append-nil held)) named
     ]
 

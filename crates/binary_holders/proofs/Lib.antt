@@ -4,9 +4,10 @@ mod HoldingFacts
 mod LineFacts
 mod MarkFacts
 mod Scans
-mod SoughtFacts
+mod SinkFacts
+mod TargetFacts
 mod StoredFacts
 mod SumFacts
-mod TallyFacts
+mod CountFacts
 mod TextFacts
 mod UsingFacts

@@ -16,8 +16,10 @@ use Rattle.term_forms.specs.Forms.{HeapForm, RefBin, IsForm, IsRange}
 use Rattle.term_forms.specs.ReadingForms.{form_of}
 use Rattle.term_forms.specs.Words.{colon, led_of, IsLed}
 use Rattle.binary_holders.specs.HeapReferences.{referred}
-use Rattle.binary_holders.specs.Inner.Lines.{text_reference, line_reference, line_references, HasNoLf, AreWhole, IsMarked}
-use Rattle.binary_holders.proofs.LineFacts.{join, lines-first, lines-join, references-whole, one-more}
+use Rattle.binary_holders.specs.Inner.Lines.{text_reference, line_reference, line_references, IsMarked}
+use Rattle.body_lines.specs.Lines.{AreWhole, HasNoLf}
+use Rattle.body_lines.specs.Laws.{lines-first}
+use Rattle.binary_holders.proofs.LineFacts.{references-whole, one-more}
 
 -- ---- what the laws of the grammar say
 
@@ -238,16 +240,3 @@ module _ (enc : Enc) (leds : AreLed) (forms : AreForms enc) where
       ∙ one-more (line_reference enc) (middle ++ take n rest) (raw_lines (drop n rest))
       ∙ ap (λ l. option_to_list (line_reference enc l) ++ line_references enc (drop n rest)) (sym line)
       ∙ ap (λ l. option_to_list (line_reference enc (between start (at + n) bytes)) ++ line_references enc l) (drop-drop n at bytes)
-
-  -- ---- of a long line only a front matters
-
-  first-long : (front : List ℕ) (lines : List (List ℕ)) → 72 ≤ length front → filter_map (line_reference enc) (join front lines) ≡ filter_map (line_reference enc) (drop 1 lines)
-  first-long front [] long = one-more (line_reference enc) front [] ∙ ap (λ o. option_to_list o ++ []) (line-long front long)
-  first-long front (line ∷ lines) long =
-      one-more (line_reference enc) (front ++ line) lines
-      ∙ ap (λ o. option_to_list o ++ filter_map (line_reference enc) lines) (line-long (front ++ line) (omega (arith, long, length-append front line)))
-
-  pub long-front : (front rest : List ℕ) → HasNoLf front → 72 ≤ length front → line_references enc (front ++ rest) ≡ filter_map (line_reference enc) (drop 1 (raw_lines rest))
-  long-front [] rest free long = absurd (omega (arith, long))
-  long-front (c ∷ front) rest free long =
-      ap (filter_map (line_reference enc)) (lines-join c front rest free) ∙ first-long (c ∷ front) (raw_lines rest) long

@@ -1,124 +1,37 @@
--- A heap is heard line by line, and piece by piece.
-use Rattle.std.proofs.Common.{◌≡◌, ℕ, ◌+◌, ◌-◌, ◌<◌, ◌≤◌, ◌==◌, ◌⊎◌, inl, inr, Bool, true, false, List, [], ◌∷◌, ◌++◌, length, take, drop, Option, None, Some, refl, sym, ◌∙◌, ap, arith, append_assoc, append-nil, if◌then◌else◌}
-use Rattle.std.specs.Prelude.{min, map, ◌≢◌}
-use Rattle.std.specs.List.{between, filter_map, cons_option, copy_within}
+-- A heap is counted line by line, and piece by piece.
+use Rattle.std.proofs.Common.{◌≡◌, ℕ, ◌+◌, ◌≤◌, ◌==◌, true, false, List, [], ◌∷◌, ◌++◌, length, Option, None, Some, refl, sym, ◌∙◌, ap, arith, append_assoc, append-nil, if◌then◌else◌}
+use Rattle.std.specs.Prelude.{map}
+use Rattle.std.specs.List.{filter_map, cons_option}
 use Rattle.std.specs.Option.{option_to_list, option_map, option_and_then}
-use Rattle.std.proofs.lemmas.Bool.{cases_lt}
-use Rattle.std.proofs.lemmas.List.Elements.{All-take, filter_map-append}
-use Rattle.std.proofs.lemmas.List.{take_all, take-append-drop, take_at, length-take-le, length-drop, drop-drop}
-use Rattle.dump_io.specs.Dumps.{Now, told}
-use Rattle.dump_io.specs.Laws.Reads.{take-two}
+use Rattle.std.proofs.lemmas.List.Elements.{filter_map-append}
 use Rattle.dump_io.specs.Lines.{lf, raw_lines, lines_after, lines_from, text_of}
 use Rattle.field_lines.specs.Lines.{text_line}
 use Rattle.heap_cells.specs.Cells.{Cell, cell_of, spelled_cell}
 use Rattle.binary_payloads.specs.declared.enc.Enc.{Enc}
 use Rattle.term_forms.specs.ReadingForms.{form_of}
 use Rattle.term_forms.specs.Words.{led_of}
-use Rattle.binary_holders.specs.declared.sought.Binary.{Binary}
-use Rattle.binary_holders.specs.declared.tally.Tally.{Tally}
+use Rattle.binary_holders.specs.declared.targets.Binary.{Binary}
+use Rattle.binary_holders.specs.declared.counts.Counts.{Counts}
 use Rattle.binary_holders.specs.HeapReferences.{referred, references}
-use Rattle.binary_holders.specs.Inner.Lines.{line_reference, line_references, HasNoLf, AreWhole}
-use Rattle.binary_holders.specs.Inner.Pieces.{HearsFront}
-use Rattle.binary_holders.specs.Inner.Tallies.{Hears}
-use Rattle.binary_holders.proofs.LineFacts.{references-whole, one-more}
-use Rattle.binary_holders.proofs.MarkFacts.{AreLed, AreForms, long-front}
-use Rattle.binary_holders.proofs.TallyFacts.{Hears-then, Hears-as}
+use Rattle.binary_holders.specs.Inner.Lines.{line_reference, line_references}
+use Rattle.binary_holders.specs.Inner.Counting.{Adds}
+use Rattle.binary_holders.proofs.LineFacts.{one-more}
+use Rattle.binary_holders.proofs.CountFacts.{Adds-then}
 
 -- ---- line by line
 
--- of some bytes all was heard but what the last of them refer to
-pub record HeardSome (enc : Enc) (binaries : List Binary) (old new : Tally) (bytes rest : List ℕ) : Type 0 where
-  pub heard : List ℕ
-  pub hears : Hears binaries old new heard
-  pub whole : line_references enc bytes ≡ heard ++ line_references enc rest
+-- of some bytes all was counted but what the last of them refer to
+pub record AddedSome (enc : Enc) (binaries : List Binary) (old new : Counts) (bytes rest : List ℕ) : Type 0 where
+  pub added : List ℕ
+  pub adds : Adds binaries old new added
+  pub whole : line_references enc bytes ≡ added ++ line_references enc rest
 
-pub some-more : (enc : Enc) (binaries : List Binary) (old mid new : Tally) (bytes rest behind more : List ℕ) → HeardSome enc binaries old mid bytes rest
-    → line_references enc rest ≡ more ++ line_references enc behind → Hears binaries mid new more → HeardSome enc binaries old new bytes behind
+pub some-more : (enc : Enc) (binaries : List Binary) (old mid new : Counts) (bytes rest behind more : List ℕ) → AddedSome enc binaries old mid bytes rest
+    → line_references enc rest ≡ more ++ line_references enc behind → Adds binaries mid new more → AddedSome enc binaries old new bytes behind
 some-more enc binaries old mid new bytes rest behind more some next one = record {
-  heard = some.heard ++ more;
-  hears = Hears-then binaries old mid new some.heard more some.hears one;
-  whole = some.whole ∙ ap (λ l. some.heard ++ l) next ∙ sym (append_assoc some.heard more (line_references enc behind));
-}
-
--- ---- the front of a line stands for it
-
-module _ (enc : Enc) (leds : AreLed) (forms : AreForms enc) where
-  pub kept-stands : (tail more : List ℕ) (kept : ℕ) → HasNoLf tail → kept ≡ min (length tail) 72 → line_references enc (tail ++ more) ≡ line_references enc (take kept tail ++ more)
-  kept-stands tail more kept free is = by (cases_lt 72 (length tail))
-    where
-      by : (72 < length tail) ⊎ (length tail ≤ 72) → line_references enc (tail ++ more) ≡ line_references enc (take kept tail ++ more)
-      by (inr few) = let all : length tail ≤ kept = omega (arith, is, few) in ap (λ l. line_references enc (l ++ more)) (sym (take_all kept tail all))
-      by (inl many) =
-          let size : length (take kept tail) ≡ kept = length-take-le kept tail (omega (arith, is, many)) in
-          long-front enc leds forms tail more free (omega (arith, many))
-          ∙ sym (long-front enc leds forms (take kept tail) more (All-take (λ c. c ≢ lf) kept tail free) (omega (arith, size, is, many)))
-
-  -- the whole lines of a piece were heard, and what is kept stands for the rest
-  pub piece-heard : (binaries : List Binary) (old new : Tally) (bytes left : List ℕ) (whole kept : ℕ) → AreWhole (take whole bytes) → HasNoLf (drop whole bytes)
-      → kept ≡ min (length (drop whole bytes)) 72 → left ≡ take kept (drop whole bytes) → Hears binaries old new (line_references enc (take whole bytes)) → HearsFront enc binaries old new bytes left false
-  piece-heard binaries old new bytes left whole kept lines free is moved heard = record {
-    references = line_references enc (take whole bytes);
-    hears = heard;
-    rest = λ more ends.
-        ap (line_references enc) (ap (λ l. l ++ more) (sym (take-append-drop whole bytes)) ∙ append_assoc (take whole bytes) (drop whole bytes) more)
-        ∙ references-whole enc (take whole bytes) (drop whole bytes ++ more) lines
-        ∙ ap (λ l. line_references enc (take whole bytes) ++ l) (kept-stands (drop whole bytes) more kept free is ∙ ap (λ l. line_references enc (l ++ more)) (sym moved));
-  }
-
--- all the lines of the last piece were heard
-pub last-heard : (enc : Enc) (binaries : List Binary) (old new : Tally) (bytes left : List ℕ) → left ≡ [] → Hears binaries old new (line_references enc bytes) → HearsFront enc binaries old new bytes left true
-last-heard enc binaries old new bytes left none heard = record {
-  references = line_references enc bytes;
-  hears = heard;
-  rest = λ more ends.
-      let gone : more ≡ [] = ends refl in
-      ap (λ l. line_references enc (bytes ++ l)) gone ∙ ap (line_references enc) (append-nil bytes)
-      ∙ sym (append-nil (line_references enc bytes))
-      ∙ ap (λ l. line_references enc bytes ++ line_references enc l) (sym (ap (λ l. l ++ more) none ∙ gone));
-}
-
--- what is moved to the beginning
-pub moved-front : (bytes : List ℕ) (whole kept : ℕ) → whole + kept ≤ length bytes → take kept (copy_within bytes whole (whole + kept) 0) ≡ take kept (drop whole bytes)
-moved-front bytes whole kept fits =
-    let size : whole + kept - whole ≡ kept = omega arith in
-    let room = length-drop whole bytes in
-    let count : length (take kept (drop whole bytes)) ≡ kept = length-take-le kept (drop whole bytes) (omega (arith, fits, room)) in
-    ap (λ n. take kept (take n (drop whole bytes) ++ drop (0 + n) bytes)) size
-    ∙ take_at (take kept (drop whole bytes)) (drop (0 + kept) bytes) kept count
-
--- ---- piece by piece
-
--- of the bytes between two offsets those up to a third were read, and all was heard but what these and the rest refer to
-pub record HearsUpto (enc : Enc) (binaries : List Binary) (old new : Tally) (now : Now) (from at upto : ℕ) (left : List ℕ) : Type 0 where
-  pub heard : List ℕ
-  pub hears : Hears binaries old new heard
-  pub rest : (dump : List ℕ) → now ≡ told dump
-      → line_references enc (between from upto dump) ≡ heard ++ line_references enc (left ++ between at upto dump)
-
-between-split : (dump : List ℕ) (at mid upto : ℕ) → at ≤ mid → mid ≤ upto → between at upto dump ≡ between at mid dump ++ between mid upto dump
-between-split dump at mid upto low high =
-    let size : upto - at ≡ (mid - at) + (upto - mid) = omega (arith, low, high) in
-    let start : at + (mid - at) ≡ mid = omega (arith, low) in
-    ap (λ n. take n (drop at dump)) size ∙ take-two (mid - at) (upto - mid) (drop at dump)
-    ∙ ap (λ l. take (mid - at) (drop at dump) ++ take (upto - mid) l) (drop-drop (mid - at) at dump ∙ ap (λ n. drop n dump) start)
-
-between-none : (dump : List ℕ) (at upto : ℕ) → upto ≤ at → between at upto dump ≡ []
-between-none dump at upto past = let size : upto - at ≡ 0 = omega (arith, past) in ap (λ n. take n (drop at dump)) size
-
-pub upto-more : (enc : Enc) (binaries : List Binary) (old mid new : Tally) (now later : Now) (from at upto count : ℕ) (left bytes kept : List ℕ) (is_last : Bool)
-    → HearsUpto enc binaries old mid now from at upto left → HearsFront enc binaries mid new bytes kept is_last → at + count ≤ upto → later ≡ now
-    → ((dump : List ℕ) → later ≡ told dump → bytes ≡ left ++ between at (at + count) dump) → (is_last ≡ true → at + count ≡ upto)
-    → HearsUpto enc binaries old new now from (at + count) upto kept
-upto-more enc binaries old mid new now later from at upto count left bytes kept is_last so_far front fits same read last = record {
-  heard = so_far.heard ++ front.references;
-  hears = Hears-then binaries old mid new so_far.heard front.references so_far.hears front.hears;
-  rest = λ dump is.
-      let more = between (at + count) upto dump in
-      so_far.rest dump is
-      ∙ ap (λ l. so_far.heard ++ line_references enc l)
-      (ap (λ l. left ++ l) (between-split dump at (at + count) upto (omega arith) fits) ∙ sym (append_assoc left (between at (at + count) dump) more) ∙ ap (λ l. l ++ more) (sym (read dump (same ∙ is))))
-      ∙ ap (λ l. so_far.heard ++ l) (front.rest more (λ ends. between-none dump (at + count) upto (let e = last ends in omega (arith, e))))
-      ∙ sym (append_assoc so_far.heard front.references (line_references enc (kept ++ more)));
+  added = some.added ++ more;
+  adds = Adds-then binaries old mid new some.added more some.adds one;
+  whole = some.whole ∙ ap (λ l. some.added ++ l) next ∙ sym (append_assoc some.added more (line_references enc behind));
 }
 
 -- ---- the lines of a body
@@ -144,17 +57,6 @@ lines-same enc at (raw ∷ raws) =
 
 pub references-of-lines : (enc : Enc) (body : List ℕ) → references enc body ≡ line_references enc body
 references-of-lines enc body = lines-same enc 0 (raw_lines body)
-
--- all of a heap was heard
-pub upto-all : (enc : Enc) (binaries : List Binary) (old new : Tally) (now : Now) (from at upto : ℕ) (left : List ℕ) → HearsUpto enc binaries old new now from at upto left → upto ≤ at → left ≡ []
-    → (dump : List ℕ) → now ≡ told dump → Hears binaries old new (references enc (between from upto dump))
-upto-all enc binaries old new now from at upto left heard past none dump is =
-    Hears-as binaries old new heard.heard (references enc (between from upto dump))
-    (sym (references-of-lines enc (between from upto dump) ∙ heard.rest dump is
-    ∙ ap (λ l. heard.heard ++ line_references enc (l ++ between at upto dump)) none
-    ∙ ap (λ l. heard.heard ++ line_references enc l) (between-none dump at upto past)
-    ∙ append-nil heard.heard))
-    heard.hears
 
 -- a body refers to no more binaries than it has bytes
 few-lines : (bytes : List ℕ) → length (raw_lines bytes) ≤ length bytes

@@ -1,5 +1,5 @@
 -- Sums and counts over lists whose elements agree.
-use Rattle.std.proofs.Common.{◌≡◌, ◌≢◌, ℕ, zero, suc, ◌+◌, ◌<◌, Bool, true, false, cond, List, [], ◌∷◌, length, get_or, filter, refl, sym, ◌∙◌, ap, arith}
+use Rattle.std.proofs.Common.{◌≡◌, ◌≢◌, ℕ, zero, suc, ◌+◌, ◌<◌, ◌≤◌, Bool, true, false, cond, List, [], ◌∷◌, length, get_or, filter, refl, sym, ◌∙◌, ap, arith}
 use Rattle.std.specs.List.{sum_by}
 use Rattle.std.proofs.lemmas.List.Sums.{sum_by-cons}
 
@@ -29,3 +29,12 @@ sum-filter p f (x ∷ xs) =
     elim (p x) as (λ b. sum_by f (cond b (x ∷ filter p xs) (filter p xs)) ≡ cond b (f x) 0 + sum_by (λ x. cond (p x) (f x) 0) xs)
     [ true ↦ sum_by-cons f x (filter p xs) ∙ ap (λ n. f x + n) (sum-filter p f xs) | false ↦ omega (arith, sum-filter p f xs) ]
     ∙ sym (sum_by-cons (λ x. cond (p x) (f x) 0) x xs)
+
+-- those that pass a test have no more than all
+pub sum-part : {X : Type 0} (p : X → Bool) (f : X → ℕ) (xs : List X) → sum_by f (filter p xs) ≤ sum_by f xs
+sum-part p f [] = omega arith
+sum-part p f (x ∷ xs) =
+    let rest = sum-part p f xs in
+    let whole = sum_by-cons f x xs in
+    elim (p x) as (λ b. sum_by f (cond b (x ∷ filter p xs) (filter p xs)) ≤ sum_by f (x ∷ xs))
+    [ true ↦ omega (arith, rest, whole, sum_by-cons f x (filter p xs)) | false ↦ omega (arith, rest, whole) ]

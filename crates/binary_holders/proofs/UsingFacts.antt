@@ -1,4 +1,4 @@
--- The use of the binaries of a dump, from what was found and heard.
+-- The use of the binaries of a dump, from what was found and counted.
 use Rattle.std.proofs.Common.{◌≡◌, ℕ, ◌+◌, ◌*◌, ◌<◌, ◌≤◌, Bool, true, false, cond, List, [], ◌∷◌, ◌++◌, length, map, get_or, Option, None, Some, Result, Ok, Err, if◌then◌else◌, refl, sym, ◌∙◌, ap, arith, codes}
 use Rattle.std.specs.Prelude.{IfOk, slice_index, sum}
 use Rattle.std.specs.List.{cons_option, count_by, filter_map, sum_by}
@@ -16,9 +16,9 @@ use Rattle.heap_cells.specs.Loading.{enc_of, heap_section}
 use Rattle.process_table.specs.Processes.{Process}
 use Rattle.binary_holders.specs.declared.rows.BinaryRow.{BinaryRow}
 use Rattle.binary_holders.specs.declared.rows.Holding.{Holding}
-use Rattle.binary_holders.specs.declared.sought.Binary.{Binary}
+use Rattle.binary_holders.specs.declared.targets.Binary.{Binary}
 use Rattle.binary_holders.specs.declared.stored.StoredAt.{StoredAt}
-use Rattle.binary_holders.specs.declared.tally.Tally.{Tally}
+use Rattle.binary_holders.specs.declared.counts.Counts.{Counts}
 use Rattle.binary_holders.specs.Held.{holders_of}
 use Rattle.binary_holders.specs.HeapReferences.{references}
 use Rattle.binary_holders.specs.StoredBinaries.{Stored, stored_binary, firsts, is_among, stored_at}
@@ -26,8 +26,8 @@ use Rattle.binary_holders.specs.Usage.{Usage, binaries_in, fronts_length, heaps_
 use Rattle.binary_holders.specs.Inner.Finding.{stored_of}
 use Rattle.binary_holders.specs.Inner.Places.{heap_place, references_at, size_at}
 use Rattle.binary_holders.specs.Inner.Rows.{AreRows, row_at}
-use Rattle.binary_holders.specs.Inner.Tallies.{HasHeard, number_at}
-use Rattle.binary_holders.proofs.TallyFacts.{at-number, no_binary}
+use Rattle.binary_holders.specs.Inner.Counting.{HasCounted, number_at}
+use Rattle.binary_holders.proofs.CountFacts.{at-number, no_binary}
 
 -- two facts of one answer
 pub both-ok : {T E : Type 0} (r : Result T E) (P Q : T → Type 0) → IfOk r P → IfOk r Q → IfOk r (λ x. P x × Q x)
@@ -105,10 +105,10 @@ sizes-are dump index list binaries are is = is ∙ sym (map-map (sized_binary du
 abbrev no_place : StoredAt
 no_place = record { number = 0; section = 0 }
 
-pub rows-are : (dump : List ℕ) (index : Contents) (heaps : List (List ℕ)) (list : List StoredAt) (binaries : List Binary) (holders : List ℕ) (tally : Tally) (rows : List BinaryRow)
-    → map (stored_of index) list ≡ stored_in index → binaries ≡ binaries_in dump index → HasHeard binaries heaps [] tally → holders ≡ tally.holders.items
+pub rows-are : (dump : List ℕ) (index : Contents) (heaps : List (List ℕ)) (list : List StoredAt) (binaries : List Binary) (holders : List ℕ) (counts : Counts) (rows : List BinaryRow)
+    → map (stored_of index) list ≡ stored_in index → binaries ≡ binaries_in dump index → HasCounted binaries heaps [] counts → holders ≡ counts.holders.items
     → AreRows index list binaries holders (length list) rows → rows ≡ rows_in dump index heaps
-rows-are dump index heaps list binaries holders tally rows are is heard counted found =
+rows-are dump index heaps list binaries holders counts rows are is had counted found =
     same_lists rows (map (λ (s : StoredAt). binary_row dump heaps (stored_of index s)) list) (found.count ∙ sym (length-map list (λ (s : StoredAt). binary_row dump heaps (stored_of index s))))
     (λ k d inside.
     let here : k < length list = omega (arith, inside, found.count) in
@@ -119,7 +119,7 @@ rows-are dump index heaps list binaries holders tally rows are is heard counted 
     ap (λ l. get_or l k no_binary) all ∙ get_or-map (λ (b : StoredAt). sized_binary dump (stored_of index b)) list k no_place no_binary here in
     let number : number_at binaries k ≡ s.number = at-number binaries k (omega (arith, here, size)) ∙ ap (λ (b : Binary). b.number) binary in
     let count : slice_index holders k ≡ holders_of heaps s.number =
-    ap (λ l. slice_index l k) counted ∙ heard.holders k (omega (arith, here, size)) ∙ ap (holders_of (heaps ++ [] ∷ [])) number
+    ap (λ l. slice_index l k) counted ∙ had.holders k (omega (arith, here, size)) ∙ ap (holders_of (heaps ++ [] ∷ [])) number
     ∙ sum_by_push (λ refs. cond (is_among refs s.number) 1 0) heaps [] ∙ (let e : holders_of heaps s.number + 0 ≡ holders_of heaps s.number = omega arith in e) in
     found.each k d no_place no_binary here
     ∙ ap (λ (b : Binary). row_at index s b (slice_index holders k)) binary

@@ -17,6 +17,6 @@ referred form = None
 abbrev pub references : Enc → List ℕ → List ℕ
 references enc body = filter_map (λ cell. referred cell.form) (line_cells enc body)
 
--- the same for the heap of a pid, which is the body of its first `proc_heap` section
+-- the numbers of the binaries to which the heap of a pid refers, which is the body of its first `proc_heap` section
 abbrev pub references_of : List ℕ → Contents → List ℕ → List ℕ
 references_of dump index pid = references (enc_of index.version) (body_in dump (heap_section pid (sections_in index)))

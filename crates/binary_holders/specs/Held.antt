@@ -2,20 +2,20 @@
 use Rattle.std.specs.Prelude.{ℕ, ◌-◌, ◌^◌, Bool, List, map, filter, min, nat_lt}
 use Rattle.std.specs.List.{count_by, sum_by, enumerate_from}
 use Rattle.binary_holders.specs.declared.rows.Holding.{Holding}
-use Rattle.binary_holders.specs.declared.sought.Binary.{Binary}
+use Rattle.binary_holders.specs.declared.targets.Binary.{Binary}
 use Rattle.binary_holders.specs.StoredBinaries.{is_among}
 
 -- whether a heap with these references holds a binary
 abbrev pub holds : List ℕ → Binary → Bool
 holds references binary = is_among references binary.number
 
--- a sum as it is stored, at most 2^64 - 1
+-- a sum as it is shown, at most 2^64 - 1
 abbrev pub capped : ℕ → ℕ
 capped sum = min sum (2 ^ 64 - 1)
 
 -- the sizes of the binaries that a heap holds, together; each counts once
 abbrev pub bytes_held : List Binary → List ℕ → ℕ
-bytes_held binaries references = capped (sum_by (λ binary. binary.size) (filter (holds references) binaries))
+bytes_held binaries references = sum_by (λ binary. binary.size) (filter (holds references) binaries)
 
 -- how many of the references are to one of the binaries
 abbrev pub cells_holding : List Binary → List ℕ → ℕ
@@ -25,7 +25,8 @@ cells_holding binaries references = count_by (is_among (map (λ binary. binary.n
 abbrev pub holding_of : List Binary → ℕ × List ℕ → Holding
 holding_of binaries (process, references) = record {
   process = process;
-  bytes = bytes_held binaries references;
+  bytes = capped (bytes_held binaries references);
+  total = bytes_held binaries references;
   count = count_by (holds references) binaries;
   cells = cells_holding binaries references;
 }

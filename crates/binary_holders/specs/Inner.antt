@@ -1,9 +1,9 @@
 -- What only private functions cite: how the lines of a heap
 -- are distinguished, and how what it refers to is counted.
 pub mod Finding
+pub mod HeapSinks
 pub mod Heaps
 pub mod Lines
-pub mod Pieces
 pub mod Places
 pub mod Rows
-pub mod Tallies
+pub mod Counting

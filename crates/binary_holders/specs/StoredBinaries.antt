@@ -10,7 +10,7 @@ pub record Stored : Type 0 where
   pub number : ℕ
   pub section : Section
 
--- a binary by these two
+-- the binary with this section and this number
 abbrev pub stored_at : Section → ℕ → Stored
 stored_at section number = record { number = number; section = section }
 

@@ -6,16 +6,21 @@ use Rattle.dump_sections.specs.Bodies.{body_size}
 use Rattle.dump_sections.specs.Index.{Contents, sections_in}
 use Rattle.dump_sections.specs.Lookups.{has_tag}
 use Rattle.heap_cells.specs.Loading.{heap_section}
+use Rattle.process_table.specs.Processes.{Process}
 use Rattle.binary_holders.specs.declared.faults.HolderFault.{HolderFault}
 use Rattle.binary_holders.specs.declared.faults.HolderFault.TheVariants.{Read, Memory}
 use Rattle.binary_holders.specs.declared.rows.BinaryRow.{BinaryRow}
 use Rattle.binary_holders.specs.declared.rows.Holding.{Holding}
 use Rattle.binary_holders.specs.declared.using.BinaryUse.{BinaryUse}
-use Rattle.binary_holders.specs.declared.sought.Binary.{Binary}
+use Rattle.binary_holders.specs.declared.targets.Binary.{Binary}
 use Rattle.binary_holders.specs.Held.{capped, holdings, holders_of}
 use Rattle.binary_holders.specs.HeapReferences.{references_of}
 use Rattle.size_order.specs.Sorting.{most_first}
 use Rattle.binary_holders.specs.StoredBinaries.{Stored, stored, size_in}
+
+-- the pids of these processes
+abbrev pub pids_of : List Process → List (List ℕ)
+pids_of processes = map (λ process. process.pid) processes
 
 -- what the heaps of these pids refer to, in their order
 abbrev pub heaps_of : List ℕ → Contents → List (List ℕ) → List (List ℕ)
@@ -29,7 +34,7 @@ stored_in index = stored (sections_in index)
 abbrev pub sized_binary : List ℕ → Stored → Binary
 sized_binary dump binary = record { number = binary.number; size = size_in dump binary }
 
--- all of them
+-- the stored binaries of a dump as their numbers and sizes
 abbrev pub binaries_in : List ℕ → Contents → List Binary
 binaries_in dump index = map (sized_binary dump) (stored_in index)
 
@@ -57,7 +62,7 @@ pub record Usage : Type 0 where
 -- the use of the binaries of a dump by the processes with these pids
 abbrev pub usage_of : List ℕ → Contents → List (List ℕ) → Usage
 usage_of dump index pids = record {
-  held = most_first (λ holding. holding.bytes) (holdings (binaries_in dump index) (heaps_of dump index pids));
+  held = most_first (λ holding. holding.total) (holdings (binaries_in dump index) (heaps_of dump index pids));
   binaries = most_first (λ row. row.size) (rows_in dump index (heaps_of dump index pids));
   bytes = capped (sum_by (λ binary. binary.size) (binaries_in dump index));
   with_holders = count_by (λ row. nat_lt 0 row.holders) (rows_in dump index (heaps_of dump index pids));
@@ -84,9 +89,9 @@ holders_in dump index pids number = holdings (record { number = number; size = 0
 abbrev pub heaps_length : Contents → List (List ℕ) → ℕ
 heaps_length index pids = sum_by (λ pid. body_size (heap_section pid (sections_in index))) pids
 
--- how many bytes may be read of the `binary` sections: 20 of each
+-- how many bytes may be read of the `binary` sections: 17 of each, which are a number of 16 digits and its `:`
 abbrev pub fronts_length : Contents → ℕ
-fronts_length index = 20 * count_by (λ section. has_tag (codes "binary") section.text) (sections_in index)
+fronts_length index = 17 * count_by (λ section. has_tag (codes "binary") section.text) (sections_in index)
 
 -- why holders aren't found: the device failed; memory may be lacking at any time
 abbrev pub IsHolderCauseOf : DeviceState → DeviceState → HolderFault → Type 0

@@ -1,16 +1,12 @@
 // Why holders aren't found.
 ghost use Rattle.std.specs.Prelude.{◌≡◌, [], ◌∷◌, ◌++◌, OnOk, IfErr};
 
-use thiserror::Error;
-
 /// Why the holders of binaries aren't found.
-#[derive(Debug, Drop, Error)]
+#[derive(Debug, Drop)]
 pub enum HolderFault {
     /// The device failed.
-    #[error("the dump can't be read")]
     Read,
     /// There was no memory for the binaries, or for the rows.
-    #[error("out of memory")]
     Memory,
 }
 

@@ -74,7 +74,8 @@ pub(crate) fn heap_places(
     procs: &Procs,
 ) -> Result<Vec<Option<usize>>, AllocError>
     requires { AreProcessesOver index.now procs.now }
-    ensures places { IfOk result (λ heaps. heaps.items ≡ map (λ process. heap_place (sections_in index.now) process.pid) procs.now.processes) }
+    ensures places { IfOk result (λ heaps. heaps.items
+        ≡ map (λ process. heap_place (sections_in index.now) process.pid) procs.now.processes) }
     ensures within { IfOk result (λ heaps. All (IsWithin index.now) heaps.items) }
     ensures few { IfOk result (λ heaps. length heaps.items ≤ usual.sections) }
 {

@@ -2,7 +2,7 @@
 ghost use Rattle.std.specs.Prelude.{◌≡◌, ◌<◌, length, slice_index, IfSome};
 ghost use Rattle.binary_holders.specs.Inner.Places.{numbers_in};
 
-use crate::sought::Binary;
+use crate::targets::Binary;
 use std::alloc::{AllocError, Global};
 
 // The place of a binary for each slot. Nothing is promised of a hint, since it is compared where it is used.
@@ -39,7 +39,8 @@ impl Hints {
     #[inline(always)]
     pub(crate) fn find(&self, binaries: &[Binary], number: u64) -> Option<usize>
         ensures within { IfSome result (λ place. place < length binaries.now) }
-        ensures number { IfSome result (λ place. slice_index (numbers_in binaries.now) place ≡ number) }
+        ensures number { IfSome result (λ place. slice_index (numbers_in binaries.now) place
+            ≡ number) }
     {
         let hint = *self.slots.get(slot_of(number, self.slots.len()))? as usize;
         let binary = binaries.get(hint)?;

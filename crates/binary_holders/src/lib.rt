@@ -14,16 +14,17 @@
 //! ```
 #![tactic(auto)]
 
+mod counts;
 mod faults;
 mod heap_places;
+mod heap_sink;
 mod hints;
 mod holding;
 mod lines;
 mod rows;
 mod scanning;
-mod sought;
 mod stored;
-mod tally;
+mod targets;
 mod texts;
 mod using;
 

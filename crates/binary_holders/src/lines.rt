@@ -1,28 +1,17 @@
 // The lines of a heap's body that refer to binaries.
-ghost use Rattle.std.specs.Prelude.{◌≡◌, [], ◌++◌, ◌<◌, ◌≤◌, length, take, drop, IfSome, IfNone, IsTrue, codes};
+ghost use Rattle.std.specs.Prelude.{◌≡◌, [], ◌++◌, ◌<◌, length, IfSome, IfNone, IsTrue, codes};
 ghost use Rattle.std.specs.Option.{option_to_list};
 ghost use Rattle.memchr.specs.Find.{FindsNeedle};
-ghost use Rattle.binary_holders.specs.Inner.Lines.{line_references, HasNoLf, AreWhole, IsMarked};
+ghost use Rattle.binary_holders.specs.Inner.Lines.{line_references, IsMarked};
 
 use crate::texts::text_reference;
+use body_lines::line_start;
 use dump_io::{line_len, line_text};
-use memchr::{memchr, memmem, memrchr};
+use memchr::{memchr, memmem};
 use term_forms::{Enc, form_is_read, number_is_read};
 
 // What follows the address in each line that refers to a binary outside the heap.
 const MARK: &[u8] = b":Yc";
-
-/// Where the last line begins: after the last LF, or at the beginning if there is none.
-pub(crate) fn line_start(bytes: &[u8]) -> usize
-    ensures within { result ≤ length bytes.now }
-    ensures whole { AreWhole (take result bytes.now) }
-    ensures behind { HasNoLf (drop result bytes.now) }
-{
-    match memrchr(b'\n', bytes) {
-        Some(lf) => lf + 1,
-        None => 0,
-    }
-}
 
 // Whether the rest of the mark stands around the `Y` at a place.
 fn is_marked(bytes: &[u8], place: usize) -> bool
@@ -49,7 +38,8 @@ fn find_mark(bytes: &[u8]) -> Option<usize>
 /// does, and the bytes after it. No line before that one refers to a binary, and if there is
 /// no such line, none does.
 pub(crate) fn next_reference(bytes: &[u8], enc: Enc) -> Option<(Option<u64>, &[u8])>
-    ensures found { IfSome result (λ found. line_references enc bytes.now ≡ option_to_list found.0 ++ line_references enc found.1.now) }
+    ensures found { IfSome result (λ found.
+        line_references enc bytes.now ≡ option_to_list found.0 ++ line_references enc found.1.now) }
     ensures shorter { IfSome result (λ found. length found.1.now < length bytes.now) }
     ensures none { IfNone result (line_references enc bytes.now ≡ []) }
 {

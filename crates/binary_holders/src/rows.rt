@@ -1,6 +1,15 @@
 // What is found of processes and of binaries.
+ghost use Rattle.std.specs.Prelude.{◌≡◌};
+ghost use Rattle.binary_holders.specs.Held.{capped};
 
 use size_order::Measured;
+
+/// A sum as it is shown, at most 2^64 - 1.
+pub(crate) fn capped(sum: u128) -> u64
+    ensures { result ≡ capped sum }
+{
+    sum.min(u128::from(u64::MAX)) as u64
+}
 
 /// What a process holds of some binaries.
 #[derive(Clone, Copy, Debug, PartialEq, Eq, Drop)]
@@ -8,8 +17,10 @@ pub struct Holding {
     /// The place of the process in the process table, from 0.
     pub process: usize,
     /// The sizes of the binaries that it holds, together, in
-    /// bytes; each counts once, and the sum is at most 2^64 - 1.
+    /// bytes; each counts once, and a sum above 2^64 - 1 is given as that.
     pub bytes: u64,
+    /// That sum, whatever it is.
+    pub total: u128,
     /// How many of the binaries it holds.
     pub count: u64,
     /// How many lines of its heap refer to one of them.
@@ -17,10 +28,10 @@ pub struct Holding {
 }
 
 impl Measured for Holding {
-    ghost size = { λ holding. holding.bytes };
+    ghost size = { λ holding. holding.total };
 
-    fn size(&self) -> u64 {
-        self.bytes
+    fn size(&self) -> u128 {
+        self.total
     }
 }
 
@@ -40,7 +51,7 @@ pub struct BinaryRow {
 impl Measured for BinaryRow {
     ghost size = { λ row. row.size };
 
-    fn size(&self) -> u64 {
-        self.size
+    fn size(&self) -> u128 {
+        u128::from(self.size)
     }
 }

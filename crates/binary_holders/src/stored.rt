@@ -1,13 +1,13 @@
 // The binaries outside the heaps, from the sections of a dump.
 ghost use Rattle.std.specs.Prelude.{◌≡◌, ℕ, List, ◌+◌, ◌*◌, ◌<◌, ◌≤◌, length, map, take, All, IfOk, OnOk, IfErr};
-ghost use Rattle.dump_io.specs.Dumps.{told, ReadsAtMost};
+ghost use Rattle.dump_io.specs.Dumps.{told, DeviceFailed, ReadsAtMost};
 ghost use Rattle.dump_sections.specs.Index.{IsBuiltOver, sections_in};
 ghost use Rattle.binary_holders.specs.Usage.{sized_binary, IsHolderCauseOf};
 ghost use Rattle.binary_holders.specs.Inner.Finding.{AreFound, numbers_of, stored_of};
 ghost use Rattle.binary_holders.specs.Inner.Places.{numbers_in};
 
 use crate::faults::{HolderFault, push_row};
-use crate::sought::Binary;
+use crate::targets::Binary;
 use dump_io::Dumps;
 use dump_sections::Index;
 use std::alloc::{AllocError, Global};
@@ -33,8 +33,10 @@ fn find_at(found: &mut Found, index: &Index, i: usize) -> Result<(), AllocError>
     requires place { i < length index.now.headers }
     requires few { length found.old.binaries.items < 4294967296 }
     requires before { AreFound index.now (take i (sections_in index.now)) found.old }
-    ensures found { OnOk result (AreFound index.now (take (i + 1) (sections_in index.now)) found.new) }
-    ensures grows { OnOk result (length found.new.binaries.items ≤ length found.old.binaries.items + 1) }
+    ensures found { OnOk result
+        (AreFound index.now (take (i + 1) (sections_in index.now)) found.new) }
+    ensures grows { OnOk result
+        (length found.new.binaries.items ≤ length found.old.binaries.items + 1) }
 {
     let Some(number) = binary_number(index, i) else {
         return Ok(());
@@ -71,9 +73,11 @@ fn read_binary<D: Dumps>(
     requires over { IsBuiltOver (D.state dumps.old).now index.now }
     requires within { stored.now.section < length index.now.headers }
     ensures reads { ReadsAtMost (D.state dumps.old) (D.state dumps.new) 17 }
-    ensures fault { IfErr result (IsHolderCauseOf (D.state dumps.old) (D.state dumps.new)) }
+    ensures failed { IfErr result (λ fault.
+        (fault ≡ HolderFault.Read) × DeviceFailed (D.state dumps.old) (D.state dumps.new)) }
     ensures number { IfOk result (λ binary. binary.number ≡ stored.now.number) }
-    ensures size { IfOk result (λ binary. (dump : List ℕ) → (D.state dumps.old).now ≡ told dump → binary ≡ sized_binary dump (stored_of index.now stored.now)) }
+    ensures size { IfOk result (λ binary. (dump : List ℕ) → (D.state dumps.old).now ≡ told dump
+        → binary ≡ sized_binary dump (stored_of index.now stored.now)) }
 {
     let Ok(size) = read_size(dumps, index, stored.section) else {
         return Err(HolderFault::Read);
@@ -97,7 +101,8 @@ pub(crate) fn read_sizes<D: Dumps>(
     ensures fault { IfErr result (IsHolderCauseOf (D.state dumps.old) (D.state dumps.new)) }
     ensures numbers { IfOk result (λ binaries. numbers_in binaries.items ≡ numbers_of stored.now) }
     ensures sizes { IfOk result (λ binaries. (dump : List ℕ) → (D.state dumps.old).now ≡ told dump
-        → binaries.items ≡ map (λ binary. sized_binary dump (stored_of index.now binary)) stored.now) }
+        → binaries.items
+        ≡ map (λ binary. sized_binary dump (stored_of index.now binary)) stored.now) }
 {
     let mut binaries = Vec::new(alloc);
     for binary in stored {

@@ -6,22 +6,24 @@ ghost use Rattle.dump_sections.specs.Index.{IsBuiltOver};
 ghost use Rattle.process_table.specs.Processes.{AreProcessesOver};
 ghost use Rattle.binary_holders.specs.Held.{capped, holdings};
 ghost use Rattle.size_order.specs.Sorting.{most_first};
-ghost use Rattle.binary_holders.specs.Usage.{IsHolderCauseOf, NamesProcess, binaries_in, fronts_length, heaps_length, heaps_of, holders_in, shown_use, stored_in, usage_of};
+ghost use Rattle.binary_holders.specs.Usage.{IsHolderCauseOf, NamesProcess, binaries_in, fronts_length, heaps_length, heaps_of, holders_in, pids_of, shown_use, stored_in, usage_of};
 ghost use Rattle.binary_holders.specs.Inner.Finding.{numbers_of, stored_of};
 ghost use Rattle.binary_holders.specs.Inner.Places.{numbers_in};
 ghost use Rattle.binary_holders.specs.Inner.Rows.{AreRows, row_at};
-ghost use Rattle.binary_holders.specs.Inner.Tallies.{HasHeard};
+ghost use Rattle.binary_holders.specs.Inner.Counting.{HasCounted};
 
+use crate::counts::Counts;
 use crate::faults::{HolderFault, push_row};
 use crate::heap_places::heap_places;
-use crate::holding::hear_all;
-use crate::rows::{BinaryRow, Holding};
-use crate::scanning::make_buffer;
-use crate::sought::{Binary, Sought};
+use crate::heap_sink::HeapSink;
+use crate::holding::count_all;
+use crate::rows::{BinaryRow, Holding, capped};
 use crate::stored::{StoredAt, find_stored, read_sizes};
-use crate::tally::Tally;
+use crate::targets::{Binary, Targets};
+use body_lines::make_buffer;
 use dump_io::Dumps;
 use dump_sections::Index;
+use heap_cells::enc_of;
 use process_table::Procs;
 use size_order::sort_most_first;
 use std::alloc::{AllocError, Global};
@@ -30,8 +32,8 @@ use std::collections::BTreeMap;
 /// The binaries outside the heaps, and the processes that hold them.
 #[derive(Drop)]
 pub struct BinaryUse {
-    /// The processes that hold one of them, those that hold the most
-    /// bytes first; of equal ones, the first in the dump first.
+    /// The processes that hold one of them, those that hold the most bytes first,
+    /// by the whole sum; of equal ones, the first in the dump first.
     pub held: Vec<Holding>,
     /// The binaries, the largest first; of equal ones, the first in the dump first.
     pub binaries: Vec<BinaryRow>,
@@ -65,7 +67,8 @@ fn rows_of(
     requires within { All (λ binary. binary.section < length index.now.headers) stored.now }
     requires sizes { length binaries.now ≡ length stored.now }
     requires holders { length holders.now ≡ length stored.now }
-    ensures rows { IfOk result (λ rows. AreRows index.now stored.now binaries.now holders.now (length stored.now) rows.items) }
+    ensures rows { IfOk result (λ rows.
+        AreRows index.now stored.now binaries.now holders.now (length stored.now) rows.items) }
     ensures fault { IfErr result (λ fault. fault ≡ HolderFault.Memory) }
 {
     let mut rows = Vec::new(alloc);
@@ -76,17 +79,6 @@ fn rows_of(
     Ok(rows)
 }
 
-// The sizes of the binaries together; the sum stays at 2^64 - 1 once it reaches it.
-fn sum_sizes(binaries: &[Binary]) -> u64
-    ensures { result ≡ capped (sum_by (λ binary. binary.size) binaries.now) }
-{
-    let mut sum = 0u64;
-    for binary in binaries {
-        sum = sum.saturating_add(binary.size);
-    }
-    sum
-}
-
 // How many binaries have a holder.
 fn count_held(rows: &[BinaryRow]) -> u64
     ensures { result ≡ count_by (λ row. nat_lt 0 row.holders) rows.now }
@@ -94,17 +86,21 @@ fn count_held(rows: &[BinaryRow]) -> u64
     rows.iter().filter(|row| row.holders > 0).count() as u64
 }
 
-// The rows of what was heard, those with the most first, and how many binaries a process holds.
+// The rows of what was counted, those with the most first, and how many binaries a process holds.
 fn sorted(
     mut held: Vec<Holding>,
     mut rows: Vec<BinaryRow>,
     bytes: u64,
 ) -> Result<BinaryUse, HolderFault>
-    ensures held { IfOk result (λ found. found.held.items ≡ most_first (λ holding. holding.bytes) held.items) }
-    ensures binaries { IfOk result (λ found. found.binaries.items ≡ most_first (λ row. row.size) rows.items) }
+    ensures held { IfOk result (λ found.
+        found.held.items ≡ most_first (λ holding. holding.total) held.items) }
+    ensures binaries { IfOk result (λ found.
+        found.binaries.items ≡ most_first (λ row. row.size) rows.items) }
     ensures bytes { IfOk result (λ found. found.bytes ≡ bytes) }
-    ensures with_holders { IfOk result (λ found. found.with_holders ≡ count_by (λ row. nat_lt 0 row.holders) rows.items) }
-    ensures named { (count : ℕ) → All (NamesProcess count) held.items → IfOk result (λ found. All (NamesProcess count) found.held.items) }
+    ensures with_holders { IfOk result (λ found.
+        found.with_holders ≡ count_by (λ row. nat_lt 0 row.holders) rows.items) }
+    ensures named { (count : ℕ) → All (NamesProcess count) held.items
+        → IfOk result (λ found. All (NamesProcess count) found.held.items) }
     ensures fault { IfErr result (λ fault. fault ≡ HolderFault.Memory) }
 {
     let with_holders = count_held(&rows);
@@ -123,67 +119,78 @@ fn sorted(
 }
 
 // What each process holds of these binaries, and how many processes hold each.
-fn hear_binaries<D: Dumps>(
+fn count_references<D: Dumps>(
     alloc: Global,
     dumps: &mut D,
     index: &Index,
     procs: &Procs,
-    sought: &Sought,
-) -> Result<(Vec<Holding>, Tally), HolderFault>
+    targets: &Targets,
+) -> Result<(Vec<Holding>, Counts), HolderFault>
     requires over { IsBuiltOver (D.state dumps.old).now index.now }
     requires procs { AreProcessesOver index.now procs.now }
-    ensures reads { ReadsAtMost (D.state dumps.old) (D.state dumps.new) (heaps_length index.now (map (λ process. process.pid) procs.now.processes)) }
+    ensures reads { ReadsAtMost (D.state dumps.old) (D.state dumps.new)
+        (heaps_length index.now (pids_of procs.now.processes)) }
     ensures fault { IfErr result (IsHolderCauseOf (D.state dumps.old) (D.state dumps.new)) }
-    ensures room { IfOk result (λ found. length found.1.holders.items ≡ length sought.now) }
+    ensures room { IfOk result (λ found. length found.1.holders.items ≡ length targets.now) }
     ensures held { IfOk result (λ found. (dump : List ℕ) → (D.state dumps.old).now ≡ told dump
-        → found.0.items ≡ holdings sought.now (heaps_of dump index.now (map (λ process. process.pid) procs.now.processes))) }
-    ensures named { IfOk result (λ found. All (NamesProcess (length procs.now.processes)) found.0.items) }
-    ensures heard { IfOk result (λ found. (dump : List ℕ) → (D.state dumps.old).now ≡ told dump
-        → HasHeard sought.now (heaps_of dump index.now (map (λ process. process.pid) procs.now.processes)) [] found.1) }
+        → found.0.items
+        ≡ holdings targets.now (heaps_of dump index.now (pids_of procs.now.processes))) }
+    ensures named { IfOk result (λ found.
+        All (NamesProcess (length procs.now.processes)) found.0.items) }
+    ensures counted { IfOk result (λ found. (dump : List ℕ) → (D.state dumps.old).now ≡ told dump
+        → HasCounted targets.now
+        (heaps_of dump index.now (pids_of procs.now.processes)) [] found.1) }
 {
     let Ok(heaps) = heap_places(alloc, index, procs) else {
         return Err(HolderFault::Memory);
     };
-    let Ok(mut tally) = Tally::new(alloc, sought.len()) else {
+    let Ok(counts) = Counts::new(alloc, targets.len()) else {
         return Err(HolderFault::Memory);
     };
-    let Ok(mut buffer) = make_buffer(alloc) else {
+    let Ok(mut buffer) = make_buffer::<HeapSink<'_>>(alloc) else {
         return Err(HolderFault::Memory);
     };
-    let held = hear_all(
+    let mut sink = HeapSink {
+        enc: enc_of(index.version()),
+        targets,
+        counts,
+    };
+    let held = count_all(
         alloc,
         dumps,
         index,
         heaps.as_slice(),
         &mut buffer,
-        sought,
-        &mut tally,
+        &mut sink,
     )?;
-    Ok((held, tally))
+    Ok((held, sink.counts))
 }
 
-// The stored binaries whose holders are sought, with their sizes.
-fn stored_sought<D: Dumps>(
+// The stored binaries, whose references are counted, with their sizes.
+fn stored_targets<D: Dumps>(
     alloc: Global,
     dumps: &mut D,
     index: &Index,
-) -> Result<(Vec<StoredAt>, Sought), HolderFault>
+) -> Result<(Vec<StoredAt>, Targets), HolderFault>
     requires { IsBuiltOver (D.state dumps.old).now index.now }
     ensures reads { ReadsAtMost (D.state dumps.old) (D.state dumps.new) (fronts_length index.now) }
     ensures fault { IfErr result (IsHolderCauseOf (D.state dumps.old) (D.state dumps.new)) }
-    ensures within { IfOk result (λ found. All (λ binary. binary.section < length index.now.headers) found.0.items) }
-    ensures stored { IfOk result (λ found. map (stored_of index.now) found.0.items ≡ stored_in index.now) }
+    ensures within { IfOk result (λ found.
+        All (λ binary. binary.section < length index.now.headers) found.0.items) }
+    ensures stored { IfOk result (λ found.
+        map (stored_of index.now) found.0.items ≡ stored_in index.now) }
     ensures numbers { IfOk result (λ found. numbers_in found.1 ≡ numbers_of found.0.items) }
-    ensures sizes { IfOk result (λ found. (dump : List ℕ) → (D.state dumps.old).now ≡ told dump → found.1 ≡ binaries_in dump index.now) }
+    ensures sizes { IfOk result (λ found. (dump : List ℕ) → (D.state dumps.old).now ≡ told dump
+        → found.1 ≡ binaries_in dump index.now) }
 {
     let Ok(found) = find_stored(alloc, index) else {
         return Err(HolderFault::Memory);
     };
     let binaries = read_sizes(alloc, dumps, index, found.binaries.as_slice())?;
-    let Ok(sought) = Sought::new(alloc, binaries, found.places) else {
+    let Ok(targets) = Targets::new(alloc, binaries, found.places) else {
         return Err(HolderFault::Memory);
     };
-    Ok((found.binaries, sought))
+    Ok((found.binaries, targets))
 }
 
 /// Which processes hold how much of the binaries outside the heaps, and which binaries are large.
@@ -191,13 +198,13 @@ fn stored_sought<D: Dumps>(
 /// The stored binaries are the `binary` sections whose id is a hex number of 1 to 16 digits; of those with the same
 /// number only the first counts. The size of one is the hex number of 1 to 16 digits before the `:` with which its body
 /// begins, or 0 if the body doesn't begin so. A process holds one if the first `proc_heap` section of its pid has a heap
-/// line whose form is a reference to a binary with that number; each binary counts once for a process. A sum stays at
-/// 2^64 - 1 once it reaches it.
+/// line whose form is a reference to a binary with that number; each binary counts once for a process. The processes
+/// are in the order of their whole sums, and a sum above 2^64 - 1 is given as that.
 ///
 /// The index was built over the open file, which stays open, and the processes are those of the
 /// index. Returns `Read` only if the device's count of faults rose; `Memory` may come from any
 /// allocation. Whatever it returns, at most as many bytes are read as the heaps have together, and
-/// 20 of each `binary` section. The heaps are read one at a time, in pieces of at most 65,536 bytes.
+/// 17 of each `binary` section. The heaps are read one at a time, in pieces of at most 65,536 bytes.
 pub fn binary_use<D: Dumps>(
     alloc: Global,
     dumps: &mut D,
@@ -207,31 +214,32 @@ pub fn binary_use<D: Dumps>(
     requires over { IsBuiltOver (D.state dumps.old).now index.now }
     requires procs { AreProcessesOver index.now procs.now }
     ensures reads { ReadsAtMost (D.state dumps.old) (D.state dumps.new)
-        (fronts_length index.now + heaps_length index.now (map (λ process. process.pid) procs.now.processes)) }
+        (fronts_length index.now + heaps_length index.now (pids_of procs.now.processes)) }
     ensures found { IfOk result (λ found. (dump : List ℕ) → (D.state dumps.old).now ≡ told dump
-        → shown_use found ≡ usage_of dump index.now (map (λ process. process.pid) procs.now.processes)) }
-    ensures named { IfOk result (λ found. All (NamesProcess (length procs.now.processes)) found.held.items) }
+        → shown_use found ≡ usage_of dump index.now (pids_of procs.now.processes)) }
+    ensures named { IfOk result (λ found.
+        All (NamesProcess (length procs.now.processes)) found.held.items) }
     ensures fault { IfErr result (IsHolderCauseOf (D.state dumps.old) (D.state dumps.new)) }
 {
-    let (stored, sought) = stored_sought(alloc, dumps, index)?;
-    let (held, tally) = hear_binaries(alloc, dumps, index, procs, &sought)?;
+    let (stored, targets) = stored_targets(alloc, dumps, index)?;
+    let (held, counts) = count_references(alloc, dumps, index, procs, &targets)?;
     let list = stored.as_slice();
-    let binaries = sought.binaries();
-    let holders = tally.holders.as_slice();
+    let binaries = targets.binaries();
+    let holders = counts.holders.as_slice();
     let rows = rows_of(alloc, index, list, binaries, holders)?;
-    let bytes = sum_sizes(binaries);
+    let bytes = capped(targets.total());
     sorted(held, rows, bytes)
 }
 
-// One binary whose holders are sought, by its number alone.
-fn one_sought(alloc: Global, number: u64) -> Result<Sought, AllocError>
-    ensures { IfOk result (λ sought. sought ≡ (record { number = number; size = 0 }) ∷ []) }
+// One binary whose references are counted, by its number alone.
+fn one_target(alloc: Global, number: u64) -> Result<Targets, AllocError>
+    ensures { IfOk result (λ targets. targets ≡ (record { number = number; size = 0 }) ∷ []) }
 {
     let mut places = BTreeMap::new(alloc);
     places.insert(number, 0)?;
     let mut binaries = Vec::new(alloc);
     binaries.push(Binary { number, size: 0 })?;
-    Sought::new(alloc, binaries, places)
+    Targets::new(alloc, binaries, places)
 }
 
 /// Which processes hold the binary with this number, in dump order, and by how
@@ -251,15 +259,17 @@ pub fn holders<D: Dumps>(
 ) -> Result<Vec<Holding>, HolderFault>
     requires over { IsBuiltOver (D.state dumps.old).now index.now }
     requires procs { AreProcessesOver index.now procs.now }
-    ensures reads { ReadsAtMost (D.state dumps.old) (D.state dumps.new) (heaps_length index.now (map (λ process. process.pid) procs.now.processes)) }
+    ensures reads { ReadsAtMost (D.state dumps.old) (D.state dumps.new)
+        (heaps_length index.now (pids_of procs.now.processes)) }
     ensures found { IfOk result (λ found. (dump : List ℕ) → (D.state dumps.old).now ≡ told dump
-        → found.items ≡ holders_in dump index.now (map (λ process. process.pid) procs.now.processes) number) }
-    ensures named { IfOk result (λ found. All (NamesProcess (length procs.now.processes)) found.items) }
+        → found.items ≡ holders_in dump index.now (pids_of procs.now.processes) number) }
+    ensures named { IfOk result (λ found.
+        All (NamesProcess (length procs.now.processes)) found.items) }
     ensures fault { IfErr result (IsHolderCauseOf (D.state dumps.old) (D.state dumps.new)) }
 {
-    let Ok(sought) = one_sought(alloc, number) else {
+    let Ok(targets) = one_target(alloc, number) else {
         return Err(HolderFault::Memory);
     };
-    let (held, _tally) = hear_binaries(alloc, dumps, index, procs, &sought)?;
+    let (held, _counts) = count_references(alloc, dumps, index, procs, &targets)?;
     Ok(held)
 }

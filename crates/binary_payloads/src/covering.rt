@@ -130,7 +130,7 @@ pub fn payload_part(chars: &[u8], enc: Enc, size: u64, from: u64, into: &mut [u8
     requires within { from + length into.old ≤ size }
     // Whatever bytes the characters are the payload of, the bytes read are those of the range.
     ensures part { (bytes : List ℕ) → IsPayload enc chars.now bytes → into.new ≡ take (length into.old) (drop from bytes) }
-    // The same, by the function with which definitions compute.
+    // They are the range of what the definitions compute as the payload.
     ensures exact { option_map (λ bytes. take (length into.old) (drop from bytes)) (payload_bytes enc chars.now) ≡ Some into.new }
 {
     let cover = range_cover(enc, size, from, into.len() as u32);

@@ -12,12 +12,12 @@ use Rattle.std.proofs.lemmas.Option.{none-some, same_Some}
 use Rattle.binary_payloads.specs.declared.enc.Enc.{Enc}
 use Rattle.term_forms.specs.Forms.{HeapForm, RefBin, SubBin}
 use Rattle.dump_sections.specs.Index.{Contents}
-use Rattle.dump_sections.specs.Laws.{option_or-none}
 use Rattle.heap_cells.specs.Cells.{Cell, kind_of}
 use Rattle.heap_cells.specs.HeapMap.{form_at}
 use Rattle.binary_refs.specs.declared.entries.Entry.{Entry}
 use Rattle.binary_refs.specs.Previews.{previews_of, preview_entry, by_number, stated, stating, binaries, entry_at, AreFor}
 use Rattle.binary_refs.specs.Inner.Kinds.{refers}
+use Rattle.dump_io.specs.Laws.Options.{or-none, is_some-map}
 
 -- ---- looking entries up
 
@@ -137,7 +137,7 @@ pairs-step cells n k so_far = (λ before. below before (cases_lt k n), above)
     apart : (n ≡ k → ⊥) → pair_at (by_number stated cells (suc n)) k ≡ pair_at (by_number stated cells n) k
     apart other =
         parts ∙ ap (option_or (pair_at (by_number stated cells n) k)) (pair-other (one_stated cells n) n k (one-number cells n) other)
-        ∙ option_or-none (pair_at (by_number stated cells n) k)
+        ∙ or-none (pair_at (by_number stated cells n) k)
 
     below : k < suc n → (k < n) ⊎ (n ≤ k) → pair_at (by_number stated cells (suc n)) k ≡ one_stated cells k
     below before (inl earlier) = apart (λ same. omega (arith, same, earlier)) ∙ so_far.0 earlier
@@ -159,13 +159,9 @@ form-past [] k past = refl
 form-past (cell ∷ cells) zero past = absurd (omega (arith, past))
 form-past (cell ∷ cells) (suc k) past = form-past cells k (omega (arith, past))
 
-some-mapped : {X Y : Type 0} (f : X → Y) (o : Option X) → is_some (option_map f o) ≡ is_some o
-some-mapped f None = refl
-some-mapped f (Some x) = refl
-
 pub are-for : (cells : List Cell) (es : List Entry) → map stating es ≡ binaries cells → AreFor cells es
 are-for cells es is n =
-    sym (some-mapped stating (entry_at es n)) ∙ ap is_some (stating-at es n ∙ (ap (λ ps. pair_at ps n) is ∙ by (cases_lt n (length cells))))
+    sym (is_some-map stating (entry_at es n)) ∙ ap is_some (stating-at es n ∙ (ap (λ ps. pair_at ps n) is ∙ by (cases_lt n (length cells))))
   where
     by : (n < length cells) ⊎ (length cells ≤ n) → pair_at (binaries cells) n ≡ one_stated cells n
     by (inl inside) = (pairs-upto cells (length cells) n).0 inside

@@ -2,11 +2,12 @@
 use Rattle.std.specs.Prelude.{◌≡◌, ℕ, List, [], ◌∷◌, Option, None, Some, Result, Ok, Err, slice_get}
 use Rattle.std.specs.Global.{Vec}
 use Rattle.std.specs.Option.{option_map, option_and_then}
-use Rattle.dump_io.specs.Dumps.{DeviceState, DeviceFailed}
+use Rattle.dump_io.specs.Dumps.{DeviceState}
+use Rattle.dump_io.specs.Faults.{Cause, refuses, fails, lacks, IsCauseOf}
 use Rattle.field_lines.specs.Lines.{text_lines}
 use Rattle.dump_sections.specs.Bodies.{body_of, body_size}
 use Rattle.dump_sections.specs.Index.{Contents, sections_in}
-use Rattle.dump_sections.specs.Loading.{large_fault, Loads}
+use Rattle.dump_sections.specs.Loading.{body_fault, large_fault, Loads}
 use Rattle.dump_sections.specs.Sections.{Section}
 use Rattle.dump_sections.specs.declared.bodies.BodyFault.{BodyFault}
 use Rattle.dump_sections.specs.declared.bodies.BodyFault.TheVariants as body
@@ -50,16 +51,24 @@ bin_fault_of body.Memory = Memory
 -- the refusals before anything is read, by the section that was found: there is none, or its body is too large
 abbrev pub refused : ℕ → Option Section → Option BinFault
 refused limit None = Some NoBinary
-refused limit (Some section) = option_map bin_fault_of (large_fault limit (section ∷ []))
+refused limit (Some section) = option_map (λ large. bin_fault_of (body_fault large)) (large_fault limit (section ∷ []))
 
--- why no bytes are given: the first line of the section isn't of the grammar, or the device
--- failed; memory may be lacking at any time; any other fault is a refusal before anything is read
+-- what the fault of a binary says
+abbrev pub bin_cause : BinFault → Cause BinFault
+bin_cause Read = fails
+bin_cause Memory = lacks
+bin_cause refusal = refuses refusal
+
+-- why a binary is refused: the first line of its section isn't of the grammar; any other refusal comes before anything is read
+abbrev pub IsBinRefusal : Option Section → ℕ → BinFault → Type 0
+IsBinRefusal found limit (BadBinary at) = option_map (λ section. section.at) found ≡ Some at
+IsBinRefusal found limit fault = refused limit found ≡ Some fault
+
+-- why no bytes are given: the binary is refused, or the device failed; memory may be lacking at any time
 abbrev pub IsBinCauseOf : Option Section → ℕ → DeviceState → DeviceState → BinFault → Type 0
-IsBinCauseOf found limit before after (BadBinary at) = option_map (λ section. section.at) found ≡ Some at
-IsBinCauseOf found limit before after Read = DeviceFailed before after
-IsBinCauseOf found limit before after Memory = Unit {0}
-IsBinCauseOf found limit before after fault = refused limit found ≡ Some fault
+IsBinCauseOf found limit before after fault = IsCauseOf (IsBinRefusal found limit) before after (bin_cause fault)
 
 -- what each call does that loads the binary whose section was found
 abbrev pub LoadsBinary : {D T : Type 0} → (D → DeviceState) → Option Section → ℕ → D → D → Result T BinFault → Type 0
-LoadsBinary state found limit before after result = Loads state (body_size found) (refused limit found) (IsBinCauseOf found limit) before after result
+LoadsBinary state found limit before after result =
+    Loads state (body_size found) (refused limit found) (IsBinCauseOf found limit) before after result

@@ -2,7 +2,7 @@
 use stored_binaries::FewBytes;
 
 /// The first bytes of the range to which a cell refers, and the size that the cell states.
-#[derive(Clone, Copy, Debug)]
+#[derive(Clone, Copy)]
 pub enum Preview<'a> {
     /// The first bytes, at most 32, and the size of the whole range.
     Bytes(&'a [u8], u64),

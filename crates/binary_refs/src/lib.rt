@@ -20,4 +20,4 @@ mod wholes;
 pub use entries::Preview;
 pub use faults::{BinFault, PreviewFault};
 pub use previews::Previews;
-pub use wholes::whole;
+pub use wholes::{bytes_of_body, whole};

@@ -299,7 +299,8 @@ impl Previews {
         Previews::load_with(alloc, dumps, &places, heap)
     }
 
-    /// The same with the `binary` sections already sorted, for a caller that loads the previews of many heaps.
+    /// Loads the previews of a heap as [`Previews::load`] does, with the `binary`
+    /// sections already sorted, for a caller that loads the previews of many heaps.
     pub fn load_with<D: Dumps>(
         alloc: Global,
         dumps: &mut D,

@@ -26,8 +26,9 @@ fn first_text(body: &[u8]) -> Option<&[u8]>
     Some(line.text)
 }
 
-// The bytes of a body, if its first line is a length, `:`, and the payload of that many bytes.
-fn bytes_of_body(alloc: Global, enc: Enc, body: &[u8]) -> Result<Option<Vec<u8>>, AllocError>
+/// The bytes that the body of a `binary` section writes. Returns `Ok(None)` exactly when its first line isn't
+/// the number of bytes in hex, `:`, and the characters of that many bytes, and an error only if memory is lacking.
+pub fn bytes_of_body(alloc: Global, enc: Enc, body: &[u8]) -> Result<Option<Vec<u8>>, AllocError>
     ensures { IfOk result (λ bytes. bytes_in bytes ≡ bytes_of_body enc body.now) }
 {
     let Some(text) = first_text(body) else {

@@ -67,6 +67,8 @@ pub struct Case {
     pub is_once: bool,
     /// The lengths of the prefixes of the dump on which the case runs, if it doesn't run on the whole dump.
     pub fronts: Option<(usize, usize)>,
+    /// The case runs with reads of each size below this one, besides those with which all do.
+    pub cuts: usize,
     pub bounds: Bounds,
     pub taken: u64,
     pub status: u64,
@@ -83,6 +85,7 @@ impl Case {
             is_same_dump: true,
             is_once: false,
             fronts: None,
+            cuts: 0,
             bounds: Bounds::usual(),
             taken: u64::MAX,
             status: 0,
@@ -106,6 +109,7 @@ impl Case {
         self.is_same_dump = true;
         self.is_once = false;
         self.fronts = None;
+        self.cuts = 0;
         self.bounds = Bounds::usual();
         self.taken = u64::MAX;
         self.status = 0;
@@ -168,6 +172,7 @@ impl Case {
             "taken" => self.taken = dec_u64(rest.as_bytes())?,
             "status" => self.status = dec_u64(rest.as_bytes())?,
             "once" => self.is_once = true,
+            "cuts" => self.cuts = length_of(rest)?,
             "fronts" => {
                 let (from, upto) = rest.split_once(' ')?;
                 self.fronts = Some((length_of(from)?, length_of(upto)?));

@@ -29,11 +29,13 @@
 //! the device fails once, which must end with the status of a read fault and nothing written;
 //! the first eight of them also fail when each read gives a single byte. And each write of a
 //! single byte fails once, which must leave the bytes before it. With the line `once` a case
-//! runs once, as it is. With `fronts 19 936` it runs once on each prefix of the dump from 19 to
-//! 935 bytes, and what it writes must end with a line that begins with what is expected.
+//! runs once, as it is, and with `cuts 36` also with reads of each size up to 35. With `fronts 19 936`
+//! it runs once on each prefix of the dump from 19 to 935 bytes; where it expects the report of
+//! `index` on the whole dump, it must write what that report says of the prefix.
 #![tactic(auto)]
 
 mod case;
+mod fronts;
 mod outcome;
 mod passing;
 mod script;

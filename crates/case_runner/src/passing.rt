@@ -1,5 +1,6 @@
 // Whether a case ends as it must, however it is hindered.
 use crate::case::Case;
+use crate::fronts::cut_report;
 use crate::outcome::{Failure, Hindrance, NONE, Outcome, run_case, run_on};
 use dump_command::status::{DONE, FOUND, UNREAD, UNWRITTEN};
 use std::alloc::{AllocError, Global};
@@ -31,18 +32,32 @@ fn failure(
     })
 }
 
-// The first of several sizes of reads and writes with which the
-// case ends in another way, or takes more bytes than it may.
+// The run with reads and writes of a size, if it ends in another way, or takes more bytes than it may.
+fn fails_cut(alloc: Global, case: &Case, cut: usize) -> Result<Option<Failure>, AllocError> {
+    let cutting = Hindrance {
+        cut,
+        step: cut,
+        ..NONE
+    };
+    let end = run_case(alloc, case, &cutting)?;
+    if end.is(case.status, &case.out, &case.err) && end.taken <= case.taken {
+        return Ok(None);
+    }
+    Ok(failure(case, cutting, end, AS_EXPECTED))
+}
+
+// The first of several sizes with which the case fails, or of all up to the one that it names.
 fn fails_cuts(alloc: Global, case: &Case) -> Result<Option<Failure>, AllocError> {
     for cut in CUTS {
-        let cutting = Hindrance {
-            cut,
-            step: cut,
-            ..NONE
-        };
-        let end = run_case(alloc, case, &cutting)?;
-        if !end.is(case.status, &case.out, &case.err) || end.taken > case.taken {
-            return Ok(failure(case, cutting, end, AS_EXPECTED));
+        let failed = fails_cut(alloc, case, cut)?;
+        if failed.is_some() {
+            return Ok(failed);
+        }
+    }
+    for cut in 1..case.cuts {
+        let failed = fails_cut(alloc, case, cut)?;
+        if failed.is_some() {
+            return Ok(failed);
         }
     }
     Ok(None)
@@ -174,20 +189,13 @@ fn fails_once(alloc: Global, case: &Case) -> Result<Option<Failure>, AllocError>
     Ok(failure(case, NONE, end, AS_EXPECTED))
 }
 
-// The last line of a text, without its LF.
-fn last_line(text: &[u8]) -> &[u8] {
-    let mut last = text;
-    for line in text.split(|c| *c == b'\n') {
-        if !line.is_empty() {
-            last = line;
-        }
+// What the case has to write on a prefix of its dump: what it expects, or if
+// that is the report of `index` on the whole, what that says of the prefix.
+fn wanted_on(alloc: Global, case: &Case, length: usize) -> Result<String, AllocError> {
+    match std::str::from_utf8(&case.out) {
+        Ok(report) => cut_report(alloc, report, length as u64),
+        Err(_) => Ok(String::new(alloc)),
     }
-    last
-}
-
-// Whether the last line of a text begins with what is expected. If nothing is expected, the text is empty.
-fn ends_as(text: &[u8], expected: &[u8]) -> bool {
-    text.is_empty() == expected.is_empty() && last_line(text).starts_with(expected)
 }
 
 // The first prefix of the dump, of those with a length in this range, on which the case ends in another way.
@@ -199,15 +207,13 @@ fn fails_fronts(
 ) -> Result<Option<Failure>, AllocError> {
     for length in from..upto {
         let end = run_on(alloc, case, front(&case.dump, length), &NONE)?;
-        let is_alike = end.status == case.status
-            && ends_as(end.out.written(), &case.out)
-            && ends_as(end.err.written(), &case.err);
-        if !is_alike {
+        let wanted = wanted_on(alloc, case, length)?;
+        if !end.is(case.status, wanted.as_bytes(), &case.err) {
             return Ok(Some(Failure {
                 hindrance: NONE,
                 length,
                 end,
-                wanted: "with a line that begins as the case says",
+                wanted: "with what the case says of the prefix",
             }));
         }
     }

@@ -1,5 +1,5 @@
 -- Which records stand in front of all others with their address.
-use Rattle.std.proofs.Common.{◌≡◌, ℕ, zero, suc, ◌+◌, ◌-◌, ◌<◌, ◌≤◌, ◌==◌, ◌||◌, ◌⊎◌, ⊎_elim, inl, inr, Bool, true, false, not, List, length, get_or, set, take, refl, sym, ◌∙◌, ap, subst, arith, below_more}
+use Rattle.std.proofs.Common.{◌≡◌, ℕ, zero, suc, ◌+◌, ◌-◌, ◌<◌, ◌≤◌, ◌==◌, ◌||◌, ◌⊎◌, ⊎_elim, inl, inr, Bool, true, false, not, List, length, get_or, set, take, refl, sym, ◌∙◌, ap, subst, arith, below_more, ◌^◌}
 use Rattle.std.proofs.lemmas.Bool.{true≢false, cases_eq, cases_lt, false_from_ne_true, eq-eqb, eqb-true}
 use Rattle.std.proofs.lemmas.Grind.{get_or-set_at}
 use Rattle.std.proofs.lemmas.List.{get_or_default, get_or-set_other, get_or-set_same, length-set, length-map, get_or-take, length-take}
@@ -47,7 +47,7 @@ begins-same rs order k more fails =
 
 -- ---- what begins an address is first
 
-pub begins-first : (rs : List CellRecord) (order : List ℕ) (k : ℕ) → length rs < 4294967296 → IsOrder rs order → k < length order → begins rs order k ≡ true
+pub begins-first : (rs : List CellRecord) (order : List ℕ) (k : ℕ) → length rs < 2 ^ 32 → IsOrder rs order → k < length order → begins rs order k ≡ true
     → IsFirst rs (get_or order k 0)
 begins-first rs order k few is inside passes m less same =
     let here = number-at rs order k is inside in
@@ -115,7 +115,7 @@ keeps-true firsts i j inside is =
 was-true : (firsts : List Bool) (i j : ℕ) → get_or (set firsts i true) j false ≡ true → (j ≡ i) ⊎ (get_or firsts j false ≡ true)
 was-true firsts i j is = ⊎_elim (λ same. inl same) (λ other. inr (sym (get_or-set_other firsts i j true false other) ∙ is)) (cases_eq j i)
 
-pub marked-more : (rs : List CellRecord) (order : List ℕ) (firsts more : List Bool) (k : ℕ) → length rs < 4294967296 → IsOrder rs order → k < length order
+pub marked-more : (rs : List CellRecord) (order : List ℕ) (firsts more : List Bool) (k : ℕ) → length rs < 2 ^ 32 → IsOrder rs order → k < length order
     → AreMarked rs order firsts k → begins rs order k ≡ true → more ≡ set firsts (get_or order k 0) true → AreMarked rs order more (k + 1)
 marked-more rs order firsts more k few is inside marked passes set_is = subst (λ l. AreMarked rs order l (k + 1)) (sym set_is) (record {
   count = length-set firsts (get_or order k 0) true ∙ marked.count;
@@ -184,7 +184,7 @@ apart-begins rs pairs (suc k) are apart inside =
     let less : suc k - 1 ≡ k = omega arith in
     rw (not-zero (suc k) (omega arith), less, differs) refl
 
-pub apart-first : (rs : List CellRecord) (pairs : List (ℕ × ℕ)) (n : ℕ) → length rs ≤ 100000000 → AreRanked rs pairs → AreApart pairs → n < length rs → is_first rs n ≡ true
+pub apart-first : (rs : List CellRecord) (pairs : List (ℕ × ℕ)) (n : ℕ) → length rs < 2 ^ 27 → AreRanked rs pairs → AreApart pairs → n < length rs → is_first rs n ≡ true
 apart-first rs pairs n few are apart inside =
     let order = order-of rs pairs are in
     let there = order.complete n inside in

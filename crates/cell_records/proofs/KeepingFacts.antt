@@ -1,22 +1,21 @@
 -- Of the records with one address the first is kept.
-use Rattle.std.proofs.Common.{◌≡◌, ℕ, zero, suc, ◌+◌, ◌-◌, ◌≤◌, Bool, true, false, cond, List, ◌++◌, length, drop, Option, None, Some, sym, ◌∙◌, ap, subst, arith, length-append}
-use Rattle.std.specs.Prelude.{slice_get, [], ◌∷◌}
+use Rattle.std.proofs.Common.{◌⊎◌, inl, inr, ◌<◌, ◌^◌, Result, Ok, Err, ◌≡◌, ℕ, zero, suc, ◌+◌, ◌-◌, ◌≤◌, Bool, true, false, cond, List, ◌++◌, length, drop, Option, None, Some, sym, ◌∙◌, ap, subst, arith, length-append}
+use Rattle.std.specs.Prelude.{slice_get, [], ◌∷◌, IfOk}
 use Rattle.std.specs.Option.{option_map_or}
 use Rattle.std.proofs.lemmas.List.{length-take}
 use Rattle.cell_records.specs.declared.arena.Arena.{Arena}
 use Rattle.cell_records.specs.declared.cells.CellRecord.{CellRecord}
 use Rattle.cell_records.specs.declared.cells.Slot.{Slot}
-use Rattle.cell_records.specs.Keeping.{moved_record, kept_upto}
-use Rattle.cell_records.specs.Order.{is_first}
+use Rattle.cell_records.specs.Keeping.{moved_record, kept_upto, AreAllKept, AreFirstKept}
+use Rattle.cell_records.specs.Order.{is_first, AreRanked, AreAllFirst, IsOrder}
 use Rattle.cell_records.specs.Slots.{start_at, slots_at, AreOrdered}
+use Rattle.cell_records.specs.declared.keeping.Indexed.{Indexed}
+use Rattle.cell_records.specs.declared.settling.Settled.{Settled}
+use Rattle.cell_records.specs.Resolving.{AreSettled}
+use Rattle.cell_records.specs.Settling.{IsSettled}
+use Rattle.cell_records.specs.Inner.Keeping.{IsKeeping, AreKept, IsRankedArena, IsKeptIndex}
 
 -- ---- one more record
-
--- what is kept of the records before one
-pub record IsKeeping (all kept : Arena) (i : ℕ) : Type 0 where
-  pub cells_are : kept.cells.items ≡ (kept_upto all.cells.items all.slots.items i).0
-  pub slots_are : kept.slots.items ≡ (kept_upto all.cells.items all.slots.items i).1
-  pub few : length kept.cells.items ≤ i
 
 moved-one : (rs : List CellRecord) (i first : ℕ) → length (moved_record rs i first) ≤ 1
 moved-one rs i first = of (slice_get rs i)
@@ -83,3 +82,55 @@ kept-few rs ss (suc n) inside ordered =
     let piece : length (slots_at rs ss n) ≤ upto - from = let count = length-take (upto - from) (drop from ss) in omega (arith, count) in
     subst (λ m. length (kept_upto rs ss (suc n)).1 ≤ start_at rs m (length ss)) next
     (few-unless (is_first rs n) kept.0 (kept.0 ++ moved_record rs n (length kept.1)) kept.1 (slots_at rs ss n) from upto (kept-few rs ss n (omega arith) ordered) (ordered.ordered n (omega arith)) piece)
+
+pub kept-total : (rs : List CellRecord) (ss : List Slot) (n : ℕ) → n ≤ length rs → AreOrdered rs (length ss) → length (kept_upto rs ss n).1 ≤ length ss
+kept-total rs ss zero inside ordered = omega arith
+kept-total rs ss (suc n) inside ordered =
+    let next : n + 1 ≡ suc n = omega arith in
+    let end = ordered.within n (omega arith) in
+    let most = kept-few rs ss (suc n) inside ordered in
+    omega (arith, most, ap (λ m. start_at rs m (length ss)) next, end)
+
+-- what is kept, where all are
+pub all-index : (all : Arena) (own : ℕ) (found : Indexed) → AreAllFirst found.ranks → length all.cells.items < 2 ^ 27 → IsRankedArena all own found → IsKeptIndex all own found
+all-index all own found first few is = record {
+  kept = inl (record { first = first all.cells.items few is.ranks_are; arena_is = is.arena_is; own_is = is.own_is });
+  ranks_are = subst (λ (a : Arena). AreRanked a.cells.items found.ranks) (sym is.arena_is) is.ranks_are;
+  few_cells = let same = ap (λ (a : Arena). length a.cells.items) is.arena_is in omega (arith, same);
+  few_slots = let same = ap (λ (a : Arena). length a.slots.items) is.arena_is in omega (arith, same);
+}
+
+-- what is kept, where some records have the address of an earlier one
+module _ (all : Arena) (own : ℕ) (first : Indexed) (kept : Arena) (kept_own : ℕ) (ordered : AreOrdered all.cells.items (length all.slots.items))
+    (is : IsRankedArena all own first) (are : AreKept first.arena first.own kept kept_own) where
+  of-all : AreKept all own kept kept_own
+  of-all = subst (λ n. AreKept all n kept kept_own) is.own_is (subst (λ (a : Arena). AreKept a first.own kept kept_own) is.arena_is are)
+
+  first-index : (found : Indexed) → IsRankedArena kept kept_own found → IsKeptIndex all own found
+  first-index found ranked = record {
+    kept = inr (record {
+      cells_are = ap (λ (a : Arena). a.cells.items) ranked.arena_is ∙ of-all.whole.cells_are;
+      slots_are = ap (λ (a : Arena). a.slots.items) ranked.arena_is ∙ of-all.whole.slots_are;
+      own_is = ranked.own_is ∙ of-all.own_is;
+    });
+    ranks_are = subst (λ (a : Arena). AreRanked a.cells.items found.ranks) (sym ranked.arena_is) ranked.ranks_are;
+    few_cells = let same = ap (λ (a : Arena). length a.cells.items) ranked.arena_is in let few = of-all.whole.few in omega (arith, same, few);
+    few_slots = let same = ap (λ (a : Arena). length a.slots.items) ranked.arena_is in let most = kept-total all.cells.items all.slots.items (length all.cells.items) (omega arith) ordered in
+        omega (arith, same, ap length of-all.whole.slots_are, most);
+  }
+
+  pub first-indexed : {E : Type 0} (result : Result Indexed E) → IfOk result (IsRankedArena kept kept_own) → IfOk result (IsKeptIndex all own)
+  first-indexed (Ok found) ranked = first-index found ranked
+  first-indexed (Err e) ranked = ranked
+
+-- records whose references are resolved
+pub settled-index : (all : Arena) (own : ℕ) (index : Indexed) (found : Settled) → length all.cells.items < 2 ^ 27 → IsKeptIndex all own index → found.arena.cells.items ≡ index.arena.cells.items
+    → found.own ≡ index.own → AreSettled index.ranks index.arena.slots.items found.arena.slots.items
+    → ((rs : List CellRecord) → AreRanked rs index.ranks → IsOrder rs found.order.items) → IsSettled all own found
+settled-index all own index found few is cells own_is slots order = record {
+  kept = index.arena;
+  kept_is = subst (λ n. AreAllKept all own index.arena n ⊎ AreFirstKept all own index.arena n) (sym own_is) is.kept;
+  cells_are = cells;
+  slots_are = slots index.arena.cells.items (let most = is.few_cells in omega (arith, few, most)) is.ranks_are;
+  order_is = order index.arena.cells.items is.ranks_are;
+}

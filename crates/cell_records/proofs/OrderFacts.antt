@@ -1,5 +1,5 @@
 -- Numbers of records in the order of their addresses.
-use Rattle.std.proofs.Common.{◌≡◌, ℕ, ◌+◌, ◌<◌, ◌≤◌, ◌==◌, ◌⊎◌, inl, inr, Bool, true, false, ltb, cond, List, length, get_or, map, Option, None, Some, refl, sym, ◌∙◌, ap, subst, arith, [], ◌∷◌, ◌++◌, length-append, below_more}
+use Rattle.std.proofs.Common.{◌≡◌, ℕ, ◌+◌, ◌<◌, ◌≤◌, ◌==◌, ◌⊎◌, inl, inr, Bool, true, false, ltb, cond, List, length, get_or, map, Option, None, Some, refl, sym, ◌∙◌, ap, subst, arith, [], ◌∷◌, ◌++◌, length-append, below_more, ◌^◌}
 use Rattle.std.specs.Prelude.{All}
 use Rattle.std.specs.Option.{option_map_or}
 use Rattle.std.specs.List.Sorted.{IsNonDecreasingBy, IsPartitionPoint, IsPermutation, IsSorted}
@@ -10,7 +10,7 @@ use Rattle.std.proofs.lemmas.Map.Keys.{ge_from_not_lt}
 use Rattle.std.proofs.lemmas.List.Elements.{All-map}
 use Rattle.std.proofs.lemmas.Bool.{true≢false, cases_lt, cases_order, false_from_ne_true, eq-eqb, eqb-true, ltb-true, ltb-false, lt-ltb, le-ltb}
 use Rattle.std.proofs.lemmas.List.{get_or_default, get_or-map, length-map, get_or_push, get_or_append_left}
-use Rattle.std.proofs.lemmas.List.Sorted.{All-permutation, Contains-permutation, IsNonDecreasingBy-from_all_adjacent}
+use Rattle.std.proofs.lemmas.List.Sorted.{length_permutation, All-permutation, Contains-permutation, IsNonDecreasingBy-from_all_adjacent}
 use Rattle.std.proofs.lemmas.Option.{slice_get-get_or}
 use Rattle.std.specs.List.{position, position_or_len}
 use Rattle.std.proofs.lemmas.List.Sums.{position_or_len_is}
@@ -22,11 +22,11 @@ use Rattle.cell_records.specs.declared.ranks.Kept.{Kept}
 use Rattle.cell_records.specs.declared.ranks.Kept.TheVariants.{Wide}
 use Rattle.std.specs.Global.{Vec}
 
-pub lesser : (a b m n : ℕ) → m < 4294967296 → n < 4294967296 → rank a m ≤ rank b n → a ≤ b
+pub lesser : (a b m n : ℕ) → m < 2 ^ 32 → n < 2 ^ 32 → rank a m ≤ rank b n → a ≤ b
 lesser a b m n one other ranks = omega arith
 
 -- the numbers rise by address
-pub by-address : (rs : List CellRecord) (order : List ℕ) → length rs < 4294967296 → IsOrder rs order → IsNonDecreasingBy (address_in rs) order
+pub by-address : (rs : List CellRecord) (order : List ℕ) → length rs < 2 ^ 32 → IsOrder rs order → IsNonDecreasingBy (address_in rs) order
 by-address rs order few is i j d up inside =
     let one = is.within i d (omega arith) in
     let other = is.within j d inside in
@@ -106,7 +106,7 @@ found-there rs order address at n is point inside read same =
       | inr later ↦ let ranks = ranked rs order at there.0 n m is later there.1 (sym read) there.2 in omega (arith, ranks, same, equal, less)
     ])
 
-pub other-there : (rs : List CellRecord) (order : List ℕ) (address at n : ℕ) → length rs < 4294967296 → IsOrder rs order → IsPointOf rs order address at → at < length order
+pub other-there : (rs : List CellRecord) (order : List ℕ) (address at n : ℕ) → length rs < 2 ^ 32 → IsOrder rs order → IsPointOf rs order address at → at < length order
     → n ≡ get_or order at n → (address_in rs n ≡ address → ⊥) → record_with rs address ≡ None
 other-there rs order address at n few is point inside read other =
     let here : n < length rs = subst (λ k. k < length rs) (sym read) (is.within at n inside) in
@@ -138,6 +138,7 @@ pairs-more rs pairs more i count each is = (
 pub pairs-all : (rs : List CellRecord) (pairs : List (ℕ × ℕ)) (i : ℕ) → length pairs ≡ i → ((k : ℕ) (d : ℕ × ℕ) → k < i → get_or pairs k d ≡ (address_in rs k, k))
     → i ≡ length rs → AreRecordPairs rs pairs
 pairs-all rs pairs i count each all = record {
+  count = count ∙ all;
   each = λ k d inside. subst (IsRecordPair rs) (sym (each k d (omega (arith, inside, count)))) (pair k (omega (arith, inside, count, all)));
   complete = λ n inside. (n, omega (arith, inside, count, all), each n (address_in rs n, n) (omega (arith, inside, all)));
 }
@@ -149,12 +150,13 @@ pairs-all rs pairs i count each all = record {
 
 pub pairs-moved : (rs : List CellRecord) (pairs sorted : List (ℕ × ℕ)) → AreRecordPairs rs pairs → IsPermutation pairs sorted → AreRecordPairs rs sorted
 pairs-moved rs pairs sorted are moved = record {
+  count = length_permutation pairs sorted moved ∙ are.count;
   each = All-permutation (IsRecordPair rs) pairs sorted moved are.each;
   complete = λ n inside. Contains-permutation pairs sorted (address_in rs n, n) moved (are.complete n inside);
 }
 
 -- a pair that isn't less than another one has no lesser rank
-not-less : (a m b n : ℕ) → m < 4294967296 → n < 4294967296 → is_lt (ordering_then (nat_cmp b a) (nat_cmp n m)) ≡ false → rank a m ≤ rank b n
+not-less : (a m b n : ℕ) → m < 2 ^ 32 → n < 2 ^ 32 → is_lt (ordering_then (nat_cmp b a) (nat_cmp n m)) ≡ false → rank a m ≤ rank b n
 not-less a m b n one other stands = by-order (cases_order a b)
   where
     by-order : (a ≡ b) ⊎ ((a < b) ⊎ (b < a)) → rank a m ≤ rank b n
@@ -167,7 +169,7 @@ not-less a m b n one other stands = by-order (cases_order a b)
         let greater : Less ≡ nat_cmp b a = nat_cmp_is b a Less more in
         absurd (true≢false (ap (λ o. is_lt (ordering_then o (nat_cmp n m))) greater ∙ stands))
 
-pub pairs-ranked : (pairs : List (ℕ × ℕ)) → All (λ (p : ℕ × ℕ). p.1 < 134217728) pairs → IsSorted (λ x y. ordering_then (nat_cmp x.0 y.0) (nat_cmp x.1 y.1)) pairs
+pub pairs-ranked : (pairs : List (ℕ × ℕ)) → All (λ (p : ℕ × ℕ). p.1 < 2 ^ 27) pairs → IsSorted (λ x y. ordering_then (nat_cmp x.0 y.0) (nat_cmp x.1 y.1)) pairs
     → IsNonDecreasingBy (λ (p : ℕ × ℕ). rank p.0 p.1) pairs
 pairs-ranked pairs few sorted =
     IsNonDecreasingBy-from_all_adjacent (λ (p : ℕ × ℕ). rank p.0 p.1) pairs
@@ -208,15 +210,15 @@ pub address-at : (rs : List CellRecord) (pairs : List (ℕ × ℕ)) (k d : ℕ) 
     → address_in rs (get_or (numbers_of pairs) k d) ≡ (get_or pairs k (0, 0)).0
 address-at rs pairs k d are inside = ap (address_in rs) (get_or-map (λ (p : ℕ × ℕ). p.1) pairs k (0, 0) d inside) ∙ (are.each k (0, 0) inside).address
 
-pub addresses-rise : (pairs : List (ℕ × ℕ)) (i j : ℕ) → All (λ (p : ℕ × ℕ). p.1 < 4294967296) pairs → IsNonDecreasingBy (λ (p : ℕ × ℕ). rank p.0 p.1) pairs → i ≤ j → j < length pairs
+pub addresses-rise : (pairs : List (ℕ × ℕ)) (i j : ℕ) → All (λ (p : ℕ × ℕ). p.1 < 2 ^ 32) pairs → IsNonDecreasingBy (λ (p : ℕ × ℕ). rank p.0 p.1) pairs → i ≤ j → j < length pairs
     → (get_or pairs i (0, 0)).0 ≤ (get_or pairs j (0, 0)).0
 addresses-rise pairs i j few sorted up inside =
     lesser (get_or pairs i (0, 0)).0 (get_or pairs j (0, 0)).0 (get_or pairs i (0, 0)).1 (get_or pairs j (0, 0)).1 (few i (0, 0) (omega arith)) (few j (0, 0) inside) (sorted i j (0, 0) up inside)
 
-few-pairs : (rs : List CellRecord) (pairs : List (ℕ × ℕ)) → length rs ≤ 100000000 → AreRecordPairs rs pairs → All (λ (p : ℕ × ℕ). p.1 < 4294967296) pairs
+few-pairs : (rs : List CellRecord) (pairs : List (ℕ × ℕ)) → length rs < 2 ^ 27 → AreRecordPairs rs pairs → All (λ (p : ℕ × ℕ). p.1 < 2 ^ 32) pairs
 few-pairs rs pairs few are k d inside = let one = (are.each k d inside).within in omega (arith, one, few)
 
-point-of : (rs : List CellRecord) (pairs : List (ℕ × ℕ)) (address at : ℕ) → length rs ≤ 100000000 → AreRanked rs pairs → IsFirstFrom pairs address at
+point-of : (rs : List CellRecord) (pairs : List (ℕ × ℕ)) (address at : ℕ) → length rs < 2 ^ 27 → AreRanked rs pairs → IsFirstFrom pairs address at
     → IsPointOf rs (numbers_of pairs) address at
 point-of rs pairs address at few are first = (
   λ k d low before.
@@ -232,19 +234,19 @@ point-of rs pairs address at few are first = (
 )
 
 -- what stands at the first place whose address isn't lesser
-pub none-there : (rs : List CellRecord) (pairs : List (ℕ × ℕ)) (address at : ℕ) → length rs ≤ 100000000 → AreRanked rs pairs → IsFirstFrom pairs address at → length pairs ≤ at
+pub none-there : (rs : List CellRecord) (pairs : List (ℕ × ℕ)) (address at : ℕ) → length rs < 2 ^ 27 → AreRanked rs pairs → IsFirstFrom pairs address at → length pairs ≤ at
     → record_with rs address ≡ None
 none-there rs pairs address at few are first past =
     past-the-end rs (numbers_of pairs) address at (order-of rs pairs are) (point-of rs pairs address at few are first) (omega (arith, past, length-map pairs (λ (p : ℕ × ℕ). p.1)))
 
-pub number-there : (rs : List CellRecord) (pairs : List (ℕ × ℕ)) (address at number : ℕ) → length rs ≤ 100000000 → AreRanked rs pairs → IsFirstFrom pairs address at → at < length pairs
+pub number-there : (rs : List CellRecord) (pairs : List (ℕ × ℕ)) (address at number : ℕ) → length rs < 2 ^ 27 → AreRanked rs pairs → IsFirstFrom pairs address at → at < length pairs
     → (get_or pairs at (0, 0)).1 ≡ number → (get_or pairs at (0, 0)).0 ≡ address → record_with rs address ≡ Some number
 number-there rs pairs address at number few are first inside is same =
     let read : number ≡ get_or (numbers_of pairs) at number = sym (get_or-map (λ (p : ℕ × ℕ). p.1) pairs at (0, 0) number inside ∙ is) in
     found-there rs (numbers_of pairs) address at number (order-of rs pairs are) (point-of rs pairs address at few are first) (omega (arith, inside, length-map pairs (λ (p : ℕ × ℕ). p.1))) read
     (ap (address_in rs) read ∙ address-at rs pairs at number are.pairs_are inside ∙ same)
 
-pub other-address : (rs : List CellRecord) (pairs : List (ℕ × ℕ)) (address at : ℕ) → length rs ≤ 100000000 → AreRanked rs pairs → IsFirstFrom pairs address at → at < length pairs
+pub other-address : (rs : List CellRecord) (pairs : List (ℕ × ℕ)) (address at : ℕ) → length rs < 2 ^ 27 → AreRanked rs pairs → IsFirstFrom pairs address at → at < length pairs
     → ((get_or pairs at (0, 0)).0 ≡ address → ⊥) → record_with rs address ≡ None
 other-address rs pairs address at few are first inside other =
     let number = (get_or pairs at (0, 0)).1 in
@@ -266,8 +268,8 @@ narrow-ranked base ranks sorted i j d up inside =
     rw (one, other) (rank-rises base (get_or ranks i 0) (get_or ranks j 0) (sorted i j 0 up within))
 
 -- each number that is kept so is one of 27 bits
-pub narrow-numbered : (base : ℕ) (ranks : List ℕ) → All (λ (p : ℕ × ℕ). p.1 < 134217728) (map (pair_at base) ranks)
-narrow-numbered base ranks = All-map (λ (p : ℕ × ℕ). p.1 < 134217728) (pair_at base) ranks (λ k d inside. omega arith)
+pub narrow-numbered : (base : ℕ) (ranks : List ℕ) → All (λ (p : ℕ × ℕ). p.1 < 2 ^ 27) (map (pair_at base) ranks)
+narrow-numbered base ranks = All-map (λ (p : ℕ × ℕ). p.1 < 2 ^ 27) (pair_at base) ranks (λ k d inside. omega arith)
 
-pub numbered-wide : (kept : Kept) (pairs : Vec (ℕ × ℕ)) → kept ≡ Wide pairs → AreNumbered kept → All (λ (p : ℕ × ℕ). p.1 < 134217728) pairs.items
+pub numbered-wide : (kept : Kept) (pairs : Vec (ℕ × ℕ)) → kept ≡ Wide pairs → AreNumbered kept → All (λ (p : ℕ × ℕ). p.1 < 2 ^ 27) pairs.items
 numbered-wide kept pairs is numbered = subst AreNumbered is numbered

@@ -1,5 +1,5 @@
 -- Resolving references in place.
-use Rattle.std.proofs.Common.{◌≡◌, ℕ, ◌+◌, ◌<◌, ◌≤◌, ◌⊎◌, ⊎_elim, inl, inr, List, ◌++◌, length, get_or, set, map, Option, None, Some, refl, sym, ◌∙◌, ap, subst, arith, below_more}
+use Rattle.std.proofs.Common.{◌≡◌, ℕ, ◌+◌, ◌<◌, ◌≤◌, ◌⊎◌, ⊎_elim, inl, inr, List, ◌++◌, length, get_or, set, map, Option, None, Some, refl, sym, ◌∙◌, ap, subst, arith, below_more, ◌^◌}
 use Rattle.std.specs.Prelude.{slice_get, All, Contains}
 use Rattle.std.specs.Option.{option_map_or}
 use Rattle.std.specs.List.Sorted.{IsPermutation, IsNonDecreasingBy}
@@ -32,7 +32,7 @@ pub record AreResolving (rs : List CellRecord) (olds slots : List Slot) (referen
 pub record IsMerging (pairs : List (ℕ × ℕ)) (olds slots : List Slot) (references : List (ℕ × ℕ)) (at k : ℕ) : Type 0 where
   pub within : at ≤ length pairs
   pub front : (i j : ℕ) → i < at → k ≤ j → j < length references → (get_or pairs i (0, 0)).0 < (get_or references j (0, 0)).0
-  pub resolving : (rs : List CellRecord) → length rs ≤ 100000000 → AreRanked rs pairs → AreResolving rs olds slots references k
+  pub resolving : (rs : List CellRecord) → length rs < 2 ^ 27 → AreRanked rs pairs → AreResolving rs olds slots references k
 
 -- ---- the references are found
 
@@ -142,17 +142,17 @@ references-moved slots references sorted are moved = record {
 -- ---- the merge
 
 -- the addresses of references rise where they are ranked
-pub references-rise : (slots : List Slot) (references : List (ℕ × ℕ)) → length slots ≤ 100000000 → AreReferences slots references
+pub references-rise : (slots : List Slot) (references : List (ℕ × ℕ)) → length slots < 2 ^ 27 → AreReferences slots references
     → IsNonDecreasingBy (λ (p : ℕ × ℕ). rank p.0 p.1) references → IsNonDecreasingBy (λ (p : ℕ × ℕ). p.0) references
 references-rise slots references few are sorted i j d up inside =
     lesser (get_or references i d).0 (get_or references j d).0 (get_or references i d).1 (get_or references j d).1 (place i (omega arith)) (place j inside) (sorted i j d up inside)
   where
-    place : (k : ℕ) → k < length references → (get_or references k d).1 < 4294967296
+    place : (k : ℕ) → k < length references → (get_or references k d).1 < 2 ^ 32
     place k listed = let there = slice_get_within slots (get_or references k d).1 (slot.Gone (get_or references k d).0) (are.sound k d listed) in omega (arith, there, few)
 
 pub merging-more : (pairs : List (ℕ × ℕ)) (olds slots : List Slot) (references : List (ℕ × ℕ)) (at next k : ℕ) (number : Option ℕ) → k < length references → AreReferences olds references
     → IsNonDecreasingBy (λ (p : ℕ × ℕ). p.0) references → IsMerging pairs olds slots references at k → IsFirstFrom pairs (get_or references k (0, 0)).0 next
-    → ((rs : List CellRecord) → length rs ≤ 100000000 → AreRanked rs pairs → number ≡ record_with rs (get_or references k (0, 0)).0)
+    → ((rs : List CellRecord) → length rs < 2 ^ 27 → AreRanked rs pairs → number ≡ record_with rs (get_or references k (0, 0)).0)
     → IsMerging pairs olds (found_at slots (get_or references k (0, 0)).1 number) references next (k + 1)
 merging-more pairs olds slots references at next k number listed are rise before first found = record {
   within = first.within;

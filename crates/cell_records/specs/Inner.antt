@@ -1,3 +1,4 @@
 pub mod Firsts
+pub mod Keeping
 pub mod Ranks
 pub mod References

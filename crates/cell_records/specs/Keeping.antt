@@ -1,11 +1,10 @@
 -- Keeping the first of the records with each address.
-use Rattle.std.specs.Prelude.{◌≡◌, ℕ, zero, suc, ◌<◌, ◌⊎◌, true, List, [], ◌∷◌, ◌++◌, length, slice_get, if◌then◌else◌}
+use Rattle.std.specs.Prelude.{◌≡◌, ℕ, zero, suc, ◌<◌, true, List, [], ◌∷◌, ◌++◌, length, slice_get, if◌then◌else◌}
 use Rattle.std.specs.Option.{option_map_or}
 use Rattle.cell_records.specs.declared.arena.Arena.{Arena}
 use Rattle.cell_records.specs.declared.cells.CellRecord.{CellRecord}
 use Rattle.cell_records.specs.declared.cells.Slot.{Slot}
-use Rattle.cell_records.specs.declared.keeping.Indexed.{Indexed}
-use Rattle.cell_records.specs.Order.{is_first, AreRanked}
+use Rattle.cell_records.specs.Order.{is_first}
 use Rattle.cell_records.specs.Slots.{slots_at}
 
 -- the record with a number, whose slots begin at this place; past the last one, none
@@ -21,18 +20,13 @@ kept_upto records slots (suc n) =
     if is_first records n then (kept.0 ++ moved_record records n (length kept.1), kept.1 ++ slots_at records slots n) else kept
 
 -- each record is the first with its address, and all are kept as they are
-pub record AreAllKept (all : Arena) (own : ℕ) (found : Indexed) : Type 0 where
+pub record AreAllKept (all : Arena) (own : ℕ) (kept : Arena) (kept_own : ℕ) : Type 0 where
   pub first : (n : ℕ) → n < length all.cells.items → is_first all.cells.items n ≡ true
-  pub arena_is : found.arena ≡ all
-  pub own_is : found.own ≡ own
+  pub arena_is : kept ≡ all
+  pub own_is : kept_own ≡ own
 
 -- the first with each address are kept, and it is counted how many of these are among the first `own`
-pub record AreFirstKept (all : Arena) (own : ℕ) (found : Indexed) : Type 0 where
-  pub cells_are : found.arena.cells.items ≡ (kept_upto all.cells.items all.slots.items (length all.cells.items)).0
-  pub slots_are : found.arena.slots.items ≡ (kept_upto all.cells.items all.slots.items (length all.cells.items)).1
-  pub own_is : found.own ≡ length (kept_upto all.cells.items all.slots.items own).0
-
--- the records that are the first with their address, with their order by address
-pub record IsArenaIndex (all : Arena) (own : ℕ) (found : Indexed) : Type 0 where
-  pub kept : AreAllKept all own found ⊎ AreFirstKept all own found
-  pub ranks_are : AreRanked found.arena.cells.items found.ranks
+pub record AreFirstKept (all : Arena) (own : ℕ) (kept : Arena) (kept_own : ℕ) : Type 0 where
+  pub cells_are : kept.cells.items ≡ (kept_upto all.cells.items all.slots.items (length all.cells.items)).0
+  pub slots_are : kept.slots.items ≡ (kept_upto all.cells.items all.slots.items (length all.cells.items)).1
+  pub own_is : kept_own ≡ length (kept_upto all.cells.items all.slots.items own).0

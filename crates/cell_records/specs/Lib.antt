@@ -3,4 +3,5 @@ pub mod Keeping
 pub mod Numbers
 pub mod Order
 pub mod Resolving
+pub mod Settling
 pub mod Slots

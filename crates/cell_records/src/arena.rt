@@ -1,6 +1,6 @@
 // The records of cells, and the slots of their elements.
 ghost use Rattle.std.specs.Prelude.{◌≡◌, ◌+◌, ◌<◌, ◌≤◌, [], length, slice_range};
-ghost use Rattle.cell_records.specs.Slots.{start_at, slots_at};
+ghost use Rattle.cell_records.specs.Slots.{start_at, slots_at, AreOrdered};
 
 use crate::cells::{CellRecord, Slot};
 use std::alloc::Global;
@@ -47,8 +47,7 @@ fn between(slots: &[Slot], from: usize, upto: usize) -> &[Slot]
 
 /// The slots of a record.
 pub fn slots_of(arena: &Arena, i: usize) -> &[Slot]
-    requires ordered { start_at arena.now.cells.items i (length arena.now.slots.items) ≤ start_at arena.now.cells.items (i + 1) (length arena.now.slots.items) }
-    requires within { start_at arena.now.cells.items (i + 1) (length arena.now.slots.items) ≤ length arena.now.slots.items }
+    requires ordered { AreOrdered arena.now.cells.items (length arena.now.slots.items) }
     requires place { i < length arena.now.cells.items }
     ensures { result.now ≡ slots_at arena.now.cells.items arena.now.slots.items i }
 {

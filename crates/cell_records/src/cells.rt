@@ -3,7 +3,7 @@ ghost use Rattle.std.specs.Prelude.{◌≡◌};
 ghost use Rattle.cell_records.specs.Numbers.{number};
 
 /// A cell of a heap, by its number.
-#[derive(Clone, Copy, Debug, PartialEq, Eq)]
+#[derive(Clone, Copy)]
 pub struct CellIx(u32);
 
 impl CellIx {
@@ -23,7 +23,7 @@ impl CellIx {
 }
 
 /// Why a reference leads to no term.
-#[derive(Clone, Copy, Debug, PartialEq, Eq)]
+#[derive(Clone, Copy)]
 pub enum Why {
     /// No cell has the address.
     Missing,
@@ -34,7 +34,7 @@ pub enum Why {
 }
 
 /// The kind of a cell's form.
-#[derive(Clone, Copy, Debug, PartialEq, Eq)]
+#[derive(Clone, Copy)]
 pub enum Kind {
     List,
     Tuple,
@@ -52,7 +52,7 @@ pub enum Kind {
 }
 
 /// The part of a heap's texts that spells an element. What a heap promises doesn't depend on it.
-#[derive(Clone, Copy, Debug, PartialEq, Eq)]
+#[derive(Clone, Copy)]
 pub struct Span {
     /// How many bytes of the texts stand before it.
     pub at: u32,
@@ -61,7 +61,7 @@ pub struct Span {
 }
 
 /// An element of a cell's form as it is stored, with its reference resolved.
-#[derive(Clone, Copy, Debug, PartialEq, Eq)]
+#[derive(Clone, Copy)]
 pub enum Slot {
     /// An immediate, which is no reference, by the part of the texts that spells it.
     Imm(Span),

@@ -1,8 +1,10 @@
 // Keeping the first of the cells with each address.
-ghost use Rattle.std.specs.Prelude.{◌≡◌, ◌+◌, ◌<◌, ◌≤◌, ◌++◌, length, OnOk, IfOk};
-ghost use Rattle.cell_records.specs.Keeping.{moved_record, kept_upto, IsArenaIndex};
+ghost use Rattle.std.specs.Prelude.{◌≡◌, ◌+◌, ◌<◌, ◌≤◌, ◌^◌, ◌++◌, length, OnOk, IfOk};
+ghost use Rattle.cell_records.specs.Keeping.{moved_record};
+ghost use Rattle.cell_records.specs.Order.{AreRanked};
 ghost use Rattle.cell_records.specs.Inner.Firsts.{AreFirsts};
-ghost use Rattle.cell_records.specs.Slots.{slots_at, start_at, AreOrdered};
+ghost use Rattle.cell_records.specs.Inner.Keeping.{IsKeeping, IsRankedArena, AreKept, IsKeptIndex};
+ghost use Rattle.cell_records.specs.Slots.{slots_at, AreOrdered};
 
 use crate::arena::{Arena, slots_of};
 use crate::cells::CellRecord;
@@ -10,31 +12,30 @@ use crate::order::{mark_firsts, ranks_of};
 use crate::ranks::{Ranks, are_apart};
 use std::alloc::{AllocError, Global};
 
-/// Cells with their addresses, and their numbers by address,
-/// and how many of them come from the process's own heap.
+// Cells with the order of their addresses.
 #[derive(Drop)]
-pub struct Indexed {
-    /// The cells.
+pub(crate) struct Indexed {
     pub arena: Arena,
-    /// Their addresses with their numbers, sorted.
+    // The addresses of the cells with their numbers, sorted.
     pub ranks: Ranks,
-    /// How many of the cells are the process's own. They come first.
+    // How many of the cells are the process's own. They come first.
     pub own: u32,
 }
 
 // Keeps one more cell, which has number `i` in another arena.
 fn keep_cell(all: &Arena, i: usize, kept: &mut Arena) -> Result<(), AllocError>
     requires place { i < length all.now.cells.items }
-    requires ordered { start_at all.now.cells.items i (length all.now.slots.items) ≤ start_at all.now.cells.items (i + 1) (length all.now.slots.items) }
-    requires within { start_at all.now.cells.items (i + 1) (length all.now.slots.items) ≤ length all.now.slots.items }
-    requires few { length kept.old.slots.items < 4294967296 }
+    requires ordered { AreOrdered all.now.cells.items (length all.now.slots.items) }
+    requires few { length kept.old.slots.items < 2 ^ 32 }
     ensures cells { OnOk result (kept.new.cells.items ≡ kept.old.cells.items ++ moved_record all.now.cells.items i (length kept.old.slots.items)) }
     ensures slots { OnOk result (kept.new.slots.items ≡ kept.old.slots.items ++ slots_at all.now.cells.items all.now.slots.items i) }
 {
-    let cell = all.cells[i];
     let first = kept.slots.len() as u32;
     kept.slots.extend_from_slice(slots_of(all, i))?;
-    kept.cells.push(CellRecord { first, ..cell })?;
+    kept.cells.push(CellRecord {
+        first,
+        ..all.cells[i]
+    })?;
     Ok(())
 }
 
@@ -49,14 +50,10 @@ fn keep_part(
     requires firsts { AreFirsts all.now.cells.items firsts.now }
     requires part { from ≤ upto }
     requires within { upto ≤ length all.now.cells.items }
-    requires few { length all.now.slots.items < 4294967296 }
+    requires few { length all.now.slots.items < 2 ^ 32 }
     requires ordered { AreOrdered all.now.cells.items (length all.now.slots.items) }
-    requires cells { kept.old.cells.items ≡ (kept_upto all.now.cells.items all.now.slots.items from).0 }
-    requires slots { kept.old.slots.items ≡ (kept_upto all.now.cells.items all.now.slots.items from).1 }
-    requires room { length kept.old.cells.items ≤ from }
-    ensures cells { OnOk result (kept.new.cells.items ≡ (kept_upto all.now.cells.items all.now.slots.items upto).0) }
-    ensures slots { OnOk result (kept.new.slots.items ≡ (kept_upto all.now.cells.items all.now.slots.items upto).1) }
-    ensures room { OnOk result (length kept.new.cells.items ≤ upto) }
+    requires kept { IsKeeping all.now kept.old from }
+    ensures { OnOk result (IsKeeping all.now kept.new upto) }
 {
     for i in from..upto {
         if firsts[i] {
@@ -69,50 +66,71 @@ fn keep_part(
 // Keeps the cells that are the first with their address,
 // and returns how many of them are among the first `own`.
 fn keep_firsts(
-    alloc: Global,
-    all: Arena,
+    all: &Arena,
     firsts: &[bool],
     own: usize,
-) -> Result<(Arena, usize), AllocError>
-    requires firsts { AreFirsts all.cells.items firsts.now }
-    requires own { own ≤ length all.cells.items }
-    requires few { length all.slots.items < 4294967296 }
-    requires ordered { AreOrdered all.cells.items (length all.slots.items) }
-    ensures few { IfOk result (λ found. (length found.0.cells.items ≤ length all.cells.items) × (found.1 ≤ length all.cells.items)) }
-    ensures cells { IfOk result (λ found. found.0.cells.items ≡ (kept_upto all.cells.items all.slots.items (length all.cells.items)).0) }
-    ensures slots { IfOk result (λ found. found.0.slots.items ≡ (kept_upto all.cells.items all.slots.items (length all.cells.items)).1) }
-    ensures own { IfOk result (λ found. found.1 ≡ length (kept_upto all.cells.items all.slots.items own).0) }
+    kept: &mut Arena,
+) -> Result<usize, AllocError>
+    requires firsts { AreFirsts all.now.cells.items firsts.now }
+    requires own { own ≤ length all.now.cells.items }
+    requires few { length all.now.slots.items < 2 ^ 32 }
+    requires ordered { AreOrdered all.now.cells.items (length all.now.slots.items) }
+    requires kept { IsKeeping all.now kept.old 0 }
+    ensures { IfOk result (AreKept all.now own kept.new) }
 {
-    let mut kept = Arena::new(alloc);
-    keep_part(&all, firsts, 0, own, &mut kept)?;
+    keep_part(all, firsts, 0, own, kept)?;
     let kept_own = kept.cells.len();
-    keep_part(&all, firsts, own, all.cells.len(), &mut kept)?;
-    Ok((kept, kept_own))
+    keep_part(all, firsts, own, all.cells.len(), kept)?;
+    Ok(kept_own)
 }
 
-/// The cells that are the first with their address, with their order by
-/// address. The first `own` of all cells are those of the process's own heap.
-pub fn index_cells(alloc: Global, all: Arena, own: usize) -> Result<Indexed, AllocError>
-    requires own { own ≤ length all.cells.items }
-    requires cells { length all.cells.items ≤ 100000000 }
-    requires slots { length all.slots.items < 4294967296 }
-    requires ordered { AreOrdered all.cells.items (length all.slots.items) }
-    ensures { IfOk result (IsArenaIndex all own) }
+// The cells with their order by address.
+fn ranked(alloc: Global, arena: Arena, own: usize) -> Result<Indexed, AllocError>
+    requires own { own < 2 ^ 32 }
+    requires few { length arena.cells.items < 2 ^ 27 }
+    ensures { IfOk result (IsRankedArena arena own) }
 {
-    let ranks = ranks_of(alloc, &all.cells)?;
-    if are_apart(&ranks) {
-        return Ok(Indexed {
-            arena: all,
-            ranks,
-            own: own as u32,
-        });
-    }
-    let firsts = mark_firsts(alloc, ranks, &all.cells)?;
-    let (arena, own) = keep_firsts(alloc, all, &firsts, own)?;
     let ranks = ranks_of(alloc, &arena.cells)?;
     Ok(Indexed {
         arena,
         ranks,
         own: own as u32,
     })
+}
+
+// The cells that are the first with their address, and how many of them are the process's own.
+fn first_cells(alloc: Global, found: Indexed) -> Result<(Arena, usize), AllocError>
+    requires own { found.own ≤ length found.arena.cells.items }
+    requires cells { length found.arena.cells.items < 2 ^ 27 }
+    requires slots { length found.arena.slots.items < 2 ^ 32 }
+    requires ordered { AreOrdered found.arena.cells.items (length found.arena.slots.items) }
+    requires ranked { AreRanked found.arena.cells.items found.ranks }
+    ensures { IfOk result (λ kept. AreKept found.arena found.own kept.0 kept.1) }
+{
+    let Indexed {
+        arena: all,
+        ranks,
+        own,
+    } = found;
+    let firsts = mark_firsts(alloc, ranks, &all.cells)?;
+    let mut kept = Arena::new(alloc);
+    let kept_own = keep_firsts(&all, &firsts, own as usize, &mut kept)?;
+    Ok((kept, kept_own))
+}
+
+// The cells that are the first with their address, with their order by
+// address. The first `own` of all cells are those of the process's own heap.
+pub(crate) fn index_cells(alloc: Global, all: Arena, own: usize) -> Result<Indexed, AllocError>
+    requires own { own ≤ length all.cells.items }
+    requires cells { length all.cells.items < 2 ^ 27 }
+    requires slots { length all.slots.items < 2 ^ 32 }
+    requires ordered { AreOrdered all.cells.items (length all.slots.items) }
+    ensures { IfOk result (IsKeptIndex all own) }
+{
+    let found = ranked(alloc, all, own)?;
+    if are_apart(&found.ranks) {
+        return Ok(found);
+    }
+    let (kept, kept_own) = first_cells(alloc, found)?;
+    ranked(alloc, kept, kept_own)
 }

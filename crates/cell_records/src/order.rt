@@ -1,5 +1,5 @@
 // The numbers of cells by address.
-ghost use Rattle.std.specs.Prelude.{◌≡◌, ◌<◌, ◌≤◌, ◌||◌, ◌-◌, ◌==◌, length, nat_lt, not, true, false, IfOk, slice_index_or};
+ghost use Rattle.std.specs.Prelude.{◌≡◌, ◌<◌, ◌≤◌, ◌||◌, ◌-◌, ◌==◌, length, nat_lt, not, true, false, IfOk, slice_index_or, ◌^◌, [], OnOk};
 ghost use Rattle.std.specs.List.Sorted.{IsNonDecreasingBy, IsPartitionPoint};
 ghost use Rattle.cell_records.specs.Order.{address_in, IsOrder, record_with, AreRecordPairs, AreRanked};
 ghost use Rattle.cell_records.specs.Inner.Firsts.{AreFirsts};
@@ -27,9 +27,9 @@ fn count_below(order: &[u32], cells: &[CellRecord], address: u64) -> usize
 }
 
 /// The number of the first cell with an address, given the numbers of all
-/// cells in the order of their addresses, as [`Ranks::numbers`] returns them.
+/// cells in the order of their addresses, as [`settle`](crate::settle) returns them.
 pub fn number_of(order: &[u32], cells: &[CellRecord], address: u64) -> Option<u32>
-    requires few { length cells.now < 4294967296 }
+    requires few { length cells.now < 2 ^ 32 }
     requires order { IsOrder cells.now order.now }
     ensures { result ≡ record_with cells.now address }
 {
@@ -42,22 +42,32 @@ pub fn number_of(order: &[u32], cells: &[CellRecord], address: u64) -> Option<u3
     }
 }
 
-// The address of each cell, with the cell's number.
-fn pairs_of(alloc: Global, cells: &[CellRecord]) -> Result<Ranks, AllocError>
-    requires { length cells.now ≤ 100000000 }
-    ensures { IfOk result (AreRecordPairs cells.now) }
+// Appends the address of each cell, with the cell's number.
+fn push_pairs(alloc: Global, pairs: &mut Ranks, cells: &[CellRecord]) -> Result<(), AllocError>
+    requires few { length cells.now < 2 ^ 27 }
+    requires none { pairs.old ≡ [] }
+    ensures { OnOk result (AreRecordPairs cells.now pairs.new) }
 {
-    let mut pairs = Ranks::around(alloc, address_of(cells, 0), cells.len())?;
     for i in 0..cells.len() {
         let number = i as u32;
         pairs.push(alloc, address_of(cells, number), number)?;
     }
+    Ok(())
+}
+
+// The address of each cell, with the cell's number.
+fn pairs_of(alloc: Global, cells: &[CellRecord]) -> Result<Ranks, AllocError>
+    requires { length cells.now < 2 ^ 27 }
+    ensures { IfOk result (AreRecordPairs cells.now) }
+{
+    let mut pairs = Ranks::around(alloc, address_of(cells, 0), cells.len())?;
+    push_pairs(alloc, &mut pairs, cells)?;
     Ok(pairs)
 }
 
-// The same in the order of the addresses; cells with the same address are ordered by number.
+// The address of each cell with its number, sorted by address and then by number.
 pub(crate) fn ranks_of(alloc: Global, cells: &[CellRecord]) -> Result<Ranks, AllocError>
-    requires { length cells.now ≤ 100000000 }
+    requires { length cells.now < 2 ^ 27 }
     ensures { IfOk result (AreRanked cells.now) }
 {
     let mut ranks = pairs_of(alloc, cells)?;
@@ -75,7 +85,7 @@ fn begins_address(order: &[u32], cells: &[CellRecord], place: usize) -> bool
 
 // Which of the cells come before all others with their address, given the numbers of all in order.
 fn firsts_of(alloc: Global, order: &[u32], cells: &[CellRecord]) -> Result<Vec<bool>, AllocError>
-    requires few { length cells.now < 4294967296 }
+    requires few { length cells.now < 2 ^ 32 }
     requires order { IsOrder cells.now order.now }
     ensures { IfOk result (λ firsts. AreFirsts cells.now firsts.items) }
 {
@@ -94,7 +104,7 @@ pub(crate) fn mark_firsts(
     ranks: Ranks,
     cells: &[CellRecord],
 ) -> Result<Vec<bool>, AllocError>
-    requires few { length cells.now ≤ 100000000 }
+    requires few { length cells.now < 2 ^ 27 }
     requires ranked { AreRanked cells.now ranks }
     ensures { IfOk result (λ firsts. AreFirsts cells.now firsts.items) }
 {

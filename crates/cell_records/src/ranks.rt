@@ -1,19 +1,19 @@
 // Pairs of an address and a number.
-ghost use Rattle.std.specs.Prelude.{◌≡◌, ◌<◌, ◌≤◌, ◌++◌, ◌∷◌, [], ℕ, List, length, map, slice_index_or, IfOk, OnOk, IfSome, true, false};
+ghost use Rattle.std.specs.Prelude.{◌≡◌, ◌<◌, ◌≤◌, ◌++◌, ◌∷◌, [], ℕ, List, length, map, slice_index_or, IfOk, OnOk, OnErr, IfSome, true, false, ◌+◌, ◌^◌};
 ghost use Rattle.std.specs.List.Sorted.{IsNonDecreasingBy, IsPermutation};
 ghost use Rattle.cell_records.specs.declared.cells.CellRecord.{CellRecord};
-ghost use Rattle.cell_records.specs.Order.{rank, is_first, IsOrder, AreRanked};
+ghost use Rattle.cell_records.specs.Order.{rank, is_first, IsOrder, AreRanked, AreAllFirst};
 ghost use Rattle.cell_records.specs.Inner.Firsts.{AreApart};
 ghost use Rattle.cell_records.specs.Inner.Ranks.{pair_at};
 
 use std::alloc::{AllocError, Global};
 use std::marker::Model;
 
-// Every number is less than this: a heap has at most 100,000,000 cells and elements.
-const NUMBERS: u64 = 134217728;
+// Every number has 27 bits.
+const NUMBERS: u64 = 1 << 27;
 
-// How far above the base an address may be at most to fit into 64 bits together with its number.
-const REACH: u64 = 137438953472;
+// An address less than this above the base fits into 64 bits together with its number.
+const REACH: u64 = 1 << 37;
 
 // In 64 bits each, as long as all addresses are in reach of a base; otherwise as they are.
 #[derive(Drop)]
@@ -22,27 +22,27 @@ enum Kept {
     Wide(Vec<(u64, u32)>),
 }
 
-/// Pairs of an address and a number. Those of one heap mostly lie close together, and
-/// are then stored and sorted in half the memory. Contracts see the list of the pairs.
+// Pairs of an address and a number. The addresses of one heap mostly lie close together; the pairs
+// are then stored and sorted in half the memory. Contracts see the list of the pairs.
 #[derive(Drop)]
-pub struct Ranks {
+pub(crate) struct Ranks {
     base: u64,
     kept: Kept,
 }
 
 impl Model for Ranks {
-    ghost use Rattle.std.specs.Prelude.{ℕ, List, ◌≤◌};
+    ghost use Rattle.std.specs.Prelude.{ℕ, List, ◌+◌, ◌<◌, ◌^◌};
     ghost use Rattle.cell_records.specs.Inner.Ranks.{pairs_in, AreNumbered};
 
     ghost Value = { List (ℕ × ℕ) };
 
     ghost view = { λ r. pairs_in r.base r.kept };
 
-    ghost invariant = { λ r. (r.base ≤ 18446743936270598143) × AreNumbered r.kept };
+    ghost invariant = { λ r. (r.base + 2 ^ 37 < 2 ^ 64) × AreNumbered r.kept };
 }
 
 fn pair_at(base: u64, rank: u64) -> (u64, u32)
-    requires { base ≤ 18446743936270598143 }
+    requires { base + 2 ^ 37 < 2 ^ 64 }
     ensures { result ≡ pair_at base rank }
 {
     (base + rank / NUMBERS, (rank % NUMBERS) as u32)
@@ -50,7 +50,7 @@ fn pair_at(base: u64, rank: u64) -> (u64, u32)
 
 // The pair as one number, if its address is in reach of the base.
 fn rank_of(base: u64, address: u64, number: u32) -> Option<u64>
-    requires { number < 134217728 }
+    requires { number < 2 ^ 27 }
     ensures { IfSome result (λ rank. pair_at base rank ≡ (address, number)) }
 {
     let above = address.checked_sub(base)?;
@@ -62,13 +62,32 @@ fn rank_of(base: u64, address: u64, number: u32) -> Option<u64>
 }
 
 fn pairs_at(alloc: Global, base: u64, ranks: &[u64]) -> Result<Vec<(u64, u32)>, AllocError>
-    requires { base ≤ 18446743936270598143 }
+    requires { base + 2 ^ 37 < 2 ^ 64 }
     ensures { IfOk result (λ pairs. pairs.items ≡ map (pair_at base) ranks.now) }
 {
-    let mut pairs = Vec::with_capacity(alloc, ranks.len())?;
-    for rank in ranks {
-        pairs.push(pair_at(base, *rank))?;
-    }
+    ranks.iter().map(|rank| pair_at(base, *rank)).collect(alloc)
+}
+
+fn append<T: Drop>(values: &mut Vec<T>, value: T) -> Result<(), AllocError>
+    ensures ok { OnOk result (values.new.items ≡ values.old.items ++ value ∷ []) }
+    ensures err { OnErr result (values.new.items ≡ values.old.items) }
+{
+    values.push(value)?;
+    Ok(())
+}
+
+// The pairs as they are, and one more.
+fn widened(
+    alloc: Global,
+    base: u64,
+    ranks: &[u64],
+    pair: (u64, u32),
+) -> Result<Vec<(u64, u32)>, AllocError>
+    requires { base + 2 ^ 37 < 2 ^ 64 }
+    ensures { IfOk result (λ pairs. pairs.items ≡ map (pair_at base) ranks.now ++ pair ∷ []) }
+{
+    let mut pairs = pairs_at(alloc, base, ranks)?;
+    append(&mut pairs, pair)?;
     Ok(pairs)
 }
 
@@ -111,22 +130,15 @@ impl Ranks {
         address: u64,
         number: u32,
     ) -> Result<(), AllocError>
-        requires { number < 134217728 }
+        requires { number < 2 ^ 27 }
         ensures { OnOk result (self.new ≡ self.old ++ (address, number) ∷ []) }
     {
         match &mut self.kept {
-            Kept::Wide(pairs) => {
-                pairs.push((address, number))?;
-                Ok(())
-            }
+            Kept::Wide(pairs) => append(pairs, (address, number)),
             Kept::Narrow(ranks) => match rank_of(self.base, address, number) {
-                Some(rank) => {
-                    ranks.push(rank)?;
-                    Ok(())
-                }
+                Some(rank) => append(ranks, rank),
                 None => {
-                    let mut pairs = pairs_at(alloc, self.base, ranks)?;
-                    pairs.push((address, number))?;
+                    let pairs = widened(alloc, self.base, ranks, (address, number))?;
                     self.kept = Kept::Wide(pairs);
                     Ok(())
                 }
@@ -145,8 +157,8 @@ impl Ranks {
         }
     }
 
-    /// The numbers of the pairs. Those of ranked cells are the cells' numbers in the order of their addresses.
-    pub fn numbers(&self, alloc: Global) -> Result<Vec<u32>, AllocError>
+    // The numbers of the pairs. Those of ranked cells are the cells' numbers in the order of their addresses.
+    pub(crate) fn numbers(&self, alloc: Global) -> Result<Vec<u32>, AllocError>
         ensures numbers { IfOk result (λ numbers. numbers.items ≡ map (λ pair. pair.1) self.now) }
         ensures order { IfOk result (λ numbers. (cells : List CellRecord) → AreRanked cells self.now → IsOrder cells numbers.items) }
     {
@@ -163,8 +175,7 @@ impl Ranks {
 pub(crate) fn are_apart(ranks: &Ranks) -> bool
     ensures apart { result ≡ true → AreApart ranks.now }
     ensures beside { result ≡ false → AreApart ranks.now → ⊥ }
-    ensures first { result ≡ true → (cells : List CellRecord) → length cells ≤ 100000000 → AreRanked cells ranks.now
-        → (n : ℕ) → n < length cells → is_first cells n ≡ true }
+    ensures first { result ≡ true → AreAllFirst ranks.now }
 {
     for i in 1..ranks.len() {
         if ranks.get(i - 1).0 == ranks.get(i).0 {

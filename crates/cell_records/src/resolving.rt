@@ -1,9 +1,9 @@
 // Resolving references to the cells that they lead to.
-ghost use Rattle.std.specs.Prelude.{◌≡◌, ℕ, ◌<◌, ◌≤◌, ◌++◌, List, length, map, slice_index_or, IfOk, OnOk};
+ghost use Rattle.std.specs.Prelude.{◌≡◌, ℕ, ◌<◌, ◌≤◌, ◌++◌, List, length, map, slice_index_or, IfOk, OnOk, ◌^◌, []};
 ghost use Rattle.std.specs.List.Sorted.{IsNonDecreasingBy};
 ghost use Rattle.cell_records.specs.declared.cells.CellRecord.{CellRecord};
-ghost use Rattle.cell_records.specs.Order.{AreRanked, record_with};
-ghost use Rattle.cell_records.specs.Resolving.{settled};
+ghost use Rattle.cell_records.specs.Order.{AreRanked, record_with, IsNumberIn};
+ghost use Rattle.cell_records.specs.Resolving.{settled, AreSettled};
 ghost use Rattle.cell_records.specs.Inner.References.{reference_of, found_at, AreReferences, IsFirstFrom};
 
 use crate::cells::{CellIx, Slot};
@@ -16,7 +16,7 @@ fn push_reference(
     slot: Slot,
     place: u32,
 ) -> Result<(), AllocError>
-    requires { place < 134217728 }
+    requires { place < 2 ^ 27 }
     ensures { OnOk result (references.new ≡ references.old ++ reference_of slot place) }
 {
     if let Slot::Gone(address) = slot {
@@ -32,15 +32,25 @@ fn first_address(ranks: &Ranks) -> u64
     if ranks.len() == 0 { 0 } else { ranks.get(0).0 }
 }
 
+// Appends the address of each slot that is a reference, with the place of the slot.
+fn push_references(alloc: Global, references: &mut Ranks, slots: &[Slot]) -> Result<(), AllocError>
+    requires few { length slots.now < 2 ^ 27 }
+    requires none { references.old ≡ [] }
+    ensures { OnOk result (AreReferences slots.now references.new) }
+{
+    for i in 0..slots.len() {
+        push_reference(alloc, references, slots[i], i as u32)?;
+    }
+    Ok(())
+}
+
 // The address of each slot that is a reference, with the place of the slot.
 fn references_of(alloc: Global, slots: &[Slot], ranks: &Ranks) -> Result<Ranks, AllocError>
-    requires { length slots.now ≤ 100000000 }
+    requires { length slots.now < 2 ^ 27 }
     ensures { IfOk result (AreReferences slots.now) }
 {
     let mut references = Ranks::around(alloc, first_address(ranks), 0)?;
-    for i in 0..slots.len() {
-        push_reference(alloc, &mut references, slots[i], i as u32)?;
-    }
+    push_references(alloc, &mut references, slots)?;
     Ok(references)
 }
 
@@ -60,7 +70,7 @@ fn first_from(ranks: &Ranks, from: usize, address: u64) -> usize
 // The number of the first cell with the address, whose pair would be at the place.
 fn number_there(ranks: &Ranks, at: usize, address: u64) -> Option<u32>
     requires { IsFirstFrom ranks.now address at }
-    ensures { (cells : List CellRecord) → length cells ≤ 100000000 → AreRanked cells ranks.now → result ≡ record_with cells address }
+    ensures { IsNumberIn ranks.now address result }
 {
     if at == ranks.len() {
         return None;
@@ -82,7 +92,7 @@ fn put_cell(slots: &mut [Slot], place: usize, number: Option<u32>)
 fn resolve_each(slots: &mut [Slot], references: &Ranks, ranks: &Ranks)
     requires references { AreReferences slots.old references.now }
     requires ascend { IsNonDecreasingBy (λ pair. pair.0) references.now }
-    ensures { (cells : List CellRecord) → length cells ≤ 100000000 → AreRanked cells ranks.now → slots.new ≡ map (settled cells) slots.old }
+    ensures { AreSettled ranks.now slots.old slots.new }
 {
     let mut at = 0;
     for k in 0..references.len() {
@@ -93,10 +103,10 @@ fn resolve_each(slots: &mut [Slot], references: &Ranks, ranks: &Ranks)
     }
 }
 
-// Each reference to the address of a cell becomes that cell, if there is memory.
+// Makes each reference to the address of a cell that cell, if there is memory.
 fn resolve_part(alloc: Global, slots: &mut [Slot], ranks: &Ranks) -> Result<(), AllocError>
-    requires { length slots.old ≤ 100000000 }
-    ensures { OnOk result ((cells : List CellRecord) → length cells ≤ 100000000 → AreRanked cells ranks.now → slots.new ≡ map (settled cells) slots.old) }
+    requires { length slots.old < 2 ^ 27 }
+    ensures { OnOk result (AreSettled ranks.now slots.old slots.new) }
 {
     let mut references = references_of(alloc, slots, ranks)?;
     references.sort();
@@ -104,15 +114,15 @@ fn resolve_part(alloc: Global, slots: &mut [Slot], ranks: &Ranks) -> Result<(), 
     Ok(())
 }
 
-// The same in parts, by repeated halving: only the references of one part at a time take memory.
+// Resolves the references in parts, by repeated halving, so that only those of one part at a time take memory.
 fn resolve_parts(
     alloc: Global,
     slots: &mut [Slot],
     ranks: &Ranks,
     halvings: u32,
 ) -> Result<(), AllocError>
-    requires { length slots.old ≤ 100000000 }
-    ensures { OnOk result ((cells : List CellRecord) → length cells ≤ 100000000 → AreRanked cells ranks.now → slots.new ≡ map (settled cells) slots.old) }
+    requires { length slots.old < 2 ^ 27 }
+    ensures { OnOk result (AreSettled ranks.now slots.old slots.new) }
 {
     if halvings == 0 {
         return resolve_part(alloc, slots, ranks);
@@ -123,11 +133,11 @@ fn resolve_parts(
     resolve_parts(alloc, rest, ranks, halvings - 1)
 }
 
-/// Each reference to the address of a cell becomes that cell, if there is
-/// memory. The pairs are the addresses of the cells with their numbers, sorted.
-pub fn resolve(alloc: Global, slots: &mut Vec<Slot>, ranks: &Ranks) -> Result<(), AllocError>
-    requires { length slots.old.items ≤ 100000000 }
-    ensures { OnOk result ((cells : List CellRecord) → length cells ≤ 100000000 → AreRanked cells ranks.now → slots.new.items ≡ map (settled cells) slots.old.items) }
+// Makes each reference to the address of a cell that cell, if there is memory. The pairs
+// are the addresses of the cells with their numbers, sorted.
+pub(crate) fn resolve(alloc: Global, slots: &mut Vec<Slot>, ranks: &Ranks) -> Result<(), AllocError>
+    requires { length slots.old.items < 2 ^ 27 }
+    ensures { OnOk result (AreSettled ranks.now slots.old.items slots.new.items) }
 {
     resolve_parts(alloc, slots, ranks, 2)
 }

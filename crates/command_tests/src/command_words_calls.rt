@@ -1,4 +1,4 @@
-use command_words::{Cmd, read_words};
+use command_words::{Cmd, Query, read_words};
 use std::alloc::{AllocError, Global};
 use std::test::Fail;
 
@@ -17,12 +17,14 @@ fn words_are_a_command_or_none(rt: HostRuntime) -> Result<(), Fail> {
     assert!(rt;
         matches!(
             read_words(words.as_slice()),
-            Some(Cmd::Term {
+            Some(Cmd::On {
                 file: "F",
-                pid: "<0.1.0>",
-                addr: 0x7f10,
-                nodes: 20,
-                marked: true,
+                query: Query::Term {
+                    pid: "<0.1.0>",
+                    addr: 0x7f10,
+                    nodes: 20,
+                    marked: true,
+                },
             }),
         )
     );

@@ -1,35 +1,75 @@
-use dump_io::{Dumps, Sink, read_full, write_all};
+ghost use Rattle.std.specs.Prelude.{◌+◌, ◌≤◌};
+ghost use Rattle.dump_io.specs.Dumps.{IsOpen, size_of};
+
+use dump_io::{Dumps, Failed, Sink, read_full, write_all};
 use host_devices::{FileDumps, StdSink};
+use std::alloc::Global;
 use std::cell::{Cell, RefCell};
+use std::fs;
 use std::io::{self, Write};
 use std::process::Abort;
 use std::test::Fail;
-use std::{env, fs};
 
 // How many bytes a sink's buffer holds.
 const BUFFER: usize = 131_072;
 
-#[test]
-fn a_file_of_the_machine_is_read(rt: HostRuntime) -> Result<(), Fail> {
-    let mut folder = env::temp_dir(&rt)?;
-    folder.push("edump-devices-test")?;
-    let name = folder.to_str().ok_or("no text")?;
-    fs::write(&rt, name, "0123456789")?;
-    let mut dumps = FileDumps::new(&rt);
-    assert_eq!(rt; dumps.open_dump(name)?, 10);
+const FIRST: &str = "/tmp/edump-first-test";
+
+const SECOND: &str = "/tmp/edump-second-test";
+
+const CUT: &str = "/tmp/edump-cut-test";
+
+// Reads seven bytes of the open file from an offset on.
+fn seven_at<D: Dumps>(dumps: &mut D, at: u64) -> Result<[u8; 7], Failed>
+    requires open { IsOpen (D.state dumps.old).now }
+    requires inside { at + 7 ≤ size_of (D.state dumps.old).now }
+{
     let mut into = [0u8; 7];
-    read_full(&mut dumps, 2, &mut into)?;
-    assert_eq!(rt; into.as_slice(), b"2345678".as_slice());
-    fs::remove_file(&rt, name)?;
-    assert!(rt; dumps.open_dump(name).is_err());
+    read_full(dumps, at, &mut into)?;
+    Ok(into)
+}
+
+#[test]
+fn the_named_one_of_two_files_is_read(rt: HostRuntime) -> Result<(), Fail> {
+    fs::write(&rt, FIRST, "first")?;
+    fs::write(&rt, SECOND, "0123456789")?;
+    let mut dumps = FileDumps::new(&rt);
+    assert_eq!(rt; dumps.open_dump(FIRST)?, 5);
+    assert_eq!(rt; dumps.open_dump(SECOND)?, 10);
+    assert_eq!(rt; seven_at(&mut dumps, 2)?, *b"2345678");
+    fs::remove_file(&rt, FIRST)?;
+    assert!(rt; dumps.open_dump(FIRST).is_err());
     Ok(())
 }
 
-// What a stream took, and how many bytes it takes from now on. A test sees both while a sink holds the stream.
+#[test]
+fn a_file_that_was_cut_since_it_was_opened(rt: HostRuntime) -> Result<(), Fail> {
+    fs::write(&rt, CUT, "0123456789")?;
+    let mut dumps = FileDumps::new(&rt);
+    assert_eq!(rt; dumps.open_dump(CUT)?, 10);
+    fs::write(&rt, CUT, "0123")?;
+    assert!(rt; seven_at(&mut dumps, 3).is_err());
+    fs::remove_file(&rt, CUT)?;
+    Ok(())
+}
+
+// What a stream took, how many bytes it takes from now on, and how
+// often it was flushed. A test sees them while a sink holds the stream.
 #[derive(Drop)]
 struct Taken {
     bytes: RefCell<Vec<u8>>,
     room: Cell<usize>,
+    flushes: Cell<usize>,
+}
+
+impl Taken {
+    fn with_room(alloc: Global, room: usize) -> Taken {
+        Taken {
+            bytes: RefCell::new(Vec::new(alloc)),
+            room: Cell::new(room),
+            flushes: Cell::new(0),
+        }
+    }
 }
 
 // A stream that takes few bytes at a time, and none once its room is used up.
@@ -51,6 +91,9 @@ impl Write for Narrow<'_> {
     }
 
     fn flush(&mut self) -> io::Result<()> {
+        self.taken
+            .flushes
+            .set(self.taken.flushes.get().wrapping_add(1));
         Ok(())
     }
 }
@@ -65,10 +108,7 @@ fn took(taken: &Taken, all: &[u8]) -> bool {
 
 #[test]
 fn a_stream_gets_what_was_gathered_until_it_fails(rt: HostRuntime) -> Result<(), Fail> {
-    let taken = Taken {
-        bytes: RefCell::new(Vec::new(rt.alloc())),
-        room: Cell::new(8),
-    };
+    let taken = Taken::with_room(rt.alloc(), 8);
     let narrow = Narrow {
         taken: &taken,
         step: 3,
@@ -76,8 +116,10 @@ fn a_stream_gets_what_was_gathered_until_it_fails(rt: HostRuntime) -> Result<(),
     let mut sink = StdSink::new(rt.alloc(), narrow)?;
     write_all(&mut sink, b"01234567")?;
     assert!(rt; took(&taken, b""));
+    assert_eq!(rt; taken.flushes.get(), 0);
     sink.flush()?;
     assert!(rt; took(&taken, b"01234567"));
+    assert_eq!(rt; taken.flushes.get(), 1);
     write_all(&mut sink, b"8")?;
     assert!(rt; sink.flush().is_err());
     // There is room again, but nothing more is written.
@@ -89,11 +131,26 @@ fn a_stream_gets_what_was_gathered_until_it_fails(rt: HostRuntime) -> Result<(),
 }
 
 #[test]
-fn pieces_larger_than_the_buffer(rt: HostRuntime) -> Result<(), Fail> {
-    let taken = Taken {
-        bytes: RefCell::new(Vec::new(rt.alloc())),
-        room: Cell::new(1_000_000),
+fn a_stream_that_fails_halfway_gets_no_byte_twice(rt: HostRuntime) -> Result<(), Fail> {
+    let taken = Taken::with_room(rt.alloc(), 5);
+    let narrow = Narrow {
+        taken: &taken,
+        step: 3,
     };
+    let mut sink = StdSink::new(rt.alloc(), narrow)?;
+    write_all(&mut sink, b"01234567")?;
+    assert!(rt; sink.flush().is_err());
+    assert!(rt; took(&taken, b"01234"));
+    taken.room.set(8);
+    assert!(rt; sink.flush().is_err());
+    assert!(rt; sink.write(b"8").is_err());
+    assert!(rt; took(&taken, b"01234"));
+    Ok(())
+}
+
+#[test]
+fn pieces_larger_than_the_buffer(rt: HostRuntime) -> Result<(), Fail> {
+    let taken = Taken::with_room(rt.alloc(), 1_000_000);
     let wide = Narrow {
         taken: &taken,
         step: 1_000_000,

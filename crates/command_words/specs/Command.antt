@@ -8,108 +8,114 @@ use Rattle.root_views.specs.declared.kinds.RootKind.TheVariants as bodies
 use Rattle.table_sections.specs.declared.kinds.TableKind.{TableKind}
 use Rattle.table_sections.specs.declared.kinds.TableKind.TheVariants as kinds
 use Rattle.command_words.specs.declared.words.Cmd.{Cmd}
-use Rattle.command_words.specs.declared.words.Cmd.TheVariants.{Index, Info, Procs, Proc, Memory, Ets, Ports, Nodes, Mods, Stack, Dict, Mail, Term, Ext, Reach, Cells, Binary, Binaries, Holders, Triage, Links, Redact, Audit, AuditJson, Make, Trial}
+use Rattle.command_words.specs.declared.words.Cmd.TheVariants.{On, Make, Trial}
+use Rattle.command_words.specs.declared.words.Query.{Query}
+use Rattle.command_words.specs.declared.words.Query.TheVariants.{Index, Info, Procs, Proc, Memory, Table, Roots, Term, Ext, Reach, Cells, Binary, Binaries, Holders, Triage, Links, Redact, Audit, AuditJson}
 use Rattle.command_words.specs.Budgets.{budget_of}
 use Rattle.command_words.specs.Ranges.{number_upto}
 
--- a command and what it is asked for
-pub data Command : Type 0 where
-  index : List ℕ → Command
-  info : List ℕ → Command
-  procs : List ℕ → Command
+-- what a command asks of a dump
+pub data Ask : Type 0 where
+  index : Ask
+  info : Ask
+  procs : Ask
   -- the fields of the process with this pid
-  proc : List ℕ → List ℕ → Command
-  memory : List ℕ → Command
-  table : TableKind → List ℕ → Command
+  proc : List ℕ → Ask
+  memory : Ask
+  table : TableKind → Ask
   -- the roots of the process with this pid, each within this many nodes, with bad addresses marked or not
-  roots : RootKind → List ℕ → List ℕ → ℕ → Bool → Command
+  roots : RootKind → List ℕ → ℕ → Bool → Ask
   -- the term at this address, in the heap of the process with this pid
-  term : List ℕ → List ℕ → ℕ → ℕ → Bool → Command
+  term : List ℕ → ℕ → ℕ → Bool → Ask
   -- the external term at this address, in the heap of the process with this pid
-  ext : List ℕ → List ℕ → ℕ → Command
+  ext : List ℕ → ℕ → Ask
   -- what the roots of the process with this pid reach
-  reach : List ℕ → List ℕ → Command
+  reach : List ℕ → Ask
   -- what is on the heap of the process with this pid
-  cells : List ℕ → List ℕ → Command
+  cells : List ℕ → Ask
   -- the binary with this address
-  binary : List ℕ → ℕ → Command
+  binary : ℕ → Ask
   -- which processes hold how much of the binaries
-  binaries : List ℕ → Command
+  binaries : Ask
   -- which processes hold the binary with this address
-  holders : List ℕ → ℕ → Command
+  holders : ℕ → Ask
   -- what to read first, with at most this many rows of each table
-  triage : List ℕ → ℕ → Command
-  links : List ℕ → Command
+  triage : ℕ → Ask
+  links : Ask
   -- the dump with its payloads made zero
-  redact : List ℕ → Command
+  redact : Ask
   -- an audit with this limit on message queues, in full or not
-  audit : List ℕ → ℕ → Bool → Command
+  audit : ℕ → Bool → Ask
   -- the same as one JSON text
-  audit_json : List ℕ → ℕ → Bool → Command
+  audit_json : ℕ → Bool → Ask
+
+-- a command
+pub data Command : Type 0 where
+  -- what is asked of the dump in the file with this name
+  on : List ℕ → Ask → Command
   -- a dump made from a seed and a count of processes
   make : ℕ → ℕ → Command
   -- a summary of the reports on such a dump
   trial : ℕ → ℕ → Command
 
--- the value of a command whose words are borrowed
+-- the value of a query whose words are borrowed
+abbrev pub shown_query : Query → Ask
+shown_query Index = index
+shown_query Info = info
+shown_query Procs = procs
+shown_query (Proc pid) = proc pid.now
+shown_query Memory = memory
+shown_query (Table kind) = table kind
+shown_query (Roots kind pid nodes marked) = roots kind pid.now nodes marked
+shown_query (Term pid addr nodes marked) = term pid.now addr nodes marked
+shown_query (Ext pid addr) = ext pid.now addr
+shown_query (Reach pid) = reach pid.now
+shown_query (Cells pid) = cells pid.now
+shown_query (Binary addr) = binary addr
+shown_query Binaries = binaries
+shown_query (Holders addr) = holders addr
+shown_query (Triage count) = triage count
+shown_query Links = links
+shown_query Redact = redact
+shown_query (Audit limit full) = audit limit full
+shown_query (AuditJson limit full) = audit_json limit full
+
+-- the value of a command
 abbrev pub shown_command : Cmd → Command
-shown_command (Index file) = index file.now
-shown_command (Info file) = info file.now
-shown_command (Procs file) = procs file.now
-shown_command (Proc file pid) = proc file.now pid.now
-shown_command (Memory file) = memory file.now
-shown_command (Ets file) = table kinds.Ets file.now
-shown_command (Ports file) = table kinds.Ports file.now
-shown_command (Nodes file) = table kinds.Nodes file.now
-shown_command (Mods file) = table kinds.Mods file.now
-shown_command (Stack file pid nodes marked) = roots bodies.Stack file.now pid.now nodes marked
-shown_command (Dict file pid nodes marked) = roots bodies.Dict file.now pid.now nodes marked
-shown_command (Mail file pid nodes marked) = roots bodies.Mail file.now pid.now nodes marked
-shown_command (Term file pid addr nodes marked) = term file.now pid.now addr nodes marked
-shown_command (Ext file pid addr) = ext file.now pid.now addr
-shown_command (Reach file pid) = reach file.now pid.now
-shown_command (Cells file pid) = cells file.now pid.now
-shown_command (Binary file addr) = binary file.now addr
-shown_command (Binaries file) = binaries file.now
-shown_command (Holders file addr) = holders file.now addr
-shown_command (Triage file count) = triage file.now count
-shown_command (Links file) = links file.now
-shown_command (Redact file) = redact file.now
-shown_command (Audit file limit full) = audit file.now limit full
-shown_command (AuditJson file limit full) = audit_json file.now limit full
+shown_command (On file query) = on file.now (shown_query query)
 shown_command (Make seed count) = make seed count
 shown_command (Trial seed count) = trial seed count
 
--- a command with one word, which is the name of a file; `triage` then shows 10 rows of each table
-abbrev pub file_command : List ℕ → List ℕ → Option Command
-file_command name file =
-    if bytes_eq name (codes "index") then Some (index file)
-    else (if bytes_eq name (codes "info") then Some (info file)
-    else (if bytes_eq name (codes "procs") then Some (procs file)
-    else (if bytes_eq name (codes "memory") then Some (memory file)
-    else (if bytes_eq name (codes "ets") then Some (table kinds.Ets file)
-    else (if bytes_eq name (codes "ports") then Some (table kinds.Ports file)
-    else (if bytes_eq name (codes "nodes") then Some (table kinds.Nodes file)
-    else (if bytes_eq name (codes "mods") then Some (table kinds.Mods file)
-    else (if bytes_eq name (codes "binaries") then Some (binaries file)
-    else (if bytes_eq name (codes "triage") then Some (triage file 10)
-    else (if bytes_eq name (codes "links") then Some (links file)
-    else (if bytes_eq name (codes "redact") then Some (redact file) else None)))))))))))
+-- what a command without more words asks; `triage` then shows 10 rows of each table
+abbrev pub plain_query : List ℕ → Option Ask
+plain_query name =
+    if bytes_eq name (codes "index") then Some index
+    else (if bytes_eq name (codes "info") then Some info
+    else (if bytes_eq name (codes "procs") then Some procs
+    else (if bytes_eq name (codes "memory") then Some memory
+    else (if bytes_eq name (codes "ets") then Some (table kinds.Ets)
+    else (if bytes_eq name (codes "ports") then Some (table kinds.Ports)
+    else (if bytes_eq name (codes "nodes") then Some (table kinds.Nodes)
+    else (if bytes_eq name (codes "mods") then Some (table kinds.Mods)
+    else (if bytes_eq name (codes "binaries") then Some binaries
+    else (if bytes_eq name (codes "triage") then Some (triage 10)
+    else (if bytes_eq name (codes "links") then Some links
+    else (if bytes_eq name (codes "redact") then Some redact else None)))))))))))
 
 -- the roots of a process, within the budget of the last words
-abbrev pub roots_command : RootKind → List ℕ → List ℕ → List (List ℕ) → Option Command
-roots_command kind file pid words = option_map (λ b. roots kind file pid b.nodes b.marked) (budget_of words)
+abbrev pub roots_query : RootKind → List ℕ → List (List ℕ) → Option Ask
+roots_query kind pid words = option_map (λ b. roots kind pid b.nodes b.marked) (budget_of words)
 
 -- the term at an address, which is in hex
-abbrev pub term_command : List ℕ → List ℕ → List (List ℕ) → Option Command
-term_command file pid [] = None
-term_command file pid (addr ∷ words) =
-    option_and_then (λ a. option_map (λ b. term file pid a b.nodes b.marked) (budget_of words)) (hex_number addr)
+abbrev pub term_query : List ℕ → List (List ℕ) → Option Ask
+term_query pid [] = None
+term_query pid (addr ∷ words) =
+    option_and_then (λ a. option_map (λ b. term pid a b.nodes b.marked) (budget_of words)) (hex_number addr)
 
 -- the external term at an address, which is in hex
-abbrev pub ext_command : List ℕ → List ℕ → List (List ℕ) → Option Command
-ext_command file pid (addr ∷ []) = option_map (ext file pid) (hex_number addr)
-ext_command file pid words = None
+abbrev pub ext_query : List ℕ → List (List ℕ) → Option Ask
+ext_query pid (addr ∷ []) = option_map (ext pid) (hex_number addr)
+ext_query pid words = None
 
 -- an audit is full if its last word is `full`
 abbrev pub full_of : List (List ℕ) → Option Bool
@@ -118,74 +124,65 @@ full_of (word ∷ []) = if bytes_eq word (codes "full") then Some true else None
 full_of words = None
 
 -- an audit with a limit, which is decimal, in one of the two forms
-abbrev pub audit_command : (List ℕ → ℕ → Bool → Command) → List ℕ → List ℕ → List (List ℕ) → Option Command
-audit_command form file limit words = option_and_then (λ n. option_map (form file n) (full_of words)) (dec_number limit)
+abbrev pub audit_query : (ℕ → Bool → Ask) → List ℕ → List (List ℕ) → Option Ask
+audit_query form limit words = option_and_then (λ n. option_map (form n) (full_of words)) (dec_number limit)
 
--- a command that may have more words after the name of a file and another word
-abbrev pub process_command : List ℕ → List ℕ → List ℕ → List (List ℕ) → Option Command
-process_command name file word words =
-    if bytes_eq name (codes "stack") then roots_command bodies.Stack file word words
-    else (if bytes_eq name (codes "dict") then roots_command bodies.Dict file word words
-    else (if bytes_eq name (codes "mail") then roots_command bodies.Mail file word words
-    else (if bytes_eq name (codes "term") then term_command file word words
-    else (if bytes_eq name (codes "ext") then ext_command file word words
-    else (if bytes_eq name (codes "audit") then audit_command audit file word words
-    else (if bytes_eq name (codes "audit-json") then audit_command audit_json file word words else None))))))
+-- what a command asks that may have more words after another word
+abbrev pub process_query : List ℕ → List ℕ → List (List ℕ) → Option Ask
+process_query name word words =
+    if bytes_eq name (codes "stack") then roots_query bodies.Stack word words
+    else (if bytes_eq name (codes "dict") then roots_query bodies.Dict word words
+    else (if bytes_eq name (codes "mail") then roots_query bodies.Mail word words
+    else (if bytes_eq name (codes "term") then term_query word words
+    else (if bytes_eq name (codes "ext") then ext_query word words
+    else (if bytes_eq name (codes "audit") then audit_query audit word words
+    else (if bytes_eq name (codes "audit-json") then audit_query audit_json word words else None))))))
+
+-- what a command asks with another word
+abbrev pub word_query : List ℕ → List ℕ → Option Ask
+word_query name word =
+    if bytes_eq name (codes "proc") then Some (proc word)
+    else (if bytes_eq name (codes "reach") then Some (reach word)
+    else (if bytes_eq name (codes "cells") then Some (cells word)
+    else (if bytes_eq name (codes "binary") then option_map binary (hex_number word)
+    else (if bytes_eq name (codes "holders") then option_map holders (hex_number word)
+    else (if bytes_eq name (codes "triage") then option_map triage (number_upto 1000 word)
+    else process_query name word [])))))
 
 -- a command that makes a dump, from a seed and a count of processes, which is from 1 to 200,000
 abbrev pub made_command : (ℕ → ℕ → Command) → List ℕ → List ℕ → Option Command
 made_command form seed count = option_and_then (λ s. option_map (form s) (number_upto 200000 count)) (dec_number seed)
 
--- a command with the name of a file and another word, or with two numbers
+-- a command with two numbers, or with the name of a file and another word
 abbrev pub word_command : List ℕ → List ℕ → List ℕ → Option Command
 word_command name file word =
-    if bytes_eq name (codes "proc") then Some (proc file word)
-    else (if bytes_eq name (codes "reach") then Some (reach file word)
-    else (if bytes_eq name (codes "cells") then Some (cells file word)
-    else (if bytes_eq name (codes "binary") then option_map (binary file) (hex_number word)
-    else (if bytes_eq name (codes "holders") then option_map (holders file) (hex_number word)
-    else (if bytes_eq name (codes "triage") then option_map (triage file) (number_upto 1000 word)
-    else (if bytes_eq name (codes "make") then made_command make file word
+    if bytes_eq name (codes "make") then made_command make file word
     else (if bytes_eq name (codes "trial") then made_command trial file word
-    else process_command name file word [])))))))
+    else option_map (on file) (word_query name word))
 
 -- the command that the words after the program's name are, or `None`
 abbrev pub command : List (List ℕ) → Option Command
 command [] = None
 command (name ∷ []) = None
-command (name ∷ file ∷ []) = file_command name file
+command (name ∷ file ∷ []) = option_map (on file) (plain_query name)
 command (name ∷ file ∷ word ∷ []) = word_command name file word
-command (name ∷ file ∷ word ∷ more ∷ words) = process_command name file word (more ∷ words)
+command (name ∷ file ∷ word ∷ more ∷ words) = option_map (on file) (process_query name word (more ∷ words))
 
 -- the name of the file that a command opens, if it opens one
 abbrev pub file_name : Command → Option (List ℕ)
-file_name (index file) = Some file
-file_name (info file) = Some file
-file_name (procs file) = Some file
-file_name (proc file pid) = Some file
-file_name (memory file) = Some file
-file_name (table kind file) = Some file
-file_name (roots kind file pid nodes marked) = Some file
-file_name (term file pid addr nodes marked) = Some file
-file_name (ext file pid addr) = Some file
-file_name (reach file pid) = Some file
-file_name (cells file pid) = Some file
-file_name (binary file addr) = Some file
-file_name (binaries file) = Some file
-file_name (holders file addr) = Some file
-file_name (triage file count) = Some file
-file_name (links file) = Some file
-file_name (redact file) = Some file
-file_name (audit file limit full) = Some file
-file_name (audit_json file limit full) = Some file
+file_name (on file ask) = Some file
 file_name (make seed count) = None
 file_name (trial seed count) = None
 
--- the numbers of a command are in the ranges that it takes
+-- the numbers of what is asked are in the ranges that it takes
+abbrev pub IsAskInRange : Ask → Type 0
+IsAskInRange (roots kind pid nodes marked) = 0 < nodes
+IsAskInRange (term pid addr nodes marked) = 0 < nodes
+IsAskInRange (triage count) = (1 ≤ count) × (count ≤ 1000)
+IsAskInRange ask = Unit {0}
+
+-- and so are those of a command
 abbrev pub IsInRange : Command → Type 0
-IsInRange (roots kind file pid nodes marked) = 0 < nodes
-IsInRange (term file pid addr nodes marked) = 0 < nodes
-IsInRange (triage file count) = (1 ≤ count) × (count ≤ 1000)
+IsInRange (on file ask) = IsAskInRange ask
 IsInRange (make seed count) = (1 ≤ count) × (count ≤ 200000)
 IsInRange (trial seed count) = (1 ≤ count) × (count ≤ 200000)
-IsInRange cmd = Unit {0}

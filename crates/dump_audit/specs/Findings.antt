@@ -9,7 +9,7 @@ use Rattle.dump_sections.specs.declared.index.State.TheVariants.{Whole, Truncate
 use Rattle.dump_sections.specs.Index.{Contents, dump_state}
 use Rattle.dump_sections.specs.Bodies.{section_at}
 use Rattle.section_rows.specs.Rows.{Kept}
-use Rattle.process_table.specs.Processes.{Process, process_at}
+use Rattle.process_table.specs.Processes.{Process, ProcessTable, process_at}
 use Rattle.link_entries.specs.Texts.{is_local}
 use Rattle.link_entries.specs.Kinds.{Kind, Link, To, ToName, From}
 use Rattle.link_entries.specs.Entries.{LinkEntry}
@@ -160,3 +160,7 @@ process_findings a (p, process) =
 -- the findings of an audit
 abbrev pub findings : Audit → List Finding
 findings a = flat_map (process_findings a) (enumerate_from 0 a.processes)
+
+-- those of the audit of a process table
+abbrev pub findings_in : Contents → ProcessTable → ℕ → Option (List (Option ℕ)) → List Finding
+findings_in index table limit mails = findings (audit_of index table.processes limit mails)

@@ -42,14 +42,15 @@ pub(crate) struct Audited<'a> {
 
 impl<'a> Model for Audited<'a> {
     ghost use Rattle.std.specs.Option.{option_copied};
-    ghost use Rattle.dump_audit.specs.Findings.{Audit};
+    ghost use Rattle.dump_audit.specs.Findings.{audit_of, Audit};
     ghost use Rattle.dump_audit.specs.Inner.Audited.{IsKept};
 
     ghost Value = { Audit };
 
-    ghost view = { λ a. record { index = a.index.now; processes = a.procs.now.processes; limit = a.limit; mails = option_copied a.mails } };
+    ghost view = { λ a. audit_of a.index.now a.procs.now.processes a.limit (option_copied a.mails) };
 
-    ghost invariant = { λ a. IsKept (record { index = a.index.now; processes = a.procs.now.processes; limit = a.limit; mails = option_copied a.mails }) a.graph.now a.state a.judged.now a.names_gone };
+    ghost invariant = { λ a. IsKept (audit_of a.index.now a.procs.now.processes a.limit (option_copied a.mails))
+        a.graph.now a.state a.judged.now a.names_gone };
 }
 
 impl<'a> Audited<'a> {

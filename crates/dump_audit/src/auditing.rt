@@ -4,10 +4,10 @@ ghost use Rattle.std.specs.Option.{option_copied, option_map};
 ghost use Rattle.process_table.specs.Processes.{IsProcessIn, process_at};
 ghost use Rattle.link_entries.specs.Texts.{is_local};
 ghost use Rattle.link_graph.specs.Graph.{links_of, graph_of};
-ghost use Rattle.dump_audit.specs.Findings.{audit_of, is_cut, is_whole, is_dumped, is_judged, section_offset, link_findings, process_findings, findings};
+ghost use Rattle.dump_audit.specs.Findings.{audit_of, is_cut, is_whole, is_dumped, is_judged, section_offset, link_findings, process_findings, findings, findings_in};
 ghost use Rattle.dump_audit.specs.Fitting.{Fits};
 ghost use Rattle.dump_audit.specs.declared.finding.Finding.TheVariants.{UnreadLinks};
-ghost use Rattle.dump_audit.specs.Inner.Audited.{IsHolder, held};
+ghost use Rattle.dump_audit.specs.Inner.Audited.{IsHolder, held, held_offset};
 
 use crate::audited::{Audited, Holder};
 use crate::finding::Finding;
@@ -50,7 +50,8 @@ fn all_judged(
     graph: &Graph<'_>,
 ) -> Result<Vec<bool>, AllocError>
     requires { graph.now ≡ graph_of procs.now.processes }
-    ensures judged { IfOk result (λ judged. judged.items ≡ map (is_judged index.now) procs.now.processes) }
+    ensures judged { IfOk result (λ tests. tests.items
+        ≡ map (is_judged index.now) procs.now.processes) }
     ensures few { length procs.now.processes < 2 ^ 32 }
 {
     let state = index.state();
@@ -72,7 +73,8 @@ impl<'a> Audited<'a> {
     // The finding on the link list of a process, if it is unread.
     fn unread_links(&self, holder: &Holder<'_>) -> Option<Finding>
         requires { IsHolder self.now holder.now }
-        ensures { result ≡ option_map (λ line. UnreadLinks holder.now.p line.at (section_offset self.now.index (held self.now holder.now)))
+        ensures { result
+            ≡ option_map (λ line. UnreadLinks holder.now.p line.at (held_offset self.now holder.now))
             (held self.now holder.now).links }
     {
         let line = self.procs.links(holder.p)?;
@@ -149,7 +151,8 @@ pub fn audit_with(
 ) -> Result<Vec<Finding>, AllocError>
     requires graph { graph.now ≡ graph_of procs.now.processes }
     requires sections { All (IsProcessIn index.now) procs.now.processes }
-    ensures found { IfOk result (λ found. found.items ≡ findings (audit_of index.now procs.now.processes limit (option_copied mails.entry))) }
+    ensures found { IfOk result (λ found. found.items
+        ≡ findings_in index.now procs.now limit (option_copied mails.entry)) }
     ensures fits { IfOk result (λ found. All (Fits procs.now.processes) found.items) }
 {
     let judged = all_judged(alloc, index, procs, graph)?;
@@ -183,7 +186,8 @@ pub fn audit(
 ) -> Result<Vec<Finding>, AllocError>
     requires graph { graph.now ≡ graph_of procs.now.processes }
     requires sections { All (IsProcessIn index.now) procs.now.processes }
-    ensures found { IfOk result (λ found. found.items ≡ findings (audit_of index.now procs.now.processes limit None)) }
+    ensures found { IfOk result (λ found. found.items
+        ≡ findings_in index.now procs.now limit None) }
     ensures fits { IfOk result (λ found. All (Fits procs.now.processes) found.items) }
 {
     audit_with(alloc, index, procs, graph, limit, None)
@@ -203,7 +207,8 @@ pub fn audit_full(
     requires graph { graph.now ≡ graph_of procs.now.processes }
     requires sections { All (IsProcessIn index.now) procs.now.processes }
     requires mails { length mails.now ≡ length procs.now.processes }
-    ensures found { IfOk result (λ found. found.items ≡ findings (audit_of index.now procs.now.processes limit (Some mails.now))) }
+    ensures found { IfOk result (λ found. found.items
+        ≡ findings_in index.now procs.now limit (Some mails.now)) }
     ensures fits { IfOk result (λ found. All (Fits procs.now.processes) found.items) }
 {
     audit_with(alloc, index, procs, graph, limit, Some(mails))

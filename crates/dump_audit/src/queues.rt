@@ -2,7 +2,7 @@
 ghost use Rattle.std.specs.Prelude.{◌≡◌, ◌++◌, OnOk};
 ghost use Rattle.section_rows.specs.Shown.{shown_kept};
 ghost use Rattle.dump_audit.specs.Findings.{mail_of, section_offset, stated_findings, queue_findings};
-ghost use Rattle.dump_audit.specs.Inner.Audited.{IsHolder, held};
+ghost use Rattle.dump_audit.specs.Inner.Audited.{IsHolder, held, held_offset};
 
 use crate::audited::{Audited, Holder};
 use crate::finding::Finding;
@@ -28,7 +28,7 @@ impl<'a> Audited<'a> {
     ) -> Result<(), AllocError>
         requires { IsHolder self.now holder.now }
         ensures { OnOk result (findings.new.items ≡ findings.old.items
-            ++ stated_findings self.now holder.now.p (shown_kept line.now) (section_offset self.now.index (held self.now holder.now)) (Some stated)) }
+            ++ stated_findings self.now holder.now.p (shown_kept line.now) (held_offset self.now holder.now) (Some stated)) }
     {
         let p = holder.p as u32;
         let at = line.at;
@@ -63,7 +63,7 @@ impl<'a> Audited<'a> {
     ) -> Result<(), AllocError>
         requires { IsHolder self.now holder.now }
         ensures { OnOk result (findings.new.items ≡ findings.old.items
-            ++ queue_findings self.now holder.now.p (held self.now holder.now) (held self.now holder.now).queue) }
+            ++ (let process = held self.now holder.now in queue_findings self.now holder.now.p process process.queue)) }
     {
         let Some(line) = self.procs.queue(holder.p) else {
             return Ok(());

@@ -2,10 +2,8 @@ pub mod Audits
 pub mod BinaryLoads
 pub mod HeapLoads
 pub mod HolderLoads
-pub mod Messages
 pub mod Opened
 pub mod Reading
 pub mod Redacting
 pub mod Runs
-pub mod SameHeaps
 pub mod TriageLoads

@@ -4,6 +4,7 @@ use Rattle.std.specs.Prelude.{IsErrOf}
 use Rattle.dump_io.specs.Dumps.{Files, Now, closed, told, sized, size_of, IsAbsent, DeviceState, DeviceFailed}
 use Rattle.dump_io.specs.Limits.{Numbers}
 use Rattle.dump_sections.specs.Index.{Contents, IsBuiltOver}
+use Rattle.dump_sections.specs.Laws.{index-is}
 use Rattle.section_index.specs.Answers.{IsAnswerFor, IsClosedOrNamed, IsFileOf, IsHeld, ReadsFile}
 use Rattle.section_index.specs.declared.opening.OpenFault.{OpenFault}
 use Rattle.section_index.specs.declared.opening.OpenFault.TheVariants.{Read, Memory}
@@ -50,6 +51,7 @@ HasOpened-built name limits before after index reads answer absent over =
           record {
             accepted = right.0;
             of = right.1;
+            is = index-is bytes index right.1;
             opened = told-file after.now bytes index over (named-is before.files name after.now bytes reads.now file);
           };
       taken = λ bytes file. omega (arith, reads.taken_most, size-file after.now bytes (named-is before.files name after.now bytes reads.now file));
@@ -64,7 +66,11 @@ pub IsUnopened-built : (name : List ℕ) (limits : Numbers) (before after : Devi
 IsUnopened-built name limits before after fault reads answer absent read =
     record {
       cause = by fault answer absent read;
-      gone = closed-absent before.files name after.now reads.now;
+      gone = λ gone.
+          let shut = closed-absent before.files name after.now reads.now gone in
+          record { closed = shut; same_taken = omega (arith, reads.taken_least, reads.taken_most, ap size_of shut) };
+      same_files = reads.same_files;
+      later = reads.later;
       taken = λ bytes file. omega (arith, reads.taken_most, size-file after.now bytes (named-is before.files name after.now bytes reads.now file));
     }
   where

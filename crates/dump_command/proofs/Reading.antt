@@ -1,64 +1,41 @@
 -- What a command reads of the dump that is open, by the clauses of what it calls.
 use Rattle.dump_sections.specs.declared.bodies.BodyFault.TheVariants as body_faults
-use Rattle.std.proofs.Common.{◌≡◌, ℕ, ◌≤◌, List, Option, None, Some, Result, Ok, Err, refl, sym, ◌∙◌, ap, subst, inl, arith, ◌⊎◌, Bool, true, false, if◌then◌else◌, codes, inr, length}
+use Rattle.std.proofs.Common.{◌≡◌, ℕ, ◌≤◌, List, Option, None, Some, Result, Ok, Err, refl, sym, ◌∙◌, ap, subst, inl, arith, ◌⊎◌, Bool, true, false, if◌then◌else◌, codes, inr}
 use Rattle.std.specs.Prelude.{IfOk, IsErrAnd, MatchResult, is_some}
 use Rattle.std.specs.Option.{option_map, option_or, option_to_list}
 use Rattle.std.specs.Str.{bytes_eq}
 use Rattle.std.proofs.lemmas.Result.{IfOk-weaker}
 use Rattle.std.proofs.lemmas.Slice.Eq.{bytes_eq-Decides}
 use Rattle.dump_io.specs.Dumps.{DeviceState, told, ReadsAtMost, DeviceFailed}
+use Rattle.dump_io.specs.Laws.Options.{is_some-map}
 use Rattle.dump_io.specs.Laws.Reads.{ReadsAtMost-none}
 use Rattle.dump_io.specs.Limits.{Numbers}
-use Rattle.dump_sections.specs.Bodies.{body_length, body_in, IsBodyIn, section_in, body_of}
+use Rattle.dump_sections.specs.Bodies.{body_in, IsBodyIn, section_in}
 use Rattle.dump_sections.specs.Index.{Contents, index_of, sections_in, IsBuiltOver, IsIndexOf}
-use Rattle.dump_sections.specs.Laws.{index-is}
 use Rattle.dump_sections.specs.Sections.{Section, sections}
 use Rattle.dump_sections.specs.declared.bodies.BodyFault.{BodyFault}
-use Rattle.dump_sections.specs.Loading.{bodies_length, first_large, AreRefused, LoadsBodies}
+use Rattle.dump_sections.specs.Loading.{bodies_length, large_fault, AreRefused, LoadsBodies}
 use Rattle.report_text.specs.declared.refusals.Refusal.{Refusal}
 use Rattle.report_text.specs.declared.refusals.Refusal.TheVariants.{SectionTooLarge}
-use Rattle.command_words.specs.Command.{Command, info}
-use Rattle.report_text.specs.Tables.{fields_report}
 use Rattle.dump_io.specs.Sinks.{SinkState, Puts}
-use Rattle.dump_io.specs.Lines.{headers}
 use Rattle.dump_sections.specs.Versions.{first_id, version_named}
-use Rattle.dump_sections.specs.Tags.{tag_counts, tags_in}
 use Rattle.dump_sections.specs.declared.version.Version.{Version}
 use Rattle.dump_sections.specs.declared.version.Version.TheVariants.{V03, V04, V05}
-use Rattle.report_text.specs.Reports.{info_report, version_text}
-use Rattle.dump_command.specs.Report.{bodies, no_subject, refusal_held, refusal_listed, report, report_status, reread, too_large, fields_of, first_section}
+use Rattle.report_text.specs.Reports.{version_text}
+use Rattle.dump_command.specs.Meaning.{Meaning, Part, of_bodies, of_section, overview_of}
+use Rattle.dump_command.specs.Report.{large_refusal, refusal_listed, too_large}
 use Rattle.dump_command.specs.Inner.Reading.{IsIndexed, HasRead, IsHalted, ReadsFor, StopsFor, Takes, Tells}
-use Rattle.dump_command.specs.Inner.Runs.{IsEnding}
 use Rattle.dump_command.specs.Inner.Stops.{or_stop, stop_of_body, Judges}
 use Rattle.dump_command.specs.declared.stop.Stop.{Stop}
 use Rattle.dump_command.specs.declared.stop.Stop.TheVariants.{Refused, NotRead, NotWritten, NoMemory}
 use Rattle.dump_command.specs.Terms.{base_of}
-use Rattle.dump_command.specs.Inner.Loads.{IsBodyFound, fields_text}
+use Rattle.dump_command.specs.Inner.Loads.{IsBodyFound, seen_overview, shown_body}
 use Rattle.dump_command.specs.declared.commands.subjects.Body.{Body}
-use Rattle.dump_command.proofs.Runs.{sections-index}
 
 -- ---- what stops a command
 
-abbrev pub refused : Section → Refusal
-refused s = SectionTooLarge s.at (body_length s)
-
-abbrev pub body_fault : Section → BodyFault
-body_fault s = body_faults.SectionTooLarge s.at (body_length s)
-
-pub none-map : {X Y : Type 0} (f : X → Y) (o : Option X) → option_map f o ≡ None → o ≡ None
-none-map f None is = refl
-none-map f (Some x) is = absurd (let no : ⊥ = cc is in no)
-
-pub is_some-map : {X Y : Type 0} (f : X → Y) (o : Option X) → is_some (option_map f o) ≡ is_some o
-is_some-map f None = refl
-is_some-map f (Some x) = refl
-
-pub some-refused : (cause : Option Refusal) (why : Refusal) → option_map Refused cause ≡ Some (Refused why) → cause ≡ Some why
-some-refused None why is = absurd (let no : ⊥ = cc (is) in no)
-some-refused (Some other) why is = let same : other ≡ why = cc (is) in ap Some same
-
 module _ (before after : DeviceState) (P : Refusal → Type 0) where
-  -- for something else
+  -- for a cause with a property that follows
   pub StopsFor-too : (Q : Refusal → Type 0) (stop : Stop) → StopsFor before after P stop → ((why : Refusal) → P why → Q why) → StopsFor before after Q stop
   StopsFor-too Q (Refused why) cause follows = (cause.0, follows why cause.1)
   StopsFor-too Q stop cause follows = cause
@@ -70,19 +47,12 @@ module _ (before after : DeviceState) (P : Refusal → Type 0) where
   StopsFor-judged T cause NotWritten judged follows = absurd judged
   StopsFor-judged T cause NoMemory judged follows = tt
 
-  -- for the first body that is too large
-  pub StopsFor-large : (first : Option Section) (fault : BodyFault) → option_map body_fault first ≡ Some fault
-      → ((why : Refusal) → option_map refused first ≡ Some why → P why) → StopsFor before after P (stop_of_body fault)
-  StopsFor-large None fault is follows = absurd (let no : ⊥ = cc (is) in no)
-  StopsFor-large (Some s) fault is follows =
-      let same : body_fault s ≡ fault = cc (is) in subst (λ f. StopsFor before after P (stop_of_body f)) same (tt, follows (refused s) refl)
-
   -- for why the bodies of several sections weren't loaded
   pub StopsFor-bodies : (ss : List Section) (limit : ℕ) (fault : BodyFault) → AreRefused ss limit before after fault
       → ((why : Refusal) → too_large limit ss ≡ Some why → P why) → StopsFor before after P (stop_of_body fault)
-  StopsFor-bodies ss limit body_faults.Read cause follows = cause.0
+  StopsFor-bodies ss limit body_faults.Read cause follows = cause
   StopsFor-bodies ss limit body_faults.Memory cause follows = tt
-  StopsFor-bodies ss limit (body_faults.SectionTooLarge at len) cause follows = StopsFor-large (first_large limit ss) _ cause follows
+  StopsFor-bodies ss limit (body_faults.SectionTooLarge at len) cause follows = (tt, follows (SectionTooLarge at len) (ap (option_map large_refusal) cause))
 
 -- what halted a command is what its `?` returns
 pub ReadsFor-halted : {V E : Type 0} (P : V → Type 0) (Q : E → Type 0) (result : Result V E) (stop : E) → IsErrAnd result (λ e. e ≡ stop) → Q stop → MatchResult result P Q
@@ -97,136 +67,142 @@ pub ReadsAtMost-same : {D : Type 0} (state : D → DeviceState) (b c : D) (count
 ReadsAtMost-same state b c count reads same =
     subst (λ x. ReadsAtMost (state b) (state x) 0) (sym same) (ReadsAtMost-none 0 (omega (arith, reads.taken_least, reads.taken_most)))
 
--- ---- a command by what it has read
+-- ---- a question by what was read for it
 
--- what it asks for is there, what its bodies hold isn't refused, and it takes its bodies alone
-pub record IsOfBodies (cmd : Command) (limits : Numbers) (index : Contents) : Type 0 where
-  pub there : no_subject cmd (sections_in index) ≡ None
-  pub held : (bytes : List ℕ) → refusal_held cmd bytes limits ≡ None
-  pub taken : (bytes : List ℕ) → reread cmd bytes ≡ bodies_length (bodies cmd (sections bytes))
-
-module _ (cmd : Command) (limits : Numbers) (index : Contents) (before after : DeviceState) where
+module _ (means : Meaning) (limits : Numbers) (index : Contents) (before after : DeviceState) where
   -- nothing was read
-  pub Takes-none : ReadsAtMost before after 0 → Takes cmd limits index before after
+  pub Takes-none : ReadsAtMost before after 0 → Takes means limits index before after
   Takes-none none = record { bytes = 0; reads = none; few = λ bytes all. omega arith; unread = λ some. none }
 
+  -- there was no memory
+  pub IsHalted-memory : ReadsAtMost before after 0 → IsHalted means limits index before after NoMemory
+  IsHalted-memory none = record { takes = Takes-none none; cause = tt }
+
   -- no refusal stands before the bodies
-  pub Takes-listed : (count : ℕ) → refusal_listed cmd (sections_in index) limits ≡ None → ReadsAtMost before after count
-      → ((bytes : List ℕ) → IsIndexed bytes limits index before.now → count ≤ reread cmd bytes) → Takes cmd limits index before after
+  pub Takes-listed : (count : ℕ) → refusal_listed means (sections_in index) limits ≡ None → ReadsAtMost before after count
+      → ((bytes : List ℕ) → IsIndexed bytes limits index before.now → count ≤ means.takes bytes) → Takes means limits index before after
   Takes-listed count none reads few =
       record { bytes = count; reads = reads; few = few; unread = λ some. absurd (let no : ⊥ = cc (sym (ap is_some none) ∙ some) in no) }
 
   -- what it asks for isn't there
-  pub IsHalted-subject : (T : Type 0) (stop : Stop) → ReadsAtMost before after 0 → Judges {T = T} (no_subject cmd (sections_in index)) (Err stop) → IsHalted cmd limits index before after stop
+  pub IsHalted-subject : (T : Type 0) (stop : Stop) → ReadsAtMost before after 0 → Judges {T = T} (means.absent (sections_in index)) (Err stop) → IsHalted means limits index before after stop
   IsHalted-subject T stop none judged =
       record {
         takes = Takes-none none;
-        cause = StopsFor-judged before after _ T (no_subject cmd (sections_in index)) stop judged
-            (λ why is bytes all. ap (λ o. option_or (option_or o (too_large limits.section (bodies cmd (sections_in index)))) (refusal_held cmd bytes limits)) is);
+        cause = StopsFor-judged before after _ T (means.absent (sections_in index)) stop judged
+            (λ why is bytes all. ap (λ o. option_or (option_or o (too_large limits.section (means.bodies (sections_in index)))) (means.held limits bytes)) is);
       }
 
   -- what its bodies hold is refused
-  pub IsHalted-held : (T : Type 0) (cause : Option Refusal) (stop : Stop) → Takes cmd limits index before after → refusal_listed cmd (sections_in index) limits ≡ None
-      → ((bytes : List ℕ) → IsIndexed bytes limits index before.now → refusal_held cmd bytes limits ≡ cause)
-      → Judges {T = T} cause (Err stop) → IsHalted cmd limits index before after stop
+  pub IsHalted-held : (T : Type 0) (cause : Option Refusal) (stop : Stop) → Takes means limits index before after → refusal_listed means (sections_in index) limits ≡ None
+      → ((bytes : List ℕ) → IsIndexed bytes limits index before.now → means.held limits bytes ≡ cause)
+      → Judges {T = T} cause (Err stop) → IsHalted means limits index before after stop
   IsHalted-held T cause stop takes listed held judged =
       record {
         takes = takes;
         cause = StopsFor-judged before after _ T cause stop judged
-            (λ why is bytes all. ap (λ o. option_or o (refusal_held cmd bytes limits)) listed ∙ held bytes all ∙ is);
+            (λ why is bytes all. ap (λ o. option_or o (means.held limits bytes)) listed ∙ held bytes all ∙ is);
       }
+
+  -- a later call failed, or memory was lacking
+  pub IsHalted-later : {last : DeviceState} {count : ℕ} (stop : Stop) → Takes means limits index before after → ReadsAtMost before last count → StopsFor last after (λ why. ⊥) stop
+      → IsHalted means limits index before after stop
+  IsHalted-later (Refused why) takes reads cause = absurd cause.1
+  IsHalted-later NotRead takes reads cause = record { takes = takes; cause = omega (arith, reads.later, cause) }
+  IsHalted-later NotWritten takes reads cause = absurd cause
+  IsHalted-later NoMemory takes reads cause = record { takes = takes; cause = tt }
 
   -- all was read, and nothing is refused
-  pub HasRead-listed : (text : List ℕ) → Takes cmd limits index before after → refusal_listed cmd (sections_in index) limits ≡ None
-      → ((bytes : List ℕ) → IsIndexed bytes limits index before.now → (refusal_held cmd bytes limits ≡ None) × (text ≡ report cmd bytes) × (0 ≡ report_status cmd bytes))
-      → HasRead cmd limits index before after text 0
-  HasRead-listed text takes listed shows =
+  pub HasRead-listed : (seen : means.What) → Takes means limits index before after → refusal_listed means (sections_in index) limits ≡ None
+      → ((bytes : List ℕ) → IsIndexed bytes limits index before.now → (means.held limits bytes ≡ None) × (seen ≡ means.what bytes))
+      → HasRead means limits index before after seen
+  HasRead-listed seen takes listed shows =
       record {
         takes = takes;
-        ends = inl refl;
-        told = λ bytes all.
-            let right = shows bytes all in (ap (λ o. option_or o (refusal_held cmd bytes limits)) listed ∙ right.0, right.1, right.2);
+        told = λ bytes all. (ap (λ o. option_or o (means.held limits bytes)) listed ∙ (shows bytes all).0, (shows bytes all).1);
       }
 
--- ---- what a command has read that loads these bodies alone
+-- ---- a question that loads its bodies
 
-module _ (cmd : Command) (limits : Numbers) (index : Contents) {D : Type 0} (state : D → DeviceState) (b c : D) where
-  -- a command that is refused for its bodies alone
-  listed-bodies : IsOfBodies cmd limits index → refusal_listed cmd (sections_in index) limits ≡ too_large limits.section (bodies cmd (sections_in index))
-  listed-bodies of = ap (λ o. option_or o (too_large limits.section (bodies cmd (sections_in index)))) of.there
+-- what it asks for is there, and it takes its bodies at least
+pub record IsOfBodies (means : Meaning) (index : Contents) : Type 0 where
+  pub there : means.absent (sections_in index) ≡ None
+  pub few : (bytes : List ℕ) → bodies_length (means.bodies (sections bytes)) ≤ means.takes bytes
 
-  takes-bodies : {T : Type 0} (loaded : Result T BodyFault) → IsOfBodies cmd limits index → LoadsBodies state (bodies cmd (sections_in index)) limits.section b c loaded
-      → Takes cmd limits index (state b) (state c)
-  takes-bodies loaded of loads =
-      record {
-        bytes = bodies_length (bodies cmd (sections_in index));
-        reads = loads.reads;
-        few = λ bytes all. omega (arith, of.taken bytes, ap (λ ss. bodies_length (bodies cmd ss)) (sections-index bytes index all.of));
-        unread = λ some. ReadsAtMost-same state b c _ loads.reads
-            (loads.unread (is_some-map body_fault _ ∙ sym (ap is_some (listed-bodies of) ∙ is_some-map refused (first_large limits.section (bodies cmd (sections_in index)))) ∙ some));
-      }
+-- a question that takes these bodies alone
+pub alone : {A : Type 0} {bodies : List Section → List Section} {what : List ℕ → A} {show : A → List ℕ} (index : Contents) → IsOfBodies (of_bodies bodies what show) index
+alone index = record { there = refl; few = λ bytes. omega arith }
 
-  -- they were loaded, and this is its report, or they weren't
-  pub ReadsFor-bodies : {T : Type 0} (text : T → List ℕ) (status : T → ℕ) (loaded : Result T BodyFault) → IsOfBodies cmd limits index
-      → LoadsBodies state (bodies cmd (sections_in index)) limits.section b c loaded → IfOk loaded (λ t. IsEnding cmd (status t) × ((bytes : List ℕ)
-      → IsIndexed bytes limits index (state b).now → (text t ≡ report cmd bytes) × (status t ≡ report_status cmd bytes)))
-      → ReadsFor cmd limits index (state b) (state c) text status (or_stop loaded)
-  ReadsFor-bodies text status (Ok t) of loads right =
-      record {
-        takes = takes-bodies (Ok t) of loads;
-        ends = right.0;
-        told = λ bytes all. (
-          ap (λ o. option_or o (refusal_held cmd bytes limits)) (listed-bodies of ∙ ap (option_map refused) (none-map body_fault _ loads.allowed)) ∙ of.held bytes,
-          (right.1 bytes all).0,
-          (right.1 bytes all).1,
-        );
-      }
-  ReadsFor-bodies {T} text status (Err fault) of loads right =
-      record {
-        takes = takes-bodies {T = T} (Err fault) of loads;
-        cause = StopsFor-bodies (state b) (state c) _ (bodies cmd (sections_in index)) limits.section fault loads.fault
-            (λ why is bytes all. ap (λ o. option_or o (refusal_held cmd bytes limits)) (listed-bodies of ∙ is));
-      }
+module _ (means : Meaning) (limits : Numbers) (index : Contents) (of : IsOfBodies means index) where
+  listed-bodies : refusal_listed means (sections_in index) limits ≡ too_large limits.section (means.bodies (sections_in index))
+  listed-bodies = ap (λ o. option_or o (too_large limits.section (means.bodies (sections_in index)))) of.there
 
-  -- what they make of the bytes of a dump is that of which it reports
-  pub ReadsFor-whole : {T : Type 0} (text : T → List ℕ) (whole : List ℕ → T) (loaded : Result T BodyFault) → IsOfBodies cmd limits index
-      → LoadsBodies state (bodies cmd (sections_in index)) limits.section b c loaded → IfOk loaded (λ t. (bytes : List ℕ) → (state b).now ≡ told bytes → t ≡ whole bytes)
-      → ((bytes : List ℕ) → (text (whole bytes) ≡ report cmd bytes) × (0 ≡ report_status cmd bytes))
-      → ReadsFor cmd limits index (state b) (state c) text (λ _. 0) (or_stop loaded)
-  ReadsFor-whole text whole loaded of loads is right =
-      ReadsFor-bodies text (λ _. 0) loaded of loads
-      (IfOk-weaker loaded _ _ (λ t is. (inl refl, λ bytes all. (ap text (is bytes all.opened) ∙ (right bytes).0, (right bytes).1))) is)
+  -- none of its bodies is too large
+  pub none-large : large_fault limits.section (means.bodies (sections_in index)) ≡ None → refusal_listed means (sections_in index) limits ≡ None
+  none-large small = listed-bodies ∙ ap (option_map large_refusal) small
 
--- ---- what a command has read that loads the body of one section
+  module _ {D T : Type 0} (state : D → DeviceState) (b c : D) where
+    pub takes-bodies : (loaded : Result T BodyFault) → LoadsBodies state (means.bodies (sections_in index)) limits.section b c loaded → Takes means limits index (state b) (state c)
+    takes-bodies loaded loads =
+        record {
+          bytes = bodies_length (means.bodies (sections_in index));
+          reads = loads.reads;
+          few = λ bytes all. rw all.is (of.few bytes);
+          unread = λ some. ReadsAtMost-same state b c _ loads.reads
+              (loads.unread (sym (ap is_some listed-bodies ∙ is_some-map large_refusal (large_fault limits.section (means.bodies (sections_in index)))) ∙ some));
+        }
 
--- the command loads this section alone
-module _ (cmd : Command) (limits : Numbers) (index : Contents) {D : Type 0} (state : D → DeviceState) (b c : D) (of : IsOfBodies cmd limits index)
-    (found : Option Section) (is : bodies cmd (sections_in index) ≡ option_to_list found) where
-  pub ReadsFor-found : (text : Body → List ℕ) (loaded : Result Body BodyFault) → LoadsBodies state (option_to_list found) limits.section b c loaded
+    -- they weren't loaded
+    pub IsHalted-bodies : (fault : BodyFault) → LoadsBodies {T = T} state (means.bodies (sections_in index)) limits.section b c (Err fault)
+        → IsHalted means limits index (state b) (state c) (stop_of_body fault)
+    IsHalted-bodies fault loads =
+        record {
+          takes = takes-bodies (Err fault) loads;
+          cause = StopsFor-bodies (state b) (state c) _ (means.bodies (sections_in index)) limits.section fault loads.fault
+              (λ why is bytes all. ap (λ o. option_or o (means.held limits bytes)) (listed-bodies ∙ is));
+        }
+
+    -- they were loaded, nothing that they hold is refused, and this was seen in them; or they weren't
+    pub ReadsFor-bodies : ((bytes : List ℕ) → means.held limits bytes ≡ None) → (seen : T → means.What) (loaded : Result T BodyFault) → LoadsBodies state (means.bodies (sections_in index)) limits.section b c loaded
+        → IfOk loaded (λ t. (bytes : List ℕ) → IsIndexed bytes limits index (state b).now → seen t ≡ means.what bytes)
+        → ReadsFor means limits index (state b) (state c) seen (or_stop loaded)
+    ReadsFor-bodies held seen (Ok t) loads right =
+        record {
+          takes = takes-bodies (Ok t) loads;
+          told = λ bytes all. (ap (λ o. option_or o (means.held limits bytes)) (none-large loads.allowed) ∙ held bytes, right bytes all);
+        }
+    ReadsFor-bodies held seen (Err fault) loads right = IsHalted-bodies fault loads
+
+    -- what the call that loads them says of the bytes of a dump, if these are told, is what was seen
+    pub ReadsFor-whole : ((bytes : List ℕ) → means.held limits bytes ≡ None) → (seen : T → means.What) (loaded : Result T BodyFault)
+        → LoadsBodies state (means.bodies (sections_in index)) limits.section b c loaded → IfOk loaded (λ t. (bytes : List ℕ) → (state b).now ≡ told bytes → seen t ≡ means.what bytes)
+        → ReadsFor means limits index (state b) (state c) seen (or_stop loaded)
+    ReadsFor-whole held seen loaded loads is =
+        ReadsFor-bodies held seen loaded loads (IfOk-weaker loaded _ _ (λ t is. λ bytes all. is bytes all.opened) is)
+
+-- ---- a question that loads the body of one section
+
+module _ (means : Meaning) (limits : Numbers) (index : Contents) (of : IsOfBodies means index) {D : Type 0} (state : D → DeviceState) (b c : D)
+    (found : Option Section) (is : means.bodies (sections_in index) ≡ option_to_list found) where
+  pub ReadsFor-found : ((bytes : List ℕ) → means.held limits bytes ≡ None) → (seen : Body → means.What) (loaded : Result Body BodyFault) → LoadsBodies state (option_to_list found) limits.section b c loaded
       → IfOk loaded (IsBodyFound (state b).now found)
-      → ((body : Body) (bytes : List ℕ) → IsIndexed bytes limits index (state b).now → body.base ≡ base_of found → body.bytes.items ≡ body_in bytes found
-      → (text body ≡ report cmd bytes) × (0 ≡ report_status cmd bytes))
-      → ReadsFor cmd limits index (state b) (state c) text (λ _. 0) (or_stop loaded)
-  ReadsFor-found text (Ok body) loads read right =
-      ReadsFor-bodies cmd limits index state b c text (λ _. 0) (Ok body) of (subst (λ ss. LoadsBodies state ss limits.section b c (Ok body)) (sym is) loads)
-      (inl refl, λ bytes all. right body bytes all read.base (subst (λ n. IsBodyIn n found body.bytes.items) all.opened read.held))
-  ReadsFor-found text (Err fault) loads read right =
-      ReadsFor-bodies cmd limits index state b c text (λ _. 0) (Err fault) of (subst (λ ss. LoadsBodies {T = Body} state ss limits.section b c (Err fault)) (sym is) loads) tt
+      → ((body : Body) (bytes : List ℕ) → IsIndexed bytes limits index (state b).now → body.base ≡ base_of found → body.bytes.items ≡ body_in bytes found → seen body ≡ means.what bytes)
+      → ReadsFor means limits index (state b) (state c) seen (or_stop loaded)
+  ReadsFor-found held seen loaded loads read right =
+      ReadsFor-bodies means limits index of state b c held seen loaded (subst (λ ss. LoadsBodies state ss limits.section b c loaded) (sym is) loads)
+      (IfOk-weaker loaded _ _ (λ body read. λ bytes all. right body bytes all read.base (subst (λ n. IsBodyIn n found body.bytes.items) all.opened read.held)) read)
 
--- its report is of the fields of that section
-pub ReadsFor-fields : (cmd : Command) (limits : Numbers) (index : Contents) {D : Type 0} (state : D → DeviceState) (b c : D) (of : IsOfBodies cmd limits index) (found : Option Section)
-    (pick : List Section → Option Section) (loaded : Result Body BodyFault) → found ≡ pick (sections_in index) → ((ss : List Section) → bodies cmd ss ≡ option_to_list (pick ss))
-    → ((bytes : List ℕ) → (fields_of bytes (pick (sections bytes)) ≡ report cmd bytes) × (0 ≡ report_status cmd bytes))
-    → LoadsBodies state (option_to_list found) limits.section b c loaded
-    → IfOk loaded (IsBodyFound (state b).now found)
-    → ReadsFor cmd limits index (state b) (state c) fields_text (λ _. 0) (or_stop loaded)
-ReadsFor-fields cmd limits index state b c of found pick loaded here is right loads read =
-    ReadsFor-found cmd limits index state b c of found (is (sections_in index) ∙ ap option_to_list (sym here)) fields_text loaded loads read
-    (λ body bytes all base items. (
-      ap (λ b. fields_report b body.bytes.items) base ∙ ap (fields_report (base_of found)) items
-          ∙ ap (fields_of bytes) (here ∙ ap pick (sections-index bytes index all.of)) ∙ (right bytes).0,
-      (right bytes).1,
-    ))
+-- the body of that section is what is shown
+pub ReadsFor-part : (absent : List Section → Option Refusal) (pick : List Section → Option Section) (show : Part → List ℕ) (limits : Numbers) (index : Contents) {D : Type 0} (state : D → DeviceState)
+    (b c : D) (found : Option Section) (loaded : Result Body BodyFault) → absent (sections_in index) ≡ None → found ≡ pick (sections_in index)
+    → LoadsBodies state (option_to_list found) limits.section b c loaded → IfOk loaded (IsBodyFound (state b).now found)
+    → ReadsFor (record (of_section pick show) { absent = absent }) limits index (state b) (state c) shown_body (or_stop loaded)
+ReadsFor-part absent pick show limits index state b c found loaded there here loads read =
+    ReadsFor-found (record (of_section pick show) { absent = absent }) limits index (record { there = there; few = λ _. omega arith }) state b c found (ap option_to_list (sym here)) (λ _. refl) shown_body loaded loads read
+    (λ body bytes all base items. rw (base, items) (ap (λ f. part_of f bytes) here ∙ ap (λ i. part_of (pick (sections_in i)) bytes) all.is))
+  where
+    part_of : Option Section → List ℕ → Part
+    part_of f bytes = record { base = base_of f; bytes = body_in bytes f }
 
 -- ---- what the exits of functions leave, by the clauses of the last call
 
@@ -276,13 +252,10 @@ version_text-named id version is =
       ]
     ]
 
-pub info_text-report : (file bytes : List ℕ) (index : Contents) (body : List ℕ) → IsIndexOf bytes index → body ≡ body_in bytes (section_in index (Some 0))
-    → info_report (version_text index.version) index.headers index.size (tag_counts (tags_in index)) body ≡ report (info file) bytes
-info_text-report file bytes index body of held =
-    let tags = tag_counts (tags_in index) in
-    ap (λ v. info_report v index.headers index.size tags body) (version_text-named (first_id bytes) index.version of.version)
-    ∙ ap (λ hs. info_report (first_id bytes) hs index.size tags body) of.headers
-    ∙ ap (λ n. info_report (first_id bytes) (headers bytes) n tags body) of.size
-    ∙ ap (λ i. info_report (first_id bytes) (headers bytes) (length bytes) (tag_counts (tags_in i)) body) (index-is bytes index of)
-    ∙ ap (λ b. info_report (first_id bytes) (headers bytes) (length bytes) (tag_counts (tags_in (index_of bytes))) b)
-    (held ∙ ap (λ ss. body_of bytes (first_section ss)) (sections-index bytes index of))
+-- what is known of the index of a dump and of its first body is what `info` tells
+pub overview-told : (bytes : List ℕ) (index : Contents) (body : Body) → IsIndexOf bytes index → index ≡ index_of bytes → body.bytes.items ≡ body_in bytes (section_in index (Some 0))
+    → seen_overview index body ≡ overview_of bytes
+overview-told bytes index body of is held =
+    rw held (
+    ap (λ v. record { version = v; index = index; first = body_in bytes (section_in index (Some 0)) }) (version_text-named (first_id bytes) index.version of.version)
+    ∙ ap (λ i. record { version = first_id bytes; index = i; first = body_in bytes (section_in i (Some 0)) }) is)

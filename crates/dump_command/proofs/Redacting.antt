@@ -10,22 +10,23 @@ use Rattle.dump_sections.specs.Index.{Contents, sections_in}
 use Rattle.dump_sections.specs.Sections.{Section}
 use Rattle.dump_redact.specs.Redacted.{redacted}
 use Rattle.dump_redact.specs.Refusals.{heap_sections, large_heap, IsRedactCauseOf}
-use Rattle.dump_sections.specs.Loading.{first_large}
+use Rattle.dump_sections.specs.Loading.{first_large, large_section}
 use Rattle.dump_redact.specs.declared.faults.RedactFault.{RedactFault}
 use Rattle.dump_redact.specs.declared.faults.RedactFault.TheVariants as faults
 use Rattle.report_text.specs.declared.refusals.Refusal.{Refusal}
 use Rattle.report_text.specs.declared.refusals.Refusal.TheVariants.{SectionTooLarge}
-use Rattle.command_words.specs.Command.{redact}
-use Rattle.dump_command.specs.Report.{refusal}
+use Rattle.command_words.specs.Command.{on, redact}
+use Rattle.dump_command.specs.Meaning.{meaning}
+use Rattle.dump_command.specs.Report.{large_refusal, refusal}
 use Rattle.dump_command.specs.Run.{HasStopped, IsDumpOf, IsLeftOf}
 use Rattle.dump_command.specs.Inner.Reading.{HasOpened, Takes}
-use Rattle.dump_command.specs.Inner.Runs.{Runs}
+use Rattle.dump_command.specs.Inner.Runs.{Leaves, Runs}
 use Rattle.dump_command.specs.Inner.Stops.{redact_end}
 use Rattle.dump_command.proofs.Runs.{through, IsThrough}
 
 -- the refusal of the first heap that is too large, as the command's and as that of the call
 abbrev as_refusal : Option Section → Option Refusal
-as_refusal large = option_map (λ s. SectionTooLarge s.at (body_length s)) large
+as_refusal large = option_map large_refusal (option_map large_section large)
 
 abbrev as_fault : Option Section → Option RedactFault
 as_fault large = option_map (λ s. faults.SectionTooLarge s.at (body_length s)) large
@@ -51,7 +52,7 @@ module _ (a b c : DeviceState) (file : List ℕ) (limits : Numbers) (index : Con
   abbrev large : Option Section
   large = first_large limits.section (heap_sections (sections_in index))
 
-  takes : Takes (redact file) limits index b c
+  takes : Takes (meaning redact) limits index b c
   takes =
       record {
         bytes = index.size;
@@ -60,11 +61,11 @@ module _ (a b c : DeviceState) (file : List ℕ) (limits : Numbers) (index : Con
         unread = λ some. unread (is-fault large some);
       }
 
-  known : IsThrough (redact file) limits index b.now a c
-  known = through (redact file) file limits index refl opened takes
+  known : IsThrough redact file limits index b.now a c
+  known = through redact file limits index opened takes
 
   -- the command is refused for that heap alone
-  refused : (bytes : List ℕ) → IsDumpOf a c (redact file) bytes → refusal (redact file) bytes limits ≡ as_refusal large
+  refused : (bytes : List ℕ) → IsDumpOf a c (on file redact) bytes → refusal (on file redact) bytes limits ≡ as_refusal large
   refused bytes dump = (known.told bytes dump).1 ∙ by large
     where
       by : (o : Option Section) → option_or (as_refusal o) None ≡ as_refusal o
@@ -72,18 +73,18 @@ module _ (a b c : DeviceState) (file : List ℕ) (limits : Numbers) (index : Con
       by (Some s) = refl
 
   -- what is left where the call failed
-  left : (bytes : List ℕ) → IsDumpOf a c (redact file) bytes → GainedFront out out' (redacted bytes) → IsLeftOf (redact file) bytes (refusal (redact file) bytes limits) out out'
-  left bytes dump front = subst (λ r. IsLeftOf (redact file) bytes r out out') (sym (refused bytes dump)) (by large refl)
+  left : (bytes : List ℕ) → IsDumpOf a c (on file redact) bytes → GainedFront out out' (redacted bytes) → IsLeftOf (on file redact) bytes (refusal (on file redact) bytes limits) out out'
+  left bytes dump front = subst (λ r. IsLeftOf (on file redact) bytes r out out') (sym (refused bytes dump)) (by large refl)
     where
-      by : (o : Option Section) → large ≡ o → IsLeftOf (redact file) bytes (as_refusal o) out out'
+      by : (o : Option Section) → large ≡ o → IsLeftOf (on file redact) bytes (as_refusal o) out out'
       by None e = inr front
       by (Some s) e = unwritten (subst (λ o. IsSome (as_fault o)) (sym e) refl)
 
   -- where the call says that no heap is too large nothing is refused
-  accepted : (bytes : List ℕ) → IsDumpOf a c (redact file) bytes → as_fault large ≡ None → refusal (redact file) bytes limits ≡ None
+  accepted : (bytes : List ℕ) → IsDumpOf a c (on file redact) bytes → as_fault large ≡ None → refusal (on file redact) bytes limits ≡ None
   accepted bytes dump none = refused bytes dump ∙ no-refusal large none
 
-  stopped : ((bytes : List ℕ) → b.now ≡ told bytes → GainedFront out out' (redacted bytes)) → HasStopped (redact file) limits a c out out'
+  stopped : ((bytes : List ℕ) → b.now ≡ told bytes → GainedFront out out' (redacted bytes)) → HasStopped (on file redact) limits a c out out'
   stopped front =
       record { absent = λ gone. absurd (known.there gone); told = λ bytes dump. left bytes dump (front bytes (known.told bytes dump).0.opened) }
 
@@ -91,49 +92,32 @@ module _ (a b c : DeviceState) (file : List ℕ) (limits : Numbers) (index : Con
       → IfErr result (IsRedactCauseOf (large_heap limits.section (sections_in index)) b c out out')
       → OnOk result (large_heap limits.section (sections_in index) ≡ None)
       → ((fault : RedactFault) → large_heap limits.section (sections_in index) ≡ Some fault → IsErrOf result fault)
-      → Runs (redact file) limits a c out out' (redact_end result)
-  Runs-redact (Ok done) writes cause none too_large =
-      record {
-        left = record {
-          there = known.there;
-          ends = inl refl;
-          told = λ bytes dump. record { accepted = accepted bytes dump none; ends = refl; written = (writes bytes (known.told bytes dump).0.opened).whole };
-        };
-        gone = λ gone. absurd (known.there gone);
-        taken = known.taken;
-      }
-  Runs-redact (Err (faults.SectionTooLarge at len)) writes cause none too_large =
-      record {
-        left = (
-          record { proper = tt; there = known.there; told = λ bytes dump. refused bytes dump ∙ same-refusal large at len cause },
-          unwritten (subst IsSome (sym cause) refl),
-        );
-        gone = λ gone. absurd (known.there gone);
-        taken = known.taken;
-      }
-  Runs-redact (Err faults.Read) writes cause none too_large =
-      record {
-        left = (inl (omega (arith, cause, opened.later)), stopped (λ bytes told_is. (writes bytes told_is).front));
-        gone = λ gone. absurd (known.there gone);
-        taken = known.taken;
-      }
-  Runs-redact (Err faults.Write) writes cause none too_large =
-      record {
-        left = record {
-          there = known.there;
-          failed = cause;
-          told = λ bytes dump. (accepted bytes dump (by large refl), (writes bytes (known.told bytes dump).0.opened).front);
-        };
-        gone = λ gone. absurd (known.there gone);
-        taken = known.taken;
-      }
+      → Runs (on file redact) limits a c out out' (redact_end result)
+  Runs-redact result writes cause none too_large =
+      record { left = by result writes cause none too_large; gone = λ gone. absurd (known.there gone); same_files = known.same_files; later = known.later; taken = known.taken }
     where
-      by : (o : Option Section) → large ≡ o → as_fault large ≡ None
-      by None e = ap as_fault e
-      by (Some s) e = absurd (let no : ⊥ = cc (too_large (faults.SectionTooLarge s.at (body_length s)) (ap as_fault e)) in no)
-  Runs-redact (Err faults.Memory) writes cause none too_large =
-      record {
-        left = stopped (λ bytes told_is. (writes bytes told_is).front);
-        gone = λ gone. absurd (known.there gone);
-        taken = known.taken;
-      }
+      small : (o : Option Section) → large ≡ o → ((fault : RedactFault) → as_fault large ≡ Some fault → IsErrOf {T = Unit {0}} (Err faults.Write) fault) → as_fault large ≡ None
+      small None e first = ap as_fault e
+      small (Some s) e first = absurd (let no : ⊥ = cc (first (faults.SectionTooLarge s.at (body_length s)) (ap as_fault e)) in no)
+
+      by : (result : Result (Unit {0}) RedactFault) → ((bytes : List ℕ) → b.now ≡ told bytes → WritesAll out.written out'.written (redacted bytes) result)
+          → IfErr result (IsRedactCauseOf (as_fault large) b c out out') → OnOk result (as_fault large ≡ None) → ((fault : RedactFault) → as_fault large ≡ Some fault → IsErrOf result fault)
+          → Leaves (on file redact) limits a c out out' (redact_end result)
+      by (Ok done) writes cause none first =
+          record {
+            there = known.there;
+            ends = inl refl;
+            told = λ bytes dump. record { accepted = accepted bytes dump none; ends = refl; written = (writes bytes (known.told bytes dump).0.opened).whole };
+          }
+      by (Err (faults.SectionTooLarge at len)) writes cause none first = (
+        record { proper = tt; there = known.there; told = λ bytes dump. refused bytes dump ∙ same-refusal large at len cause },
+        unwritten (subst IsSome (sym cause) refl),
+      )
+      by (Err faults.Read) writes cause none first = (inl (omega (arith, cause, opened.later)), stopped (λ bytes told_is. (writes bytes told_is).front))
+      by (Err faults.Write) writes cause none first =
+          record {
+            there = known.there;
+            failed = cause;
+            told = λ bytes dump. (accepted bytes dump (small large refl first), (writes bytes (known.told bytes dump).0.opened).front);
+          }
+      by (Err faults.Memory) writes cause none first = stopped (λ bytes told_is. (writes bytes told_is).front)

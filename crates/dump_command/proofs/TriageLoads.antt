@@ -1,41 +1,27 @@
 -- What a command has read that tells what stands out in a dump.
-use Rattle.std.proofs.Common.{◌≡◌, ℕ, ◌+◌, List, [], ◌∷◌, ◌++◌, Option, None, Some, Result, Ok, Err, refl, sym, ◌∙◌, ap, subst, inl, inr, arith}
-use Rattle.std.specs.Prelude.{IsErrAnd}
-use Rattle.std.specs.Option.{option_map, option_or, option_to_list}
+use Rattle.std.proofs.Common.{◌≡◌, ℕ, ◌+◌, List, [], ◌∷◌, ◌++◌, None, Some, Result, Ok, Err, refl, sym, ◌∙◌, ap, subst, arith}
+use Rattle.std.specs.Prelude.{IfOk, IsErrAnd, OnOk, is_some}
+use Rattle.std.proofs.lemmas.Result.{IfErr-weaker}
+use Rattle.std.specs.Option.{option_or, option_to_list}
 use Rattle.std.proofs.lemmas.List.Sums.{sum_by-append, sum_by-cons}
-use Rattle.dump_io.specs.Dumps.{DeviceState, DeviceFailed, ReadsAtMost}
+use Rattle.dump_io.specs.Dumps.{Now, DeviceState, ReadsAtMost}
 use Rattle.dump_io.specs.Laws.Reads.{ReadsAtMost-then, ReadsAtMost-within}
 use Rattle.dump_io.specs.Limits.{Numbers}
-use Rattle.dump_sections.specs.Bodies.{body_length, body_in, section_in}
-use Rattle.dump_sections.specs.Index.{Contents, index_of, sections_in}
-use Rattle.dump_sections.specs.Laws.{index-is}
+use Rattle.dump_sections.specs.Bodies.{body_length, section_in}
+use Rattle.dump_sections.specs.Index.{Contents, sections_in}
 use Rattle.dump_sections.specs.Sections.{Section}
 use Rattle.dump_sections.specs.declared.bodies.BodyFault.{BodyFault}
-use Rattle.dump_sections.specs.declared.bodies.BodyFault.TheVariants as body_faults
-use Rattle.dump_sections.specs.LoadingLaws.{large-append, small-both}
-use Rattle.dump_sections.specs.Loading.{bodies_length, first_large, large_fault, AreRefused, IsUnloaded}
+use Rattle.dump_sections.specs.declared.bodies.LargeSection.{LargeSection}
+use Rattle.dump_sections.specs.LoadingLaws.{large-append, small-both, AreRefused-unread}
+use Rattle.dump_sections.specs.Loading.{bodies_length, body_fault, large_fault, IsUnloaded, LoadsBodies}
 use Rattle.process_table.specs.Records.{record_sections}
 use Rattle.table_sections.specs.declared.kinds.TableKind.TheVariants.{Ets}
 use Rattle.table_sections.specs.Tables.{listed}
-use Rattle.command_words.specs.Command.{triage}
-use Rattle.process_table.specs.Processes.{process_table}
-use Rattle.dump_command.specs.Report.{first_section, memory_section, refusal_listed, report, told_in, triage_sections}
-use Rattle.dump_command.specs.Triage.{Told, triage_over}
-use Rattle.dump_command.specs.Inner.Reading.{IsIndexed, HasRead, IsHalted, Takes}
-use Rattle.dump_command.specs.Inner.Stops.{stop_of_body}
-use Rattle.dump_command.specs.declared.stop.Stop.TheVariants.{NoMemory}
-use Rattle.dump_command.specs.Inner.Loads.{shown_bodies, triage_text, AreFound, HoldsBodies, ReadsBodies}
+use Rattle.dump_command.specs.Meaning.{first_section, memory_section, told_in, triage_sections}
+use Rattle.dump_command.specs.Inner.Reading.{IsIndexed}
+use Rattle.dump_command.specs.Inner.Loads.{seen_triage, AreFound, HoldsBodies, ReadsBodies}
 use Rattle.dump_command.specs.declared.commands.triage.Places.{Places}
 use Rattle.dump_command.specs.declared.commands.triage.Loaded.{Loaded}
-use Rattle.dump_command.proofs.Reading.{body_fault, refused, HasRead-listed, StopsFor-large, Takes-listed, Takes-none}
-use Rattle.dump_command.proofs.Runs.{sections-index}
-
--- bodies of which none is too large aren't read where the device fails or memory lacks
-pub IsUnloaded-small : (limit : ℕ) (ss : List Section) (before after step step' : DeviceState) (fault : BodyFault) → large_fault limit ss ≡ None → (DeviceFailed step step' → DeviceFailed before after)
-    → AreRefused ss limit step step' fault → IsUnloaded before after fault
-IsUnloaded-small limit ss before after step step' body_faults.Read none later cause = inl (refl, later cause.0)
-IsUnloaded-small limit ss before after step step' body_faults.Memory none later cause = inr refl
-IsUnloaded-small limit ss before after step step' (body_faults.SectionTooLarge at len) none later cause = absurd (let no : ⊥ = cc (sym none ∙ cause) in no)
 
 -- ---- the bodies of a triage
 
@@ -125,65 +111,36 @@ not-read (Ok loaded) fault is reads cause = absurd is
 not-read {before = before} {after = after} (Err e) fault is reads cause =
     record { reads = reads; bodies = tt; fits = tt; fault = subst (IsUnloaded before after) (sym is) cause }
 
--- ---- the command
+-- ---- they are judged, and then read
 
-module _ (file : List ℕ) (most : ℕ) (limits : Numbers) (index : Contents) (before after : DeviceState) where
-  -- there was no memory for the places
-  pub IsHalted-places : ReadsAtMost before after 0 → IsHalted (triage file most) limits index before after NoMemory
-  IsHalted-places none = record { takes = Takes-none (triage file most) limits index before after none; cause = tt }
+-- one is too large
+pub LoadsBodies-large : {D T : Type 0} (state : D → DeviceState) (ss : List Section) (limit : ℕ) (device : D) (large : LargeSection) → ReadsAtMost (state device) (state device) 0
+    → Some large ≡ large_fault limit ss → LoadsBodies {T = T} state ss limit device device (Err (body_fault large))
+LoadsBodies-large state ss limit device large none is =
+    record { reads = ReadsAtMost-within (omega arith) none; allowed = tt; unread = λ some. refl; fault = sym is }
 
-  -- a body is too large
-  pub IsHalted-triage : (fault : BodyFault) → ReadsAtMost before after 0 → Some fault ≡ large_fault limits.section (triage_sections (sections_in index))
-      → IsHalted (triage file most) limits index before after (stop_of_body fault)
-  IsHalted-triage fault none is =
-      record {
-        takes = Takes-none (triage file most) limits index before after none;
-        cause = StopsFor-large before after _ (first_large limits.section (triage_sections (sections_in index))) fault (sym is)
-            (λ why large bytes all. ap (λ o. option_or o None) large);
-      }
+-- none is, and they were read or not
+pub LoadsBodies-small : {D : Type 0} (state : D → DeviceState) (index : Contents) (limit : ℕ) (b c : D) (result : Result Loaded BodyFault) → None ≡ large_fault limit (triage_sections (sections_in index))
+    → ReadsBodies index (state b) (state c) result → LoadsBodies state (triage_sections (sections_in index)) limit b c result
+LoadsBodies-small state index limit b c result is read =
+    record {
+      reads = read.reads;
+      allowed = on-ok result;
+      unread = λ some. absurd (let no : ⊥ = cc (ap is_some is, some) in no);
+      fault = IfErr-weaker result _ _ (λ fault cause. AreRefused-unread limit (triage_sections (sections_in index)) (state b) (state c) fault cause) read.fault;
+    }
+  where
+    on-ok : (result : Result Loaded BodyFault) → OnOk result (large_fault limit (triage_sections (sections_in index)) ≡ None)
+    on-ok (Ok loaded) = sym is
+    on-ok (Err fault) = tt
 
-  -- none is
-  listed-triage : None ≡ large_fault limits.section (triage_sections (sections_in index)) → refusal_listed (triage file most) (sections_in index) limits ≡ None
-  listed-triage is = by (first_large limits.section (triage_sections (sections_in index))) is
-    where
-      by : (first : Option Section) → None ≡ option_map body_fault first → option_map refused first ≡ None
-      by None is = refl
-      by (Some s) is = absurd (let no : ⊥ = cc (is) in no)
+-- what was read is what the dump tells
+triage-told : (limits : Numbers) (index : Contents) (now : Now) (loaded : Loaded) → HoldsBodies index now loaded → (bytes : List ℕ) → IsIndexed bytes limits index now
+    → seen_triage index loaded ≡ told_in bytes
+triage-told limits index now loaded holds bytes all =
+    let held = subst (λ n. HoldsBodies index n loaded) all.opened holds in rw (held.first, held.memory, held.procs bytes refl, held.tables bytes refl, all.is) refl
 
-  takes-triage : None ≡ large_fault limits.section (triage_sections (sections_in index)) → ReadsAtMost before after (bodies_length (triage_sections (sections_in index)))
-      → Takes (triage file most) limits index before after
-  takes-triage small reads =
-      Takes-listed (triage file most) limits index before after _ (listed-triage small) reads
-      (λ bytes all. omega (arith, ap (λ ss. bodies_length (triage_sections ss)) (sections-index bytes index all.of)))
-
-  -- they weren't read
-  pub IsHalted-unread : (fault : BodyFault) → None ≡ large_fault limits.section (triage_sections (sections_in index))
-      → ReadsAtMost before after (bodies_length (triage_sections (sections_in index))) → IsUnloaded before after fault → IsHalted (triage file most) limits index before after (stop_of_body fault)
-  IsHalted-unread fault small reads (inl cause) =
-      subst (λ f. IsHalted (triage file most) limits index before after (stop_of_body f)) (sym cause.0) (record { takes = takes-triage small reads; cause = cause.1 })
-  IsHalted-unread fault small reads (inr is) =
-      subst (λ f. IsHalted (triage file most) limits index before after (stop_of_body f)) (sym is) (record { takes = takes-triage small reads; cause = tt })
-
-  -- what stands out in what was read stands out in the dump
-  triage-told : (loaded : Loaded) → HoldsBodies index before.now loaded → (bytes : List ℕ) → IsIndexed bytes limits index before.now
-      → triage_text most index loaded ≡ report (triage file most) bytes
-  triage-told loaded holds bytes all =
-      let held = subst (λ n. HoldsBodies index n loaded) all.opened holds in
-      let same = sections-index bytes index all.of in
-      let told_of : List ℕ → List ℕ → Told = λ first memory. record { first = first; memory = memory; procs = loaded.procs; tables = loaded.tables } in
-      let first = body_in bytes (section_in index (Some 0)) in
-      ap (λ i. triage_over most i (shown_bodies loaded)) (index-is bytes index all.of)
-      ∙ ap (λ b. triage_over most (index_of bytes) (told_of b loaded.memory.bytes.items)) held.first
-      ∙ ap (λ b. triage_over most (index_of bytes) (told_of first b)) held.memory
-      ∙ ap (λ t. triage_over most (index_of bytes) (record { first = first; memory = body_in bytes (memory_section (sections_in index)); procs = t; tables = loaded.tables }))
-      (held.procs bytes refl)
-      ∙ ap (λ t. triage_over most (index_of bytes) (record { first = first; memory = body_in bytes (memory_section (sections_in index)); procs = process_table bytes; tables = t }))
-      (held.tables bytes refl)
-      ∙ ap (λ ss. triage_over most (index_of bytes) (told_in bytes ss)) same
-
-  pub HasRead-triage : (loaded : Loaded) → None ≡ large_fault limits.section (triage_sections (sections_in index))
-      → ReadsAtMost before after (bodies_length (triage_sections (sections_in index))) → HoldsBodies index before.now loaded
-      → HasRead (triage file most) limits index before after (triage_text most index loaded) 0
-  HasRead-triage loaded small reads holds =
-      HasRead-listed (triage file most) limits index before after (triage_text most index loaded) (takes-triage small reads) (listed-triage small)
-      (λ bytes all. (refl, triage-told loaded holds bytes all, refl))
+pub told-loaded : (limits : Numbers) (index : Contents) (now : Now) (result : Result Loaded BodyFault) → IfOk result (HoldsBodies index now)
+    → IfOk result (λ loaded. (bytes : List ℕ) → IsIndexed bytes limits index now → seen_triage index loaded ≡ told_in bytes)
+told-loaded limits index now (Ok loaded) holds = λ bytes all. triage-told limits index now loaded holds bytes all
+told-loaded limits index now (Err fault) holds = tt

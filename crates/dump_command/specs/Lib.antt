@@ -1,7 +1,6 @@
 pub mod Audits
-pub mod Holders
 pub mod Inner
-pub mod Laws
+pub mod Meaning
 pub mod Report
 pub mod Run
 pub mod Terms

@@ -8,7 +8,7 @@ use Rattle.dump_io.specs.Sinks.{SinkState, SinkFailed, IsKept, Gained, GainedFro
 use Rattle.section_index.specs.Answers.{IsFileOf}
 use Rattle.report_text.specs.declared.refusals.Refusal.{Refusal}
 use Rattle.report_text.specs.Refusals.{refusal_line}
-use Rattle.command_words.specs.Command.{Command, redact, file_name}
+use Rattle.command_words.specs.Command.{Command, on, redact, file_name}
 use Rattle.dump_command.specs.Report.{report, report_status, finds, refusal, allowance}
 
 -- these are the bytes on which this command reports: those of its file, and none if it has no file
@@ -65,7 +65,7 @@ pub record HasStopped (cmd : Command) (limits : Numbers) (before after : DeviceS
 -- what a command that stopped before its report was whole left in
 -- `out`: nothing, except for `redact`, which writes while it reads
 abbrev pub IsLeft : Command → Numbers → DeviceState → DeviceState → SinkState → SinkState → Type 0
-IsLeft (redact file) limits before after out out' = HasStopped (redact file) limits before after out out'
+IsLeft (on file redact) limits before after out out' = HasStopped (on file redact) limits before after out out'
 IsLeft cmd limits before after out out' = IsKept out out'
 
 -- no more bytes are taken than the command may take
@@ -83,11 +83,19 @@ Ends cmd limits status before after out out' err err' =
     ⊎ ((status ≡ 5) × BreaksOff cmd limits before after out out' err err')
     ⊎ ((status ≡ 6) × IsLeft cmd limits before after out out' × IsKept err err')
 
+-- no file is open at the end, and nothing was taken
+pub record Untouched (before after : DeviceState) : Type 0 where
+  pub closed : after.now ≡ closed
+  pub same_taken : after.taken ≡ before.taken
+
 -- what a run of a command leaves
 pub record IsRunOf (cmd : Command) (limits : Numbers) (status : ℕ) (before after : DeviceState) (out out' err err' : SinkState) : Type 0 where
   pub ends : Ends cmd limits status before after out out' err err'
-  -- if there is no such file, the dump wasn't read, or memory was lacking, and no file is open at the end
-  pub missing : IsMissing before cmd → ((status ≡ 4) ⊎ (status ≡ 6)) × (after.now ≡ closed)
+  -- if there is no such file, the dump wasn't read, or memory was lacking, and nothing was taken
+  pub missing : IsMissing before cmd → ((status ≡ 4) ⊎ (status ≡ 6)) × Untouched before after
+  -- whatever the status, the files stay the same, and the count of faults doesn't fall
+  pub same_files : after.files ≡ before.files
+  pub later : before.faults ≤ after.faults
   -- whatever the status, no more bytes are taken than the command may take
   pub taken : TakesAtMost cmd limits before after
 

@@ -1,4 +1,4 @@
--- What `triage` reports, from an index, two bodies and what was read from the others.
+-- What `triage` reports.
 use Rattle.std.specs.Prelude.{ℕ, List}
 use Rattle.dump_sections.specs.Index.{Contents}
 use Rattle.section_rows.specs.Rows.{Table}
@@ -6,15 +6,16 @@ use Rattle.process_table.specs.Processes.{ProcessTable}
 use Rattle.dump_triage.specs.Triage.{triage_of}
 use Rattle.glance_text.specs.Triage.{triage_report}
 
--- what its report is on: the body of the first section and that
--- of the first one on memory, the processes and the ETS tables
+-- what its report is on: the index, the body of the first section and
+-- that of the first one on memory, the processes and the ETS tables
 pub record Told : Type 0 where
+  pub index : Contents
   pub first : List ℕ
   pub memory : List ℕ
   pub procs : ProcessTable
   pub tables : Table
 
 -- the report on these, with at most this many rows by each measure
-abbrev pub triage_over : ℕ → Contents → Told → List ℕ
-triage_over most index told =
-    triage_report index told.first told.memory told.procs told.tables.rows (triage_of index told.procs.processes told.tables.rows most)
+abbrev pub triage_over : ℕ → Told → List ℕ
+triage_over most told =
+    triage_report told.index told.first told.memory told.procs told.tables.rows (triage_of told.index told.procs.processes told.tables.rows most)

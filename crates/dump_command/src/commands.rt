@@ -1,6 +1,6 @@
 // Each command: what it loads, and what it writes.
-ghost use Rattle.command_words.specs.Command.{shown_command, IsInRange};
-ghost use Rattle.dump_command.specs.Inner.Runs.{RunsOn};
+ghost use Rattle.command_words.specs.Command.{on, shown_command, shown_query, IsAskInRange, IsInRange};
+ghost use Rattle.dump_command.specs.Inner.Runs.{Runs, RunsOn};
 
 mod audit;
 mod audit_json;
@@ -32,7 +32,7 @@ use audit_json::AuditJson;
 use binaries::Binaries;
 use binary::Binary;
 use cells::Cells;
-use command_words::Cmd;
+use command_words::{Cmd, Query};
 use dump_io::{Dumps, Limits, Sink};
 use ext::Ext;
 use holders::Holders;
@@ -45,10 +45,8 @@ use proc::Proc;
 use procs::ProcessTable;
 use reach::Reach;
 use redact::run_redact;
-use root_views::RootKind;
 use roots::Roots;
 use std::alloc::Global;
-use table_sections::TableKind;
 use tables::Table;
 use term::Term;
 use triage::Triage;
@@ -63,113 +61,94 @@ pub(crate) fn run_command<D: Dumps, K: Sink>(
     out: &mut K,
 ) -> Result<u8, Stop>
     requires { IsInRange (shown_command cmd) }
-    ensures { RunsOn D.state (shown_command cmd.entry) limits.now dumps.old dumps.new (K.state out.old) (K.state out.new) result }
+    ensures { RunsOn D.state (shown_command cmd.entry) limits.now
+        dumps.old dumps.new (K.state out.old) (K.state out.new) result }
 {
     match cmd {
-        Cmd::Index { file } => run_report(alloc, &Index { file }, limits, dumps, out),
-        Cmd::Info { file } => run_report(alloc, &Info { file }, limits, dumps, out),
-        Cmd::Procs { file } => run_report(alloc, &ProcessTable { file }, limits, dumps, out),
-        Cmd::Proc { file, pid } => {
+        Cmd::On { file, query } => run_query(alloc, file, query, limits, dumps, out),
+        Cmd::Make { seed, count } => run_make(alloc, seed, count, out),
+        Cmd::Trial { seed, count } => run_trial(alloc, seed, count, out),
+    }
+}
+
+// The same for what is asked of the dump in a file.
+fn run_query<D: Dumps, K: Sink>(
+    alloc: Global,
+    file: &str,
+    query: Query<'_>,
+    limits: &Limits,
+    dumps: &mut D,
+    out: &mut K,
+) -> Result<u8, Stop>
+    requires { IsAskInRange (shown_query query) }
+    ensures { Runs (on file.now (shown_query query.entry)) limits.now
+        (D.state dumps.old) (D.state dumps.new) (K.state out.old) (K.state out.new) result }
+{
+    match query {
+        Query::Index => run_report(alloc, file, &Index, limits, dumps, out),
+        Query::Info => run_report(alloc, file, &Info, limits, dumps, out),
+        Query::Procs => run_report(alloc, file, &ProcessTable, limits, dumps, out),
+        Query::Proc { pid } => {
             let pid = pid.as_bytes();
-            run_report(alloc, &Proc { file, pid }, limits, dumps, out)
+            run_report(alloc, file, &Proc { pid }, limits, dumps, out)
         }
-        Cmd::Memory { file } => run_report(alloc, &Memory { file }, limits, dumps, out),
-        Cmd::Ets { file } => {
-            let kind = TableKind::Ets;
-            run_report(alloc, &Table { file, kind }, limits, dumps, out)
-        }
-        Cmd::Ports { file } => {
-            let kind = TableKind::Ports;
-            run_report(alloc, &Table { file, kind }, limits, dumps, out)
-        }
-        Cmd::Nodes { file } => {
-            let kind = TableKind::Nodes;
-            run_report(alloc, &Table { file, kind }, limits, dumps, out)
-        }
-        Cmd::Mods { file } => {
-            let kind = TableKind::Mods;
-            run_report(alloc, &Table { file, kind }, limits, dumps, out)
-        }
-        Cmd::Stack {
-            file,
+        Query::Memory => run_report(alloc, file, &Memory, limits, dumps, out),
+        Query::Table { kind } => run_report(alloc, file, &Table { kind }, limits, dumps, out),
+        Query::Roots {
+            kind,
             pid,
             nodes,
             marked,
         } => {
-            let roots = Roots::new(RootKind::Stack, file, pid, nodes, marked);
-            run_report(alloc, &roots, limits, dumps, out)
+            let roots = Roots {
+                pid: pid.as_bytes(),
+                kind,
+                nodes,
+                marked,
+            };
+            run_report(alloc, file, &roots, limits, dumps, out)
         }
-        Cmd::Dict {
-            file,
-            pid,
-            nodes,
-            marked,
-        } => {
-            let roots = Roots::new(RootKind::Dict, file, pid, nodes, marked);
-            run_report(alloc, &roots, limits, dumps, out)
-        }
-        Cmd::Mail {
-            file,
-            pid,
-            nodes,
-            marked,
-        } => {
-            let roots = Roots::new(RootKind::Mail, file, pid, nodes, marked);
-            run_report(alloc, &roots, limits, dumps, out)
-        }
-        Cmd::Term {
-            file,
+        Query::Term {
             pid,
             addr,
             nodes,
             marked,
         } => {
             let term = Term {
-                file,
                 pid: pid.as_bytes(),
                 addr,
                 nodes,
                 marked,
             };
-            run_report(alloc, &term, limits, dumps, out)
+            run_report(alloc, file, &term, limits, dumps, out)
         }
-        Cmd::Ext { file, pid, addr } => {
-            let ext = Ext {
-                file,
-                pid: pid.as_bytes(),
-                addr,
-            };
-            run_report(alloc, &ext, limits, dumps, out)
-        }
-        Cmd::Reach { file, pid } => {
+        Query::Ext { pid, addr } => {
             let pid = pid.as_bytes();
-            run_report(alloc, &Reach { file, pid }, limits, dumps, out)
+            run_report(alloc, file, &Ext { pid, addr }, limits, dumps, out)
         }
-        Cmd::Cells { file, pid } => {
+        Query::Reach { pid } => {
             let pid = pid.as_bytes();
-            run_report(alloc, &Cells { file, pid }, limits, dumps, out)
+            run_report(alloc, file, &Reach { pid }, limits, dumps, out)
         }
-        Cmd::Binary { file, addr } => {
-            run_report(alloc, &Binary { file, addr }, limits, dumps, out)
+        Query::Cells { pid } => {
+            let pid = pid.as_bytes();
+            run_report(alloc, file, &Cells { pid }, limits, dumps, out)
         }
-        Cmd::Binaries { file } => run_report(alloc, &Binaries { file }, limits, dumps, out),
-        Cmd::Holders { file, addr } => {
-            run_report(alloc, &Holders { file, addr }, limits, dumps, out)
+        Query::Binary { addr } => { run_report(alloc, file, &Binary { addr }, limits, dumps, out) }
+        Query::Binaries => run_report(alloc, file, &Binaries, limits, dumps, out),
+        Query::Holders { addr } => {
+            run_report(alloc, file, &Holders { addr }, limits, dumps, out)
         }
-        Cmd::Triage { file, count } => {
-            run_report(alloc, &Triage { file, count }, limits, dumps, out)
+        Query::Triage { count } => {
+            run_report(alloc, file, &Triage { count }, limits, dumps, out)
         }
-        Cmd::Links { file } => run_report(alloc, &Links { file }, limits, dumps, out),
-        Cmd::Redact { file } => run_redact(alloc, file, limits, dumps, out),
-        Cmd::Audit { file, limit, full } => {
-            let audit = Audit { file, limit, full };
-            run_report(alloc, &audit, limits, dumps, out)
+        Query::Links => run_report(alloc, file, &Links, limits, dumps, out),
+        Query::Redact => run_redact(alloc, file, limits, dumps, out),
+        Query::Audit { limit, full } => {
+            run_report(alloc, file, &Audit { limit, full }, limits, dumps, out)
         }
-        Cmd::AuditJson { file, limit, full } => {
-            let audit = AuditJson { file, limit, full };
-            run_report(alloc, &audit, limits, dumps, out)
+        Query::AuditJson { limit, full } => {
+            run_report(alloc, file, &AuditJson { limit, full }, limits, dumps, out)
         }
-        Cmd::Make { seed, count } => run_make(alloc, seed, count, out),
-        Cmd::Trial { seed, count } => run_trial(alloc, seed, count, out),
     }
 }

@@ -1,5 +1,5 @@
 //! The commands of edump: running them from a device to two sinks. Their words are
-//! those of command_words, whose [`Cmd`] and [`read_words`] are re-exported here.
+//! those of command_words, whose [`Cmd`], [`Query`] and [`read_words`] are re-exported here.
 //!
 //! ```
 //! let mut dumps = FileDumps::new(&rt);
@@ -15,13 +15,11 @@
 
 mod commands;
 mod ending;
-mod laws;
 mod open;
 mod report;
 mod runner;
 pub mod status;
 mod stop;
 
-pub use command_words::{Cmd, read_words};
-pub use laws::{audits_read_back, findings_stay, heaps_stay, trees_stay};
+pub use command_words::{Cmd, Query, read_words};
 pub use runner::run;

@@ -33,6 +33,9 @@ use std::alloc::Global;
 /// end, if it tells only these. If they are told, nothing of the command on them is refused and
 /// nothing failed, the status is 3 for an audit with a finding and otherwise 0, or it is 6.
 ///
+/// The files of `dumps` stay the same, and its count of faults doesn't fall. If it tells its
+/// files and none has that name, nothing is taken from it, and no file is open at the end.
+///
 /// A command that opens no file, such as `make`, reports on no
 /// bytes and leaves `dumps` as it is; it ends with 0, 5 or 6.
 pub fn run<D: Dumps, K: Sink, E: Sink>(

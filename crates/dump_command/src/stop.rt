@@ -1,12 +1,12 @@
 // Why a command ended without its whole report.
 ghost use Rattle.std.specs.Prelude.{◌≡◌};
-ghost use Rattle.dump_command.specs.Inner.Stops.{or_stop, stop_of_opening, stop_of_body, stop_of_heap, stop_of_previews, stop_of_holders, stop_of_redact, stop_of_json};
+ghost use Rattle.dump_command.specs.Inner.Stops.{or_stop, stop_of_opening, stop_of_body, stop_of_large, stop_of_heap, stop_of_previews, stop_of_holders, stop_of_redact, stop_of_json};
 
 use binary_holders::HolderFault;
 use binary_refs::PreviewFault;
 use dump_io::Failed;
 use dump_redact::RedactFault;
-use dump_sections::BodyFault;
+use dump_sections::{BodyFault, LargeSection};
 use heap_cells::HeapFault;
 use json_report::JsonFault;
 use report_text::Refusal;
@@ -49,6 +49,15 @@ impl From<BodyFault> for Stop {
                 Stop::Refused(Refusal::SectionTooLarge { at, len })
             }
         }
+    }
+}
+
+impl From<LargeSection> for Stop {
+    ghost from_gives = { λ large stop. stop ≡ stop_of_large large };
+
+    fn from(large: LargeSection) -> Stop {
+        let LargeSection { at, len } = large;
+        Stop::Refused(Refusal::SectionTooLarge { at, len })
     }
 }
 

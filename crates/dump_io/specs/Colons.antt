@@ -27,4 +27,5 @@ after_colon text = after_first is_colon text
 -- the parts before and after the first colon, or `None` if the text has no colon
 abbrev pub SplitsAtColon : List ℕ → Option (Bor (List ℕ) × Bor (List ℕ)) → Type 0
 SplitsAtColon text None = (has_colon text ≡ false) × (before_colon text ≡ text)
-SplitsAtColon text (Some parts) = (has_colon text ≡ true) × (parts.0.now ≡ before_colon text) × (parts.1.now ≡ after_colon text)
+SplitsAtColon text (Some parts) =
+    (has_colon text ≡ true) × (parts.0.now ≡ before_colon text) × (parts.1.now ≡ after_colon text)

@@ -2,10 +2,10 @@
 use Rattle.std.specs.Prelude.{ℕ, ◌^◌, ◌<◌}
 use Rattle.dump_io.specs.declared.count.Count.{Count}
 
--- its current number
+-- the current number of a count
 abbrev pub number_in : Count → ℕ
 number_in count = count.number
 
--- it is a number of 64 bits
+-- that number has 64 bits
 pub number_in-small : (count : Count) → number_in count < 2 ^ 64
 number_in-small count = count.small

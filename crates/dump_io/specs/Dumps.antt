@@ -1,5 +1,5 @@
 -- What a device of dumps holds, and what a call does to it.
-use Rattle.std.specs.Prelude.{◌≡◌, ◌⊎◌, ℕ, ◌+◌, ◌≤◌, List, length, take, drop, Option, None, Some, Result, MatchResult, OnErr, OnOk, IfOk}
+use Rattle.std.specs.Prelude.{◌≡◌, ◌⊎◌, ℕ, ◌+◌, ◌-◌, ◌≤◌, List, length, min, take, drop, Option, None, Some, Result, MatchResult, OnErr, OnOk, IfOk}
 use Rattle.std.specs.Option.{option_map_or}
 use Rattle.dump_io.specs.Counts.{Rose, plus_capped}
 
@@ -38,11 +38,15 @@ abbrev pub IsAbsent : Option Files → List ℕ → Type 0
 IsAbsent None name = ⊥
 IsAbsent (Some files) name = files name ≡ None
 
--- these are the bytes of what is open from this offset on, if the device tells them
+-- what is open has these bytes from this offset on, if the device tells its bytes
 abbrev pub Gives : Now → ℕ → List ℕ → Type 0
 Gives closed at bytes = ⊥
 Gives (told all) at bytes = bytes ≡ take (length bytes) (drop at all)
 Gives (sized size) at bytes = Unit {0}
+
+-- the bytes of what is open have this property, if the device tells them
+abbrev pub IfTold : Now → (List ℕ → Type 0) → Type 0
+IfTold now Holds = (bytes : List ℕ) → now ≡ told bytes → Holds bytes
 
 -- a read at this offset gave the first n bytes of the buffer
 pub record Reads (now : Now) (at : ℕ) (buffer : List ℕ) (n : ℕ) : Type 0 where
@@ -66,6 +70,14 @@ pub record DeviceState : Type 0 where
 abbrev pub DeviceFailed : DeviceState → DeviceState → Type 0
 DeviceFailed before after = Rose before.faults after.faults
 
+-- the device gave this many bytes
+abbrev pub Took : DeviceState → DeviceState → ℕ → Type 0
+Took before after n = after.taken ≡ plus_capped before.taken n
+
+-- the most bytes that a read at this offset may give into a buffer
+abbrev pub most_at : Now → ℕ → List ℕ → ℕ
+most_at now at buffer = min (size_of now - at) (length buffer)
+
 -- what a call that opens a file by its name does: on `Ok` the file with that name is open and its size is returned;
 -- on `Err` none is open, and the count of faults rose, or the device tells its files and none has that name
 pub record Opens {E : Type 0} (before after : DeviceState) (name : List ℕ) (result : Result ℕ E) : Type 0 where
@@ -85,7 +97,7 @@ pub record ReadsSome {E : Type 0} (before after : DeviceState) (at : ℕ) (buffe
   pub later : before.faults ≤ after.faults
   pub failed : OnErr result (DeviceFailed before after)
   pub read : IfOk result (Reads before.now at buffer)
-  pub taken : MatchResult result (λ n. after.taken ≡ plus_capped before.taken n) (λ _. after.taken ≡ before.taken)
+  pub taken : MatchResult result (Took before after) (λ _. after.taken ≡ before.taken)
 
 -- what each call that reads at most this many bytes of what is open does: the
 -- files and what is open stay the same, and the count of faults doesn't fall

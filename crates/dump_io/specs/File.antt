@@ -7,7 +7,7 @@ use Rattle.std.proofs.Common.{lit<}
 use Rattle.dump_io.specs.declared.file.DumpFile.{DumpFile}
 use Rattle.dump_io.specs.Dumps.{Files, opened, size_of}
 
--- a file's name, and its bytes
+-- the name of the file
 abbrev pub name_of : DumpFile → List ℕ
 name_of file = string_bytes file.name
 

@@ -15,6 +15,11 @@ file_of device = device.file
 abbrev pub now_of : HeldDump → Now
 now_of device = opened (option_map bytes_of (if device.is_open then Some device.file else None))
 
--- its state: it tells its file, and never fails
+-- the state of a device that holds one file: it tells the file, and never fails
 abbrev pub state_of : HeldDump → DeviceState
-state_of device = record { files = Some (find_file (device.file ∷ [])); now = now_of device; faults = 0; taken = number_in device.taken }
+state_of device = record {
+  files = Some (find_file (device.file ∷ []));
+  now = now_of device;
+  faults = 0;
+  taken = number_in device.taken;
+}

@@ -4,5 +4,7 @@ pub mod Digits
 pub mod HexNumbers
 pub mod Lines
 pub mod Lists
+pub mod Options
 pub mod Puts
 pub mod Reads
+pub mod Texts

@@ -3,6 +3,7 @@ pub mod Colons
 pub mod Count
 pub mod Counts
 pub mod Dumps
+pub mod Faults
 pub mod File
 pub mod HeldDump
 pub mod Laws

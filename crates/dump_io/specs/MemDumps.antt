@@ -1,7 +1,8 @@
 -- A device whose files are in memory.
-use Rattle.std.specs.Prelude.{◌≡◌, ℕ, ◌%◌, ◌==◌, Bool, List, [], ◌∷◌, Option, Some, length, min, max, slice_get, slice_index}
+use Rattle.std.specs.Prelude.{◌≡◌, ℕ, ◌%◌, ◌==◌, Bool, List, [], ◌∷◌, Option, None, Some, length, min, max, slice_get, slice_index, if◌then◌else◌}
 use Rattle.std.specs.List.{list_any}
 use Rattle.std.specs.Option.{option_map, option_and_then}
+use Rattle.std.specs.Str.{bytes_eq}
 use Rattle.dump_io.specs.declared.file.DumpFile.{DumpFile}
 use Rattle.dump_io.specs.declared.mem_dumps.MemDumps.{MemDumps}
 use Rattle.dump_io.specs.Count.{number_in}
@@ -28,9 +29,14 @@ calls_of device = number_in device.calls
 abbrev pub reads_of : MemDumps → ℕ
 reads_of device = number_in device.reads
 
--- its state
+-- the state of a device in memory, which tells its files
 abbrev pub state_of : MemDumps → DeviceState
-state_of device = record { files = Some (files_of device); now = now_of device; faults = number_in device.faults; taken = number_in device.taken }
+state_of device = record {
+  files = Some (files_of device);
+  now = now_of device;
+  faults = number_in device.faults;
+  taken = number_in device.taken;
+}
 
 -- the numbers of the calls that fail
 abbrev pub fails_of : MemDumps → List ℕ
@@ -49,7 +55,15 @@ abbrev pub cut_at : List ℕ → ℕ → ℕ → ℕ
 cut_at [] k most = most
 cut_at (cut ∷ cuts) k most = min most (max 1 (slice_index (cut ∷ cuts) (k % length (cut ∷ cuts))))
 
--- nothing has been called yet, no file is open, and these are the cuts and the numbers of the calls that fail
+-- how many bytes the next read of a device gives, if it may give `most`
+abbrev pub next_cut : MemDumps → ℕ → ℕ
+next_cut device most = cut_at (cuts_of device) (reads_of device) most
+
+-- the device has a file with this name and these bytes, and no other
+abbrev pub HoldsFile : List ℕ → List ℕ → MemDumps → Type 0
+HoldsFile name bytes device = (asked : List ℕ) → files_of device asked ≡ (if bytes_eq name asked then Some bytes else None)
+
+-- nothing was called yet, no file is open, and these are the cuts and the numbers of the calls that fail
 pub record IsUnused (cuts fails : List ℕ) (device : MemDumps) : Type 0 where
   pub cut : cuts_of device ≡ cuts
   pub failing : fails_of device ≡ fails

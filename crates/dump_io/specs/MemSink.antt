@@ -18,7 +18,7 @@ pub record MemState : Type 0 where
   -- how often the sink has failed
   pub faults : ℕ
 
--- what it is as a sink
+-- a sink in memory as a sink: it tells what was written
 abbrev pub state_of : MemState → SinkState
 state_of sink = record { written = Some sink.written; faults = sink.faults }
 

@@ -1,7 +1,7 @@
 // A device that holds one file and never fails.
 ghost use Rattle.std.specs.Prelude.{◌≡◌, ◌-◌, ◌<◌, length, min, None, Some, IfOk, if◌then◌else◌};
 ghost use Rattle.dump_io.specs.Count.{number_in-small};
-ghost use Rattle.dump_io.specs.Dumps.{closed, size_of, ReadsSome};
+ghost use Rattle.dump_io.specs.Dumps.{closed, size_of, most_at, ReadsSome};
 ghost use Rattle.dump_io.specs.File.{opened-small};
 ghost use Rattle.dump_io.specs.HeldDump.{file_of, now_of, state_of};
 
@@ -53,7 +53,7 @@ impl Dumps for HeldDump {
         requires room { 0 < length into.old }
         ensures reads { ReadsSome (state_of self.old) (state_of self.new) at into.new result }
 
-        ensures uncut { IfOk result (λ n. n ≡ min (size_of (now_of self.old) - at) (length into.old)) }
+        ensures uncut { IfOk result (λ n. n ≡ most_at (now_of self.old) at into.old) }
     {
         let rest = &self.file.bytes.as_slice()[at as usize..];
         let n = rest.len().min(into.len());

@@ -74,8 +74,14 @@ impl Limits {
         section: u32,
         dense: u32,
     ) -> Option<Limits>
-        ensures { let numbers : Numbers = record { dump = dump; header = header; sections = sections; pool = pool; section = section; dense = dense } in
-            SomeIff result (AreAllowed numbers) numbers }
+        ensures { let numbers : Numbers = record {
+          dump = dump;
+          header = header;
+          sections = sections;
+          pool = pool;
+          section = section;
+          dense = dense;
+        } in SomeIff result (AreAllowed numbers) numbers }
     {
         let allowed = dump <= DUMP
             && header <= HEADER

@@ -29,7 +29,8 @@ pub fn line_len(bytes: &[u8]) -> usize
     requires { 0 < length bytes.now }
     ensures some { 0 < result }
     ensures within { result ≤ length bytes.now }
-    ensures first { raw_lines bytes.now ≡ take result bytes.now ∷ raw_lines (drop result bytes.now) }
+    ensures first { raw_lines bytes.now ≡ take result bytes.now ∷ raw_lines
+        (drop result bytes.now) }
 {
     match memchr(b'\n', bytes) {
         Some(lf) => lf + 1,
@@ -43,7 +44,10 @@ pub fn line_len(bytes: &[u8]) -> usize
 /// by any bytes, is the first of their lines, and a line by itself is its own only line.
 pub fn lines_are_one()
     ensures divides { (bytes : List ℕ) → AreLines bytes (raw_lines bytes) }
-    ensures only { (bytes : List ℕ) (lines : List (List ℕ)) → AreLines bytes lines → lines ≡ raw_lines bytes }
-    ensures first { (line more : List ℕ) → 0 < length line → HasLfLast line → IsEnded line → raw_lines (line ++ more) ≡ line ∷ raw_lines more }
-    ensures alone { (line : List ℕ) → 0 < length line → HasLfLast line → raw_lines line ≡ line ∷ [] }
+    ensures only { (bytes : List ℕ) (lines : List (List ℕ)) → AreLines bytes lines
+        → lines ≡ raw_lines bytes }
+    ensures first { (line more : List ℕ) → 0 < length line → HasLfLast line → IsEnded line
+        → raw_lines (line ++ more) ≡ line ∷ raw_lines more }
+    ensures alone { (line : List ℕ) → 0 < length line → HasLfLast line
+        → raw_lines line ≡ line ∷ [] }
 {}

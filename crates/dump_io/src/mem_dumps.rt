@@ -3,10 +3,10 @@ ghost use Rattle.std.specs.Prelude.{◌≡◌, ℕ, ◌-◌, ◌<◌, ◌≤◌,
 ghost use Rattle.std.specs.Option.{option_and_then, option_copied};
 ghost use Rattle.std.specs.Str.{bytes_eq};
 ghost use Rattle.dump_io.specs.Count.{number_in-small};
-ghost use Rattle.dump_io.specs.Counts.{plus_capped};
-ghost use Rattle.dump_io.specs.Dumps.{closed, opened, size_of, Opens, ReadsSome};
+ghost use Rattle.dump_io.specs.Counts.{plus_capped, risen_if};
+ghost use Rattle.dump_io.specs.Dumps.{closed, opened, size_of, most_at, Opens, ReadsSome};
 ghost use Rattle.dump_io.specs.File.{find_file, opened-small};
-ghost use Rattle.dump_io.specs.MemDumps.{IsUnused, bytes_at, cut_at, files_of, now_of, calls_of, reads_of, state_of, fails_of, cuts_of, is_failing};
+ghost use Rattle.dump_io.specs.MemDumps.{IsUnused, HoldsFile, bytes_at, cut_at, next_cut, files_of, now_of, calls_of, reads_of, state_of, fails_of, cuts_of, is_failing};
 
 use crate::count::Count;
 use crate::dumps::{Dumps, Failed};
@@ -57,7 +57,7 @@ impl MemDumps {
         cuts: &[usize],
         fails: &[u64],
     ) -> Result<MemDumps, AllocError>
-        ensures file { IfOk result (λ device. (asked : List ℕ) → files_of device asked ≡ (if bytes_eq name.now asked then Some bytes.now else None)) }
+        ensures file { IfOk result (HoldsFile name.now bytes.now) }
         ensures unused { IfOk result (IsUnused cuts.now fails.now) }
     {
         let file = DumpFile::new(
@@ -129,8 +129,10 @@ impl Dumps for MemDumps {
         ensures reads { reads_of self.new ≡ reads_of self.old }
         ensures cuts { cuts_of self.new ≡ cuts_of self.old }
         ensures fails { fails_of self.new ≡ fails_of self.old }
-        ensures count { (state_of self.new).faults ≡ (if is_failing self.new then plus_capped (state_of self.old).faults 1 else (state_of self.old).faults) }
-        ensures now { now_of self.new ≡ (if is_failing self.new then closed else opened (files_of self.old name.now)) }
+        ensures count { (state_of self.new).faults ≡ risen_if (is_failing self.new)
+            (state_of self.old).faults }
+        ensures now { now_of self.new
+            ≡ (if is_failing self.new then closed else opened (files_of self.old name.now)) }
     {
         self.place = None;
         self.calls.rise();
@@ -151,12 +153,14 @@ impl Dumps for MemDumps {
         ensures reads_some { ReadsSome (state_of self.old) (state_of self.new) at into.new result }
 
         ensures number { calls_of self.new ≡ plus_capped (calls_of self.old) 1 }
-        ensures reads { reads_of self.new ≡ (if is_ok result then plus_capped (reads_of self.old) 1 else reads_of self.old) }
+        ensures reads { reads_of self.new ≡ risen_if (is_ok result) (reads_of self.old) }
         ensures cuts { cuts_of self.new ≡ cuts_of self.old }
         ensures fails { fails_of self.new ≡ fails_of self.old }
-        ensures count { (state_of self.new).faults ≡ (if is_failing self.new then plus_capped (state_of self.old).faults 1 else (state_of self.old).faults) }
+        ensures count { (state_of self.new).faults ≡ risen_if (is_failing self.new)
+            (state_of self.old).faults }
         ensures failing { is_err result ≡ is_failing self.new }
-        ensures cut { IfOk result (λ n. n ≡ cut_at (cuts_of self.old) (reads_of self.old) (min (size_of (now_of self.old) - at) (length into.old))) }
+        ensures cut { IfOk result (λ n. n ≡ next_cut self.old
+            (most_at (now_of self.old) at into.old)) }
     {
         self.calls.rise();
         if self.fails.contains(&self.calls.number()) {

@@ -1,6 +1,6 @@
 // A sink in memory, which can take small steps and fail.
 ghost use Rattle.std.specs.Prelude.{◌≡◌, ◌<◌, true, [], length, is_err, not, IsErr, IfOk, ◌&&◌, if◌then◌else◌};
-ghost use Rattle.dump_io.specs.Counts.{plus_capped};
+ghost use Rattle.dump_io.specs.Counts.{plus_capped, risen_if};
 ghost use Rattle.dump_io.specs.Sinks.{TakesSome};
 ghost use Rattle.dump_io.specs.MemSink.{state_of, is_failing, taken_by};
 
@@ -88,8 +88,9 @@ impl Sink for MemSink {
         ensures step { self.new.step ≡ self.old.step }
         ensures fails { self.new.fails ≡ self.old.fails }
         ensures failing { is_failing self.new ≡ true → IsErr result }
-        ensures lacked { self.new.lacked ≡ (if is_err result && not (is_failing self.new) then plus_capped self.old.lacked 1 else self.old.lacked) }
-        ensures count { self.new.faults ≡ (if is_err result then plus_capped self.old.faults 1 else self.old.faults) }
+        ensures lacked { self.new.lacked ≡ risen_if (is_err result && not
+            (is_failing self.new)) self.old.lacked }
+        ensures count { self.new.faults ≡ risen_if (is_err result) self.old.faults }
         ensures takes { IfOk result (λ n. n ≡ taken_by self.old.step (length piece.now)) }
     {
         self.writes.rise();

@@ -1,7 +1,6 @@
 // Reads that fill a buffer.
 ghost use Rattle.std.specs.Prelude.{◌≡◌, ◌+◌, ◌≤◌, length, OnOk, OnErr};
-ghost use Rattle.dump_io.specs.Counts.{plus_capped};
-ghost use Rattle.dump_io.specs.Dumps.{size_of, IsOpen, Gives, DeviceFailed, ReadsAtMost};
+ghost use Rattle.dump_io.specs.Dumps.{size_of, IsOpen, Gives, DeviceFailed, Took, ReadsAtMost};
 
 use crate::dumps::{Dumps, Failed};
 
@@ -14,7 +13,7 @@ pub fn read_full<D: Dumps>(dumps: &mut D, at: u64, into: &mut [u8]) -> Result<()
     ensures reads { ReadsAtMost (D.state dumps.old) (D.state dumps.new) (length into.old) }
     ensures failed { OnErr result (DeviceFailed (D.state dumps.old) (D.state dumps.new)) }
     ensures filled { OnOk result (Gives (D.state dumps.old).now at into.new) }
-    ensures taken { OnOk result ((D.state dumps.new).taken ≡ plus_capped (D.state dumps.old).taken (length into.old)) }
+    ensures taken { OnOk result (Took (D.state dumps.old) (D.state dumps.new) (length into.old)) }
 {
     let mut done = 0;
     while done < into.len() {

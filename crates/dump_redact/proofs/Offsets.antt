@@ -30,6 +30,8 @@ use Rattle.dump_redact.specs.Redacted.{is_heap_tag, redacted, part_of}
 use Rattle.dump_redact.proofs.Alike.{keeps-length}
 use Rattle.dump_redact.proofs.Sections.{redacts-sections, keeps-others}
 use Rattle.dump_redact.proofs.Stretches.{between-join}
+use Rattle.dump_io.specs.Laws.Lists.{All-at, drop-at}
+use Rattle.dump_sections.specs.Laws.{length-sections_of}
 
 abbrev fault_of : Section → RedactFault
 fault_of s = SectionTooLarge s.at (body_length s)
@@ -50,14 +52,6 @@ one-more limit s sections = by (is_heap_tag (tag_of s.text)) (nat_lt limit (body
     by false more h = refl
     by true true h = ap (λ b. option_map fault_of (cond b (Some s) (first_large limit heaps))) h
     by true false h = ap (λ b. option_map fault_of (cond b (Some s) (first_large limit heaps))) h
-
--- the sections from a place on
-pub drop-at : (sections : List Section) (i : ℕ) (s : Section) → slice_get sections i ≡ Some s → drop i sections ≡ s ∷ drop (i + 1) sections
-drop-at [] i s is = cc
-drop-at (first ∷ sections) zero s is = let same : first ≡ s = cc in ap (λ x. x ∷ sections) same
-drop-at (first ∷ sections) (suc i) s is =
-    let place : suc i + 1 ≡ suc (i + 1) = omega arith in
-    drop-at sections i s is ∙ ap (λ n. s ∷ drop n (first ∷ sections)) (sym place)
 
 -- the section at a place is refused, or those behind it decide
 module _ (limit : ℕ) (sections : List Section) (i : ℕ) (s : Section) (is : slice_get sections i ≡ Some s) where
@@ -133,9 +127,6 @@ index-sections dump index of = ap (λ hs. sections_of hs index.size) of.headers 
 pub index-enc : (dump : List ℕ) (index : Contents) → IsIndexOf dump index → enc_of (index_of dump).version ≡ enc_of index.version
 index-enc dump index of = ap (λ o. enc_of (unwrap_or o V05)) of.version
 
-All-at : {X : Type 0} (P : X → Type 0) (xs : List X) (i : ℕ) (x : X) → All P xs → slice_get xs i ≡ Some x → P x
-All-at P xs i x all is = subst P (get_or_from_slice_get xs i x x is) (all i x (slice_get_within xs i x is))
-
 -- the section at a place is redacted by itself
 pub section-redacted : (dump : List ℕ) (index : Contents) (i : ℕ) (s : Section) → IsIndexOf dump index → slice_get (sections_in index) i ≡ Some s
     → IsRedacted (enc_of index.version) dump (redacted dump) s
@@ -193,13 +184,9 @@ ordered (header ∷ heads) size from zero s tile is =
     subst (λ (x : Section). (x.at < x.body) × (x.body ≤ x.end)) same (tile.1, tile.2)
 ordered (header ∷ heads) size from (suc i) s tile is = ordered heads size (next_at (slice_get heads 0) size) i s tile.3 is
 
-count-sections : (heads : List Header) (size : ℕ) → length (sections_of heads size) ≡ length heads
-count-sections [] size = refl
-count-sections (header ∷ heads) size = ap suc (count-sections heads size)
-
 -- the section at a place is one of the list
 pub place-in : (index : Contents) (i : ℕ) → i < length index.headers → slice_get (sections_in index) i ≡ Some (section_at index i)
-place-in index i inside = place-at index i (omega (arith, inside, count-sections index.headers index.size))
+place-in index i inside = place-at index i (omega (arith, inside, length-sections_of index.headers index.size))
 
 -- where it begins, and where it ends
 pub at-offset : (index : Contents) (i : ℕ) → i < length index.headers → (section_at index i).at ≡ offset_of index i

@@ -10,7 +10,7 @@ use Rattle.memchr.specs.Find.{Passes, is_byte, Nowhere}
 use borrow.Rule.Slice.PartMut.{put_mid, mid_of, same_len_mid}
 use Rattle.dump_io.specs.Lines.{raw_lines, text_of, lf, lines_after, IsEnded}
 use Rattle.binary_payloads.specs.declared.enc.Enc.{Enc}
-use Rattle.dump_io.specs.Laws.Lines.{AreLines-raw}
+use Rattle.dump_io.specs.Laws.Lines.{AreLines-raw, IsEnded-tail}
 use Rattle.dump_io.specs.Laws.Reads.{take-two}
 use Rattle.dump_redact.specs.Inner.Places.{AreMarksFrom}
 use Rattle.dump_redact.specs.declared.parts.Part.TheVariants.{Heap}
@@ -138,11 +138,6 @@ some-lines c bytes = by (c == lf) (raw_lines bytes)
     by false [] = omega arith
     by false (line ∷ lines) = omega arith
 
-last-byte : (c d : ℕ) (bytes : List ℕ) → IsEnded (c ∷ d ∷ bytes) → IsEnded (d ∷ bytes)
-last-byte c d bytes ended =
-    let e : length (c ∷ d ∷ bytes) - 1 ≡ suc (length (d ∷ bytes) - 1) = omega arith in
-    sym (ap (λ n. slice_index (c ∷ d ∷ bytes) n) e) ∙ ended
-
 lines-front : (front rest : List ℕ) → (0 < length front → IsEnded front) → raw_lines (front ++ rest) ≡ raw_lines front ++ raw_lines rest
 lines-front [] rest ended = refl
 lines-front (c ∷ []) rest ended =
@@ -152,7 +147,7 @@ lines-front (c ∷ []) rest ended =
 lines-front (c ∷ d ∷ front) rest ended =
     let lines = raw_lines (d ∷ front) in
     let more = raw_lines rest in
-    let again : raw_lines ((d ∷ front) ++ rest) ≡ lines ++ more = lines-front (d ∷ front) rest (λ some. last-byte c d front (ended (omega arith))) in
+    let again : raw_lines ((d ∷ front) ++ rest) ≡ lines ++ more = lines-front (d ∷ front) rest (λ some. IsEnded-tail c d front (ended (omega arith))) in
     ap (λ ls. if c == lf then (c ∷ []) ∷ ls else lines_after c ls) again
     ∙ elim (c == lf) as (λ b. (if b then (c ∷ []) ∷ (lines ++ more) else lines_after c (lines ++ more)) ≡ (if b then (c ∷ []) ∷ lines else lines_after c lines) ++ more)
     [ true ↦ refl | false ↦ after-append c lines more (some-lines d front) ]

@@ -13,9 +13,9 @@ use std::alloc::{AllocError, Global};
 // The most bytes in a piece.
 const PIECE: usize = 65_536;
 
-// A buffer for a piece.
+// A buffer for a piece of at most 65,536 bytes.
 pub(crate) fn make_buffer(alloc: Global) -> Result<Vec<u8>, AllocError>
-    ensures { IfOk result (λ buffer. length buffer.items ≡ PIECE) }
+    ensures { IfOk result (λ buffer. length buffer.items ≡ 65536) }
 {
     vec![in alloc; 0u8; PIECE]
 }

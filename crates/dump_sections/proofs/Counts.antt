@@ -7,18 +7,12 @@ use Rattle.std.proofs.lemmas.Bool.{false≢true, false_from_ne_true, not-true}
 use Rattle.std.proofs.lemmas.List.{take_more, length-map, map-append}
 use Rattle.std.proofs.lemmas.List.Sums.{count_by-le-length, sum_by-cons, sum_by_push}
 use Rattle.std.proofs.lemmas.Option.{get_or_from_slice_get, slice_get_within, slice_get-map, none-some}
-use Rattle.std.proofs.lemmas.Slice.Eq.{bytes_eq-Decides}
 use Rattle.std.proofs.lemmas.List.Elements.{All-filter, All-map, All-weaker, filter_passes}
 use Rattle.dump_sections.specs.declared.tags.TagCount.{TagCount}
 use Rattle.dump_sections.specs.Tags.{distinct, tag_counts}
 use Rattle.dump_sections.specs.Inner.Counting.{counts_of, one_more, place_in, AreApart}
 use Rattle.dump_io.specs.Laws.Lists.{All-at}
-
-bytes_eq-refl : (x : List ℕ) → bytes_eq x x ≡ true
-bytes_eq-refl x = (bytes_eq-Decides x x).1 refl
-
-bytes_eq-same : (x y : List ℕ) → bytes_eq x y ≡ true → x ≡ y
-bytes_eq-same x y e = (bytes_eq-Decides x y).0 e
+use Rattle.dump_io.specs.Laws.Texts.{bytes_eq-refl, bytes_eq-same}
 
 bytes_eq-swap : (x y : List ℕ) → bytes_eq x y ≡ false → bytes_eq y x ≡ false
 bytes_eq-swap x y e = false_from_ne_true (bytes_eq y x) (λ same. false≢true (sym e ∙ ap (bytes_eq x) (bytes_eq-same y x same) ∙ bytes_eq-refl x))

@@ -1,4 +1,4 @@
--- The sections of a front of a dump.
+-- The sections of the first bytes of a dump.
 use Rattle.std.proofs.Common.{◌≡◌, ℕ, zero, suc, ◌+◌, ◌-◌, ◌<◌, ◌≤◌, true, false, cond, List, [], ◌∷◌, length, take, map, filter, count_by, nat_lt, if◌then◌else◌, refl, sym, ◌∙◌, ap, subst, slice_get, ⊎_elim, arith}
 use Rattle.std.specs.Prelude.{All}
 use Rattle.std.proofs.lemmas.Bool.{lt-ltb, le-ltb, cases_lt}
@@ -11,7 +11,7 @@ use Rattle.dump_sections.specs.Cuts.{AreCutSections}
 use Rattle.dump_sections.specs.Sections.{Section, section, sections_of, next_at, sections}
 use Rattle.dump_sections.specs.TilingLaws.{line_at, headers_in, is_header-first}
 
--- the lines of a front of so many bytes
+-- the lines of the first so many bytes
 abbrev pub cut_lines : ℕ → List (List ℕ) → List (List ℕ)
 cut_lines n [] = []
 cut_lines n (line ∷ lines) =
@@ -22,7 +22,7 @@ cut_lines-zero : (lines : List (List ℕ)) → cut_lines 0 lines ≡ []
 cut_lines-zero [] = refl
 cut_lines-zero (line ∷ lines) = ap (λ b. if b then line ∷ cut_lines (0 - length line) lines else []) (le-ltb (length line) 0 (omega arith))
 
--- a front that ends behind the first line, and one that ends within it
+-- first bytes that end behind the first line, and such that end within it
 cut_lines-past : (n : ℕ) (line : List ℕ) (lines : List (List ℕ)) → length line < n → cut_lines n (line ∷ lines) ≡ line ∷ cut_lines (n - length line) lines
 cut_lines-past n line lines past =
     ap (λ b. if b then line ∷ cut_lines (n - length line) lines else (if nat_lt 0 n then take n line ∷ [] else [])) (lt-ltb (length line) n past)
@@ -35,7 +35,7 @@ raw_lines-take zero bytes = sym (cut_lines-zero (raw_lines bytes))
 raw_lines-take (suc n) [] = refl
 raw_lines-take (suc n) (c ∷ bytes) = grind (arith, raw_lines-take n bytes)
 
--- the headers of a front of m bytes, beside those of the whole
+-- the headers of the first m bytes, beside those of the whole
 abbrev AreCutHeaders : ℕ → List Header → List Header → Type 0
 AreCutHeaders m [] [] = Unit {0}
 AreCutHeaders m [] (header ∷ whole) = (m ≤ header.at) × AreCutHeaders m [] whole
@@ -56,7 +56,7 @@ headers-behind at m (raw ∷ raws) behind =
     elim (is_header raw) as (λ b. AreCutHeaders m [] (map header_of (if b then line_at at raw ∷ filter (λ l. is_header l.raw) more else filter (λ l. is_header l.raw) more)))
     [ true ↦ (behind, rest) | false ↦ rest ]
 
--- a front that ends within the first line keeps that line's header
+-- first bytes that end within the first line keep that line's header
 inside-cut : (at n c : ℕ) (line : List ℕ) (raws : List (List ℕ)) → suc n ≤ suc (length line)
     → AreCutHeaders (at + suc n) (headers_in (line_at at (c ∷ take n line) ∷ [])) (headers_in (lines_from at ((c ∷ line) ∷ raws)))
 inside-cut at n c line raws inside =
@@ -143,7 +143,7 @@ AreCut-headers m n (head ∷ next ∷ front) (header ∷ other ∷ whole) are =
       places = ap (λ (h : Header). h.at ∷ map (λ (s : Section). s.at) cut) are.0 ∙ ap (λ l. header.at ∷ l) rest.places;
     }
 
--- a front no longer than the whole
+-- first bytes that are no more than all
 sections_within : (bytes : List ℕ) (n : ℕ) → n ≤ length bytes → AreCutSections (sections (take n bytes)) (sections bytes) (length (take n bytes))
 sections_within bytes n inside =
     let raws = raw_lines bytes in

@@ -11,7 +11,7 @@ use Rattle.dump_sections.specs.Sections.{Section, section}
 abbrev pub at_place : List Section → ℕ → Section
 at_place sections i = unwrap_or (slice_get sections i) (section 0 0 0 [])
 
--- the same in an index
+-- the section at a place of an index
 abbrev pub section_at : Contents → ℕ → Section
 section_at index i = at_place (sections_in index) i
 
@@ -35,7 +35,7 @@ body_size found = option_map_or body_length found 0
 abbrev pub body_in : List ℕ → Option Section → List ℕ
 body_in dump found = option_map_or (body_of dump) found []
 
--- these are the bytes of the body, if the device tells the bytes of what is open
+-- the body of a section that may be missing has these bytes, if the device tells the bytes of what is open
 abbrev pub IsBodyIn : Now → Option Section → List ℕ → Type 0
 IsBodyIn closed found bytes = ⊥
 IsBodyIn (told dump) found bytes = bytes ≡ body_in dump found

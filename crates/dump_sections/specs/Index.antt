@@ -28,8 +28,8 @@ pub record HasShortLine (header : Header) : Type 0 where
   pub text : header.at + length header.text ≤ header.body
   pub short : header.body ≤ header.at + usual.header + 1
 
--- there is a section, there are no more sections and bytes than the usual limits
--- allow, no header's line is too long, and the sections tile the whole dump
+-- what holds of every index: there is a section, the sections and the bytes are within the
+-- usual limits, as is each header's line, and the sections tile the whole dump
 pub record AreBounded (index : Contents) : Type 0 where
   pub some : 1 ≤ length index.headers
   pub sections : length index.headers ≤ usual.sections

@@ -10,6 +10,7 @@ use Rattle.dump_sections.specs.Index.{Contents, IsIndexOf, index_of}
 use Rattle.dump_sections.specs.Lookups.{has_tag, is_named}
 use Rattle.dump_sections.specs.Sections.{Section, id_of, sections_of}
 use Rattle.dump_sections.specs.declared.version.Version.{Version}
+use Rattle.dump_io.specs.Laws.Options.{or-none}
 
 -- what an index holds
 abbrev contents : List Header → ℕ → Version → Contents
@@ -32,7 +33,7 @@ from-last : {X : Type 0} (p : X → Bool) (n : ℕ) (xs : List X) (y : X)
 from-last p n [] y = let here : n ≡ n + 0 = omega arith in ap (λ m. if p y then Some m else None) here
 from-last p n (x ∷ xs) y = grind (arith, from-last p (n + 1) xs y)
 
-position-last : {X : Type 0} (p : X → Bool) (xs : List X) (y : X)
+pub position-last : {X : Type 0} (p : X → Bool) (xs : List X) (y : X)
     → position p (xs ++ y ∷ []) ≡ option_or (position p xs) (if p y then Some (length xs) else None)
 position-last p xs y = grind (arith, position_from-zero, from-last)
 
@@ -42,10 +43,6 @@ none-named b o id is = grind arith
 some-named : (b : Bool) (o : Option (List ℕ)) (here id : List ℕ) → (if b then o else None) ≡ Some here → (b && option_eq bytes_eq o (Some id)) ≡ bytes_eq here id
 some-named true o here id is = ap (λ o. option_eq bytes_eq o (Some id)) is
 some-named false o here id is = absurd (let no : ⊥ = cc (is) in no)
-
-pub option_or-none : {X : Type 0} (o : Option X) → option_or o None ≡ o
-option_or-none None = refl
-option_or-none (Some x) = refl
 
 -- the place of the first section with a tag and an id
 abbrev first_named : List ℕ → List Section → List ℕ → Option ℕ
@@ -58,7 +55,7 @@ first-last tag before s id = position-last (λ (section : Section). is_named tag
 -- without the tag, or without an id, it is passed over
 pub first-passed : (tag : List ℕ) (before : List Section) (s : Section) (id : List ℕ) → (if has_tag tag s.text then id_of s.text else None) ≡ None
     → first_named tag (before ++ s ∷ []) id ≡ first_named tag before id
-first-passed tag before s id none = grind (arith, first-last, none-named, option_or-none)
+first-passed tag before s id none = grind (arith, first-last, none-named, or-none)
 
 -- with both, it is the first with its id, unless one before it is
 pub first-more : (tag : List ℕ) (before : List Section) (s : Section) (here id : List ℕ) → (if has_tag tag s.text then id_of s.text else None) ≡ Some here

@@ -8,6 +8,7 @@ pub mod Loading
 pub mod LoadingLaws
 pub mod Lookups
 pub mod Sections
+pub mod Shown
 pub mod Tags
 pub mod Tiling
 pub mod TilingLaws

@@ -1,31 +1,69 @@
--- Laws of the definitions, each with its proof, for the proofs of callers: bodies that are judged in a row.
-use Rattle.std.proofs.Common.{◌≡◌, ℕ, ◌+◌, true, false, List, [], ◌∷◌, ◌++◌, Option, None, Some, refl, sym, ◌∙◌, arith}
-use Rattle.std.specs.Prelude.{cond, nat_lt}
+-- Laws of the definitions, each with its proof, for the proofs of callers: bodies that are judged, and why they aren't loaded.
+use Rattle.std.proofs.Common.{◌≡◌, ℕ, ◌+◌, ◌≤◌, Bool, true, false, List, [], ◌∷◌, ◌++◌, Option, None, Some, refl, sym, ◌∙◌, ap, arith}
+use Rattle.std.specs.Prelude.{All, cond, is_some, nat_lt}
 use Rattle.std.specs.Option.{option_map, option_or, option_to_list}
 use Rattle.dump_sections.specs.Bodies.{body_length, body_size}
 use Rattle.dump_sections.specs.Sections.{Section}
 use Rattle.dump_sections.specs.declared.bodies.BodyFault.{BodyFault}
-use Rattle.dump_sections.specs.declared.bodies.BodyFault.TheVariants.{SectionTooLarge}
-use Rattle.dump_sections.specs.Loading.{bodies_length, first_large, large_fault}
-
--- the refusal of a section whose body is too large
-abbrev fault_of : Section → BodyFault
-fault_of s = SectionTooLarge s.at (body_length s)
+use Rattle.dump_sections.specs.declared.bodies.BodyFault.TheVariants.{SectionTooLarge, Read, Memory}
+use Rattle.dump_sections.specs.Loading.{bodies_length, first_large, large_section, large_fault, AreRefused, IsUnloaded}
+use Rattle.dump_io.specs.Dumps.{DeviceState, DeviceFailed}
+use Rattle.dump_io.specs.Laws.Options.{both-none, or-second, or-some}
+use Rattle.std.proofs.lemmas.Bool.{ltb-false}
+use Rattle.std.proofs.lemmas.List.Elements.{All-nil, All-cons}
 
 -- the first of two lists that is too large is one of the first list, or one of the second
 pub large-append : (limit : ℕ) (xs ys : List Section) → large_fault limit (xs ++ ys) ≡ option_or (large_fault limit xs) (large_fault limit ys)
 large-append limit [] ys = refl
 large-append limit (s ∷ xs) ys =
-    elim (nat_lt limit (body_length s)) as (λ b. option_map fault_of (cond b (Some s) (first_large limit (xs ++ ys)))
-    ≡ option_or (option_map fault_of (cond b (Some s) (first_large limit xs))) (large_fault limit ys)) [ true ↦ refl | false ↦ large-append limit xs ys ]
+    elim (nat_lt limit (body_length s)) as (λ b. option_map large_section (cond b (Some s) (first_large limit (xs ++ ys)))
+    ≡ option_or (option_map large_section (cond b (Some s) (first_large limit xs))) (large_fault limit ys)) [ true ↦ refl | false ↦ large-append limit xs ys ]
 
 -- where none of both lists is too large, none of either is
 pub small-both : (limit : ℕ) (xs ys : List Section) → large_fault limit (xs ++ ys) ≡ None → (large_fault limit xs ≡ None) × (large_fault limit ys ≡ None)
-small-both limit xs ys none = by (large_fault limit xs) (large_fault limit ys) (sym (large-append limit xs ys) ∙ none)
+small-both limit xs ys none = both-none (large_fault limit xs) (large_fault limit ys) (sym (large-append limit xs ys) ∙ none)
+
+-- one of the first list that is too large is the first of both
+pub large-first : (limit : ℕ) (xs ys : List Section) → is_some (large_fault limit xs) ≡ true → large_fault limit xs ≡ large_fault limit (xs ++ ys)
+large-first limit xs ys some = sym (large-append limit xs ys ∙ or-some (large_fault limit xs) (large_fault limit ys) some)
+
+-- where there is none, it is that of the second list
+pub large-second : (limit : ℕ) (xs ys : List Section) → is_some (large_fault limit xs) ≡ false → large_fault limit ys ≡ large_fault limit (xs ++ ys)
+large-second limit xs ys none = sym (large-append limit xs ys ∙ or-second (large_fault limit xs) (large_fault limit ys) none)
+
+-- where nothing is refused, each body is within the limit
+pub All-small : (limit : ℕ) (sections : List Section) → large_fault limit sections ≡ None → All (λ s. body_length s ≤ limit) sections
+All-small limit [] none = All-nil (λ s. body_length s ≤ limit)
+All-small limit (s ∷ sections) none = by (nat_lt limit (body_length s)) refl (All-small limit sections)
   where
-    by : (o p : Option BodyFault) → option_or o p ≡ None → (o ≡ None) × (p ≡ None)
-    by None p is = (refl, is)
-    by (Some fault) p is = absurd (let no : ⊥ = cc (is) in no)
+    is_first : (b : Bool) → nat_lt limit (body_length s) ≡ b → option_map large_section (cond b (Some s) (first_large limit sections)) ≡ None
+    is_first b is = sym (ap (λ b. option_map large_section (cond b (Some s) (first_large limit sections))) is) ∙ none
+
+    by : (b : Bool) → nat_lt limit (body_length s) ≡ b → (large_fault limit sections ≡ None → All (λ s. body_length s ≤ limit) sections)
+        → All (λ s. body_length s ≤ limit) (s ∷ sections)
+    by true is rest = let large = is_first true is in absurd (let no : ⊥ = cc (large) in no)
+    by false is rest = All-cons (λ s. body_length s ≤ limit) s sections (ltb-false _ _ is) (rest (is_first false is))
+
+-- the causes of a fault where no body is too large
+pub IsUnloaded-small : (limit : ℕ) (sections : List Section) (before after : DeviceState) (fault : BodyFault) → large_fault limit sections ≡ None
+    → AreRefused sections limit before after fault → IsUnloaded before after fault
+IsUnloaded-small limit sections before after Read none cause = cause
+IsUnloaded-small limit sections before after Memory none cause = tt
+IsUnloaded-small limit sections before after (SectionTooLarge at len) none cause = absurd (let no : ⊥ = cc (none, cause) in no)
+
+-- they are causes in any case
+pub AreRefused-unread : (limit : ℕ) (sections : List Section) (before after : DeviceState) (fault : BodyFault) → IsUnloaded before after fault
+    → AreRefused sections limit before after fault
+AreRefused-unread limit sections before after Read cause = cause
+AreRefused-unread limit sections before after Memory cause = tt
+AreRefused-unread limit sections before after (SectionTooLarge at len) cause = absurd cause
+
+-- a failure in one step of a call is one in the call
+pub IsUnloaded-later : (step step' before after : DeviceState) (fault : BodyFault) → (DeviceFailed step step' → DeviceFailed before after)
+    → IsUnloaded step step' fault → IsUnloaded before after fault
+IsUnloaded-later step step' before after Read later cause = later cause
+IsUnloaded-later step step' before after Memory later cause = tt
+IsUnloaded-later step step' before after (SectionTooLarge at len) later cause = absurd cause
 
 -- how many bytes two bodies have, either of which may be missing
 pub bodies-two : (one other : Option Section) → bodies_length (option_to_list one ++ option_to_list other) ≡ body_size one + body_size other

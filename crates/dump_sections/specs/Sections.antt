@@ -26,10 +26,14 @@ pub record Section : Type 0 where
 abbrev pub section : ℕ → ℕ → ℕ → List ℕ → Section
 section at body end text = record { at = at; body = body; end = end; text = text }
 
+-- a header by its three parts
+abbrev pub header : ℕ → ℕ → List ℕ → Header
+header at body text = record { at = at; body = body; text = text }
+
 -- the offset at which the next header begins, or the size of the dump
 abbrev pub next_at : Option Header → ℕ → ℕ
 next_at None size = size
-next_at (Some header) size = header.at
+next_at (Some next) size = next.at
 
 -- where the section at a place ends
 abbrev pub end_at : List Header → ℕ → ℕ → ℕ
@@ -38,8 +42,8 @@ end_at headers size i = next_at (slice_get headers (i + 1)) size
 -- each section ends where the next header begins, and the last at the end of the dump
 abbrev pub sections_of : List Header → ℕ → List Section
 sections_of [] size = []
-sections_of (header ∷ rest) size =
-    section header.at header.body (next_at (slice_get rest 0) size) header.text ∷ sections_of rest size
+sections_of (first ∷ rest) size =
+    section first.at first.body (next_at (slice_get rest 0) size) first.text ∷ sections_of rest size
 
 -- the sections of the bytes of a dump, in order
 abbrev pub sections : List ℕ → List Section

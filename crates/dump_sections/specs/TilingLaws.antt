@@ -27,7 +27,7 @@ chosen : (a b : Bool) (c m n : ℕ) (bytes : List ℕ)
     → starts_with nat_eq (if a then take (suc m) (c ∷ bytes) else (if b then take (suc n) (c ∷ bytes) else c ∷ bytes)) (equals_sign ∷ []) ≡ begins c
 chosen a b c m n bytes = grind arith
 
--- the same for a line of at most two bytes, of which nothing may be left
+-- what is left of a line of at most two bytes, which may be nothing, begins as the line
 chosen_short : (a b : Bool) (c : ℕ) (bytes : List ℕ) → (a ≡ true → begins c ≡ false)
     → starts_with nat_eq (if a then take 0 (c ∷ bytes) else (if b then take 1 (c ∷ bytes) else c ∷ bytes)) (equals_sign ∷ []) ≡ begins c
 chosen_short a b c bytes none = grind arith

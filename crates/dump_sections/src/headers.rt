@@ -1,7 +1,7 @@
 // The headers of a dump, kept with their texts in one pool.
-ghost use Rattle.std.specs.Prelude.{◌≡◌, ◌<◌, ◌≤◌, List, [], ◌∷◌, ◌++◌, length, slice_get, Some, OnOk, OnErr};
+ghost use Rattle.std.specs.Prelude.{◌≡◌, ◌<◌, ◌≤◌, [], ◌∷◌, ◌++◌, length, slice_get, Some, OnOk, OnErr};
 ghost use Rattle.std.specs.List.{between};
-ghost use Rattle.dump_io.specs.Lines.{Header};
+ghost use Rattle.dump_sections.specs.Sections.{header};
 ghost use Rattle.dump_sections.specs.Inner.Headers.{headers_in, AreWithin};
 
 use std::alloc::{AllocError, Global};
@@ -25,9 +25,10 @@ fn push_header(
 ) -> Result<(), AllocError>
     requires { AreWithin (length pool.old.items) heads.old.items }
     ensures within { AreWithin (length pool.new.items) heads.new.items }
-    ensures pushed { OnOk result (let header : Header = record { at = at; body = body; text = text.now } in
-        headers_in pool.new.items heads.new.items ≡ headers_in pool.old.items heads.old.items ++ header ∷ []) }
-    ensures kept { OnErr result (headers_in pool.new.items heads.new.items ≡ headers_in pool.old.items heads.old.items) }
+    ensures pushed { OnOk result (headers_in pool.new.items heads.new.items
+        ≡ headers_in pool.old.items heads.old.items ++ header at body text.now ∷ []) }
+    ensures kept { OnErr result (headers_in pool.new.items heads.new.items
+        ≡ headers_in pool.old.items heads.old.items) }
 {
     let from = pool.len();
     pool.extend_from_slice(text)?;
@@ -97,7 +98,7 @@ impl Headers {
     /// Adds a header, whose line begins at the offset `at` and ends where its body begins.
     /// If there is no room for the text, the headers are as before.
     pub fn push(&mut self, at: u64, body: u64, text: &[u8]) -> Result<(), AllocError>
-        ensures pushed { OnOk result (let header : Header = record { at = at; body = body; text = text.now } in self.new ≡ self.old ++ header ∷ []) }
+        ensures pushed { OnOk result (self.new ≡ self.old ++ header at body text.now ∷ []) }
         ensures kept { OnErr result (self.new ≡ self.old) }
     {
         push_header(&mut self.heads, &mut self.pool, at, body, text)
@@ -105,7 +106,7 @@ impl Headers {
 
     pub(crate) fn header(&self, i: usize) -> KeptHeader<'_>
         requires { i < length self.now }
-        ensures { let header : Header = record { at = result.at; body = result.body; text = result.text.now } in slice_get self.now i ≡ Some header }
+        ensures { slice_get self.now i ≡ Some (header result.at result.body result.text.now) }
     {
         let head = self.heads[i];
         KeptHeader {

@@ -4,7 +4,8 @@ ghost use Rattle.std.specs.Option.{option_copied};
 ghost use Rattle.dump_io.specs.Limits.{usual};
 ghost use Rattle.dump_sections.specs.Bodies.{section_at};
 ghost use Rattle.dump_sections.specs.Index.{Contents, AreBounded, HasShortLine, sections_in, dump_state, IsLastPlace};
-ghost use Rattle.dump_sections.specs.Sections.{section, sections_of, end_at, tag_of, id_of};
+ghost use Rattle.dump_sections.specs.Sections.{sections_of, end_at, tag_of, id_of};
+ghost use Rattle.dump_sections.specs.Shown.{shown_extent, shown_section};
 ghost use Rattle.dump_sections.specs.Tiling.{Tile};
 
 use crate::header_text::tag_and_id;
@@ -13,7 +14,7 @@ use crate::version::Version;
 use std::marker::Model;
 
 /// Where a section is, and the text of its header: a [`Section`] whose tag and id weren't looked for.
-#[derive(Clone, Copy, Debug)]
+#[derive(Clone, Copy)]
 pub struct Extent<'a> {
     /// The offset in the file at which the header's line begins.
     pub at: u64,
@@ -26,7 +27,7 @@ pub struct Extent<'a> {
 }
 
 /// A section of a dump: a header and the bytes up to the next header or the end of the dump.
-#[derive(Clone, Copy, Debug)]
+#[derive(Clone, Copy)]
 pub struct Section<'a> {
     /// The offset in the file at which the header's line begins.
     pub at: u64,
@@ -43,7 +44,7 @@ pub struct Section<'a> {
 }
 
 /// Whether a dump was written to its end.
-#[derive(Clone, Copy, Debug, PartialEq, Eq)]
+#[derive(Clone, Copy)]
 pub enum State {
     /// The last section's tag is `end`.
     Whole,
@@ -78,7 +79,11 @@ impl Model for Index {
 
     ghost view = { λ i. record { headers = i.headers; size = i.size; version = i.version } };
 
-    ghost invariant = { λ i. AreBounded (record { headers = i.headers; size = i.size; version = i.version }) };
+    ghost invariant = { λ i. AreBounded (record {
+      headers = i.headers;
+      size = i.size;
+      version = i.version;
+    }) };
 }
 
 impl Index {
@@ -149,8 +154,8 @@ impl Index {
     /// Where the section at a place, from 0, is, and the text of its header.
     pub fn extent(&self, i: usize) -> Extent<'_>
         requires { i < length self.now.headers }
-        ensures place { slice_get (sections_in self.now) i ≡ Some (section result.at result.body result.end result.text.now) }
-        ensures at_place { section_at self.now i ≡ section result.at result.body result.end result.text.now }
+        ensures place { slice_get (sections_in self.now) i ≡ Some (shown_extent result) }
+        ensures at_place { section_at self.now i ≡ shown_extent result }
         ensures begins { result.at < result.body }
         ensures line { result.at + length result.text.now ≤ result.body }
         ensures short { result.body ≤ result.at + usual.header + 1 }
@@ -171,8 +176,8 @@ impl Index {
     /// The section at a place, from 0.
     pub fn section(&self, i: usize) -> Section<'_>
         requires { i < length self.now.headers }
-        ensures place { slice_get (sections_in self.now) i ≡ Some (section result.at result.body result.end result.text.now) }
-        ensures at_place { section_at self.now i ≡ section result.at result.body result.end result.text.now }
+        ensures place { slice_get (sections_in self.now) i ≡ Some (shown_section result) }
+        ensures at_place { section_at self.now i ≡ shown_section result }
         ensures tag { result.tag.now ≡ tag_of result.text.now }
         ensures id { option_copied result.id ≡ id_of result.text.now }
         ensures begins { result.at < result.body }

@@ -23,7 +23,7 @@ mod marks;
 mod tags;
 mod version;
 
-pub use bodies::{BodyFault, large, large_body, read_body};
+pub use bodies::{BodyFault, LargeSection, large, large_body, read_body};
 pub use header_text::tag_and_id;
 pub use headers::Headers;
 pub use index::{Extent, Index, Section, State};

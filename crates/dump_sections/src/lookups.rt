@@ -1,10 +1,10 @@
 // Finding sections by their tag and id.
-ghost use Rattle.std.specs.Prelude.{◌≡◌, ◌<◌, length, IfSome, find, position};
+ghost use Rattle.std.specs.Prelude.{◌≡◌, ◌<◌, length, IfSome};
 ghost use Rattle.std.specs.Option.{option_copied, option_and_then};
 ghost use Rattle.dump_sections.specs.Bodies.{section_in};
 ghost use Rattle.dump_sections.specs.Index.{sections_in};
 ghost use Rattle.dump_io.specs.Numbers.{hex_number};
-ghost use Rattle.dump_sections.specs.Lookups.{has_tag, is_named, has_hex, first_tagged, first_hex};
+ghost use Rattle.dump_sections.specs.Lookups.{has_tag, is_named, has_hex, place_where, first_where, first_tagged, first_hex};
 ghost use Rattle.dump_sections.specs.Inner.Wanted.{is_wanted};
 
 use crate::header_text::tag_and_id;
@@ -62,8 +62,9 @@ fn is_wanted(text: &[u8], wanted: &Wanted<'_>) -> bool
 
 // The place of the first section that is wanted.
 fn position(index: &Index, wanted: &Wanted<'_>) -> Option<usize>
-    ensures place { result ≡ position (λ section. is_wanted wanted.now section.text) (sections_in index.now) }
-    ensures section { section_in index.now result ≡ find (λ section. is_wanted wanted.now section.text) (sections_in index.now) }
+    ensures place { result ≡ place_where (is_wanted wanted.now) (sections_in index.now) }
+    ensures section { section_in index.now result
+        ≡ first_where (is_wanted wanted.now) (sections_in index.now) }
     ensures within { IfSome result (λ i. i < length index.now.headers) }
 {
     for i in 0..index.len() {
@@ -78,8 +79,10 @@ impl Index {
     /// The place of the first section with exactly this tag and id, compared byte for byte. An `id` of
     /// `None` asks for a header without a colon. Returns `None` exactly when there is no such section.
     pub fn first(&self, tag: &[u8], id: Option<&[u8]>) -> Option<usize>
-        ensures place { result ≡ position (λ section. is_named tag.now (option_copied id.entry) section.text) (sections_in self.now) }
-        ensures section { section_in self.now result ≡ find (λ section. is_named tag.now (option_copied id.entry) section.text) (sections_in self.now) }
+        ensures place { result ≡ place_where (is_named tag.now (option_copied id.entry))
+            (sections_in self.now) }
+        ensures section { section_in self.now result
+            ≡ first_where (is_named tag.now (option_copied id.entry)) (sections_in self.now) }
         ensures within { IfSome result (λ i. i < length self.now.headers) }
     {
         position(self, &Wanted::Named(tag, id))
@@ -88,7 +91,7 @@ impl Index {
     /// The place of the first section with this tag, with or without
     /// an id. Returns `None` exactly when there is no such section.
     pub fn first_tag(&self, tag: &[u8]) -> Option<usize>
-        ensures place { result ≡ position (λ section. has_tag tag.now section.text) (sections_in self.now) }
+        ensures place { result ≡ place_where (has_tag tag.now) (sections_in self.now) }
         ensures section { section_in self.now result ≡ first_tagged tag.now (sections_in self.now) }
         ensures within { IfSome result (λ i. i < length self.now.headers) }
     {
@@ -98,7 +101,7 @@ impl Index {
     /// The place of the first section with this tag and an id that is `n` in hex, as
     /// [`hex_u64`] reads it. Returns `None` exactly when there is no such section.
     pub fn first_hex(&self, tag: &[u8], n: u64) -> Option<usize>
-        ensures place { result ≡ position (λ section. has_hex tag.now n section.text) (sections_in self.now) }
+        ensures place { result ≡ place_where (has_hex tag.now n) (sections_in self.now) }
         ensures section { section_in self.now result ≡ first_hex tag.now n (sections_in self.now) }
         ensures within { IfSome result (λ i. i < length self.now.headers) }
     {

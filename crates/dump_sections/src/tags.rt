@@ -114,7 +114,8 @@ fn add_tag<'a>(
 ) -> Result<(), AllocError>
     requires new { place_in tag.now (counts_of counts.old.items) ≡ None }
     requires numbered { AreNumbered numbers.old (counts_of counts.old.items) }
-    ensures counts { OnOk result (counts_of counts.new.items ≡ one_more tag.now (counts_of counts.old.items)) }
+    ensures counts { OnOk result (counts_of counts.new.items
+        ≡ one_more tag.now (counts_of counts.old.items)) }
     ensures numbered { OnOk result (AreNumbered numbers.new (counts_of counts.new.items)) }
 {
     let text = Vec::from_slice(alloc, tag)?;
@@ -139,8 +140,10 @@ fn count_section<'a>(
 ) -> Result<usize, AllocError>
     requires place { i < length index.now.headers }
     requires fits { i + 1 < 2 ^ 64 }
-    requires before { IsCounted numbers.old (counts_of counts.old.items) (take i (tags_in index.now)) }
-    ensures { OnOk result (IsCounted numbers.new (counts_of counts.new.items) (take (i + 1) (tags_in index.now))) }
+    requires before { IsCounted numbers.old (counts_of counts.old.items)
+        (take i (tags_in index.now)) }
+    ensures { OnOk result (IsCounted numbers.new (counts_of counts.new.items)
+        (take (i + 1) (tags_in index.now))) }
 {
     let tag = index.section(i).tag;
     match number_of(counts, numbers, likely, tag) {

@@ -15,23 +15,7 @@ use Rattle.process_table.specs.Processes.{Process, process_at}
 use Rattle.dump_triage.specs.Triage.{count_at_first, text_count, process_state_text, state_texts}
 use Rattle.dump_triage.specs.Inner.States.{AreCounted, AreLeft, counted, unless_zero}
 use Rattle.dump_triage.proofs.RankFacts.{process-there}
-
-bytes_eq-itself : (text : List ℕ) → bytes_eq text text ≡ true
-bytes_eq-itself text = (bytes_eq-Decides text text).1 refl
-
--- texts that differ differ from the other's side too
-bytes_eq-swap : (text other : List ℕ) → bytes_eq text other ≡ bytes_eq other text
-bytes_eq-swap text other = by (bytes_eq text other) refl (bytes_eq other text) refl
-  where
-    by : (b : Bool) → bytes_eq text other ≡ b → (d : Bool) → bytes_eq other text ≡ d → b ≡ d
-    by true e true f = refl
-    by false e false f = refl
-    by true e false f =
-        let same : text ≡ other = (bytes_eq-Decides text other).0 e in
-        absurd (false≢true (sym f ∙ (bytes_eq-Decides other text).1 (sym same)))
-    by false e true f =
-        let same : other ≡ text = (bytes_eq-Decides other text).0 f in
-        absurd (false≢true (sym e ∙ (bytes_eq-Decides text other).1 (sym same)))
+use Rattle.dump_io.specs.Laws.Texts.{bytes_eq-refl, bytes_eq-swap}
 
 pub state-there : (processes : List Process) (p : ℕ) → p < length processes → slice_get (state_texts processes) p ≡ Some (process_state_text (process_at processes p))
 state-there processes p inside = slice_get-map process_state_text processes p ∙ ap (option_map process_state_text) (process-there processes p inside)
@@ -46,7 +30,7 @@ count-more texts i text other at =
     ∙ ap (λ t. text_count (take i texts) other + cond (bytes_eq other t) 1 0) (get_or_from_slice_get texts i text text at)
 
 count-here : (texts : List (List ℕ)) (i : ℕ) (text : List ℕ) → slice_get texts i ≡ Some text → text_count (take (i + 1) texts) text ≡ text_count (take i texts) text + 1
-count-here texts i text at = count-more texts i text text at ∙ ap (λ b. text_count (take i texts) text + cond b 1 0) (bytes_eq-itself text)
+count-here texts i text at = count-more texts i text text at ∙ ap (λ b. text_count (take i texts) text + cond b 1 0) (bytes_eq-refl text)
 
 count-there : (texts : List (List ℕ)) (i : ℕ) (text other : List ℕ) → slice_get texts i ≡ Some text → bytes_eq other text ≡ false
     → text_count (take (i + 1) texts) other ≡ text_count (take i texts) other

@@ -18,8 +18,8 @@ pub struct Ranked {
 impl Measured for Ranked {
     ghost size = { λ row. row.number };
 
-    fn size(&self) -> u64 {
-        self.number
+    fn size(&self) -> u128 {
+        u128::from(self.number)
     }
 }
 
@@ -29,7 +29,8 @@ pub(crate) fn push_row(
     place: usize,
     number: Option<u64>,
 ) -> Result<(), AllocError>
-    ensures { OnOk result (rows.new.items ≡ rows.old.items ++ option_to_list (ranked_row place number)) }
+    ensures { OnOk result (rows.new.items
+        ≡ rows.old.items ++ option_to_list (ranked_row place number)) }
 {
     match number {
         None | Some(0) => Ok(()),

@@ -71,7 +71,8 @@ fn count_states<'a>(alloc: Global, procs: &'a Procs) -> Result<BTreeMap<&'a [u8]
 fn take_count<'a>(counts: &mut BTreeMap<&'a [u8], u64>, procs: &'a Procs, p: usize) -> Option<u64>
     requires place { p < length procs.now.processes }
     requires left { AreLeft counts.old (state_texts procs.now.processes) p }
-    ensures count { result ≡ count_at_first (state_texts procs.now.processes) (p, process_state_text (process_at procs.now.processes p)) }
+    ensures count { let text = process_state_text (process_at procs.now.processes p) in
+        result ≡ count_at_first (state_texts procs.now.processes) (p, text) }
     ensures left { AreLeft counts.new (state_texts procs.now.processes) (p + 1) }
 {
     counts.remove(state_at(procs, p))

@@ -3,7 +3,7 @@ ghost use Rattle.std.specs.Prelude.{◌≡◌, ◌-◌, ◌^◌, None, All, IfOk
 ghost use Rattle.process_table.specs.Processes.{IsProcessIn};
 ghost use Rattle.table_sections.specs.Tables.{IsTableOver};
 ghost use Rattle.table_sections.specs.declared.kinds.TableKind.TheVariants.{Ets};
-ghost use Rattle.dump_audit.specs.Findings.{audit_of, findings};
+ghost use Rattle.dump_audit.specs.Findings.{audit_of, findings, findings_in};
 ghost use Rattle.dump_triage.specs.FindingCounts.{counts_of};
 ghost use Rattle.dump_triage.specs.Triage.{FitsTriage, triage_of};
 
@@ -48,7 +48,8 @@ impl Model for Triage {
 // isn't full and in which no message queue is too long.
 fn count_findings(alloc: Global, index: &Index, procs: &Procs) -> Result<FindingCounts, AllocError>
     requires { All (IsProcessIn index.now) procs.now.processes }
-    ensures { IfOk result (λ counts. counts ≡ counts_of (findings (audit_of index.now procs.now.processes (2 ^ 64 - 1) None))) }
+    ensures { IfOk result (λ counts. counts
+        ≡ counts_of (findings_in index.now procs.now (2 ^ 64 - 1) None)) }
 {
     let graph = Graph::build(alloc, procs)?;
     let findings = audit(alloc, index, procs, &graph, u64::MAX)?;
@@ -71,7 +72,8 @@ impl Triage {
     ) -> Result<Triage, AllocError>
         requires sections { All (IsProcessIn index.now) procs.now.processes }
         requires tables { IsTableOver Ets index.now tables.now }
-        ensures value { IfOk result (λ triage. triage ≡ triage_of index.now procs.now.processes tables.now.rows most) }
+        ensures value { IfOk result (λ triage.
+            triage ≡ triage_of index.now procs.now.processes tables.now.rows most) }
         ensures fits { IfOk result (FitsTriage procs.now.processes tables.now.rows) }
     {
         Ok(Triage {

@@ -9,9 +9,9 @@ use Rattle.dump_io.specs.Limits.{usual}
 use Rattle.dump_sections.specs.Sections.{Section}
 use Rattle.dump_sections.specs.Bodies.{body_length, section_at, section_in}
 use Rattle.dump_sections.specs.Index.{Contents, sections_in}
-use Rattle.dump_sections.specs.Loading.{large_fault}
-use Rattle.dump_sections.specs.declared.bodies.BodyFault.TheVariants.{SectionTooLarge}
+use Rattle.dump_sections.specs.Loading.{large_fault, large_section}
 use Rattle.process_table.specs.Records.{PlacedSection, is_process, first_of_each, has_same_pid, placed_sections, process_sections, records, record_sections}
+use Rattle.process_table.specs.Laws.{All-first_of_each}
 
 -- the body of a section is within the usual limit
 abbrev pub IsSmall : Section → Type 0
@@ -40,22 +40,16 @@ small-placed n [] all = All-nil IsSmallPlaced
 small-placed n (s ∷ sections) all =
     All-cons IsSmallPlaced (n, s) (enumerate_from (n + 1) sections) (All-head IsSmall s sections all) (small-placed (n + 1) sections (All-tail IsSmall s sections all))
 
-small-first : (ps : List PlacedSection) → All IsSmallPlaced ps → All IsSmallPlaced (first_of_each ps)
-small-first [] all = All-nil IsSmallPlaced
-small-first (p ∷ ps) all =
-    All-cons IsSmallPlaced p _ (All-head IsSmallPlaced p ps all)
-    (All-filter (λ other. not (has_same_pid p other)) IsSmallPlaced (first_of_each ps) (small-first ps (All-tail IsSmallPlaced p ps all)))
-
 -- the sections of processes
 pub small-records : (sections : List Section) → All IsSmall sections → All IsSmall (record_sections sections)
 small-records sections all =
     All-map IsSmall (λ (r : PlacedSection). r.1) (records sections)
-    (small-first (process_sections (placed_sections sections)) (All-filter (λ (p : PlacedSection). is_process p.1) IsSmallPlaced (placed_sections sections) (small-placed 0 sections all)))
+    (All-first_of_each IsSmallPlaced (process_sections (placed_sections sections)) (All-filter (λ (p : PlacedSection). is_process p.1) IsSmallPlaced (placed_sections sections) (small-placed 0 sections all)))
 
 -- none of them is too large
 pub none-large : (sections : List Section) → All IsSmall sections → large_fault usual.section sections ≡ None
 none-large [] all = refl
 none-large (s ∷ sections) all =
-    ap (option_map (λ (x : Section). SectionTooLarge x.at (body_length x)))
+    ap (option_map large_section)
     (cond-false (nat_lt usual.section (body_length s)) _ _ (le-ltb usual.section (body_length s) (All-head IsSmall s sections all)))
     ∙ none-large sections (All-tail IsSmall s sections all)

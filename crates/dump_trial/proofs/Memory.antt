@@ -12,7 +12,7 @@ use Rattle.dump_sections.specs.declared.bodies.BodyFault.TheVariants as body_fau
 use Rattle.section_index.specs.Answers.{IsAnswerFor}
 use Rattle.section_index.specs.Opening.{IsAccepted, IsRefusedFor}
 use Rattle.dump_sections.specs.Sections.{Section}
-use Rattle.dump_sections.specs.Loading.{AreRefused}
+use Rattle.dump_sections.specs.Loading.{AreRefused, body_fault}
 use Rattle.dump_sections.specs.declared.version.Version.{Version}
 use Rattle.heap_cells.specs.Cells.{weight}
 use Rattle.heap_cells.specs.Loading.{enc_of, bodies_fault, heap_fault_of}
@@ -35,7 +35,7 @@ memory-opening bytes fault accepted answer unread = absurd (refused-accepted byt
 pub memory-bodies : (sections : List Section) (before after : DeviceState) (fault : BodyFault) → All IsSmall sections → (DeviceFailed before after → ⊥)
     → AreRefused sections usual.section before after fault → fault ≡ body_faults.Memory
 memory-bodies sections before after (body_faults.SectionTooLarge at len) all works cause = absurd (none-some _ (sym (none-large sections all) ∙ cause))
-memory-bodies sections before after body_faults.Read all works cause = absurd (works cause.0)
+memory-bodies sections before after body_faults.Read all works cause = absurd (works cause)
 memory-bodies sections before after body_faults.Memory all works cause = refl
 
 -- of a heap
@@ -43,7 +43,7 @@ pub memory-heap : (version : Version) (heap literals : List ℕ) (bodies : List 
     → weight (enc_of version) heap literals ≤ usual.dense → (DeviceFailed before after → ⊥) → heaps.IsHeapAnswerFor (enc_of version) heap literals usual.dense (Err fault)
     → heaps.IsHeapCauseOf (bodies_fault usual.section bodies) usual.dense before after fault → fault ≡ heap_faults.Memory
 memory-heap version heap literals bodies before after (heap_faults.SectionTooLarge at len) all few works answer cause =
-    absurd (none-some _ (sym (ap (option_map heap_fault_of) (none-large bodies all)) ∙ cause))
+    absurd (none-some _ (sym (ap (option_map (λ large. heap_fault_of (body_fault large))) (none-large bodies all)) ∙ cause))
 memory-heap version heap literals bodies before after (heap_faults.TooDense count) all few works answer cause = absurd (omega (arith, few, answer.0, answer.1))
 memory-heap version heap literals bodies before after heap_faults.Read all few works answer cause = absurd (works cause)
 memory-heap version heap literals bodies before after heap_faults.Memory all few works answer cause = refl

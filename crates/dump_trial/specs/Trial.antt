@@ -1,10 +1,9 @@
 -- What a trial reports on a made dump: how much there is in it, and what is bad or one-sided.
-use Rattle.std.specs.Prelude.{ℕ, ◌++◌, List, length, Option, None}
+use Rattle.std.specs.Prelude.{ℕ, ◌++◌, List, length, None}
 use Rattle.std.specs.List.{sum_by}
 use Rattle.dump_sections.specs.Bodies.{body_in}
 use Rattle.dump_sections.specs.Index.{index_of}
-use Rattle.dump_sections.specs.Lookups.{first_named}
-use Rattle.dump_sections.specs.Sections.{Section, sections}
+use Rattle.dump_sections.specs.Sections.{sections}
 use Rattle.process_table.specs.Processes.{Process, process_table}
 use Rattle.heap_cells.specs.Cells.{Cell}
 use Rattle.heap_cells.specs.DumpHeaps.{heap_map}
@@ -15,7 +14,8 @@ use Rattle.root_views.specs.declared.kinds.RootKind.{RootKind}
 use Rattle.root_views.specs.declared.kinds.RootKind.TheVariants.{Stack, Dict, Mail}
 use Rattle.dump_trial.specs.declared.tally.Tally.{Tally}
 use Rattle.dump_trial.specs.declared.summary.Summary.{Summary}
-use Rattle.root_views.specs.Kinds.{roots_in, roots_tag}
+use Rattle.root_views.specs.Kinds.{roots_in}
+use Rattle.root_views.specs.Sections.{root_section}
 use Rattle.dump_trial.specs.Tallies.{bad_roots}
 
 -- a root is judged by its first 1,000 nodes
@@ -28,11 +28,7 @@ queue_limit = 8
 
 -- ---- the roots of a process
 
--- the first section with roots of this kind whose id is this pid
-abbrev pub root_section : RootKind → List ℕ → List Section → Option Section
-root_section kind pid sections = first_named (roots_tag kind) pid sections
-
--- its body; a missing section counts as empty
+-- the body with roots of this kind of a pid; a missing section counts as empty
 abbrev pub root_body : List ℕ → RootKind → List ℕ → List ℕ
 root_body bytes kind pid = body_in bytes (root_section kind pid (sections bytes))
 

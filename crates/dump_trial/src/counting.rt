@@ -37,7 +37,8 @@ fn count_kind(
     walker: &mut Walker<'_>,
 ) -> Result<Tally, AllocError>
     requires { IsIndexOf held.old finder.now }
-    ensures tally { IfOk result (λ tally. tally ≡ tally_in walker.old.heap.cells (roots_in kind (root_body held.old kind pid.now))) }
+    ensures tally { let roots = roots_in kind (root_body held.old kind pid.now) in
+        IfOk result (λ tally. tally ≡ tally_in walker.old.heap.cells roots) }
     ensures few { IfOk result (AreAtMost 1073741824) }
     ensures walker { walker.new ≡ walker.old }
     ensures held { held.new ≡ held.old }
@@ -55,7 +56,8 @@ fn count_bodies(
     walker: &mut Walker<'_>,
 ) -> Result<Tally, AllocError>
     requires { IsIndexOf held.old finder.now }
-    ensures tally { IfOk result (λ tally. tally ≡ tally_in walker.old.heap.cells (process_roots held.old pid.now)) }
+    ensures tally { IfOk result (λ tally.
+        tally ≡ tally_in walker.old.heap.cells (process_roots held.old pid.now)) }
     ensures few { IfOk result (AreAtMost 3221225472) }
     ensures held { held.new ≡ held.old }
 {

@@ -5,7 +5,7 @@ ghost use Rattle.dump_sections.specs.Index.{sections_in};
 ghost use Rattle.heap_cells.specs.Loading.{heap_section, literals_section};
 ghost use Rattle.root_views.specs.Kinds.{roots_tag};
 ghost use Rattle.root_views.specs.declared.kinds.RootKind.TheVariants.{Stack, Dict, Mail};
-ghost use Rattle.dump_trial.specs.Trial.{root_section};
+ghost use Rattle.root_views.specs.Sections.{root_section};
 ghost use Rattle.dump_trial.specs.Inner.Finding.{firsts};
 
 use dump_sections::Index;
@@ -64,7 +64,8 @@ impl<'a> Model for Finder<'a> {
 
     ghost view = { λ finder. finder.index.now };
 
-    ghost invariant = { λ f. AreFound f.index.now f.heaps f.stacks f.dictionaries f.mailboxes f.literals f.binaries };
+    ghost invariant = { λ f.
+        AreFound f.index.now f.heaps f.stacks f.dictionaries f.mailboxes f.literals f.binaries };
 }
 
 impl<'a> Finder<'a> {
@@ -112,7 +113,8 @@ impl<'a> Finder<'a> {
 
     /// The place of the section with the roots of a kind and a pid.
     pub(crate) fn roots(&self, kind: RootKind, pid: &[u8]) -> Option<usize>
-        ensures section { section_in self.now result ≡ root_section kind pid.now (sections_in self.now) }
+        ensures section { section_in self.now result
+            ≡ root_section kind pid.now (sections_in self.now) }
         ensures within { IfSome result (λ i. i < length self.now.headers) }
     {
         match kind {

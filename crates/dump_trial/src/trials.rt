@@ -2,7 +2,7 @@
 ghost use Rattle.std.specs.Prelude.{◌≡◌, ◌≤◌, length, All, None, IfOk};
 ghost use Rattle.dump_sections.specs.Index.{IsIndexOf};
 ghost use Rattle.process_table.specs.Processes.{IsProcessIn, process_table};
-ghost use Rattle.dump_audit.specs.Findings.{audit_of, findings};
+ghost use Rattle.dump_audit.specs.Findings.{audit_of, findings, findings_in};
 ghost use Rattle.dump_trial.specs.Trial.{queue_limit, summary_of, tally_of, trial_of};
 
 use crate::counting::count_processes;
@@ -23,7 +23,7 @@ const QUEUE_LIMIT: u64 = 8;
 // How much an audit finds.
 fn count_findings(alloc: Global, index: &Index, procs: &Procs) -> Result<u64, AllocError>
     requires { All (IsProcessIn index.now) procs.now.processes }
-    ensures { IfOk result (λ count. count ≡ length (findings (audit_of index.now procs.now.processes queue_limit None))) }
+    ensures { IfOk result (λ count. count ≡ length (findings_in index.now procs.now queue_limit None)) }
 {
     let graph = Graph::build(alloc, procs)?;
     let found = audit(alloc, index, procs, &graph, QUEUE_LIMIT)?;

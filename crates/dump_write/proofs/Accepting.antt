@@ -23,21 +23,21 @@ use Rattle.dump_write.proofs.Divided.{are_line_texts, raw_lines-lines_of, header
 use Rattle.dump_write.proofs.TextLists.{AreTexts}
 
 -- no header is one too many
-no_surplus : (hs : List Header) → length hs ≤ 8000000 → surplus_header hs usual ≡ None
-no_surplus hs few = ap (option_map (λ (h : Header). TooManySections h.at)) (slice_get_past hs 8000000 few)
+no_surplus : (hs : List Header) → length hs ≤ usual.sections → surplus_header hs usual ≡ None
+no_surplus hs few = ap (option_map (λ (h : Header). TooManySections h.at)) (slice_get_past hs usual.sections few)
 
 -- a part of the headers has no more bytes than all
 text_bytes-upto : (at : ℕ) (hs : List Header) → text_bytes (headers_upto at hs) ≤ text_bytes hs
 text_bytes-upto at hs =
     omega (arith, sum_by-filter_both (λ (h : Header). nat_le h.at at) (λ h. not (nat_le h.at at)) (λ _. refl) (λ h. length h.text) hs)
 
-none_over : (all hs : List Header) → text_bytes all ≤ 268435456 → filter (λ (h : Header). nat_lt 268435456 (text_bytes (headers_upto h.at all))) hs ≡ []
+none_over : (all hs : List Header) → text_bytes all ≤ usual.pool → filter (λ (h : Header). nat_lt usual.pool (text_bytes (headers_upto h.at all))) hs ≡ []
 none_over all [] few = refl
 none_over all (h ∷ hs) few =
-    let rest = filter (λ (h : Header). nat_lt 268435456 (text_bytes (headers_upto h.at all))) hs in
-    ap (λ b. cond b (h ∷ rest) rest) (le-ltb 268435456 (text_bytes (headers_upto h.at all)) (omega (arith, text_bytes-upto h.at all, few))) ∙ none_over all hs few
+    let rest = filter (λ (h : Header). nat_lt usual.pool (text_bytes (headers_upto h.at all))) hs in
+    ap (λ b. cond b (h ∷ rest) rest) (le-ltb usual.pool (text_bytes (headers_upto h.at all)) (omega (arith, text_bytes-upto h.at all, few))) ∙ none_over all hs few
 
-none_large : (hs : List Header) → text_bytes hs ≤ 268435456 → large_headers hs usual ≡ None
+none_large : (hs : List Header) → text_bytes hs ≤ usual.pool → large_headers hs usual ≡ None
 none_large hs few = ap (λ (over : List Header). option_map (λ (h : Header). HeadersTooLarge h.at) (slice_get over 0)) (none_over hs hs few)
 
 -- the text of the first line, and what is judged of it
@@ -50,22 +50,22 @@ first_is_known texts are =
     if nat_lt usual.header (length_before_lf raw) then None else version_fault id (version_named id))
     (raw_lines-lines_of (version_line ∷ texts) are)
 
-no_header_fault : (texts : List (List ℕ)) (heads bytes : ℕ) → AreTexts texts heads bytes → heads ≤ 8000000 → bytes ≤ 268435456 → header_fault (lines_of texts) usual ≡ None
+no_header_fault : (texts : List (List ℕ)) (heads bytes : ℕ) → AreTexts texts heads bytes → heads ≤ usual.sections → bytes ≤ usual.pool → header_fault (lines_of texts) usual ≡ None
 no_header_fault texts heads bytes are few small =
     let line_texts = are_line_texts texts are.printed in
     let dump = lines_of texts in
-    let count : length (headers dump) ≤ 8000000 = omega (arith, header_count texts line_texts, are.heads_are, few) in
-    let pool : text_bytes (headers dump) ≤ 268435456 = omega (arith, text_bytes-le texts line_texts, are.most, small) in
+    let count : length (headers dump) ≤ usual.sections = omega (arith, header_count texts line_texts, are.heads_are, few) in
+    let pool : text_bytes (headers dump) ≤ usual.pool = omega (arith, text_bytes-le texts line_texts, are.most, small) in
     ap (λ places. earlier (option_map (λ at. HeaderTooLong at) (slice_get places 0)) (earlier (surplus_header (headers dump) usual) (large_headers (headers dump) usual)))
     (none_too_long 4096 texts line_texts are.short)
     ∙ ap (λ fault. earlier fault (large_headers (headers dump) usual)) (no_surplus (headers dump) count)
     ∙ none_large (headers dump) pool
 
-pub accepted : (texts : List (List ℕ)) (heads bytes : ℕ) → AreTexts (version_line ∷ texts) heads bytes → heads ≤ 8000000 → bytes ≤ 268435456 → IsAccepted (lines_of (version_line ∷ texts)) usual
+pub accepted : (texts : List (List ℕ)) (heads bytes : ℕ) → AreTexts (version_line ∷ texts) heads bytes → heads ≤ usual.sections → bytes ≤ usual.pool → IsAccepted (lines_of (version_line ∷ texts)) usual
 accepted texts heads bytes are few small =
     let all = version_line ∷ texts in
     let dump = lines_of all in
-    ap (λ b. option_or (if b then Some (TooLarge (length dump)) else None) (fault_of dump usual)) (le-ltb 68719476736 (length dump) (omega (arith, are.most, small)))
+    ap (λ b. option_or (if b then Some (TooLarge (length dump)) else None) (fault_of dump usual)) (le-ltb usual.dump (length dump) (omega (arith, are.most, small)))
     ∙ ap (λ fault. option_or fault (header_fault dump usual)) (first_is_known texts (are_line_texts all are.printed))
     ∙ no_header_fault all heads bytes are few small
 

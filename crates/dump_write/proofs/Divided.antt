@@ -10,9 +10,9 @@ use Rattle.dump_io.specs.Lines.{lf, cr, raw_lines, Line, lines_from, is_header, 
 use Rattle.line_source.specs.Streams.{begins_with_equals, length_before_lf, is_too_long, too_long}
 use Rattle.section_index.specs.Opening.{text_bytes}
 use Rattle.dump_write.specs.Written.{lacks, is_line_text, line, lines_of}
-use Rattle.dump_write.proofs.Numerals.{list_all-weaker}
 use Rattle.dump_write.proofs.OneLine.{drop-cons, raw_lines-line, is_header-line, IsOneLine-line, has_lf-line, line_length}
 use Rattle.dump_write.proofs.TextLists.{is_printed}
+use Rattle.dump_io.specs.Laws.Lists.{list_all-weaker}
 
 -- a text without control bytes can stand on a line
 printed_is_no_end : (end c : ℕ) → end < 32 → is_printed c ≡ true → not (c == end) ≡ true

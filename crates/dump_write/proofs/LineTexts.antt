@@ -12,8 +12,10 @@ use Rattle.dump_io.specs.Numbers.{hexadecimal}
 use Rattle.line_source.specs.Streams.{begins_with_equals}
 use Rattle.dump_sections.specs.Sections.{tag_of, id_of}
 use Rattle.dump_write.specs.Written.{lacks, is_line_text, line, header_text, IsHeaderOf}
-use Rattle.dump_write.proofs.Numerals.{is_plain, IsPlain, list_all-weaker, hexadecimal_is_plain, plain_is_no_header}
+use Rattle.dump_write.proofs.Numerals.{is_plain, IsPlain, hexadecimal_is_plain, plain_is_no_header}
 use Rattle.dump_write.proofs.OneLine.{drop-cons, IsOneLine-line, is_header-line}
+use Rattle.dump_io.specs.Laws.Colons.{has_colon-at}
+use Rattle.dump_io.specs.Laws.Lists.{list_all-weaker}
 
 -- the first colon stands behind a text that has none
 first_colon : (tag id : List ℕ) → lacks colon tag ≡ true → position_or_len is_colon (tag ++ colon ∷ id) ≡ length tag
@@ -35,10 +37,6 @@ all_before_colon (c ∷ tag) none =
     let parts = and_parts (not (c == colon)) (lacks colon tag) none in
     ap (λ b. cond b (1 + position_or_len is_colon tag) 0) parts.0 ∙ ap (λ n. 1 + n) (all_before_colon tag parts.1) ∙ (let e : 1 + length tag ≡ suc (length tag) = omega arith in e)
 
-some_colon : (tag id : List ℕ) → has_colon (tag ++ colon ∷ id) ≡ true
-some_colon [] id = refl
-some_colon (c ∷ tag) id = elim (is_colon c) as (λ b. (b || has_colon (tag ++ colon ∷ id)) ≡ true) [ true ↦ refl | false ↦ some_colon tag id ]
-
 behind_colon : (tag id : List ℕ) → drop (length tag + 1) (tag ++ colon ∷ id) ≡ id
 behind_colon [] id = refl
 behind_colon (c ∷ tag) id = let e : length (c ∷ tag) + 1 ≡ suc (length tag + 1) = omega arith in ap (λ n. drop n (c ∷ tag ++ colon ∷ id)) e ∙ behind_colon tag id
@@ -51,7 +49,7 @@ tag_of-header_text tag (Some id) none = ap (λ n. take n (tag ++ colon ∷ id)) 
 id_of-header_text : (tag : List ℕ) (id : Option (List ℕ)) → lacks colon tag ≡ true → id_of (header_text tag id) ≡ id
 id_of-header_text tag None none = ap (λ b. if b then Some (after_colon tag) else None) (no_colon tag none)
 id_of-header_text tag (Some id) none =
-    ap (λ b. if b then Some (after_colon (tag ++ colon ∷ id)) else None) (some_colon tag id)
+    ap (λ b. if b then Some (after_colon (tag ++ colon ∷ id)) else None) (has_colon-at tag id)
     ∙ ap (λ n. Some (drop (n + 1) (tag ++ colon ∷ id))) (first_colon tag id none) ∙ ap Some (behind_colon tag id)
 
 header_begins : (tag : List ℕ) (id : Option (List ℕ)) → begins_with_equals (header_text tag id) ≡ true

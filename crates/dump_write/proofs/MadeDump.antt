@@ -49,7 +49,7 @@ module _ (seed count : ℕ) (small : seed < 2 ^ 64) (some : 1 ≤ count) (few : 
 
   pub made_bodies : All (λ section. body_length section ≤ usual.section) (sections (made seed count))
   unfolding made
-  made_bodies = bodies_are_short (made_texts seed count) (5 * count + 5) 85600136 536870912 (made_are_texts seed count small some few) (omega arith)
+  made_bodies = bodies_are_short (made_texts seed count) (5 * count + 5) 85600136 usual.section (made_are_texts seed count small some few) (omega arith)
 
   pub made_size : length (made seed count) ≤ usual.dense
   unfolding made

@@ -15,13 +15,6 @@ use Rattle.line_source.specs.Streams.{begins_with_equals}
 abbrev pub is_plain : ℕ → Bool
 is_plain c = nat_le 48 c && not (c == equals_sign)
 
--- what passes one test passes another
-pub list_all-weaker : {X : Type 0} (p q : X → Bool) → ((x : X) → p x ≡ true → q x ≡ true) → (xs : List X) → list_all p xs ≡ true → list_all q xs ≡ true
-list_all-weaker p q also [] all = refl
-list_all-weaker p q also (x ∷ xs) all =
-    let parts = and_parts (p x) (list_all p xs) all in
-    and_from (q x) (list_all q xs) (also x parts.0) (list_all-weaker p q also xs parts.1)
-
 digit_from_48 : (c : ℕ) → digit_value c < 16 → (c < 48) ⊎ (48 ≤ c) → 48 ≤ c
 digit_from_48 c digit (inl low) =
     let rest = cond (nat_lt c 58) (c - 48) (cond (nat_lt c 65) 36 (cond (nat_lt c 91) (c - 55) (cond (nat_lt c 97) 36 (cond (nat_lt c 123) (c - 87) 36)))) in

@@ -8,6 +8,7 @@ use Rattle.std.proofs.lemmas.List.{take_at, drop_at}
 use Rattle.dump_io.specs.Lines.{lf, cr, IsEnded, lines_after, raw_lines, text_of, is_header}
 use Rattle.line_source.specs.Streams.{has_lf, begins_with_equals}
 use Rattle.dump_write.specs.Written.{lacks, is_line_text, line, AreWholeLines, IsOneLine}
+use Rattle.dump_io.specs.Laws.Lines.{IsEnded-tail}
 
 -- a text and LF in front of bytes are the first of their lines
 raw_lines-text : (text more : List ℕ) → lacks lf text ≡ true → raw_lines (text ++ lf ∷ more) ≡ line text ∷ raw_lines more
@@ -33,12 +34,6 @@ lines_after-append : (c d : ℕ) (bytes : List ℕ) (more : List (List ℕ)) →
 lines_after-append c d bytes more =
     elim (d == lf) as (λ b. let ls : List (List ℕ) = (if b then (d ∷ []) ∷ raw_lines bytes else lines_after d (raw_lines bytes)) in lines_after c (ls ++ more) ≡ lines_after c ls ++ more)
     [ true ↦ refl | false ↦ lines_after-more c d (raw_lines bytes) more ]
-
--- the last of two bytes or more is the last of all but the first
-IsEnded-tail : (c d : ℕ) (bytes : List ℕ) → IsEnded (c ∷ d ∷ bytes) → IsEnded (d ∷ bytes)
-IsEnded-tail c d bytes ended =
-    let e : length (c ∷ d ∷ bytes) - 1 ≡ suc (length (d ∷ bytes) - 1) = omega arith in
-    sym (ap (λ n. slice_index (c ∷ d ∷ bytes) n) e) ∙ ended
 
 AreWholeLines-tail : (c d : ℕ) (bytes : List ℕ) → AreWholeLines (c ∷ d ∷ bytes) → AreWholeLines (d ∷ bytes)
 AreWholeLines-tail c d bytes (inl none) = cc

@@ -12,7 +12,8 @@ use Rattle.dump_io.specs.Numbers.{hexadecimal}
 use Rattle.dump_io.specs.Laws.Digits.{length-hexadecimal-le}
 use Rattle.line_source.specs.Streams.{begins_with_equals}
 use Rattle.dump_write.specs.Written.{line, lines_of}
-use Rattle.dump_write.proofs.Numerals.{IsPlain, is_plain, list_all-weaker, decimal_is_plain, hexadecimal_is_plain}
+use Rattle.dump_write.proofs.Numerals.{IsPlain, is_plain, decimal_is_plain, hexadecimal_is_plain}
+use Rattle.dump_io.specs.Laws.Lists.{list_all-weaker}
 
 -- a byte that is no control byte
 abbrev pub is_printed : ℕ → Bool

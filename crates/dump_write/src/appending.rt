@@ -31,7 +31,8 @@ fn append_piece(into: &mut Vec<u8>, piece: &Piece<'_>) -> Result<(), AllocError>
 }
 
 pub(crate) fn append_pieces(into: &mut Vec<u8>, pieces: &[Piece<'_>]) -> Result<(), AllocError>
-    ensures { WritesAll (Some into.old.items) (Some into.new.items) (pieces_text pieces.now) result }
+    ensures { WritesAll (Some into.old.items) (Some into.new.items)
+        (pieces_text pieces.now) result }
 {
     for piece in pieces {
         append_piece(into, piece)?;
@@ -41,7 +42,8 @@ pub(crate) fn append_pieces(into: &mut Vec<u8>, pieces: &[Piece<'_>]) -> Result<
 
 // Appends the pieces and LF.
 pub(crate) fn append_line(into: &mut Vec<u8>, pieces: &[Piece<'_>]) -> Result<(), AllocError>
-    ensures { WritesAll (Some into.old.items) (Some into.new.items) (line (pieces_text pieces.now)) result }
+    ensures { WritesAll (Some into.old.items) (Some into.new.items)
+        (line (pieces_text pieces.now)) result }
 {
     append_pieces(into, pieces)?;
     append(into, b"\n")

@@ -20,7 +20,8 @@ pub fn made_dump_is_accepted(seed: u64, count: u32)
     ensures accepted { IsAccepted (made seed count) usual }
     ensures whole { dump_state (headers (made seed count)) ≡ Whole }
     ensures sections { length (sections (made seed count)) ≡ 5 * count + 5 }
-    ensures bodies { All (λ section. body_length section ≤ usual.section) (sections (made seed count)) }
+    ensures bodies { let all = sections (made seed count) in
+        All (λ section. body_length section ≤ usual.section) all }
     ensures heaps { (pid : List ℕ) → heap_weight pid (made seed count) ≤ usual.dense }
 {
     number_is_read();

@@ -20,7 +20,8 @@ fn heap_of(i: u64) -> u64
 
 fn put_first_sections(into: &mut Vec<u8>, seed: u64, count: u64) -> Result<(), AllocError>
     requires { count ≤ 200000 }
-    ensures { OnOk result (into.new.items ≡ into.old.items ++ lines_of (first_sections seed count)) }
+    ensures { OnOk result (into.new.items
+        ≡ into.old.items ++ lines_of (first_sections seed count)) }
 {
     append_lines(
         into,
@@ -34,7 +35,8 @@ fn put_first_sections(into: &mut Vec<u8>, seed: u64, count: u64) -> Result<(), A
 }
 
 fn put_link_list(into: &mut Vec<u8>, queue: u64, next: u64, previous: u64) -> Result<(), AllocError>
-    ensures { OnOk result (into.new.items ≡ into.old.items ++ lines_of (link_list queue next previous ∷ [])) }
+    ensures { OnOk result (into.new.items
+        ≡ into.old.items ++ lines_of (link_list queue next previous ∷ [])) }
 {
     if queue == 0 {
         append_lines(
@@ -62,7 +64,8 @@ fn put_proc_section(
     next: u64,
     previous: u64,
 ) -> Result<(), AllocError>
-    ensures { OnOk result (into.new.items ≡ into.old.items ++ lines_of (proc_section i queue next previous)) }
+    ensures { OnOk result (into.new.items
+        ≡ into.old.items ++ lines_of (proc_section i queue next previous)) }
 {
     append_lines(
         into,
@@ -118,7 +121,8 @@ fn put_messages_section(into: &mut Vec<u8>, i: u64, queue: u64) -> Result<(), Al
 
 fn put_second_cell(into: &mut Vec<u8>, queue: u64, first: u64) -> Result<(), AllocError>
     requires { first ≤ 819200000 }
-    ensures { OnOk result (into.new.items ≡ into.old.items ++ lines_of (second_cell queue first ∷ [])) }
+    ensures { OnOk result (into.new.items
+        ≡ into.old.items ++ lines_of (second_cell queue first ∷ [])) }
 {
     let second = first + 16;
     let tuple = first + 32;
@@ -184,7 +188,8 @@ fn put_process(into: &mut Vec<u8>, seed: u64, count: u64, i: u64) -> Result<(), 
     requires few { count ≤ 200000 }
     requires first { 1 ≤ i }
     requires last { i ≤ count }
-    ensures { OnOk result (into.new.items ≡ into.old.items ++ lines_of (made_process seed count i)) }
+    ensures { OnOk result (into.new.items
+        ≡ into.old.items ++ lines_of (made_process seed count i)) }
 {
     let queue = (seed % 10 + 7 * i) % 10;
     let next = i % count + 1;

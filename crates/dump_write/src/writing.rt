@@ -20,7 +20,8 @@ fn append_header<'a>(
     tag: &'a [u8],
     id: Option<&'a [u8]>,
 ) -> Result<(), AllocError>
-    ensures { WritesAll (Some into.old.items) (Some into.new.items) (line (header_text tag.now (option_copied id.entry))) result }
+    ensures { WritesAll (Some into.old.items) (Some into.new.items)
+        (line (header_text tag.now (option_copied id.entry))) result }
 {
     match id {
         Some(id) => append_line(into, &[Bytes(b"="), Bytes(tag), Bytes(b":"), Bytes(id)]),
@@ -35,9 +36,12 @@ fn append_header<'a>(
 pub fn put_header(into: &mut Vec<u8>, tag: &[u8], id: Option<&[u8]>) -> Result<(), AllocError>
     requires no_colon { IsTrue (lacks colon tag.now) }
     requires text { IsTrue (is_line_text (header_text tag.now (option_copied id))) }
-    ensures appends { WritesAll (Some into.old.items) (Some into.new.items) (line (header_text tag.now (option_copied id.entry))) result }
-    ensures one { let text = header_text tag.now (option_copied id.entry) in IsOneLine text (line text) }
-    ensures header { IsHeaderOf (line (header_text tag.now (option_copied id.entry))) tag.now (option_copied id.entry) }
+    ensures appends { WritesAll (Some into.old.items) (Some into.new.items)
+        (line (header_text tag.now (option_copied id.entry))) result }
+    ensures one { let text = header_text tag.now (option_copied id.entry) in
+        IsOneLine text (line text) }
+    ensures header { let id = option_copied id.entry in
+        IsHeaderOf (line (header_text tag.now id)) tag.now id }
 {
     append_header(into, tag, id)
 }
@@ -55,7 +59,8 @@ pub fn put_line(into: &mut Vec<u8>, text: &[u8]) -> Result<(), AllocError>
 }
 
 fn append_cell(into: &mut Vec<u8>, addr: u64, f: &Form<'_>) -> Result<(), AllocError>
-    ensures { WritesAll (Some into.old.items) (Some into.new.items) (line (heap_text addr (heap_form f.now))) result }
+    ensures { WritesAll (Some into.old.items) (Some into.new.items)
+        (line (heap_text addr (heap_form f.now))) result }
 {
     append_pieces(into, &[Hex(addr), Bytes(b":")])?;
     put_form(into, f)?;
@@ -67,7 +72,8 @@ fn append_cell(into: &mut Vec<u8>, addr: u64, f: &Form<'_>) -> Result<(), AllocE
 /// error only if memory is lacking; a proper prefix of the line was appended then.
 pub fn put_heap(into: &mut Vec<u8>, addr: u64, f: &Form<'_>) -> Result<(), AllocError>
     requires { IsTrue (is_line_text (plain_form (heap_form f.now))) }
-    ensures appends { WritesAll (Some into.old.items) (Some into.new.items) (line (heap_text addr (heap_form f.now))) result }
+    ensures appends { WritesAll (Some into.old.items) (Some into.new.items)
+        (line (heap_text addr (heap_form f.now))) result }
     ensures one { let text = heap_text addr (heap_form f.now) in IsOneLine text (line text) }
     ensures no_header { is_header (line (heap_text addr (heap_form f.now))) ≡ false }
 {

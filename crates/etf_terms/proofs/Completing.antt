@@ -5,7 +5,7 @@ use Rattle.etf_terms.specs.Heads.{Head, Small, Int, Atom, Tuple, Nil, Chars, Lin
 use Rattle.etf_terms.specs.Layouts.{Layout, end, byte, IsLaid}
 use Rattle.etf_terms.specs.Table.{is_tag, row, head_layout}
 use Rattle.etf_terms.specs.Terms.{node, none, more, IsTerm}
-use Rattle.etf_terms.proofs.Joins.{Live, IsLive, any-joins, number4-joins, sized1-joins, sized2-joins, sized4-joins, pid88-joins, pid103-joins, float-joins, bits-joins, port89-joins, port102-joins, port120-joins, ref90-joins, ref114-joins, big110-joins, big111-joins, closure-joins, export-joins}
+use Rattle.etf_terms.proofs.Joins.{Live, IsLive, any-joins, number4-joins, sized1-joins, sized2-joins, sized4-joins, pid_with-joins, float-joins, bits-joins, port_with-joins, port120-joins, ref_with-joins, small_big-joins, large_big-joins, closure-joins, export-joins}
 use Rattle.etf_terms.proofs.Stepping.{Counted, counted-none, Follows, follows-end, follows-byte}
 
 live-end : (h : Head) → IsLive (end h)
@@ -20,25 +20,25 @@ unfolding row
 live-row tag =
     live-found (tag == 70) _ _ (float-joins.live end live-end)
     (live-found (tag == 77) _ _ (bits-joins.live end live-end)
-    (live-found (tag == 88) _ _ (pid88-joins.live end live-end)
-    (live-found (tag == 89) _ _ (port89-joins.live end live-end)
-    (live-found (tag == 90) _ _ (ref90-joins.live end live-end)
+    (live-found (tag == 88) _ _ ((pid_with-joins true).live end live-end)
+    (live-found (tag == 89) _ _ ((port_with-joins true).live end live-end)
+    (live-found (tag == 90) _ _ ((ref_with-joins true).live end live-end)
     (live-found (tag == 97) _ _ (any-joins.live _ (λ x. live-end (Small x)))
     (live-found (tag == 98) _ _ (number4-joins.live _ (λ x. live-end (Int x)))
     (live-found (tag == 100) _ _ (sized2-joins.live _ (λ x. live-end (Atom x)))
-    (live-found (tag == 102) _ _ (port102-joins.live end live-end)
-    (live-found (tag == 103) _ _ (pid103-joins.live end live-end)
+    (live-found (tag == 102) _ _ ((port_with-joins false).live end live-end)
+    (live-found (tag == 103) _ _ ((pid_with-joins false).live end live-end)
     (live-found (tag == 104) _ _ (any-joins.live _ (λ x. live-end (Tuple x)))
     (live-found (tag == 105) _ _ (number4-joins.live _ (λ x. live-end (Tuple x)))
     (live-found (tag == 106) _ _ (live-end Nil)
     (live-found (tag == 107) _ _ (sized2-joins.live _ (λ x. live-end (Chars x)))
     (live-found (tag == 108) _ _ (number4-joins.live _ (λ x. live-end (Linked x)))
     (live-found (tag == 109) _ _ (sized4-joins.live _ (λ x. live-end (Bin x)))
-    (live-found (tag == 110) _ _ (big110-joins.live end live-end)
-    (live-found (tag == 111) _ _ (big111-joins.live end live-end)
+    (live-found (tag == 110) _ _ (small_big-joins.live end live-end)
+    (live-found (tag == 111) _ _ (large_big-joins.live end live-end)
     (live-found (tag == 112) _ _ (closure-joins.live end live-end)
     (live-found (tag == 113) _ _ (export-joins.live end live-end)
-    (live-found (tag == 114) _ _ (ref114-joins.live end live-end)
+    (live-found (tag == 114) _ _ ((ref_with-joins false).live end live-end)
     (live-found (tag == 115) _ _ (sized1-joins.live _ (λ x. live-end (Atom x)))
     (live-found (tag == 116) _ _ (number4-joins.live _ (λ x. live-end (Pairs x)))
     (live-found (tag == 118) _ _ (sized2-joins.live _ (λ x. live-end (Atom x)))

@@ -4,7 +4,7 @@ use Rattle.std.specs.Int.{w16, w32, w64, from_be_bytes}
 use Rattle.etf_terms.specs.Heads.{Head, Float, Bits, Pid, Port, Ref, Big, Fun, Export}
 use Rattle.etf_terms.specs.Layouts.{Layout, end, byte, any_byte, run, number2, number4, number8}
 use Rattle.etf_terms.specs.Table.{head_layout, sized, atom, small, integer, pid_with, pid, sign, bits}
-use Rattle.etf_terms.specs.Inner.Parts.{Parsed, ◌>>=◌, byte_of, run_of, number2_of, number4_of, number8_of, sized1_of, sized2_of, sized4_of, atom_of, small_of, integer_of, pid88_of, pid103_of, pid_of, sign_of, part_of, float_of, bits_of, port89_of, port102_of, port120_of, ref90_of, ref114_of, big110_of, big111_of, owner_of, closure_of, export_of, parsed, head_of}
+use Rattle.etf_terms.specs.Inner.Parts.{Parsed, ◌>>=◌, byte_of, run_of, number2_of, number4_of, number8_of, sized1_of, sized2_of, sized4_of, atom_of, small_of, integer_of, creation_of, pid_with_of, pid_of, sign_of, part_of, float_of, bits_of, port_with_of, port120_of, ref_with_of, big_of, small_big_of, large_big_of, owner_of, closure_of, export_of, parsed, head_of}
 use Rattle.etf_terms.specs.Inner.Walks.{Reading, Off, reading}
 
 -- some byte may stand wherever one has to, and so on behind it
@@ -150,19 +150,24 @@ integer-joins =
     first _ (λ tag next. cond (tag == 97) (run 1 next) (run 4 next)) integer_of 97 (omega arith) refl refl
     (λ tag. or (tag == 97) (run-joins 1) (last (tag == 98) (run-joins 4)))
 
-pub pid88-joins : Joins (pid_with number4) pid88_of
-unfolding pid88_of
-pid88-joins = then atom-joins (λ name. then number4-joins (λ id. then number4-joins (λ serial. then number4-joins (λ creation. done (Pid name id serial creation)))))
+-- a creation in four bytes, or in one
+abbrev pub creation : Bool → (ℕ → Layout) → Layout
+creation wide next = cond wide (number4 next) (any_byte next)
 
-pub pid103-joins : Joins (pid_with any_byte) pid103_of
-unfolding pid103_of
-pid103-joins = then atom-joins (λ name. then number4-joins (λ id. then number4-joins (λ serial. then any-joins (λ creation. done (Pid name id serial creation)))))
+creation-joins : (wide : Bool) → Joins (creation wide) (creation_of wide)
+unfolding creation_of
+creation-joins true = read-as (λ bytes. refl) number4-joins
+creation-joins false = read-as (λ bytes. refl) any-joins
+
+pub pid_with-joins : (wide : Bool) → Joins (pid_with (creation wide)) (pid_with_of wide)
+unfolding pid_with_of
+pid_with-joins wide = then atom-joins (λ name. then number4-joins (λ id. then number4-joins (λ serial. then (creation-joins wide) (λ c. done (Pid name id serial c)))))
 
 pid-joins : Joins pid pid_of
 unfolding pid_of
 pid-joins =
     first _ (λ tag next. cond (tag == 88) (pid_with number4 next) (pid_with any_byte next)) pid_of 88 (omega arith) refl refl
-    (λ tag. or (tag == 88) pid88-joins (last (tag == 103) pid103-joins))
+    (λ tag. or (tag == 88) (pid_with-joins true) (last (tag == 103) (pid_with-joins false)))
 
 sign-joins : Joins sign sign_of
 unfolding sign_of
@@ -182,33 +187,30 @@ pub bits-joins : Joins (λ next. number4 (λ n. bits (λ b. run n (λ bytes. nex
 unfolding bits_of
 bits-joins = then number4-joins (λ n. then part-joins (λ b. then (run-joins n) (λ bytes. done (Bits b bytes))))
 
-pub port89-joins : Joins (λ next. atom (λ name. number4 (λ id. number4 (λ creation. next (Port name id creation))))) port89_of
-unfolding port89_of
-port89-joins = then atom-joins (λ name. then number4-joins (λ id. then number4-joins (λ creation. done (Port name id creation))))
-
-pub port102-joins : Joins (λ next. atom (λ name. number4 (λ id. any_byte (λ creation. next (Port name id creation))))) port102_of
-unfolding port102_of
-port102-joins = then atom-joins (λ name. then number4-joins (λ id. then any-joins (λ creation. done (Port name id creation))))
+pub port_with-joins : (wide : Bool) → Joins (λ next. atom (λ name. number4 (λ id. creation wide (λ c. next (Port name id c))))) (port_with_of wide)
+unfolding port_with_of
+port_with-joins wide = then atom-joins (λ name. then number4-joins (λ id. then (creation-joins wide) (λ c. done (Port name id c))))
 
 pub port120-joins : Joins (λ next. atom (λ name. number8 (λ id. number4 (λ creation. next (Port name id creation))))) port120_of
 unfolding port120_of
 port120-joins = then atom-joins (λ name. then number8-joins (λ id. then number4-joins (λ creation. done (Port name id creation))))
 
-pub ref90-joins : Joins (λ next. number2 (λ n. atom (λ name. number4 (λ creation. run (4 * n) (λ words. next (Ref name creation words)))))) ref90_of
-unfolding ref90_of
-ref90-joins = then number2-joins (λ n. then atom-joins (λ name. then number4-joins (λ creation. then (run-joins (4 * n)) (λ words. done (Ref name creation words)))))
+pub ref_with-joins : (wide : Bool)
+    → Joins (λ next. number2 (λ n. atom (λ name. creation wide (λ c. run (4 * n) (λ words. next (Ref name c words)))))) (ref_with_of wide)
+unfolding ref_with_of
+ref_with-joins wide = then number2-joins (λ n. then atom-joins (λ name. then (creation-joins wide) (λ c. then (run-joins (4 * n)) (λ words. done (Ref name c words)))))
 
-pub ref114-joins : Joins (λ next. number2 (λ n. atom (λ name. any_byte (λ creation. run (4 * n) (λ words. next (Ref name creation words)))))) ref114_of
-unfolding ref114_of
-ref114-joins = then number2-joins (λ n. then atom-joins (λ name. then any-joins (λ creation. then (run-joins (4 * n)) (λ words. done (Ref name creation words)))))
+big-joins : (n : ℕ) → Joins (λ next. sign (λ s. run n (λ digits. next (Big s digits)))) (big_of n)
+unfolding big_of
+big-joins n = then sign-joins (λ s. then (run-joins n) (λ digits. done (Big s digits)))
 
-pub big110-joins : Joins (λ next. any_byte (λ n. sign (λ s. run n (λ digits. next (Big s digits))))) big110_of
-unfolding big110_of
-big110-joins = then any-joins (λ n. then sign-joins (λ s. then (run-joins n) (λ digits. done (Big s digits))))
+pub small_big-joins : Joins (λ next. any_byte (λ n. sign (λ s. run n (λ digits. next (Big s digits))))) small_big_of
+unfolding small_big_of
+small_big-joins = then any-joins big-joins
 
-pub big111-joins : Joins (λ next. number4 (λ n. sign (λ s. run n (λ digits. next (Big s digits))))) big111_of
-unfolding big111_of
-big111-joins = then number4-joins (λ n. then sign-joins (λ s. then (run-joins n) (λ digits. done (Big s digits))))
+pub large_big-joins : Joins (λ next. number4 (λ n. sign (λ s. run n (λ digits. next (Big s digits))))) large_big_of
+unfolding large_big_of
+large_big-joins = then number4-joins big-joins
 
 -- the last fields of tag 112, whose values don't count
 owner-joins : Joins (λ next. integer (λ old_index. integer (λ old_unique. pid next))) owner_of

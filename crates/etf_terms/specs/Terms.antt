@@ -5,9 +5,11 @@ use Rattle.etf_terms.specs.Layouts.{IsLaid}
 use Rattle.etf_terms.specs.Table.{head_layout}
 
 mutual
+  -- a term: its first bytes, and the terms in it
   pub data Term : Type 0 where
     node : Head → Terms → Term
 
+  -- terms in a row
   pub data Terms : Type 0 where
     none : Terms
     more : Term → Terms → Terms

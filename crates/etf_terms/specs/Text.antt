@@ -72,9 +72,12 @@ abbrev pub fun_text : List ℕ → ℕ → ℕ → List ℕ
 fun_text name index arity = codes "#Fun<" ++ (atom_text name ++ (codes "/" ++ (decimal index ++ (codes "/" ++ (decimal arity ++ codes ":")))))
 
 -- the digits in base 256 from the last to the first
+abbrev pub digits_text : List ℕ → List ℕ
+digits_text digits = if length digits == 0 then codes "00" else flat_map hex_byte (reverse digits)
+
+-- the sign of a big number, and its digits
 abbrev pub big_text : ℕ → List ℕ → List ℕ
-big_text sign digits =
-    (if sign == 1 then codes "-" else []) ++ (codes "16#" ++ (if length digits == 0 then codes "00" else flat_map hex_byte (reverse digits)))
+big_text sign digits = (if sign == 1 then codes "-" else []) ++ (codes "16#" ++ digits_text digits)
 
 -- a head's own text, before its terms
 abbrev pub opening_text : Head → List ℕ

@@ -17,7 +17,7 @@ use std::alloc::{AllocError, Global};
 use std::marker::Model;
 
 /// Why bytes aren't read.
-#[derive(Debug, Drop)]
+#[derive(Drop)]
 pub enum ExtFault {
     /// They aren't 131 and one term; `at` is the length of their longest prefix that begins some 131 and term.
     Bad { at: u64 },

@@ -1,7 +1,7 @@
 // Heads: what a term is, apart from the terms after it.
 ghost use Rattle.std.specs.Prelude.{◌≡◌, ◌≤◌, ◌^◌, Ok};
 ghost use Rattle.etf_terms.specs.Heads.{Small, Int, Atom, Tuple, Chars, Linked, Bin, Pairs, kids};
-ghost use Rattle.etf_terms.specs.Inner.Parts.{Gives, head, headed, byte_of, run_of, number2_of, number4_of, number8_of, sized1_of, sized2_of, sized4_of, atom_of, small_of, integer_of, pid88_of, pid103_of, pid_of, sign_of, part_of, float_of, bits_of, port89_of, port102_of, port120_of, ref90_of, ref114_of, big110_of, big111_of, owner_of, closure_of, export_of, head_of};
+ghost use Rattle.etf_terms.specs.Inner.Parts.{Gives, head, headed, byte_of, run_of, number2_of, number4_of, number8_of, sized1_of, sized2_of, sized4_of, atom_of, small_of, integer_of, creation_of, pid_with_of, pid_of, sign_of, part_of, float_of, bits_of, port_with_of, port120_of, ref_with_of, big_of, small_big_of, large_big_of, owner_of, closure_of, export_of, head_of};
 
 /// A head, as a part of the bytes from which it was read; `specs/Heads.antt` says what the fields are.
 #[derive(Clone, Copy)]
@@ -23,6 +23,17 @@ pub(crate) enum HeadRead<'a> {
     Fun(&'a [u8], u32, u8, u32),
     Export(&'a [u8], &'a [u8], u8),
     Pairs(u32),
+}
+
+// What a reader took and what follows. It stands for `?`, which would
+// also convert the error: that is a number here, and needs no conversion.
+macro_rules! taken {
+    ($read:expr) => {
+        match $read {
+            Ok(found) => found,
+            Err(left) => return Err(left),
+        }
+    };
 }
 
 // Each reader takes what it reads off the front, or returns how
@@ -96,7 +107,7 @@ fn number8(bytes: &[u8]) -> Result<(u64, &[u8]), usize>
 fn sized1(bytes: &[u8]) -> Result<(&[u8], &[u8]), usize>
     ensures { Gives (λ x. (x.0.now, x.1.now)) result (sized1_of bytes.now) }
 {
-    let (n, rest) = byte(bytes)?;
+    let (n, rest) = taken!(byte(bytes));
     run(rest, n as usize)
 }
 
@@ -104,7 +115,7 @@ fn sized1(bytes: &[u8]) -> Result<(&[u8], &[u8]), usize>
 fn sized2(bytes: &[u8]) -> Result<(&[u8], &[u8]), usize>
     ensures { Gives (λ x. (x.0.now, x.1.now)) result (sized2_of bytes.now) }
 {
-    let (n, rest) = number2(bytes)?;
+    let (n, rest) = taken!(number2(bytes));
     run(rest, n as usize)
 }
 
@@ -112,7 +123,7 @@ fn sized2(bytes: &[u8]) -> Result<(&[u8], &[u8]), usize>
 fn sized4(bytes: &[u8]) -> Result<(&[u8], &[u8]), usize>
     ensures { Gives (λ x. (x.0.now, x.1.now)) result (sized4_of bytes.now) }
 {
-    let (n, rest) = number4(bytes)?;
+    let (n, rest) = taken!(number4(bytes));
     run(rest, n as usize)
 }
 
@@ -156,26 +167,28 @@ fn integer(bytes: &[u8]) -> Result<(&[u8], &[u8]), usize>
     }
 }
 
-#[tactic(auto, unfolding(crate::specs::Inner::Parts::pid88_of))]
-fn pid88(bytes: &[u8]) -> Result<(HeadRead<'_>, &[u8]), usize>
-    ensures { Gives (λ x. (head x.0, x.1.now)) result (pid88_of bytes.now) }
+// A number in four bytes, or in one.
+#[tactic(auto, unfolding(crate::specs::Inner::Parts::creation_of))]
+fn creation(bytes: &[u8], wide: bool) -> Result<(u32, &[u8]), usize>
+    ensures { Gives (λ x. (x.0, x.1.now)) result (creation_of wide bytes.now) }
 {
-    let (name, rest) = atom(bytes)?;
-    let (id, rest) = number4(rest)?;
-    let (serial, rest) = number4(rest)?;
-    let (creation, rest) = number4(rest)?;
-    Ok((HeadRead::Pid(name, id, serial, creation), rest))
+    if wide {
+        return number4(bytes);
+    }
+    let (creation, rest) = taken!(byte(bytes));
+    Ok((creation as u32, rest))
 }
 
-#[tactic(auto, unfolding(crate::specs::Inner::Parts::pid103_of))]
-fn pid103(bytes: &[u8]) -> Result<(HeadRead<'_>, &[u8]), usize>
-    ensures { Gives (λ x. (head x.0, x.1.now)) result (pid103_of bytes.now) }
+// What follows tag 88 or 103, which differ in how the creation is written.
+#[tactic(auto, unfolding(crate::specs::Inner::Parts::pid_with_of))]
+fn pid_with(bytes: &[u8], wide: bool) -> Result<(HeadRead<'_>, &[u8]), usize>
+    ensures { Gives (λ x. (head x.0, x.1.now)) result (pid_with_of wide bytes.now) }
 {
-    let (name, rest) = atom(bytes)?;
-    let (id, rest) = number4(rest)?;
-    let (serial, rest) = number4(rest)?;
-    let (creation, rest) = byte(rest)?;
-    Ok((HeadRead::Pid(name, id, serial, creation as u32), rest))
+    let (name, rest) = taken!(atom(bytes));
+    let (id, rest) = taken!(number4(rest));
+    let (serial, rest) = taken!(number4(rest));
+    let (creation, rest) = taken!(creation(rest, wide));
+    Ok((HeadRead::Pid(name, id, serial, creation), rest))
 }
 
 // A term of tag 88 or 103.
@@ -185,8 +198,8 @@ fn pid(bytes: &[u8]) -> Result<(HeadRead<'_>, &[u8]), usize>
 {
     match bytes {
         [] => Err(0),
-        [88, rest @ ..] => pid88(rest),
-        [103, rest @ ..] => pid103(rest),
+        [88, rest @ ..] => pid_with(rest, true),
+        [103, rest @ ..] => pid_with(rest, false),
         [_, ..] => Err(bytes.len()),
     }
 }
@@ -229,7 +242,7 @@ fn part(bytes: &[u8]) -> Result<(u8, &[u8]), usize>
 fn float(bytes: &[u8]) -> Result<(HeadRead<'_>, &[u8]), usize>
     ensures { Gives (λ x. (head x.0, x.1.now)) result (float_of bytes.now) }
 {
-    let (eight, rest) = run(bytes, 8)?;
+    let (eight, rest) = taken!(run(bytes, 8));
     Ok((HeadRead::Float(eight), rest))
 }
 
@@ -237,82 +250,69 @@ fn float(bytes: &[u8]) -> Result<(HeadRead<'_>, &[u8]), usize>
 fn bits(bytes: &[u8]) -> Result<(HeadRead<'_>, &[u8]), usize>
     ensures { Gives (λ x. (head x.0, x.1.now)) result (bits_of bytes.now) }
 {
-    let (n, rest) = number4(bytes)?;
-    let (b, rest) = part(rest)?;
-    let (found, rest) = run(rest, n as usize)?;
+    let (n, rest) = taken!(number4(bytes));
+    let (b, rest) = taken!(part(rest));
+    let (found, rest) = taken!(run(rest, n as usize));
     Ok((HeadRead::Bits(b, found), rest))
 }
 
-#[tactic(auto, unfolding(crate::specs::Inner::Parts::port89_of))]
-fn port89(bytes: &[u8]) -> Result<(HeadRead<'_>, &[u8]), usize>
-    ensures { Gives (λ x. (head x.0, x.1.now)) result (port89_of bytes.now) }
+// What follows tag 89 or 102, which differ in how the creation is written.
+#[tactic(auto, unfolding(crate::specs::Inner::Parts::port_with_of))]
+fn port_with(bytes: &[u8], wide: bool) -> Result<(HeadRead<'_>, &[u8]), usize>
+    ensures { Gives (λ x. (head x.0, x.1.now)) result (port_with_of wide bytes.now) }
 {
-    let (name, rest) = atom(bytes)?;
-    let (id, rest) = number4(rest)?;
-    let (creation, rest) = number4(rest)?;
+    let (name, rest) = taken!(atom(bytes));
+    let (id, rest) = taken!(number4(rest));
+    let (creation, rest) = taken!(creation(rest, wide));
     Ok((HeadRead::Port(name, id as u64, creation), rest))
-}
-
-#[tactic(auto, unfolding(crate::specs::Inner::Parts::port102_of))]
-fn port102(bytes: &[u8]) -> Result<(HeadRead<'_>, &[u8]), usize>
-    ensures { Gives (λ x. (head x.0, x.1.now)) result (port102_of bytes.now) }
-{
-    let (name, rest) = atom(bytes)?;
-    let (id, rest) = number4(rest)?;
-    let (creation, rest) = byte(rest)?;
-    Ok((HeadRead::Port(name, id as u64, creation as u32), rest))
 }
 
 #[tactic(auto, unfolding(crate::specs::Inner::Parts::port120_of))]
 fn port120(bytes: &[u8]) -> Result<(HeadRead<'_>, &[u8]), usize>
     ensures { Gives (λ x. (head x.0, x.1.now)) result (port120_of bytes.now) }
 {
-    let (name, rest) = atom(bytes)?;
-    let (id, rest) = number8(rest)?;
-    let (creation, rest) = number4(rest)?;
+    let (name, rest) = taken!(atom(bytes));
+    let (id, rest) = taken!(number8(rest));
+    let (creation, rest) = taken!(number4(rest));
     Ok((HeadRead::Port(name, id, creation), rest))
 }
 
-#[tactic(auto, unfolding(crate::specs::Inner::Parts::ref90_of))]
-fn ref90(bytes: &[u8]) -> Result<(HeadRead<'_>, &[u8]), usize>
-    ensures { Gives (λ x. (head x.0, x.1.now)) result (ref90_of bytes.now) }
+// What follows tag 90 or 114, which differ in how the creation is written.
+#[tactic(auto, unfolding(crate::specs::Inner::Parts::ref_with_of))]
+fn ref_with(bytes: &[u8], wide: bool) -> Result<(HeadRead<'_>, &[u8]), usize>
+    ensures { Gives (λ x. (head x.0, x.1.now)) result (ref_with_of wide bytes.now) }
 {
-    let (n, rest) = number2(bytes)?;
-    let (name, rest) = atom(rest)?;
-    let (creation, rest) = number4(rest)?;
-    let (words, rest) = run(rest, 4 * n as usize)?;
+    let (n, rest) = taken!(number2(bytes));
+    let (name, rest) = taken!(atom(rest));
+    let (creation, rest) = taken!(creation(rest, wide));
+    let (words, rest) = taken!(run(rest, 4 * n as usize));
     Ok((HeadRead::Ref(name, creation, words), rest))
 }
 
-#[tactic(auto, unfolding(crate::specs::Inner::Parts::ref114_of))]
-fn ref114(bytes: &[u8]) -> Result<(HeadRead<'_>, &[u8]), usize>
-    ensures { Gives (λ x. (head x.0, x.1.now)) result (ref114_of bytes.now) }
+// The sign of a big number and its digits.
+#[tactic(auto, unfolding(crate::specs::Inner::Parts::big_of))]
+fn big(bytes: &[u8], n: usize) -> Result<(HeadRead<'_>, &[u8]), usize>
+    ensures { Gives (λ x. (head x.0, x.1.now)) result (big_of n bytes.now) }
 {
-    let (n, rest) = number2(bytes)?;
-    let (name, rest) = atom(rest)?;
-    let (creation, rest) = byte(rest)?;
-    let (words, rest) = run(rest, 4 * n as usize)?;
-    Ok((HeadRead::Ref(name, creation as u32, words), rest))
-}
-
-#[tactic(auto, unfolding(crate::specs::Inner::Parts::big110_of))]
-fn big110(bytes: &[u8]) -> Result<(HeadRead<'_>, &[u8]), usize>
-    ensures { Gives (λ x. (head x.0, x.1.now)) result (big110_of bytes.now) }
-{
-    let (n, rest) = byte(bytes)?;
-    let (s, rest) = sign(rest)?;
-    let (digits, rest) = run(rest, n as usize)?;
+    let (s, rest) = taken!(sign(bytes));
+    let (digits, rest) = taken!(run(rest, n));
     Ok((HeadRead::Big(s, digits), rest))
 }
 
-#[tactic(auto, unfolding(crate::specs::Inner::Parts::big111_of))]
-fn big111(bytes: &[u8]) -> Result<(HeadRead<'_>, &[u8]), usize>
-    ensures { Gives (λ x. (head x.0, x.1.now)) result (big111_of bytes.now) }
+#[tactic(auto, unfolding(crate::specs::Inner::Parts::small_big_of))]
+fn small_big(bytes: &[u8]) -> Result<(HeadRead<'_>, &[u8]), usize>
+    ensures { Gives (λ x. (head x.0, x.1.now)) result (small_big_of bytes.now) }
 {
-    let (n, rest) = number4(bytes)?;
-    let (s, rest) = sign(rest)?;
-    let (digits, rest) = run(rest, n as usize)?;
-    Ok((HeadRead::Big(s, digits), rest))
+    let (n, rest) = taken!(byte(bytes));
+    big(rest, n as usize)
+}
+
+#[tactic(auto, unfolding(crate::specs::Inner::Parts::large_big_of))]
+fn large_big(bytes: &[u8]) -> Result<(HeadRead<'_>, &[u8]), usize>
+    ensures { Gives (λ x. (head x.0, x.1.now)) result (large_big_of bytes.now) }
+{
+    let (n, rest) = taken!(number4(bytes));
+    big(rest, n as usize)
 }
 
 // The two integers and the pid after a function's name.
@@ -320,8 +320,8 @@ fn big111(bytes: &[u8]) -> Result<(HeadRead<'_>, &[u8]), usize>
 fn owner(bytes: &[u8]) -> Result<(HeadRead<'_>, &[u8]), usize>
     ensures { Gives (λ x. (head x.0, x.1.now)) result (owner_of bytes.now) }
 {
-    let (_old_index, rest) = integer(bytes)?;
-    let (_old_unique, rest) = integer(rest)?;
+    let (_old_index, rest) = taken!(integer(bytes));
+    let (_old_unique, rest) = taken!(integer(rest));
     pid(rest)
 }
 
@@ -329,13 +329,13 @@ fn owner(bytes: &[u8]) -> Result<(HeadRead<'_>, &[u8]), usize>
 fn closure(bytes: &[u8]) -> Result<(HeadRead<'_>, &[u8]), usize>
     ensures { Gives (λ x. (head x.0, x.1.now)) result (closure_of bytes.now) }
 {
-    let (_size, rest) = number4(bytes)?;
-    let (arity, rest) = byte(rest)?;
-    let (_unique, rest) = run(rest, 16)?;
-    let (index, rest) = number4(rest)?;
-    let (n, rest) = number4(rest)?;
-    let (name, rest) = atom(rest)?;
-    let (_owner, rest) = owner(rest)?;
+    let (_size, rest) = taken!(number4(bytes));
+    let (arity, rest) = taken!(byte(rest));
+    let (_unique, rest) = taken!(run(rest, 16));
+    let (index, rest) = taken!(number4(rest));
+    let (n, rest) = taken!(number4(rest));
+    let (name, rest) = taken!(atom(rest));
+    let (_owner, rest) = taken!(owner(rest));
     Ok((HeadRead::Fun(name, index, arity, n), rest))
 }
 
@@ -343,79 +343,79 @@ fn closure(bytes: &[u8]) -> Result<(HeadRead<'_>, &[u8]), usize>
 fn export(bytes: &[u8]) -> Result<(HeadRead<'_>, &[u8]), usize>
     ensures { Gives (λ x. (head x.0, x.1.now)) result (export_of bytes.now) }
 {
-    let (name, rest) = atom(bytes)?;
-    let (function, rest) = atom(rest)?;
-    let (arity, rest) = small(rest)?;
+    let (name, rest) = taken!(atom(bytes));
+    let (function, rest) = taken!(atom(rest));
+    let (arity, rest) = taken!(small(rest));
     Ok((HeadRead::Export(name, function, arity), rest))
 }
 
 fn small_int(bytes: &[u8]) -> Result<(HeadRead<'_>, &[u8]), usize>
     ensures { Gives (λ x. (head x.0, x.1.now)) result (headed Small (byte_of bytes.now)) }
 {
-    let (value, rest) = byte(bytes)?;
+    let (value, rest) = taken!(byte(bytes));
     Ok((HeadRead::Small(value), rest))
 }
 
 fn int(bytes: &[u8]) -> Result<(HeadRead<'_>, &[u8]), usize>
     ensures { Gives (λ x. (head x.0, x.1.now)) result (headed Int (number4_of bytes.now)) }
 {
-    let (value, rest) = number4(bytes)?;
+    let (value, rest) = taken!(number4(bytes));
     Ok((HeadRead::Int(value), rest))
 }
 
 fn short_atom(bytes: &[u8]) -> Result<(HeadRead<'_>, &[u8]), usize>
     ensures { Gives (λ x. (head x.0, x.1.now)) result (headed Atom (sized1_of bytes.now)) }
 {
-    let (name, rest) = sized1(bytes)?;
+    let (name, rest) = taken!(sized1(bytes));
     Ok((HeadRead::Atom(name), rest))
 }
 
 fn long_atom(bytes: &[u8]) -> Result<(HeadRead<'_>, &[u8]), usize>
     ensures { Gives (λ x. (head x.0, x.1.now)) result (headed Atom (sized2_of bytes.now)) }
 {
-    let (name, rest) = sized2(bytes)?;
+    let (name, rest) = taken!(sized2(bytes));
     Ok((HeadRead::Atom(name), rest))
 }
 
 fn small_tuple(bytes: &[u8]) -> Result<(HeadRead<'_>, &[u8]), usize>
     ensures { Gives (λ x. (head x.0, x.1.now)) result (headed Tuple (byte_of bytes.now)) }
 {
-    let (n, rest) = byte(bytes)?;
+    let (n, rest) = taken!(byte(bytes));
     Ok((HeadRead::Tuple(n as u32), rest))
 }
 
 fn large_tuple(bytes: &[u8]) -> Result<(HeadRead<'_>, &[u8]), usize>
     ensures { Gives (λ x. (head x.0, x.1.now)) result (headed Tuple (number4_of bytes.now)) }
 {
-    let (n, rest) = number4(bytes)?;
+    let (n, rest) = taken!(number4(bytes));
     Ok((HeadRead::Tuple(n), rest))
 }
 
 fn chars(bytes: &[u8]) -> Result<(HeadRead<'_>, &[u8]), usize>
     ensures { Gives (λ x. (head x.0, x.1.now)) result (headed Chars (sized2_of bytes.now)) }
 {
-    let (chars, rest) = sized2(bytes)?;
+    let (chars, rest) = taken!(sized2(bytes));
     Ok((HeadRead::Chars(chars), rest))
 }
 
 fn linked(bytes: &[u8]) -> Result<(HeadRead<'_>, &[u8]), usize>
     ensures { Gives (λ x. (head x.0, x.1.now)) result (headed Linked (number4_of bytes.now)) }
 {
-    let (n, rest) = number4(bytes)?;
+    let (n, rest) = taken!(number4(bytes));
     Ok((HeadRead::Linked(n), rest))
 }
 
 fn bin(bytes: &[u8]) -> Result<(HeadRead<'_>, &[u8]), usize>
     ensures { Gives (λ x. (head x.0, x.1.now)) result (headed Bin (sized4_of bytes.now)) }
 {
-    let (bin, rest) = sized4(bytes)?;
+    let (bin, rest) = taken!(sized4(bytes));
     Ok((HeadRead::Bin(bin), rest))
 }
 
 fn pairs(bytes: &[u8]) -> Result<(HeadRead<'_>, &[u8]), usize>
     ensures { Gives (λ x. (head x.0, x.1.now)) result (headed Pairs (number4_of bytes.now)) }
 {
-    let (n, rest) = number4(bytes)?;
+    let (n, rest) = taken!(number4(bytes));
     Ok((HeadRead::Pairs(n), rest))
 }
 
@@ -429,25 +429,25 @@ pub(crate) fn read_head(bytes: &[u8]) -> Result<(HeadRead<'_>, &[u8]), usize>
         [] => Err(0),
         [70, rest @ ..] => float(rest),
         [77, rest @ ..] => bits(rest),
-        [88, rest @ ..] => pid88(rest),
-        [89, rest @ ..] => port89(rest),
-        [90, rest @ ..] => ref90(rest),
+        [88, rest @ ..] => pid_with(rest, true),
+        [89, rest @ ..] => port_with(rest, true),
+        [90, rest @ ..] => ref_with(rest, true),
         [97, rest @ ..] => small_int(rest),
         [98, rest @ ..] => int(rest),
         [100, rest @ ..] => long_atom(rest),
-        [102, rest @ ..] => port102(rest),
-        [103, rest @ ..] => pid103(rest),
+        [102, rest @ ..] => port_with(rest, false),
+        [103, rest @ ..] => pid_with(rest, false),
         [104, rest @ ..] => small_tuple(rest),
         [105, rest @ ..] => large_tuple(rest),
         [106, rest @ ..] => Ok((HeadRead::Nil, rest)),
         [107, rest @ ..] => chars(rest),
         [108, rest @ ..] => linked(rest),
         [109, rest @ ..] => bin(rest),
-        [110, rest @ ..] => big110(rest),
-        [111, rest @ ..] => big111(rest),
+        [110, rest @ ..] => small_big(rest),
+        [111, rest @ ..] => large_big(rest),
         [112, rest @ ..] => closure(rest),
         [113, rest @ ..] => export(rest),
-        [114, rest @ ..] => ref114(rest),
+        [114, rest @ ..] => ref_with(rest, false),
         [115, rest @ ..] => short_atom(rest),
         [116, rest @ ..] => pairs(rest),
         [118, rest @ ..] => long_atom(rest),

@@ -10,7 +10,7 @@ ghost use Rattle.etf_terms.specs.Inner.Parts.{head};
 ghost use Rattle.etf_terms.specs.Inner.Serving.{Serves};
 ghost use Rattle.etf_terms.specs.Inner.Standing.{entered, ended, Stands, Moves, Falls};
 ghost use Rattle.etf_terms.specs.Terms.{Term, IsTerm};
-ghost use Rattle.etf_terms.specs.Text.{terms_kind, dotted, float_text, bits_text, pid_text, external_port_text, words_text, ref_text, int_text, comma_number, chars_text, fun_text, first_bytes_text, bin_text, big_text, opening_text, closing, between, is_end, own_text, text};
+ghost use Rattle.etf_terms.specs.Text.{terms_kind, dotted, float_text, bits_text, pid_text, external_port_text, words_text, ref_text, int_text, comma_number, chars_text, fun_text, first_bytes_text, bin_text, digits_text, big_text, opening_text, closing, between, is_end, own_text, text};
 
 use crate::heads::{HeadRead, number4, read_head};
 use crate::stack::{Entry, Kind, Stack};
@@ -110,9 +110,12 @@ fn put_preview<K: Sink>(sink: &mut K, bytes: &[u8]) -> Result<(), Failed>
 fn put_bin<K: Sink>(sink: &mut K, bytes: &[u8]) -> Result<(), Failed>
     ensures { Puts (K.state sink.old) (K.state sink.new) (bin_text bytes.now) result }
 {
-    write_all(sink, b"#Bin<")?;
-    put_dec(sink, bytes.len() as u64)?;
-    write_all(sink, b":")?;
+    let pieces = [
+        Piece::Bytes(b"#Bin<"),
+        Piece::Dec(bytes.len() as u64),
+        Piece::Bytes(b":"),
+    ];
+    put_pieces(sink, &pieces)?;
     put_preview(sink, bytes)
 }
 
@@ -135,7 +138,7 @@ fn minus(sign: u8) -> &'static [u8]
 }
 
 fn put_number<K: Sink>(sink: &mut K, digits: &[u8]) -> Result<(), Failed>
-    ensures { Puts (K.state sink.old) (K.state sink.new) (if length digits.now == 0 then codes "00" else flat_map hex_byte (reverse digits.now)) result }
+    ensures { Puts (K.state sink.old) (K.state sink.new) (digits_text digits.now) result }
 {
     if digits.len() == 0 {
         write_all(sink, b"00")
@@ -147,8 +150,7 @@ fn put_number<K: Sink>(sink: &mut K, digits: &[u8]) -> Result<(), Failed>
 fn put_big<K: Sink>(sink: &mut K, sign: u8, digits: &[u8]) -> Result<(), Failed>
     ensures { Puts (K.state sink.old) (K.state sink.new) (big_text sign digits.now) result }
 {
-    write_all(sink, minus(sign))?;
-    write_all(sink, b"16#")?;
+    put_pieces(sink, &[Piece::Bytes(minus(sign)), Piece::Bytes(b"16#")])?;
     put_number(sink, digits)
 }
 
@@ -156,9 +158,7 @@ fn put_export<K: Sink>(sink: &mut K, name: &[u8], function: &[u8], arity: u8) ->
     ensures { Puts (K.state sink.old) (K.state sink.new)
         (codes "fun " ++ (atom_text name.now ++ (codes ":" ++ (atom_text function.now ++ (codes "/" ++ decimal arity))))) result }
 {
-    write_all(sink, b"fun ")?;
-    put_atom(sink, name)?;
-    write_all(sink, b":")?;
+    put_named(sink, b"fun ", name, &[Piece::Bytes(b":")])?;
     put_atom(sink, function)?;
     put_led(sink, b"/", arity as u64)
 }
@@ -262,9 +262,8 @@ fn put_words<K: Sink>(sink: &mut K, words: &[u8]) -> Result<(), Failed>
 fn put_ref<K: Sink>(sink: &mut K, name: &[u8], creation: u32, words: &[u8]) -> Result<(), Failed>
     ensures { Puts (K.state sink.old) (K.state sink.new) (ref_text name.now creation words.now) result }
 {
-    write_all(sink, b"#Ref<")?;
-    put_atom(sink, name)?;
-    put_dotted(sink, creation as u64)?;
+    let pieces = [Piece::Bytes(b"."), Piece::Dec(creation as u64)];
+    put_named(sink, b"#Ref<", name, &pieces)?;
     put_words(sink, words)?;
     write_all(sink, b">")
 }
@@ -297,8 +296,7 @@ fn put_numbers<K: Sink>(sink: &mut K, bytes: &[u8]) -> Result<(), Failed>
 fn put_some<K: Sink>(sink: &mut K, first: u8, others: &[u8]) -> Result<(), Failed>
     ensures { Puts (K.state sink.old) (K.state sink.new) (codes "[" ++ (decimal first ++ (flat_map comma_number others.now ++ codes "]"))) result }
 {
-    write_all(sink, b"[")?;
-    put_dec(sink, first as u64)?;
+    put_pieces(sink, &[Piece::Bytes(b"["), Piece::Dec(first as u64)])?;
     put_numbers(sink, others)?;
     write_all(sink, b"]")
 }

@@ -39,7 +39,8 @@ pub fn field(text: &[u8]) -> Option<(&[u8], &[u8])>
 // Whether a `:` stands where a field with this key has its first one. In
 // few other lines it does, so that few are searched for their first `:`.
 fn may_have_key(text: &[u8], key: &[u8]) -> bool
-    ensures { result ≡ (nat_lt (length key.now) (length text.now) && (slice_index text.now (length key.now) == colon)) }
+    ensures { result ≡ (nat_lt (length key.now) (length text.now)
+        && (slice_index text.now (length key.now) == colon)) }
 {
     key.len() < text.len() && text[key.len()] == b':'
 }
@@ -47,7 +48,8 @@ fn may_have_key(text: &[u8], key: &[u8]) -> bool
 // Where the line's field stands, if it has this key.
 fn place(line: &Line<'_>, key: &[u8]) -> Option<FieldAt>
     requires { line.now.at + length line.now.text.now < 2 ^ 64 }
-    ensures { result ≡ (if has_key key.now (shown_line line.now) then Some (place_of (shown_line line.now)) else None) }
+    ensures { result ≡ (if has_key key.now (shown_line line.now)
+        then Some (place_of (shown_line line.now)) else None) }
 {
     if !may_have_key(line.text, key) {
         return None;
@@ -67,8 +69,10 @@ fn place(line: &Line<'_>, key: &[u8]) -> Option<FieldAt>
 /// The place of the first field of a body with this key. Returns `None` exactly when there is none.
 pub fn find(body: &[u8], key: &[u8]) -> Option<FieldAt>
     ensures place { result ≡ find_field body.now key.now }
-    ensures within { IfSome result (λ field. (field.at ≤ field.from) × (field.from ≤ field.upto) × (field.upto ≤ length body.now)) }
-    ensures value { option_map (λ field. slice_range body.now field.from field.upto) result ≡ find_value body.now key.now }
+    ensures within { IfSome result (λ field. (field.at ≤ field.from) × (field.from ≤ field.upto)
+        × (field.upto ≤ length body.now)) }
+    ensures value { option_map (λ field. slice_range body.now field.from field.upto) result
+        ≡ find_value body.now key.now }
 {
     for line in lines(body) {
         if let Some(found) = place(&line, key) {

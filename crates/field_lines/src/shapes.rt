@@ -8,7 +8,7 @@ use dump_io::{line_len, line_text};
 use std::marker::Model;
 
 /// A line of a body.
-#[derive(Clone, Copy, Debug)]
+#[derive(Clone, Copy)]
 pub struct Line<'a> {
     /// The number of bytes of the body before the line.
     pub at: usize,

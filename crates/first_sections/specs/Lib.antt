@@ -1,2 +1,4 @@
 pub mod Firsts
 pub mod Inner
+pub mod Laws
+pub mod Places

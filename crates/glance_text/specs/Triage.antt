@@ -23,7 +23,7 @@ memory_line line =
 -- the first lines: those of `info`, the memory of the node, and how many processes there are
 abbrev pub triage_heading : Contents → List ℕ → List ℕ → ProcessTable → List ℕ
 triage_heading index first_body memory_body table =
-    info_heading (version_text index.version) index.size (length index.headers) (find_value first_body (codes "Slogan"))
+    info_heading (version_text index.version) index.size (length index.headers) first_body
     ++ (flat_map memory_line (text_lines memory_body) ++ processes_line (length table.processes) table.repeated)
 
 -- the line of a state, with the number of processes that are in it

@@ -22,7 +22,8 @@ fn put_held<K: Sink>(
 ) -> Result<(), Failed>
     requires named { NamesProcess (length procs.now.processes) held.now }
     requires processes { All (IsProcessIn index.now) procs.now.processes }
-    ensures { Puts (K.state sink.old) (K.state sink.new) (held_line index.now procs.now.processes held.now) result }
+    ensures { Puts (K.state sink.old) (K.state sink.new)
+        (held_line index.now procs.now.processes held.now) result }
 {
     let (pid, name, at) = process_end(index, procs, held.process);
     put_line(
@@ -47,7 +48,8 @@ fn put_all_held<K: Sink>(
 ) -> Result<(), Failed>
     requires named { All (NamesProcess (length procs.now.processes)) rows.now }
     requires processes { All (IsProcessIn index.now) procs.now.processes }
-    ensures { Puts (K.state sink.old) (K.state sink.new) (flat_map (held_line index.now procs.now.processes) rows.now) result }
+    ensures { Puts (K.state sink.old) (K.state sink.new)
+        (flat_map (held_line index.now procs.now.processes) rows.now) result }
 {
     for held in rows {
         put_held(sink, index, procs, held)?;
@@ -82,7 +84,8 @@ fn put_all_stored<K: Sink>(sink: &mut K, rows: &[BinaryRow]) -> Result<(), Faile
 }
 
 fn put_total<K: Sink>(sink: &mut K, found: &BinaryUse) -> Result<(), Failed>
-    ensures { Puts (K.state sink.old) (K.state sink.new) (binaries_line (length found.now.binaries.items) found.now.bytes found.now.with_holders) result }
+    ensures { Puts (K.state sink.old) (K.state sink.new)
+        (let held = found.now in binaries_line (length held.binaries.items) held.bytes held.with_holders) result }
 {
     put_line(
         sink,
@@ -114,7 +117,8 @@ pub fn put_binaries<K: Sink>(
 ) -> Result<(), Failed>
     requires named { All (NamesProcess (length procs.now.processes)) found.now.held.items }
     requires processes { All (IsProcessIn index.now) procs.now.processes }
-    ensures { Puts (K.state sink.old) (K.state sink.new) (binaries_report index.now procs.now.processes (shown_use found.now)) result }
+    ensures { Puts (K.state sink.old) (K.state sink.new)
+        (binaries_report index.now procs.now.processes (shown_use found.now)) result }
 {
     put_all_held(sink, index, procs, &found.held)?;
     put_all_stored(sink, &found.binaries)?;
@@ -130,7 +134,8 @@ fn put_holder<K: Sink>(
 ) -> Result<(), Failed>
     requires named { NamesProcess (length procs.now.processes) held.now }
     requires processes { All (IsProcessIn index.now) procs.now.processes }
-    ensures { Puts (K.state sink.old) (K.state sink.new) (holder_line index.now procs.now.processes held.now) result }
+    ensures { Puts (K.state sink.old) (K.state sink.new)
+        (holder_line index.now procs.now.processes held.now) result }
 {
     let (pid, name, at) = process_end(index, procs, held.process);
     put_line(sink, b"\t", &[Piece::Dec(held.cells), pid, name, at])
@@ -144,7 +149,8 @@ fn put_each<K: Sink>(
 ) -> Result<(), Failed>
     requires named { All (NamesProcess (length procs.now.processes)) rows.now }
     requires processes { All (IsProcessIn index.now) procs.now.processes }
-    ensures { Puts (K.state sink.old) (K.state sink.new) (flat_map (holder_line index.now procs.now.processes) rows.now) result }
+    ensures { Puts (K.state sink.old) (K.state sink.new)
+        (flat_map (holder_line index.now procs.now.processes) rows.now) result }
 {
     for held in rows {
         put_holder(sink, index, procs, held)?;
@@ -166,7 +172,8 @@ pub fn put_holders<K: Sink>(
 ) -> Result<(), Failed>
     requires named { All (NamesProcess (length procs.now.processes)) held.now }
     requires processes { All (IsProcessIn index.now) procs.now.processes }
-    ensures { Puts (K.state sink.old) (K.state sink.new) (holders_report index.now procs.now.processes held.now) result }
+    ensures { Puts (K.state sink.old) (K.state sink.new)
+        (holders_report index.now procs.now.processes held.now) result }
 {
     put_each(sink, index, procs, held)?;
     put_total_line(sink, b"holders", held.len() as u64)

@@ -24,7 +24,8 @@ use table_sections::Rows;
 
 // Writes the line of a field of the `memory` section.
 fn put_memory_line<K: Sink>(sink: &mut K, line: &Line<'_>) -> Result<(), Failed>
-    ensures { Puts (K.state sink.old) (K.state sink.new) (memory_line (shown_line line.now)) result }
+    ensures { Puts (K.state sink.old) (K.state sink.new)
+        (memory_line (shown_line line.now)) result }
 {
     let Some((key, value)) = field(line.text) else {
         return Ok(());
@@ -41,7 +42,8 @@ fn put_memory_line<K: Sink>(sink: &mut K, line: &Line<'_>) -> Result<(), Failed>
 }
 
 fn put_memory<K: Sink>(sink: &mut K, body: &[u8]) -> Result<(), Failed>
-    ensures { Puts (K.state sink.old) (K.state sink.new) (flat_map memory_line (text_lines body.now)) result }
+    ensures { Puts (K.state sink.old) (K.state sink.new)
+        (flat_map memory_line (text_lines body.now)) result }
 {
     for line in lines(body) {
         put_memory_line(sink, &line)?;
@@ -68,7 +70,8 @@ fn put_node<K: Sink>(
 // Writes the line of a state.
 fn put_state_count<K: Sink>(sink: &mut K, procs: &Procs, row: &Ranked) -> Result<(), Failed>
     requires { row.now.place < length procs.now.processes }
-    ensures { Puts (K.state sink.old) (K.state sink.new) (state_count_line procs.now.processes row.now) result }
+    ensures { Puts (K.state sink.old) (K.state sink.new)
+        (state_count_line procs.now.processes row.now) result }
 {
     let process = procs.at(row.place);
     put_count_line(sink, b"state", text_of(&process.state), row.number)
@@ -129,7 +132,8 @@ fn put_process_numbers<K: Sink>(
 fn put_table_words<K: Sink>(sink: &mut K, tables: &Rows, row: &Ranked) -> Result<(), Failed>
     requires place { row.now.place < length tables.now.rows }
     requires width { tables.now.width ≡ 5 }
-    ensures { Puts (K.state sink.old) (K.state sink.new) (table_words_line tables.now.rows row.now) result }
+    ensures { Puts (K.state sink.old) (K.state sink.new)
+        (table_words_line tables.now.rows row.now) result }
 {
     put_line(
         sink,
@@ -147,7 +151,8 @@ fn put_table_words<K: Sink>(sink: &mut K, tables: &Rows, row: &Ranked) -> Result
 fn put_tables<K: Sink>(sink: &mut K, tables: &Rows, rows: &[Ranked]) -> Result<(), Failed>
     requires within { AreWithin (length tables.now.rows) rows.now }
     requires width { tables.now.width ≡ 5 }
-    ensures { Puts (K.state sink.old) (K.state sink.new) (flat_map (table_words_line tables.now.rows) rows.now) result }
+    ensures { Puts (K.state sink.old) (K.state sink.new)
+        (flat_map (table_words_line tables.now.rows) rows.now) result }
 {
     for row in rows {
         put_table_words(sink, tables, row)?;
@@ -177,7 +182,8 @@ fn put_triage_rows<K: Sink>(
 
 // Writes how many findings of a kind there are, if there are any.
 fn put_finding_count<'x, K: Sink>(sink: &mut K, kind: &'x [u8], count: u64) -> Result<(), Failed>
-    ensures { Puts (K.state sink.old) (K.state sink.new) (count_line (codes "finding") kind.now count) result }
+    ensures { Puts (K.state sink.old) (K.state sink.new)
+        (count_line (codes "finding") kind.now count) result }
 {
     put_count_line(sink, b"finding", kind, count)
 }

@@ -10,17 +10,18 @@
 #![tactic(auto)]
 
 ghost use Rattle.binary_refs.specs.Previews.{AreFor};
+ghost use Rattle.dump_sections.specs.Index.{IsBuiltOver};
 
 mod nowhere;
 
 use binary_refs::Previews;
-use dump_io::{Limits, hex_u64};
+use dump_io::{Dumps, Limits, hex_u64};
 use etf_terms::Ext;
 use field_lines::reading::lines;
 use heap_cells::Heap;
 use host_devices::FileDumps;
 use nowhere::Nowhere;
-use section_index::build;
+use section_index::{Index, build};
 use std::{env, fs, io};
 use term_forms::reading::form;
 use term_forms::shapes::Elem;
@@ -68,21 +69,75 @@ fn walk(rt: &HostRuntime, heap: &Heap, previews: &Previews, addr: u64) -> bool
     }
 }
 
-// What was done with the heap of a process; `None` if something wasn't loaded.
-fn on_heap(rt: &HostRuntime, what: &str, file: &str, pid: &str, addr: u64) -> Option<u64> {
-    let alloc = rt.alloc();
-    let limits = Limits::usual();
-    let mut dumps = FileDumps::new(rt);
-    let index = build(alloc, &mut dumps, file, &limits).ok()?;
-    let heap = Heap::load(alloc, &mut dumps, &index, pid.as_bytes(), &limits).ok()?;
-    if what == "load" {
-        return Some(u64::from(heap.cells()));
-    }
-    let previews = Previews::load(alloc, &mut dumps, &index, &heap).ok()?;
-    if what == "walk" && !walk(rt, &heap, &previews, addr) {
-        return None;
+// What is to be done with the heap of a process.
+#[derive(Clone, Copy)]
+struct Work<'a> {
+    what: &'a str,
+    pid: &'a str,
+    addr: u64,
+}
+
+// How many cells a heap has, if what was asked for beside its load was done.
+fn on_heap<D: Dumps>(
+    rt: &HostRuntime,
+    dumps: &mut D,
+    index: &Index,
+    heap: &Heap,
+    work: &Work<'_>,
+) -> Option<u64>
+    requires { IsBuiltOver (D.state dumps.old).now index.now }
+{
+    if work.what != "load" {
+        let previews = Previews::load(rt.alloc(), dumps, index, heap).ok()?;
+        if work.what == "walk" && !walk(rt, heap, &previews, work.addr) {
+            return None;
+        }
     }
     Some(u64::from(heap.cells()))
+}
+
+// What `on_heap` returns for the heap of the process, if that is loaded.
+fn on_index<D: Dumps>(
+    rt: &HostRuntime,
+    dumps: &mut D,
+    index: &Index,
+    work: &Work<'_>,
+) -> Option<u64>
+    requires { IsBuiltOver (D.state dumps.old).now index.now }
+{
+    let pid = work.pid.as_bytes();
+    let heap = Heap::load(rt.alloc(), dumps, index, pid, &Limits::usual()).ok()?;
+    on_heap(rt, dumps, index, &heap, work)
+}
+
+// What `on_index` returns for the file, if it is a dump.
+fn on_file(rt: &HostRuntime, file: &str, work: &Work<'_>) -> Option<u64> {
+    let mut dumps = FileDumps::new(rt);
+    let index = build(rt.alloc(), &mut dumps, file, &Limits::usual()).ok()?;
+    on_index(rt, &mut dumps, &index, work)
+}
+
+fn time_heap(rt: &HostRuntime, file: &str, work: &Work<'_>) -> io::Result<()> {
+    match on_file(rt, file, work) {
+        Some(cells) => println!(rt; "{cells} cells"),
+        None => println!(rt; "failed"),
+    }
+}
+
+fn run(rt: &HostRuntime, words: &[String]) -> io::Result<()> {
+    match words {
+        [what, file] if what.as_str() == "lines" => count_lines(rt, file.as_str()),
+        [what, file] if what.as_str() == "external" => write_external(rt, file.as_str()),
+        [what, file, pid, addr] => {
+            let work = Work {
+                what: what.as_str(),
+                pid: pid.as_str(),
+                addr: hex_u64(addr.as_bytes()).unwrap_or(0),
+            };
+            time_heap(rt, file.as_str(), &work)
+        }
+        _ => println!(rt; "usage: heap_bench WHAT FILE [PID ADDR]"),
+    }
 }
 
 fn main(rt: HostRuntime) -> io::Result<()> {
@@ -90,16 +145,5 @@ fn main(rt: HostRuntime) -> io::Result<()> {
     for word in env::args(&rt)?.skip(1) {
         words.push(word)?;
     }
-    match words.as_slice() {
-        [what, file] if what.as_str() == "lines" => count_lines(&rt, file.as_str()),
-        [what, file] if what.as_str() == "external" => write_external(&rt, file.as_str()),
-        [what, file, pid, addr] => {
-            let addr = hex_u64(addr.as_bytes()).unwrap_or(0);
-            match on_heap(&rt, what.as_str(), file.as_str(), pid.as_str(), addr) {
-                Some(cells) => println!(&rt; "{cells} cells"),
-                None => println!(&rt; "failed"),
-            }
-        }
-        _ => println!(&rt; "usage: heap_bench WHAT FILE [PID ADDR]"),
-    }
+    run(&rt, words.as_slice())
 }

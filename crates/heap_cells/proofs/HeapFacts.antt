@@ -1,5 +1,6 @@
 -- The whole of a heap.
 use Rattle.std.proofs.Common.{◌≡◌, ℕ, ◌+◌, ◌-◌, ◌≤◌, ◌==◌, ◌||◌, Bool, true, false, cond, List, [], ◌∷◌, ◌++◌, length, take, drop, map, Option, None, Some, refl, sym, ◌∙◌, ap, subst, arith, append_assoc, length-append}
+use Rattle.dump_io.specs.Limits.{usual}
 use Rattle.std.specs.Prelude.{nat_eq, slice_get, slice_range}
 use Rattle.std.specs.Option.{option_map, option_map_or}
 use Rattle.std.specs.List.{list_any, flat_map, IsDistinct, AllByRecursion}
@@ -15,21 +16,22 @@ use Rattle.cell_records.specs.declared.cells.CellRecord.{CellRecord}
 use Rattle.cell_records.specs.declared.cells.Slot.{Slot}
 use Rattle.cell_records.specs.declared.cells.Slot.TheVariants as slot
 use Rattle.heap_cells.specs.declared.gathering.Gathering.{Gathering}
-use Rattle.cell_records.specs.declared.keeping.Indexed.{Indexed}
+use Rattle.cell_records.specs.declared.settling.Settled.{Settled}
 use Rattle.heap_cells.specs.declared.texts.Texts.{Texts}
 use Rattle.heap_cells.specs.Cells.{Cell, first_cells, line_cells, cells_of, own_count, addresses, cell_weight, weight_of}
 use Rattle.heap_cells.specs.HeapMap.{number_at}
 use Rattle.heap_cells.specs.Targets.{Target, Imm, At, Gone, target, target_at, slot_target}
 use Rattle.heap_cells.specs.Inner.Gathering.{AreAll}
-use Rattle.heap_cells.specs.Inner.Keeping.{IsIndexed}
+use Rattle.heap_cells.specs.Inner.Keeping.{IsIndexed, IsSettledHeap}
 use Rattle.heap_cells.specs.Inner.Texts.{text_of, seam_of}
-use Rattle.cell_records.specs.Keeping.{IsArenaIndex}
-use Rattle.cell_records.specs.Order.{record_with, IsOrder}
+use Rattle.cell_records.specs.Settling.{IsSettled}
+use Rattle.cell_records.specs.Order.{record_with}
 use Rattle.cell_records.specs.Slots.{start_at, slots_at, AreOrdered}
 use Rattle.heap_cells.specs.Inner.Records.{cell_in, cells_in, elements_by, AreLaid, AreSlots, Spells, AllSpell, IsArena}
 use Rattle.cell_records.specs.Resolving.{settled}
 use Rattle.heap_cells.proofs.KeepingFacts.{is_seen, indexed, cond-append}
 use Rattle.heap_cells.proofs.RecordFacts.{has-at, piece-of, number-at, weight-slots}
+use Rattle.std.proofs.Math.Bool.{or-true}
 
 pub ordered-slots : (text : List ℕ) (seam : ℕ) (enc : Enc) (known : List Cell) (rs : List CellRecord) (slots : List Slot) → AreSlots text seam enc known rs slots
     → AreOrdered rs (length slots)
@@ -85,10 +87,6 @@ distinct-unless : (cell : Cell) (later : List Cell) (b : Bool) → IsApart cell.
 unfolding IsDistinct
 distinct-unless cell later true other rest = rest
 distinct-unless cell later false other rest = (other, rest)
-
-or-true : (b : Bool) → (b || true) ≡ true
-or-true true = refl
-or-true false = refl
 
 seen-last : (seen : List ℕ) (address : ℕ) → list_any (λ s. s == address) (seen ++ address ∷ []) ≡ true
 seen-last seen address =
@@ -186,10 +184,7 @@ all_lines texts = line_cells texts.enc texts.heap.items ++ line_cells texts.enc 
 pub record IsWhole (texts : Texts) (g : Gathering) (own : ℕ) : Type 0 where
   pub all : AreAll texts g own
   pub kept : g.weight ≤ g.dense
-  pub limit : g.dense ≤ 100000000
-
-abbrev pub is-indexed : Texts → Gathering → ℕ → Indexed → Type 0
-is-indexed texts g own found = IsIndexed (text_of texts) (seam_of texts) texts.enc (cells_in (text_of texts) texts.enc g.arena.cells.items) own found
+  pub limit : g.dense ≤ usual.dense
 
 own-within : (texts : Texts) (g : Gathering) (own : ℕ) → IsWhole texts g own → own ≤ length g.arena.cells.items
 own-within texts g own whole =
@@ -203,47 +198,52 @@ own-within texts g own whole =
       length-map g.arena.cells.items (cell_in (text_of texts) texts.enc),
     )
 
-pub whole-indexed : (texts : Texts) (g : Gathering) (own : ℕ) (found : Indexed) → IsWhole texts g own → IsArenaIndex g.arena own found → is-indexed texts g own found
-whole-indexed texts g own found whole is =
-    indexed (text_of texts) (seam_of texts) texts.enc g.arena own found (own-within texts g own whole) whole.all.gathered.slots_are is
+module _ (texts : Texts) (g : Gathering) (own : ℕ) (found : Settled) (whole : IsWhole texts g own) (is : IsSettled g.arena own found) where
+  abbrev text : List ℕ
+  text = text_of texts
 
--- the cells are those of the map
-pub cells-indexed : (texts : Texts) (g : Gathering) (own : ℕ) (found : Indexed) → IsWhole texts g own → is-indexed texts g own found
-    → cells_in (text_of texts) texts.enc found.arena.cells.items ≡ cells_of texts.enc texts.heap.items texts.literals.items
-cells-indexed texts g own found whole is = is.kept.cells_are ∙ ap (first_cells []) (whole.all.cells_are whole.kept)
+  abbrev enc : Enc
+  enc = texts.enc
 
-pub own-indexed : (texts : Texts) (g : Gathering) (own : ℕ) (found : Indexed) → IsWhole texts g own → is-indexed texts g own found
-    → found.own ≡ own_count texts.enc texts.heap.items
-own-indexed texts g own found whole is =
-    is.own_is
-    ∙ ap (λ l. length (first_cells [] (take own l))) (whole.all.cells_are whole.kept)
-    ∙ ap (λ n. length (first_cells [] (take n (all_lines texts)))) (whole.all.own_is whole.kept)
-    ∙ ap (λ l. length (first_cells [] l)) (take-append_seam (line_cells texts.enc texts.heap.items) (line_cells texts.enc texts.literals.items))
+  index : IsIndexed text (seam_of texts) enc (cells_in text enc g.arena.cells.items) own is.kept found.own
+  index = indexed text (seam_of texts) enc g.arena own is.kept found.own (own-within texts g own whole) whole.all.gathered.slots_are is.kept_is
 
-pub few-indexed : (texts : Texts) (g : Gathering) (own : ℕ) (found : Indexed) → IsWhole texts g own → is-indexed texts g own found
-    → length found.arena.cells.items + length found.arena.slots.items ≤ 100000000
-few-indexed texts g own found whole is =
-    let weighs = weight-slots (text_of texts) (seam_of texts) texts.enc [] found.arena.cells.items found.arena.slots.items is.kept.slots_are in
-    let cells = ap weight_of (cells-indexed texts g own found whole is) in
-    let first = weight-first [] (all_lines texts) in
-    let total = whole.all.weight_is in
-    omega (arith, weighs, cells, first, total, whole.kept, whole.limit)
+  -- the cells are those of the map
+  cells-kept : cells_in text enc is.kept.cells.items ≡ cells_of enc texts.heap.items texts.literals.items
+  cells-kept = index.kept_is.cells_are ∙ ap (first_cells []) (whole.all.cells_are whole.kept)
 
-pub arena-indexed : (texts : Texts) (g : Gathering) (own : ℕ) (found : Indexed) (slots : List Slot) (order : List ℕ) → length texts.heap.items ≤ 536870912 → length texts.literals.items ≤ 536870912
-    → IsWhole texts g own → is-indexed texts g own found → slots ≡ map (settled found.arena.cells.items) found.arena.slots.items
-    → IsOrder found.arena.cells.items order → IsArena (text_of texts) (seam_of texts) texts.enc found.arena.cells.items slots order found.own
-arena-indexed texts g own found slots order heap literals whole is settled_is order_is =
-    let text = text_of texts in
-    let cells = cells-indexed texts g own found whole is in
-    let few = few-indexed texts g own found whole is in
-    record {
-      heap_size = heap;
-      size = omega (arith, literals, length-append texts.heap.items texts.literals.items);
-      own_is = let most = first-few (cells_in text texts.enc g.arena.cells.items) own in
-          omega (arith, is.own_is, most, ap length is.kept.cells_are, length-map found.arena.cells.items (cell_in text texts.enc));
-      few = omega (arith, few, ap length settled_is, length-map found.arena.slots.items (settled found.arena.cells.items));
-      distinct = subst (λ l. IsDistinct nat_eq (addresses l)) (sym cells) (first-distinct [] (all_lines texts));
-      slots_are = subst (AreSlots text (seam_of texts) texts.enc (cells_in text texts.enc found.arena.cells.items) found.arena.cells.items) (sym settled_is)
-          (AreSlots-settled text (seam_of texts) texts.enc found.arena.cells.items found.arena.slots.items is.kept.slots_are);
-      order_is = order_is;
-    }
+  own-kept : found.own ≡ own_count enc texts.heap.items
+  own-kept =
+      index.own_is
+      ∙ ap (λ l. length (first_cells [] (take own l))) (whole.all.cells_are whole.kept)
+      ∙ ap (λ n. length (first_cells [] (take n (all_lines texts)))) (whole.all.own_is whole.kept)
+      ∙ ap (λ l. length (first_cells [] l)) (take-append_seam (line_cells enc texts.heap.items) (line_cells enc texts.literals.items))
+
+  few-kept : length is.kept.cells.items + length is.kept.slots.items ≤ usual.dense
+  few-kept =
+      let weighs = weight-slots text (seam_of texts) enc [] is.kept.cells.items is.kept.slots.items index.kept_is.slots_are in
+      let cells = ap weight_of cells-kept in
+      let first = weight-first [] (all_lines texts) in
+      let total = whole.all.weight_is in
+      omega (arith, weighs, cells, first, total, whole.kept, whole.limit)
+
+  arena-kept : length texts.heap.items ≤ usual.section → length texts.literals.items ≤ usual.section
+      → IsArena text (seam_of texts) enc is.kept.cells.items found.arena.slots.items found.order.items found.own
+  arena-kept heap literals = record {
+    heap_size = heap;
+    size = omega (arith, literals, length-append texts.heap.items texts.literals.items);
+    own_is = let most = first-few (cells_in text enc g.arena.cells.items) own in
+        omega (arith, index.own_is, most, ap length index.kept_is.cells_are, length-map is.kept.cells.items (cell_in text enc));
+    few = omega (arith, few-kept, ap length is.slots_are, length-map is.kept.slots.items (settled is.kept.cells.items));
+    distinct = subst (λ l. IsDistinct nat_eq (addresses l)) (sym cells-kept) (first-distinct [] (all_lines texts));
+    slots_are = subst (AreSlots text (seam_of texts) enc (cells_in text enc is.kept.cells.items) is.kept.cells.items) (sym is.slots_are)
+        (AreSlots-settled text (seam_of texts) enc is.kept.cells.items is.kept.slots.items index.kept_is.slots_are);
+    order_is = is.order_is;
+  }
+
+  pub settled-heap : length texts.heap.items ≤ usual.section → length texts.literals.items ≤ usual.section → IsSettledHeap texts found
+  settled-heap heap literals = record {
+    arena = subst (λ rs. IsArena text (seam_of texts) enc rs found.arena.slots.items found.order.items found.own) (sym is.cells_are) (arena-kept heap literals);
+    cells_are = ap (cells_in text enc) is.cells_are ∙ cells-kept;
+    own_is = own-kept;
+  }

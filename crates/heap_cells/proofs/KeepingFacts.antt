@@ -10,15 +10,16 @@ use Rattle.binary_payloads.specs.declared.enc.Enc.{Enc}
 use Rattle.cell_records.specs.declared.arena.Arena.{Arena}
 use Rattle.cell_records.specs.declared.cells.CellRecord.{CellRecord}
 use Rattle.cell_records.specs.declared.cells.Slot.{Slot}
-use Rattle.cell_records.specs.declared.keeping.Indexed.{Indexed}
-use Rattle.cell_records.specs.Keeping.{moved_record, kept_upto, AreAllKept, AreFirstKept, IsArenaIndex}
+use Rattle.cell_records.specs.Keeping.{moved_record, kept_upto, AreAllKept, AreFirstKept}
 use Rattle.heap_cells.specs.Cells.{Cell, first_cells, addresses}
 use Rattle.heap_cells.specs.Inner.Keeping.{IsKept, IsIndexed}
-use Rattle.cell_records.specs.Order.{address_in, is_first, AreRanked}
+use Rattle.cell_records.specs.Order.{address_in, is_first}
 use Rattle.heap_cells.specs.Inner.Records.{cell_in, cells_in, AreSlots}
 use Rattle.cell_records.specs.Slots.{slots_at}
 use Rattle.heap_cells.proofs.PushingFacts.{AreSlots-push}
 use Rattle.heap_cells.proofs.RecordFacts.{has-at, cell-at, record-at, piece-of}
+use Rattle.dump_io.specs.Laws.Lists.{list_any-map}
+use Rattle.std.proofs.Math.Bool.{not-not}
 
 -- ---- the first of the cells
 
@@ -40,21 +41,13 @@ first_cells-push seen (other ∷ cells) cell =
     ap (λ l. cond (is_seen seen other) l (other ∷ l)) same
     ∙ cond-append (is_seen seen other) (first_cells (seen ++ other.address ∷ []) cells) tail other
 
-list_any-map : {X Y : Type 0} (f : X → Y) (p : Y → Bool) (xs : List X) → list_any p (map f xs) ≡ list_any (λ x. p (f x)) xs
-list_any-map f p [] = refl
-list_any-map f p (x ∷ xs) = ap (λ b. p (f x) || b) (list_any-map f p xs)
-
-not-not : (b : Bool) → not (not b) ≡ b
-not-not true = refl
-not-not false = refl
-
 -- whether the cell of a record is seen before it
 seen-first : (text : List ℕ) (enc : Enc) (rs : List CellRecord) (i : ℕ) (r : CellRecord) → slice_get rs i ≡ Some r
     → is_seen (addresses (take i (cells_in text enc rs))) (cell_in text enc r) ≡ not (is_first rs i)
 seen-first text enc rs i r is =
     ap (λ l. list_any (λ address. address == r.address) (addresses l)) (take-map (cell_in text enc) i rs)
-    ∙ list_any-map (λ (cell : Cell). cell.address) (λ address. address == r.address) (map (cell_in text enc) (take i rs))
-    ∙ list_any-map (cell_in text enc) (λ (cell : Cell). cell.address == r.address) (take i rs)
+    ∙ list_any-map (λ address. address == r.address) (λ (cell : Cell). cell.address) (map (cell_in text enc) (take i rs))
+    ∙ list_any-map (λ (cell : Cell). cell.address == r.address) (cell_in text enc) (take i rs)
     ∙ ap (λ a. list_any (λ (x : CellRecord). x.address == a) (take i rs)) (sym (ap (λ (o : Option CellRecord). option_map_or (λ x. x.address) o 0) is))
     ∙ sym (not-not (list_any (λ (x : CellRecord). x.address == address_in rs i) (take i rs)))
 
@@ -135,42 +128,40 @@ all-first text enc rs (suc i) each inside =
 cells-whole : (text : List ℕ) (enc : Enc) (rs : List CellRecord) → take (length rs) (cells_in text enc rs) ≡ cells_in text enc rs
 cells-whole text enc rs = ap (λ n. take n (cells_in text enc rs)) (sym (length-map rs (cell_in text enc))) ∙ take-length (cells_in text enc rs)
 
-all-indexed : (text : List ℕ) (seam : ℕ) (enc : Enc) (all : Arena) (own : ℕ) (found : Indexed) → own ≤ length all.cells.items → AreSlots text seam enc [] all.cells.items all.slots.items
-    → AreRanked found.arena.cells.items found.ranks → AreAllKept all own found → IsIndexed text seam enc (cells_in text enc all.cells.items) own found
-all-indexed text seam enc all own found few slots ranks is =
+all-indexed : (text : List ℕ) (seam : ℕ) (enc : Enc) (all : Arena) (own : ℕ) (kept : Arena) (kept_own : ℕ) → own ≤ length all.cells.items → AreSlots text seam enc [] all.cells.items all.slots.items
+    → AreAllKept all own kept kept_own → IsIndexed text seam enc (cells_in text enc all.cells.items) own kept kept_own
+all-indexed text seam enc all own kept kept_own few slots is =
     let rs = all.cells.items in
     let cells = cells_in text enc rs in
     let whole = cells-whole text enc rs in
     record {
-      kept = subst (λ (a : Arena). IsKept text seam enc (first_cells [] cells) a.cells.items a.slots.items) (sym is.arena_is) (record {
+      kept_is = subst (λ (a : Arena). IsKept text seam enc (first_cells [] cells) a.cells.items a.slots.items) (sym is.arena_is) (record {
         slots_are = slots;
         cells_are = sym (ap (first_cells []) (sym whole) ∙ all-first text enc rs (length rs) is.first (omega arith) ∙ whole);
       });
-      ranks_are = ranks;
       own_is = is.own_is
           ∙ sym (ap length (all-first text enc rs own is.first few)
           ∙ (let n = length-take own cells in omega (arith, n, few, length-map rs (cell_in text enc))));
     }
 
-first-indexed : (text : List ℕ) (seam : ℕ) (enc : Enc) (all : Arena) (own : ℕ) (found : Indexed) → own ≤ length all.cells.items → AreSlots text seam enc [] all.cells.items all.slots.items
-    → AreRanked found.arena.cells.items found.ranks → AreFirstKept all own found → IsIndexed text seam enc (cells_in text enc all.cells.items) own found
-first-indexed text seam enc all own found few slots ranks is =
+first-indexed : (text : List ℕ) (seam : ℕ) (enc : Enc) (all : Arena) (own : ℕ) (kept : Arena) (kept_own : ℕ) → own ≤ length all.cells.items → AreSlots text seam enc [] all.cells.items all.slots.items
+    → AreFirstKept all own kept kept_own → IsIndexed text seam enc (cells_in text enc all.cells.items) own kept kept_own
+first-indexed text seam enc all own kept kept_own few slots is =
     let rs = all.cells.items in
     let ss = all.slots.items in
     let cells = cells_in text enc rs in
-    let kept = subst (λ l. IsKept text seam enc (first_cells [] l) (kept_upto rs ss (length rs)).0 (kept_upto rs ss (length rs)).1) (cells-whole text enc rs)
+    let upto = subst (λ l. IsKept text seam enc (first_cells [] l) (kept_upto rs ss (length rs)).0 (kept_upto rs ss (length rs)).1) (cells-whole text enc rs)
     (kept-upto text seam enc rs ss (length rs) (omega arith) slots) in
     record {
-      kept = subst (λ (l : List CellRecord). IsKept text seam enc (first_cells [] cells) l found.arena.slots.items) (sym is.cells_are)
-          (subst (λ (l : List Slot). IsKept text seam enc (first_cells [] cells) (kept_upto rs ss (length rs)).0 l) (sym is.slots_are) kept);
-      ranks_are = ranks;
+      kept_is = subst (λ (l : List CellRecord). IsKept text seam enc (first_cells [] cells) l kept.slots.items) (sym is.cells_are)
+          (subst (λ (l : List Slot). IsKept text seam enc (first_cells [] cells) (kept_upto rs ss (length rs)).0 l) (sym is.slots_are) upto);
       own_is = is.own_is ∙ sym (length-map (kept_upto rs ss own).0 (cell_in text enc)) ∙ ap length (kept-upto text seam enc rs ss own few slots).cells_are;
     }
 
-pub indexed : (text : List ℕ) (seam : ℕ) (enc : Enc) (all : Arena) (own : ℕ) (found : Indexed) → own ≤ length all.cells.items → AreSlots text seam enc [] all.cells.items all.slots.items
-    → IsArenaIndex all own found → IsIndexed text seam enc (cells_in text enc all.cells.items) own found
-indexed text seam enc all own found few slots is = by-case is.kept
+pub indexed : (text : List ℕ) (seam : ℕ) (enc : Enc) (all : Arena) (own : ℕ) (kept : Arena) (kept_own : ℕ) → own ≤ length all.cells.items → AreSlots text seam enc [] all.cells.items all.slots.items
+    → AreAllKept all own kept kept_own ⊎ AreFirstKept all own kept kept_own → IsIndexed text seam enc (cells_in text enc all.cells.items) own kept kept_own
+indexed text seam enc all own kept kept_own few slots is = by-case is
   where
-    by-case : AreAllKept all own found ⊎ AreFirstKept all own found → IsIndexed text seam enc (cells_in text enc all.cells.items) own found
-    by-case (inl whole) = all-indexed text seam enc all own found few slots is.ranks_are whole
-    by-case (inr first) = first-indexed text seam enc all own found few slots is.ranks_are first
+    by-case : AreAllKept all own kept kept_own ⊎ AreFirstKept all own kept kept_own → IsIndexed text seam enc (cells_in text enc all.cells.items) own kept kept_own
+    by-case (inl whole) = all-indexed text seam enc all own kept kept_own few slots whole
+    by-case (inr first) = first-indexed text seam enc all own kept kept_own few slots first

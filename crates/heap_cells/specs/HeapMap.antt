@@ -1,5 +1,6 @@
 -- The map of a heap, from addresses to forms, as the list of its cells by number.
 use Rattle.std.specs.Prelude.{ℕ, ◌≤◌, ◌==◌, nat_eq, List, length, position, slice_get, Option}
+use Rattle.dump_io.specs.Limits.{usual}
 use Rattle.std.specs.Option.{option_map, option_and_then}
 use Rattle.std.specs.List.{IsDistinct}
 use Rattle.binary_payloads.specs.declared.enc.Enc.{Enc}
@@ -17,7 +18,7 @@ pub record HeapMap : Type 0 where
 -- no address occurs twice, and there are at most 100,000,000 cells and elements
 pub record IsBounded (heap : HeapMap) : Type 0 where
   pub distinct : IsDistinct nat_eq (addresses heap.cells)
-  pub weight : weight_of heap.cells ≤ 100000000
+  pub weight : weight_of heap.cells ≤ usual.dense
   pub own : heap.own ≤ length heap.cells
 
 -- the number of the cell that has the address

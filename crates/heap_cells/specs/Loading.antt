@@ -1,13 +1,14 @@
 -- What loading a heap promises.
 use Rattle.std.specs.Prelude.{◌≡◌, ℕ, ◌<◌, ◌≤◌, List, ◌++◌, Option, Some, Result, Ok, Err, IfOk, codes, option_map}
 use Rattle.std.specs.Option.{option_to_list}
-use Rattle.dump_io.specs.Dumps.{DeviceState, DeviceFailed, Now, told}
+use Rattle.dump_io.specs.Dumps.{DeviceState, Now, IfTold}
+use Rattle.dump_io.specs.Faults.{Cause, refuses, fails, lacks, IsCauseOf}
 use Rattle.dump_io.specs.Limits.{Numbers}
 use Rattle.dump_sections.specs.declared.bodies.BodyFault.{BodyFault}
 use Rattle.dump_sections.specs.declared.bodies.BodyFault.TheVariants as body
 use Rattle.dump_sections.specs.Bodies.{body_in}
 use Rattle.dump_sections.specs.Index.{Contents}
-use Rattle.dump_sections.specs.Loading.{bodies_length, large_fault, Loads}
+use Rattle.dump_sections.specs.Loading.{bodies_length, body_fault, large_fault, Loads}
 use Rattle.dump_sections.specs.Lookups.{first_named, first_tagged}
 use Rattle.dump_sections.specs.Sections.{Section}
 use Rattle.dump_sections.specs.declared.version.Version.{Version}
@@ -33,7 +34,7 @@ heap_section pid sections = first_named (codes "proc_heap") pid sections
 abbrev pub literals_section : List Section → Option Section
 literals_section sections = first_tagged (codes "literals") sections
 
--- both, in the order in which they are judged; either may be missing
+-- the sections with a heap and with the literals, in the order in which they are judged; either may be missing
 abbrev pub two_bodies : Option Section → Option Section → List Section
 two_bodies heap literals = option_to_list heap ++ option_to_list literals
 
@@ -49,7 +50,7 @@ heap_fault_of body.Memory = Memory
 
 -- the refusal of the first of these bodies that has more bytes than the limit
 abbrev pub bodies_fault : ℕ → List Section → Option HeapFault
-bodies_fault limit bodies = option_map heap_fault_of (large_fault limit bodies)
+bodies_fault limit bodies = option_map (λ large. heap_fault_of (body_fault large)) (large_fault limit bodies)
 
 -- the map of the heap with these bodies
 pub record IsMapOf (enc : Enc) (heap literals : List ℕ) (found : HeapMap) : Type 0 where
@@ -66,17 +67,26 @@ IsHeapAnswerFor enc heap literals dense (Err fault) = Unit {0}
 -- and what is answered is right for their bodies, if the device tells the bytes
 pub record IsHeapOf (now : Now) (index : Contents) (heap literals : Option Section) (dense : ℕ) (answer : Result HeapMap HeapFault) : Type 0 where
   pub enc : IfOk answer (λ found. found.enc ≡ enc_of index.version)
-  pub told : (dump : List ℕ) → now ≡ told dump → IsHeapAnswerFor (enc_of index.version) (body_in dump heap) (body_in dump literals) dense answer
+  pub told : IfTold now (λ dump. IsHeapAnswerFor (enc_of index.version) (body_in dump heap) (body_in dump literals) dense answer)
 
--- why a heap isn't loaded: one of these bodies is too large, and this is the first; the
--- heap is too dense; or the device failed; memory may be lacking at any time
+-- what the fault of a heap says
+abbrev pub heap_cause : HeapFault → Cause HeapFault
+heap_cause Read = fails
+heap_cause Memory = lacks
+heap_cause refusal = refuses refusal
+
+-- why a heap is refused: one of its bodies is too large, and this is the first; or the heap is too dense
+abbrev pub IsHeapRefusal : Option HeapFault → ℕ → HeapFault → Type 0
+IsHeapRefusal refused dense (SectionTooLarge at len) = refused ≡ Some (SectionTooLarge at len)
+IsHeapRefusal refused dense (TooDense count) = dense < count
+IsHeapRefusal refused dense fault = ⊥
+
+-- why a heap isn't loaded: it is refused, or the device failed; memory may be lacking at any time
 abbrev pub IsHeapCauseOf : Option HeapFault → ℕ → DeviceState → DeviceState → HeapFault → Type 0
-IsHeapCauseOf refused dense before after (SectionTooLarge at len) = refused ≡ Some (SectionTooLarge at len)
-IsHeapCauseOf refused dense before after (TooDense count) = dense < count
-IsHeapCauseOf refused dense before after Read = DeviceFailed before after
-IsHeapCauseOf refused dense before after Memory = Unit {0}
+IsHeapCauseOf refused dense before after fault = IsCauseOf (IsHeapRefusal refused dense) before after (heap_cause fault)
 
 -- what each call does that loads the heap with these bodies
 abbrev pub LoadsHeap : {D T : Type 0} → (D → DeviceState) → List Section → Numbers → D → D → Result T HeapFault → Type 0
 LoadsHeap state bodies limits before after result =
-    let refusal = bodies_fault limits.section bodies in Loads state (bodies_length bodies) refusal (IsHeapCauseOf refusal limits.dense) before after result
+    let refusal = bodies_fault limits.section bodies in
+    Loads state (bodies_length bodies) refusal (IsHeapCauseOf refusal limits.dense) before after result

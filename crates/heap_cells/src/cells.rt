@@ -3,7 +3,7 @@ use cell_records::CellIx;
 use term_forms::shapes::Elem;
 
 /// What an address leads to.
-#[derive(Clone, Copy, Debug, PartialEq, Eq)]
+#[derive(Clone, Copy)]
 pub enum Seat {
     /// No cell has the address.
     Missing,

@@ -1,5 +1,5 @@
 // What the text of a cell's form spells: its kind, and the slots of its elements.
-ghost use Rattle.std.specs.Prelude.{◌≡◌, ◌+◌, ◌<◌, ◌≤◌, ◌∷◌, [], length, None, Some, OnOk, IfOk};
+ghost use Rattle.std.specs.Prelude.{◌≡◌, ◌+◌, ◌^◌, ◌<◌, ◌≤◌, ◌∷◌, [], length, None, Some, OnOk, IfOk};
 ghost use Rattle.std.specs.Option.{option_map};
 ghost use Rattle.term_forms.specs.Places.{elements_of};
 ghost use Rattle.term_forms.specs.Seen.{element};
@@ -44,7 +44,7 @@ fn kind_of(form: &Form<'_>) -> Kind
 
 // The slot of an immediate, given the place where its spelling begins, and how many bytes it has.
 fn imm(at: usize, len: usize) -> Slot
-    requires { at + len < 4294967296 }
+    requires { at + len < 2 ^ 32 }
     ensures { result ≡ Slot.Imm (record { at = at; len = len }) }
 {
     Slot::Imm(Span {
@@ -55,7 +55,7 @@ fn imm(at: usize, len: usize) -> Slot
 
 // The slot of an element, given the place where its spelling begins, and how many bytes it has.
 fn slot_with(e: &Elem<'_>, at: usize, len: usize) -> Slot
-    requires { at + len < 4294967296 }
+    requires { at + len < 2 ^ 32 }
     ensures { result ≡ slot_with (record { at = at; len = len }) (element e.now) }
 {
     match e {
@@ -71,7 +71,7 @@ fn push_elem(
     from: usize,
     most: usize,
 ) -> Result<(), AllocError>
-    requires { from + found.now.at + found.now.len < 4294967296 }
+    requires { from + found.now.at + found.now.len < 2 ^ 32 }
     ensures { OnOk result (Pushes from most (placed found.now ∷ []) slots.old.items slots.new.items) }
 {
     if slots.len() >= most {
@@ -89,8 +89,8 @@ fn push_pair(
     from: usize,
     most: usize,
 ) -> Result<(), AllocError>
-    requires head { from + head.now.at + head.now.len < 4294967296 }
-    requires tail { from + tail.now.at + tail.now.len < 4294967296 }
+    requires head { from + head.now.at + head.now.len < 2 ^ 32 }
+    requires tail { from + tail.now.at + tail.now.len < 2 ^ 32 }
     ensures { OnOk result (Pushes from most (placed head.now ∷ placed tail.now ∷ []) slots.old.items slots.new.items) }
 {
     push_elem(slots, head, from, most)?;
@@ -116,7 +116,7 @@ fn push_joined(
     from: usize,
     most: usize,
 ) -> Result<Read, AllocError>
-    requires small { from + length elements.text < 4294967296 }
+    requires small { from + length elements.text < 2 ^ 32 }
     requires few { before ≤ 1 }
     ensures read { IfOk result (λ read. read ≡ read_with kind before elements.entry.elements) }
     ensures pushed { OnOk result (IsReadInto elements.entry.text from most elements.entry.elements slots.old.items slots.new.items) }
@@ -147,7 +147,7 @@ fn push_opened(
     from: usize,
     most: usize,
 ) -> Result<Read, AllocError>
-    requires { from + length text.now < 4294967296 }
+    requires { from + length text.now < 2 ^ 32 }
     ensures read { IfOk result (λ read. read ≡ read_of (form_of enc text.now)) }
     ensures pushed { OnOk result (IsReadInto text.now from most (option_map elements_of (form_of enc text.now)) slots.old.items slots.new.items) }
 {
@@ -187,7 +187,7 @@ pub(crate) fn push_form(
     from: usize,
     most: usize,
 ) -> Result<Read, AllocError>
-    requires { from + length text.now < 4294967296 }
+    requires { from + length text.now < 2 ^ 32 }
     ensures read { IfOk result (λ read. read ≡ read_of (form_of enc text.now)) }
     ensures pushed { OnOk result (IsReadInto text.now from most (Some (elements_in (form_of enc text.now))) slots.old.items slots.new.items) }
 {

@@ -1,16 +1,20 @@
 // Gathering the heap lines of the bodies one by one.
-ghost use Rattle.std.specs.Prelude.{◌≡◌, ◌+◌, ◌^◌, ◌<◌, ◌≤◌, ◌-◌, ◌∷◌, ◌++◌, [], List, length, slice_range, OnOk, IfOk};
+ghost use Rattle.std.specs.Prelude.{◌≡◌, ◌+◌, ◌^◌, ◌<◌, ◌≤◌, ◌-◌, ◌*◌, ◌∷◌, ◌++◌, [], List, length, slice_range, OnOk, IfOk, IfErr};
+ghost use Rattle.dump_io.specs.Limits.{usual};
 ghost use Rattle.std.specs.List.{filter_map};
 ghost use Rattle.field_lines.specs.Lines.{TextLine};
 ghost use Rattle.field_lines.specs.Shown.{shown_line};
-ghost use Rattle.heap_cells.specs.Cells.{Cell, spelled_cell, cell_of, line_cells};
-ghost use Rattle.heap_cells.specs.Inner.Gathering.{new_record, IsLineAt, IsBodyAt, IsGathered, Leads, AreAll};
+ghost use Rattle.heap_cells.specs.Cells.{Cell, spelled_cell, cell_of, line_cells, weight};
+ghost use Rattle.heap_cells.specs.Inner.Gathering.{new_record, IsLineAt, IsBodyAt, IsGathered, IsNothing, Leads, AreAll};
+ghost use Rattle.heap_cells.specs.Inner.Faults.{IsOfTheTexts};
+ghost use Rattle.heap_cells.specs.Inner.Keeping.{IsSettledHeap};
 ghost use Rattle.heap_cells.specs.Inner.Parts.{IsPart};
 ghost use Rattle.heap_cells.specs.Inner.Texts.{text_of, seam_of};
 
+use crate::faults::HeapFault;
 use crate::found::push_form;
 use crate::texts::Texts;
-use cell_records::{Arena, CellRecord, Kind};
+use cell_records::{Arena, CellRecord, Kind, Settled, settle};
 use field_lines::Line;
 use field_lines::reading::lines;
 use std::alloc::{AllocError, Global};
@@ -35,8 +39,8 @@ fn push_record(
     kind: Option<Kind>,
 ) -> Result<(), AllocError>
     requires ordered { from ≤ upto }
-    requires within { upto < 4294967296 }
-    requires few { first < 4294967296 }
+    requires within { upto < 2 ^ 32 }
+    requires few { first < 2 ^ 32 }
     ensures { OnOk result (cells.new.items ≡ cells.old.items ++ new_record address from upto first kind ∷ []) }
 {
     cells.push(CellRecord {
@@ -71,8 +75,8 @@ fn gather_cell(
 ) -> Result<(), AllocError>
     requires spelled { spelled.now ≡ slice_range (text_of texts.now) from upto }
     requires part { IsPart (seam_of texts.now) (length (text_of texts.now)) from upto }
-    requires small { length (text_of texts.now) ≤ 1073741824 }
-    requires limit { g.old.dense ≤ 100000000 }
+    requires small { length (text_of texts.now) ≤ 2 * usual.section }
+    requires limit { g.old.dense ≤ usual.dense }
     requires room { g.old.weight + (upto - from) + 1 < 2 ^ 64 }
     requires gathered { IsGathered (text_of texts.now) (seam_of texts.now) texts.now.enc g.old }
     ensures limit { g.new.dense ≡ g.old.dense }
@@ -102,8 +106,8 @@ fn gather_line(
     g: &mut Gathering,
 ) -> Result<(), AllocError>
     requires line { IsLineAt (text_of texts.now) (seam_of texts.now) base (shown_line line.now) }
-    requires small { length (text_of texts.now) ≤ 1073741824 }
-    requires limit { g.old.dense ≤ 100000000 }
+    requires small { length (text_of texts.now) ≤ 2 * usual.section }
+    requires limit { g.old.dense ≤ usual.dense }
     requires room { g.old.weight + length line.now.text.now < 2 ^ 64 }
     requires gathered { IsGathered (text_of texts.now) (seam_of texts.now) texts.now.enc g.old }
     ensures limit { g.new.dense ≡ g.old.dense }
@@ -128,9 +132,9 @@ pub(crate) fn gather_lines(
     g: &mut Gathering,
 ) -> Result<(), AllocError>
     requires body { IsBodyAt (text_of texts.now) (seam_of texts.now) base body.now }
-    requires small { length (text_of texts.now) ≤ 1073741824 }
-    requires few { length body.now ≤ 536870912 }
-    requires limit { g.old.dense ≤ 100000000 }
+    requires small { length (text_of texts.now) ≤ 2 * usual.section }
+    requires few { length body.now ≤ usual.section }
+    requires limit { g.old.dense ≤ usual.dense }
     requires room { g.old.weight ≤ 2 ^ 62 }
     requires gathered { IsGathered (text_of texts.now) (seam_of texts.now) texts.now.enc g.old }
     ensures limit { g.new.dense ≡ g.old.dense }
@@ -146,25 +150,39 @@ pub(crate) fn gather_lines(
     Ok(())
 }
 
-// Gathers the heap lines of both bodies, and how many of the cells are those of the process's own heap.
-pub(crate) fn gather_all(
-    alloc: Global,
-    texts: &Texts,
-    dense: u32,
-) -> Result<(Gathering, usize), AllocError>
-    requires heap { length texts.now.heap.items ≤ 536870912 }
-    requires literals { length texts.now.literals.items ≤ 536870912 }
-    requires limit { dense ≤ 100000000 }
-    ensures limit { IfOk result (λ found. found.0.dense ≡ dense) }
-    ensures all { IfOk result (λ found. AreAll texts.now found.0 found.1) }
+// Gathers the heap lines of both bodies, and returns how many
+// of the cells are those of the process's own heap.
+fn gather_all(texts: &Texts, g: &mut Gathering) -> Result<usize, AllocError>
+    requires heap { length texts.now.heap.items ≤ usual.section }
+    requires literals { length texts.now.literals.items ≤ usual.section }
+    requires limit { g.old.dense ≤ usual.dense }
+    requires none { IsNothing g.old }
+    ensures limit { g.new.dense ≡ g.old.dense }
+    ensures all { IfOk result (AreAll texts.now g.new) }
+{
+    gather_lines(texts, 0, &texts.heap, g)?;
+    let own = g.arena.cells.len();
+    gather_lines(texts, texts.heap.len(), &texts.literals, g)?;
+    Ok(own)
+}
+
+// The cells of both bodies, whose references lead to cells.
+pub(crate) fn settled_texts(alloc: Global, texts: &Texts, dense: u32) -> Result<Settled, HeapFault>
+    requires heap { length texts.now.heap.items ≤ usual.section }
+    requires literals { length texts.now.literals.items ≤ usual.section }
+    requires limit { dense ≤ usual.dense }
+    ensures settled { IfOk result (IsSettledHeap texts.now) }
+    ensures weight { OnOk result (weight texts.now.enc texts.now.heap.items texts.now.literals.items ≤ dense) }
+    ensures fault { IfErr result (IsOfTheTexts texts.now dense) }
 {
     let mut g = Gathering {
         arena: Arena::new(alloc),
         weight: 0,
         dense,
     };
-    gather_lines(texts, 0, &texts.heap, &mut g)?;
-    let own = g.arena.cells.len();
-    gather_lines(texts, texts.heap.len(), &texts.literals, &mut g)?;
-    Ok((g, own))
+    let own = gather_all(texts, &mut g)?;
+    if g.weight > u64::from(dense) {
+        return Err(HeapFault::TooDense { count: g.weight });
+    }
+    Ok(settle(alloc, g.arena, own)?)
 }

@@ -1,6 +1,7 @@
 // The heap of a process, by address.
 ghost use Rattle.std.specs.Prelude.{◌≡◌, ◌+◌, ◌<◌, ◌≤◌, map, length, slice_get, None, Some, IfSome, IfOk, IfErr, IsErrOf, All};
 ghost use Rattle.std.specs.Option.{option_map};
+ghost use Rattle.dump_io.specs.Limits.{usual};
 ghost use Rattle.term_forms.specs.SeenForms.{heap_form};
 ghost use Rattle.heap_cells.specs.Cells.{kind_of};
 ghost use Rattle.heap_cells.specs.HeapMap.{IsBounded, address_at, form_at, elements_at, IsSpelled};
@@ -13,13 +14,13 @@ ghost use Rattle.heap_cells.specs.Targets.{number, target, slot_target, kid_targ
 
 use crate::cells::{Kid, Seat};
 use crate::faults::HeapFault;
-use crate::gathering::gather_all;
+use crate::gathering::settled_texts;
 use crate::kids::kid_of;
 use crate::loading::{large_bodies, read_texts};
 use crate::texts::{Texts, part};
-use cell_records::{Arena, CellIx, Indexed, Kind, Slot, index_cells, number_of, resolve, slots_of};
+use cell_records::{Arena, CellIx, Kind, Settled, Slot, number_of, slots_of};
 use dump_io::{Dumps, Limits};
-use dump_sections::Index;
+use dump_sections::{BodyFault, Index};
 use std::alloc::Global;
 use std::marker::Model;
 use term_forms::shapes::Form;
@@ -86,8 +87,8 @@ impl Heap {
         Heap::load_at(alloc, dumps, index, heap, literals, limits)
     }
 
-    /// The same for two sections whose places in the index are known, for
-    /// a caller that loads many heaps. A missing section counts as empty.
+    /// Reads the heap and the literals in two sections whose places in the index are known, as
+    /// [`Heap::load`] does, for a caller that loads many heaps. A missing section counts as empty.
     pub fn load_at<D: Dumps>(
         alloc: Global,
         dumps: &mut D,
@@ -104,8 +105,8 @@ impl Heap {
         ensures too_large { (fault : HeapFault) → bodies_fault limits.now.section (two_bodies (section_in index.now heap) (section_in index.now literals)) ≡ Some fault
             → IsErrOf result fault }
     {
-        if let Some(fault) = large_bodies(index, heap, literals, limits) {
-            return Err(HeapFault::from(fault));
+        if let Some(large) = large_bodies(index, heap, literals, limits) {
+            return Err(HeapFault::from(BodyFault::from(large)));
         }
         let texts = read_texts(alloc, dumps, index, heap, literals, limits)?;
         Heap::new(alloc, texts, limits.dense())
@@ -113,32 +114,22 @@ impl Heap {
 
     // The heap with these bodies.
     pub(crate) fn new(alloc: Global, texts: Texts, dense: u32) -> Result<Heap, HeapFault>
-        requires heap { length texts.heap.items ≤ 536870912 }
-        requires literals { length texts.literals.items ≤ 536870912 }
-        requires limit { dense ≤ 100000000 }
+        requires heap { length texts.heap.items ≤ usual.section }
+        requires literals { length texts.literals.items ≤ usual.section }
+        requires limit { dense ≤ usual.dense }
         ensures answer { IsHeapAnswerFor texts.enc texts.heap.items texts.literals.items dense result }
         ensures enc { IfOk result (λ heap. heap.enc ≡ texts.enc) }
-        ensures fault { IfErr result IsOfTheTexts }
+        ensures fault { IfErr result (IsOfTheTexts texts dense) }
     {
-        let (gathering, own) = gather_all(alloc, &texts, dense)?;
-        if gathering.weight > u64::from(dense) {
-            return Err(HeapFault::TooDense {
-                count: gathering.weight,
-            });
+        match settled_texts(alloc, &texts, dense) {
+            Ok(Settled { arena, order, own }) => Ok(Heap {
+                texts,
+                arena,
+                order,
+                own,
+            }),
+            Err(fault) => Err(fault),
         }
-        let Indexed {
-            mut arena,
-            ranks,
-            own,
-        } = index_cells(alloc, gathering.arena, own)?;
-        resolve(alloc, &mut arena.slots, &ranks)?;
-        let order = ranks.numbers(alloc)?;
-        Ok(Heap {
-            texts,
-            arena,
-            order,
-            own,
-        })
     }
 
     /// The number of cells.
@@ -232,7 +223,7 @@ impl Heap {
         requires { number ix < length self.now.cells }
         ensures targets { map slot_target result.now ≡ map (target self.now.cells) (elements_at self.now.cells (number ix)) }
         ensures within { All (λ slot. IsWithin (length self.now.cells) (slot_target slot)) result.now }
-        ensures few { length result.now ≤ 100000000 }
+        ensures few { length result.now ≤ usual.dense }
     {
         slots_of(&self.arena, ix.number() as usize)
     }

@@ -10,7 +10,7 @@ ghost use Rattle.dump_sections.specs.Bodies.{section_in, body_size, IsBodyIn};
 use crate::faults::HeapFault;
 use crate::texts::Texts;
 use dump_io::{Dumps, Limits};
-use dump_sections::{BodyFault, Index, Version, large_body, read_body};
+use dump_sections::{Index, LargeSection, Version, large_body, read_body};
 use std::alloc::Global;
 use term_forms::Enc;
 
@@ -24,22 +24,22 @@ pub fn enc_of(version: Version) -> Enc
     }
 }
 
-// The refusal of the first of two bodies that has more bytes than the limit. A missing section counts as empty.
+// The first of two bodies that has more bytes than the limit. A missing section counts as empty.
 pub(crate) fn large_bodies(
     index: &Index,
     heap: Option<usize>,
     literals: Option<usize>,
     limits: &Limits,
-) -> Option<BodyFault>
+) -> Option<LargeSection>
     requires heap { IfSome heap (λ i. i < length index.now.headers) }
     requires literals { IfSome literals (λ i. i < length index.now.headers) }
     ensures fault { result ≡ large_fault limits.now.section (two_bodies (section_in index.now heap) (section_in index.now literals)) }
     ensures small_heap { result ≡ None → body_size (section_in index.now heap) ≤ limits.now.section }
     ensures small_literals { result ≡ None → body_size (section_in index.now literals) ≤ limits.now.section }
 {
-    let fault = large_body(index, heap, limits);
-    if fault.is_some() {
-        return fault;
+    let first = large_body(index, heap, limits);
+    if first.is_some() {
+        return first;
     }
     large_body(index, literals, limits)
 }

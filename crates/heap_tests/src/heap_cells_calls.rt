@@ -187,14 +187,10 @@ fn texts_that_are_no_form_are_malformed(rt: HostRuntime) -> Result<(), Fail> {
 // A heap with a tuple, an empty one and a malformed cell, at these addresses.
 fn have_seats(rt: &impl Abort, heap: &Heap) {
     assert!(rt; heap.cells() == 3);
-    let found = [heap.at(48), heap.at(32), heap.at(8), heap.at(64)];
-    let expected = [
-        Seat::Cell(heap.cell(0)),
-        Seat::Cell(heap.cell(1)),
-        Seat::Malformed(heap.cell(2)),
-        Seat::Missing,
-    ];
-    assert_eq!(rt; found, expected);
+    assert!(rt; matches!(heap.at(48), Seat::Cell(ix) if ix.number() == 0));
+    assert!(rt; matches!(heap.at(32), Seat::Cell(ix) if ix.number() == 1));
+    assert!(rt; matches!(heap.at(8), Seat::Malformed(ix) if ix.number() == 2));
+    assert!(rt; matches!(heap.at(64), Seat::Missing));
 }
 
 fn have_slots(rt: &impl Abort, heap: &Heap) {
@@ -204,7 +200,8 @@ fn have_slots(rt: &impl Abort, heap: &Heap) {
     assert!(rt; matches!(heap.kind(tuple), Some(Kind::Tuple)));
     let slots = heap.slots(tuple);
     assert!(rt; slots.len() == 3);
-    assert_eq!(rt; [slots[0], slots[1]], [Slot::Cell(empty), Slot::Gone(64)]);
+    assert!(rt; matches!(slots[0], Slot::Cell(ix) if ix.number() == 1));
+    assert!(rt; matches!(slots[1], Slot::Gone(64)));
     assert!(rt; matches!(slots[2], Slot::Imm(_)));
     assert!(rt; heap.slots(empty).is_empty());
 }

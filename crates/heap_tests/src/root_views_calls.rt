@@ -1,105 +1,97 @@
 ghost use Rattle.std.specs.Iterator.{IsFinite};
 
 use root_views::{Root, What, dict, mail, messages, stack};
+use std::alloc::{AllocError, Global};
 use std::process::Abort;
-use term_forms::shapes::Elem;
+use std::test::Fail;
+use term_forms::put_elem;
 
-// The iterator gives exactly these roots.
-fn gives<'a, I: Iterator<Item = Root<'a>>>(rt: &impl Abort, mut roots: I, expected: &[Root<'_>])
+// What a root has: the plain spelling of a term, or a word and a text.
+fn draw_what(out: &mut Vec<u8>, what: &What<'_>) -> Result<(), AllocError> {
+    match what {
+        What::Term(e) => put_elem(out, e),
+        What::Info(text) => {
+            out.extend_from_slice(b"info ")?;
+            out.extend_from_slice(text)
+        }
+        What::Dist(text) => {
+            out.extend_from_slice(b"dist ")?;
+            out.extend_from_slice(text)
+        }
+        What::Unread => out.extend_from_slice(b"unread"),
+    }
+}
+
+// A root: its offset, its label and what it has.
+fn draw_root(out: &mut Vec<u8>, root: &Root<'_>) -> Result<(), AllocError> {
+    let at = format!(in *out.allocator(); "{} ", root.at)?;
+    out.extend_from_slice(at.as_bytes())?;
+    out.extend_from_slice(root.label)?;
+    out.push(b' ')?;
+    draw_what(out, &root.what)?;
+    out.extend_from_slice(b"; ")
+}
+
+fn drawn<'a, I: Iterator<Item = Root<'a>>>(alloc: Global, roots: I) -> Result<Vec<u8>, AllocError>
     requires { I.can_next roots × IsFinite (I.remaining roots) }
 {
-    for root in expected {
-        assert_eq!(rt; roots.next(), Some(*root));
+    let mut out = Vec::new(alloc);
+    for root in roots {
+        draw_root(&mut out, &root)?;
     }
-    assert_eq!(rt; roots.next(), None);
+    Ok(out)
 }
 
-fn root<'a>(at: usize, label: &'a [u8], what: What<'a>) -> Root<'a> {
-    Root { at, label, what }
-}
-
-fn term<'a>(at: usize, label: &'a [u8], e: Elem<'a>) -> Root<'a> {
-    root(at, label, What::Term(e))
-}
-
-fn unread(at: usize, label: &[u8]) -> Root<'_> {
-    root(at, label, What::Unread)
+fn is_drawn(rt: &impl Abort, drawn: &[u8], roots: &str) {
+    assert_eq!(rt; drawn, roots.as_bytes());
 }
 
 #[test]
-fn stacks_have_labels(rt: HostRuntime) {
-    gives(
-        &rt,
-        stack(b"y0:H10\ny1:SCatch 0x40\n"),
-        &[
-            term(0, b"y0", Elem::Ref(16)),
-            root(7, b"y1", What::Info(b"Catch 0x40")),
-        ],
-    );
-    gives(
-        &rt,
-        stack(b"0:H99\ny:z\ny1:I7"),
-        &[
-            term(0, b"0", Elem::Ref(153)),
-            unread(6, b""),
-            term(10, b"y1", Elem::Small(b"7")),
-        ],
-    );
-    gives(
-        &rt,
-        stack(b"\ny2\r\n\r\n:N\r\na:b:S\n0x7F:S"),
-        &[
-            unread(1, b""),
-            term(7, b"", Elem::Nil),
-            unread(11, b""),
-            root(17, b"0x7F", What::Info(b"")),
-        ],
-    );
+fn stacks_have_labels(rt: HostRuntime) -> Result<(), Fail> {
+    for (body, roots) in [
+        (
+            "y0:H10\ny1:SCatch 0x40\n",
+            "0 y0 H10; 7 y1 info Catch 0x40; ",
+        ),
+        ("0:H99\ny:z\ny1:I7", "0 0 H99; 6  unread; 10 y1 I7; "),
+        (
+            "\ny2\r\n\r\n:N\r\na:b:S\n0x7F:S",
+            "1  unread; 7  N; 11  unread; 17 0x7F info ; ",
+        ),
+    ] {
+        let text = drawn(rt.alloc(), stack(body.as_bytes()))?;
+        is_drawn(&rt, text.as_slice(), roots);
+    }
+    Ok(())
 }
 
 #[test]
-fn dictionaries_have_whole_elements(rt: HostRuntime) {
-    gives(
-        &rt,
-        dict(b"H20\n\nA2:ok:N\nA2:ok\r\n"),
-        &[
-            term(0, b"e", Elem::Ref(32)),
-            unread(5, b"e"),
-            term(13, b"e", Elem::Atom(b"ok")),
-        ],
-    );
+fn dictionaries_have_whole_elements(rt: HostRuntime) -> Result<(), Fail> {
+    let body = b"H20\n\nA2:ok:N\nA2:ok\r\n";
+    let roots = "0 e H20; 5 e unread; 13 e A2:ok; ";
+    let text = drawn(rt.alloc(), dict(body))?;
+    is_drawn(&rt, text.as_slice(), roots);
+    Ok(())
 }
 
 #[test]
-fn mails_have_tokens(rt: HostRuntime) {
-    let body = b"H40:N\nD4:AAAAAA==:N\n";
-    gives(
-        &rt,
-        mail(body),
-        &[
-            term(0, b"m", Elem::Ref(64)),
-            term(4, b"t", Elem::Nil),
-            root(6, b"m", What::Dist(b"D4:AAAAAA==")),
-            term(18, b"t", Elem::Nil),
-        ],
-    );
-    assert_eq!(rt; messages(body), 2);
-    let body = b"D4:AA==:A2:ok\n\nD4:A1:N\r\nH1\nA1:\r:I5\nA2:ok,N\nDN\nI1:x";
-    gives(
-        &rt,
-        mail(body),
-        &[
-            unread(0, b"m"),
-            root(15, b"m", What::Dist(b"D4:A1")),
-            term(21, b"t", Elem::Nil),
-            unread(24, b"m"),
-            term(27, b"m", Elem::Atom(b"\r")),
-            term(32, b"t", Elem::Small(b"5")),
-            unread(35, b"m"),
-            unread(43, b"m"),
-            unread(46, b"m"),
-        ],
-    );
-    assert_eq!(rt; messages(body), 7);
-    assert_eq!(rt; messages(b"\n\r\n"), 0);
+fn mails_have_tokens(rt: HostRuntime) -> Result<(), Fail> {
+    for (body, count, roots) in [
+        (
+            "H40:N\nD4:AAAAAA==:N\n",
+            2,
+            "0 m H40; 4 t N; 6 m dist D4:AAAAAA==; 18 t N; ",
+        ),
+        (
+            "D4:AA==:A2:ok\n\nD4:A1:N\r\nH1\nA1:\r:I5\nA2:ok,N\nDN\nI1:x",
+            7,
+            "0 m unread; 15 m dist D4:A1; 21 t N; 24 m unread; 27 m A1:\r; 32 t I5; 35 m unread; 43 m unread; 46 m unread; ",
+        ),
+        ("\n\r\n", 0, ""),
+    ] {
+        let text = drawn(rt.alloc(), mail(body.as_bytes()))?;
+        is_drawn(&rt, text.as_slice(), roots);
+        assert_eq!(rt; messages(body.as_bytes()), count);
+    }
+    Ok(())
 }

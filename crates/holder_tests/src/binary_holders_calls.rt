@@ -185,6 +185,40 @@ fn the_most_stands_first(rt: HostRuntime) -> Result<(), Fail> {
     Ok(())
 }
 
+// Two processes hold binaries of more than 2^64 - 1 bytes
+// together, the second of them one byte more.
+const LARGE: &[u8] = b"=erl_crash_dump:0.5
+=proc:<0.1.0>
+=proc:<0.2.0>
+=proc_heap:<0.1.0>
+10:Yc1:0:1
+18:Yc2:0:1
+=proc_heap:<0.2.0>
+10:Yc1:0:1
+18:Yc3:0:1
+=binary:1
+FFFFFFFFFFFFFFFF:
+=binary:2
+1:
+=binary:3
+2:
+=end
+";
+
+#[test]
+fn sums_that_are_shown_alike_are_in_the_order_of_the_whole_sums(
+    rt: HostRuntime,
+) -> Result<(), Fail> {
+    let alloc = rt.alloc();
+    let mut dumps = MemDumps::holding(alloc, "S", LARGE, &[], &[])?;
+    let text = draw(alloc, &mut dumps, None)?;
+    let front: &[u8] = b"1 18446744073709551615 2 2
+0 18446744073709551615 2 2
+";
+    assert_eq!(rt; text.get(..front.len()).unwrap_or(&[]), front);
+    Ok(())
+}
+
 // A heap with this line, and one before it that has this many
 // bytes, which are none of a reference, and one after it.
 fn heap_with(alloc: Global, before: usize, line: &[u8]) -> Result<Vec<u8>, AllocError> {

@@ -1,7 +1,9 @@
-//! Tests of the crate that finds the holders of binaries.
+//! Tests of the crates that read the lines of bodies in pieces, and find the holders of binaries.
 //!
 //! They are separate from what they test, which would otherwise be proved once more together with them.
 #![tactic(auto)]
 
 #[cfg(test)]
 mod binary_holders_calls;
+#[cfg(test)]
+mod body_lines_calls;

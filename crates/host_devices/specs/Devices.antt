@@ -27,7 +27,7 @@ now_of dumps = now_in dumps.«open»
 abbrev pub faults_of : FileDumps → ℕ
 faults_of dumps = number_in dumps.faults
 
--- its state: it tells no file
+-- the state of the machine's files: the device tells none of them
 abbrev pub state_of : FileDumps → DeviceState
 state_of dumps = record { files = None; now = now_of dumps; faults = faults_of dumps; taken = number_in dumps.taken }
 

@@ -1,7 +1,7 @@
 // The files of the machine.
-ghost use Rattle.std.specs.Prelude.{◌≡◌, ◌<◌, length, is_err, if◌then◌else◌};
+ghost use Rattle.std.specs.Prelude.{◌≡◌, ◌<◌, length, is_err};
 ghost use Rattle.dump_io.specs.Count.{number_in-small};
-ghost use Rattle.dump_io.specs.Counts.{plus_capped};
+ghost use Rattle.dump_io.specs.Counts.{risen_if};
 ghost use Rattle.dump_io.specs.Dumps.{closed, size_of, Opens, ReadsSome};
 ghost use Rattle.host_devices.specs.Devices.{faults_of, now_of, state_of, now_in-small};
 
@@ -58,7 +58,7 @@ impl<'a> Dumps for FileDumps<'a> {
     fn open_dump(&mut self, name: &str) -> Result<u64, Failed>
         ensures opens { Opens (state_of self.old) (state_of self.new) name.now result }
 
-        ensures count { faults_of self.new ≡ (if is_err result then plus_capped (faults_of self.old) 1 else faults_of self.old) }
+        ensures count { faults_of self.new ≡ risen_if (is_err result) (faults_of self.old) }
     {
         self.open = None;
         match self.open_named(name) {
@@ -79,7 +79,7 @@ impl<'a> Dumps for FileDumps<'a> {
         requires room { 0 < length into.old }
         ensures reads { ReadsSome (state_of self.old) (state_of self.new) at into.new result }
 
-        ensures count { faults_of self.new ≡ (if is_err result then plus_capped (faults_of self.old) 1 else faults_of self.old) }
+        ensures count { faults_of self.new ≡ risen_if (is_err result) (faults_of self.old) }
     {
         let Some(open) = &self.open else {
             unreachable!()

@@ -1,7 +1,7 @@
 // The streams of the machine.
-ghost use Rattle.std.specs.Prelude.{◌≡◌, ◌≤◌, ◌<◌, true, false, length, take, is_err, vec_len, vec_capacity, IsErr, IfOk, OnErr, OnOk, [], if◌then◌else◌};
+ghost use Rattle.std.specs.Prelude.{◌≡◌, ◌≤◌, ◌<◌, true, false, length, take, is_err, vec_len, vec_capacity, IsErr, IfOk, OnErr, OnOk, []};
 ghost use Rattle.std.specs.Io.KnownBytes.{Appends, Keeps};
-ghost use Rattle.dump_io.specs.Counts.{Rose, plus_capped};
+ghost use Rattle.dump_io.specs.Counts.{Rose, risen_if};
 ghost use Rattle.dump_io.specs.Sinks.{TakesSome};
 
 use dump_io::{Count, Failed, Sink};
@@ -49,7 +49,7 @@ impl<W: Write + Drop> StdSink<W> {
     pub fn flush(&mut self) -> Result<(), Failed>
         ensures later { count_of self.old ≤ count_of self.new }
         ensures failed { OnErr result (Rose (count_of self.old) (count_of self.new)) }
-        ensures count { count_of self.new ≡ (if is_err result then plus_capped (count_of self.old) 1 else count_of self.old) }
+        ensures count { count_of self.new ≡ risen_if (is_err result) (count_of self.old) }
         ensures broken { is_broken_in self.new ≡ is_err result }
         ensures failing { is_broken_in self.old ≡ true → IsErr result }
         ensures silent { is_broken_in self.old ≡ true → stream_of self.new ≡ stream_of self.old }
@@ -72,8 +72,9 @@ impl<W: Write + Drop> StdSink<W> {
         requires some { 0 < length piece.now }
         requires empty { self.old.gathered.items ≡ [] }
         requires sound { is_broken_in self.old ≡ false }
-        ensures takes { TakesSome (sink_state_of self.old) (sink_state_of self.new) piece.now result }
-        ensures count { count_of self.new ≡ (if is_err result then plus_capped (count_of self.old) 1 else count_of self.old) }
+        ensures takes { TakesSome (sink_state_of self.old) (sink_state_of self.new)
+            piece.now result }
+        ensures count { count_of self.new ≡ risen_if (is_err result) (count_of self.old) }
         ensures broken { is_broken_in self.new ≡ is_err result }
         ensures all { IfOk result (λ n. n ≡ length piece.now) }
         ensures held { OnOk result (Appends (held_by self.old) (held_by self.new) piece.now) }
@@ -90,7 +91,8 @@ impl<W: Write + Drop> StdSink<W> {
         ensures gathered { self.new.gathered ≡ self.old.gathered }
         ensures broken { self.new.is_broken ≡ self.old.is_broken }
         ensures count { self.new.faults ≡ self.old.faults }
-        ensures handed { result ≡ true → Appends (W.contents self.old.stream) (W.contents self.new.stream) self.old.gathered.items }
+        ensures handed { result ≡ true
+            → Appends (W.contents self.old.stream) (W.contents self.new.stream) self.old.gathered.items }
     {
         self.stream.write_all(self.gathered.as_slice()).is_ok() && self.stream.flush().is_ok()
     }
@@ -103,15 +105,17 @@ impl<W: Write + Drop> Sink for StdSink<W> {
 
     fn write(&mut self, piece: &[u8]) -> Result<usize, Failed>
         requires { 0 < length piece.now }
-        ensures takes { TakesSome (sink_state_of self.old) (sink_state_of self.new) piece.now result }
+        ensures takes { TakesSome (sink_state_of self.old) (sink_state_of self.new)
+            piece.now result }
 
-        ensures count { count_of self.new ≡ (if is_err result then plus_capped (count_of self.old) 1 else count_of self.old) }
+        ensures count { count_of self.new ≡ risen_if (is_err result) (count_of self.old) }
         ensures broken { is_broken_in self.new ≡ is_err result }
         ensures failing { is_broken_in self.old ≡ true → IsErr result }
         ensures silent { is_broken_in self.old ≡ true → stream_of self.new ≡ stream_of self.old }
 
         // What it takes comes after all that it took before, if the stream tells its bytes.
-        ensures held { IfOk result (λ n. Appends (held_by self.old) (held_by self.new) (take n piece.now)) }
+        ensures held { IfOk result
+            (λ n. Appends (held_by self.old) (held_by self.new) (take n piece.now)) }
     {
         if self.is_broken || self.gathered.len() == GATHERED {
             self.flush()?;

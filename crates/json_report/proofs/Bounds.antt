@@ -34,6 +34,7 @@ use Rattle.dump_sections.specs.Index.{index_of}
 use Rattle.dump_sections.specs.Versions.{signature}
 use Rattle.json_report.specs.Laws.{AreCounts, Has64Bits, AreOfFile, ReadsBack}
 use Rattle.json_report.proofs.ReadingBack.{reads-back}
+use Rattle.process_table.specs.Laws.{All-first_of_each}
 
 -- ---- lists
 
@@ -280,14 +281,9 @@ pub total-records : (w : Section → ℕ) (ss : List Section) → total (λ p. w
 total-records w ss =
     omega (arith, total-firsts (λ p. w p.1) (process_sections (placed_sections ss)), total-filter (λ p. w p.1) (λ p. is_process p.1) (placed_sections ss), total-numbered w 0 ss)
 
-all-firsts : (P : PlacedSection → Type 0) (ps : List PlacedSection) → All P ps → All P (first_of_each ps)
-all-firsts P [] all = All-nil P
-all-firsts P (p ∷ ps) all =
-    All-cons P p _ (All-head P p ps all) (All-filter _ P (first_of_each ps) (all-firsts P ps (All-tail P p ps all)))
-
 pub all-records : (P : Section → Type 0) (ss : List Section) → All P ss → All (λ p. P p.1) (records ss)
 all-records P ss all =
-    all-firsts (λ p. P p.1) (process_sections (placed_sections ss)) (All-filter (λ p. is_process p.1) (λ p. P p.1) (placed_sections ss) (all-numbered P 0 ss all))
+    All-first_of_each (λ p. P p.1) (process_sections (placed_sections ss)) (All-filter (λ p. is_process p.1) (λ p. P p.1) (placed_sections ss) (all-numbered P 0 ss all))
 
 -- ---- the numbers of what an audit finds have 64 bits, and what it finds is no more than the dump has bytes
 

@@ -20,7 +20,7 @@ use Rattle.process_table.specs.Processes.{Process}
 use Rattle.dump_audit.specs.declared.finding.Finding.{Finding}
 use Rattle.dump_audit.specs.declared.finding.Finding.TheVariants.{LinkOneSided, MonitorTo, MonitorFrom, Mailbox, UnreadLinks, UnreadQueue, LinkGone, ToGone, FromGone, QueueCount}
 use Rattle.dump_audit.specs.FindingNames.{pid_at, partner_at, reference_at}
-use Rattle.json_report.specs.Trees.{members, characters, num, text, object_of, partner_member, monitor_members, finding_object, state_text, tree_object, finding_tree}
+use Rattle.json_report.specs.Trees.{members, characters, num, text, count_object, finding_object, link_object, mailbox_object, monitor_object, process_object, state_text, tree_object, finding_tree}
 use Rattle.json_report.specs.Laws.{Has64Bits, IsReadBack}
 
 pub members_len-members : (ms : List (List ℕ × Data)) → members_len (members ms) ≡ length ms
@@ -114,30 +114,30 @@ plain-array n ds p = record {
 
 -- ---- findings
 
-plain-process : (kind p : List ℕ) (at other : ℕ) → at < 2 ^ 64 → other < 2 ^ 64 → IsPlain 1 (object_of [] kind p [] at other)
+plain-process : (kind p : List ℕ) (at other : ℕ) → at < 2 ^ 64 → other < 2 ^ 64 → IsPlain 1 (process_object kind p at other)
 plain-process kind p at other a o =
     plain-object 0 ((codes "at", num at) ∷ (codes "kind", string kind) ∷ (codes "other", num other) ∷ (codes "p", text p) ∷ [])
     (plain-num at a, (plain-string kind, (plain-num other o, (plain-string (characters p), tt)))) refl
 
-plain-link : (kind p q : List ℕ) (at other : ℕ) → at < 2 ^ 64 → other < 2 ^ 64 → IsPlain 1 (object_of [] kind p (partner_member q) at other)
+plain-link : (kind p q : List ℕ) (at other : ℕ) → at < 2 ^ 64 → other < 2 ^ 64 → IsPlain 1 (link_object kind p q at other)
 plain-link kind p q at other a o =
     plain-object 0
     ((codes "at", num at) ∷ (codes "kind", string kind) ∷ (codes "other", num other) ∷ (codes "p", text p) ∷ (codes "q", text q) ∷ [])
     (plain-num at a, (plain-string kind, (plain-num other o, (plain-string (characters p), (plain-string (characters q), tt))))) refl
 
-plain-monitor : (kind p q reference : List ℕ) (at other : ℕ) → at < 2 ^ 64 → other < 2 ^ 64 → IsPlain 1 (object_of [] kind p (monitor_members q reference) at other)
+plain-monitor : (kind p q reference : List ℕ) (at other : ℕ) → at < 2 ^ 64 → other < 2 ^ 64 → IsPlain 1 (monitor_object kind p q reference at other)
 plain-monitor kind p q reference at other a o =
     plain-object 0
     ((codes "at", num at) ∷ (codes "kind", string kind) ∷ (codes "other", num other) ∷ (codes "p", text p) ∷ (codes "q", text q) ∷ (codes "ref", text reference) ∷ [])
     (plain-num at a, (plain-string kind, (plain-num other o, (plain-string (characters p), (plain-string (characters q), (plain-string (characters reference), tt)))))) refl
 
-plain-mailbox : (p : List ℕ) (count at other : ℕ) → at < 2 ^ 64 → other < 2 ^ 64 → count < 2 ^ 64 → IsPlain 1 (object_of ((codes "count", num count) ∷ []) (codes "mailbox") p [] at other)
+plain-mailbox : (p : List ℕ) (count at other : ℕ) → at < 2 ^ 64 → other < 2 ^ 64 → count < 2 ^ 64 → IsPlain 1 (mailbox_object p count at other)
 plain-mailbox p count at other a o n =
     plain-object 0
     ((codes "at", num at) ∷ (codes "count", num count) ∷ (codes "kind", string (codes "mailbox")) ∷ (codes "other", num other) ∷ (codes "p", text p) ∷ [])
     (plain-num at a, (plain-num count n, (plain-string (codes "mailbox"), (plain-num other o, (plain-string (characters p), tt))))) refl
 
-plain-count : (p : List ℕ) (stated found at other : ℕ) → at < 2 ^ 64 → other < 2 ^ 64 → stated < 2 ^ 64 → found < 2 ^ 64 → IsPlain 1 (object_of ((codes "found", num found) ∷ []) (codes "queue-count") p ((codes "stated", num stated) ∷ []) at other)
+plain-count : (p : List ℕ) (stated found at other : ℕ) → at < 2 ^ 64 → other < 2 ^ 64 → stated < 2 ^ 64 → found < 2 ^ 64 → IsPlain 1 (count_object p stated found at other)
 plain-count p stated found at other a o s f =
     plain-object 0
     ((codes "at", num at) ∷ (codes "found", num found) ∷ (codes "kind", string (codes "queue-count")) ∷ (codes "other", num other) ∷ (codes "p", text p) ∷ (codes "stated", num stated) ∷ [])

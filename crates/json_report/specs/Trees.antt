@@ -40,31 +40,39 @@ abbrev pub object_of : List (List ℕ × Data) → List ℕ → List ℕ → Lis
 object_of before kind p behind at other = object (members ((codes "at", num at) ∷ (before
     ++ (codes "kind", string kind) ∷ (codes "other", num other) ∷ (codes "p", text p) ∷ behind)))
 
--- the member on the other process of a link
-abbrev pub partner_member : List ℕ → List (List ℕ × Data)
-partner_member q = (codes "q", text q) ∷ []
+-- of a process alone
+abbrev pub process_object : List ℕ → List ℕ → ℕ → ℕ → Data
+process_object kind p at other = object_of [] kind p [] at other
 
--- that on the other process of a monitor, and that on its reference
-abbrev pub monitor_members : List ℕ → List ℕ → List (List ℕ × Data)
-monitor_members q reference = (codes "q", text q) ∷ (codes "ref", text reference) ∷ []
+-- of a link with another process
+abbrev pub link_object : List ℕ → List ℕ → List ℕ → ℕ → ℕ → Data
+link_object kind p q at other = object_of [] kind p ((codes "q", text q) ∷ []) at other
+
+-- of a monitor of or by another process, which has a reference
+abbrev pub monitor_object : List ℕ → List ℕ → List ℕ → List ℕ → ℕ → ℕ → Data
+monitor_object kind p q reference at other = object_of [] kind p ((codes "q", text q) ∷ (codes "ref", text reference) ∷ []) at other
+
+-- of a message queue that is longer than the limit
+abbrev pub mailbox_object : List ℕ → ℕ → ℕ → ℕ → Data
+mailbox_object p count at other = object_of ((codes "count", num count) ∷ []) (codes "mailbox") p [] at other
+
+-- of a message queue whose stated length isn't the number of its messages
+abbrev pub count_object : List ℕ → ℕ → ℕ → ℕ → ℕ → Data
+count_object p stated found at other =
+    object_of ((codes "found", num found) ∷ []) (codes "queue-count") p ((codes "stated", num stated) ∷ []) at other
 
 -- the object of a finding
 abbrev pub finding_object : List Process → Finding → Data
-finding_object ps (LinkOneSided p q entry at other) = object_of [] (codes "link") (pid_at ps p) (partner_member (pid_at ps q)) at other
-finding_object ps (MonitorTo p q entry at other) =
-    object_of [] (codes "monitor-to") (pid_at ps p) (monitor_members (pid_at ps q) (reference_at ps p entry)) at other
-finding_object ps (MonitorFrom p q entry at other) =
-    object_of [] (codes "monitor-from") (pid_at ps p) (monitor_members (pid_at ps q) (reference_at ps p entry)) at other
-finding_object ps (Mailbox p count at other) = object_of ((codes "count", num count) ∷ []) (codes "mailbox") (pid_at ps p) [] at other
-finding_object ps (UnreadLinks p at other) = object_of [] (codes "unread-links") (pid_at ps p) [] at other
-finding_object ps (UnreadQueue p at other) = object_of [] (codes "unread-queue") (pid_at ps p) [] at other
-finding_object ps (LinkGone p entry at other) = object_of [] (codes "link-gone") (pid_at ps p) (partner_member (partner_at ps p entry)) at other
-finding_object ps (ToGone p entry at other) =
-    object_of [] (codes "to-gone") (pid_at ps p) (monitor_members (partner_at ps p entry) (reference_at ps p entry)) at other
-finding_object ps (FromGone p entry at other) =
-    object_of [] (codes "from-gone") (pid_at ps p) (monitor_members (partner_at ps p entry) (reference_at ps p entry)) at other
-finding_object ps (QueueCount p stated found at other) =
-    object_of ((codes "found", num found) ∷ []) (codes "queue-count") (pid_at ps p) ((codes "stated", num stated) ∷ []) at other
+finding_object ps (LinkOneSided p q entry at other) = link_object (codes "link") (pid_at ps p) (pid_at ps q) at other
+finding_object ps (MonitorTo p q entry at other) = monitor_object (codes "monitor-to") (pid_at ps p) (pid_at ps q) (reference_at ps p entry) at other
+finding_object ps (MonitorFrom p q entry at other) = monitor_object (codes "monitor-from") (pid_at ps p) (pid_at ps q) (reference_at ps p entry) at other
+finding_object ps (Mailbox p count at other) = mailbox_object (pid_at ps p) count at other
+finding_object ps (UnreadLinks p at other) = process_object (codes "unread-links") (pid_at ps p) at other
+finding_object ps (UnreadQueue p at other) = process_object (codes "unread-queue") (pid_at ps p) at other
+finding_object ps (LinkGone p entry at other) = link_object (codes "link-gone") (pid_at ps p) (partner_at ps p entry) at other
+finding_object ps (ToGone p entry at other) = monitor_object (codes "to-gone") (pid_at ps p) (partner_at ps p entry) (reference_at ps p entry) at other
+finding_object ps (FromGone p entry at other) = monitor_object (codes "from-gone") (pid_at ps p) (partner_at ps p entry) (reference_at ps p entry) at other
+finding_object ps (QueueCount p stated found at other) = count_object (pid_at ps p) stated found at other
 
 -- ---- the tree
 
@@ -92,3 +100,7 @@ audit_tree a = finding_tree a.index a.processes (findings a)
 -- the text of a tree and an LF
 abbrev pub json_text : Data → List ℕ
 json_text tree = compact_text tree ++ codes "\n"
+
+-- that of the tree of findings
+abbrev pub findings_text : Contents → List Process → List Finding → List ℕ
+findings_text index processes found = json_text (finding_tree index processes found)

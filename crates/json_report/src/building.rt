@@ -55,7 +55,8 @@ pub(crate) fn tree_text(
 ) -> Result<Vec<u8>, AllocError>
     requires graph { graph.now ≡ graph_of procs.now.processes }
     requires fits { All (Fits procs.now.processes) findings.now }
-    ensures text { IfOk result (λ text. text.items ≡ compact_text (finding_tree index.now procs.now.processes findings.now)) }
+    ensures text { let tree = finding_tree index.now procs.now.processes findings.now in
+        IfOk result (λ text. text.items ≡ compact_text tree) }
     ensures bits { IfOk result (λ _. All Has64Bits findings.now) }
 {
     let state = state_text(alloc, index)?;
@@ -93,7 +94,8 @@ pub fn tree(
 ) -> Result<Value, AllocError>
     requires graph { graph.now ≡ graph_of procs.now.processes }
     requires fits { All (Fits procs.now.processes) findings.now }
-    ensures tree { IfOk result (λ tree. view tree ≡ finding_tree index.now procs.now.processes findings.now) }
+    ensures tree { IfOk result (λ tree.
+        view tree ≡ finding_tree index.now procs.now.processes findings.now) }
     ensures no_float { IfOk result (λ tree. has_float (view tree) ≡ false) }
     ensures reads_back { IfOk result (λ tree. read (compact_text (view tree)) ≡ Some (view tree)) }
 {

@@ -25,5 +25,6 @@ impl<'a> Model for Found<'a> {
 
     ghost view = { λ f. parts f.procs.now.processes f.findings.now f.state.now };
 
-    ghost invariant = { λ f. (f.graph.now ≡ graph_of f.procs.now.processes) × All (Fits f.procs.now.processes) f.findings.now };
+    ghost invariant = { λ f. (f.graph.now ≡ graph_of f.procs.now.processes)
+        × All (Fits f.procs.now.processes) f.findings.now };
 }

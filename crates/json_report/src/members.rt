@@ -3,7 +3,7 @@ ghost use Rattle.std.specs.Prelude.{◌≡◌, map, string_bytes, IfOk, IfSome, 
 ghost use Rattle.serde.specs.Event.{Logs, text};
 ghost use Rattle.serde_json.specs.Data.{object};
 ghost use Rattle.serde_json.specs.Events.{SendsValue};
-ghost use Rattle.json_report.specs.Inner.Members.{shown_member, shown_told};
+ghost use Rattle.json_report.specs.Inner.Members.{shown_member, shown_told, Sends};
 ghost use Rattle.json_report.specs.Trees.{characters, members as members_of};
 
 use serde::Serializer;
@@ -43,7 +43,8 @@ fn ascii(bytes: &[u8]) -> Option<&str>
 
 // Sends a text of the dump, which needs memory only if it isn't ASCII.
 fn send_text<S: Serializer>(out: &mut S, alloc: Global, bytes: &[u8]) -> Result<(), S::Error>
-    ensures { OnOk result (Logs (S.written out.old) (S.written out.new) (text (characters bytes.now))) }
+    ensures { OnOk result
+        (Logs (S.written out.old) (S.written out.new) (text (characters bytes.now))) }
 {
     if let Some(text) = ascii(bytes) {
         return out.str(text);
@@ -55,7 +56,7 @@ fn send_text<S: Serializer>(out: &mut S, alloc: Global, bytes: &[u8]) -> Result<
 }
 
 fn send_told<S: Serializer>(out: &mut S, alloc: Global, told: &Told<'_>) -> Result<(), S::Error>
-    ensures { OnOk result (SendsValue (shown_told told.now) (S.written out.old) (S.written out.new)) }
+    ensures { Sends (S.written out.old) (S.written out.new) (shown_told told.now) result }
 {
     match told {
         Told::Number(n) => out.u64(*n),
@@ -70,7 +71,8 @@ pub(crate) fn send_object<S: Serializer>(
     alloc: Global,
     members: &[Member<'_>],
 ) -> Result<(), S::Error>
-    ensures { OnOk result (SendsValue (object (members_of (map shown_member members.now))) (S.written out.old) (S.written out.new)) }
+    ensures { Sends (S.written out.old) (S.written out.new)
+        (object (members_of (map shown_member members.now))) result }
 {
     out.begin_map(Some(members.len()))?;
     for (key, told) in members {

@@ -1,12 +1,12 @@
 // The object of a finding.
-ghost use Rattle.std.specs.Prelude.{◌≡◌, ◌<◌, [], ◌∷◌, codes, length, OnOk};
-ghost use Rattle.serde_json.specs.Events.{SendsValue};
+ghost use Rattle.json_report.specs.Inner.Members.{Sends};
+ghost use Rattle.std.specs.Prelude.{◌≡◌, ◌<◌, length, OnOk};
 ghost use Rattle.link_entries.specs.Seen.{shown_kind};
 ghost use Rattle.link_graph.specs.Graph.{graph_of};
 ghost use Rattle.dump_audit.specs.FindingNames.{partner_in, pid_at, reference_in};
 ghost use Rattle.dump_audit.specs.Fitting.{Fits};
 ghost use Rattle.json_report.specs.Laws.{Has64Bits};
-ghost use Rattle.json_report.specs.Trees.{finding_object, monitor_members, num, object_of, partner_member};
+ghost use Rattle.json_report.specs.Trees.{count_object, finding_object, link_object, mailbox_object, monitor_object, process_object};
 
 use crate::members::{Told, send_object};
 use dump_audit::Finding;
@@ -24,7 +24,8 @@ fn send_process<'x, S: Serializer>(
     at: u64,
     other: u64,
 ) -> Result<(), S::Error>
-    ensures { OnOk result (SendsValue (object_of [] kind.now p.now [] at other) (S.written out.old) (S.written out.new)) }
+    ensures { Sends (S.written out.old) (S.written out.new)
+        (process_object kind.now p.now at other) result }
 {
     let members = [
         ("at", Told::Number(at)),
@@ -44,7 +45,8 @@ fn send_link<'x, S: Serializer>(
     at: u64,
     other: u64,
 ) -> Result<(), S::Error>
-    ensures { OnOk result (SendsValue (object_of [] kind.now p.now (partner_member q.now) at other) (S.written out.old) (S.written out.new)) }
+    ensures { Sends (S.written out.old) (S.written out.new)
+        (link_object kind.now p.now q.now at other) result }
 {
     let members = [
         ("at", Told::Number(at)),
@@ -66,7 +68,8 @@ fn send_monitor<'x, S: Serializer>(
     at: u64,
     other: u64,
 ) -> Result<(), S::Error>
-    ensures { OnOk result (SendsValue (object_of [] kind.now p.now (monitor_members q.now reference.now) at other) (S.written out.old) (S.written out.new)) }
+    ensures { Sends (S.written out.old) (S.written out.new)
+        (monitor_object kind.now p.now q.now reference.now at other) result }
 {
     let members = [
         ("at", Told::Number(at)),
@@ -87,7 +90,7 @@ fn send_mailbox<S: Serializer>(
     at: u64,
     other: u64,
 ) -> Result<(), S::Error>
-    ensures { OnOk result (SendsValue (object_of ((codes "count", num count) ∷ []) (codes "mailbox") p.now [] at other) (S.written out.old) (S.written out.new)) }
+    ensures { Sends (S.written out.old) (S.written out.new) (mailbox_object p.now count at other) result }
 {
     let members = [
         ("at", Told::Number(at)),
@@ -108,7 +111,8 @@ fn send_count<S: Serializer>(
     at: u64,
     other: u64,
 ) -> Result<(), S::Error>
-    ensures { OnOk result (SendsValue (object_of ((codes "found", num found) ∷ []) (codes "queue-count") p.now ((codes "stated", num stated) ∷ []) at other) (S.written out.old) (S.written out.new)) }
+    ensures { Sends (S.written out.old) (S.written out.new)
+        (count_object p.now stated found at other) result }
 {
     let members = [
         ("at", Told::Number(at)),
@@ -139,7 +143,8 @@ fn send_gone<'x, S: Serializer>(
     at: u64,
     other: u64,
 ) -> Result<(), S::Error>
-    ensures { OnOk result (SendsValue (object_of [] word.now p.now (monitor_members (partner_in (shown_kind kind.entry)) (reference_in (shown_kind kind.entry))) at other) (S.written out.old) (S.written out.new)) }
+    ensures { let shown = shown_kind kind.entry in Sends (S.written out.old) (S.written out.new)
+        (monitor_object word.now p.now (partner_in shown) (reference_in shown) at other) result }
 {
     send_monitor(
         out,
@@ -163,7 +168,8 @@ pub(crate) fn send_finding<S: Serializer>(
 ) -> Result<(), S::Error>
     requires graph { graph.now ≡ graph_of procs.now.processes }
     requires fits { Fits procs.now.processes finding }
-    ensures object { OnOk result (SendsValue (finding_object procs.now.processes finding) (S.written out.old) (S.written out.new)) }
+    ensures object { Sends (S.written out.old) (S.written out.new)
+        (finding_object procs.now.processes finding) result }
     ensures bits { Has64Bits finding }
 {
     match finding {

@@ -6,7 +6,7 @@ ghost use Rattle.serde_json.specs.Written.{has_float};
 ghost use Rattle.link_graph.specs.Graph.{graph_of};
 ghost use Rattle.dump_audit.specs.Fitting.{Fits};
 ghost use Rattle.json_report.specs.Faults.{IsFaultOf};
-ghost use Rattle.json_report.specs.Trees.{finding_tree, json_text};
+ghost use Rattle.json_report.specs.Trees.{finding_tree, json_text, findings_text};
 
 use crate::building::tree_text;
 use dump_audit::Finding;
@@ -74,7 +74,7 @@ fn findings_line(
 ) -> Result<Vec<u8>, AllocError>
     requires graph { graph.now ≡ graph_of procs.now.processes }
     requires fits { All (Fits procs.now.processes) findings.now }
-    ensures { IfOk result (λ line. line.items ≡ json_text (finding_tree index.now procs.now.processes findings.now)) }
+    ensures { IfOk result (λ line. line.items ≡ findings_text index.now procs.now.processes findings.now) }
 {
     ended(tree_text(alloc, index, procs, graph, findings)?)
 }
@@ -84,8 +84,10 @@ fn findings_line(
 pub fn put_json<K: Sink>(alloc: Global, sink: &mut K, tree: &Value) -> Result<(), JsonFault>
     requires { has_float (view tree.now) ≡ false }
     ensures later { (K.state sink.old).faults ≤ (K.state sink.new).faults }
-    ensures puts { OnOk result (Gained (K.state sink.old) (K.state sink.new) (json_text (view tree.now))) }
-    ensures fault { IfErr result (IsFaultOf (K.state sink.old) (K.state sink.new) (json_text (view tree.now))) }
+    ensures puts { OnOk result
+        (Gained (K.state sink.old) (K.state sink.new) (json_text (view tree.now))) }
+    ensures fault { IfErr result
+        (IsFaultOf (K.state sink.old) (K.state sink.new) (json_text (view tree.now))) }
 {
     let line = tree_line(alloc, tree)?;
     Ok(write_all(sink, &line)?)
@@ -104,8 +106,10 @@ pub fn put_findings<K: Sink>(
     requires graph { graph.now ≡ graph_of procs.now.processes }
     requires fits { All (Fits procs.now.processes) findings.now }
     ensures later { (K.state sink.old).faults ≤ (K.state sink.new).faults }
-    ensures puts { OnOk result (Gained (K.state sink.old) (K.state sink.new) (json_text (finding_tree index.now procs.now.processes findings.now))) }
-    ensures fault { IfErr result (IsFaultOf (K.state sink.old) (K.state sink.new) (json_text (finding_tree index.now procs.now.processes findings.now))) }
+    ensures puts { OnOk result
+        (Gained (K.state sink.old) (K.state sink.new) (findings_text index.now procs.now.processes findings.now)) }
+    ensures fault { IfErr result
+        (IsFaultOf (K.state sink.old) (K.state sink.new) (findings_text index.now procs.now.processes findings.now)) }
 {
     let line = findings_line(alloc, index, procs, graph, findings)?;
     Ok(write_all(sink, &line)?)

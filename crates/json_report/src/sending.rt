@@ -1,4 +1,5 @@
 // Sending what an audit found to a serializer.
+ghost use Rattle.json_report.specs.Inner.Members.{Sends};
 ghost use Rattle.std.specs.Prelude.{◌≡◌, map, All, OnOk};
 ghost use Rattle.serde_json.specs.Data.{array};
 ghost use Rattle.serde_json.specs.Events.{SendsValue};
@@ -27,7 +28,8 @@ fn send_findings<S: Serializer>(
 ) -> Result<(), S::Error>
     requires graph { graph.now ≡ graph_of procs.now.processes }
     requires fits { All (Fits procs.now.processes) findings.now }
-    ensures objects { OnOk result (SendsValue (array (items_of (map (finding_object procs.now.processes) findings.now))) (S.written out.old) (S.written out.new)) }
+    ensures objects { let objects = map (finding_object procs.now.processes) findings.now in
+        Sends (S.written out.old) (S.written out.new) (array (items_of objects)) result }
     ensures bits { OnOk result (All Has64Bits findings.now) }
 {
     out.begin_seq(Some(findings.len()))?;
@@ -48,7 +50,8 @@ fn send_tree<S: Serializer>(
 ) -> Result<(), S::Error>
     requires graph { graph.now ≡ graph_of procs.now.processes }
     requires fits { All (Fits procs.now.processes) findings.now }
-    ensures tree { OnOk result (SendsValue (tree_of (parts procs.now.processes findings.now state.now)) (S.written out.old) (S.written out.new)) }
+    ensures tree { let found = parts procs.now.processes findings.now state.now in
+        Sends (S.written out.old) (S.written out.new) (tree_of found) result }
     ensures bits { OnOk result (All Has64Bits findings.now) }
 {
     out.begin_map(Some(3))?;

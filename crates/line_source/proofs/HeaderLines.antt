@@ -12,9 +12,10 @@ use Rattle.line_source.specs.declared.header_sink.RefusedHeader.{RefusedHeader}
 use Rattle.line_source.specs.Inner.Ends.{EndsTooLong, EndsRefused}
 use Rattle.line_source.specs.Inner.LastLine.{header_bytes, is_header_line}
 use Rattle.line_source.proofs.Walk.{last_by, heard_by, long_by, last_by-append, heard_by-append, long_by-append}
-use Rattle.line_source.proofs.Pieces.{Lies, held, heard_by-lies, long_by-from, filter-none}
+use Rattle.line_source.proofs.Pieces.{Lies, held, heard_by-lies, long_by-from}
 use Rattle.line_source.proofs.Stretches.{lacks_lf, last_by-header, heard_by-header, long_by-header, passes}
 use Rattle.line_source.proofs.Scans.{too_long-walked, new_headers-walked, StandsFor-more}
+use Rattle.dump_io.specs.Laws.Lists.{filter-none}
 
 -- bytes before the first LF
 pub lacks-before : (bytes : List ℕ) (m : ℕ) → m ≤ length bytes → Nowhere (Passes (is_byte lf) bytes) 0 m → lacks_lf (take m bytes) ≡ true

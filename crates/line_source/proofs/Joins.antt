@@ -13,7 +13,8 @@ use Rattle.line_source.specs.Feeding.{first_too_long}
 use Rattle.line_source.specs.Inner.Ends.{EndsTooLong, EndsRefused, Ends}
 use Rattle.line_source.specs.Receiver.{stop_value}
 use Rattle.line_source.proofs.Walk.{last_by, heard_by, long_by}
-use Rattle.line_source.proofs.Pieces.{Lies, held, held-line, last_line-append, too_long-append, heard_by-lies, long_by-from, filter-all, new_headers-walk, new_headers-append}
+use Rattle.line_source.proofs.Pieces.{Lies, held, held-line, last_line-append, too_long-append, heard_by-lies, long_by-from, new_headers-walk, new_headers-append}
+use Rattle.dump_io.specs.Laws.Lists.{filter-all}
 
 -- two parts of the bytes, and the rest
 pub two_parts : (bytes : List ℕ) (d n : ℕ) → take d bytes ++ take n (take (length bytes - d) (drop d bytes)) ≡ take (d + n) bytes

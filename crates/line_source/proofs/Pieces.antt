@@ -7,6 +7,7 @@ use Rattle.std.proofs.lemmas.List.Elements.{All-nil, All-head, All-tail, All-app
 use Rattle.dump_io.specs.Lines.{Header}
 use Rattle.line_source.specs.Streams.{LastLine, ended, plain, header, last_line, ended_headers, new_headers, too_long}
 use Rattle.line_source.proofs.Walk.{step, heard_at, long_at, last_by, heard_by, long_by, last_by-append, heard_by-append, long_by-append, last_line-walk, ended_headers-walk, too_long-walk}
+use Rattle.dump_io.specs.Laws.Lists.{filter-all, filter-none}
 
 pub last_line-append : (s p : List ℕ) → last_line (s ++ p) ≡ last_by (last_line s) p
 last_line-append s p = grind (arith, last_line-walk, last_by-append)
@@ -94,14 +95,6 @@ long_by-upto limit n l (b ∷ bs) =
     (long_at-upto limit (n + 1) high after (omega (arith, last)))
     (All-weaker (λ at. at ≤ n + 1 + length bs - held (last_by after bs)) (λ at. at ≤ high) (λ at le. omega (arith, le))
     (long_by limit (n + 1) after bs) (long_by-upto limit (n + 1) after bs))
-
-pub filter-all : {X : Type 0} (p : X → Bool) (xs : List X) → All (λ x. p x ≡ true) xs → filter p xs ≡ xs
-filter-all p [] all = refl
-filter-all p (x ∷ xs) all = grind (arith, filter-all p xs (All-tail (λ x. p x ≡ true) x xs all), All-head)
-
-pub filter-none : {X : Type 0} (p : X → Bool) (xs : List X) → All (λ x. p x ≡ false) xs → filter p xs ≡ []
-filter-none p [] all = refl
-filter-none p (x ∷ xs) all = grind (arith, filter-none p xs (All-tail (λ x. p x ≡ false) x xs all), All-head)
 
 pub new_headers-walk : (s p : List ℕ) → new_headers s p ≡ heard_by (length s) (last_line s) p
 new_headers-walk s p =

@@ -8,6 +8,7 @@ use Rattle.dump_io.specs.Lines.{lf}
 use Rattle.line_source.specs.Streams.{LastLine, ended, plain, header}
 use Rattle.line_source.specs.Inner.Starts.{begins_line, BeginsHeader}
 use Rattle.line_source.proofs.Walk.{step, heard_at, long_at, last_by, heard_by, long_by}
+use Rattle.std.proofs.Math.Bool.{not-not}
 
 -- a last line that is no header's
 abbrev pub other_line : Bool → LastLine
@@ -15,9 +16,6 @@ other_line begun = if begun then plain else ended
 
 step-quiet : (begun : Bool) (b : ℕ) (bs : List ℕ) → Nowhere (BeginsHeader begun (b ∷ bs)) 0 (length (b ∷ bs)) → step (other_line begun) b ≡ other_line (not (b == lf))
 step-quiet begun b bs quiet = grind arith
-
-double : (q : Bool) → not (not q) ≡ q
-double q = grind arith
 
 begins_line-suc : (begun : Bool) (bytes : List ℕ) (j : ℕ) → begins_line begun bytes (suc j) ≡ (get_or bytes j 0 == lf)
 begins_line-suc begun bytes j = grind arith

@@ -3,7 +3,7 @@ use Rattle.std.proofs.Common.{◌≡◌, ℕ, zero, suc, ◌-◌, ◌≤◌, ◌
 use Rattle.std.specs.Prelude.{◌^◌, All, IsSomeAnd, IfSome, slice_get}
 use Rattle.std.specs.Option.{option_map}
 use Rattle.std.specs.List.{between}
-use Rattle.std.proofs.lemmas.List.{drop-append-le, take-append-le, drop_at, take_all, length-drop, map-append}
+use Rattle.std.proofs.lemmas.List.{drop_at, take_all, map-append}
 use Rattle.std.proofs.lemmas.List.Elements.{All-head, All-tail, All-weaker, All-push}
 use Rattle.link_entries.specs.Kinds.{Kind}
 use Rattle.link_entries.specs.Entries.{Part, LinkEntry, entry_of, list_parts, entries_at}
@@ -13,9 +13,7 @@ use Rattle.link_entries.specs.Inner.Spans.{span_entries, links_in_span, IsSpan, 
 use Rattle.link_entries.specs.declared.lists.Span.{Span}
 use Rattle.link_entries.specs.declared.lists.Lists.{Lists}
 use Rattle.link_entries.proofs.Counts.{length-entries}
-
-between-grown : {X : Type 0} (xs more : List X) (from upto : ℕ) → from ≤ upto → upto ≤ length xs → between from upto (xs ++ more) ≡ between from upto xs
-between-grown xs more from upto ordered within = grind (arith, drop-append-le, take-append-le, length-drop)
+use Rattle.dump_io.specs.Laws.Lists.{between-grown}
 
 -- what was put behind a list
 between-behind : {X : Type 0} (xs more : List X) → between (length xs) (length (xs ++ more)) (xs ++ more) ≡ more

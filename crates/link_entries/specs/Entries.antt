@@ -10,7 +10,7 @@ use Rattle.link_entries.specs.Reading.{entry_kind}
 abbrev pub gap : List ℕ
 gap = codes ", "
 
--- these two bytes are a gap
+-- whether two bytes are a gap
 abbrev pub is_gap : ℕ → ℕ → Bool
 is_gap c d = c == letter (codes ",") && d == letter (codes " ")
 

@@ -36,13 +36,13 @@ Spells text (Link pid) = (text ≡ pid) × (is_pid pid ≡ true)
 Spells text LinkPort = is_port text ≡ true
 -- `{to,`, a pid, `,`, a reference, `}`
 Spells text (To pid reference) = IsMonitor to_opening is_pid text pid reference
--- the same with a port
+-- `{to,`, a port, `,`, a reference, `}`
 Spells text ToPort = (port : List ℕ) × (reference : List ℕ) × IsMonitor to_opening is_port text port reference
--- the same with any bytes in braces, which are a name and its node
+-- `{to,`, any bytes in braces, which are a name and its node, `,`, a reference, `}`
 Spells text (ToName reference) = (name : List ℕ) × IsMonitor to_opening is_braced text name reference
 -- `{from,`, a pid, `,`, a reference, `}`
 Spells text (From pid reference) = IsMonitor from_opening is_pid text pid reference
--- the same with a port
+-- `{from,`, a port, `,`, a reference, `}`
 Spells text FromPort = (port : List ℕ) × (reference : List ℕ) × IsMonitor from_opening is_port text port reference
 Spells text Other = ⊥
 
@@ -51,7 +51,7 @@ abbrev pub IsKind : List ℕ → Kind → Type 0
 IsKind text Other = (kind : Kind) → ¬ Spells text kind
 IsKind text kind = Spells text kind
 
--- whether two kinds are the same, with the same texts
+-- whether two kinds are one, with the same texts
 abbrev pub is_same_kind : Kind → Kind → Bool
 is_same_kind (Link pid) (Link pid') = bytes_eq pid pid'
 is_same_kind LinkPort LinkPort = true

@@ -50,7 +50,8 @@ fn first_gap(text: &[u8]) -> Option<usize>
 // The part that begins a text, and what stands after the gap that ends it.
 fn split_part(text: &[u8]) -> (&[u8], Option<&[u8]>)
     ensures parts { cut text.now ≡ result.0.now ∷ cut_rest (option_copied result.1) }
-    ensures behind { IfSome result.1 (λ rest. length result.0.now + 2 + length rest.now ≡ length text.now) }
+    ensures behind { IfSome result.1 (λ rest. length result.0.now + 2 + length rest.now
+        ≡ length text.now) }
 {
     match first_gap(text) {
         None => (text, None),

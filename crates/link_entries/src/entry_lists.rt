@@ -57,7 +57,8 @@ impl<'a> EntryLists<'a> {
     ) -> Result<EntryLists<'a>, AllocError>
         requires place { at + length text.now < 2 ^ 64 }
         requires short { length text.now < 2 ^ 32 }
-        ensures { IfOk result (λ lists. lists ≡ self.entry ++ links_in (entries_at at text.now) ∷ []) }
+        ensures { IfOk result (λ lists. lists
+            ≡ self.entry ++ links_in (entries_at at text.now) ∷ []) }
     {
         let mut lists = self.lists;
         lists.push_text(alloc, at, text)?;

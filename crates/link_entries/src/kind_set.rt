@@ -30,7 +30,8 @@ impl<'a> Model for KindSet<'a> {
 impl<'a> KindSet<'a> {
     // The set of these kinds.
     pub fn of(mut kinds: Vec<EntryKind<'a>>) -> KindSet<'a>
-        ensures { (wanted : EntryKind) → list_any (is_same_kind (shown_kind wanted)) result ≡ list_any (is_same_kind (shown_kind wanted)) (map shown_kind kinds.entry.items) }
+        ensures { (wanted : EntryKind) → list_any (is_same_kind (shown_kind wanted)) result
+            ≡ list_any (is_same_kind (shown_kind wanted)) (map shown_kind kinds.entry.items) }
     {
         kinds.sort_unstable();
         KindSet { sorted: kinds }

@@ -76,7 +76,8 @@ fn from_kind<'a>(partner: &'a [u8], reference: &'a [u8]) -> EntryKind<'a>
 // The kind of a text, by the opening of a monitor that it begins with.
 #[tactic(auto, unfolding(crate::specs::Reading::monitor_kind))]
 fn monitor_kind(text: &[u8]) -> EntryKind<'_>
-    ensures { shown_kind result ≡ monitor_kind (inside to_opening (codes "}") text.now) (inside from_opening (codes "}") text.now) }
+    ensures { shown_kind result ≡ monitor_kind (inside to_opening (codes "}") text.now)
+        (inside from_opening (codes "}") text.now) }
 {
     if let Some(to) = inside(text, b"{to,", b"}") {
         return match parties(to) {

@@ -13,5 +13,6 @@ pub fn an_entry_has_one_kind()
 /// a gap between each two members and none within them.
 pub fn a_list_is_cut_at_gaps()
     ensures divides { (text : List ℕ) → AreCutParts text (cut text) }
-    ensures only { (text : List ℕ) (parts : List (List ℕ)) → AreCutParts text parts → parts ≡ cut text }
+    ensures only { (text : List ℕ) (parts : List (List ℕ)) → AreCutParts text parts
+        → parts ≡ cut text }
 {}

@@ -68,7 +68,7 @@ fn push_kinds<'a>(
     Ok(())
 }
 
-// The same for the entries that stand from a place on.
+// Appends the kinds of the entries from a place on, if they are a long list.
 fn push_kinds_from<'a>(
     alloc: Global,
     sets: &mut Vec<KindSet<'a>>,
@@ -103,7 +103,8 @@ impl<'a> Lists<'a> {
     // Appends a list without entries.
     pub fn push_none(&mut self, unread: bool) -> Result<(), AllocError>
         requires { AreSpans self.old }
-        ensures { OnOk result (HasGained self.old self.new (record { unread = unread; entries = [] })) }
+        ensures { OnOk result (HasGained self.old self.new
+            (record { unread = unread; entries = [] })) }
     {
         self.spans.push(Span {
             from: 0,
@@ -169,7 +170,8 @@ impl<'a> Lists<'a> {
     pub fn has(&self, p: usize, wanted: &EntryKind<'_>) -> bool
         requires within { AreSpans self.now }
         requires place { p < length (lists_in self.now) }
-        ensures { result ≡ has_kind (shown_kind wanted.now) (links_at (lists_in self.now) p).entries }
+        ensures { result ≡ has_kind (shown_kind wanted.now)
+            (links_at (lists_in self.now) p).entries }
     {
         let span = self.spans[p];
         if span.upto - span.from > SHORT {

@@ -10,7 +10,7 @@ use crate::kinds::kind;
 use std::marker::Model;
 
 /// What an entry of a link list says. The slices are parts of the list's text.
-#[derive(Clone, Copy, Debug, PartialEq, Eq, PartialOrd, Ord)]
+#[derive(Clone, Copy, PartialEq, Eq, PartialOrd, Ord)]
 pub enum EntryKind<'a> {
     /// A link to the process with this pid.
     Link(&'a [u8]),
@@ -31,7 +31,7 @@ pub enum EntryKind<'a> {
 }
 
 /// An entry of a link list.
-#[derive(Clone, Copy, Debug, PartialEq, Eq)]
+#[derive(Clone, Copy)]
 pub struct Entry<'a> {
     /// The offset of the entry's first byte.
     pub at: u64,

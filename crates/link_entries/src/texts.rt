@@ -27,7 +27,8 @@ fn before<'a>(text: &'a [u8], back: &[u8]) -> Option<&'a [u8]>
 #[tactic(auto, unfolding(crate::specs::Texts::inside))]
 pub(crate) fn inside<'a>(text: &'a [u8], front: &[u8], back: &[u8]) -> Option<&'a [u8]>
     ensures value { option_copied result ≡ inside front.now back.now text.now }
-    ensures lengths { IfSome result (λ inner. length front.now + length inner.now + length back.now ≡ length text.now) }
+    ensures lengths { IfSome result (λ inner. length front.now + length inner.now + length back.now
+        ≡ length text.now) }
 {
     before(behind(text, front)?, back)
 }

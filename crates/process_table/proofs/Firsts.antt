@@ -2,19 +2,12 @@
 use Rattle.std.proofs.Common.{◌≡◌, ℕ, zero, suc, ◌+◌, Bool, true, false, cond, not, ◌||◌, List, [], ◌∷◌, ◌++◌, take, filter, slice_get, Some, refl, ◌∙◌, ap, arith, if◌then◌else◌}
 use Rattle.std.specs.List.{list_any, enumerate_from}
 use Rattle.std.specs.Str.{bytes_eq}
-use Rattle.std.proofs.lemmas.Bool.{false≢true}
 use Rattle.std.proofs.lemmas.List.{append-nil, take_more}
 use Rattle.std.proofs.lemmas.List.Elements.{filter-append}
 use Rattle.std.proofs.lemmas.Option.{get_or_from_slice_get, slice_get_within}
-use Rattle.std.proofs.lemmas.Slice.Eq.{bytes_eq-Decides}
 use Rattle.dump_sections.specs.Sections.{Section}
 use Rattle.process_table.specs.Records.{PlacedSection, placed_sections, is_process, pid_of, process_sections, has_same_pid, first_of_each}
-
-bytes_eq-same : (x y : List ℕ) → bytes_eq x y ≡ true → x ≡ y
-bytes_eq-same x y e = (bytes_eq-Decides x y).0 e
-
-bytes_eq-swap : (x y : List ℕ) → bytes_eq x y ≡ bytes_eq y x
-bytes_eq-swap x y = grind (arith, false≢true, bytes_eq-Decides, bytes_eq-same)
+use Rattle.dump_io.specs.Laws.Texts.{bytes_eq-same, bytes_eq-swap}
 
 -- whether one of these sections has the pid
 abbrev pub is_among : PlacedSection → List PlacedSection → Bool

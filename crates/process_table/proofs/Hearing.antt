@@ -1,5 +1,5 @@
 -- Processes are found one section after another.
-use Rattle.std.proofs.Common.{◌≡◌, ℕ, ◌+◌, ◌≤◌, Bool, true, false, cond, ◌||◌, List, [], ◌∷◌, ◌++◌, length, map, is_some, Option, None, Some, refl, sym, ◌∙◌, ap, arith, if◌then◌else◌, length-append}
+use Rattle.std.proofs.Common.{◌≡◌, ℕ, ◌+◌, ◌≤◌, Bool, true, false, cond, List, [], ◌∷◌, ◌++◌, length, map, is_some, None, Some, sym, ◌∙◌, ap, arith, if◌then◌else◌, length-append}
 use Rattle.std.specs.Prelude.{position}
 use Rattle.std.specs.List.{list_any}
 use Rattle.std.specs.Str.{bytes_eq}
@@ -12,6 +12,7 @@ use Rattle.process_table.specs.Records.{PlacedSection, is_process, named_place, 
 use Rattle.process_table.specs.Inner.Finding.{named_places, has_pid, pid_in, AreFound}
 use Rattle.process_table.proofs.Positions.{some-position}
 use Rattle.process_table.proofs.Firsts.{first_of_each-more, process_sections-more}
+use Rattle.dump_io.specs.Laws.Lists.{list_any-map}
 
 pub pid_in-none : (s : Section) → pid_in s ≡ None → is_process s ≡ false
 pid_in-none s none = grind arith
@@ -23,11 +24,7 @@ pid_in-some s pid some = grind arith
 there-is : (pid : List ℕ) (places : List PidPlace) (firsts : List PlacedSection) → named_places places ≡ map named_place firsts
     → is_some (position (has_pid pid) places) ≡ list_any (λ (q : PlacedSection). bytes_eq pid (pid_of q.1)) firsts
 there-is pid places firsts same =
-    cc (some-position (has_pid pid) places, of_images (λ (e : List ℕ × ℕ). bytes_eq pid e.0) (λ (place : PidPlace). (place.pid.items, place.section)) places, of_images (λ (e : List ℕ × ℕ). bytes_eq pid e.0) named_place firsts)
-  where
-    of_images : {X Y : Type 0} (p : Y → Bool) (f : X → Y) (xs : List X) → list_any p (map f xs) ≡ list_any (λ x. p (f x)) xs
-    of_images p f [] = refl
-    of_images p f (x ∷ xs) = ap (λ b. p (f x) || b) (of_images p f xs)
+    cc (some-position (has_pid pid) places, list_any-map (λ (e : List ℕ × ℕ). bytes_eq pid e.0) (λ (place : PidPlace). (place.pid.items, place.section)) places, list_any-map (λ (e : List ℕ × ℕ). bytes_eq pid e.0) named_place firsts)
 
 module _ (found : Found) (among : List PlacedSection) (p : PlacedSection) (are : AreFound found among) where
   -- a section that is none of a process changes nothing
@@ -77,7 +74,3 @@ repeated-few found among are = omega (arith, are.all, length-filter (λ (q : Pla
 
 pub entries-few : (found : Found) (among : List PlacedSection) → AreFound found among → length found.places.items ≤ length among
 entries-few found among are = omega (arith, are.all, length-filter (λ (q : PlacedSection). is_process q.1) among, count_by-le-length (λ (q : PlacedSection). is_process q.1) among)
-
-pub none_where : {X : Type 0} (o : Option X) → is_some o ≡ false → o ≡ None
-none_where None e = refl
-none_where (Some x) e = cc

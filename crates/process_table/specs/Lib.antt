@@ -1,4 +1,5 @@
 pub mod Inner
+pub mod Laws
 pub mod Processes
 pub mod Records
 pub mod Shown

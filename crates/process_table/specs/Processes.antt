@@ -74,7 +74,7 @@ pub record IsBoundedProcess (p : Process) : Type 0 where
   pub memory : IsBoundedCell p.memory
   pub links : IsBoundedCell p.links
 
--- there are no more processes than an index has sections, and each is bounded
+-- a process table is bounded: it has no more processes than an index has sections, and each is bounded
 pub record AreBoundedProcesses (table : ProcessTable) : Type 0 where
   pub count : length table.processes ≤ usual.sections
   pub fields : All IsBoundedProcess table.processes

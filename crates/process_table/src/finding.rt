@@ -45,7 +45,8 @@ fn find_at<'a>(
     requires few { i < 2 ^ 32 }
     requires before { AreFound found.old (take i (placed_sections (sections_in index.now))) }
     requires numbered { AreNumbered numbers.old found.old.places.items }
-    ensures found { OnOk result (AreFound found.new (take (i + 1) (placed_sections (sections_in index.now)))) }
+    ensures found { OnOk result (AreFound found.new
+        (take (i + 1) (placed_sections (sections_in index.now)))) }
     ensures numbered { OnOk result (AreNumbered numbers.new found.new.places.items) }
 {
     let Some(pid) = pid_of(index, i) else {
@@ -62,7 +63,8 @@ fn find_at<'a>(
 
 // Finds the first section of each process, and the order of their pids, in whatever order they come.
 fn find_ranked(alloc: Global, index: &Index) -> Result<(Found, Vec<u32>), AllocError>
-    ensures found { IfOk result (λ found. AreFound found.0 (placed_sections (sections_in index.now))) }
+    ensures found { IfOk result (λ found. AreFound found.0
+        (placed_sections (sections_in index.now))) }
     ensures own { IfOk result (λ found. AreOwn found.0.places.items) }
     ensures ranked { IfOk result (λ found. AreRanked found.0.places.items found.1.items) }
     ensures count { IfOk result (λ found. length found.0.places.items ≤ usual.sections) }
@@ -89,7 +91,8 @@ fn find_rising_at(
 ) -> Result<bool, AllocError>
     requires place { i < length index.now.headers }
     requires before { AreFoundRising places.old (take i (placed_sections (sections_in index.now))) }
-    ensures { IfOk result (λ rises. rises ≡ true → AreFoundRising places.new (take (i + 1) (placed_sections (sections_in index.now)))) }
+    ensures { IfOk result (λ rises. rises ≡ true → AreFoundRising places.new
+        (take (i + 1) (placed_sections (sections_in index.now)))) }
 {
     let Some(pid) = pid_of(index, i) else {
         return Ok(true);
@@ -104,8 +107,10 @@ fn find_rising_at(
 // Finds the first section of each process, if each pid is greater than those before it: then none
 // is repeated, and no further check is needed that it is new. Returns `None` if some pid isn't.
 fn find_rising(alloc: Global, index: &Index) -> Result<Option<Vec<PidPlace>>, AllocError>
-    ensures found { IfOk result (λ found. IfSome found (λ places. AreFoundRising places (placed_sections (sections_in index.now)))) }
-    ensures count { IfOk result (λ found. IfSome found (λ places. length places.items ≤ usual.sections)) }
+    ensures found { IfOk result (λ found. IfSome found
+        (λ places. AreFoundRising places (placed_sections (sections_in index.now)))) }
+    ensures count { IfOk result (λ found. IfSome found
+        (λ places. length places.items ≤ usual.sections)) }
 {
     let mut places = Vec::new(alloc);
     for place in 0..index.len() {
@@ -118,7 +123,8 @@ fn find_rising(alloc: Global, index: &Index) -> Result<Option<Vec<PidPlace>>, Al
 
 // Finds the first section of each process of an index, and the order of their pids.
 pub(crate) fn find(alloc: Global, index: &Index) -> Result<(Found, PidOrder), AllocError>
-    ensures found { IfOk result (λ found. AreFound found.0 (placed_sections (sections_in index.now))) }
+    ensures found { IfOk result (λ found. AreFound found.0
+        (placed_sections (sections_in index.now))) }
     ensures ordered { IfOk result (λ found. AreOrdered found.0.places.items found.1) }
     ensures count { IfOk result (λ found. length found.0.places.items ≤ usual.sections) }
 {

@@ -90,7 +90,8 @@ pub(crate) fn order_of(
     alloc: Global,
     numbers: &BTreeMap<&[u8], u32>,
 ) -> Result<Vec<u32>, AllocError>
-    ensures { IfOk result (λ order. (places : List PidPlace) → AreNumbered numbers.now places → AreRanked places order.items) }
+    ensures { IfOk result (λ order. (places : List PidPlace) → AreNumbered numbers.now places
+        → AreRanked places order.items) }
 {
     values_of(alloc, numbers)
 }

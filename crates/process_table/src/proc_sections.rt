@@ -9,7 +9,7 @@ ghost use Rattle.process_table.specs.Inner.Finding.{named_places, sections_of, A
 use crate::finding::find;
 use crate::pids::{PidOrder, PidPlace};
 use dump_io::Limits;
-use dump_sections::{BodyFault, Index, large};
+use dump_sections::{Index, LargeSection, large};
 use std::alloc::{AllocError, Global};
 use std::marker::Model;
 
@@ -81,11 +81,12 @@ impl ProcSections {
         place_at(&self.places, i)
     }
 
-    /// The refusal of the first of these sections of the index whose body has more bytes than the limit
+    /// The first of these sections of the index whose body has more bytes than the limit
     /// on a section's body. Returns `None` exactly when each body is within the limit. Nothing is read.
-    pub fn large(&self, index: &Index, limits: &Limits) -> Option<BodyFault>
+    pub fn large(&self, index: &Index, limits: &Limits) -> Option<LargeSection>
         requires { self.now ≡ proc_places (sections_in index.now) }
-        ensures { result ≡ large_fault limits.now.section (record_sections (sections_in index.now)) }
+        ensures { result ≡ large_fault limits.now.section
+            (record_sections (sections_in index.now)) }
     {
         large(index, self.sections.as_slice(), limits)
     }

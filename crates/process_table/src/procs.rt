@@ -1,7 +1,7 @@
 // The process table.
 ghost use Rattle.std.specs.Prelude.{◌≡◌, ℕ, List, ◌<◌, length, map, slice_get, None, Some, IfSome, IfOk, All, position};
 ghost use Rattle.std.specs.Str.{bytes_eq};
-ghost use Rattle.dump_io.specs.Dumps.{told};
+ghost use Rattle.dump_io.specs.Dumps.{IfTold};
 ghost use Rattle.dump_sections.specs.Index.{IsBuiltOver, sections_in};
 ghost use Rattle.dump_sections.specs.Loading.{LoadsBodies};
 ghost use Rattle.section_rows.specs.Rows.{AreRowsOf};
@@ -22,7 +22,7 @@ use std::alloc::Global;
 use std::marker::Model;
 
 /// A process of a dump. A field is `None` exactly when the section's body has no such line.
-#[derive(Clone, Copy, Debug)]
+#[derive(Clone, Copy)]
 pub struct Proc<'a> {
     /// The place of the section among the sections of the index, from 0.
     pub section: usize,
@@ -67,7 +67,8 @@ fn joined_at<'a>(places: &'a [PidPlace], fields: &'a SectionRows, i: usize) -> P
     requires rows { length fields.now.rows ≡ length places.now }
     requires width { fields.now.width ≡ 5 }
     requires place { i < length places.now }
-    ensures { slice_get (all_joined (named_places places.now) fields.now.rows) i ≡ Some (shown_process result) }
+    ensures { slice_get (all_joined (named_places places.now) fields.now.rows) i
+        ≡ Some (shown_process result) }
 {
     let (pid, section) = place_at(places, i);
     Proc {
@@ -101,8 +102,10 @@ fn load_fields<D: Dumps>(
     requires over { IsBuiltOver (D.state dumps.old).now index.now }
     requires found { sections.now ≡ map (λ r. r.0) (records (sections_in index.now)) }
     requires records { All (IsRecordOf index.now) (records (sections_in index.now)) }
-    ensures loads { LoadsBodies D.state (record_sections (sections_in index.now)) limits.now.section dumps.old dumps.new result }
-    ensures rows { IfOk result (AreRowsOf (D.state dumps.old).now field_columns (record_sections (sections_in index.now))) }
+    ensures loads { LoadsBodies D.state (record_sections (sections_in index.now)) limits.now.section
+        dumps.old dumps.new result }
+    ensures rows { IfOk result (AreRowsOf (D.state dumps.old).now field_columns
+        (record_sections (sections_in index.now))) }
 {
     SectionRows::load(alloc, dumps, index, sections, &FIELDS, limits)
 }
@@ -122,8 +125,10 @@ impl Procs {
         limits: &Limits,
     ) -> Result<Procs, BodyFault>
         requires { IsBuiltOver (D.state dumps.old).now index.now }
-        ensures loads { LoadsBodies D.state (record_sections (sections_in index.now)) limits.now.section dumps.old dumps.new result }
-        ensures table { IfOk result (λ procs. (bytes : List ℕ) → (D.state dumps.old).now ≡ told bytes → procs ≡ process_table bytes) }
+        ensures loads { LoadsBodies D.state (record_sections (sections_in index.now)) limits.now.section
+            dumps.old dumps.new result }
+        ensures table { IfOk result (λ procs. IfTold (D.state dumps.old).now
+            (λ bytes. procs ≡ process_table bytes)) }
         ensures over { IfOk result (AreProcessesOver index.now) }
     {
         let Ok(found) = ProcSections::find(alloc, index) else {
@@ -146,8 +151,10 @@ impl Procs {
     ) -> Result<Procs, BodyFault>
         requires over { IsBuiltOver (D.state dumps.old).now index.now }
         requires found { found ≡ proc_places (sections_in index.now) }
-        ensures loads { LoadsBodies D.state (record_sections (sections_in index.now)) limits.now.section dumps.old dumps.new result }
-        ensures table { IfOk result (λ procs. (bytes : List ℕ) → (D.state dumps.old).now ≡ told bytes → procs ≡ process_table bytes) }
+        ensures loads { LoadsBodies D.state (record_sections (sections_in index.now)) limits.now.section
+            dumps.old dumps.new result }
+        ensures table { IfOk result (λ procs. IfTold (D.state dumps.old).now
+            (λ bytes. procs ≡ process_table bytes)) }
         ensures over { IfOk result (AreProcessesOver index.now) }
     {
         let (places, order, sections, repeated) = found.into_parts();
@@ -215,7 +222,8 @@ impl Procs {
 
     /// The place of the process with this pid. Returns `None` exactly when there is none.
     pub fn get(&self, pid: &[u8]) -> Option<usize>
-        ensures place { result ≡ position (λ process. bytes_eq pid.now process.pid) self.now.processes }
+        ensures place { result ≡ position (λ process. bytes_eq pid.now process.pid)
+            self.now.processes }
         ensures within { IfSome result (λ i. i < length self.now.processes) }
     {
         let places = self.places.as_slice();

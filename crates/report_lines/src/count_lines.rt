@@ -15,7 +15,8 @@ pub fn put_line<'x, K: Sink>(
 ) -> Result<(), Failed>
     requires some { 0 < length parts.now }
     requires few { length parts.now ≤ 6 }
-    ensures { Puts (K.state sink.old) (K.state sink.new) (line_of between.now (map piece_text parts.now)) result }
+    ensures { Puts (K.state sink.old) (K.state sink.new)
+        (line_of between.now (map piece_text parts.now)) result }
 {
     // Each part has a piece behind it, and that of the last one ends the line.
     let mut pieces = [Piece::Bytes(between); 12];
@@ -45,7 +46,8 @@ pub fn put_count_line<'x, K: Sink>(
     counted: &'x [u8],
     count: u64,
 ) -> Result<(), Failed>
-    ensures { Puts (K.state sink.old) (K.state sink.new) (count_line word.now counted.now count) result }
+    ensures { Puts (K.state sink.old) (K.state sink.new)
+        (count_line word.now counted.now count) result }
 {
     if count == 0 {
         return Ok(());

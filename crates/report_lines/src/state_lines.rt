@@ -12,7 +12,8 @@ use dump_sections::{Index, State};
 ///
 /// Returns `Failed` only if the sink failed; a proper prefix of the line was written then.
 pub fn put_state<K: Sink>(sink: &mut K, index: &Index) -> Result<(), Failed>
-    ensures { Puts (K.state sink.old) (K.state sink.new) (state_line (sections_in index.now) (dump_state index.now.headers)) result }
+    ensures { Puts (K.state sink.old) (K.state sink.new)
+        (state_line (sections_in index.now) (dump_state index.now.headers)) result }
 {
     match index.state() {
         State::Whole => write_all(sink, b"whole\n"),

@@ -30,15 +30,15 @@ version_text V05 = codes "0.5"
 abbrev pub tag_line : List ℕ × ℕ → List ℕ
 tag_line (tag, count) = line_of word_space (codes "tag" ∷ decimal count ∷ tag ∷ [])
 
--- the first lines of `info`: version, size, number of sections and slogan
-abbrev pub info_heading : List ℕ → ℕ → ℕ → Option (List ℕ) → List ℕ
-info_heading version size sections slogan =
+-- the first lines of `info`: version, size, number of sections, and the slogan of this first body
+abbrev pub info_heading : List ℕ → ℕ → ℕ → List ℕ → List ℕ
+info_heading version size sections first_body =
     line_of newline ((codes "version " ++ version) ∷ (codes "size " ++ decimal size)
-    ∷ (codes "sections " ++ decimal sections) ∷ (codes "slogan " ++ text_or_dash slogan) ∷ [])
+    ∷ (codes "sections " ++ decimal sections) ∷ (codes "slogan " ++ text_or_dash (find_value first_body (codes "Slogan"))) ∷ [])
 
 -- the report of `info` on a dump of this version, with these headers and
 -- this size, these counts of tags and this body of the first section
 abbrev pub info_report : List ℕ → List Header → ℕ → List (List ℕ × ℕ) → List ℕ → List ℕ
 info_report version headers size tags first_body =
-    info_heading version size (length headers) (find_value first_body (codes "Slogan"))
+    info_heading version size (length headers) first_body
     ++ (flat_map tag_line tags ++ state_line (sections_of headers size) (dump_state headers))

@@ -24,7 +24,8 @@ fn columns(text: &[u8]) -> (&[u8], &[u8])
 
 fn put_field<K: Sink>(sink: &mut K, base: u64, line: &Line<'_>) -> Result<(), Failed>
     requires { base + line.now.at < 2 ^ 64 }
-    ensures { Puts (K.state sink.old) (K.state sink.new) (field_line base (shown_line line.now)) result }
+    ensures { Puts (K.state sink.old) (K.state sink.new)
+        (field_line base (shown_line line.now)) result }
 {
     let (key, value) = columns(line.text);
     put_line(
@@ -41,7 +42,8 @@ fn put_field<K: Sink>(sink: &mut K, base: u64, line: &Line<'_>) -> Result<(), Fa
 // Writes the row of a line, if its text isn't empty.
 fn put_row<K: Sink>(sink: &mut K, base: u64, line: &Line<'_>) -> Result<(), Failed>
     requires { base + line.now.at < 2 ^ 64 }
-    ensures { Puts (K.state sink.old) (K.state sink.new) (line_row base (shown_line line.now)) result }
+    ensures { Puts (K.state sink.old) (K.state sink.new)
+        (line_row base (shown_line line.now)) result }
 {
     if line.text.is_empty() {
         return Ok(());
@@ -51,7 +53,8 @@ fn put_row<K: Sink>(sink: &mut K, base: u64, line: &Line<'_>) -> Result<(), Fail
 
 fn put_lines<K: Sink>(sink: &mut K, body: &[u8], base: u64) -> Result<(), Failed>
     requires { base + length body.now < 2 ^ 64 }
-    ensures { Puts (K.state sink.old) (K.state sink.new) (flat_map (field_line base) (filter has_row (text_lines body.now))) result }
+    ensures { Puts (K.state sink.old) (K.state sink.new)
+        (flat_map (field_line base) (filter has_row (text_lines body.now))) result }
 {
     for line in lines(body) {
         put_row(sink, base, &line)?;

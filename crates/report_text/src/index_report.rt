@@ -11,7 +11,8 @@ use dump_sections::{Extent, Index};
 use report_lines::{put_line, put_state};
 
 fn put_section<K: Sink>(sink: &mut K, s: &Extent<'_>) -> Result<(), Failed>
-    ensures { Puts (K.state sink.old) (K.state sink.new) (section_line (section s.now.at s.now.body s.now.end s.now.text.now)) result }
+    ensures { Puts (K.state sink.old) (K.state sink.new)
+        (section_line (section s.now.at s.now.body s.now.end s.now.text.now)) result }
 {
     put_line(
         sink,
@@ -26,7 +27,8 @@ fn put_section<K: Sink>(sink: &mut K, s: &Extent<'_>) -> Result<(), Failed>
 }
 
 fn put_sections<K: Sink>(sink: &mut K, index: &Index) -> Result<(), Failed>
-    ensures { Puts (K.state sink.old) (K.state sink.new) (flat_map section_line (sections_in index.now)) result }
+    ensures { Puts (K.state sink.old) (K.state sink.new)
+        (flat_map section_line (sections_in index.now)) result }
 {
     for i in 0..index.len() {
         put_section(sink, &index.extent(i))?;
@@ -38,7 +40,8 @@ fn put_sections<K: Sink>(sink: &mut K, index: &Index) -> Result<(), Failed>
 /// begin and at which it ends, and its header's text. Then comes the state line: `whole`, or
 /// `truncated` with the offset and the header's text of the section in which the dump is truncated.
 pub fn put_index<K: Sink>(sink: &mut K, index: &Index) -> Result<(), Failed>
-    ensures { Puts (K.state sink.old) (K.state sink.new) (index_report index.now.headers index.now.size) result }
+    ensures { Puts (K.state sink.old) (K.state sink.new)
+        (index_report index.now.headers index.now.size) result }
 {
     put_sections(sink, index)?;
     put_state(sink, index)

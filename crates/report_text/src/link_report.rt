@@ -30,7 +30,8 @@ fn kind_word(kind: &EntryKind<'_>) -> &'static [u8]
 
 // Writes the line of an entry of the process with this pid.
 fn put_entry<'x, K: Sink>(sink: &mut K, pid: &'x [u8], entry: &Entry<'x>) -> Result<(), Failed>
-    ensures { Puts (K.state sink.old) (K.state sink.new) (entry_line pid.now (shown_entry entry.now)) result }
+    ensures { Puts (K.state sink.old) (K.state sink.new)
+        (entry_line pid.now (shown_entry entry.now)) result }
 {
     put_line(
         sink,
@@ -47,7 +48,8 @@ fn put_entry<'x, K: Sink>(sink: &mut K, pid: &'x [u8], entry: &Entry<'x>) -> Res
 // Writes the lines of the entries of the process at a place.
 fn put_entries<K: Sink>(sink: &mut K, pid: &[u8], graph: &Graph<'_>, p: usize) -> Result<(), Failed>
     requires { p < length graph.now }
-    ensures { Puts (K.state sink.old) (K.state sink.new) (flat_map (entry_line pid.now) (links_at graph.now p).entries) result }
+    ensures { Puts (K.state sink.old) (K.state sink.new)
+        (flat_map (entry_line pid.now) (links_at graph.now p).entries) result }
 {
     for n in 0..graph.count(p) {
         put_entry(sink, pid, &graph.entry(p, n))?;
@@ -57,7 +59,8 @@ fn put_entries<K: Sink>(sink: &mut K, pid: &[u8], graph: &Graph<'_>, p: usize) -
 
 // Writes the line of an unread link list.
 fn put_unread<K: Sink>(sink: &mut K, process: &Proc<'_>) -> Result<(), Failed>
-    ensures { Puts (K.state sink.old) (K.state sink.new) (unread_line process.now.pid.now (shown_process process.now).links) result }
+    ensures { Puts (K.state sink.old) (K.state sink.new)
+        (unread_line process.now.pid.now (shown_process process.now).links) result }
 {
     let Some(list) = process.links else {
         return Ok(());
@@ -82,7 +85,8 @@ fn put_process<K: Sink>(
 ) -> Result<(), Failed>
     requires place { p < length graph.now }
     requires links { links_at graph.now p ≡ links_of (shown_process process.now).links }
-    ensures { Puts (K.state sink.old) (K.state sink.new) (process_links (shown_process process.now)) result }
+    ensures { Puts (K.state sink.old) (K.state sink.new)
+        (process_links (shown_process process.now)) result }
 {
     if graph.unread(p) {
         put_unread(sink, process)
@@ -93,7 +97,8 @@ fn put_process<K: Sink>(
 
 fn put_processes<K: Sink>(sink: &mut K, procs: &Procs, graph: &Graph<'_>) -> Result<(), Failed>
     requires { graph.now ≡ graph_of procs.now.processes }
-    ensures { Puts (K.state sink.old) (K.state sink.new) (flat_map process_links procs.now.processes) result }
+    ensures { Puts (K.state sink.old) (K.state sink.new)
+        (flat_map process_links procs.now.processes) result }
 {
     for p in 0..procs.len() {
         put_process(sink, &procs.at(p), graph, p)?;

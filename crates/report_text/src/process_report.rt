@@ -24,7 +24,8 @@ pub fn text_of<'a>(cell: &Option<Kept<'a>>) -> &'a [u8]
 }
 
 fn put_process<K: Sink>(sink: &mut K, process: &Proc<'_>) -> Result<(), Failed>
-    ensures { Puts (K.state sink.old) (K.state sink.new) (process_line (shown_process process.now)) result }
+    ensures { Puts (K.state sink.old) (K.state sink.new)
+        (process_line (shown_process process.now)) result }
 {
     put_line(
         sink,
@@ -48,7 +49,8 @@ pub fn process_end<'x>(
 ) -> (Piece<'x>, Piece<'x>, Piece<'x>)
     requires place { place < length procs.now.processes }
     requires processes { All (IsProcessIn index.now) procs.now.processes }
-    ensures { piece_text result.0 ∷ piece_text result.1 ∷ piece_text result.2 ∷ [] ≡ process_end index.now (process_at procs.now.processes place) }
+    ensures { piece_text result.0 ∷ piece_text result.1 ∷ piece_text result.2 ∷ []
+        ≡ process_end index.now (process_at procs.now.processes place) }
 {
     let process = procs.at(place);
     (
@@ -59,7 +61,8 @@ pub fn process_end<'x>(
 }
 
 fn put_processes<K: Sink>(sink: &mut K, procs: &Procs) -> Result<(), Failed>
-    ensures { Puts (K.state sink.old) (K.state sink.new) (flat_map process_line procs.now.processes) result }
+    ensures { Puts (K.state sink.old) (K.state sink.new)
+        (flat_map process_line procs.now.processes) result }
 {
     for i in 0..procs.len() {
         put_process(sink, &procs.at(i))?;
@@ -71,7 +74,8 @@ fn put_processes<K: Sink>(sink: &mut K, procs: &Procs) -> Result<(), Failed>
 ///
 /// Returns `Failed` only if the sink failed; a proper prefix of the line was written then.
 pub fn put_processes_line<K: Sink>(sink: &mut K, procs: &Procs) -> Result<(), Failed>
-    ensures { Puts (K.state sink.old) (K.state sink.new) (processes_line (length procs.now.processes) procs.now.repeated) result }
+    ensures { Puts (K.state sink.old) (K.state sink.new)
+        (processes_line (length procs.now.processes) procs.now.repeated) result }
 {
     put_line(
         sink,

@@ -36,7 +36,8 @@ pub enum Refusal {
 
 // Writes a line whose cause is a text followed by a piece.
 fn put_cause<'x, K: Sink>(sink: &mut K, cause: &'x [u8], what: Piece<'x>) -> Result<(), Failed>
-    ensures { Puts (K.state sink.old) (K.state sink.new) (line_of word_space (codes "refused:" ∷ cause.now ∷ piece_text what.entry ∷ [])) result }
+    ensures { Puts (K.state sink.old) (K.state sink.new)
+        (line_of word_space (codes "refused:" ∷ cause.now ∷ piece_text what.entry ∷ [])) result }
 {
     put_line(
         sink,
@@ -53,7 +54,8 @@ fn put_long_cause<'x, K: Sink>(
     link: &'x [u8],
     number: u64,
 ) -> Result<(), Failed>
-    ensures { Puts (K.state sink.old) (K.state sink.new) (line_of word_space (codes "refused:" ∷ cause.now ∷ piece_text what.entry ∷ link.now ∷ decimal number ∷ [])) result }
+    ensures { let parts = cause.now ∷ piece_text what.entry ∷ link.now ∷ decimal number ∷ [] in
+        Puts (K.state sink.old) (K.state sink.new) (line_of word_space (codes "refused:" ∷ parts)) result }
 {
     put_line(
         sink,
@@ -70,7 +72,8 @@ fn put_long_cause<'x, K: Sink>(
 
 fn put_open_fault<K: Sink>(sink: &mut K, fault: &OpenFault) -> Result<(), Failed>
     requires { IsRefusal (Refusal.Open fault.now) }
-    ensures { Puts (K.state sink.old) (K.state sink.new) (refusal_line (Refusal.Open fault.now)) result }
+    ensures { Puts (K.state sink.old) (K.state sink.new)
+        (refusal_line (Refusal.Open fault.now)) result }
 {
     match fault {
         OpenFault::Compressed => write_all(sink, b"refused: compressed\n"),

@@ -26,7 +26,8 @@ pub fn text_at(rows: &Rows, i: usize, c: usize) -> &[u8]
 fn put_cells<K: Sink>(sink: &mut K, rows: &Rows, i: usize) -> Result<(), Failed>
     requires even { AreEven rows.now }
     requires place { i < length rows.now.rows }
-    ensures { Puts (K.state sink.old) (K.state sink.new) (flat_map next_cell (row_at rows.now.rows i).cells) result }
+    ensures { Puts (K.state sink.old) (K.state sink.new)
+        (flat_map next_cell (row_at rows.now.rows i).cells) result }
 {
     for c in 0..rows.columns() {
         put_pieces(
@@ -40,7 +41,8 @@ fn put_cells<K: Sink>(sink: &mut K, rows: &Rows, i: usize) -> Result<(), Failed>
 fn put_row<K: Sink>(sink: &mut K, rows: &Rows, i: usize) -> Result<(), Failed>
     requires even { AreEven rows.now }
     requires place { i < length rows.now.rows }
-    ensures { Puts (K.state sink.old) (K.state sink.new) (row_line (row_at rows.now.rows i)) result }
+    ensures { Puts (K.state sink.old) (K.state sink.new)
+        (row_line (row_at rows.now.rows i)) result }
 {
     put_dec(sink, rows.at(i))?;
     put_cells(sink, rows, i)?;

@@ -1,4 +1,5 @@
 pub mod Inner
 pub mod Kinds
 pub mod Roots
+pub mod Sections
 pub mod Seen

@@ -13,7 +13,7 @@ use crate::stacks::{StackRoots, stack};
 use std::marker::Model;
 
 /// Which roots of a process a body holds.
-#[derive(Clone, Copy, Debug, PartialEq, Eq)]
+#[derive(Clone, Copy)]
 pub enum RootKind {
     /// Those of its stack, in a `proc_stack` section.
     Stack,

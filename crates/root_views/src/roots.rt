@@ -3,7 +3,7 @@
 use term_forms::shapes::Elem;
 
 /// What a root is. The slices are parts of the body.
-#[derive(Clone, Copy, Debug, PartialEq, Eq)]
+#[derive(Clone, Copy)]
 pub enum What<'a> {
     /// A term: the element that spells it.
     Term(Elem<'a>),
@@ -16,7 +16,7 @@ pub enum What<'a> {
 }
 
 /// A root of a process.
-#[derive(Clone, Copy, Debug, PartialEq, Eq)]
+#[derive(Clone, Copy)]
 pub struct Root<'a> {
     /// The number of bytes of the body before the root: where
     /// its line begins, or, for a token, where the token does.

@@ -13,7 +13,8 @@ use Rattle.line_source.specs.Feeding.{first_too_long}
 use Rattle.section_index.specs.declared.opening.OpenFault.{OpenFault}
 use Rattle.section_index.specs.declared.opening.OpenFault.TheVariants.{HeaderTooLong, TooManySections, HeadersTooLarge}
 use Rattle.section_index.specs.Opening.{long_header, surplus_header, text_bytes, headers_upto, headers_over, large_headers, fault_place, earlier, header_fault}
-use Rattle.section_index.proofs.Rising.{AreRising, filter-all, filter-none, rising-right, rising-apart, headers-rising}
+use Rattle.section_index.proofs.Rising.{AreRising, rising-right, rising-apart, headers-rising}
+use Rattle.dump_io.specs.Laws.Lists.{filter-all, filter-none}
 
 -- a refusal, if any, names a header at this offset or behind it
 abbrev pub IsFrom : ℕ → Option OpenFault → Type 0

@@ -1,11 +1,12 @@
 -- The headers of a dump begin one behind another.
-use Rattle.std.proofs.Common.{◌≡◌, ℕ, ◌+◌, ◌<◌, ◌≤◌, Bool, true, false, not, cond, List, [], ◌∷◌, ◌++◌, length, map, refl, arith, nat_lt}
+use Rattle.std.proofs.Common.{◌≡◌, ℕ, ◌+◌, ◌<◌, ◌≤◌, Bool, not, cond, List, [], ◌∷◌, ◌++◌, length, map, refl, arith, nat_lt}
 use Rattle.std.specs.Prelude.{All, filter}
-use Rattle.std.proofs.lemmas.Bool.{cond-true, cond-false, le-ltb, ltb-false, not-true}
+use Rattle.std.proofs.lemmas.Bool.{le-ltb, ltb-false, not-true}
 use Rattle.std.proofs.lemmas.List.Elements.{All-nil, All-cons, All-head, All-tail, All-weaker, filter_passes}
 use Rattle.dump_io.specs.Lines.{raw_lines, Line, lines_from, is_header, Header, header_of, headers}
 use Rattle.dump_io.specs.Laws.Lines.{AreLines-raw}
 use Rattle.line_source.specs.Streams.{headers_before}
+use Rattle.dump_io.specs.Laws.Lists.{filter-all, filter-none}
 
 abbrev pub AreRising : List Header → Type 0
 AreRising [] = Unit {0}
@@ -62,15 +63,6 @@ pub rising-apart : (xs ys : List Header) → AreRising (xs ++ ys) → All (λ h.
 rising-apart [] ys rising = All-nil (λ h. All (λ x. h.at < x.at) ys)
 rising-apart (x ∷ xs) ys rising =
     All-cons (λ h. All (λ x. h.at < x.at) ys) x xs (All-right (λ h. x.at < h.at) xs ys rising.0) (rising-apart xs ys rising.1)
-
--- a test that all pass, or none
-pub filter-all : {X : Type 0} (p : X → Bool) (xs : List X) → All (λ x. p x ≡ true) xs → filter p xs ≡ xs
-filter-all p [] all = refl
-filter-all p (x ∷ xs) all = grind (arith, filter-all p xs (All-tail (λ x. p x ≡ true) x xs all), cond-true, All-head, All-tail)
-
-pub filter-none : {X : Type 0} (p : X → Bool) (xs : List X) → All (λ x. p x ≡ false) xs → filter p xs ≡ []
-filter-none p [] all = refl
-filter-none p (x ∷ xs) all = grind (arith, filter-none p xs (All-tail (λ x. p x ≡ false) x xs all), cond-false, All-head, All-tail)
 
 -- a rising list is cut at an offset
 abbrev pub headers_from : ℕ → List Header → List Header

@@ -34,12 +34,12 @@ pub record ReadsFile (before after : DeviceState) (name : List ℕ) : Type 0 whe
   pub taken_least : before.taken ≤ after.taken
   pub taken_most : after.taken ≤ plus_capped before.taken (size_of after.now)
 
--- the device tells its files, and these are the bytes of the one with this name
+-- the device tells its files, and the one with this name has these bytes
 abbrev pub IsHeld : Option Files → List ℕ → List ℕ → Type 0
 IsHeld None name bytes = ⊥
 IsHeld (Some files) name bytes = files name ≡ Some bytes
 
--- these are the bytes of the file that was opened by its name: the
--- device tells them under that name, or as what is open after the call
+-- a file that was opened by its name has these bytes: the device tells
+-- them under that name, or as those of what is open after the call
 abbrev pub IsFileOf : DeviceState → DeviceState → List ℕ → List ℕ → Type 0
 IsFileOf before after name bytes = IsHeld before.files name bytes ⊎ (after.now ≡ told bytes)

@@ -26,7 +26,8 @@ fn first_lf(bytes: &[u8]) -> Option<usize>
 // The text of the first line, if that has at most `limit` bytes before its LF or the end.
 fn first_text(first: &[u8], limit: usize) -> Option<&[u8]>
     requires { limit ≤ usual.header }
-    ensures { (more : List ℕ) → IsAllOrLong first.now more → let line = first_line (first.now ++ more) in
+    ensures { (more : List ℕ) → IsAllOrLong first.now more
+        → let line = first_line (first.now ++ more) in
         MatchOption result (limit < length_before_lf line) (λ text. (length_before_lf line ≤ limit) × (text.now ≡ text_of line)) }
 {
     match first_lf(first) {
@@ -59,7 +60,8 @@ pub(crate) fn judge_beginning(
     first: &[u8],
     limits: &Limits,
 ) -> Result<Version, OpenFault>
-    ensures judged { (more : List ℕ) → IsAllOrLong first.now more → IsJudged limits.now (first.now ++ more) result }
+    ensures judged { (more : List ℕ) → IsAllOrLong first.now more
+        → IsJudged limits.now (first.now ++ more) result }
     ensures fault { IfErr result IsOfTheBeginning }
 {
     if first.starts_with(GZIP_MARK) {

@@ -1,7 +1,6 @@
 // Building the index of a dump in one pass over its bytes.
 ghost use Rattle.std.specs.Prelude.{◌≡◌, ◌⊎◌, ◌-◌, ◌<◌, ◌≤◌, ℕ, List, length, take, min, false, None, OnOk, OnErr, IfOk, IfErr, IsErrOf};
-ghost use Rattle.dump_io.specs.Counts.{plus_capped};
-ghost use Rattle.dump_io.specs.Dumps.{told, IsOpen, size_of, IsAbsent, Gives, DeviceFailed, ReadsAtMost};
+ghost use Rattle.dump_io.specs.Dumps.{IfTold, IsOpen, size_of, IsAbsent, Gives, DeviceFailed, ReadsAtMost, Took};
 ghost use Rattle.dump_sections.specs.Index.{IsBuiltOver};
 ghost use Rattle.section_index.specs.Answers.{IsAnswerFor, IsFileOf, IsTooLargeFor, ReadsFile};
 ghost use Rattle.section_index.specs.Inner.Reading.{IsNotTooLarge};
@@ -37,11 +36,13 @@ fn read_piece<D: Dumps>(
     requires open { IsOpen (D.state dumps.old).now }
     requires size { size_of (D.state dumps.old).now ≡ size }
     requires inside { at ≤ size }
-    ensures reads { ReadsAtMost (D.state dumps.old) (D.state dumps.new) (min (length buffer.old) (size - at)) }
+    ensures reads { ReadsAtMost (D.state dumps.old) (D.state dumps.new)
+        (min (length buffer.old) (size - at)) }
     ensures failed { OnErr result (DeviceFailed (D.state dumps.old) (D.state dumps.new)) }
     ensures count { IfOk result (λ count. count ≡ min (length buffer.old) (size - at)) }
-    ensures piece { IfOk result (λ count. Gives (D.state dumps.old).now at (take count buffer.new)) }
-    ensures taken { IfOk result (λ count. (D.state dumps.new).taken ≡ plus_capped (D.state dumps.old).taken count) }
+    ensures piece { IfOk result (λ count. Gives (D.state dumps.old).now at
+        (take count buffer.new)) }
+    ensures taken { IfOk result (Took (D.state dumps.old) (D.state dumps.new)) }
 {
     let count = buffer.len().min((size - at) as usize);
     read_full(dumps, at, &mut buffer[..count])?;
@@ -72,8 +73,10 @@ fn feed_rest<B: Bounds, D: Dumps>(
     ensures offset { OnOk result (scan.new.offset ≡ size) }
     ensures silent { OnOk result (receiver.new.stop ≡ None) }
     ensures begun { OnOk result (HasBegun (D.state dumps.old).now scan.new receiver.new) }
-    ensures fault { IfErr result (λ fault. (fault ≡ OpenFault.Read) ⊎ IsHeaderRefusal B.limits (D.state dumps.old).now fault) }
-    ensures read { IsErrOf result OpenFault.Read → DeviceFailed (D.state dumps.old) (D.state dumps.new) }
+    ensures fault { IfErr result (λ fault. (fault ≡ OpenFault.Read)
+        ⊎ IsHeaderRefusal B.limits (D.state dumps.old).now fault) }
+    ensures read { IsErrOf result OpenFault.Read
+        → DeviceFailed (D.state dumps.old) (D.state dumps.new) }
 {
     let mut at = from;
     while at < size {
@@ -100,12 +103,13 @@ fn index_of<B: Bounds, D: Dumps>(
     requires limits { limits.now ≡ B.limits }
     requires room { length buffer.old ≡ PIECE }
     ensures reads { ReadsAtMost (D.state dumps.old) (D.state dumps.new) size }
-    ensures answer { (bytes : List ℕ) → (D.state dumps.old).now ≡ told bytes → IsAnswerFor bytes limits.now result }
+    ensures answer { IfTold (D.state dumps.old).now (λ bytes. IsAnswerFor bytes limits.now result) }
     ensures over { IfOk result (IsBuiltOver (D.state dumps.old).now) }
     ensures sized { IfOk result (λ index. index.size ≤ limits.now.dump) }
     ensures sections { IfOk result (λ index. length index.headers ≤ limits.now.sections) }
     ensures fault { IfErr result IsNotTooLarge }
-    ensures read { IsErrOf result OpenFault.Read → DeviceFailed (D.state dumps.old) (D.state dumps.new) }
+    ensures read { IsErrOf result OpenFault.Read
+        → DeviceFailed (D.state dumps.old) (D.state dumps.new) }
 {
     let Ok(count) = read_piece(dumps, 0, size, buffer) else {
         return Err(OpenFault::Read);
@@ -137,13 +141,15 @@ pub fn build<D: Dumps>(
     limits: &Limits,
 ) -> Result<Index, OpenFault>
     ensures device { ReadsFile (D.state dumps.old) (D.state dumps.new) name.now }
-    ensures answer { (bytes : List ℕ) → IsFileOf (D.state dumps.old) (D.state dumps.new) name.now bytes → IsAnswerFor bytes limits.now result }
+    ensures answer { (bytes : List ℕ) → IsFileOf (D.state dumps.old) (D.state dumps.new) name.now bytes
+        → IsAnswerFor bytes limits.now result }
     ensures absent { IsAbsent (D.state dumps.old).files name.now → IsErrOf result OpenFault.Read }
     ensures over { IfOk result (IsBuiltOver (D.state dumps.new).now) }
     ensures sized { IfOk result (λ index. index.size ≤ limits.now.dump) }
     ensures sections { IfOk result (λ index. length index.headers ≤ limits.now.sections) }
     ensures too_large { IfErr result (IsTooLargeFor (D.state dumps.new).now limits.now) }
-    ensures read { IsErrOf result OpenFault.Read → DeviceFailed (D.state dumps.old) (D.state dumps.new) ⊎ IsAbsent (D.state dumps.old).files name.now }
+    ensures read { IsErrOf result OpenFault.Read
+        → DeviceFailed (D.state dumps.old) (D.state dumps.new) ⊎ IsAbsent (D.state dumps.old).files name.now }
 {
     let Ok(size) = dumps.open_dump(name) else {
         return Err(OpenFault::Read);

@@ -87,7 +87,8 @@ impl<B: Bounds> Receiver<B> {
     fn refuse(&mut self, value: HeaderStop, at: u64, size: usize) -> Result<(), HeaderStop>
         requires { IsStopCause B.limits self.old.heard value at size }
         ensures heard { self.new.heard ≡ self.old.heard }
-        ensures refused { (result ≡ Err value) × (self.new.stop ≡ Some (record { value = value; at = at; size = size })) }
+        ensures refused { (result ≡ Err value)
+            × (self.new.stop ≡ Some (record { value = value; at = at; size = size })) }
     {
         self.refused = Some(RefusedHeader { value, at, size });
         Err(value)

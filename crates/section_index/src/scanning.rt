@@ -23,9 +23,11 @@ pub(crate) fn feed_piece<B: Bounds>(
     ensures fresh { OnOk result (scan.new.spent ≡ false) }
     ensures offset { OnOk result (scan.new.offset ≡ scan.old.offset + length piece.now) }
     ensures open { OnOk result (receiver.new.stop ≡ None) }
-    ensures heard { OnOk result ((bytes : List ℕ) → HasHeard scan.old receiver.old bytes → HasHeard scan.new receiver.new (bytes ++ piece.now)) }
+    ensures heard { OnOk result ((bytes : List ℕ) → HasHeard scan.old receiver.old bytes
+        → HasHeard scan.new receiver.new (bytes ++ piece.now)) }
     ensures fault { IfErr result IsOfAHeader }
-    ensures refused { IfErr result (λ fault. (bytes more : List ℕ) → HasHeard scan.old receiver.old bytes
+    ensures refused { IfErr result (λ fault. (bytes more : List ℕ)
+        → HasHeard scan.old receiver.old bytes
         → IsHeaderFault B.limits ((bytes ++ piece.now) ++ more) fault) }
 {
     streams_grow();
@@ -47,7 +49,8 @@ pub(crate) fn finish_scan<B: Bounds>(
         → (heard ≡ headers bytes) × (header_fault bytes B.limits ≡ None)) }
     ensures sections { IfOk result (λ heard. length heard ≤ B.limits.sections) }
     ensures fault { IfErr result IsOfAHeader }
-    ensures refused { IfErr result (λ fault. (bytes : List ℕ) → HasHeard scan.old receiver bytes → IsHeaderFault B.limits bytes fault) }
+    ensures refused { IfErr result (λ fault. (bytes : List ℕ) → HasHeard scan.old receiver bytes
+        → IsHeaderFault B.limits bytes fault) }
 {
     streams_grow();
     let result = scan.finish(&mut receiver);

@@ -1,18 +1,16 @@
 -- Rows that are loaded one after another.
-use Rattle.std.proofs.Common.{◌≡◌, ℕ, ◌+◌, ◌<◌, ◌≤◌, List, [], ◌∷◌, ◌++◌, length, take, map, get_or, Bool, true, false, cond, Some, None, All, refl, sym, ◌∙◌, ap, subst, arith}
+use Rattle.std.proofs.Common.{◌≡◌, ℕ, ◌+◌, ◌<◌, ◌≤◌, List, [], ◌∷◌, ◌++◌, length, take, map, get_or, None, All, sym, ◌∙◌, ap, subst, arith}
 use Rattle.std.proofs.lemmas.List.{map-append, map_more, take-map}
-use Rattle.std.specs.Prelude.{nat_lt, option_map}
-use Rattle.std.proofs.lemmas.Bool.{ltb-false}
-use Rattle.std.proofs.lemmas.List.Elements.{All-nil, All-cons}
-use Rattle.dump_sections.specs.declared.bodies.BodyFault.TheVariants.{SectionTooLarge}
 use Rattle.std.proofs.lemmas.List.Sums.{sum_by_push, sum_by-take-le}
 use Rattle.dump_io.specs.Dumps.{Now, told}
+use Rattle.dump_io.specs.Laws.Lists.{All-images}
 use Rattle.dump_sections.specs.Bodies.{section_at, body_length, IsBodyOf, body_of}
 use Rattle.dump_sections.specs.Index.{Contents}
 use Rattle.dump_sections.specs.Sections.{Section}
 use Rattle.section_rows.specs.declared.store.Store.{Store}
 use Rattle.section_rows.specs.Rows.{Column, Row, row_of, rows_of}
-use Rattle.dump_sections.specs.Loading.{sections_at, bodies_length, first_large, large_fault}
+use Rattle.dump_sections.specs.Loading.{sections_at, bodies_length, large_fault}
+use Rattle.dump_sections.specs.LoadingLaws.{All-small}
 use Rattle.section_rows.specs.Inner.Gains.{GainsRow, HoldsRows}
 use Rattle.section_rows.specs.Inner.Places.{rows_in}
 
@@ -50,17 +48,5 @@ module _ (index : Contents) (places : List ℕ) (i d : ℕ) (inside : i < length
       omega (arith, bodies-more, ap bodies_length (take-map (section_at index) (i + 1) places), sum_by-take-le body_length (sections_at index places) (i + 1))
 
 -- where no section is refused, none is too large
-pub All-small : (index : Contents) (limit : ℕ) (places : List ℕ) → large_fault limit (sections_at index places) ≡ None → All (λ i. body_length (section_at index i) ≤ limit) places
-All-small index limit [] none = All-nil (λ i. body_length (section_at index i) ≤ limit)
-All-small index limit (i ∷ places) none = by (nat_lt limit (body_length (section_at index i))) refl (All-small index limit places)
-  where
-    of_rest : (b : Bool) → nat_lt limit (body_length (section_at index i)) ≡ b
-        → option_map (λ (s : Section). SectionTooLarge s.at (body_length s)) (cond b (Some (section_at index i)) (first_large limit (sections_at index places))) ≡ None
-    of_rest b e =
-        sym (ap (λ x. option_map (λ (s : Section). SectionTooLarge s.at (body_length s)) (cond x (Some (section_at index i)) (first_large limit (sections_at index places)))) e) ∙ none
-
-    by : (b : Bool) → nat_lt limit (body_length (section_at index i)) ≡ b
-        → (large_fault limit (sections_at index places) ≡ None → All (λ k. body_length (section_at index k) ≤ limit) places)
-        → All (λ k. body_length (section_at index k) ≤ limit) (i ∷ places)
-    by true e rest = let some = of_rest true e in cc
-    by false e rest = All-cons (λ k. body_length (section_at index k) ≤ limit) i places (ltb-false _ _ e) (rest (of_rest false e))
+pub All-within : (index : Contents) (limit : ℕ) (places : List ℕ) → large_fault limit (sections_at index places) ≡ None → All (λ i. body_length (section_at index i) ≤ limit) places
+All-within index limit places none = All-images (λ s. body_length s ≤ limit) (section_at index) places (All-small limit (sections_at index places) none)

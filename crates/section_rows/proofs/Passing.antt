@@ -6,7 +6,6 @@ use Rattle.std.proofs.lemmas.List.{get_or_append_left, get_or_push}
 use Rattle.std.proofs.lemmas.List.Elements.{All-from_get_or}
 use Rattle.field_lines.specs.Lines.{TextLine, text_lines}
 use Rattle.dump_sections.specs.Sections.{Section}
-use Rattle.dump_sections.specs.Laws.{option_or-none}
 use Rattle.section_rows.specs.declared.columns.Kept.{Kept as LentKept}
 use Rattle.section_rows.specs.declared.columns.Column.{Column as LentColumn}
 use Rattle.section_rows.specs.declared.columns.Column.TheVariants.{Tag}
@@ -14,12 +13,13 @@ use Rattle.section_rows.specs.Rows.{Kept, Column, tag, id, field, id_kept, colum
 use Rattle.section_rows.specs.Shown.{shown_cell, shown_column}
 use Rattle.section_rows.specs.Inner.Passing.{own_cell, later_cell, IsSettled, AreSettled, IsOver, AreOver}
 use Rattle.section_rows.specs.Inner.Places.{HasRoom}
+use Rattle.dump_io.specs.Laws.Options.{or-none}
 
 -- ---- one column
 -- before the first line
 pub settled-own : (s : Section) (body : List ℕ) (column : Column) → HasRoom s.at (own_cell s column) → IsSettled s body column (text_lines body) (own_cell s column)
 settled-own s body tag room = record { value = refl; room = room }
-settled-own s body id room = record { value = sym (option_or-none (id_kept s)); room = room }
+settled-own s body id room = record { value = sym (or-none (id_kept s)); room = room }
 settled-own s body (field key) room = record { value = refl; room = room }
 
 later-none : (base : ℕ) (column : Column) → later_cell base [] column ≡ None
@@ -103,7 +103,7 @@ module _ (s : Section) (body : List ℕ) (columns : List LentColumn) (cells : Li
       let column = shown_column (get_or columns k Tag) in
       let cell = shown_cell (get_or cells k None) in
       sym ((all.each k inside).value ∙ ap (λ ls. option_or cell (later_cell s.body ls column)) none
-      ∙ ap (option_or cell) (later-none s.body column) ∙ option_or-none cell))
+      ∙ ap (option_or cell) (later-none s.body column) ∙ or-none cell))
 
   -- or once no line that is left matters
   pub cells-over : (left : List TextLine) → AreOver columns cells → AreSettled s body columns left cells → map shown_cell cells ≡ map (column_cell s body) (map shown_column columns)

@@ -13,7 +13,7 @@ use dump_sections::Section;
 use field_lines::{Line, field};
 
 /// A text of a section, with its place in the file.
-#[derive(Clone, Copy, Debug)]
+#[derive(Clone, Copy)]
 pub struct Kept<'a> {
     /// The offset in the file at which the text's line begins.
     pub at: u64,
@@ -24,7 +24,7 @@ pub struct Kept<'a> {
 }
 
 /// What a column shows of a section.
-#[derive(Clone, Copy, Debug)]
+#[derive(Clone, Copy)]
 pub enum Column<'a> {
     /// The tag.
     Tag,
@@ -63,7 +63,8 @@ fn tag<'a>(section: &Section<'a>) -> Option<Kept<'a>>
 // The cell of a column that shows the header. That of a field is in the body.
 pub(crate) fn own<'a>(section: &Section<'a>, column: &Column<'_>) -> Option<Kept<'a>>
     requires { IsLent section.now }
-    ensures value { shown_cell result ≡ own_cell (shown_section section.now) (shown_column column.now) }
+    ensures value { shown_cell result ≡ own_cell (shown_section section.now)
+        (shown_column column.now) }
     ensures room { HasRoom section.now.at (shown_cell result) }
 {
     match column {
@@ -76,7 +77,8 @@ pub(crate) fn own<'a>(section: &Section<'a>, column: &Column<'_>) -> Option<Kept
 // Whether a `:` stands where a field with this key has its first one. In
 // few other lines it does, so that few are searched for their first `:`.
 fn may_have_key(text: &[u8], key: &[u8]) -> bool
-    ensures { result ≡ (nat_lt (length key.now) (length text.now) && (slice_index text.now (length key.now) == colon)) }
+    ensures { result ≡ (nat_lt (length key.now) (length text.now)
+        && (slice_index text.now (length key.now) == colon)) }
 {
     key.len() < text.len() && text[key.len()] == b':'
 }
@@ -113,7 +115,8 @@ pub(crate) fn in_line<'a>(
     requires lent { IsLent section.now }
     requires inside { section.now.body + line.now.at + length line.now.text.now ≤ section.now.end }
     requires small { line.now.at + length line.now.text.now ≤ usual.section }
-    ensures value { shown_cell result ≡ line_cell section.now.body (shown_line line.now) (shown_column column.now) }
+    ensures value { shown_cell result ≡ line_cell section.now.body (shown_line line.now)
+        (shown_column column.now) }
     ensures room { HasRoom section.now.at (shown_cell result) }
 {
     match column {

@@ -39,8 +39,10 @@ fn load_row<D: Dumps>(
     requires small { body_length (section_at index.now i) ≤ limits.now.section }
     requires width { store.old.width ≡ length columns.now }
     requires within { AreWithin store.old }
-    ensures reads { ReadsAtMost (D.state dumps.old) (D.state dumps.new) (body_length (section_at index.now i)) }
-    ensures row { OnOk result (GainsRow (D.state dumps.old).now (map shown_column columns.now) (section_at index.now i) store.old store.new) }
+    ensures reads { ReadsAtMost (D.state dumps.old) (D.state dumps.new)
+        (body_length (section_at index.now i)) }
+    ensures row { OnOk result (GainsRow (D.state dumps.old).now (map shown_column columns.now)
+        (section_at index.now i) store.old store.new) }
     ensures fault { IfErr result (IsUnloaded (D.state dumps.old) (D.state dumps.new)) }
 {
     let section = lent(index, i);
@@ -61,9 +63,12 @@ pub(crate) fn load_rows<D: Dumps>(
 ) -> Result<Store, BodyFault>
     requires over { IsBuiltOver (D.state dumps.old).now index.now }
     requires places { All (λ i. i < length index.now.headers) sections.now }
-    requires small { All (λ i. body_length (section_at index.now i) ≤ limits.now.section) sections.now }
-    ensures reads { ReadsAtMost (D.state dumps.old) (D.state dumps.new) (bodies_length (sections_at index.now sections.now)) }
-    ensures rows { IfOk result (HoldsRows (D.state dumps.old).now (map shown_column columns.now) (sections_at index.now sections.now)) }
+    requires small { All (λ i. body_length (section_at index.now i)
+        ≤ limits.now.section) sections.now }
+    ensures reads { ReadsAtMost (D.state dumps.old) (D.state dumps.new)
+        (bodies_length (sections_at index.now sections.now)) }
+    ensures rows { IfOk result (HoldsRows (D.state dumps.old).now (map shown_column columns.now)
+        (sections_at index.now sections.now)) }
     ensures fault { IfErr result (IsUnloaded (D.state dumps.old) (D.state dumps.new)) }
 {
     let mut store = Store::new(alloc, columns.len());

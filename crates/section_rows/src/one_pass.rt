@@ -22,7 +22,8 @@ fn own_cells<'a>(
     columns: &[Column<'_>],
 ) -> Result<Vec<Option<Kept<'a>>>, AllocError>
     requires { IsLent section.now }
-    ensures { IfOk result (λ cells. (body : List ℕ) → AreSettled (shown_section section.now) body columns.now (text_lines body) cells.items) }
+    ensures { IfOk result (λ cells. (body : List ℕ)
+        → AreSettled (shown_section section.now) body columns.now (text_lines body) cells.items) }
 {
     let mut cells = Vec::with_capacity(alloc, columns.len())?;
     for column in columns {
@@ -62,7 +63,8 @@ fn see_line<'a>(
     ensures settles { (body : List ℕ) (rest : List TextLine)
         → IsSettled (shown_section section.now) body (shown_column column.now) (shown_line line.now ∷ rest) (shown_cell (get_or cells.old c None))
         → IsSettled (shown_section section.now) body (shown_column column.now) rest (shown_cell (get_or cells.new c None)) }
-    ensures over { result ≡ false → (more ≡ false) × IsOver (shown_column column.now) (shown_cell (get_or cells.new c None)) }
+    ensures over { result ≡ false → (more ≡ false)
+        × IsOver (shown_column column.now) (shown_cell (get_or cells.new c None)) }
 {
     if !is_open(column, &cells[c]) {
         return more;
@@ -110,8 +112,10 @@ pub(crate) fn cells_of<'a>(
     requires lent { IsLent section.now }
     requires body { section.now.body + length body.now ≤ section.now.end }
     requires small { length body.now ≤ usual.section }
-    ensures cells { IfOk result (λ cells. map shown_cell cells.items ≡ map (column_cell (shown_section section.now) body.now) (map shown_column columns.now)) }
-    ensures room { IfOk result (λ cells. All (λ cell. HasRoom section.now.at (shown_cell cell)) cells.items) }
+    ensures cells { IfOk result (λ cells. map shown_cell cells.items
+        ≡ map (column_cell (shown_section section.now) body.now) (map shown_column columns.now)) }
+    ensures room { IfOk result (λ cells. All (λ cell. HasRoom section.now.at
+        (shown_cell cell)) cells.items) }
 {
     let mut cells = own_cells(alloc, section, columns)?;
     for line in lines(body) {

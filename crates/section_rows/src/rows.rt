@@ -1,7 +1,7 @@
 // What is kept of sections: a row for each.
 ghost use Rattle.std.specs.Prelude.{◌≡◌, ◌<◌, length, map, slice_get, Some, None, All, IfOk, IsErrOf, IfSome};
 ghost use Rattle.dump_sections.specs.Index.{IsBuiltOver};
-ghost use Rattle.dump_sections.specs.Loading.{sections_at, large_fault, LoadsBodies};
+ghost use Rattle.dump_sections.specs.Loading.{sections_at, body_fault, large_fault, LoadsBodies};
 ghost use Rattle.section_rows.specs.Rows.{row_at, AreRowsOf, AreEven, AreBoundedCells};
 ghost use Rattle.section_rows.specs.Shown.{shown_cell, shown_column};
 
@@ -48,14 +48,18 @@ impl SectionRows {
     ) -> Result<SectionRows, BodyFault>
         requires over { IsBuiltOver (D.state dumps.old).now index.now }
         requires places { All (λ i. i < length index.now.headers) sections.now }
-        ensures loads { LoadsBodies D.state (sections_at index.now sections.now) limits.now.section dumps.old dumps.new result }
-        ensures rows { IfOk result (AreRowsOf (D.state dumps.old).now (map shown_column columns.now) (sections_at index.now sections.now)) }
+        ensures loads { LoadsBodies D.state (sections_at index.now sections.now) limits.now.section
+            dumps.old dumps.new result }
+        ensures rows { IfOk result (AreRowsOf (D.state dumps.old).now (map shown_column columns.now)
+            (sections_at index.now sections.now)) }
 
         // A body that is too large is always refused as such, whatever the device does.
-        ensures too_large { IfSome (large_fault limits.now.section (sections_at index.now sections.now)) (IsErrOf result) }
+        ensures too_large { IfSome
+            (large_fault limits.now.section (sections_at index.now sections.now))
+            (λ large. IsErrOf result (body_fault large)) }
     {
-        if let Some(fault) = large(index, sections, limits) {
-            return Err(fault);
+        if let Some(large) = large(index, sections, limits) {
+            return Err(BodyFault::from(large));
         }
         let store = load_rows(alloc, dumps, index, sections, columns, limits)?;
         Ok(SectionRows { store })

@@ -50,7 +50,8 @@ fn distance(from: u64, at: u64) -> u32
 // The place of a text, relative to its section.
 fn place_of(base: u64, found: &Kept<'_>) -> Place
     requires { HasRoom base (Some (shown_kept found.now)) }
-    ensures shown { kept_text (base + result.at) (base + result.value) found.now.text.now ≡ shown_kept found.now }
+    ensures shown { kept_text (base + result.at) (base + result.value) found.now.text.now
+        ≡ shown_kept found.now }
     ensures len { result.len ≡ length found.now.text.now }
 {
     Place {
@@ -68,7 +69,8 @@ fn push_cell(
     cell: Option<Kept<'_>>,
 ) -> Result<(), AllocError>
     requires { HasRoom base (shown_cell cell) }
-    ensures { OnOk result (Gained base places.old.items places.new.items pool.old.items pool.new.items (shown_cell cell.entry ∷ [])) }
+    ensures { OnOk result (Gained base places.old.items places.new.items pool.old.items
+        pool.new.items (shown_cell cell.entry ∷ [])) }
 {
     let Some(found) = cell else {
         places.push(None)?;
@@ -88,7 +90,8 @@ fn push_cells(
     cells: &[Option<Kept<'_>>],
 ) -> Result<(), AllocError>
     requires { All (λ cell. HasRoom base (shown_cell cell)) cells.now }
-    ensures { OnOk result (Gained base places.old.items places.new.items pool.old.items pool.new.items (map shown_cell cells.now)) }
+    ensures { OnOk result (Gained base places.old.items places.new.items pool.old.items
+        pool.new.items (map shown_cell cells.now)) }
 {
     for cell in cells {
         push_cell(places, pool, base, *cell)?;
@@ -162,7 +165,8 @@ impl Store {
         requires small { length body.now ≤ usual.section }
         requires width { self.old.width ≡ length columns.now }
         requires within { AreWithin self.old }
-        ensures { OnOk result (HasGained self.old self.new (row_of (map shown_column columns.now) (shown_section section.now) body.now)) }
+        ensures { OnOk result (HasGained self.old self.new
+            (row_of (map shown_column columns.now) (shown_section section.now) body.now)) }
     {
         let head = Head {
             at: section.at,

@@ -1,6 +1,6 @@
 // Link lists.
+use link_graph::EntryKind;
 use link_graph::reading::entries;
-use link_graph::{Entry, EntryKind};
 use std::process::Abort;
 use std::test::Fail;
 
@@ -12,14 +12,10 @@ fn has(
 ) -> Result<(), Fail> {
     let mut left = entries(list).ok_or("not read")?;
     for (at, text, kind) in expected {
-        let entry = Entry {
-            at: *at,
-            text,
-            kind: *kind,
-        };
-        assert_eq!(rt; left.next(), Some(entry));
+        let entry = left.next().ok_or("too few entries")?;
+        assert!(rt; entry.at == *at && entry.text == *text && entry.kind == *kind);
     }
-    assert_eq!(rt; left.next(), None);
+    assert!(rt; left.next().is_none());
     Ok(())
 }
 

@@ -94,24 +94,29 @@ fn index_in(alloc: Global, bytes: &[u8]) -> Result<(Index, u64), Fail> {
     Ok((index, dumps.taken()))
 }
 
-// A dump with an LF as the last byte of the first piece.
-fn long_dump(alloc: Global) -> Result<Vec<u8>, AllocError> {
+// A dump whose last header, `=end`, comes after this many bytes, of which the last is an LF.
+fn long_dump(alloc: Global, size: usize) -> Result<Vec<u8>, AllocError> {
     let mut bytes = Vec::from_slice(alloc, b"=erl_crash_dump:0.4\r\n".as_slice())?;
-    bytes.resize(16_383, b'x')?;
+    bytes.resize(size.saturating_sub(1), b'x')?;
     bytes.extend_from_slice(b"\n=end".as_slice())?;
     Ok(bytes)
 }
 
+// At the first seam between two pieces, and at the fourth.
 #[test]
 fn a_header_at_a_seam_is_found(rt: HostRuntime) -> Result<(), Fail> {
-    let bytes = long_dump(rt.alloc())?;
-    let (index, taken) = index_in(rt.alloc(), &bytes)?;
-    assert!(rt; index.len() == 2);
-    let end = index.section(1);
-    let numbers = [end.at, end.body, end.end, taken];
-    assert_eq!(rt; numbers, [16_384, 16_388, 16_388, 16_388]);
-    assert!(rt; matches!(index.version(), Version::V04));
-    assert!(rt; matches!(index.state(), State::Whole));
+    for (size, want) in [
+        (16_384, [16_384, 16_388, 16_388, 16_388]),
+        (65_536, [65_536, 65_540, 65_540, 65_540]),
+    ] {
+        let bytes = long_dump(rt.alloc(), size)?;
+        let (index, taken) = index_in(rt.alloc(), &bytes)?;
+        assert!(rt; index.len() == 2);
+        let end = index.section(1);
+        assert_eq!(rt; [end.at, end.body, end.end, taken], want);
+        assert!(rt; matches!(index.version(), Version::V04));
+        assert!(rt; matches!(index.state(), State::Whole));
+    }
     Ok(())
 }
 

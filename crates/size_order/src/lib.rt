@@ -8,8 +8,8 @@
 //! impl Measured for Holding {
 //!     ghost size = { λ holding. holding.bytes };
 //!
-//!     fn size(&self) -> u64 {
-//!         self.bytes
+//!     fn size(&self) -> u128 {
+//!         u128::from(self.bytes)
 //!     }
 //! }
 //!

@@ -10,8 +10,8 @@ pub trait Measured {
     /// The size as a number.
     ghost size: { Self → ℕ };
 
-    /// The size, in the unit of the rows, such as bytes or words.
-    fn size(&self) -> u64
+    /// The size, in the unit of the rows, such as bytes or words. It may be a sum of numbers of 64 bits.
+    fn size(&self) -> u128
         ensures { result ≡ size self.now };
 }
 

@@ -20,7 +20,7 @@ covered enc chars cover =
     if nat_le (cover.first + cover.chars) (length chars)
     then counted_bytes enc cover.bytes (take cover.chars (drop cover.first chars)) else None
 
--- this many of them, after those of the cover that come before the range
+-- this many bytes of a range, from those of its cover, behind the ones that come before the range
 abbrev pub covered_range : Enc → List ℕ → Cover → ℕ → Option (List ℕ)
 covered_range enc chars cover count = option_map (λ bytes. take count (drop cover.skip bytes)) (covered enc chars cover)
 
@@ -35,7 +35,7 @@ abbrev pub in_chars : Enc → ℕ → List ℕ → ℕ → ℕ → Option (List 
 in_chars enc len chars offset size =
     if nat_le (offset + size) len then bytes_from enc len chars offset (count_shown size) else None
 
--- the same from the body of a `binary` section: its length in hex, `:`, and its characters
+-- what is shown of a range from the body of a `binary` section, which has its length in hex, `:`, and its characters
 abbrev pub in_body : Enc → ℕ → ℕ → List ℕ → Option (List ℕ)
 in_body enc offset size body = option_and_then (λ led. in_chars enc led.0 led.1 offset size) (led_of body)
 

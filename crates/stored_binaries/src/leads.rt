@@ -1,6 +1,7 @@
 // What the body of a binary begins with: the number of its bytes.
 ghost use Rattle.std.specs.Prelude.{◌≡◌, ℕ, ◌+◌, ◌≤◌, ◌<◌, List, length, take, drop, IfSome, OnOk, OnErr, IfOk};
 ghost use Rattle.dump_io.specs.Dumps.{told, DeviceFailed, ReadsAtMost};
+ghost use Rattle.dump_io.specs.Limits.{usual};
 ghost use Rattle.dump_sections.specs.Bodies.{section_at, body_length, body_of};
 ghost use Rattle.dump_sections.specs.Index.{IsBuiltOver};
 ghost use Rattle.stored_binaries.specs.StoredBinaries.{size_stated};
@@ -24,7 +25,7 @@ pub(crate) fn body_of(index: &Index, place: usize) -> (u64, u64)
     ensures len { result.1 ≡ body_length (section_at index.now place) }
     ensures ends { result.0 + result.1 ≡ (section_at index.now place).end }
     ensures within { result.0 + result.1 ≤ index.now.size }
-    ensures small { result.0 + result.1 ≤ 68719476736 }
+    ensures small { result.0 + result.1 ≤ usual.dump }
 {
     let section = index.extent(place);
     (section.body, section.end - section.body)
@@ -50,7 +51,7 @@ pub(crate) fn read_part<D: Dumps>(
     read_full(dumps, body + from, into)
 }
 
-// The number of bytes with which a body begins, from the first 17 bytes of the body, or fewer.
+// The number of bytes with which a body begins, from the first 17 bytes of the body, or fewer: 16 digits and a colon.
 fn lead_of(front: &[u8]) -> Option<Lead>
     ensures within { IfSome result (λ lead. lead.chars ≤ length front.now) }
     ensures lead { (body : List ℕ) → front.now ≡ take 17 body → IsLeadOf body result }

@@ -23,7 +23,7 @@ pub record TablePlaces : Type 0 where
   pub kind : TableKind
   pub places : List ℕ
 
--- they are those of the index's sections that the table lists
+-- these places are those of the index's sections that the table lists
 pub record AreListed (index : Contents) (found : TablePlaces) : Type 0 where
   pub listed : sections_at index found.places ≡ listed found.kind (sections_in index)
   pub within : All (λ i. i < length index.headers) found.places

@@ -8,7 +8,7 @@ ghost use Rattle.table_sections.specs.Kinds.{columns_of, tags_of};
 use section_rows::Column;
 
 /// A table of a dump.
-#[derive(Clone, Copy, Debug, PartialEq, Eq)]
+#[derive(Clone, Copy)]
 pub enum TableKind {
     /// The ETS tables: a row for each `ets` section, with its id and the fields `Table`, `Name`, `Objects` and
     /// `Words`.

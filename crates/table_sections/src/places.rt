@@ -7,7 +7,7 @@ ghost use Rattle.table_sections.specs.Tables.{listed, AreListed};
 
 use crate::kinds::{TableKind, lists};
 use dump_io::Limits;
-use dump_sections::{BodyFault, Index, large};
+use dump_sections::{Index, LargeSection, large};
 use std::alloc::{AllocError, Global};
 use std::marker::Model;
 
@@ -28,7 +28,8 @@ impl Model for TableSections {
 
 // The places of the sections that a table lists, from 0.
 fn places(alloc: Global, index: &Index, kind: TableKind) -> Result<Vec<usize>, AllocError>
-    ensures listed { IfOk result (λ places. map (section_at index.now) places.items ≡ listed kind (sections_in index.now)) }
+    ensures listed { IfOk result (λ places. map (section_at index.now) places.items
+        ≡ listed kind (sections_in index.now)) }
     ensures within { IfOk result (λ places. All (λ i. i < length index.now.headers) places.items) }
 {
     let mut places = Vec::new(alloc);
@@ -50,11 +51,12 @@ impl TableSections {
         Ok(TableSections { kind, places })
     }
 
-    /// The refusal of the first of these sections of the index whose body has more bytes than the limit
+    /// The first of these sections of the index whose body has more bytes than the limit
     /// on a section's body. Returns `None` exactly when each body is within the limit. Nothing is read.
-    pub fn large(&self, index: &Index, limits: &Limits) -> Option<BodyFault>
+    pub fn large(&self, index: &Index, limits: &Limits) -> Option<LargeSection>
         requires { AreListed index.now self.now }
-        ensures { result ≡ large_fault limits.now.section (listed self.now.kind (sections_in index.now)) }
+        ensures { result ≡ large_fault limits.now.section
+            (listed self.now.kind (sections_in index.now)) }
     {
         large(index, self.places.as_slice(), limits)
     }

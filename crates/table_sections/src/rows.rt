@@ -1,7 +1,7 @@
 // The rows of a table.
 ghost use Rattle.std.specs.Prelude.{◌≡◌, ℕ, List, ◌<◌, length, None, IfOk};
 ghost use Rattle.std.specs.Option.{option_copied};
-ghost use Rattle.dump_io.specs.Dumps.{told};
+ghost use Rattle.dump_io.specs.Dumps.{IfTold};
 ghost use Rattle.dump_sections.specs.Index.{IsBuiltOver, sections_in};
 ghost use Rattle.dump_sections.specs.Loading.{LoadsBodies};
 ghost use Rattle.section_rows.specs.Rows.{row_at, cell_at, text_in, AreEven};
@@ -45,8 +45,10 @@ impl Rows {
         limits: &Limits,
     ) -> Result<Rows, BodyFault>
         requires { IsBuiltOver (D.state dumps.old).now index.now }
-        ensures loads { LoadsBodies D.state (listed kind (sections_in index.now)) limits.now.section dumps.old dumps.new result }
-        ensures table { IfOk result (λ rows. (bytes : List ℕ) → (D.state dumps.old).now ≡ told bytes → rows ≡ table_of kind bytes) }
+        ensures loads { LoadsBodies D.state (listed kind (sections_in index.now)) limits.now.section
+            dumps.old dumps.new result }
+        ensures table { IfOk result (λ rows. IfTold (D.state dumps.old).now
+            (λ bytes. rows ≡ table_of kind bytes)) }
         ensures over { IfOk result (IsTableOver kind index.now) }
     {
         let Ok(found) = TableSections::find(alloc, index, kind) else {
@@ -69,8 +71,10 @@ impl Rows {
     ) -> Result<Rows, BodyFault>
         requires over { IsBuiltOver (D.state dumps.old).now index.now }
         requires found { AreListed index.now found }
-        ensures loads { LoadsBodies D.state (listed found.kind (sections_in index.now)) limits.now.section dumps.old dumps.new result }
-        ensures table { IfOk result (λ rows. (bytes : List ℕ) → (D.state dumps.old).now ≡ told bytes → rows ≡ table_of found.kind bytes) }
+        ensures loads { LoadsBodies D.state (listed found.kind (sections_in index.now)) limits.now.section
+            dumps.old dumps.new result }
+        ensures table { IfOk result (λ rows. IfTold (D.state dumps.old).now
+            (λ bytes. rows ≡ table_of found.kind bytes)) }
         ensures over { IfOk result (IsTableOver found.kind index.now) }
     {
         let (kind, places) = found.into_parts();

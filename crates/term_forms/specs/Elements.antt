@@ -22,7 +22,7 @@ IsElem text (Small integer) = (text ≡ codes "I" ++ integer) × IsTrue (is_inte
 IsElem text (Atom bytes) = (led : List ℕ) × (text ≡ codes "A" ++ led) × IsLed led (length bytes) bytes
 -- `P<`, one or more of `0` to `9` and `.`, `>`
 IsElem text (Pid pid) = (text ≡ codes "P" ++ pid) × IsBracketed pid
--- the same after `p` or `p#Port`
+-- `p<` or `p#Port<`, one or more of `0` to `9` and `.`, `>`
 IsElem text (Port port) = ((text ≡ codes "p" ++ port) ⊎ (text ≡ codes "p#Port" ++ port)) × IsBracketed port
 -- `H`, a hex address
 IsElem text (Ref address) = (hex : List ℕ) × (text ≡ codes "H" ++ hex) × (hex_number hex ≡ Some address)

@@ -42,7 +42,7 @@ IsForm enc text (Float bytes) = (led : List ℕ) × (text ≡ codes "F" ++ led) 
 IsForm enc text (Long number) = (text ≡ codes "B" ++ number) × IsTrue (is_long number)
 -- `P<`, one or more of `0` to `9` and `.`, `>`
 IsForm enc text (Pid pid) = (text ≡ codes "P" ++ pid) × IsBracketed pid
--- the same after `p` or `p#Port`
+-- `p<` or `p#Port<`, one or more of `0` to `9` and `.`, `>`
 IsForm enc text (Port port) = ((text ≡ codes "p" ++ port) ⊎ (text ≡ codes "p#Port" ++ port)) × IsBracketed port
 -- `E`, a hex length, `:`, the payload of that many bytes
 IsForm enc text (Ext size chars) = (led : List ℕ) × (text ≡ codes "E" ++ led) × IsLed led size chars × IsPayloadOf enc chars size
@@ -51,7 +51,7 @@ IsForm enc text (HeapBin size chars) =
     (led : List ℕ) × (text ≡ codes "Yh" ++ led) × IsLed led size chars × IsPayloadOf enc chars size
 -- `Yc`, a hex address, `:`, a hex offset, `:`, a hex size
 IsForm enc text (RefBin address offset size) = (range : List ℕ) × (text ≡ codes "Yc" ++ range) × IsRange range address offset size
--- the same after `Ys`
+-- `Ys`, a hex address, `:`, a hex offset, `:`, a hex size
 IsForm enc text (SubBin address offset size) = (range : List ℕ) × (text ≡ codes "Ys" ++ range) × IsRange range address offset size
 -- `Mf`, a hex size, `:`, the keys element, `:`, that many values joined by `,`
 IsForm enc text (Flat keys values) =

@@ -28,7 +28,7 @@ joined_of zero (c ∷ text) = None
 joined_of (suc zero) text = whole_of text >>= λ e. Some (e ∷ [])
 joined_of (suc (suc n)) text = until_of comma text >>= λ found. joined_of (suc n) found.1 >>= λ es. Some (found.0 ∷ es)
 
--- the same as a list, which is empty if the text doesn't spell them
+-- the elements that the whole text spells, joined by commas; none if it doesn't spell this many
 abbrev pub joined_list : ℕ → List ℕ → List Element
 joined_list count text = unwrap_or (joined_of count text) []
 

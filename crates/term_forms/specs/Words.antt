@@ -34,7 +34,7 @@ IsBracketed text =
 abbrev pub IsLed : List ℕ → ℕ → List ℕ → Type 0
 IsLed text n rest = (hex : List ℕ) × (hex_number hex ≡ Some n) × (text ≡ hex ++ colon ∷ rest)
 
--- the same as a function: the number before the first colon and what follows that colon, if the
+-- the number before the first colon and what follows that colon, if the
 -- text has a colon and such a number stands before it; the law `number_is_read` connects the two
 unfoldable pub led_of : List ℕ → Option (ℕ × List ℕ)
 led_of text = if has_colon text then option_and_then (λ n. Some (n, after_colon text)) (hex_number (before_colon text)) else None

@@ -1,5 +1,6 @@
 -- The children of an open cell by their places.
-use Rattle.std.proofs.Common.{◌≡◌, ℕ, zero, suc, ◌+◌, ◌<◌, ◌≤◌, ◌/◌, ◌%◌, List, [], ◌∷◌, length, map, drop, get_or, Option, Some, None, refl, sym, ◌∙◌, ap, inl, inr, arith, Bor}
+use Rattle.std.proofs.Common.{◌*◌, ◌≡◌, ℕ, zero, suc, ◌+◌, ◌<◌, ◌≤◌, ◌/◌, ◌%◌, List, [], ◌∷◌, length, map, drop, get_or, Option, Some, None, refl, sym, ◌∙◌, ap, inl, inr, arith, Bor}
+use Rattle.dump_io.specs.Limits.{usual}
 use Rattle.std.specs.Prelude.{slice_get}
 use Rattle.std.specs.Option.{option_map}
 use Rattle.std.proofs.lemmas.Bool.{cases_lt}
@@ -13,8 +14,8 @@ use Rattle.cell_records.specs.declared.cells.CellIx.{CellIx}
 use Rattle.cell_records.specs.declared.cells.Slot.{Slot}
 use Rattle.heap_cells.specs.HeapMap.{HeapMap, IsBounded, form_at, elements_at}
 use Rattle.heap_cells.specs.Targets.{At, number, target, slot_target, IsWithin}
-use Rattle.map_nodes.specs.Laws.Targets.{no_slot, slot-leads, leads-at}
-use Rattle.map_nodes.specs.Rules.{address_of}
+use Rattle.term_unfold.proofs.Targets.{no_slot, slot-leads, leads-at}
+use Rattle.term_unfold.specs.Maps.{address_of}
 use Rattle.term_unfold.specs.declared.children.Child.{Child as PlacedChild}
 use Rattle.term_unfold.specs.declared.children.Child.TheVariants as placed
 use Rattle.term_unfold.specs.Inner.Children.{members_in, HasMembers, found_elements, flat_children, child_shown, IsChildAt}
@@ -27,7 +28,7 @@ weight-at [] n = omega arith
 weight-at (c ∷ cs) zero = omega (arith, sum_by-cons cell_weight c cs)
 weight-at (c ∷ cs) (suc n) = omega (arith, sum_by-cons cell_weight c cs, weight-at cs n)
 
-pub elements-few : (heap : HeapMap) (n : ℕ) → IsBounded heap → length (elements_at heap.cells n) ≤ 100000000
+pub elements-few : (heap : HeapMap) (n : ℕ) → IsBounded heap → length (elements_at heap.cells n) ≤ usual.dense
 elements-few heap n bounded = omega (arith, bounded.weight, weight-at heap.cells n)
 
 -- no child
@@ -41,7 +42,7 @@ child-none heap children next most (Some k) is past = cc
 pub term-child : (heap : HeapMap) (ix : CellIx) (place : ℕ) (slots : List Slot) (slot : Bor Slot) → IsBounded heap → number ix < length heap.cells
     → place < length (elements_at heap.cells (number ix)) → map slot_target slots ≡ map (target heap.cells) (elements_at heap.cells (number ix))
     → get_or slots place no_slot ≡ slot.now → IsWithin (length heap.cells) (slot_target slot.now)
-    → IsChildAt heap.cells (terms (elements_at heap.cells (number ix))) place 100000000 (Some (placed.Term slot ix place))
+    → IsChildAt heap.cells (terms (elements_at heap.cells (number ix))) place usual.dense (Some (placed.Term slot ix place))
 term-child heap ix place slots slot bounded cell within same is inside =
     let elements = elements_at heap.cells (number ix) in
     record {
@@ -56,7 +57,7 @@ term-child heap ix place slots slot bounded cell within same is inside =
 
 pub item-child : (heap : HeapMap) (ix : CellIx) (place : ℕ) → IsBounded heap → number ix < length heap.cells → HasMembers (form_at heap.cells (number ix)) → members_in (form_at heap.cells (number ix)) ≡ elements_at heap.cells (number ix)
     → place < length (elements_at heap.cells (number ix))
-    → IsChildAt heap.cells (items (address_of heap.cells (number ix)) (members_in (form_at heap.cells (number ix)))) place 100000000 (Some (placed.Item ix place))
+    → IsChildAt heap.cells (items (address_of heap.cells (number ix)) (members_in (form_at heap.cells (number ix)))) place usual.dense (Some (placed.Item ix place))
 item-child heap ix place bounded cell has are within =
     let elements = elements_at heap.cells (number ix) in
     let a = address_of heap.cells (number ix) in
@@ -128,22 +129,22 @@ none-at ks vs place h =
       | inr is ↦ ap (slice_get (pairs ks vs)) (even place (omega (arith, is))) ∙ h.0
     ]
 
-small-place : (i place : ℕ) → i < 100000000 → i ≡ place / 2 → place < 200000000
+small-place : (i place : ℕ) → i < usual.dense → i ≡ place / 2 → place < 2 * usual.dense
 small-place i place h is = omega (arith, div-add-mod place 2)
 
 pub key-none : (heap : List Cell) (ks es : List Element) (place most : ℕ) (found out : Option PlacedChild) → found ≡ None → IsChildAt heap (terms ks) (place / 2) most found → out ≡ None
-    → IsChildAt heap (pairs ks (drop 1 es)) place 200000000 out
+    → IsChildAt heap (pairs ks (drop 1 es)) place (2 * usual.dense) out
 key-none heap ks es place most found out none at is =
-    child-none heap (pairs ks (drop 1 es)) place 200000000 out is (none-at ks (drop 1 es) place (pairs-no_key ks (drop 1 es) (place / 2) (sym at.child ∙ ap (option_map (child_shown heap)) none)))
+    child-none heap (pairs ks (drop 1 es)) place (2 * usual.dense) out is (none-at ks (drop 1 es) place (pairs-no_key ks (drop 1 es) (place / 2) (sym at.child ∙ ap (option_map (child_shown heap)) none)))
 
 pub value-none : (heap : List Cell) (ks es : List Element) (place most : ℕ) (found out : Option PlacedChild) → found ≡ None → IsChildAt heap (terms es) (place / 2 + 1) most found → out ≡ None
-    → IsChildAt heap (pairs ks (drop 1 es)) place 200000000 out
+    → IsChildAt heap (pairs ks (drop 1 es)) place (2 * usual.dense) out
 value-none heap ks es place most found out none at is =
-    child-none heap (pairs ks (drop 1 es)) place 200000000 out is
+    child-none heap (pairs ks (drop 1 es)) place (2 * usual.dense) out is
     (none-at ks (drop 1 es) place (pairs-no_value ks (drop 1 es) (place / 2) (behind-first es (place / 2) ∙ sym at.child ∙ ap (option_map (child_shown heap)) none)))
 
-pub key-child : (heap : List Cell) (ks es : List Element) (place : ℕ) (k v : PlacedChild) → IsChildAt heap (terms ks) (place / 2) 100000000 (Some k) → IsChildAt heap (terms es) (place / 2 + 1) 100000000 (Some v) → place % 2 ≡ 0
-    → IsChildAt heap (pairs ks (drop 1 es)) place 200000000 (Some k)
+pub key-child : (heap : List Cell) (ks es : List Element) (place : ℕ) (k v : PlacedChild) → IsChildAt heap (terms ks) (place / 2) usual.dense (Some k) → IsChildAt heap (terms es) (place / 2 + 1) usual.dense (Some v) → place % 2 ≡ 0
+    → IsChildAt heap (pairs ks (drop 1 es)) place (2 * usual.dense) (Some k)
 key-child heap ks es place k v key value h =
     record {
       child = sym (ap (slice_get (pairs ks (drop 1 es))) (even place h)
@@ -152,8 +153,8 @@ key-child heap ks es place k v key value h =
       few = small-place (place / 2) place key.few refl;
     }
 
-pub value-child : (heap : List Cell) (ks es : List Element) (place : ℕ) (k v : PlacedChild) → IsChildAt heap (terms ks) (place / 2) 100000000 (Some k) → IsChildAt heap (terms es) (place / 2 + 1) 100000000 (Some v) → 0 < place % 2
-    → IsChildAt heap (pairs ks (drop 1 es)) place 200000000 (Some v)
+pub value-child : (heap : List Cell) (ks es : List Element) (place : ℕ) (k v : PlacedChild) → IsChildAt heap (terms ks) (place / 2) usual.dense (Some k) → IsChildAt heap (terms es) (place / 2 + 1) usual.dense (Some v) → 0 < place % 2
+    → IsChildAt heap (pairs ks (drop 1 es)) place (2 * usual.dense) (Some v)
 value-child heap ks es place k v key value h =
     record {
       child = sym (ap (slice_get (pairs ks (drop 1 es))) (odd place h)

@@ -13,7 +13,7 @@ use Rattle.term_forms.specs.Forms.{HeapForm, Cons, Tuple, Flat, Hash, Node}
 use Rattle.heap_cells.specs.Cells.{Cell, addresses}
 use Rattle.heap_cells.specs.HeapMap.{number_at, form_at}
 use Rattle.cell_records.specs.declared.cells.Why.TheVariants.{OnPath}
-use Rattle.map_nodes.specs.Rules.{Keys, no_keys, keys_at, bad_keys, keys_of_map, cell_member, form_at_address}
+use Rattle.term_unfold.specs.Maps.{Keys, no_keys, keys_at, bad_keys, keys_of_map, cell_member, form_at_address}
 use Rattle.term_unfold.specs.Laws.{IsPath}
 use Rattle.term_unfold.specs.Rules.{Child, Term, Item, Opening, leaf, bad, node, is_on, unless_on, keyed, cell_opening, item_opening, opening}
 use Rattle.term_unfold.specs.Trees.{Tree, Branch, more}

@@ -9,6 +9,7 @@ pub mod Previewed
 pub mod Sized
 pub mod Stepping
 pub mod Suiting
+pub mod Targets
 pub mod Tied
 pub mod Turning
 pub mod Turns_made

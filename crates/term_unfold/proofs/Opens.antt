@@ -17,8 +17,9 @@ use Rattle.cell_records.specs.declared.cells.Why.{Why}
 use Rattle.cell_records.specs.declared.cells.Why.TheVariants.{Missing, Malformed, OnPath}
 use Rattle.heap_cells.specs.HeapMap.{HeapMap, number_at, form_at}
 use Rattle.heap_cells.specs.Targets.{Imm, At, number, target}
-use Rattle.map_nodes.specs.Laws.Targets.{leads-at, leads-nowhere}
-use Rattle.map_nodes.specs.Rules.{no_keys, keys_at, bad_keys, cell_keys, element_keys, form_keys, pair_at, inner_at, cell_member, member_of, address_of, form_at_address}
+use Rattle.term_unfold.proofs.Targets.{leads-at, leads-nowhere}
+use Rattle.term_unfold.specs.Inner.Maps.{form_keys}
+use Rattle.term_unfold.specs.Maps.{keys_at, bad_keys, cell_keys, element_keys, pair_at, inner_at, cell_member, member_of, address_of, form_at_address}
 use Rattle.term_unfold.specs.declared.node.NodeKind.TheVariants as kinds
 use Rattle.term_unfold.specs.declared.path.Entry.{Entry}
 use Rattle.term_unfold.specs.Inner.Entries.{Entered, numbers_of, path_of, IsLine}
@@ -335,19 +336,6 @@ flat-bad heap path a k c why form h some leads off keys =
     ∙ ap (λ x. unless_on (a ∷ path) (get_or (elements_in form) 0 Nil) (keyed a (drop 1 (elements_in form)) x)) (keys-at heap a k form h some leads ∙ keys)
     ∙ ap (λ e. unless_on (a ∷ path) e (bad c why)) to.element
     ∙ ap (λ x. cond x (bad (address_of heap k) OnPath) (bad c why)) off
-
--- a flat map with values has keys or bad ones
-no-tuple : {X : Type 0} (b : Bool) (k : ℕ) (elements : List Element) → cond b (keys_at k elements) (bad_keys k Malformed) ≡ no_keys → X
-no-tuple true k elements h = cc
-no-tuple false k elements h = cc
-
-no-form : {X : Type 0} (k size : ℕ) (form : Option HeapForm) → cell_keys k size (Some form) ≡ no_keys → X
-no-form k size None h = cc
-no-form k size (Some (Tuple elements)) h = no-tuple (eqb (length elements) size) k elements h
-no-form k size (Some form) h = cc
-
-pub flat-no_keys : {X : Type 0} (heap : List Cell) (k size : ℕ) → cell_keys (address_of heap k) size (Some (form_at heap k)) ≡ no_keys → X
-flat-no_keys heap k size none = no-form (address_of heap k) size (form_at heap k) none
 
 -- items
 

@@ -3,7 +3,7 @@ use Rattle.std.proofs.Common.{◌≡◌, ℕ, ◌<◌, eqb, List, length, sym, a
 use Rattle.std.specs.Option.{option_and_then}
 use Rattle.std.specs.List.{IsDistinct}
 use Rattle.heap_cells.specs.Cells.{Cell, addresses}
-use Rattle.map_nodes.specs.Rules.{address_of}
+use Rattle.term_unfold.specs.Maps.{address_of}
 use Rattle.binary_refs.specs.declared.entries.Entry.{Entry}
 use Rattle.term_unfold.specs.Leaves.{preview_of, preview_at}
 use Rattle.term_unfold.proofs.Opens.{number-is}

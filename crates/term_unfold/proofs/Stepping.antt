@@ -9,7 +9,7 @@ use Rattle.heap_cells.specs.Cells.{Cell}
 use Rattle.heap_cells.specs.HeapMap.{form_at, elements_at}
 use Rattle.heap_cells.specs.Targets.{number}
 use Rattle.cell_records.specs.declared.cells.Why.{Why}
-use Rattle.map_nodes.specs.Rules.{address_of, form_at_address}
+use Rattle.term_unfold.specs.Maps.{address_of, form_at_address}
 use Rattle.term_unfold.specs.declared.node.NodeKind.{NodeKind}
 use Rattle.term_unfold.specs.declared.node.NodeKind.TheVariants as kinds
 use Rattle.term_unfold.specs.declared.openings.Opened.{Opened}

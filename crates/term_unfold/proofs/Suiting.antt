@@ -5,7 +5,7 @@ use Rattle.term_forms.specs.Forms.{HeapForm, Cons, Tuple, Flat, Hash}
 use Rattle.heap_cells.specs.Cells.{Cell}
 use Rattle.cell_records.specs.declared.cells.Why.{Why}
 use Rattle.cell_records.specs.declared.cells.Why.TheVariants.{OnPath}
-use Rattle.map_nodes.specs.Rules.{Keys, no_keys, keys_at, bad_keys, keys_of_map, Member, pair_at, inner_at, bad_member, member_of, form_at_address}
+use Rattle.term_unfold.specs.Maps.{Keys, no_keys, keys_at, bad_keys, keys_of_map, Member, pair_at, inner_at, bad_member, member_of, form_at_address}
 use Rattle.term_unfold.specs.Laws.{Suits}
 use Rattle.term_unfold.specs.Rules.{Child, Term, Item, Opening, bad, is_on, unless_on, terms, items, pairs, keyed, cell_opening, term_opening, item_opening, opening}
 use Rattle.term_unfold.specs.Terms.{IsTerm, IsItem, AreTerms, AreItems}

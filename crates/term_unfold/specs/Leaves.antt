@@ -9,7 +9,7 @@ use Rattle.term_forms.specs.Elements.{Element, Nil, Small, Atom, Pid, Port, Ref}
 use Rattle.term_forms.specs.Forms.{HeapForm, Float, Long, Pid as PidForm, Port as PortForm, Ext, HeapBin, RefBin, SubBin}
 use Rattle.binary_payloads.specs.ReadingPayloads.{payload_bytes}
 use Rattle.heap_cells.specs.Cells.{Cell}
-use Rattle.heap_cells.specs.HeapMap.{number_at}
+use Rattle.heap_cells.specs.HeapMap.{HeapMap, number_at}
 use Rattle.binary_refs.specs.declared.entries.Entry.{Entry}
 use Rattle.binary_refs.specs.Previews.{entry_at}
 use Rattle.term_unfold.specs.Trees.{Value, Immediate, OfCell}
@@ -18,7 +18,7 @@ use Rattle.term_unfold.specs.Trees.{Value, Immediate, OfCell}
 abbrev pub preview_of : List Entry → ℕ → Option (List ℕ)
 preview_of entries n = option_and_then (λ e. e.bytes) (entry_at entries n)
 
--- the same from the cell's address
+-- the first bytes of what the cell at an address refers to, if they are known
 abbrev pub preview_at : List Cell → List Entry → ℕ → Option (List ℕ)
 preview_at cells entries a = option_and_then (preview_of entries) (number_at cells a)
 
@@ -70,3 +70,7 @@ form_text enc preview form = []
 abbrev pub leaf_text : Enc → List Cell → List Entry → Value → List ℕ
 leaf_text enc cells previews (Immediate element) = element_text element
 leaf_text enc cells previews (OfCell a form) = form_text enc (preview_at cells previews a) form
+
+-- the text of each leaf of a heap, given the previews of its binaries
+abbrev pub leaves : HeapMap → List Entry → Value → List ℕ
+leaves heap previews = leaf_text heap.enc heap.cells previews

@@ -1,6 +1,8 @@
+pub mod DumpWalks
 pub mod Inner
 pub mod Laws
 pub mod Leaves
+pub mod Maps
 pub mod Places
 pub mod Rules
 pub mod Terms

@@ -31,7 +31,7 @@ abbrev mutual
   placed leaf place (Bad address why) = (place, BadFace address why) ∷ []
   placed leaf place (Branch kind children) = (place, BranchFace kind (count children)) ∷ placed_all leaf place 0 children
 
-  -- the same for the children of a place, from the one with number n on
+  -- the nodes in preorder, of the children of a place from the one with number n on
   pub placed_all : (Value → List ℕ) → List ℕ → ℕ → Trees → List PlacedNode
   placed_all leaf place n none = []
   placed_all leaf place n (more tree trees) = placed leaf (place ++ n ∷ []) tree ++ placed_all leaf place (suc n) trees

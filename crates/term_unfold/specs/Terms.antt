@@ -9,6 +9,7 @@ count none = 0
 count (more tree trees) = suc (count trees)
 
 abbrev mutual
+  -- a tree is a term
   pub IsTerm : Tree → Type 0
   -- a head and a tail
   IsTerm (Branch kinds.Cons children) = (count children ≡ 2) × AreTerms children
@@ -30,10 +31,12 @@ abbrev mutual
   -- no other node is one
   IsItem tree = ⊥
 
+  -- each of these trees is a term
   pub AreTerms : Trees → Type 0
   AreTerms none = Unit {0}
   AreTerms (more tree trees) = IsTerm tree × AreTerms trees
 
+  -- each of these trees may occur in a hash map
   pub AreItems : Trees → Type 0
   AreItems none = Unit {0}
   AreItems (more tree trees) = IsItem tree × AreItems trees

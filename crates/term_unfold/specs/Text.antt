@@ -108,7 +108,7 @@ abbrev mutual
   keys_text leaf came (more key rest) zero = shown (comma_text came ++ codes "...}") 0
   keys_text leaf came (more key rest) (suc m) = led (comma_text came) (node_text leaf key m then values_text leaf rest)
 
-  -- the same from a value on
+  -- the pairs of a flat map from a value on
   pub values_text : (Value → List ℕ) → Trees → ℕ → Shown ℕ
   values_text leaf none m = shown (codes "}") m
   values_text leaf (more value rest) zero = shown (codes "=>...}") 0

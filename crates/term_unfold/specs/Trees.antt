@@ -13,11 +13,13 @@ pub data Value : Type 0 where
   OfCell : ℕ → HeapForm → Value
 
 mutual
+  -- a node of an unfolding: a leaf, an address that can't be followed, or a branch of some kind
   pub data Tree : Type 0 where
     Leaf : Value → Tree
     Bad : ℕ → Why → Tree
     Branch : NodeKind → Trees → Tree
 
+  -- trees in a row
   pub data Trees : Type 0 where
     none : Trees
     more : Tree → Trees → Trees
@@ -28,6 +30,7 @@ abbrev mutual
   pre (Branch kind children) = Branch kind children ∷ pre_all children
   pre node = node ∷ []
 
+  -- the nodes of trees in a row
   pub pre_all : Trees → List Tree
   pre_all none = []
   pre_all (more tree trees) = pre tree ++ pre_all trees

@@ -1,13 +1,12 @@
 // The children of an open cell, one by one.
-ghost use Rattle.std.specs.Prelude.{◌≡◌, ◌<◌, length, take, drop};
+ghost use Rattle.std.specs.Prelude.{◌*◌, ◌≡◌, ◌<◌, length};
 ghost use Rattle.std.specs.Option.{option_map};
 ghost use Rattle.term_forms.specs.Seen.{element};
-ghost use Rattle.heap_cells.specs.HeapMap.{IsBounded, elements_at, form_at};
+ghost use Rattle.dump_io.specs.Limits.{usual};
+ghost use Rattle.heap_cells.specs.HeapMap.{IsBounded, form_at};
 ghost use Rattle.heap_cells.specs.Targets.{number};
-ghost use Rattle.map_nodes.specs.Rules.{address_of};
-ghost use Rattle.term_unfold.specs.Inner.Children.{child_shown, children_of, flat_children, members_in, HasMembers, IsChild, IsChildAt};
+ghost use Rattle.term_unfold.specs.Inner.Children.{child_shown, children_in, keyed_children, HasMembers, IsChild, IsChildAt};
 ghost use Rattle.term_unfold.specs.Inner.Openings.{immediate_of};
-ghost use Rattle.term_unfold.specs.Rules.{terms, items, pairs};
 
 use crate::node::NodeKind;
 use heap_cells::{CellIx, Heap, Kid, Kind, Slot};
@@ -27,7 +26,7 @@ pub(crate) enum Child<'h> {
 fn term_at(heap: &Heap, ix: CellIx, place: u32) -> Option<Child<'_>>
     requires cell { number ix < length heap.now.cells }
     requires bounded { IsBounded heap.now }
-    ensures { IsChildAt heap.now.cells (terms (elements_at heap.now.cells (number ix))) place 100000000 result }
+    ensures { IsChildAt heap.now.cells (children_in heap.now NodeKind.Tuple ix) place usual.dense result }
 {
     let slot = heap.slots(ix).get(place as usize)?;
     Some(Child::Term(slot, ix, place))
@@ -38,7 +37,7 @@ fn term_at(heap: &Heap, ix: CellIx, place: u32) -> Option<Child<'_>>
 fn head_or_tail(heap: &Heap, ix: CellIx, place: u32) -> Option<Child<'_>>
     requires cell { number ix < length heap.now.cells }
     requires bounded { IsBounded heap.now }
-    ensures { IsChildAt heap.now.cells (terms (take 2 (elements_at heap.now.cells (number ix)))) place 2 result }
+    ensures { IsChildAt heap.now.cells (children_in heap.now NodeKind.Cons ix) place 2 result }
 {
     if place < 2 {
         term_at(heap, ix, place)
@@ -53,7 +52,7 @@ fn key_or_value(heap: &Heap, ix: CellIx, keys: CellIx, place: u32) -> Option<Chi
     requires map { number ix < length heap.now.cells }
     requires keys { number keys < length heap.now.cells }
     requires bounded { IsBounded heap.now }
-    ensures { IsChildAt heap.now.cells (pairs (elements_at heap.now.cells (number keys)) (drop 1 (elements_at heap.now.cells (number ix)))) place 200000000 result }
+    ensures { IsChildAt heap.now.cells (keyed_children heap.now keys ix) place (2 * usual.dense) result }
 {
     let key = term_at(heap, keys, place / 2)?;
     let value = term_at(heap, ix, place / 2 + 1)?;
@@ -69,15 +68,14 @@ fn key_or_value(heap: &Heap, ix: CellIx, keys: CellIx, place: u32) -> Option<Chi
 fn pair_part(heap: &Heap, ix: CellIx, place: u32) -> Option<Child<'_>>
     requires cell { number ix < length heap.now.cells }
     requires bounded { IsBounded heap.now }
-    ensures { IsChildAt heap.now.cells (flat_children heap.now.cells (elements_at heap.now.cells (number ix))) place 200000000 result }
+    ensures { IsChildAt heap.now.cells (children_in heap.now NodeKind.Flat ix) place (2 * usual.dense) result }
 {
     if heap.kids(ix) == 0 {
         return None;
     }
     match heap.slots(ix)[0] {
         Slot::Cell(keys) => key_or_value(heap, ix, keys, place),
-        Slot::Imm(_) => None,
-        Slot::Gone(_) => None,
+        Slot::Imm(_) | Slot::Gone(_) => None,
     }
 }
 
@@ -86,7 +84,7 @@ fn item_at(heap: &Heap, ix: CellIx, place: u32) -> Option<Child<'_>>
     requires cell { number ix < length heap.now.cells }
     requires bounded { IsBounded heap.now }
     requires kind { HasMembers (form_at heap.now.cells (number ix)) }
-    ensures { IsChildAt heap.now.cells (items (address_of heap.now.cells (number ix)) (members_in (form_at heap.now.cells (number ix)))) place 100000000 result }
+    ensures { IsChildAt heap.now.cells (children_in heap.now NodeKind.Hash ix) place usual.dense result }
 {
     if place >= heap.kids(ix) {
         return None;
@@ -99,12 +97,10 @@ fn item_at(heap: &Heap, ix: CellIx, place: u32) -> Option<Child<'_>>
 fn member_at(heap: &Heap, ix: CellIx, place: u32) -> Option<Child<'_>>
     requires cell { number ix < length heap.now.cells }
     requires bounded { IsBounded heap.now }
-    ensures { IsChildAt heap.now.cells (items (address_of heap.now.cells (number ix)) (members_in (form_at heap.now.cells (number ix)))) place 100000000 result }
+    ensures { IsChildAt heap.now.cells (children_in heap.now NodeKind.Hash ix) place usual.dense result }
 {
     match heap.kind(ix) {
-        Some(Kind::Hash) => item_at(heap, ix, place),
-        Some(Kind::Tuple) => item_at(heap, ix, place),
-        Some(Kind::Node) => item_at(heap, ix, place),
+        Some(Kind::Hash | Kind::Tuple | Kind::Node) => item_at(heap, ix, place),
         _ => None,
     }
 }
@@ -114,7 +110,7 @@ fn member_at(heap: &Heap, ix: CellIx, place: u32) -> Option<Child<'_>>
 pub(crate) fn child_at(heap: &Heap, ix: CellIx, kind: NodeKind, place: u32) -> Option<Child<'_>>
     requires cell { number ix < length heap.now.cells }
     requires bounded { IsBounded heap.now }
-    ensures { IsChildAt heap.now.cells (children_of heap.now.cells kind (number ix)) place 200000000 result }
+    ensures { IsChildAt heap.now.cells (children_in heap.now kind ix) place (2 * usual.dense) result }
 {
     match kind {
         NodeKind::Cons => head_or_tail(heap, ix, place),

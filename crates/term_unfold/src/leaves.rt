@@ -6,14 +6,14 @@ ghost use Rattle.dump_io.specs.Sinks.{Puts};
 ghost use Rattle.dump_io.specs.Numbers.{hex_byte};
 ghost use Rattle.heap_cells.specs.HeapMap.{IsBounded, IsSpelled, form_at};
 ghost use Rattle.heap_cells.specs.Targets.{number};
-ghost use Rattle.map_nodes.specs.Rules.{address_of};
+ghost use Rattle.term_unfold.specs.Maps.{address_of};
 ghost use Rattle.binary_payloads.specs.Payload.{IsPayloadOf};
 ghost use Rattle.term_forms.specs.Seen.{element};
 ghost use Rattle.term_forms.specs.SeenForms.{heap_form};
 ghost use Rattle.binary_refs.specs.Previews.{entry_at, stated, AreFor};
 ghost use Rattle.term_unfold.specs.Inner.Openings.{is_immediate, is_leaf_form, IsLeafCell};
 ghost use Rattle.term_unfold.specs.Inner.Rest.{cell_text};
-ghost use Rattle.term_unfold.specs.Leaves.{element_text, port_text, dots, preview_text, preview_of, sized_text, own_preview, form_text, leaf_text};
+ghost use Rattle.term_unfold.specs.Leaves.{element_text, port_text, dots, preview_text, preview_of, sized_text, own_preview, form_text, leaves};
 ghost use Rattle.term_unfold.specs.Text.{reason, bad_text};
 
 use binary_refs::{Preview, Previews};
@@ -212,7 +212,7 @@ pub(crate) fn put_cell<K: Sink>(
     requires bounded { IsBounded heap.now }
     requires previews { AreFor heap.now.cells previews.now }
     ensures { Puts (K.state sink.old) (K.state sink.new)
-        (cell_text (leaf_text heap.now.enc heap.now.cells previews.now) (address_of heap.now.cells (number ix)) (form_at heap.now.cells (number ix))) result }
+        (cell_text (leaves heap.now previews.now) (address_of heap.now.cells (number ix)) (form_at heap.now.cells (number ix))) result }
 {
     match heap.form(ix) {
         Some(form) => put_form(sink, heap.enc(), &form, previews, ix),

@@ -17,6 +17,7 @@ mod children;
 mod judging;
 mod laws;
 mod leaves;
+mod maps;
 mod node;
 mod openings;
 mod path;

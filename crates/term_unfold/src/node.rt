@@ -1,7 +1,7 @@
 // The kinds of nodes that have children.
 
 /// The kind of a node that has children.
-#[derive(Clone, Copy, Debug, PartialEq, Eq)]
+#[derive(Clone, Copy)]
 pub enum NodeKind {
     /// A cons cell: its head and its tail.
     Cons,

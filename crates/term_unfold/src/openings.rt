@@ -3,20 +3,20 @@ ghost use Rattle.std.specs.Prelude.{◌≡◌, ◌<◌, ◌≤◌, false, ◌∷
 ghost use Rattle.std.specs.Option.{option_map};
 ghost use Rattle.heap_cells.specs.Cells.{kind_of};
 ghost use Rattle.heap_cells.specs.HeapMap.{form_at, elements_at};
-ghost use Rattle.heap_cells.specs.Targets.{number, target, slot_target, At, IsWithin};
+ghost use Rattle.heap_cells.specs.Targets.{number, slot_target, IsWithin};
 ghost use Rattle.term_forms.specs.Elements.{Ref};
 ghost use Rattle.term_forms.specs.Seen.{element};
-ghost use Rattle.map_nodes.specs.Rules.{address_of, element_at};
-ghost use Rattle.term_unfold.specs.Inner.Entries.{numbers_of, path_of, IsLine, Serves};
+ghost use Rattle.term_unfold.specs.Maps.{address_of};
+ghost use Rattle.term_unfold.specs.Inner.Entries.{numbers_of, IsLine, Serves};
 ghost use Rattle.term_unfold.specs.Inner.Children.{child_shown, IsItemAt, IsChild};
-ghost use Rattle.term_unfold.specs.Inner.Openings.{Opens, OpensEach};
-ghost use Rattle.term_unfold.specs.Rules.{is_on, Term, Item};
+ghost use Rattle.term_unfold.specs.Inner.Openings.{is_entered, item_in, LeadsFrom, Opens, OpensEach};
+ghost use Rattle.term_unfold.specs.Rules.{Term};
 
 use crate::children::Child;
+use crate::maps::{KeysAt, MapChild, keys_in, member};
 use crate::node::NodeKind;
 use crate::path::Path;
 use heap_cells::{CellIx, Heap, Kind, Seat, Slot, Why};
-use map_nodes::{KeysAt, MapChild, keys_in, member};
 use term_forms::shapes::Elem;
 
 /// What a child is, below the cells that the walk is in.
@@ -37,7 +37,7 @@ pub(crate) enum Opened {
 fn is_open(heap: &Heap, path: &Path, ix: CellIx) -> bool
     requires cell { number ix < length heap.now.cells }
     requires serves { Serves heap.now path.now.cells }
-    ensures on { result ≡ is_on (address_of heap.now.cells (number ix)) (path_of heap.now.cells path.now.entries) }
+    ensures on { result ≡ is_entered heap.now path.now ix }
     ensures line { IsFalse result → IsLine path.now.cells (number ix ∷ numbers_of path.now.entries) }
 {
     path.contains(ix)
@@ -60,8 +60,8 @@ fn open_keyed(heap: &Heap, path: &Path, ix: CellIx, keys: CellIx) -> Opened
     requires serves { Serves heap.now path.now.cells }
     requires flat { option_map kind_of (form_at heap.now.cells (number ix)) ≡ Some Kind.Flat }
     requires some { 2 ≤ length (elements_at heap.now.cells (number ix)) }
-    requires leads { target heap.now.cells (element_at heap.now.cells (number ix) 0) ≡ At (number keys) }
-    requires off { is_on (address_of heap.now.cells (number ix)) (path_of heap.now.cells path.now.entries) ≡ false }
+    requires leads { LeadsFrom heap.now ix 0 keys }
+    requires off { is_entered heap.now path.now ix ≡ false }
     requires line { IsLine path.now.cells (number ix ∷ numbers_of path.now.entries) }
     ensures { Opens heap.now path.now (Term (Ref (address_of heap.now.cells (number ix)))) result }
 {
@@ -72,7 +72,6 @@ fn open_keyed(heap: &Heap, path: &Path, ix: CellIx, keys: CellIx) -> Opened
         return Opened::Bad(heap.addr(keys), Why::OnPath);
     }
     match keys_in(heap, keys, heap.kids(ix) - 1) {
-        KeysAt::None => Opened::Node(ix, NodeKind::Flat),
         KeysAt::Keys(_) => Opened::Node(ix, NodeKind::Flat),
         KeysAt::Bad(addr, why) => Opened::Bad(addr, why),
     }
@@ -84,7 +83,7 @@ fn open_flat(heap: &Heap, path: &Path, ix: CellIx) -> Opened
     requires cell { number ix < length heap.now.cells }
     requires serves { Serves heap.now path.now.cells }
     requires flat { option_map kind_of (form_at heap.now.cells (number ix)) ≡ Some Kind.Flat }
-    requires off { is_on (address_of heap.now.cells (number ix)) (path_of heap.now.cells path.now.entries) ≡ false }
+    requires off { is_entered heap.now path.now ix ≡ false }
     requires line { IsLine path.now.cells (number ix ∷ numbers_of path.now.entries) }
     ensures { Opens heap.now path.now (Term (Ref (address_of heap.now.cells (number ix)))) result }
 {
@@ -139,9 +138,9 @@ fn open_slot(heap: &Heap, path: &Path, slot: &Slot) -> Opened
 fn open_member(heap: &Heap, path: &Path, parent: CellIx, place: u32, ix: CellIx) -> Opened
     requires item { IsItemAt heap.now.cells (number parent) place }
     requires cell { number ix < length heap.now.cells }
-    requires leads { target heap.now.cells (element_at heap.now.cells (number parent) place) ≡ At (number ix) }
+    requires leads { LeadsFrom heap.now parent place ix }
     requires serves { Serves heap.now path.now.cells }
-    ensures { Opens heap.now path.now (Item (address_of heap.now.cells (number parent)) (element_at heap.now.cells (number parent) place)) result }
+    ensures { Opens heap.now path.now (item_in heap.now parent place) result }
 {
     if is_open(heap, path, ix) {
         return Opened::Bad(heap.addr(ix), Why::OnPath);
@@ -158,7 +157,7 @@ fn open_member(heap: &Heap, path: &Path, parent: CellIx, place: u32, ix: CellIx)
 fn open_item(heap: &Heap, path: &Path, parent: CellIx, place: u32) -> Opened
     requires item { IsItemAt heap.now.cells (number parent) place }
     requires serves { Serves heap.now path.now.cells }
-    ensures { Opens heap.now path.now (Item (address_of heap.now.cells (number parent)) (element_at heap.now.cells (number parent) place)) result }
+    ensures { Opens heap.now path.now (item_in heap.now parent place) result }
 {
     match heap.slots(parent)[place as usize] {
         Slot::Imm(_) => Opened::Bad(heap.addr(parent), Why::Malformed),
@@ -199,10 +198,8 @@ pub(crate) fn open_root(heap: &Heap, path: &Path, root: &Elem<'_>) -> Opened
 {
     match root {
         Elem::Ref(addr) => open_address(heap, path, *addr),
-        Elem::Nil => Opened::Immediate,
-        Elem::Small(_) => Opened::Immediate,
-        Elem::Atom(_) => Opened::Immediate,
-        Elem::Pid(_) => Opened::Immediate,
-        Elem::Port(_) => Opened::Immediate,
+        Elem::Nil | Elem::Small(_) | Elem::Atom(_) | Elem::Pid(_) | Elem::Port(_) => {
+            Opened::Immediate
+        }
     }
 }

@@ -10,7 +10,7 @@ ghost use Rattle.term_unfold.specs.Inner.Children.{child_shown, IsChild};
 ghost use Rattle.term_unfold.specs.Inner.Openings.{element_of};
 ghost use Rattle.term_unfold.specs.Inner.Rest.{bracket, child_text, own_text, turn_text, rest, HasOwn, HasText};
 ghost use Rattle.term_unfold.specs.Inner.Steps.{Steps, Falls, counted_of};
-ghost use Rattle.term_unfold.specs.Leaves.{element_text, leaf_text};
+ghost use Rattle.term_unfold.specs.Leaves.{element_text, leaves};
 ghost use Rattle.term_unfold.specs.Rules.{Term};
 ghost use Rattle.term_unfold.specs.Text.{show};
 ghost use Rattle.term_unfold.specs.Unfolding.{unfolding_of};
@@ -65,7 +65,7 @@ fn put_child<K: Sink>(
     requires placed { IsChild heap.now.cells child }
     requires text { HasText heap.now.cells (child_shown heap.now.cells child) opened }
     ensures { Puts (K.state sink.old) (K.state sink.new)
-        (child_text (leaf_text heap.now.enc heap.now.cells previews.now) heap.now.cells (child_shown heap.now.cells child.entry) opened) result }
+        (child_text (leaves heap.now previews.now) heap.now.cells (child_shown heap.now.cells child.entry) opened) result }
 {
     match opened {
         Opened::Immediate => put_immediate(sink, heap, child),
@@ -88,7 +88,7 @@ fn put_own<K: Sink>(
     requires placed { IsChild heap.now.cells child }
     requires own { HasOwn heap.now.cells (child_shown heap.now.cells child) own.now }
     ensures { Puts (K.state sink.old) (K.state sink.new)
-        (own_text (leaf_text heap.now.enc heap.now.cells previews.now) heap.now.cells (child_shown heap.now.cells child.entry) own.now) result }
+        (own_text (leaves heap.now previews.now) heap.now.cells (child_shown heap.now.cells child.entry) own.now) result }
 {
     match own {
         Own::Nothing => write_all(sink, b""),
@@ -110,7 +110,7 @@ fn put_turn<K: Sink>(
     requires placed { IsChild heap.now.cells child }
     requires own { HasOwn heap.now.cells (child_shown heap.now.cells child) turn.now.own }
     ensures { Puts (K.state sink.old) (K.state sink.new)
-        (turn_text (leaf_text heap.now.enc heap.now.cells previews.now) heap.now.cells (child_shown heap.now.cells child.entry) turn.now) result }
+        (turn_text (leaves heap.now previews.now) heap.now.cells (child_shown heap.now.cells child.entry) turn.now) result }
 {
     write_all(sink, turn.front)?;
     put_own(sink, heap, previews, child, &turn.own)
@@ -143,8 +143,8 @@ fn step<K: Sink>(
     ensures cells { path.new.cells ≡ path.old.cells }
     ensures falls { Falls path.old.entries path.new.entries left result }
     ensures step { Steps (K.state sink.old) (K.state sink.new)
-        (rest (leaf_text heap.now.enc heap.now.cells previews.now) heap.now.cells path.old.entries left)
-        (rest (leaf_text heap.now.enc heap.now.cells previews.now) heap.now.cells path.new.entries) result }
+        (rest (leaves heap.now previews.now) heap.now.cells path.old.entries left)
+        (rest (leaves heap.now previews.now) heap.now.cells path.new.entries) result }
 {
     let Some(child) = child_at(heap, entry.cell, entry.kind, entry.next) else {
         let text = close(path, entry);
@@ -170,7 +170,7 @@ fn put_root<K: Sink>(
     requires previews { AreFor heap.now.cells previews.now }
     requires text { HasText heap.now.cells (Term (element root.now)) opened }
     ensures { Puts (K.state sink.old) (K.state sink.new)
-        (child_text (leaf_text heap.now.enc heap.now.cells previews.now) heap.now.cells (Term (element root.now)) opened) result }
+        (child_text (leaves heap.now previews.now) heap.now.cells (Term (element root.now)) opened) result }
 {
     match opened {
         Opened::Immediate => put_element(sink, root),
@@ -195,8 +195,8 @@ fn print_root<K: Sink>(
     requires budget { 0 < budget }
     ensures cells { path.new.cells ≡ path.old.cells }
     ensures step { Steps (K.state sink.old) (K.state sink.new)
-        (show (leaf_text heap.now.enc heap.now.cells previews.now) (unfolding_of heap.now.cells (element root.now)) budget)
-        (rest (leaf_text heap.now.enc heap.now.cells previews.now) heap.now.cells path.new.entries) result }
+        (show (leaves heap.now previews.now) (unfolding_of heap.now.cells (element root.now)) budget)
+        (rest (leaves heap.now previews.now) heap.now.cells path.new.entries) result }
 {
     let opened = open_root(heap, path, root);
     enter(path, opened, false);
@@ -218,7 +218,7 @@ pub(crate) fn print_all<K: Sink>(
     requires budget { 0 < budget }
     ensures cells { path.new.cells ≡ path.old.cells }
     ensures puts { Puts (K.state sink.old) (K.state sink.new)
-        (show (leaf_text heap.now.enc heap.now.cells previews.now) (unfolding_of heap.now.cells (element root.now)) budget) result }
+        (show (leaves heap.now previews.now) (unfolding_of heap.now.cells (element root.now)) budget) result }
 {
     let mut left = print_root(heap, previews, path, root, budget, sink)?;
     while let Some(entry) = path.top() {

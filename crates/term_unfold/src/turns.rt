@@ -6,7 +6,7 @@ ghost use Rattle.term_unfold.specs.Inner.Coming.{left_of, entered_by};
 ghost use Rattle.term_unfold.specs.Inner.Entries.{stepped, outside, is_item, Serves};
 ghost use Rattle.term_unfold.specs.Inner.Children.{children_of, child_shown, IsChild};
 ghost use Rattle.term_unfold.specs.Inner.Openings.{MayEnter, is_list, is_list_kind};
-ghost use Rattle.term_unfold.specs.Inner.Rest.{front_of, is_next_value, left_text, rest, AtChild, IsTurn, HasItems, HasTerms};
+ghost use Rattle.term_unfold.specs.Inner.Rest.{front_of, is_next_value, left_text, rest, AtChild, TurnsAt, HasItems, HasTerms};
 ghost use Rattle.term_unfold.specs.Rules.{Child as Below};
 ghost use Rattle.term_unfold.specs.Text.{comma_text};
 ghost use Rattle.term_unfold.specs.Trees.{Value, none};
@@ -197,7 +197,7 @@ fn turn_tail<'h>(
     requires kind { entry.kind ≡ NodeKind.Cons }
     requires next { 0 < entry.next }
     ensures cells { path.new.cells ≡ path.old.cells }
-    ensures turn { IsTurn heap.now.cells path.old.entries path.new.entries (child_shown heap.now.cells child.entry) result }
+    ensures turn { TurnsAt heap.now path.old path.new child.entry result }
 {
     if is_list(opened) {
         advance(path, opened, false, false);
@@ -238,7 +238,7 @@ fn turn_list<'h>(
     requires at { AtChild heap.now path.old entry child opened }
     requires kind { entry.kind ≡ NodeKind.Cons }
     ensures cells { path.new.cells ≡ path.old.cells }
-    ensures turn { IsTurn heap.now.cells path.old.entries path.new.entries (child_shown heap.now.cells child.entry) result }
+    ensures turn { TurnsAt heap.now path.old path.new child.entry result }
 {
     if entry.next > 0 {
         return turn_tail(heap, path, entry, child, opened);
@@ -261,7 +261,7 @@ fn turn_terms<'h>(
     requires at { AtChild heap.now path.old entry child opened }
     requires kind { HasTerms entry.kind }
     ensures cells { path.new.cells ≡ path.old.cells }
-    ensures turn { IsTurn heap.now.cells path.old.entries path.new.entries (child_shown heap.now.cells child.entry) result }
+    ensures turn { TurnsAt heap.now path.old path.new child.entry result }
 {
     advance(path, opened, true, false);
     Turn {
@@ -281,7 +281,7 @@ fn turn_item<'h>(
     requires at { AtChild heap.now path.old entry child opened }
     requires kind { HasItems entry.kind }
     ensures cells { path.new.cells ≡ path.old.cells }
-    ensures turn { IsTurn heap.now.cells path.old.entries path.new.entries (child_shown heap.now.cells child.entry) result }
+    ensures turn { TurnsAt heap.now path.old path.new child.entry result }
 {
     if let Opened::Bad(_, _) = opened {
         advance(path, opened, true, false);
@@ -307,7 +307,7 @@ fn turn_by<'h>(
 ) -> Turn<'h>
     requires at { AtChild heap.now path.old entry child opened }
     ensures cells { path.new.cells ≡ path.old.cells }
-    ensures turn { IsTurn heap.now.cells path.old.entries path.new.entries (child_shown heap.now.cells child.entry) result }
+    ensures turn { TurnsAt heap.now path.old path.new child.entry result }
 {
     match entry.kind {
         NodeKind::Cons => turn_list(heap, path, entry, child, opened),
@@ -333,7 +333,7 @@ pub(crate) fn visit_next<'h>(
     requires at { slice_get (children_of heap.now.cells entry.kind (number entry.cell)) entry.next ≡ Some (child_shown heap.now.cells child) }
     requires placed { IsChild heap.now.cells child }
     ensures cells { path.new.cells ≡ path.old.cells }
-    ensures turn { IsTurn heap.now.cells path.old.entries path.new.entries (child_shown heap.now.cells child.entry) result }
+    ensures turn { TurnsAt heap.now path.old path.new child.entry result }
 {
     let opened = open_child(heap, path, child);
     turn_by(heap, path, entry, child, opened)

@@ -2,7 +2,7 @@
 use heap_cells::Why;
 
 /// What a term is judged to be within a budget of nodes.
-#[derive(Clone, Copy, Debug, PartialEq, Eq)]
+#[derive(Clone, Copy)]
 pub enum Verdict {
     /// None of the nodes is bad.
     Clean,

@@ -3,7 +3,7 @@ ghost use Rattle.std.specs.Prelude.{◌≡◌, ◌<◌, false, IfOk};
 ghost use Rattle.dump_io.specs.Sinks.{Puts};
 ghost use Rattle.term_forms.specs.Seen.{element};
 ghost use Rattle.binary_refs.specs.Previews.{AreFor};
-ghost use Rattle.term_unfold.specs.Leaves.{leaf_text};
+ghost use Rattle.term_unfold.specs.Leaves.{leaves};
 ghost use Rattle.term_unfold.specs.Text.{show};
 ghost use Rattle.term_unfold.specs.Trees.{verdict};
 ghost use Rattle.term_unfold.specs.Unfolding.{unfolding_of};
@@ -89,7 +89,7 @@ impl<'h> Walker<'h> {
         requires budget { 0 < budget }
         requires clean { marked ≡ false → verdict (unfolding_of self.old.heap.cells (element root)) budget ≡ Verdict.Clean }
         ensures puts { Puts (K.state sink.old) (K.state sink.new)
-            (show (leaf_text self.old.heap.enc self.old.heap.cells self.old.previews) (unfolding_of self.old.heap.cells (element root.entry)) budget) result }
+            (show (leaves self.old.heap self.old.previews) (unfolding_of self.old.heap.cells (element root.entry)) budget) result }
         ensures same { self.new ≡ self.old }
     {
         let result = print_all(

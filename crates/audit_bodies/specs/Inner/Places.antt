@@ -1,11 +1,16 @@
 -- Where the bodies of an audit are.
-use Rattle.std.specs.Prelude.{◌≡◌, ◌<◌, Bool, [], length, All, if◌then◌else◌}
+use Rattle.std.specs.Prelude.{◌≡◌, ◌<◌, Bool, List, [], ◌++◌, length, All, if◌then◌else◌}
 use Rattle.dump_sections.specs.Index.{Contents, sections_in}
+use Rattle.dump_sections.specs.Sections.{Section}
 use Rattle.dump_sections.specs.Loading.{sections_at}
-use Rattle.process_table.specs.Records.{proc_places}
+use Rattle.process_table.specs.Records.{proc_places, record_sections}
 use Rattle.audit_bodies.specs.Mailboxes.{mailbox_places, mailboxes_at}
 use Rattle.audit_bodies.specs.Inner.Mailboxes.{IsWithin}
 use Rattle.audit_bodies.specs.declared.loading.BodyPlaces.{BodyPlaces}
+
+-- the sections whose bodies an audit loads: those of the processes, and the mailboxes that were found
+abbrev pub sections_found : Contents → BodyPlaces → List Section
+sections_found index places = record_sections (sections_in index) ++ mailboxes_at (sections_in index) places.mailboxes.items
 
 -- the bodies of an audit, from the index: the processes, in a
 -- full audit their mailboxes, and those mailboxes that are there

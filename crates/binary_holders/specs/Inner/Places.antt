@@ -1,13 +1,14 @@
 -- Where binaries and heaps stand.
-use Rattle.std.specs.Prelude.{◌≡◌, ◌≢◌, ℕ, ◌<◌, List, length, map, position, slice_index, Option, None, Some, IfSome, codes}
+use Rattle.std.specs.Prelude.{◌≡◌, ◌≢◌, ℕ, ◌<◌, ◌^◌, List, length, map, position, slice_index, Option, None, Some, IfSome, codes}
 use Rattle.std.specs.BTreeMap.{BTreeMap, get}
+use Rattle.std.specs.List.{sum_by}
 use Rattle.std.specs.Ordering.{nat_cmp}
 use Rattle.dump_sections.specs.Bodies.{section_in, body_in, body_size}
 use Rattle.dump_sections.specs.Index.{Contents}
 use Rattle.dump_sections.specs.Lookups.{is_named}
 use Rattle.dump_sections.specs.Sections.{Section}
 use Rattle.heap_cells.specs.Loading.{enc_of}
-use Rattle.binary_holders.specs.declared.sought.Binary.{Binary}
+use Rattle.binary_holders.specs.declared.targets.Binary.{Binary}
 use Rattle.binary_holders.specs.HeapReferences.{references}
 
 -- the place of a number among others, if no other place has it; `None` if it isn't among them
@@ -23,6 +24,12 @@ numbers_in binaries = map (λ binary. binary.number) binaries
 -- a tree has the place of each number, and no number occurs twice
 pub record ArePlaces (places : BTreeMap ℕ ℕ) (numbers : List ℕ) : Type 0 where
   pub only : (number : ℕ) → IsOnlyPlace numbers number (get nat_cmp places number)
+
+-- a tree has the place of the number of each binary, no number occurs twice, and this is the sum of the sizes, a number of 128 bits
+pub record AreTargets (tree : BTreeMap ℕ ℕ) (binaries : List Binary) (sum : ℕ) : Type 0 where
+  pub places : ArePlaces tree (numbers_in binaries)
+  pub total : sum ≡ sum_by (λ binary. binary.size) binaries
+  pub small : sum < 2 ^ 128
 
 -- the place of the heap of a pid: the first of the sections with heaps that has the pid
 abbrev pub heap_place : List Section → List ℕ → Option ℕ

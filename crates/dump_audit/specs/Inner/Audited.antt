@@ -7,7 +7,7 @@ use Rattle.link_entries.specs.Texts.{is_local}
 use Rattle.link_entries.specs.Lists.{Links}
 use Rattle.link_entries.specs.Entries.{LinkEntry}
 use Rattle.link_graph.specs.Graph.{links_of, graph_of}
-use Rattle.dump_audit.specs.Findings.{Audit, is_judged, process_place, names_gone}
+use Rattle.dump_audit.specs.Findings.{Audit, is_judged, process_place, names_gone, section_offset}
 use Rattle.dump_audit.specs.declared.audited.Holder.{Holder}
 use Rattle.dump_audit.specs.declared.audited.Partner.{Partner}
 use Rattle.dump_audit.specs.declared.audited.Partner.TheVariants.{At, Gone, Passed}
@@ -25,6 +25,10 @@ pub record IsKept (a : Audit) (links : List Links) (seen : State) (tests : List 
 -- the process of a holder
 abbrev pub held : Audit → Holder → Process
 held a holder = process_at a.processes holder.p
+
+-- where its section begins
+abbrev pub held_offset : Audit → Holder → ℕ
+held_offset a holder = section_offset a.index (held a holder)
 
 -- there is a process at this place, and the pid is its own
 pub record IsHolder (a : Audit) (holder : Holder) : Type 0 where

@@ -4,22 +4,22 @@ use Rattle.section_index.specs.declared.opening.OpenFault.TheVariants as open_fa
 use Rattle.binary_holders.specs.declared.faults.HolderFault.TheVariants as holder_faults
 use Rattle.dump_redact.specs.declared.faults.RedactFault.TheVariants as redact_faults
 use Rattle.json_report.specs.declared.putting.JsonFault.TheVariants as json_faults
-use Rattle.binary_refs.specs.declared.faults.BinFault.TheVariants as bin_faults
 use Rattle.binary_refs.specs.declared.faults.PreviewFault.TheVariants as preview_faults
 use Rattle.heap_cells.specs.declared.faults.HeapFault.TheVariants as heap_faults
 use Rattle.std.specs.Prelude.{◌≡◌, ℕ, Result, Ok, Err, Option, None, Some}
 use Rattle.dump_sections.specs.declared.bodies.BodyFault.{BodyFault}
+use Rattle.dump_sections.specs.declared.bodies.LargeSection.{LargeSection}
 use Rattle.section_index.specs.declared.opening.OpenFault.{OpenFault}
 use Rattle.binary_holders.specs.declared.faults.HolderFault.{HolderFault}
 use Rattle.dump_redact.specs.declared.faults.RedactFault.{RedactFault}
-use Rattle.report_text.specs.declared.refusals.Refusal.TheVariants.{Open, SectionTooLarge, TooDense, NoBinary, BadBinary}
+use Rattle.report_text.specs.declared.refusals.Refusal.TheVariants.{Open, SectionTooLarge, TooDense}
 use Rattle.report_text.specs.Refusals.{IsRefusal, refusal_line}
 use Rattle.json_report.specs.declared.putting.JsonFault.{JsonFault}
 use Rattle.dump_io.specs.Sinks.{SinkState, IsKept}
-use Rattle.binary_refs.specs.declared.faults.BinFault.{BinFault}
 use Rattle.binary_refs.specs.declared.faults.PreviewFault.{PreviewFault}
 use Rattle.heap_cells.specs.declared.faults.HeapFault.{HeapFault}
 use Rattle.report_text.specs.declared.refusals.Refusal.{Refusal}
+use Rattle.dump_command.specs.Report.{large_refusal}
 use Rattle.dump_command.specs.Run.{EndsTold}
 use Rattle.dump_command.specs.declared.stop.Stop.{Stop}
 use Rattle.dump_command.specs.declared.stop.Stop.TheVariants.{Refused, NotRead, NotWritten, NoMemory}
@@ -35,6 +35,10 @@ abbrev pub stop_of_body : BodyFault → Stop
 stop_of_body body_faults.Read = NotRead
 stop_of_body body_faults.Memory = NoMemory
 stop_of_body (body_faults.SectionTooLarge at len) = Refused (SectionTooLarge at len)
+
+-- the stop of a command one of whose bodies is too large
+abbrev pub stop_of_large : LargeSection → Stop
+stop_of_large large = Refused (large_refusal large)
 
 -- the stop of a command whose JSON text isn't written
 abbrev pub stop_of_json : JsonFault → Stop
@@ -89,14 +93,6 @@ stop_of_heap (heap_faults.TooDense count) = Refused (TooDense count)
 abbrev pub stop_of_previews : PreviewFault → Stop
 stop_of_previews preview_faults.Read = NotRead
 stop_of_previews preview_faults.Memory = NoMemory
-
--- the stop of a command for which the binary at this address isn't available
-abbrev pub stop_of_binary : ℕ → BinFault → Stop
-stop_of_binary addr bin_faults.NoBinary = Refused (NoBinary addr)
-stop_of_binary addr (bin_faults.SectionTooLarge at len) = Refused (SectionTooLarge at len)
-stop_of_binary addr (bin_faults.BadBinary at) = Refused (BadBinary at)
-stop_of_binary addr bin_faults.Read = NotRead
-stop_of_binary addr bin_faults.Memory = NoMemory
 
 -- if there is no cause of a refusal, the command goes on, and otherwise
 -- it is refused for that cause; memory may be lacking at any time

@@ -6,7 +6,7 @@ ghost use Rattle.dump_audit.specs.Fitting.{Fits};
 ghost use Rattle.link_graph.specs.Graph.{graph_of};
 ghost use Rattle.command_words.specs.Command.{audit};
 ghost use Rattle.dump_command.specs.Audits.{status_of};
-ghost use Rattle.dump_command.specs.Inner.Loads.{audit_status, audit_text, loaded_audit};
+ghost use Rattle.dump_command.specs.Inner.Loads.{loaded_audit};
 
 use crate::open::Opened;
 use crate::report::Report;
@@ -20,8 +20,7 @@ use link_graph::Graph;
 use std::alloc::AllocError;
 
 #[derive(Clone, Copy)]
-pub(crate) struct Audit<'a> {
-    pub(crate) file: &'a str,
+pub(crate) struct Audit {
     pub(crate) limit: u64,
     pub(crate) full: bool,
 }
@@ -35,7 +34,8 @@ pub(super) fn find(
 ) -> Result<Vec<Finding>, AllocError>
     requires auditable { IsAuditable at.now.index.now loaded.now }
     requires graph { graph.now ≡ graph_of loaded.now.procs.processes }
-    ensures found { IfOk result (λ found. found.items ≡ findings (loaded_audit limit at.now.index.now loaded.now)) }
+    ensures found { let audited = loaded_audit limit at.now.index.now loaded.now in
+        IfOk result (λ found. found.items ≡ findings audited) }
     ensures fits { IfOk result (λ found. All (Fits loaded.now.procs.processes) found.items) }
 {
     let AuditBodies { procs, mails } = loaded;
@@ -49,20 +49,14 @@ pub(super) fn status(findings: &[Finding]) -> u8
     if findings.is_empty() { DONE } else { FOUND }
 }
 
-impl Report for Audit<'_> {
+impl Report for Audit {
     type Loaded = AuditBodies;
 
-    ghost command = { λ c. audit c.file.now c.limit c.full };
+    ghost asks = { λ c. audit c.limit c.full };
 
-    ghost text = { λ c index loaded. audit_text c.limit index loaded };
-
-    ghost status = { λ c index loaded. audit_status c.limit index loaded };
+    ghost seen = { λ c index loaded. loaded_audit c.limit index loaded };
 
     ghost fits = { λ _ index loaded. IsAuditable index loaded };
-
-    fn file(&self) -> &str {
-        self.file
-    }
 
     fn read<D: Dumps>(&self, at: &Opened<'_>, dumps: &mut D) -> Result<AuditBodies, Stop> {
         or_stop(AuditBodies::load(at.alloc, dumps, at.index, self.full, at.limits))

@@ -1,7 +1,7 @@
 // `audit-json`: the findings of an audit as one JSON text.
 ghost use Rattle.audit_bodies.specs.Bodies.{IsAuditable};
 ghost use Rattle.command_words.specs.Command.{audit_json};
-ghost use Rattle.dump_command.specs.Inner.Loads.{audit_status, json_of};
+ghost use Rattle.dump_command.specs.Inner.Loads.{loaded_audit};
 
 use super::audit::{find, status};
 use crate::open::Opened;
@@ -13,26 +13,19 @@ use json_report::put_findings;
 use link_graph::Graph;
 
 #[derive(Clone, Copy)]
-pub(crate) struct AuditJson<'a> {
-    pub(crate) file: &'a str,
+pub(crate) struct AuditJson {
     pub(crate) limit: u64,
     pub(crate) full: bool,
 }
 
-impl Report for AuditJson<'_> {
+impl Report for AuditJson {
     type Loaded = AuditBodies;
 
-    ghost command = { λ c. audit_json c.file.now c.limit c.full };
+    ghost asks = { λ c. audit_json c.limit c.full };
 
-    ghost text = { λ c index loaded. json_of c.limit index loaded };
-
-    ghost status = { λ c index loaded. audit_status c.limit index loaded };
+    ghost seen = { λ c index loaded. loaded_audit c.limit index loaded };
 
     ghost fits = { λ _ index loaded. IsAuditable index loaded };
-
-    fn file(&self) -> &str {
-        self.file
-    }
 
     fn read<D: Dumps>(&self, at: &Opened<'_>, dumps: &mut D) -> Result<AuditBodies, Stop> {
         or_stop(AuditBodies::load(at.alloc, dumps, at.index, self.full, at.limits))

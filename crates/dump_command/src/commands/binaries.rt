@@ -1,8 +1,7 @@
 // `binaries`: which processes hold how much of the binaries outside the heaps.
 ghost use Rattle.command_words.specs.Command.{binaries};
 ghost use Rattle.binary_holders.specs.Usage.{shown_use};
-ghost use Rattle.glance_text.specs.Holders.{binaries_report};
-ghost use Rattle.dump_command.specs.Inner.Loads.{AreNamed};
+ghost use Rattle.dump_command.specs.Inner.Loads.{seen_held, AreNamed};
 
 use crate::open::Opened;
 use crate::report::Report;
@@ -14,9 +13,7 @@ use glance_text::put_binaries;
 use process_table::Procs;
 
 #[derive(Clone, Copy)]
-pub(crate) struct Binaries<'a> {
-    pub(crate) file: &'a str,
-}
+pub(crate) struct Binaries;
 
 /// The processes, and what they hold.
 #[derive(Drop)]
@@ -25,18 +22,14 @@ pub(crate) struct Loaded {
     found: BinaryUse,
 }
 
-impl Report for Binaries<'_> {
+impl Report for Binaries {
     type Loaded = Loaded;
 
-    ghost command = { λ c. binaries c.file.now };
+    ghost asks = { λ _. binaries };
 
-    ghost text = { λ _ index loaded. binaries_report index loaded.procs.processes (shown_use loaded.found) };
+    ghost seen = { λ _ index loaded. seen_held index loaded.procs (shown_use loaded.found) };
 
     ghost fits = { λ _ index loaded. AreNamed index loaded.procs loaded.found.held.items };
-
-    fn file(&self) -> &str {
-        self.file
-    }
 
     fn read<D: Dumps>(&self, at: &Opened<'_>, dumps: &mut D) -> Result<Loaded, Stop> {
         let procs = Procs::load(at.alloc, dumps, at.index, at.limits)?;

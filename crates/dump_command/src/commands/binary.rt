@@ -1,56 +1,52 @@
 // `binary`: the bytes of a binary.
-ghost use Rattle.std.specs.Prelude.{◌≡◌};
+ghost use Rattle.std.specs.Prelude.{◌≡◌, Some, IfOk};
+ghost use Rattle.binary_refs.specs.Wholes.{bytes_of_body};
 ghost use Rattle.command_words.specs.Command.{binary};
-ghost use Rattle.term_text.specs.Roots.{binary_report};
-ghost use Rattle.dump_command.specs.Inner.Stops.{stop_of_binary};
+ghost use Rattle.dump_command.specs.Terms.{malformed_cause};
+ghost use Rattle.dump_command.specs.Inner.Stops.{Judges};
 
+use crate::commands::subjects::{Body, find_binary, read_found};
 use crate::open::Opened;
 use crate::report::Report;
 use crate::status::DONE;
 use crate::stop::Stop;
-use binary_refs::{BinFault, whole};
+use binary_refs::bytes_of_body;
 use dump_io::{Dumps, Sink};
+use heap_cells::enc_of;
 use report_text::Refusal;
+use std::alloc::Global;
+use term_forms::Enc;
 use term_text::put_binary;
 
 #[derive(Clone, Copy)]
-pub(crate) struct Binary<'a> {
-    pub(crate) file: &'a str,
+pub(crate) struct Binary {
     pub(crate) addr: u64,
 }
 
-// The stop of a command that asks for the binary at an address.
-fn stop_of(fault: BinFault, addr: u64) -> Stop
-    ensures { result ≡ stop_of_binary addr fault }
+// The bytes that a body writes. It is refused if it is malformed; `at` is the offset of its section.
+fn read_bytes(alloc: Global, enc: Enc, body: &Body, at: u64) -> Result<Vec<u8>, Stop>
+    ensures judges { Judges (malformed_cause at (bytes_of_body enc body.now.bytes.items)) result }
+    ensures bytes { IfOk result (λ bytes.
+        bytes_of_body enc body.now.bytes.items ≡ Some bytes.items) }
 {
-    match fault {
-        BinFault::NoBinary => Stop::Refused(Refusal::NoBinary { addr }),
-        BinFault::SectionTooLarge { at, len } => Stop::Refused(Refusal::SectionTooLarge {
-            at,
-            len,
-        }),
-        BinFault::BadBinary { at } => Stop::Refused(Refusal::BadBinary { at }),
-        BinFault::Read => Stop::NotRead,
-        BinFault::Memory => Stop::NoMemory,
+    match bytes_of_body(alloc, enc, &body.bytes)? {
+        Some(bytes) => Ok(bytes),
+        None => Err(Stop::Refused(Refusal::BadBinary { at })),
     }
 }
 
-impl Report for Binary<'_> {
+impl Report for Binary {
     type Loaded = Vec<u8>;
 
-    ghost command = { λ c. binary c.file.now c.addr };
+    ghost asks = { λ c. binary c.addr };
 
-    ghost text = { λ c _ bytes. binary_report c.addr bytes.items };
-
-    fn file(&self) -> &str {
-        self.file
-    }
+    ghost seen = { λ _ _ bytes. bytes.items };
 
     fn read<D: Dumps>(&self, at: &Opened<'_>, dumps: &mut D) -> Result<Vec<u8>, Stop> {
-        match whole(at.alloc, dumps, at.index, self.addr, at.limits) {
-            Ok(bytes) => Ok(bytes),
-            Err(fault) => Err(stop_of(fault, self.addr)),
-        }
+        let place = find_binary(at, self.addr)?;
+        let body = read_found(at, dumps, Some(place))?;
+        let enc = enc_of(at.index.version());
+        read_bytes(at.alloc, enc, &body, at.index.section(place).at)
     }
 
     fn put<K: Sink>(&self, _at: &Opened<'_>, bytes: &Vec<u8>, out: &mut K) -> Result<u8, Stop> {

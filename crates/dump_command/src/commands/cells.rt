@@ -13,20 +13,15 @@ use term_text::put_cells;
 
 #[derive(Clone, Copy)]
 pub(crate) struct Cells<'a> {
-    pub(crate) file: &'a str,
     pub(crate) pid: &'a [u8],
 }
 
 impl Report for Cells<'_> {
     type Loaded = Heap;
 
-    ghost command = { λ c. cells c.file.now c.pid.now };
+    ghost asks = { λ c. cells c.pid.now };
 
-    ghost text = { λ _ _ heap. cells_report heap };
-
-    fn file(&self) -> &str {
-        self.file
-    }
+    ghost seen = { λ _ _ heap. heap };
 
     fn read<D: Dumps>(&self, at: &Opened<'_>, dumps: &mut D) -> Result<Heap, Stop> {
         load_heap(at, dumps, self.pid, None)

@@ -23,7 +23,6 @@ use term_text::put_ext;
 
 #[derive(Clone, Copy)]
 pub(crate) struct Ext<'a> {
-    pub(crate) file: &'a str,
     pub(crate) pid: &'a [u8],
     pub(crate) addr: u64,
 }
@@ -38,11 +37,7 @@ fn external_at(alloc: Global, heap: &Heap, addr: u64) -> Result<Option<Vec<u8>>,
     let Some(Form::Ext(size, chars)) = heap.form(ix) else {
         return Ok(None);
     };
-    match decode_payload(alloc, heap.enc(), size, chars)? {
-        Some(bytes) => Ok(Some(bytes)),
-        // There is no such cell, since a form is read only if its characters are a payload.
-        None => Ok(Some(Vec::new(alloc))),
-    }
+    decode_payload(alloc, heap.enc(), size, chars)
 }
 
 // The bytes of the external term at an address. They are refused if the heap has no
@@ -65,15 +60,11 @@ fn read_external(alloc: Global, heap: &Heap, addr: u64) -> Result<Vec<u8>, Stop>
 impl Report for Ext<'_> {
     type Loaded = Vec<u8>;
 
-    ghost command = { λ c. ext c.file.now c.pid.now c.addr };
+    ghost asks = { λ c. ext c.pid.now c.addr };
 
-    ghost text = { λ _ _ bytes. ext_report bytes.items };
+    ghost seen = { λ _ _ bytes. bytes.items };
 
     ghost fits = { λ _ _ bytes. bad_place bytes.items ≡ None };
-
-    fn file(&self) -> &str {
-        self.file
-    }
 
     fn read<D: Dumps>(&self, at: &Opened<'_>, dumps: &mut D) -> Result<Vec<u8>, Stop> {
         let heap = load_heap(at, dumps, self.pid, None)?;

@@ -1,7 +1,6 @@
 // `holders`: which processes hold a binary.
 ghost use Rattle.command_words.specs.Command.{holders};
-ghost use Rattle.glance_text.specs.Holders.{holders_report};
-ghost use Rattle.dump_command.specs.Inner.Loads.{AreNamed};
+ghost use Rattle.dump_command.specs.Inner.Loads.{seen_held, AreNamed};
 
 use crate::commands::subjects::find_binary;
 use crate::open::Opened;
@@ -14,8 +13,7 @@ use glance_text::put_holders;
 use process_table::Procs;
 
 #[derive(Clone, Copy)]
-pub(crate) struct Holders<'a> {
-    pub(crate) file: &'a str,
+pub(crate) struct Holders {
     pub(crate) addr: u64,
 }
 
@@ -26,18 +24,14 @@ pub(crate) struct Loaded {
     held: Vec<Holding>,
 }
 
-impl Report for Holders<'_> {
+impl Report for Holders {
     type Loaded = Loaded;
 
-    ghost command = { λ c. holders c.file.now c.addr };
+    ghost asks = { λ c. holders c.addr };
 
-    ghost text = { λ _ index loaded. holders_report index loaded.procs.processes loaded.held.items };
+    ghost seen = { λ _ index loaded. seen_held index loaded.procs loaded.held.items };
 
     ghost fits = { λ _ index loaded. AreNamed index loaded.procs loaded.held.items };
-
-    fn file(&self) -> &str {
-        self.file
-    }
 
     fn read<D: Dumps>(&self, at: &Opened<'_>, dumps: &mut D) -> Result<Loaded, Stop> {
         find_binary(at, self.addr)?;

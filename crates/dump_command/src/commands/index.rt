@@ -1,6 +1,5 @@
 // `index`: the sections of a dump and its state.
-ghost use Rattle.report_text.specs.Reports.{index_report};
-ghost use Rattle.command_words.specs.Command.{Command};
+ghost use Rattle.command_words.specs.Command.{Ask};
 
 use crate::open::Opened;
 use crate::report::Report;
@@ -10,20 +9,14 @@ use dump_io::{Dumps, Sink};
 use report_text::put_index;
 
 #[derive(Clone, Copy)]
-pub(crate) struct Index<'a> {
-    pub(crate) file: &'a str,
-}
+pub(crate) struct Index;
 
-impl Report for Index<'_> {
+impl Report for Index {
     type Loaded = ();
 
-    ghost command = { λ c. Command.index c.file.now };
+    ghost asks = { λ _. Ask.index };
 
-    ghost text = { λ _ index _. index_report index.headers index.size };
-
-    fn file(&self) -> &str {
-        self.file
-    }
+    ghost seen = { λ _ index _. index };
 
     fn read<D: Dumps>(&self, _at: &Opened<'_>, _dumps: &mut D) -> Result<(), Stop> {
         Ok(())

@@ -1,6 +1,6 @@
 // `info`: version, size, counts, slogan, tags and state of a dump.
 ghost use Rattle.command_words.specs.Command.{info};
-ghost use Rattle.dump_command.specs.Inner.Loads.{info_text};
+ghost use Rattle.dump_command.specs.Inner.Loads.{seen_overview};
 
 use crate::commands::subjects::{Body, read_found};
 use crate::open::Opened;
@@ -12,20 +12,14 @@ use dump_sections::Tags;
 use report_text::put_info;
 
 #[derive(Clone, Copy)]
-pub(crate) struct Info<'a> {
-    pub(crate) file: &'a str,
-}
+pub(crate) struct Info;
 
-impl Report for Info<'_> {
+impl Report for Info {
     type Loaded = Body;
 
-    ghost command = { λ c. info c.file.now };
+    ghost asks = { λ _. info };
 
-    ghost text = { λ _ index body. info_text index body };
-
-    fn file(&self) -> &str {
-        self.file
-    }
+    ghost seen = { λ _ index body. seen_overview index body };
 
     fn read<D: Dumps>(&self, at: &Opened<'_>, dumps: &mut D) -> Result<Body, Stop> {
         or_stop(read_found(at, dumps, Some(0)))

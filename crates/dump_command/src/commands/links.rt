@@ -12,20 +12,14 @@ use process_table::Procs;
 use report_text::put_links;
 
 #[derive(Clone, Copy)]
-pub(crate) struct Links<'a> {
-    pub(crate) file: &'a str,
-}
+pub(crate) struct Links;
 
-impl Report for Links<'_> {
+impl Report for Links {
     type Loaded = Procs;
 
-    ghost command = { λ c. links c.file.now };
+    ghost asks = { λ _. links };
 
-    ghost text = { λ _ _ procs. links_report procs.processes };
-
-    fn file(&self) -> &str {
-        self.file
-    }
+    ghost seen = { λ _ _ procs. procs };
 
     fn read<D: Dumps>(&self, at: &Opened<'_>, dumps: &mut D) -> Result<Procs, Stop> {
         or_stop(Procs::load(at.alloc, dumps, at.index, at.limits))

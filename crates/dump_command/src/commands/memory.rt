@@ -1,6 +1,6 @@
 // `memory`: the fields of the first section on memory.
 ghost use Rattle.command_words.specs.Command.{memory};
-ghost use Rattle.dump_command.specs.Inner.Loads.{fields_text, HasPlaces};
+ghost use Rattle.dump_command.specs.Inner.Loads.{shown_body, HasPlaces};
 
 use crate::commands::subjects::{Body, read_found};
 use crate::open::Opened;
@@ -11,22 +11,16 @@ use dump_io::{Dumps, Sink};
 use report_text::put_fields;
 
 #[derive(Clone, Copy)]
-pub(crate) struct Memory<'a> {
-    pub(crate) file: &'a str,
-}
+pub(crate) struct Memory;
 
-impl Report for Memory<'_> {
+impl Report for Memory {
     type Loaded = Body;
 
-    ghost command = { λ c. memory c.file.now };
+    ghost asks = { λ _. memory };
 
-    ghost text = { λ _ _ body. fields_text body };
+    ghost seen = { λ _ _ body. shown_body body };
 
     ghost fits = { λ _ _ body. HasPlaces body };
-
-    fn file(&self) -> &str {
-        self.file
-    }
 
     fn read<D: Dumps>(&self, at: &Opened<'_>, dumps: &mut D) -> Result<Body, Stop> {
         let place = at.index.first_tag(b"memory");

@@ -1,6 +1,6 @@
 // `proc`: the fields of a process.
 ghost use Rattle.command_words.specs.Command.{proc};
-ghost use Rattle.dump_command.specs.Inner.Loads.{fields_text, HasPlaces};
+ghost use Rattle.dump_command.specs.Inner.Loads.{shown_body, HasPlaces};
 
 use crate::commands::subjects::{Body, find_process, read_found};
 use crate::open::Opened;
@@ -12,22 +12,17 @@ use report_text::put_fields;
 
 #[derive(Clone, Copy)]
 pub(crate) struct Proc<'a> {
-    pub(crate) file: &'a str,
     pub(crate) pid: &'a [u8],
 }
 
 impl Report for Proc<'_> {
     type Loaded = Body;
 
-    ghost command = { λ c. proc c.file.now c.pid.now };
+    ghost asks = { λ c. proc c.pid.now };
 
-    ghost text = { λ _ _ body. fields_text body };
+    ghost seen = { λ _ _ body. shown_body body };
 
     ghost fits = { λ _ _ body. HasPlaces body };
-
-    fn file(&self) -> &str {
-        self.file
-    }
 
     fn read<D: Dumps>(&self, at: &Opened<'_>, dumps: &mut D) -> Result<Body, Stop> {
         let place = find_process(at, self.pid)?;

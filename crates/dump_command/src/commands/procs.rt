@@ -11,20 +11,14 @@ use process_table::Procs;
 use report_text::put_procs;
 
 #[derive(Clone, Copy)]
-pub(crate) struct ProcessTable<'a> {
-    pub(crate) file: &'a str,
-}
+pub(crate) struct ProcessTable;
 
-impl Report for ProcessTable<'_> {
+impl Report for ProcessTable {
     type Loaded = Procs;
 
-    ghost command = { λ c. procs c.file.now };
+    ghost asks = { λ _. procs };
 
-    ghost text = { λ _ _ table. procs_report table };
-
-    fn file(&self) -> &str {
-        self.file
-    }
+    ghost seen = { λ _ _ table. table };
 
     fn read<D: Dumps>(&self, at: &Opened<'_>, dumps: &mut D) -> Result<Procs, Stop> {
         or_stop(Procs::load(at.alloc, dumps, at.index, at.limits))

@@ -2,12 +2,12 @@
 ghost use Rattle.std.specs.Prelude.{◌≡◌, ◌<◌, [], length, IfOk, IfErr, IfSome};
 ghost use Rattle.dump_io.specs.Dumps.{ReadsAtMost};
 ghost use Rattle.dump_sections.specs.Index.{sections_in, IsBuiltOver};
-ghost use Rattle.dump_sections.specs.Loading.{bodies_length, first_large, large_fault};
+ghost use Rattle.dump_sections.specs.Loading.{bodies_length, large_fault};
 ghost use Rattle.dump_sections.specs.Bodies.{section_in};
 ghost use Rattle.heap_reach.specs.Rounds.{IsReachOf};
 ghost use Rattle.command_words.specs.Command.{reach};
-ghost use Rattle.dump_trial.specs.Trial.{root_section};
-ghost use Rattle.dump_command.specs.Inner.Loads.{reach_text, roots_at, terms_loaded, ArePlaces, AreWithin, HoldsRoots, AreUnread};
+ghost use Rattle.root_views.specs.Sections.{root_section};
+ghost use Rattle.dump_command.specs.Inner.Loads.{seen_reach, roots_at, terms_loaded, ArePlaces, AreWithin, HoldsRoots, AreUnread};
 
 use crate::commands::subjects::{Body, load_behind, read_found};
 use crate::open::Opened;
@@ -15,14 +15,13 @@ use crate::report::Report;
 use crate::status::DONE;
 use crate::stop::Stop;
 use dump_io::{Dumps, Sink};
-use dump_sections::{BodyFault, large_body};
+use dump_sections::{BodyFault, LargeSection, large_body};
 use heap_cells::Heap;
 use root_views::RootKind;
 use term_text::{add_roots, put_reach};
 
 #[derive(Clone, Copy)]
 pub(crate) struct Reach<'a> {
-    pub(crate) file: &'a str,
     pub(crate) pid: &'a [u8],
 }
 
@@ -50,7 +49,8 @@ pub(crate) struct Loaded {
 }
 
 fn place_of(at: &Opened<'_>, kind: RootKind, pid: &[u8]) -> Option<usize>
-    ensures section { section_in at.now.index.now result ≡ root_section kind pid.now (sections_in at.now.index.now) }
+    ensures section { let index = at.now.index.now in
+        section_in index result ≡ root_section kind pid.now (sections_in index) }
     ensures within { IfSome result (λ i. i < length at.now.index.now.headers) }
 {
     at.index.first(kind.tag(), Some(pid))
@@ -67,8 +67,8 @@ fn root_places(at: &Opened<'_>, pid: &[u8]) -> RootPlaces
     }
 }
 
-// The refusal of the first of the sections whose body has more bytes than the limit.
-fn large_roots(at: &Opened<'_>, places: RootPlaces) -> Option<BodyFault>
+// The first of the sections whose body has more bytes than the limit.
+fn large_roots(at: &Opened<'_>, places: RootPlaces) -> Option<LargeSection>
     requires { AreWithin at.now.index.now places }
     ensures { result ≡ large_fault at.now.limits.now.section (roots_at at.now.index.now places) }
 {
@@ -86,9 +86,11 @@ fn read_roots<D: Dumps>(
 ) -> Result<RootBodies, BodyFault>
     requires over { IsBuiltOver (D.state dumps.old).now at.now.index.now }
     requires within { AreWithin at.now.index.now places }
-    ensures reads { ReadsAtMost (D.state dumps.old) (D.state dumps.new) (bodies_length (roots_at at.now.index.now places)) }
+    ensures reads { ReadsAtMost (D.state dumps.old) (D.state dumps.new)
+        (bodies_length (roots_at at.now.index.now places)) }
     ensures bodies { IfOk result (HoldsRoots at.now.index.now (D.state dumps.old).now places) }
-    ensures fault { IfErr result (AreUnread (first_large at.now.limits.now.section (roots_at at.now.index.now places)) (D.state dumps.old) (D.state dumps.new)) }
+    ensures fault { let roots = roots_at at.now.index.now places in
+        IfErr result (AreUnread (large_fault at.now.limits.now.section roots) (D.state dumps.old) (D.state dumps.new)) }
 {
     let stack = read_found(at, dumps, places.stack)?;
     let dict = read_found(at, dumps, places.dict)?;
@@ -110,13 +112,9 @@ fn add_all(reach: &mut heap_reach::Reach<'_>, roots: &RootBodies)
 impl Report for Reach<'_> {
     type Loaded = Loaded;
 
-    ghost command = { λ c. reach c.file.now c.pid.now };
+    ghost asks = { λ c. reach c.pid.now };
 
-    ghost text = { λ _ _ loaded. reach_text loaded };
-
-    fn file(&self) -> &str {
-        self.file
-    }
+    ghost seen = { λ _ _ loaded. seen_reach loaded };
 
     fn read<D: Dumps>(&self, at: &Opened<'_>, dumps: &mut D) -> Result<Loaded, Stop> {
         let places = root_places(at, self.pid);

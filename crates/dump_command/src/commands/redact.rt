@@ -1,6 +1,6 @@
 // `redact`: the dump with its binary payloads made zero. It is written while the dump is read.
 ghost use Rattle.std.specs.Prelude.{◌≡◌};
-ghost use Rattle.command_words.specs.Command.{redact};
+ghost use Rattle.command_words.specs.Command.{on, redact};
 ghost use Rattle.dump_command.specs.Inner.Runs.{Runs};
 ghost use Rattle.dump_command.specs.Inner.Stops.{redact_end};
 
@@ -27,7 +27,8 @@ pub(crate) fn run_redact<D: Dumps, K: Sink>(
     dumps: &mut D,
     out: &mut K,
 ) -> Result<u8, Stop>
-    ensures { Runs (redact file.now) limits.now (D.state dumps.old) (D.state dumps.new) (K.state out.old) (K.state out.new) result }
+    ensures { Runs (on file.now redact) limits.now
+        (D.state dumps.old) (D.state dumps.new) (K.state out.old) (K.state out.new) result }
 {
     let index = open(alloc, file, limits, dumps)?;
     ended(redact(alloc, dumps, &index, limits, out))

@@ -1,8 +1,8 @@
 // `stack`, `dict` and `mail`: the roots of a process.
-ghost use Rattle.std.specs.Prelude.{◌≡◌, ◌<◌};
+ghost use Rattle.std.specs.Prelude.{◌<◌};
 ghost use Rattle.binary_refs.specs.Previews.{AreFor};
 ghost use Rattle.command_words.specs.Command.{roots};
-ghost use Rattle.dump_command.specs.Inner.Loads.{HasPlaces, roots_text};
+ghost use Rattle.dump_command.specs.Inner.Loads.{HasPlaces, seen_roots};
 
 use crate::commands::subjects::{Body, load_heap, read_found};
 use crate::open::Opened;
@@ -18,32 +18,10 @@ use term_unfold::Walker;
 
 #[derive(Clone, Copy)]
 pub(crate) struct Roots<'a> {
-    pub(crate) file: &'a str,
     pub(crate) pid: &'a [u8],
     pub(crate) kind: RootKind,
     pub(crate) nodes: u32,
     pub(crate) marked: bool,
-}
-
-impl<'a> Roots<'a> {
-    pub(crate) fn new(
-        kind: RootKind,
-        file: &'a str,
-        pid: &'a str,
-        nodes: u32,
-        marked: bool,
-    ) -> Roots<'a>
-        ensures command { roots result.kind result.file.now result.pid.now result.nodes result.marked ≡ roots kind file.now pid.now nodes marked }
-        ensures nodes { result.nodes ≡ nodes }
-    {
-        Roots {
-            file,
-            pid: pid.as_bytes(),
-            kind,
-            nodes,
-            marked,
-        }
-    }
 }
 
 /// The body with the roots, and the heap to which they refer.
@@ -57,17 +35,14 @@ pub(crate) struct Loaded {
 impl Report for Roots<'_> {
     type Loaded = Loaded;
 
-    ghost command = { λ c. roots c.kind c.file.now c.pid.now c.nodes c.marked };
+    ghost asks = { λ c. roots c.kind c.pid.now c.nodes c.marked };
 
-    ghost text = { λ c _ loaded. roots_text c.kind c.nodes c.marked loaded };
+    ghost seen = { λ _ _ loaded. seen_roots loaded };
 
     ghost asked = { λ c. 0 < c.nodes };
 
-    ghost fits = { λ _ _ loaded. HasPlaces loaded.body × AreFor loaded.heap.cells loaded.previews };
-
-    fn file(&self) -> &str {
-        self.file
-    }
+    ghost fits = { λ _ _ loaded.
+        HasPlaces loaded.body × AreFor loaded.heap.cells loaded.previews };
 
     fn read<D: Dumps>(&self, at: &Opened<'_>, dumps: &mut D) -> Result<Loaded, Stop> {
         let place = at.index.first(self.kind.tag(), Some(self.pid));

@@ -1,25 +1,23 @@
 // What commands find on the index of a dump and read from it:
 // a process, the body of a section, the heap of a process.
-ghost use Rattle.std.specs.Prelude.{◌≡◌, ◌<◌, List, length, None, Some, IfOk, IfSome, IsSome, MatchResult};
-ghost use Rattle.dump_io.specs.Dumps.{ReadsAtMost};
+ghost use Rattle.std.specs.Prelude.{◌≡◌, ◌<◌, List, length, None, Some, IfOk, IfSome};
 ghost use Rattle.heap_cells.specs.HeapMap.{number_at};
-ghost use Rattle.heap_cells.specs.Loading.{heap_bodies};
 ghost use Rattle.dump_sections.specs.Bodies.{section_at, section_in};
 ghost use Rattle.dump_sections.specs.Index.{IsBuiltOver, sections_in};
 ghost use Rattle.dump_sections.specs.Sections.{Section};
-ghost use Rattle.dump_sections.specs.Loading.{bodies_length, large_fault, LoadsBodies};
-ghost use Rattle.dump_command.specs.Report.{no_process, process_section};
+ghost use Rattle.dump_sections.specs.Loading.{large_fault, LoadsBodies};
+ghost use Rattle.dump_command.specs.Meaning.{no_process, process_section};
 ghost use Rattle.std.specs.Option.{option_to_list};
 ghost use Rattle.dump_command.specs.Terms.{address_cause, binary_cause};
 ghost use Rattle.stored_binaries.specs.StoredBinaries.{binary_section};
-ghost use Rattle.dump_command.specs.Inner.Reading.{heap_listed, HoldsHeap, IsHeapless};
+ghost use Rattle.dump_command.specs.Inner.Reading.{GivesHeap};
 ghost use Rattle.dump_command.specs.Inner.Loads.{IsBodyFound};
 ghost use Rattle.dump_command.specs.Inner.Stops.{Judges};
 
 use crate::open::Opened;
 use crate::stop::Stop;
 use dump_io::{Dumps, Text};
-use dump_sections::{BodyFault, large_body, read_body};
+use dump_sections::{BodyFault, LargeSection, large_body, read_body};
 use heap_cells::{Heap, Seat};
 use report_text::Refusal;
 
@@ -27,7 +25,8 @@ use report_text::Refusal;
 pub(crate) fn find_process(at: &Opened<'_>, pid: &[u8]) -> Result<usize, Stop>
     ensures judges { Judges (no_process pid.now (sections_in at.now.index.now)) result }
     ensures within { IfOk result (λ i. i < length at.now.index.now.headers) }
-    ensures there { IfOk result (λ i. process_section pid.now (sections_in at.now.index.now) ≡ Some (section_at at.now.index.now i)) }
+    ensures there { let index = at.now.index.now in
+        IfOk result (λ i. process_section pid.now (sections_in index) ≡ Some (section_at index i)) }
 {
     let Some(place) = at.index.first(b"proc", Some(pid)) else {
         let pid = Vec::from_slice(at.alloc, pid)?;
@@ -36,14 +35,18 @@ pub(crate) fn find_process(at: &Opened<'_>, pid: &[u8]) -> Result<usize, Stop>
     Ok(place)
 }
 
-/// Refuses an address for which there is no section of a binary.
-pub(crate) fn find_binary(at: &Opened<'_>, addr: u64) -> Result<(), Stop>
-    ensures { Judges (binary_cause addr (binary_section addr (sections_in at.now.index.now))) result }
+/// The place of the section of a binary. An address without such a section is refused.
+pub(crate) fn find_binary(at: &Opened<'_>, addr: u64) -> Result<usize, Stop>
+    ensures judges { let found = binary_section addr (sections_in at.now.index.now) in
+        Judges (binary_cause addr found) result }
+    ensures within { IfOk result (λ i. i < length at.now.index.now.headers) }
+    ensures there { let index = at.now.index.now in
+        IfOk result (λ i. binary_section addr (sections_in index) ≡ Some (section_at index i)) }
 {
-    match at.index.first_hex(b"binary", addr) {
-        None => Err(Stop::Refused(Refusal::NoBinary { addr })),
-        Some(_) => Ok(()),
-    }
+    let Some(place) = at.index.first_hex(b"binary", addr) else {
+        return Err(Stop::Refused(Refusal::NoBinary { addr }));
+    };
+    Ok(place)
 }
 
 /// The body of a section, and its offset in the file.
@@ -61,8 +64,10 @@ pub(crate) fn read_found<D: Dumps>(
 ) -> Result<Body, BodyFault>
     requires over { IsBuiltOver (D.state dumps.old).now at.now.index.now }
     requires place { IfSome place (λ i. i < length at.now.index.now.headers) }
-    ensures loads { LoadsBodies D.state (option_to_list (section_in at.now.index.now place)) at.now.limits.now.section dumps.old dumps.new result }
-    ensures body { IfOk result (IsBodyFound (D.state dumps.old).now (section_in at.now.index.now place)) }
+    ensures loads { let bodies = option_to_list (section_in at.now.index.now place) in
+        LoadsBodies D.state bodies at.now.limits.now.section dumps.old dumps.new result }
+    ensures body { let found = section_in at.now.index.now place in
+        IfOk result (IsBodyFound (D.state dumps.old).now found) }
 {
     let Some(i) = place else {
         return Ok(Body {
@@ -85,35 +90,27 @@ pub(crate) fn load_heap<D: Dumps>(
 ) -> Result<Heap, Stop>
     requires over { IsBuiltOver (D.state dumps.old).now at.now.index.now }
     requires place { IfSome place (λ i. i < length at.now.index.now.headers) }
-    ensures reads { ReadsAtMost (D.state dumps.old) (D.state dumps.new)
-        (bodies_length (heap_bodies pid.now (sections_in at.now.index.now))) }
-    ensures unread { IsSome (heap_listed pid.now (option_to_list (section_in at.now.index.now place)) at.now.limits.now (sections_in at.now.index.now)) → dumps.new ≡ dumps.old }
-    ensures heap { MatchResult result (HoldsHeap pid.now (option_to_list (section_in at.now.index.now place)) at.now.limits.now at.now.index.now (D.state dumps.old).now)
-        (IsHeapless pid.now (option_to_list (section_in at.now.index.now place)) at.now.limits.now at.now.index.now (D.state dumps.old) (D.state dumps.new)) }
+    ensures { let before = option_to_list (section_in at.now.index.now place) in
+        GivesHeap D.state pid.now before at.now.limits.now at.now.index.now dumps.old dumps.new result }
 {
     load_behind(at, dumps, pid, large_body(at.index, place, at.limits))
 }
 
 /// The same for a command that loads several bodies before the
-/// heap, given the refusal of the first of them that is too large.
+/// heap, given the first of them that is too large.
 pub(crate) fn load_behind<D: Dumps>(
     at: &Opened<'_>,
     dumps: &mut D,
     pid: &[u8],
-    large: Option<BodyFault>,
+    large: Option<LargeSection>,
 ) -> Result<Heap, Stop>
     requires { IsBuiltOver (D.state dumps.old).now at.now.index.now }
-    ensures reads { ReadsAtMost (D.state dumps.old) (D.state dumps.new)
-        (bodies_length (heap_bodies pid.now (sections_in at.now.index.now))) }
-    ensures unread { (before : List Section) → large ≡ large_fault at.now.limits.now.section before
-        → IsSome (heap_listed pid.now before at.now.limits.now (sections_in at.now.index.now)) → dumps.new ≡ dumps.old }
-    ensures heap { (before : List Section) → large ≡ large_fault at.now.limits.now.section before
-        → MatchResult result (HoldsHeap pid.now before at.now.limits.now at.now.index.now (D.state dumps.old).now)
-        (IsHeapless pid.now before at.now.limits.now at.now.index.now (D.state dumps.old) (D.state dumps.new)) }
+    ensures { (before : List Section) → large ≡ large_fault at.now.limits.now.section before
+        → GivesHeap D.state pid.now before at.now.limits.now at.now.index.now dumps.old dumps.new result }
 {
     find_process(at, pid)?;
-    if let Some(fault) = large {
-        return Err(Stop::from(fault));
+    if let Some(large) = large {
+        return Err(Stop::from(large));
     }
     Ok(Heap::load(at.alloc, dumps, at.index, pid, at.limits)?)
 }

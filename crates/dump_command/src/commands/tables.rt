@@ -11,21 +11,16 @@ use report_text::put_rows;
 use table_sections::{Rows, TableKind};
 
 #[derive(Clone, Copy)]
-pub(crate) struct Table<'a> {
-    pub(crate) file: &'a str,
+pub(crate) struct Table {
     pub(crate) kind: TableKind,
 }
 
-impl Report for Table<'_> {
+impl Report for Table {
     type Loaded = Rows;
 
-    ghost command = { λ c. table c.kind c.file.now };
+    ghost asks = { λ c. table c.kind };
 
-    ghost text = { λ _ _ rows. rows_report rows };
-
-    fn file(&self) -> &str {
-        self.file
-    }
+    ghost seen = { λ _ _ rows. rows };
 
     fn read<D: Dumps>(&self, at: &Opened<'_>, dumps: &mut D) -> Result<Rows, Stop> {
         or_stop(Rows::load(at.alloc, dumps, at.index, self.kind, at.limits))

@@ -18,7 +18,6 @@ use term_unfold::Walker;
 
 #[derive(Clone, Copy)]
 pub(crate) struct Term<'a> {
-    pub(crate) file: &'a str,
     pub(crate) pid: &'a [u8],
     pub(crate) addr: u64,
     pub(crate) nodes: u32,
@@ -35,17 +34,13 @@ pub(crate) struct Loaded {
 impl Report for Term<'_> {
     type Loaded = Loaded;
 
-    ghost command = { λ c. term c.file.now c.pid.now c.addr c.nodes c.marked };
+    ghost asks = { λ c. term c.pid.now c.addr c.nodes c.marked };
 
-    ghost text = { λ c _ loaded. term_report (answer_over (new_walk loaded.heap loaded.previews) c.nodes c.marked) c.addr };
+    ghost seen = { λ _ _ loaded. new_walk loaded.heap loaded.previews };
 
     ghost asked = { λ c. 0 < c.nodes };
 
     ghost fits = { λ _ _ loaded. AreFor loaded.heap.cells loaded.previews };
-
-    fn file(&self) -> &str {
-        self.file
-    }
 
     fn read<D: Dumps>(&self, at: &Opened<'_>, dumps: &mut D) -> Result<Loaded, Stop> {
         let heap = load_heap(at, dumps, self.pid, None)?;

@@ -1,18 +1,18 @@
 // `triage`: what to read first of a dump.
 ghost use Rattle.std.specs.Prelude.{◌≡◌, ◌≤◌, length, None, IfOk};
 ghost use Rattle.dump_sections.specs.Index.{sections_in, IsBuiltOver};
-ghost use Rattle.dump_sections.specs.Loading.{large_fault};
+ghost use Rattle.dump_sections.specs.Loading.{large_fault, LoadsBodies};
 ghost use Rattle.command_words.specs.Command.{triage};
-ghost use Rattle.dump_command.specs.Report.{triage_sections};
-ghost use Rattle.dump_command.specs.Inner.Loads.{triage_text, AreFound, Fits, ReadsBodies};
+ghost use Rattle.dump_command.specs.Meaning.{triage_sections};
+ghost use Rattle.dump_command.specs.Inner.Loads.{seen_triage, AreFound, Fits, HoldsBodies, ReadsBodies};
 
 use crate::commands::subjects::{Body, read_found};
 use crate::open::Opened;
 use crate::report::Report;
 use crate::status::DONE;
-use crate::stop::Stop;
+use crate::stop::{Stop, or_stop};
 use dump_io::{Dumps, Sink};
-use dump_sections::{BodyFault, large_body};
+use dump_sections::{BodyFault, LargeSection, large_body};
 use dump_triage::Triage as Found;
 use glance_text::put_triage;
 use process_table::{ProcSections, Procs};
@@ -20,8 +20,7 @@ use std::alloc::AllocError;
 use table_sections::{Rows, TableKind, TableSections};
 
 #[derive(Clone, Copy)]
-pub(crate) struct Triage<'a> {
-    pub(crate) file: &'a str,
+pub(crate) struct Triage {
     pub(crate) count: u32,
 }
 
@@ -55,11 +54,12 @@ fn find_places(at: &Opened<'_>) -> Result<Places, AllocError>
     })
 }
 
-// The refusal of the first of the sections whose body has more bytes than the limit.
-fn large_section(at: &Opened<'_>, places: &Places) -> Option<BodyFault>
+// The first of the sections whose body has more bytes than the limit.
+fn large_section(at: &Opened<'_>, places: &Places) -> Option<LargeSection>
     requires some { 1 ≤ length at.now.index.now.headers }
     requires places { AreFound at.now.index.now places.now }
-    ensures { result ≡ large_fault at.now.limits.now.section (triage_sections (sections_in at.now.index.now)) }
+    ensures { let sections = triage_sections (sections_in at.now.index.now) in
+        result ≡ large_fault at.now.limits.now.section sections }
 {
     let first = large_body(at.index, Some(0), at.limits);
     let memory = large_body(at.index, places.memory, at.limits);
@@ -77,7 +77,8 @@ fn read_bodies<D: Dumps>(
     requires over { IsBuiltOver (D.state dumps.old).now at.now.index.now }
     requires some { 1 ≤ length at.now.index.now.headers }
     requires places { AreFound at.now.index.now places }
-    requires small { large_fault at.now.limits.now.section (triage_sections (sections_in at.now.index.now)) ≡ None }
+    requires small { let sections = triage_sections (sections_in at.now.index.now) in
+        large_fault at.now.limits.now.section sections ≡ None }
     ensures { ReadsBodies at.now.index.now (D.state dumps.old) (D.state dumps.new) result }
 {
     let first = read_found(at, dumps, Some(0))?;
@@ -92,25 +93,38 @@ fn read_bodies<D: Dumps>(
     })
 }
 
-impl Report for Triage<'_> {
+// Loads the bodies: all are judged before one is read.
+fn load_bodies<D: Dumps>(
+    at: &Opened<'_>,
+    dumps: &mut D,
+    places: Places,
+) -> Result<Loaded, BodyFault>
+    requires over { IsBuiltOver (D.state dumps.old).now at.now.index.now }
+    requires some { 1 ≤ length at.now.index.now.headers }
+    requires places { AreFound at.now.index.now places }
+    ensures loads { let sections = triage_sections (sections_in at.now.index.now) in
+        LoadsBodies D.state sections at.now.limits.now.section dumps.old dumps.new result }
+    ensures bodies { IfOk result (HoldsBodies at.now.index.now (D.state dumps.old).now) }
+    ensures fits { IfOk result (Fits at.now.index.now) }
+{
+    if let Some(large) = large_section(at, &places) {
+        return Err(BodyFault::from(large));
+    }
+    read_bodies(at, dumps, places)
+}
+
+impl Report for Triage {
     type Loaded = Loaded;
 
-    ghost command = { λ c. triage c.file.now c.count };
+    ghost asks = { λ c. triage c.count };
 
-    ghost text = { λ c index loaded. triage_text c.count index loaded };
+    ghost seen = { λ _ index loaded. seen_triage index loaded };
 
     ghost fits = { λ _ index loaded. Fits index loaded };
 
-    fn file(&self) -> &str {
-        self.file
-    }
-
     fn read<D: Dumps>(&self, at: &Opened<'_>, dumps: &mut D) -> Result<Loaded, Stop> {
         let places = find_places(at)?;
-        if let Some(fault) = large_section(at, &places) {
-            return Err(Stop::from(fault));
-        }
-        Ok(read_bodies(at, dumps, places)?)
+        or_stop(load_bodies(at, dumps, places))
     }
 
     fn put<K: Sink>(&self, at: &Opened<'_>, loaded: &Loaded, out: &mut K) -> Result<u8, Stop> {

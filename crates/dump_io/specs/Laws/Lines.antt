@@ -15,6 +15,10 @@ front-cons x y xs = grind arith
 last-cons : (c d : ℕ) (line : List ℕ) → slice_index (c ∷ d ∷ line) (length (c ∷ d ∷ line) - 1) ≡ slice_index (d ∷ line) (length (d ∷ line) - 1)
 last-cons c d line = grind arith
 
+-- the end of at least two bytes is that of all but the first
+pub IsEnded-tail : (c d : ℕ) (bytes : List ℕ) → IsEnded (c ∷ d ∷ bytes) → IsEnded (d ∷ bytes)
+IsEnded-tail c d bytes ended = sym (last-cons c d bytes) ∙ ended
+
 -- LF stands only last in a longer line exactly when its first byte isn't LF and LF stands only last in the rest
 HasLfLast-head : (c d : ℕ) (line : List ℕ) → HasLfLast (c ∷ d ∷ line) → c ≢ lf
 HasLfLast-head c d line h = All-head (λ b. b ≢ lf) c _ (subst (λ l. All (λ b. b ≢ lf) l) (front-cons c d line) h)
@@ -26,17 +30,17 @@ HasLfLast-cons : (c d : ℕ) (line : List ℕ) → c ≢ lf → HasLfLast (d ∷
 HasLfLast-cons c d line n h = subst (λ l. All (λ b. b ≢ lf) l) (sym (front-cons c d line)) (All-cons (λ b. b ≢ lf) c _ n h)
 
 -- a byte other than LF goes to the front of the first line
-raw_lines-inner : (c : ℕ) (bytes : List ℕ) → c ≢ lf → raw_lines (c ∷ bytes) ≡ lines_after c (raw_lines bytes)
+pub raw_lines-inner : (c : ℕ) (bytes : List ℕ) → c ≢ lf → raw_lines (c ∷ bytes) ≡ lines_after c (raw_lines bytes)
 raw_lines-inner c bytes n = ap (λ b. if b then (c ∷ []) ∷ raw_lines bytes else lines_after c (raw_lines bytes)) (ne_eqb c lf n)
 
-raw_lines-lf : (c : ℕ) (bytes : List ℕ) → c ≡ lf → raw_lines (c ∷ bytes) ≡ (c ∷ []) ∷ raw_lines bytes
+pub raw_lines-lf : (c : ℕ) (bytes : List ℕ) → c ≡ lf → raw_lines (c ∷ bytes) ≡ (c ∷ []) ∷ raw_lines bytes
 raw_lines-lf c bytes e = ap (λ b. if b == lf then (c ∷ []) ∷ raw_lines bytes else lines_after c (raw_lines bytes)) e
 
 -- a line with its LF is the first of the lines
 pub raw_lines-ended : (line more : List ℕ) → 0 < length line → HasLfLast line → IsEnded line → raw_lines (line ++ more) ≡ line ∷ raw_lines more
 raw_lines-ended [] more some inner ended = absurd (omega arith)
 raw_lines-ended (c ∷ []) more some inner ended = raw_lines-lf c more ended
-raw_lines-ended (c ∷ d ∷ line) more some inner ended = grind (arith, raw_lines-ended (d ∷ line) more (omega arith) (HasLfLast-tail c d line inner) (sym (last-cons c d line) ∙ ended), raw_lines-inner, HasLfLast-head, HasLfLast-tail, last-cons)
+raw_lines-ended (c ∷ d ∷ line) more some inner ended = grind (arith, raw_lines-ended (d ∷ line) more (omega arith) (HasLfLast-tail c d line inner) (IsEnded-tail c d line ended), raw_lines-inner, HasLfLast-head, HasLfLast-tail, last-cons)
 
 -- a line is the one line of its bytes
 pub raw_lines-one : (line : List ℕ) → 0 < length line → HasLfLast line → raw_lines line ≡ line ∷ []

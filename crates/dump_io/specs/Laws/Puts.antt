@@ -64,7 +64,7 @@ WritesAll-failed {r = Err e} failed broken = record { whole = tt; front = broken
 
 -- Calls on a sink in a row: their `Puts` are joined to one.
 
--- the same text in another form
+-- a text that was put is put in any form of it
 pub Puts-as : {T E : Type 0} {a b : SinkState} {xs ys : List ℕ} {r : Result T E} → xs ≡ ys → Puts a b xs r → Puts a b ys r
 Puts-as {a = a} {b = b} {r = r} same puts = subst (λ l. Puts a b l r) same puts
 
@@ -93,7 +93,7 @@ Puts-stopped {r = Err e} more failed broken =
 pub HasPut-none : {a : SinkState} → HasPut a a []
 HasPut-none {a = a} = record { later = omega arith; gained = sym (grown-nil a.written) }
 
--- the same text in another form
+-- a text that was put by several calls is put in any form of it
 pub HasPut-as : {a b : SinkState} {xs ys : List ℕ} → xs ≡ ys → HasPut a b xs → HasPut a b ys
 HasPut-as {a = a} {b = b} same put = subst (HasPut a b) same put
 

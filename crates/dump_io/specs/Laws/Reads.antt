@@ -21,7 +21,7 @@ ReadsAtMost-within le reads = grind arith
 pub ReadsAtMost-both : {a b c : DeviceState} {few more most : ℕ} → ReadsAtMost a b few → ReadsAtMost b c more → few + more ≤ most → ReadsAtMost a c most
 ReadsAtMost-both first second le = ReadsAtMost-within le (ReadsAtMost-then first second)
 
--- a front in two parts
+-- the first bytes in two parts
 pub take-two : {X : Type 0} (m n : ℕ) (l : List X) → take (m + n) l ≡ take m l ++ take n (drop m l)
 take-two m n l =
     cc (take-append-drop m (take (m + n) l), let e : take m (take (m + n) l) ≡ take m l = grind (arith, common_steps) in e, drop-take m n l)

@@ -1,6 +1,6 @@
 -- How the readers proceed: each takes what it reads off the front, or
 -- returns how many bytes are left from the first that isn't allowed there.
-use Rattle.std.specs.Prelude.{◌≡◌, ℕ, suc, ◌*◌, ◌==◌, ◌&&◌, nat_le, List, [], ◌∷◌, length, take, drop, Result, Ok, Err, if◌then◌else◌}
+use Rattle.std.specs.Prelude.{◌≡◌, ℕ, suc, ◌*◌, ◌==◌, ◌&&◌, nat_le, Bool, true, false, List, [], ◌∷◌, length, take, drop, Result, Ok, Err, if◌then◌else◌}
 use Rattle.std.specs.Int.{w16, w32, w64, from_be_bytes}
 use Rattle.etf_terms.specs.Heads.{Head, Float, Bits, Pid, Port, Ref, Small, Int, Atom, Tuple, Nil, Chars, Linked, Bin, Big, Fun, Export, Pairs}
 use Rattle.etf_terms.specs.Table.{head_layout}
@@ -88,19 +88,18 @@ unfoldable pub integer_of : List ℕ → Parsed (List ℕ)
 integer_of [] = Err 0
 integer_of (tag ∷ bytes) = if tag == 97 then run_of 1 bytes else (if tag == 98 then run_of 4 bytes else Err (suc (length bytes)))
 
-unfoldable pub pid88_of : List ℕ → Parsed Head
-pid88_of bytes =
-    atom_of bytes >>= λ name. number4_of name.1 >>= λ id. number4_of id.1 >>= λ serial. number4_of serial.1 >>= λ creation.
-    Ok (Pid name.0 id.0 serial.0 creation.0, creation.1)
+-- a number in four bytes, or in one
+unfoldable pub creation_of : Bool → List ℕ → Parsed ℕ
+creation_of wide bytes = if wide then number4_of bytes else byte_of bytes
 
-unfoldable pub pid103_of : List ℕ → Parsed Head
-pid103_of bytes =
-    atom_of bytes >>= λ name. number4_of name.1 >>= λ id. number4_of id.1 >>= λ serial. byte_of serial.1 >>= λ creation.
+unfoldable pub pid_with_of : Bool → List ℕ → Parsed Head
+pid_with_of wide bytes =
+    atom_of bytes >>= λ name. number4_of name.1 >>= λ id. number4_of id.1 >>= λ serial. creation_of wide serial.1 >>= λ creation.
     Ok (Pid name.0 id.0 serial.0 creation.0, creation.1)
 
 unfoldable pub pid_of : List ℕ → Parsed Head
 pid_of [] = Err 0
-pid_of (tag ∷ bytes) = if tag == 88 then pid88_of bytes else (if tag == 103 then pid103_of bytes else Err (suc (length bytes)))
+pid_of (tag ∷ bytes) = if tag == 88 then pid_with_of true bytes else (if tag == 103 then pid_with_of false bytes else Err (suc (length bytes)))
 
 unfoldable pub sign_of : List ℕ → Parsed ℕ
 sign_of [] = Err 0
@@ -116,30 +115,28 @@ float_of bytes = run_of 8 bytes >>= λ eight. Ok (Float eight.0, eight.1)
 unfoldable pub bits_of : List ℕ → Parsed Head
 bits_of bytes = number4_of bytes >>= λ n. part_of n.1 >>= λ b. run_of n.0 b.1 >>= λ found. Ok (Bits b.0 found.0, found.1)
 
-unfoldable pub port89_of : List ℕ → Parsed Head
-port89_of bytes = atom_of bytes >>= λ name. number4_of name.1 >>= λ id. number4_of id.1 >>= λ creation. Ok (Port name.0 id.0 creation.0, creation.1)
-
-unfoldable pub port102_of : List ℕ → Parsed Head
-port102_of bytes = atom_of bytes >>= λ name. number4_of name.1 >>= λ id. byte_of id.1 >>= λ creation. Ok (Port name.0 id.0 creation.0, creation.1)
+unfoldable pub port_with_of : Bool → List ℕ → Parsed Head
+port_with_of wide bytes =
+    atom_of bytes >>= λ name. number4_of name.1 >>= λ id. creation_of wide id.1 >>= λ creation.
+    Ok (Port name.0 id.0 creation.0, creation.1)
 
 unfoldable pub port120_of : List ℕ → Parsed Head
 port120_of bytes = atom_of bytes >>= λ name. number8_of name.1 >>= λ id. number4_of id.1 >>= λ creation. Ok (Port name.0 id.0 creation.0, creation.1)
 
-unfoldable pub ref90_of : List ℕ → Parsed Head
-ref90_of bytes =
-    number2_of bytes >>= λ n. atom_of n.1 >>= λ name. number4_of name.1 >>= λ creation. run_of (4 * n.0) creation.1 >>= λ words.
+unfoldable pub ref_with_of : Bool → List ℕ → Parsed Head
+ref_with_of wide bytes =
+    number2_of bytes >>= λ n. atom_of n.1 >>= λ name. creation_of wide name.1 >>= λ creation. run_of (4 * n.0) creation.1 >>= λ words.
     Ok (Ref name.0 creation.0 words.0, words.1)
 
-unfoldable pub ref114_of : List ℕ → Parsed Head
-ref114_of bytes =
-    number2_of bytes >>= λ n. atom_of n.1 >>= λ name. byte_of name.1 >>= λ creation. run_of (4 * n.0) creation.1 >>= λ words.
-    Ok (Ref name.0 creation.0 words.0, words.1)
+-- the sign of a big number and its digits
+unfoldable pub big_of : ℕ → List ℕ → Parsed Head
+big_of n bytes = sign_of bytes >>= λ s. run_of n s.1 >>= λ digits. Ok (Big s.0 digits.0, digits.1)
 
-unfoldable pub big110_of : List ℕ → Parsed Head
-big110_of bytes = byte_of bytes >>= λ n. sign_of n.1 >>= λ s. run_of n.0 s.1 >>= λ digits. Ok (Big s.0 digits.0, digits.1)
+unfoldable pub small_big_of : List ℕ → Parsed Head
+small_big_of bytes = byte_of bytes >>= λ n. big_of n.0 n.1
 
-unfoldable pub big111_of : List ℕ → Parsed Head
-big111_of bytes = number4_of bytes >>= λ n. sign_of n.1 >>= λ s. run_of n.0 s.1 >>= λ digits. Ok (Big s.0 digits.0, digits.1)
+unfoldable pub large_big_of : List ℕ → Parsed Head
+large_big_of bytes = number4_of bytes >>= λ n. big_of n.0 n.1
 
 -- the two integers and the pid after a function's name
 unfoldable pub owner_of : List ℕ → Parsed Head

@@ -21,7 +21,7 @@ entered head entries = if kids head == 0 then entries else entry_of head ∷ ent
 abbrev pub ended : Head → List ℕ
 ended head = if kids head == 0 then closing (terms_kind head) (kids head) else []
 
--- the same head, one term further
+-- an entry, one term further
 abbrev pub next_of : Entry → Entry
 next_of e = record { kind = e.kind; kids = e.kids; next = e.next + 1 }
 

@@ -1,16 +1,19 @@
 -- Why parts of a load fail.
-use Rattle.dump_io.specs.Dumps.{DeviceState, DeviceFailed}
+use Rattle.std.specs.Prelude.{◌≡◌, ℕ, ◌<◌}
+use Rattle.dump_io.specs.Dumps.{DeviceState}
+use Rattle.dump_io.specs.Faults.{IsCauseOf}
+use Rattle.heap_cells.specs.Cells.{weight}
+use Rattle.heap_cells.specs.declared.texts.Texts.{Texts}
 use Rattle.heap_cells.specs.declared.faults.HeapFault.{HeapFault}
-use Rattle.heap_cells.specs.declared.faults.HeapFault.TheVariants.{TooDense, Read, Memory}
+use Rattle.heap_cells.specs.declared.faults.HeapFault.TheVariants.{TooDense, Memory}
+use Rattle.heap_cells.specs.Loading.{heap_cause}
 
--- too many lines and elements, or a lack of memory
-abbrev pub IsOfTheTexts : HeapFault → Type 0
-IsOfTheTexts (TooDense count) = Unit {0}
-IsOfTheTexts Memory = Unit {0}
-IsOfTheTexts fault = ⊥
+-- the bodies have this many lines and elements, more than the limit, or memory was lacking
+abbrev pub IsOfTheTexts : Texts → ℕ → HeapFault → Type 0
+IsOfTheTexts texts dense (TooDense count) = (count ≡ weight texts.enc texts.heap.items texts.literals.items) × (dense < count)
+IsOfTheTexts texts dense Memory = Unit {0}
+IsOfTheTexts texts dense fault = ⊥
 
 -- the device failed, or memory was lacking
 abbrev pub IsReadFault : DeviceState → DeviceState → HeapFault → Type 0
-IsReadFault before after Read = DeviceFailed before after
-IsReadFault before after Memory = Unit {0}
-IsReadFault before after fault = ⊥
+IsReadFault before after fault = IsCauseOf (λ _. ⊥) before after (heap_cause fault)

@@ -25,7 +25,7 @@ slot_with span (Pid pid) = slot.Imm span
 slot_with span (Port port) = slot.Imm span
 slot_with span (Ref address) = slot.Gone address
 
--- the same, given the place where the text of its form begins
+-- the slot of an element, given the place where the text of its form begins
 abbrev pub slot_for : ℕ → Placed → Slot
 slot_for from p = slot_with (record { at = from + p.at; len = p.len }) p.element
 
@@ -62,3 +62,9 @@ pub record AreAll (texts : Texts) (g : Gathering) (own : ℕ) : Type 0 where
   pub cells_are : g.weight ≤ g.dense
       → cells_in (text_of texts) texts.enc g.arena.cells.items ≡ line_cells texts.enc texts.heap.items ++ line_cells texts.enc texts.literals.items
   pub own_is : g.weight ≤ g.dense → own ≡ length (line_cells texts.enc texts.heap.items)
+
+-- nothing was gathered so far
+pub record IsNothing (g : Gathering) : Type 0 where
+  pub cells : g.arena.cells.items ≡ []
+  pub slots : g.arena.slots.items ≡ []
+  pub weight : g.weight ≡ 0

@@ -1,5 +1,6 @@
 -- What the records and the slots of a heap stand for. The text is that of both bodies, one after the other.
 use Rattle.std.specs.Prelude.{◌≡◌, ℕ, ◌+◌, ◌≤◌, List, [], ◌∷◌, map, length, slice_get, slice_range, Option, None, Some, IsSome, nat_eq}
+use Rattle.dump_io.specs.Limits.{usual}
 use Rattle.std.specs.Option.{option_map}
 use Rattle.std.specs.List.{flat_map, IsDistinct}
 use Rattle.binary_payloads.specs.declared.enc.Enc.{Enc}
@@ -77,10 +78,10 @@ pub record AreSlots (text : List ℕ) (seam : ℕ) (enc : Enc) (known : List Cel
 
 -- the whole of a heap
 pub record IsArena (text : List ℕ) (seam : ℕ) (enc : Enc) (records : List CellRecord) (slots : List Slot) (order : List ℕ) (own : ℕ) : Type 0 where
-  pub heap_size : seam ≤ 536870912
-  pub size : length text ≤ seam + 536870912
+  pub heap_size : seam ≤ usual.section
+  pub size : length text ≤ seam + usual.section
   pub own_is : own ≤ length records
-  pub few : length records + length slots ≤ 100000000
+  pub few : length records + length slots ≤ usual.dense
   pub distinct : IsDistinct nat_eq (addresses (cells_in text enc records))
   pub slots_are : AreSlots text seam enc (cells_in text enc records) records slots
   pub order_is : IsOrder records order

@@ -21,7 +21,7 @@ own_cell s (field key) = None
 abbrev pub kept_in : ℕ → TextLine → Kept
 kept_in base line = kept (base + line.at) (base + (place_of line).from) (value_of line.text)
 
--- the same, if the line has this key
+-- the field of this key that a line holds, if it has the key
 abbrev pub field_cell : ℕ → TextLine → List ℕ → Option Kept
 field_cell base line key = if has_key key line then Some (kept_in base line) else None
 

@@ -1,14 +1,15 @@
 -- The children of an open cell, by what it is in the walk.
-use Rattle.std.specs.Prelude.{◌≡◌, ◌⊎◌, ℕ, ◌<◌, List, [], ◌∷◌, length, take, slice_get, Option, None, Some, IfSome}
+use Rattle.std.specs.Prelude.{◌≡◌, ◌⊎◌, ℕ, ◌<◌, List, [], ◌∷◌, length, take, drop, slice_get, Option, None, Some, IfSome}
 use Rattle.std.specs.Option.{option_map}
 use Rattle.term_forms.specs.Elements.{Element, Ref}
 use Rattle.term_forms.specs.Forms.{HeapForm, Tuple, Hash, Node}
 use Rattle.heap_cells.specs.Cells.{Cell, elements_in, kind_of}
 use Rattle.cell_records.specs.declared.cells.Kind.TheVariants as cell_kind
+use Rattle.cell_records.specs.declared.cells.CellIx.{CellIx}
 use Rattle.cell_records.specs.declared.cells.Slot.{Slot}
-use Rattle.heap_cells.specs.HeapMap.{form_at, elements_at}
+use Rattle.heap_cells.specs.HeapMap.{HeapMap, form_at, elements_at}
 use Rattle.heap_cells.specs.Targets.{number, target, slot_target, IsWithin}
-use Rattle.map_nodes.specs.Rules.{address_of, element_at, form_at_address}
+use Rattle.term_unfold.specs.Maps.{address_of, element_at, form_at_address}
 use Rattle.term_unfold.specs.declared.node.NodeKind.{NodeKind}
 use Rattle.term_unfold.specs.declared.node.NodeKind.TheVariants as kinds
 use Rattle.term_unfold.specs.declared.children.Child.{Child as PlacedChild}
@@ -37,6 +38,7 @@ flat_children heap [] = []
 flat_children heap (Ref k ∷ values) = pairs (found_elements (form_at_address heap k)) values
 flat_children heap (element ∷ values) = []
 
+-- the children of the cell with a number, by what it is in the walk
 abbrev pub children_of : List Cell → NodeKind → ℕ → List Child
 children_of heap kinds.Cons n = terms (take 2 (elements_at heap n))
 children_of heap kinds.Tuple n = terms (elements_at heap n)
@@ -44,6 +46,14 @@ children_of heap kinds.Flat n = flat_children heap (elements_at heap n)
 children_of heap kinds.Hash n = items (address_of heap n) (members_in (form_at heap n))
 children_of heap kinds.Inner n = items (address_of heap n) (members_in (form_at heap n))
 children_of heap kinds.Pair n = terms (take 2 (elements_at heap n))
+
+-- the children of a cell
+abbrev pub children_in : HeapMap → NodeKind → CellIx → List Child
+children_in heap kind ix = children_of heap.cells kind (number ix)
+
+-- the children of a flat map whose keys are in another cell
+abbrev pub keyed_children : HeapMap → CellIx → CellIx → List Child
+keyed_children heap keys ix = pairs (elements_at heap.cells (number keys)) (drop 1 (elements_at heap.cells (number ix)))
 
 -- the child that a place in a cell stands for
 abbrev pub child_shown : List Cell → PlacedChild → Child

@@ -3,7 +3,7 @@ use Rattle.std.specs.Prelude.{◌≡◌, ℕ, ◌+◌, ◌<◌, Bool, true, fals
 use Rattle.heap_cells.specs.Cells.{Cell}
 use Rattle.heap_cells.specs.HeapMap.{HeapMap, IsBounded}
 use Rattle.heap_cells.specs.Targets.{number}
-use Rattle.map_nodes.specs.Rules.{address_of}
+use Rattle.term_unfold.specs.Maps.{address_of}
 use Rattle.term_unfold.specs.declared.node.NodeKind.{NodeKind}
 use Rattle.term_unfold.specs.declared.node.NodeKind.TheVariants as kinds
 use Rattle.term_unfold.specs.declared.path.Entry.{Entry}

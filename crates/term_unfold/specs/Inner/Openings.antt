@@ -4,15 +4,16 @@ use Rattle.term_forms.specs.Elements.{Element, Ref}
 use Rattle.term_forms.specs.Forms.{HeapForm, Cons, Tuple, Flat, Hash, Node}
 use Rattle.heap_cells.specs.Cells.{Cell}
 use Rattle.heap_cells.specs.HeapMap.{HeapMap, form_at}
-use Rattle.heap_cells.specs.Targets.{number, target, Target}
-use Rattle.map_nodes.specs.Rules.{address_of}
+use Rattle.cell_records.specs.declared.cells.CellIx.{CellIx}
+use Rattle.heap_cells.specs.Targets.{number, target, Target, At}
+use Rattle.term_unfold.specs.Maps.{address_of, element_at}
 use Rattle.term_unfold.specs.declared.node.NodeKind.{NodeKind}
 use Rattle.term_unfold.specs.declared.node.NodeKind.TheVariants as kinds
 use Rattle.term_unfold.specs.declared.openings.Opened.{Opened}
 use Rattle.term_unfold.specs.declared.openings.Opened.TheVariants as opened
 use Rattle.term_unfold.specs.Inner.Entries.{Entered, numbers_of, path_of, is_item, IsLine}
 use Rattle.term_unfold.specs.Inner.Children.{children_of}
-use Rattle.term_unfold.specs.Rules.{Child, Term, Item, leaf, bad, node, opening}
+use Rattle.term_unfold.specs.Rules.{is_on, Child, Term, Item, leaf, bad, node, opening}
 use Rattle.term_unfold.specs.Places.{is_nil}
 use Rattle.term_unfold.specs.Trees.{Immediate, OfCell}
 
@@ -82,6 +83,18 @@ IsOpened heap path child opened.Immediate =
 IsOpened heap path child (opened.Leaf ix) = IsLeafAt heap path child (number ix)
 IsOpened heap path child (opened.Bad address why) = opening heap path child ≡ bad address why
 IsOpened heap path child (opened.Node ix kind) = IsNodeAt heap path child (number ix) kind
+
+-- the walk is in a cell
+abbrev pub is_entered : HeapMap → Entered → CellIx → Bool
+is_entered heap path ix = is_on (address_of heap.cells (number ix)) (path_of heap.cells path.entries)
+
+-- the item at a place in a hash map or an inner node
+abbrev pub item_in : HeapMap → CellIx → ℕ → Child
+item_in heap parent place = Item (address_of heap.cells (number parent)) (element_at heap.cells (number parent) place)
+
+-- the element at a place in a cell leads to another cell
+abbrev pub LeadsFrom : HeapMap → CellIx → ℕ → CellIx → Type 0
+LeadsFrom heap ix place found = target heap.cells (element_at heap.cells (number ix) place) ≡ At (number found)
 
 -- the cell of a node may be entered
 abbrev pub MayEnter : Entered → Opened → Type 0

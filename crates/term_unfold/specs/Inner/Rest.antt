@@ -5,7 +5,7 @@ use Rattle.term_forms.specs.Seen.{element}
 use Rattle.heap_cells.specs.Cells.{Cell}
 use Rattle.heap_cells.specs.HeapMap.{HeapMap, form_at}
 use Rattle.heap_cells.specs.Targets.{number}
-use Rattle.map_nodes.specs.Rules.{address_of}
+use Rattle.term_unfold.specs.Maps.{address_of}
 use Rattle.term_unfold.specs.declared.children.Child.{Child as PlacedChild}
 use Rattle.term_unfold.specs.declared.node.NodeKind.{NodeKind}
 use Rattle.term_unfold.specs.declared.node.NodeKind.TheVariants as kinds
@@ -51,7 +51,7 @@ term_rest leaf kinds.Flat came next trees m = flat_rest leaf (is_value next) cam
 term_rest leaf kinds.Hash came next trees m = closed (items_text leaf came trees m)
 term_rest leaf kind came next trees m = shown [] m
 
--- the same for a pair of a hash map
+-- what a pair of a hash map has yet to write
 abbrev pub pair_rest : (Value → List ℕ) → Bool → ℕ → Trees → ℕ → Shown Stand
 pair_rest leaf came next none m = shown [] (At true m)
 pair_rest leaf came zero (more key rest) m = pair_text leaf came (more key rest) m
@@ -122,7 +122,7 @@ HasText heap child opened.Immediate = immediate_of child ≡ Some (element_of ch
 HasText heap child (opened.Leaf ix) = IsLeafCell heap (number ix)
 HasText heap child found = Unit {0}
 
--- the same for what is written of a child
+-- what is to be written of a child can be written
 abbrev pub HasOwn : List Cell → Child → Own → Type 0
 HasOwn heap child (own.Child found) = HasText heap child found
 HasOwn heap child (own.Immediate e) = is_immediate (element e) ≡ true
@@ -164,3 +164,7 @@ pub record IsTurn (heap : List Cell) (before after : List Entry) (child : Child)
   pub text : (leaf : Value → List ℕ) (m : ℕ) → rest leaf heap before (suc m) ≡ turn_text leaf heap child turn ++ rest leaf heap after m
   pub more : length after ≤ length before + 1
   pub own : HasOwn heap child turn.own
+
+-- such a turn at a child of an open cell
+abbrev pub TurnsAt : HeapMap → Entered → Entered → PlacedChild → Turn → Type 0
+TurnsAt heap before after child turn = IsTurn heap.cells before.entries after.entries (child_shown heap.cells child) turn

@@ -5,14 +5,14 @@ use Rattle.std.proofs.lemmas.Result.{err_from_is_err_and}
 use Rattle.std.proofs.lemmas.List.Sums.{sum_by-append}
 use Rattle.dump_io.specs.Laws.Reads.{ReadsAtMost-both, ReadsAtMost-within}
 use Rattle.dump_sections.specs.Bodies.{body_length}
-use Rattle.dump_sections.specs.Index.{sections_in, dump_state}
-use Rattle.dump_sections.specs.LoadingLaws.{small-both}
+use Rattle.dump_sections.specs.Index.{sections_in}
+use Rattle.dump_sections.specs.LoadingLaws.{All-small, IsUnloaded-later, IsUnloaded-small, small-both}
 use Rattle.dump_sections.specs.Loading.{bodies_length}
 use Rattle.process_table.specs.Records.{record_sections}
-use Rattle.audit_bodies.specs.Mailboxes.{mail_in, mailboxes_at}
+use Rattle.audit_bodies.specs.Mailboxes.{mail_of, mailboxes_at}
 use Rattle.audit_bodies.specs.Inner.Mailboxes.{IsSmall}
-use Rattle.audit_bodies.proofs.Loads.{IsUnread-later, IsUnread-small, counts-all, counts-found, none-large}
-use Rattle.audit_bodies.proofs.MailPlaces.{All-small}
+use Rattle.audit_bodies.proofs.Loads.{counts-all, counts-found}
+use Rattle.audit_bodies.proofs.MailPlaces.{All-within}
 use Rattle.audit_bodies.proofs.loading.read_bodies.Goals as goal
 
 pub count_messages-requires-clause-small : goal.count_messages-requires-clause-small
@@ -21,7 +21,8 @@ count_messages-requires-clause-small g c =
     let places = c.args.places.mailboxes.items in
     let limit = c.args.limits.now.section in
     subst (All (IsSmall c.args.index.now limit)) (sym c.as_slice.ensures.value)
-    (All-small c.args.index.now limit places (small-both limit (record_sections sections) (mailboxes_at sections places) c.requires.small).1)
+    (All-within c.args.index.now limit places
+    (All-small limit (mailboxes_at sections places) (small-both limit (record_sections sections) (mailboxes_at sections places) c.requires.small).1))
 
 pub returns-in_err-procs-clause-reads : goal.returns-in_err-procs-clause-reads
 returns-in_err-procs-clause-reads g c =
@@ -34,8 +35,8 @@ returns-in_err-procs-clause-fault g c =
     let sections = sections_in c.args.index.now in
     let limit = c.args.limits.now.section in
     let p = err_from_is_err_and c.from_residual.result c.from_residual.ensures.1 in
-    rw (p.1, p.2) (IsUnread-small limit (record_sections sections) (d.state c.args.dumps.now) (d.state c.read.new.dumps) _
-    (none-large limit (record_sections sections) (small-both limit (record_sections sections) (mailboxes_at sections c.args.places.mailboxes.items) c.requires.small).0) c.in_err-procs.ensures.loads.fault)
+    rw (p.1, p.2) (IsUnloaded-small limit (record_sections sections) (d.state c.args.dumps.now) (d.state c.read.new.dumps) _
+    (small-both limit (record_sections sections) (mailboxes_at sections c.args.places.mailboxes.items) c.requires.small).0 c.in_err-procs.ensures.loads.fault)
 
 pub returns-in_err-counts-clause-reads : goal.returns-in_err-counts-clause-reads
 returns-in_err-counts-clause-reads g c =
@@ -48,7 +49,7 @@ pub returns-in_err-counts-clause-fault : goal.returns-in_err-counts-clause-fault
 returns-in_err-counts-clause-fault g c =
     let d = g.D.Dumps in
     let p = err_from_is_err_and c.from_residual-in_err-counts.result c.from_residual-in_err-counts.ensures.1 in
-    rw (p.1, p.2) (IsUnread-later (d.state c.read.new.dumps) (d.state c.count_messages.new.dumps) (d.state c.args.dumps.now) (d.state c.count_messages.new.dumps) _
+    rw (p.1, p.2) (IsUnloaded-later (d.state c.read.new.dumps) (d.state c.count_messages.new.dumps) (d.state c.args.dumps.now) (d.state c.count_messages.new.dumps) _
     (λ rose. omega (arith, rose, c.in_ok-procs.ensures.loads.reads.later)) c.in_err-counts.ensures.fault)
 
 pub returns-clause-reads : goal.returns-clause-reads
@@ -61,7 +62,7 @@ returns-clause-reads g c =
 pub returns-clause-bodies : goal.returns-clause-bodies
 returns-clause-bodies g c = λ bytes same.
     let sections = sections_in c.args.index.now in
-    let mail = mail_in bytes (dump_state c.args.index.now.headers) sections in
+    let mail = mail_of bytes c.args.index.now in
     record {
       procs = c.in_ok-procs.ensures.table bytes same;
       mails = ap (option_map (λ counts. counts.items)) c.then_some.ensures

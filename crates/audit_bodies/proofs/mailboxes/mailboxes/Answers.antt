@@ -6,8 +6,8 @@ use Rattle.dump_sections.specs.Index.{sections_in}
 use Rattle.dump_sections.specs.Lookups.{is_named}
 use Rattle.audit_bodies.specs.Mailboxes.{mailbox_place}
 use Rattle.audit_bodies.specs.Inner.Mailboxes.{IsWithin}
-use Rattle.audit_bodies.proofs.MailPlaces.{one-more}
 use Rattle.audit_bodies.proofs.mailboxes.mailboxes.Goals as goal
+use Rattle.dump_io.specs.Laws.Lists.{take-at}
 
 abbrev pid : List ℕ × ℕ → List ℕ
 pid p = p.0
@@ -30,7 +30,7 @@ loop-p-preserved c =
           ∙ ap (λ o. map place_of (map pid before) ++ o ∷ []) place
           ∙ sym (map-append place_of (map pid before) (p.0 ∷ []))
           ∙ ap (map place_of) (sym (map-append pid before (p ∷ [])))
-          ∙ ap (λ l. map place_of (map pid l)) (sym (one-more found c.loop-p.p p c.at-section.ensures));
+          ∙ ap (λ l. map place_of (map pid l)) (sym (take-at found c.loop-p.p p c.at-section.ensures));
       within = subst (All (IsWithin index)) (sym c.in_ok-push.ensures.items)
           (All-append (IsWithin index) c.loop-p.places.items (c.get-place.result ∷ []) c.loop-p.invariant.within
           (All-cons (IsWithin index) c.get-place.result [] (subst (λ i. IfSome c.get-place.result (λ n. n < length i.headers)) c.in_ok-firsts.ensures.index c.get-place.ensures.within)

@@ -3,8 +3,8 @@ use Rattle.std.specs.Prelude.{is_ok}
 use Rattle.std.proofs.lemmas.List.{length-append, map-append, take_more}
 use Rattle.dump_io.specs.Dumps.{ReadsAtMost}
 use Rattle.dump_io.specs.Laws.Reads.{ReadsAtMost-then, ReadsAtMost-both}
-use Rattle.dump_sections.specs.Index.{sections_in, dump_state}
-use Rattle.audit_bodies.specs.Mailboxes.{mail_in}
+use Rattle.dump_sections.specs.Index.{sections_in}
+use Rattle.audit_bodies.specs.Mailboxes.{mail_of}
 use Rattle.audit_bodies.proofs.MailPlaces.{bodies-more, bodies-upto}
 use Rattle.audit_bodies.proofs.messages.count_messages.Goals as goal
 
@@ -32,7 +32,7 @@ loop-place-preserved g c =
       reads = subst (ReadsAtMost (g.D.Dumps.state c.args.dumps.now) (g.D.Dumps.state c.count_in.new.dumps))
           (sym (bodies-more sections places i None c.loop-place-test.true)) (ReadsAtMost-then c.loop-place.invariant.reads c.in_ok-count.ensures.reads);
       counts = λ bytes same.
-          let mail = mail_in bytes (dump_state c.args.index.now.headers) sections in
+          let mail = mail_of bytes c.args.index.now in
           items
           ∙ ap (λ l. l ++ count ∷ []) (c.loop-place.invariant.counts bytes same)
           ∙ ap (λ n. map mail (take i places) ++ n ∷ []) (c.in_ok-count.ensures.count bytes (c.loop-place.invariant.reads.same_now ∙ same))

@@ -1,7 +1,7 @@
 use Rattle.std.proofs.Common.{[], ◌∷◌, ◌++◌, map, take, sym, ◌∙◌, ap, arith}
 use Rattle.std.proofs.lemmas.List.{map_push, map_more, take_all}
 use Rattle.dump_io.specs.Laws.Reads.{ReadsAtMost-both}
-use Rattle.binary_holders.specs.declared.sought.Binary.{Binary}
+use Rattle.binary_holders.specs.declared.targets.Binary.{Binary}
 use Rattle.binary_holders.specs.declared.stored.StoredAt.{StoredAt}
 use Rattle.binary_holders.specs.Usage.{sized_binary}
 use Rattle.binary_holders.specs.Inner.Finding.{numbers_of, stored_of}

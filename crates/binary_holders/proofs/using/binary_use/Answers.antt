@@ -5,7 +5,7 @@ use Rattle.std.proofs.lemmas.Result.{IfOk-weaker}
 use Rattle.process_table.specs.Processes.{Process}
 use Rattle.binary_holders.specs.declared.rows.BinaryRow.{BinaryRow}
 use Rattle.binary_holders.specs.declared.rows.Holding.{Holding}
-use Rattle.binary_holders.specs.declared.sought.Binary.{Binary}
+use Rattle.binary_holders.specs.declared.targets.Binary.{Binary}
 use Rattle.binary_holders.specs.Held.{capped, holdings}
 use Rattle.size_order.specs.Sorting.{most_first}
 use Rattle.binary_holders.specs.Usage.{heaps_of, rows_in}
@@ -18,14 +18,14 @@ returns-clause-found g c =
     let index = c.args.index.now in
     let stored = c.in_ok-stored.ensures in
     let list = c.in_ok-stored.stored.items in
-    let sought = c.in_ok-stored.sought in
-    let heard = c.in_ok-held.ensures in
-    let tally = c.in_ok-held.tally in
+    let targets = c.in_ok-stored.targets in
+    let had = c.in_ok-held.ensures in
+    let counts = c.in_ok-held.counts in
     let rows = c.in_ok-rows.rows.items in
     let holders = c.as_slice-holders.result.now in
     let listed : AreRows index list c.binaries-binaries.result.now holders (length list) rows =
     subst (λ l. AreRows index l c.binaries-binaries.result.now holders (length l) rows) c.as_slice-list.ensures.value c.in_ok-rows.ensures.rows in
-    let found : AreRows index list sought holders (length list) rows = subst (λ bs. AreRows index list bs holders (length list) rows) c.binaries-binaries.ensures listed in
+    let found : AreRows index list targets holders (length list) rows = subst (λ bs. AreRows index list bs holders (length list) rows) c.binaries-binaries.ensures.value listed in
     let sorted = c.sorted.ensures in
     IfOk-weaker c.sorted.result _ _
     (λ made all dump is.
@@ -33,10 +33,10 @@ returns-clause-found g c =
     let sizes = stored.sizes dump is in
     let heaps = heaps_of dump index (map (λ (p : Process). p.pid) c.args.procs.now.processes) in
     let told_rows : rows ≡ rows_in dump index heaps =
-    rows-are dump index heaps list sought holders tally rows stored.stored sizes (heard.heard dump told) c.as_slice-holders.ensures.value found in
-    usage-same (all.0 ∙ ap (most_first (λ (h : Holding). h.bytes)) (heard.held dump told ∙ ap (λ l. holdings l heaps) sizes))
+    rows-are dump index heaps list targets holders counts rows stored.stored sizes (had.counted dump told) c.as_slice-holders.ensures.value found in
+    usage-same (all.0 ∙ ap (most_first (λ (h : Holding). h.total)) (had.held dump told ∙ ap (λ l. holdings l heaps) sizes))
     (all.1.0 ∙ ap (most_first (λ (r : BinaryRow). r.size)) told_rows)
-    (all.1.1.0 ∙ c.sum_sizes-bytes.ensures ∙ ap (λ l. capped (sum_by (λ (b : Binary). b.size) l)) (c.binaries-binaries.ensures ∙ sizes))
+    (all.1.1.0 ∙ c.capped-bytes.ensures ∙ ap capped c.total.ensures ∙ ap (λ l. capped (sum_by (λ (b : Binary). b.size) l)) sizes)
     (all.1.1.1 ∙ ap (count_by (λ (r : BinaryRow). nat_lt 0 r.holders)) told_rows))
     (both-ok c.sorted.result _ _ sorted.held (both-ok c.sorted.result _ _ sorted.binaries (both-ok c.sorted.result _ _ sorted.bytes sorted.with_holders)))
 

@@ -1,12 +1,11 @@
-use Rattle.std.proofs.Common.{List, refl, subst, inl}
-use Rattle.cell_records.specs.declared.cells.CellRecord.{CellRecord}
-use Rattle.cell_records.specs.Order.{AreRanked}
+use Rattle.cell_records.proofs.KeepingFacts.{all-index, first-indexed}
 use Rattle.cell_records.proofs.keeping.index_cells.Goals as goal
 
 pub returns-then-are_apart : goal.returns-then-are_apart
 returns-then-are_apart c =
-    let ranked = subst (λ (l : List CellRecord). AreRanked l c.in_ok-ranks.ranks) c.deref.ensures.value c.in_ok-ranks.ensures in
-    record {
-      kept = inl (record { first = c.are_apart.ensures.first c.if-are_apart.true c.args.all.cells.items c.requires.cells ranked; arena_is = refl; own_is = refl });
-      ranks_are = ranked;
-    }
+    all-index c.args.all c.args.own c.in_ok-found.found (c.are_apart.ensures.first c.if-are_apart.true) c.requires.cells c.in_ok-found.ensures
+
+pub returns : goal.returns
+returns c =
+    first-indexed c.args.all c.args.own c.in_ok-found.found c.in_ok-kept.kept c.in_ok-kept.kept_own c.requires.ordered c.in_ok-found.ensures c.in_ok-kept.ensures
+    c.ranked-2.result c.ranked-2.ensures

@@ -1,6 +1,7 @@
 use Rattle.std.proofs.Common.{◌+◌, length, sym, ◌∙◌, ap, subst, arith}
 use Rattle.cell_records.specs.declared.arena.Arena.{Arena}
-use Rattle.cell_records.proofs.KeepingFacts.{IsKeeping, keeping-first, keeping-other, kept-few}
+use Rattle.cell_records.specs.Inner.Keeping.{IsKeeping}
+use Rattle.cell_records.proofs.KeepingFacts.{keeping-first, keeping-other, kept-few}
 use Rattle.cell_records.proofs.keeping.keep_part.Goals as goal
 use Rattle.cell_records.proofs.keeping.keep_part.Goals.{then-firsts-i+in_ok-keep_cell, else-firsts-i}
 

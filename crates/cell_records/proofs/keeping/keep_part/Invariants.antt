@@ -1,4 +1,4 @@
-use Rattle.cell_records.proofs.KeepingFacts.{IsKeeping}
+use Rattle.cell_records.specs.Inner.Keeping.{IsKeeping}
 use Rattle.cell_records.proofs.keeping.keep_part.Given as goal
 
 abbrev pub invariant-loop-i : goal.invariant-loop-i

@@ -15,13 +15,13 @@ put-requires g c = record { asked = c.requires; fits = c.in_ok-loaded.ensures.fi
 pub returns-in_err-index : goal.returns-in_err-index
 returns-in_err-index g c =
     let p = err_from_is_err_and c.from_residual.result c.from_residual.ensures.1 in
-    rw (p.1, p.2) (Runs-unopened _ _ _ _ _ _ _ _ c.file.ensures c.in_err-index.ensures refl)
+    rw (p.1, p.2) (Runs-unopened _ _ _ _ _ _ _ _ c.in_err-index.ensures refl)
 
 pub returns-in_err-loaded : goal.returns-in_err-loaded
 returns-in_err-loaded g c =
     let p = err_from_is_err_and c.from_residual-in_err-loaded.result c.from_residual-in_err-loaded.ensures.1 in
-    rw (p.1, p.2) (Runs-halted _ _ _ c.in_ok-index.index _ c.file.ensures c.in_ok-index.ensures c.in_err-loaded.ensures.reads refl)
+    rw (p.1, p.2) (Runs-halted _ _ _ c.in_ok-index.index _ c.in_ok-index.ensures c.in_err-loaded.ensures.reads refl)
 
 pub returns : goal.returns
 returns g c =
-    Runs-told _ _ _ c.in_ok-index.index _ _ _ c.file.ensures c.in_ok-index.ensures c.in_ok-loaded.ensures.reads c.put.ensures
+    Runs-told _ _ _ c.in_ok-index.index _ _ c.in_ok-index.ensures c.in_ok-loaded.ensures.reads c.put.ensures

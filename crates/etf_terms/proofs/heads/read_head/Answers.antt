@@ -1,9 +1,9 @@
-use Rattle.std.proofs.Common.{arith, rules}
+use Rattle.std.proofs.Common.{arith, rules, true, false}
 use Rattle.etf_terms.specs.Heads.{Small, Int, Atom, Tuple, Chars, Linked, Bin, Pairs}
 use Rattle.etf_terms.specs.Layouts.{end}
 use Rattle.etf_terms.specs.Table.{is_tag, row}
 use Rattle.etf_terms.specs.Inner.Parts.{head_of}
-use Rattle.etf_terms.proofs.Joins.{any-joins, big110-joins, big111-joins, bits-joins, closure-joins, export-joins, float-joins, number4-joins, pid103-joins, pid88-joins, port102-joins, port120-joins, port89-joins, ref114-joins, ref90-joins, row-joins, sized1-joins, sized2-joins, sized4-joins}
+use Rattle.etf_terms.proofs.Joins.{any-joins, small_big-joins, large_big-joins, bits-joins, closure-joins, export-joins, float-joins, number4-joins, pid_with-joins, port120-joins, port_with-joins, ref_with-joins, row-joins, sized1-joins, sized2-joins, sized4-joins}
 use Rattle.etf_terms.proofs.TagRows.{empty, Gives-row, no-row}
 use Rattle.etf_terms.proofs.heads.read_head.Goals as goal
 
@@ -20,15 +20,15 @@ returns-in-77 c = Gives-row c.args.bytes.now 77 c.bits.result _ (omega arith) (s
 
 pub returns-in-88 : goal.returns-in-88
 unfolding head_of is_tag row
-returns-in-88 c = Gives-row c.args.bytes.now 88 c.pid88.result _ (omega arith) (search rules) (row-joins pid88-joins _) c.pid88.ensures
+returns-in-88 c = Gives-row c.args.bytes.now 88 c.pid_with.result _ (omega arith) (search rules) (row-joins (pid_with-joins true) _) c.pid_with.ensures
 
 pub returns-in-89 : goal.returns-in-89
 unfolding head_of is_tag row
-returns-in-89 c = Gives-row c.args.bytes.now 89 c.port89.result _ (omega arith) (search rules) (row-joins port89-joins _) c.port89.ensures
+returns-in-89 c = Gives-row c.args.bytes.now 89 c.port_with.result _ (omega arith) (search rules) (row-joins (port_with-joins true) _) c.port_with.ensures
 
 pub returns-in-90 : goal.returns-in-90
 unfolding head_of is_tag row
-returns-in-90 c = Gives-row c.args.bytes.now 90 c.ref90.result _ (omega arith) (search rules) (row-joins ref90-joins _) c.ref90.ensures
+returns-in-90 c = Gives-row c.args.bytes.now 90 c.ref_with.result _ (omega arith) (search rules) (row-joins (ref_with-joins true) _) c.ref_with.ensures
 
 pub returns-in-97 : goal.returns-in-97
 unfolding head_of is_tag row
@@ -44,11 +44,11 @@ returns-in-100 c = Gives-row c.args.bytes.now 100 c.long_atom.result _ (omega ar
 
 pub returns-in-102 : goal.returns-in-102
 unfolding head_of is_tag row
-returns-in-102 c = Gives-row c.args.bytes.now 102 c.port102.result _ (omega arith) (search rules) (row-joins port102-joins _) c.port102.ensures
+returns-in-102 c = Gives-row c.args.bytes.now 102 c.port_with-in-102.result _ (omega arith) (search rules) (row-joins (port_with-joins false) _) c.port_with-in-102.ensures
 
 pub returns-in-103 : goal.returns-in-103
 unfolding head_of is_tag row
-returns-in-103 c = Gives-row c.args.bytes.now 103 c.pid103.result _ (omega arith) (search rules) (row-joins pid103-joins _) c.pid103.ensures
+returns-in-103 c = Gives-row c.args.bytes.now 103 c.pid_with-in-103.result _ (omega arith) (search rules) (row-joins (pid_with-joins false) _) c.pid_with-in-103.ensures
 
 pub returns-in-104 : goal.returns-in-104
 unfolding head_of is_tag row
@@ -72,11 +72,11 @@ returns-in-109 c = Gives-row c.args.bytes.now 109 c.bin.result _ (omega arith) (
 
 pub returns-in-110 : goal.returns-in-110
 unfolding head_of is_tag row
-returns-in-110 c = Gives-row c.args.bytes.now 110 c.big110.result _ (omega arith) (search rules) (row-joins big110-joins _) c.big110.ensures
+returns-in-110 c = Gives-row c.args.bytes.now 110 c.small_big.result _ (omega arith) (search rules) (row-joins small_big-joins _) c.small_big.ensures
 
 pub returns-in-111 : goal.returns-in-111
 unfolding head_of is_tag row
-returns-in-111 c = Gives-row c.args.bytes.now 111 c.big111.result _ (omega arith) (search rules) (row-joins big111-joins _) c.big111.ensures
+returns-in-111 c = Gives-row c.args.bytes.now 111 c.large_big.result _ (omega arith) (search rules) (row-joins large_big-joins _) c.large_big.ensures
 
 pub returns-in-112 : goal.returns-in-112
 unfolding head_of is_tag row
@@ -88,7 +88,7 @@ returns-in-113 c = Gives-row c.args.bytes.now 113 c.export.result _ (omega arith
 
 pub returns-in-114 : goal.returns-in-114
 unfolding head_of is_tag row
-returns-in-114 c = Gives-row c.args.bytes.now 114 c.ref114.result _ (omega arith) (search rules) (row-joins ref114-joins _) c.ref114.ensures
+returns-in-114 c = Gives-row c.args.bytes.now 114 c.ref_with-in-114.result _ (omega arith) (search rules) (row-joins (ref_with-joins false) _) c.ref_with-in-114.ensures
 
 pub returns-in-115 : goal.returns-in-115
 unfolding head_of is_tag row

@@ -1,12 +1,14 @@
+use Rattle.std.proofs.Common.{◌≡◌, ℕ, List, ◌++◌, ap, codes, ◌∙◌, append_assoc}
 use Rattle.dump_io.specs.Laws.Puts.{Puts-then, Puts-stopped, Puts-as}
+use Rattle.etf_terms.specs.Text.{digits_text}
 use Rattle.etf_terms.proofs.printing.put_big.Goals as goal
 
-pub returns-in_err-write_all : goal.returns-in_err-write_all
-returns-in_err-write_all g c = Puts-stopped _ c.from_residual.ensures.0 (Puts-as c.minus.ensures c.in_err-write_all.ensures.puts)
+joined : (front sign digits : List ℕ) → front ≡ sign → (front ++ codes "16#") ++ digits_text digits ≡ sign ++ (codes "16#" ++ digits_text digits)
+joined front sign digits is = append_assoc front (codes "16#") (digits_text digits) ∙ ap (λ l. l ++ (codes "16#" ++ digits_text digits)) is
 
-pub returns-in_err-write_all-2 : goal.returns-in_err-write_all-2
-returns-in_err-write_all-2 g c =
-    Puts-then (Puts-as c.minus.ensures c.in_ok-write_all.ensures.puts) (Puts-stopped _ c.from_residual-in_err-write_all-2.ensures.0 c.in_err-write_all-2.ensures.puts)
+pub returns-in_err-put_pieces : goal.returns-in_err-put_pieces
+returns-in_err-put_pieces g c =
+    Puts-as (joined _ _ c.args.digits.now c.minus.ensures) (Puts-stopped (digits_text c.args.digits.now) c.from_residual.ensures.0 c.in_err-put_pieces.ensures)
 
 pub returns : goal.returns
-returns g c = Puts-then (Puts-as c.minus.ensures c.in_ok-write_all.ensures.puts) (Puts-then c.in_ok-write_all-2.ensures.puts c.put_number.ensures)
+returns g c = Puts-as (joined _ _ c.args.digits.now c.minus.ensures) (Puts-then c.in_ok-put_pieces.ensures c.put_number.ensures)

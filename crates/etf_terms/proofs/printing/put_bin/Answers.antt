@@ -1,15 +1,13 @@
-use Rattle.dump_io.specs.Laws.Puts.{Puts-then, Puts-stopped}
+use Rattle.std.proofs.Common.{◌≡◌, ℕ, List, ◌++◌, ap, codes, append_assoc}
+use Rattle.std.specs.Prelude.{decimal}
+use Rattle.dump_io.specs.Laws.Puts.{Puts-then, Puts-stopped, Puts-as}
 use Rattle.etf_terms.proofs.printing.put_bin.Goals as goal
 
-pub returns-in_err-write_all : goal.returns-in_err-write_all
-returns-in_err-write_all g c = Puts-stopped _ c.from_residual.ensures.0 c.in_err-write_all.ensures.puts
+joined : (size : ℕ) (more : List ℕ) → (codes "#Bin<" ++ (decimal size ++ codes ":")) ++ more ≡ codes "#Bin<" ++ (decimal size ++ (codes ":" ++ more))
+joined size more = ap (λ l. codes "#Bin<" ++ l) (append_assoc (decimal size) _ more)
 
-pub returns-in_err-put_dec : goal.returns-in_err-put_dec
-returns-in_err-put_dec g c = Puts-then c.in_ok-write_all.ensures.puts (Puts-stopped _ c.from_residual-in_err-put_dec.ensures.0 c.in_err-put_dec.ensures)
-
-pub returns-in_err-write_all-2 : goal.returns-in_err-write_all-2
-returns-in_err-write_all-2 g c =
-    Puts-then c.in_ok-write_all.ensures.puts (Puts-then c.in_ok-put_dec.ensures (Puts-stopped _ c.from_residual-in_err-write_all-2.ensures.0 c.in_err-write_all-2.ensures.puts))
+pub returns-in_err-put_pieces : goal.returns-in_err-put_pieces
+returns-in_err-put_pieces g c = Puts-as (joined _ _) (Puts-stopped _ c.from_residual.ensures.0 c.in_err-put_pieces.ensures)
 
 pub returns : goal.returns
-returns g c = Puts-then c.in_ok-write_all.ensures.puts (Puts-then c.in_ok-put_dec.ensures (Puts-then c.in_ok-write_all-2.ensures.puts c.put_preview.ensures))
+returns g c = Puts-as (joined _ _) (Puts-then c.in_ok-put_pieces.ensures c.put_preview.ensures)

@@ -1,6 +1,5 @@
-use Rattle.std.proofs.Common.{◌++◌, [], List, sym, ◌∙◌, ap, subst, arith}
+use Rattle.std.proofs.Common.{◌++◌, [], List, sym, ◌∙◌, ap, subst}
 use Rattle.std.proofs.lemmas.List.{append-nil}
-use Rattle.heap_cells.specs.declared.gathering.Gathering.{Gathering}
 use Rattle.heap_cells.specs.Cells.{Cell, line_cells}
 use Rattle.heap_cells.specs.Inner.Gathering.{Leads}
 use Rattle.heap_cells.specs.Inner.Texts.{text_of}
@@ -13,11 +12,11 @@ returns-clause-all c =
     let heap = line_cells texts.enc texts.heap.items in
     let literals = line_cells texts.enc texts.literals.items in
     let all = heap ++ literals in
-    let zero : Gathering = record { arena = c.new.result; weight = 0; dense = c.args.dense } in
+    let none = c.requires.none in
     let heap_is = ap (line_cells texts.enc) c.deref.ensures.value in
     let literals_is = ap (line_cells texts.enc) c.deref-2.ensures.value in
-    let begin = leads-begin (text_of texts) texts.enc zero all (omega arith) c.new.ensures.cells in
-    let before = c.in_ok-gather_lines.ensures.leads literals all (subst (λ (l : List Cell). Leads (text_of texts) texts.enc zero (l ++ literals) all) (sym heap_is) begin) in
+    let begin = leads-begin (text_of texts) texts.enc c.args.g.now all none.weight none.cells in
+    let before = c.in_ok-gather_lines.ensures.leads literals all (subst (λ (l : List Cell). Leads (text_of texts) texts.enc c.args.g.now (l ++ literals) all) (sym heap_is) begin) in
     let after = c.in_ok-gather_lines-2.ensures.leads [] all
     (subst (λ (l : List Cell). Leads (text_of texts) texts.enc c.gather_lines.new.g l all) (sym (append-nil literals) ∙ ap (λ l. l ++ []) (sym literals_is)) before) in
     all-gathered texts c.gather_lines.new.g c.gather_lines-2.new.g c.len-own.result (sym c.in_ok-gather_lines-2.ensures.limit) c.in_ok-gather_lines-2.ensures.gathered before after

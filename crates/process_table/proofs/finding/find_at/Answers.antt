@@ -12,9 +12,10 @@ use Rattle.dump_sections.specs.Index.{sections_in}
 use Rattle.process_table.specs.Records.{placed_sections}
 use Rattle.process_table.specs.Inner.Finding.{AreFound, AreNumbered, has_pid}
 use Rattle.process_table.proofs.Firsts.{take-placed}
-use Rattle.process_table.proofs.Hearing.{pid_in-none, pid_in-some, AreFound-passed, AreFound-repeated, AreFound-new, repeated-few, entries-few, none_where}
+use Rattle.process_table.proofs.Hearing.{pid_in-none, pid_in-some, AreFound-passed, AreFound-repeated, AreFound-new, repeated-few, entries-few}
 use Rattle.process_table.proofs.Ranking.{AreNumbered-push}
 use Rattle.process_table.proofs.finding.find_at.Goals as goal
+use Rattle.dump_io.specs.Laws.Options.{none-where}
 
 pub returns-in_default-clause-found : goal.returns-in_default-clause-found
 returns-in_default-clause-found c =
@@ -61,7 +62,7 @@ returns-clause-numbered c =
     let places = c.args.found.now.places.items in
     let gained = c.in_ok-push_place.ensures in
     let none : position (has_pid pid) places ≡ None =
-    none_where _ (there places c.args.numbers.now pid pid false c.requires.numbered refl (sym c.if-contains_key.false ∙ c.contains_key.ensures)) in
+    none-where _ (there places c.args.numbers.now pid pid false c.requires.numbered refl (sym c.if-contains_key.false ∙ c.contains_key.ensures)) in
     subst (AreNumbered c.insert.new.self) (sym gained.behind)
     (AreNumbered-push c.args.numbers.now c.insert.new.self places gained.place pid c.requires.numbered gained.same_pid none
     (λ other. btree_map_updates_str pid c.args.numbers.now c.insert.new.self _ c.in_ok-insert.ensures.updates other

@@ -1,8 +1,8 @@
 use Rattle.dump_io.specs.Laws.Puts.{Puts-then, Puts-stopped}
 use Rattle.term_text.proofs.ext_report.put_ext.Goals as goal
 
-pub returns-in_err-put : goal.returns-in_err-put
-returns-in_err-put g c = Puts-stopped _ c.from_residual.ensures.0 c.in_err-put.ensures.writes
+pub returns-in_err-put-clause-puts : goal.returns-in_err-put-clause-puts
+returns-in_err-put-clause-puts g c = Puts-stopped _ c.from_residual.ensures.0 c.in_err-put.ensures.writes
 
-pub returns : goal.returns
-returns g c = Puts-then c.in_ok-put.ensures.writes c.write_all.ensures.puts
+pub returns-clause-puts : goal.returns-clause-puts
+returns-clause-puts g c = Puts-then c.in_ok-put.ensures.writes c.write_all.ensures.puts

@@ -1,7 +1,7 @@
 use Rattle.std.proofs.Common.{◌≡◌, ◌<◌, arith, length, ap, get_or, sym, ◌∙◌, subst}
 use Rattle.std.proofs.lemmas.List.{length-map, get_or_default}
 use Rattle.heap_cells.specs.Targets.{slot_target, IsWithin}
-use Rattle.map_nodes.specs.Laws.Targets.{no_slot}
+use Rattle.term_unfold.proofs.Targets.{no_slot}
 use Rattle.term_unfold.proofs.ChildFacts.{term-child}
 use Rattle.term_unfold.proofs.children.term_at.Goals as goal
 

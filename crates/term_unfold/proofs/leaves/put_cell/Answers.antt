@@ -2,7 +2,7 @@ use Rattle.std.proofs.Common.{false, sym, ◌∙◌, ap}
 use Rattle.std.specs.Option.{is_some, option_and_then, option_map_or}
 use Rattle.dump_io.specs.Laws.Puts.{Puts-as}
 use Rattle.heap_cells.specs.Targets.{number}
-use Rattle.map_nodes.specs.Rules.{address_of}
+use Rattle.term_unfold.specs.Maps.{address_of}
 use Rattle.binary_refs.specs.Previews.{stated}
 use Rattle.term_forms.specs.SeenForms.{heap_form}
 use Rattle.term_unfold.specs.Inner.Openings.{is_leaf_form}

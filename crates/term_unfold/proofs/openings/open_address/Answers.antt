@@ -3,7 +3,7 @@ use Rattle.std.proofs.Common.{refl, ap, subst}
 use Rattle.term_forms.specs.Elements.{Ref}
 use Rattle.heap_cells.specs.HeapMap.{form_at}
 use Rattle.heap_cells.specs.Targets.{number}
-use Rattle.map_nodes.specs.Laws.Targets.{found-address}
+use Rattle.term_unfold.proofs.Targets.{found-address}
 use Rattle.term_unfold.specs.Inner.Openings.{Opens}
 use Rattle.term_unfold.specs.Rules.{Term}
 use Rattle.term_unfold.proofs.Opens.{term-none}

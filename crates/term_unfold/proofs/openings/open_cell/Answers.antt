@@ -1,7 +1,7 @@
 use Rattle.std.proofs.Common.{Some, refl, sym, ◌∙◌, ap}
 use Rattle.heap_cells.specs.Targets.{number}
 use Rattle.cell_records.specs.declared.cells.Why.TheVariants.{Malformed}
-use Rattle.map_nodes.specs.Laws.Targets.{address-is}
+use Rattle.term_unfold.proofs.Targets.{address-is}
 use Rattle.term_unfold.specs.Rules.{bad}
 use Rattle.term_unfold.proofs.Opens.{term-at, form-none, form-list, form-tuple, form-hash, form-node, form-leaf}
 use Rattle.term_unfold.proofs.openings.open_cell.Goals as goal

@@ -3,8 +3,8 @@ use Rattle.heap_cells.specs.HeapMap.{elements_at}
 use Rattle.heap_cells.specs.Targets.{number}
 use Rattle.cell_records.specs.declared.cells.Slot.TheVariants as slot
 use Rattle.cell_records.specs.declared.cells.Why.TheVariants.{Malformed}
-use Rattle.map_nodes.specs.Laws.Targets.{address-is, slot-leads, leads-missing}
-use Rattle.map_nodes.specs.Rules.{element_at}
+use Rattle.term_unfold.proofs.Targets.{address-is, slot-leads, leads-missing}
+use Rattle.term_unfold.specs.Maps.{element_at}
 use Rattle.term_unfold.specs.Inner.Entries.{numbers_of, IsLine}
 use Rattle.term_unfold.specs.Rules.{bad}
 use Rattle.term_unfold.proofs.Opens.{off-missing_below, term-at, flat-empty, flat-plain, flat-missing}

@@ -2,13 +2,13 @@ use Rattle.std.proofs.Common.{◌≡◌, ℕ, ◌-◌, ◌||◌, List, Some, ref
 use Rattle.std.proofs.lemmas.Bool.{eq-eqb}
 use Rattle.heap_cells.specs.Targets.{number}
 use Rattle.cell_records.specs.declared.cells.Why.TheVariants.{OnPath}
-use Rattle.map_nodes.specs.Laws.Targets.{address-is}
+use Rattle.term_unfold.proofs.Targets.{address-is}
 use Rattle.heap_cells.specs.Cells.{Cell}
 use Rattle.heap_cells.specs.HeapMap.{form_at}
-use Rattle.map_nodes.specs.Rules.{Keys, address_of, cell_keys}
+use Rattle.term_unfold.specs.Maps.{Keys, address_of, cell_keys}
 use Rattle.term_unfold.specs.Inner.Entries.{path_of}
 use Rattle.term_unfold.specs.Rules.{bad, is_on}
-use Rattle.term_unfold.proofs.Opens.{on-longer, off-longer, off-other, term-at, flat-on, flat-keyed, flat-bad, flat-no_keys}
+use Rattle.term_unfold.proofs.Opens.{on-longer, off-longer, off-other, term-at, flat-on, flat-keyed, flat-bad}
 use Rattle.term_unfold.proofs.openings.open_keyed.Goals as goal
 
 -- what the cell with a number gives as the keys of a map of so many elements
@@ -36,9 +36,6 @@ returns-then-is_open c =
       found_is = term-at heap _ (number c.args.ix) c.requires.off c.requires.serves.bounded.distinct c.requires.cell ∙ flat-on heap _ _ k _ c.requires.flat c.requires.some c.requires.leads on ∙ ap (λ x. bad x OnPath) (address-is heap k c.addr-then-is_open.result c.addr-then-is_open.ensures);
       enters = tt;
     }
-
-pub returns-in-None : goal.returns-in-None
-returns-in-None c = flat-no_keys c.args.heap.now.cells (number c.args.keys) _ c.in-None.ensures
 
 pub returns-in-Keys : goal.returns-in-Keys
 returns-in-Keys c =

@@ -1,7 +1,7 @@
 use Rattle.std.proofs.Common.{refl, sym, ◌∙◌, ap}
 use Rattle.heap_cells.specs.Targets.{number}
 use Rattle.cell_records.specs.declared.cells.Why.TheVariants.{OnPath}
-use Rattle.map_nodes.specs.Laws.Targets.{address-is}
+use Rattle.term_unfold.proofs.Targets.{address-is}
 use Rattle.term_unfold.specs.Rules.{bad, item_opening}
 use Rattle.term_unfold.proofs.Opens.{item-on, item-at, pair-opens, inner-opens}
 use Rattle.term_unfold.proofs.openings.open_member.Goals as goal

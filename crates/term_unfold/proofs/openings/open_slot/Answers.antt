@@ -1,6 +1,6 @@
 use Rattle.std.proofs.Common.{sym, ◌∙◌, ap, subst}
 use Rattle.heap_cells.specs.Targets.{number}
-use Rattle.map_nodes.specs.Laws.Targets.{leads-at, leads-missing}
+use Rattle.term_unfold.proofs.Targets.{leads-at, leads-missing}
 use Rattle.term_unfold.specs.Inner.Openings.{Opens}
 use Rattle.term_unfold.specs.Rules.{Term}
 use Rattle.term_unfold.proofs.Opens.{term-none}

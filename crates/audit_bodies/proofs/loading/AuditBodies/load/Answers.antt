@@ -4,8 +4,9 @@ use Rattle.std.proofs.lemmas.Result.{IfErr-weaker}
 use Rattle.dump_io.specs.Dumps.{ReadsAtMost}
 use Rattle.dump_sections.specs.Index.{sections_in}
 use Rattle.dump_sections.specs.Loading.{bodies_length, large_fault}
+use Rattle.dump_sections.specs.LoadingLaws.{AreRefused-unread}
 use Rattle.audit_bodies.specs.Mailboxes.{audited_sections}
-use Rattle.audit_bodies.proofs.Loads.{AreRefused-large, AreRefused-small, bodies-found, none-large, on-ok}
+use Rattle.audit_bodies.proofs.Loads.{bodies-found, on-ok}
 use Rattle.audit_bodies.proofs.loading.AuditBodies.load.Goals as goal
 
 pub returns-in-Some-clause-loads : goal.returns-in-Some-clause-loads
@@ -17,8 +18,7 @@ returns-in-Some-clause-loads g c =
       reads = search rules;
       allowed = tt;
       unread = λ some. refl;
-      fault = AreRefused-large c.args.limits.now.section (audited_sections c.args.full sections) (d.state c.args.dumps.now) (d.state c.args.dumps.now) _
-          (ap (large_fault c.args.limits.now.section) (sym same) ∙ sym c.in-Some.ensures);
+      fault = rw c.from.ensures (ap (large_fault c.args.limits.now.section) (sym same) ∙ sym c.in-Some.ensures);
     }
 
 -- none of the bodies is too large where they are read
@@ -34,5 +34,5 @@ returns-clause-loads g c =
       allowed = on-ok c.read_bodies.result none;
       unread = λ some. absurd (let no : ⊥ = cc (sym (ap is_some none) ∙ some) in no);
       fault = IfErr-weaker c.read_bodies.result _ _
-          (λ fault is. AreRefused-small limit bodies (d.state c.args.dumps.now) (d.state c.read_bodies.new.dumps) fault (none-large limit bodies none) is) c.read_bodies.ensures.fault;
+          (λ fault is. AreRefused-unread limit bodies (d.state c.args.dumps.now) (d.state c.read_bodies.new.dumps) fault is) c.read_bodies.ensures.fault;
     }

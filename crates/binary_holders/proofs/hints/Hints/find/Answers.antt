@@ -1,7 +1,7 @@
 use Rattle.std.proofs.Common.{◌<◌, length, sym, ◌∙◌, ap, arith}
 use Rattle.std.proofs.lemmas.List.{get_or_read}
-use Rattle.binary_holders.specs.declared.sought.Binary.{Binary}
-use Rattle.binary_holders.proofs.TallyFacts.{at-number, no_binary}
+use Rattle.binary_holders.specs.declared.targets.Binary.{Binary}
+use Rattle.binary_holders.proofs.CountFacts.{at-number, no_binary}
 use Rattle.binary_holders.proofs.hints.Hints.find.Goals as goal
 
 pub returns-then-binary-number-clause-number : goal.returns-then-binary-number-clause-number

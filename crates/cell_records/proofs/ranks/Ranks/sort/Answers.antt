@@ -1,4 +1,4 @@
-use Rattle.std.proofs.Common.{◌<◌, ℕ}
+use Rattle.std.proofs.Common.{◌<◌, ℕ, ◌^◌}
 use Rattle.std.proofs.lemmas.List.Sorted.{IsPermutation-map, IsNonDecreasingBy-from_sort, All-permutation}
 use Rattle.cell_records.specs.Inner.Ranks.{pair_at}
 use Rattle.cell_records.proofs.OrderFacts.{narrow-ranked, numbered-wide, pairs-ranked}
@@ -11,7 +11,7 @@ invariant_of-self c =
       | in-Narrow w ↦ rw w.self-inside-is (c.self.invariant.0, tt)
       | in-Wide w ↦ rw w.self-inside-is (
         c.self.invariant.0,
-        All-permutation (λ (p : ℕ × ℕ). p.1 < 134217728) w.in-Wide.pairs.items w.sort_unstable-in-Wide.new.self.items
+        All-permutation (λ (p : ℕ × ℕ). p.1 < 2 ^ 27) w.in-Wide.pairs.items w.sort_unstable-in-Wide.new.self.items
             w.sort_unstable-in-Wide.ensures.permutation (numbered-wide c.self.inside.kept w.in-Wide.pairs w.in-Wide.is c.self.invariant.1),
       )
     ]
@@ -30,6 +30,6 @@ returns-clause-sorted c =
       | in-Narrow w ↦ rw w.self-inside-is
           (narrow-ranked c.self.inside.base w.sort_unstable.new.self.items (IsNonDecreasingBy-from_sort (λ (n : ℕ). n) w.sort_unstable.new.self.items w.sort_unstable.ensures.sorted))
       | in-Wide w ↦ rw w.self-inside-is (pairs-ranked w.sort_unstable-in-Wide.new.self.items
-          (All-permutation (λ (p : ℕ × ℕ). p.1 < 134217728) w.in-Wide.pairs.items w.sort_unstable-in-Wide.new.self.items
+          (All-permutation (λ (p : ℕ × ℕ). p.1 < 2 ^ 27) w.in-Wide.pairs.items w.sort_unstable-in-Wide.new.self.items
           w.sort_unstable-in-Wide.ensures.permutation (numbered-wide c.self.inside.kept w.in-Wide.pairs w.in-Wide.is c.self.invariant.1)) w.sort_unstable-in-Wide.ensures.sorted)
     ]

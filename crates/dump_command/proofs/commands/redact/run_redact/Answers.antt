@@ -1,5 +1,6 @@
 use Rattle.std.proofs.Common.{ap, refl}
 use Rattle.std.proofs.lemmas.Result.{err_from_is_err_and}
+use Rattle.command_words.specs.Command.{redact}
 use Rattle.dump_command.proofs.Reading.{ReadsAtMost-same}
 use Rattle.dump_command.proofs.Redacting.{Runs-redact}
 use Rattle.dump_command.proofs.Runs.{Runs-unopened}
@@ -8,7 +9,7 @@ use Rattle.dump_command.proofs.commands.redact.run_redact.Goals as goal
 pub returns-in_err-index : goal.returns-in_err-index
 returns-in_err-index g c =
     let p = err_from_is_err_and c.from_residual.result c.from_residual.ensures.1 in
-    rw (p.1, p.2) (Runs-unopened _ _ _ _ _ _ _ _ refl c.in_err-index.ensures refl)
+    rw (p.1, p.2) (Runs-unopened redact _ _ _ _ _ _ _ c.in_err-index.ensures refl)
 
 pub returns : goal.returns
 returns g c =

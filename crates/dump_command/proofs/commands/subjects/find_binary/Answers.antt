@@ -2,8 +2,11 @@ use Rattle.std.proofs.Common.{sym, ap}
 use Rattle.dump_command.specs.Terms.{binary_cause}
 use Rattle.dump_command.proofs.commands.subjects.find_binary.Goals as goal
 
-pub returns-in-None : goal.returns-in-None
-returns-in-None c = (tt, ap (binary_cause c.args.addr) (sym c.in-None.ensures.section))
+pub returns-in_default-clause-judges : goal.returns-in_default-clause-judges
+returns-in_default-clause-judges c = (tt, ap (binary_cause c.args.addr) (sym c.in_default.ensures.section))
 
-pub returns-in-Some : goal.returns-in-Some
-returns-in-Some c = ap (binary_cause c.args.addr) (sym c.in-Some.ensures.section)
+pub returns-clause-judges : goal.returns-clause-judges
+returns-clause-judges c = ap (binary_cause c.args.addr) (sym c.in-Some.ensures.section)
+
+pub returns-clause-there : goal.returns-clause-there
+returns-clause-there c = sym c.in-Some.ensures.section

@@ -3,10 +3,11 @@ use Rattle.dump_sections.specs.Index.{sections_in}
 use Rattle.process_table.specs.Records.{record_sections}
 use Rattle.dump_sections.specs.Bodies.{section_in, IsBodyIn}
 use Rattle.table_sections.specs.Tables.{listed, table_of, IsTableOver}
-use Rattle.dump_command.specs.Report.{memory_section}
+use Rattle.dump_command.specs.Meaning.{memory_section}
 use Rattle.std.specs.Option.{option_to_list}
 use Rattle.dump_command.proofs.Reading.{failed-later, over-still}
-use Rattle.dump_command.proofs.TriageLoads.{reads-first, reads-memory, reads-procs, reads-tables, not-read, AreSmall-all, IsUnloaded-small}
+use Rattle.dump_sections.specs.LoadingLaws.{IsUnloaded-later, IsUnloaded-small}
+use Rattle.dump_command.proofs.TriageLoads.{reads-first, reads-memory, reads-procs, reads-tables, not-read, AreSmall-all}
 use Rattle.dump_command.proofs.commands.triage.read_bodies.Goals as goal
 
 pub read_found-requires-2-clause-over : goal.read_found-requires-2-clause-over
@@ -30,7 +31,7 @@ returns-in_err-first g c =
     let old = d.state c.args.dumps.now in
     let new = d.state c.read_found.new.dumps in
     not-read _ _ c.from_residual.ensures.1 (reads-first c.requires.places c.in_err-first.ensures.loads.reads)
-    (IsUnloaded-small limit (option_to_list (section_in index (Some 0))) old new old new _ (AreSmall-all limit index c.args.places c.requires.places c.requires.small).first (λ rose. rose) c.in_err-first.ensures.loads.fault)
+    (IsUnloaded-later old new old new _ (λ rose. rose) (IsUnloaded-small limit (option_to_list (section_in index (Some 0))) old new _ (AreSmall-all limit index c.args.places c.requires.places c.requires.small).first c.in_err-first.ensures.loads.fault))
 
 pub returns-in_err-memory : goal.returns-in_err-memory
 returns-in_err-memory g c =
@@ -40,7 +41,7 @@ returns-in_err-memory g c =
     let old = d.state c.args.dumps.now in
     let new = d.state c.read_found-2.new.dumps in
     not-read _ _ c.from_residual-in_err-memory.ensures.1 (reads-memory c.requires.places c.in_ok-first.ensures.loads.reads c.in_err-memory.ensures.loads.reads)
-    (IsUnloaded-small limit (option_to_list (section_in index c.args.places.memory)) old new (d.state c.read_found.new.dumps) new _ (AreSmall-all limit index c.args.places c.requires.places c.requires.small).memory (failed-later new c.in_ok-first.ensures.loads.reads) c.in_err-memory.ensures.loads.fault)
+    (IsUnloaded-later (d.state c.read_found.new.dumps) new old new _ (failed-later new c.in_ok-first.ensures.loads.reads) (IsUnloaded-small limit (option_to_list (section_in index c.args.places.memory)) (d.state c.read_found.new.dumps) new _ (AreSmall-all limit index c.args.places c.requires.places c.requires.small).memory c.in_err-memory.ensures.loads.fault))
 
 pub returns-in_err-procs : goal.returns-in_err-procs
 returns-in_err-procs g c =
@@ -50,7 +51,7 @@ returns-in_err-procs g c =
     let old = d.state c.args.dumps.now in
     let new = d.state c.read.new.dumps in
     not-read _ _ c.from_residual-in_err-procs.ensures.1 (reads-procs c.requires.places c.in_ok-first.ensures.loads.reads c.in_ok-memory.ensures.loads.reads c.in_err-procs.ensures.loads.reads)
-    (IsUnloaded-small limit (record_sections (sections_in index)) old new (d.state c.read_found-2.new.dumps) new _ (AreSmall-all limit index c.args.places c.requires.places c.requires.small).procs (λ rose. failed-later new c.in_ok-first.ensures.loads.reads (failed-later new c.in_ok-memory.ensures.loads.reads rose)) c.in_err-procs.ensures.loads.fault)
+    (IsUnloaded-later (d.state c.read_found-2.new.dumps) new old new _ (λ rose. failed-later new c.in_ok-first.ensures.loads.reads (failed-later new c.in_ok-memory.ensures.loads.reads rose)) (IsUnloaded-small limit (record_sections (sections_in index)) (d.state c.read_found-2.new.dumps) new _ (AreSmall-all limit index c.args.places c.requires.places c.requires.small).procs c.in_err-procs.ensures.loads.fault))
 
 pub returns-in_err-tables : goal.returns-in_err-tables
 returns-in_err-tables g c =
@@ -60,7 +61,7 @@ returns-in_err-tables g c =
     let old = d.state c.args.dumps.now in
     let new = d.state c.read-2.new.dumps in
     not-read _ _ c.from_residual-in_err-tables.ensures.1 (reads-tables c.requires.places c.in_ok-first.ensures.loads.reads c.in_ok-memory.ensures.loads.reads c.in_ok-procs.ensures.loads.reads c.in_err-tables.ensures.loads.reads)
-    (IsUnloaded-small limit (listed c.args.places.tables.kind (sections_in index)) old new (d.state c.read.new.dumps) new _ (AreSmall-all limit index c.args.places c.requires.places c.requires.small).tables (λ rose. failed-later new c.in_ok-first.ensures.loads.reads (failed-later new c.in_ok-memory.ensures.loads.reads (failed-later new c.in_ok-procs.ensures.loads.reads rose))) c.in_err-tables.ensures.loads.fault)
+    (IsUnloaded-later (d.state c.read.new.dumps) new old new _ (λ rose. failed-later new c.in_ok-first.ensures.loads.reads (failed-later new c.in_ok-memory.ensures.loads.reads (failed-later new c.in_ok-procs.ensures.loads.reads rose))) (IsUnloaded-small limit (listed c.args.places.tables.kind (sections_in index)) (d.state c.read.new.dumps) new _ (AreSmall-all limit index c.args.places c.requires.places c.requires.small).tables c.in_err-tables.ensures.loads.fault))
 
 pub returns : goal.returns
 returns g c =

@@ -9,4 +9,4 @@ use Rattle.dump_command.proofs.commands.trial.run_trial.Goals as goal
 pub returns-in_err-summary : goal.returns-in_err-summary
 returns-in_err-summary g c =
     let p = err_from_is_err_and c.from_residual.result c.from_residual.ensures.1 in
-    rw (p.1, p.2) (RunsAlone-told (trial c.args.seed c.args.count) _ _ (trial_report (trial_of c.args.seed c.args.count)) _ refl refl refl refl)
+    rw (p.1, p.2) (RunsAlone-told (trial c.args.seed c.args.count) _ _ (trial_report (trial_of c.args.seed c.args.count)) _ refl (λ _ _. (refl, refl, refl)) refl)

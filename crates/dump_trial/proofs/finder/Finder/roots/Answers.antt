@@ -2,7 +2,7 @@ use Rattle.std.proofs.Common.{sym, ◌∙◌, ap}
 use Rattle.dump_sections.specs.Index.{sections_in}
 use Rattle.root_views.specs.Kinds.{roots_tag}
 use Rattle.root_views.specs.declared.kinds.RootKind.TheVariants.{Stack, Dict, Mail}
-use Rattle.dump_trial.specs.Trial.{root_section}
+use Rattle.root_views.specs.Sections.{root_section}
 use Rattle.dump_trial.proofs.Looked.{looked}
 use Rattle.dump_trial.proofs.finder.Finder.roots.Goals as goal
 

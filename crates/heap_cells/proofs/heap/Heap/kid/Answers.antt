@@ -8,6 +8,7 @@ use Rattle.heap_cells.specs.HeapMap.{HeapMap, elements_at}
 use Rattle.heap_cells.specs.Targets.{number, target}
 use Rattle.heap_cells.specs.Inner.Texts.{text_of, seam_of}
 use Rattle.cell_records.specs.Slots.{slots_at}
+use Rattle.heap_cells.proofs.HeapFacts.{ordered-slots}
 use Rattle.heap_cells.proofs.RecordFacts.{IsSlotsOf, slots-of, slots-length, IsKidOf, kid-of, spells-readable, keeps-element}
 use Rattle.heap_cells.proofs.TargetFacts.{target-within}
 use Rattle.heap_cells.proofs.heap.Heap.kid.Goals as goal
@@ -29,13 +30,8 @@ none = slot.Imm (record { at = 0; len = 0 })
 
 pub slots_of-requires-clause-ordered : goal.slots_of-requires-clause-ordered
 slots_of-requires-clause-ordered c =
-    rw c.number-i.ensures
-    (facts c.self.inside c.args.self.now (number c.args.ix) c.self.invariant c.self.view_is c.requires.cell).ordered
-
-pub slots_of-requires-clause-within : goal.slots_of-requires-clause-within
-slots_of-requires-clause-within c =
-    rw c.number-i.ensures
-    (facts c.self.inside c.args.self.now (number c.args.ix) c.self.invariant c.self.view_is c.requires.cell).within
+    let h = c.self.inside in
+    ordered-slots (text_of h.texts) (seam_of h.texts) h.texts.enc _ h.arena.cells.items h.arena.slots.items c.self.invariant.slots_are
 
 pub bounds-slots_of-n : goal.bounds-slots_of-n
 bounds-slots_of-n c =

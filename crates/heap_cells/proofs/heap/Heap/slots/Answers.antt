@@ -3,21 +3,15 @@ use Rattle.heap_cells.specs.HeapMap.{HeapMap, elements_at}
 use Rattle.heap_cells.specs.Targets.{number}
 use Rattle.cell_records.specs.Slots.{slots_at}
 use Rattle.heap_cells.specs.Inner.Texts.{text_of, seam_of}
-use Rattle.heap_cells.proofs.RecordFacts.{IsSlotsOf, slots-of, slots_at-few}
+use Rattle.heap_cells.proofs.RecordFacts.{slots-of, slots_at-few}
+use Rattle.heap_cells.proofs.HeapFacts.{ordered-slots}
 use Rattle.heap_cells.proofs.TargetFacts.{slots-within}
 use Rattle.heap_cells.proofs.heap.Heap.slots.Goals as goal
 
-facts : (c : goal.After-number) → IsSlotsOf c.self.inside.arena.cells.items c.self.inside.arena.slots.items c.args.self.now.cells (number c.args.ix)
-facts c =
-    let h = c.self.inside in
-    slots-of (text_of h.texts) (seam_of h.texts) h.texts.enc h.arena.cells.items h.arena.slots.items c.args.self.now.cells (number c.args.ix)
-    c.self.invariant.slots_are (ap (λ (map : HeapMap). map.cells) c.self.view_is) c.requires
-
 pub slots_of-requires-clause-ordered : goal.slots_of-requires-clause-ordered
-slots_of-requires-clause-ordered c = rw c.number.ensures (facts c).ordered
-
-pub slots_of-requires-clause-within : goal.slots_of-requires-clause-within
-slots_of-requires-clause-within c = rw c.number.ensures (facts c).within
+slots_of-requires-clause-ordered c =
+    let h = c.self.inside in
+    ordered-slots (text_of h.texts) (seam_of h.texts) h.texts.enc _ h.arena.cells.items h.arena.slots.items c.self.invariant.slots_are
 
 pub returns-clause-targets : goal.returns-clause-targets
 returns-clause-targets c =

@@ -4,8 +4,5 @@ use Rattle.dump_command.proofs.commands.cells.CellsReport.read.Goals as goal
 
 pub returns-clause-reads : goal.returns-clause-reads
 returns-clause-reads g c =
-    let d = g.D.Dumps in
-    let t = c.args.self.now in
     let read = c.load_heap.ensures in
-    reads-cells t.file.now t.pid.now _ c.args.at.now.index.now _ _ _ read.reads
-    (λ some. ReadsAtMost-same d.state _ _ _ read.reads (read.unread some)) read.heap
+    reads-cells c.args.self.now.pid.now _ _ _ _ _ read.reads (λ some. ReadsAtMost-same g.D.Dumps.state _ _ _ read.reads (read.unread some)) read.heap

@@ -1,17 +1,18 @@
-use Rattle.dump_command.proofs.HeapLoads.{reads-ext, IsOfHeap-ext, IsHalted-heap}
+use Rattle.dump_command.specs.Meaning.{no_body}
+use Rattle.dump_command.specs.Terms.{no_external}
+use Rattle.dump_command.proofs.HeapLoads.{reads-ext, IsHalted-heap}
 use Rattle.dump_command.proofs.Reading.{ReadsAtMost-same, ReadsFor-halted}
 use Rattle.dump_command.proofs.commands.ext.ExtReport.read.Goals as goal
 
 pub returns-in_err-heap-clause-reads : goal.returns-in_err-heap-clause-reads
 returns-in_err-heap-clause-reads g c =
-    let d = g.D.Dumps in
     let t = c.args.self.now in
     let read = c.in_err-heap.ensures in
-    ReadsFor-halted _ _ c.from_residual.result _ c.from_residual.ensures.1 (IsHalted-heap _ _ _ _ _ (IsOfHeap-ext t.file.now t.pid.now t.addr _ _) _ _ _ read.reads
-    (λ some. ReadsAtMost-same d.state _ _ _ read.reads (read.unread some)) read.heap)
+    ReadsFor-halted _ _ c.from_residual.result _ c.from_residual.ensures.1 (IsHalted-heap t.pid.now no_body (no_external t.addr) _ _ _ _ _ _ _ _ read.reads
+    (λ some. ReadsAtMost-same g.D.Dumps.state _ _ _ read.reads (read.unread some)) read.heap)
 
 pub returns-clause-reads : goal.returns-clause-reads
 returns-clause-reads g c =
     let t = c.args.self.now in
     let read = c.in_ok-heap.ensures in
-    reads-ext t.file.now t.pid.now t.addr _ c.args.at.now.index.now _ _ _ _ read.reads read.heap c.read_external.ensures.judges c.read_external.ensures.bytes
+    reads-ext t.pid.now t.addr _ c.args.at.now.index.now _ _ _ _ read.reads read.heap c.read_external.ensures.judges c.read_external.ensures.bytes

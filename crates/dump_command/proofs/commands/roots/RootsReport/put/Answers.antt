@@ -5,14 +5,13 @@ use Rattle.root_views.specs.Kinds.{roots_in}
 use Rattle.term_unfold.specs.Walks.{Walk, new_walk}
 use Rattle.term_text.specs.Roots.{answer_over, roots_report}
 use Rattle.dump_command.proofs.Reading.{Tells-kept, Tells-put, Tells-stopped}
-use Rattle.dump_command.specs.Inner.Loads.{roots_text}
 use Rattle.dump_command.specs.declared.commands.roots.Loaded.{Loaded}
 use Rattle.dump_command.proofs.commands.roots.RootsReport.put.Goals as goal
 
 -- the text of the roots, by a walker over the heap
 roots-shown : (kind : RootKind) (nodes : ℕ) (marked : Bool) (loaded : Loaded) (walker : Walk) (bytes : List ℕ)
     → walker ≡ new_walk loaded.heap loaded.previews → bytes ≡ loaded.body.bytes.items
-    → roots_report (answer_over walker nodes marked) loaded.body.base (roots_in kind bytes) ≡ roots_text kind nodes marked loaded
+    → roots_report (answer_over walker nodes marked) loaded.body.base (roots_in kind bytes) ≡ roots_report (answer_over (new_walk loaded.heap loaded.previews) nodes marked) loaded.body.base (roots_in kind loaded.body.bytes.items)
 roots-shown kind nodes marked loaded walker bytes over held =
     ap (λ w. roots_report (answer_over w nodes marked) loaded.body.base (roots_in kind bytes)) over
     ∙ ap (λ b. roots_report (answer_over (new_walk loaded.heap loaded.previews) nodes marked) loaded.body.base (roots_in kind b)) held

@@ -1,0 +1,342 @@
+-- What is counted when a line refers to a binary.
+use Rattle.std.proofs.Common.{◌≡◌, ◌≢◌, ℕ, zero, suc, ◌+◌, ◌-◌, ◌^◌, ◌<◌, ◌≤◌, ◌==◌, Bool, true, false, cond, ◌||◌, List, [], ◌∷◌, ◌++◌, length, get_or, set, None, Some, refl, sym, ◌∙◌, ap, subst, arith, append-nil, append_assoc, ⊎_elim}
+use Rattle.std.specs.Prelude.{min, slice_index, replicate}
+use Rattle.std.specs.List.{count_by, sum_by, filter}
+use Rattle.std.proofs.lemmas.Bool.{cases_eq, eq-eqb, ne_eqb}
+use Rattle.std.proofs.lemmas.List.{get_or-map, get_or-set_same, get_or-set_other, length-set, length-map, length_push}
+use Rattle.std.proofs.lemmas.List.Folds.{list_any-append, list_any_at, list_any_none}
+use Rattle.std.proofs.lemmas.List.Elements.{All-from_get_or}
+use Rattle.std.proofs.lemmas.List.Sums.{sum_by-cons, sum_by_push, count_by-le-length}
+use Rattle.binary_holders.specs.declared.rows.Holding.{Holding}
+use Rattle.binary_holders.specs.declared.targets.Binary.{Binary}
+use Rattle.binary_holders.specs.declared.counts.Counts.{Counts}
+use Rattle.binary_holders.specs.Held.{bytes_held, capped, cells_holding, holding_of, holds, holders_of}
+use Rattle.binary_holders.specs.StoredBinaries.{is_among}
+use Rattle.binary_holders.specs.Inner.Places.{numbers_in, IsOnlyPlace}
+use Rattle.binary_holders.specs.Inner.Counting.{number_at, counted, HasCounted, HasRoom, Adds, KeepsRoom}
+use Rattle.binary_holders.proofs.SumFacts.{sum-agree, sum-differs, sum-filter, sum-part}
+
+-- ---- several references one after another
+
+pub Adds-then : (binaries : List Binary) (old mid new : Counts) (xs ys : List ℕ) → Adds binaries old mid xs → Adds binaries mid new ys → Adds binaries old new (xs ++ ys)
+Adds-then binaries old mid new xs ys first second = record {
+  later = λ heaps refs had. subst (λ l. HasCounted binaries heaps l new) (append_assoc refs xs ys) (second.later heaps (refs ++ xs) (first.later heaps refs had));
+}
+
+pub Adds-as : (binaries : List Binary) (old new : Counts) (xs ys : List ℕ) → xs ≡ ys → Adds binaries old new xs → Adds binaries old new ys
+Adds-as binaries old new xs ys same had = subst (Adds binaries old new) same had
+
+-- ---- one reference more
+
+among-push : (refs : List ℕ) (n m : ℕ) → is_among (refs ++ n ∷ []) m ≡ (is_among refs m || (n == m || false))
+among-push refs n m = list_any-append (λ x. x == m) refs (n ∷ [])
+
+or-false : (a b : Bool) → b ≡ false → (a || (b || false)) ≡ a
+or-false true b is = refl
+or-false false b is = ap (λ c. c || false) is
+
+or-true : (a b : Bool) → b ≡ true → (a || (b || false)) ≡ true
+or-true true b is = refl
+or-true false b is = ap (λ c. c || false) is
+
+among-other : (refs : List ℕ) (n m : ℕ) → n ≢ m → is_among (refs ++ n ∷ []) m ≡ is_among refs m
+among-other refs n m other = among-push refs n m ∙ or-false (is_among refs m) (n == m) (ne_eqb n m other)
+
+among-here : (refs : List ℕ) (n m : ℕ) → n ≡ m → is_among (refs ++ n ∷ []) m ≡ true
+among-here refs n m same = among-push refs n m ∙ or-true (is_among refs m) (n == m) (eq-eqb n m same)
+
+abbrev pub no_binary : Binary
+no_binary = record { number = 0; size = 0 }
+
+pub at-number : (binaries : List Binary) (k : ℕ) → k < length binaries → number_at binaries k ≡ (get_or binaries k no_binary).number
+at-number binaries k inside = get_or-map (λ (b : Binary). b.number) binaries k no_binary 0 inside
+
+-- the same test of a binary, as a number
+abbrev one : Bool → ℕ
+one b = cond b 1 0
+
+module _ (binaries : List Binary) (refs : List ℕ) (n : ℕ) where
+  -- the binaries whose test stays
+  abbrev Stays : ℕ → Type 0
+  Stays k = is_among (refs ++ n ∷ []) (number_at binaries k) ≡ is_among refs (number_at binaries k)
+
+  here-stays : (k : ℕ) → k < length binaries → Stays k → holds (refs ++ n ∷ []) (get_or binaries k no_binary) ≡ holds refs (get_or binaries k no_binary)
+  here-stays k inside stays =
+      ap (is_among (refs ++ n ∷ [])) (sym (at-number binaries k inside)) ∙ stays ∙ ap (is_among refs) (at-number binaries k inside)
+
+  bytes-as : (xs : List ℕ) → sum_by (λ (b : Binary). b.size) (filter (holds xs) binaries) ≡ sum_by (λ (b : Binary). cond (holds xs b) b.size 0) binaries
+  bytes-as xs = sum-filter (holds xs) (λ (b : Binary). b.size) binaries
+
+  -- ---- where no test changes
+
+  module _ (all : (k : ℕ) → k < length binaries → Stays k) where
+    count-stays : count_by (holds (refs ++ n ∷ [])) binaries ≡ count_by (holds refs) binaries
+    count-stays = sum-agree (λ b. one (holds refs b)) (λ b. one (holds (refs ++ n ∷ []) b)) binaries no_binary (λ k inside. ap one (here-stays k inside (all k inside)))
+
+    bytes-stay : bytes_held binaries (refs ++ n ∷ []) ≡ bytes_held binaries refs
+    bytes-stay =
+        bytes-as (refs ++ n ∷ [])
+        ∙ sum-agree (λ (b : Binary). cond (holds refs b) b.size 0) (λ (b : Binary). cond (holds (refs ++ n ∷ []) b) b.size 0) binaries no_binary
+        (λ k inside. ap (λ t. cond t (get_or binaries k no_binary).size 0) (here-stays k inside (all k inside)))
+        ∙ sym (bytes-as refs)
+
+    holders-stay : (heaps : List (List ℕ)) (k : ℕ) → k < length binaries
+        → holders_of (heaps ++ (refs ++ n ∷ []) ∷ []) (number_at binaries k) ≡ holders_of (heaps ++ refs ∷ []) (number_at binaries k)
+    holders-stay heaps k inside =
+        sum_by_push (λ xs. one (is_among xs (number_at binaries k))) heaps (refs ++ n ∷ [])
+        ∙ ap (λ t. holders_of heaps (number_at binaries k) + one t) (all k inside)
+        ∙ sym (sum_by_push (λ xs. one (is_among xs (number_at binaries k))) heaps refs)
+
+    -- what was known stays, but for how many references are to one of them
+    counted-stays : (heaps : List (List ℕ)) (counts : Counts) (cells : ℕ) → HasCounted binaries heaps refs counts → cells ≡ capped (cells_holding binaries (refs ++ n ∷ []))
+        → HasCounted binaries heaps (refs ++ n ∷ []) (record counts { cells = cells })
+    counted-stays heaps counts cells had is = record {
+      turn = had.turn;
+      seen_size = had.seen_size;
+      holders_size = had.holders_size;
+      upto = had.upto;
+      seen = λ k inside. had.seen k inside ∙ sym (all k inside);
+      holders = λ k inside. had.holders k inside ∙ sym (holders-stay heaps k inside);
+      count = had.count ∙ sym count-stays;
+      total = had.total ∙ sym bytes-stay;
+      cells = is;
+    }
+
+  -- ---- where that of one place changes
+
+  module _ (p : ℕ) (inside : p < length binaries) (before : is_among refs (number_at binaries p) ≡ false) (after : is_among (refs ++ n ∷ []) (number_at binaries p) ≡ true)
+      (others : (k : ℕ) → k < length binaries → k ≢ p → Stays k) where
+    was : holds refs (get_or binaries p no_binary) ≡ false
+    was = ap (is_among refs) (sym (at-number binaries p inside)) ∙ before
+
+    now : holds (refs ++ n ∷ []) (get_or binaries p no_binary) ≡ true
+    now = ap (is_among (refs ++ n ∷ [])) (sym (at-number binaries p inside)) ∙ after
+
+    count-grows : count_by (holds (refs ++ n ∷ [])) binaries ≡ count_by (holds refs) binaries + 1
+    count-grows =
+        sum-differs (λ b. one (holds refs b)) (λ b. one (holds (refs ++ n ∷ []) b)) binaries no_binary p 1 inside
+        (ap one now ∙ sym (ap (λ t. one t + 1) was)) (λ k within other. ap one (here-stays k within (others k within other)))
+
+    bytes-grow : bytes_held binaries (refs ++ n ∷ []) ≡ bytes_held binaries refs + (get_or binaries p no_binary).size
+    bytes-grow =
+        bytes-as (refs ++ n ∷ [])
+        ∙ sum-differs (λ (b : Binary). cond (holds refs b) b.size 0) (λ (b : Binary). cond (holds (refs ++ n ∷ []) b) b.size 0) binaries no_binary p (get_or binaries p no_binary).size inside
+        (ap (λ t. cond t (get_or binaries p no_binary).size 0) now ∙ sym (ap (λ t. cond t (get_or binaries p no_binary).size 0 + (get_or binaries p no_binary).size) was ∙ (let e : 0 + (get_or binaries p no_binary).size ≡ (get_or binaries p no_binary).size = omega arith in e)))
+        (λ k within other. ap (λ t. cond t (get_or binaries k no_binary).size 0) (here-stays k within (others k within other)))
+        ∙ ap (λ s. s + (get_or binaries p no_binary).size) (sym (bytes-as refs))
+
+    holders-grow : (heaps : List (List ℕ))
+        → holders_of (heaps ++ (refs ++ n ∷ []) ∷ []) (number_at binaries p) ≡ holders_of (heaps ++ refs ∷ []) (number_at binaries p) + 1
+    holders-grow heaps =
+        sum_by_push (λ xs. one (is_among xs (number_at binaries p))) heaps (refs ++ n ∷ [])
+        ∙ ap (λ t. holders_of heaps (number_at binaries p) + one t) after
+        ∙ (let e : holders_of heaps (number_at binaries p) + 1 ≡ holders_of heaps (number_at binaries p) + 0 + 1 = omega arith in e)
+        ∙ ap (λ t. holders_of heaps (number_at binaries p) + one t + 1) (sym before)
+        ∙ sym (ap (λ m. m + 1) (sum_by_push (λ xs. one (is_among xs (number_at binaries p))) heaps refs))
+
+  -- ---- how many references are to one of them
+
+  cells-as : cells_holding binaries (refs ++ n ∷ []) ≡ cells_holding binaries refs + one (is_among (numbers_in binaries) n)
+  cells-as = sum_by_push (λ m. one (is_among (numbers_in binaries) m)) refs n
+
+-- ---- the three cases of a reference
+
+-- what is added to a capped sum
+capped-sum : (a b : ℕ) → min (min a (2 ^ 64 - 1) + b) (2 ^ 64 - 1) ≡ capped (a + b)
+capped-sum a b = omega arith
+
+pub length-numbers : (binaries : List Binary) → length (numbers_in binaries) ≡ length binaries
+length-numbers binaries = length-map binaries (λ (b : Binary). b.number)
+
+-- a reference to none of them
+pub add-unknown : (binaries : List Binary) (counts : Counts) (n : ℕ) → IsOnlyPlace (numbers_in binaries) n None → Adds binaries counts counts (n ∷ [])
+add-unknown binaries counts n none = record {
+  later = λ heaps refs had.
+      let stays = λ (k : ℕ) (inside : k < length binaries). among-other refs n (number_at binaries k) (λ same. none k (omega (arith, inside, length-numbers binaries)) (sym same)) in
+      let gone : is_among (numbers_in binaries) n ≡ false =
+      list_any_none (λ m. m == n) (numbers_in binaries) (All-from_get_or (λ m. (m == n) ≡ false) (numbers_in binaries) 0 (λ k inside. ne_eqb (get_or (numbers_in binaries) k 0) n (none k inside))) in
+      counted-stays binaries refs n stays heaps counts counts.cells had
+      (had.cells ∙ ap capped (sym (cells-as binaries refs n ∙ ap (λ t. cells_holding binaries refs + one t) gone ∙ (let e : cells_holding binaries refs + 0 ≡ cells_holding binaries refs = omega arith in e))));
+}
+
+-- the number is that of the binary at a place, and of no other
+module _ (binaries : List Binary) (n p : ℕ) (only : IsOnlyPlace (numbers_in binaries) n (Some p)) where
+  within : p < length binaries
+  within = omega (arith, only.0, length-numbers binaries)
+
+  apart : (k : ℕ) → k < length binaries → k ≢ p → n ≢ number_at binaries k
+  apart k inside other same = other (only.2 k (omega (arith, inside, length-numbers binaries)) (sym same))
+
+  known : is_among (numbers_in binaries) n ≡ true
+  known = list_any_at (λ m. m == n) (numbers_in binaries) p 0 only.0 (eq-eqb (get_or (numbers_in binaries) p 0) n only.1)
+
+  one-cell : (refs : List ℕ) (old new : ℕ) → old ≡ capped (cells_holding binaries refs) → new ≡ min (old + 1) (2 ^ 64 - 1) → new ≡ capped (cells_holding binaries (refs ++ n ∷ []))
+  one-cell refs old new was is =
+      let more = cells-as binaries refs n ∙ ap (λ t. cells_holding binaries refs + one t) known in
+      let sum : cells_holding binaries (refs ++ n ∷ []) ≡ cells_holding binaries refs + 1 = more in
+      is ∙ ap (λ m. min (m + 1) (2 ^ 64 - 1)) was ∙ capped-sum (cells_holding binaries refs) 1 ∙ ap capped (sym sum)
+
+  -- the heap holds it already
+  pub add-again : (counts : Counts) (cells : ℕ) → slice_index counts.seen.items p ≡ counts.turn → cells ≡ min (counts.cells + 1) (2 ^ 64 - 1)
+      → Adds binaries counts (record counts { cells = cells }) (n ∷ [])
+  add-again counts cells held is = record {
+    later = λ heaps refs had.
+        let there : is_among refs (number_at binaries p) ≡ true = sym (had.seen p within) ∙ eq-eqb (slice_index counts.seen.items p) counts.turn held in
+        let stays : (k : ℕ) → k < length binaries → is_among (refs ++ n ∷ []) (number_at binaries k) ≡ is_among refs (number_at binaries k) =
+        λ k inside. ⊎_elim
+        (λ same. ap (λ m. is_among (refs ++ n ∷ []) (number_at binaries m)) same ∙ among-here refs n (number_at binaries p) (sym only.1) ∙ sym there ∙ ap (λ m. is_among refs (number_at binaries m)) (sym same))
+        (λ other. among-other refs n (number_at binaries k) (apart k inside other))
+        (cases_eq k p) in
+        counted-stays binaries refs n stays heaps counts cells had (one-cell refs counts.cells cells had.cells is);
+  }
+
+  -- the heap didn't hold it before
+  pub add-new : (counts new : Counts) → sum_by (λ (b : Binary). b.size) binaries < 2 ^ 128 → length binaries + 1 < 2 ^ 64 → counts.turn < 2 ^ 32 → slice_index counts.seen.items p ≢ counts.turn → new.turn ≡ counts.turn
+      → new.seen.items ≡ set counts.seen.items p counts.turn → new.holders.items ≡ set counts.holders.items p (min (slice_index counts.holders.items p + 1) (2 ^ 32 - 1))
+      → new.count ≡ min (counts.count + 1) (2 ^ 64 - 1) → new.total ≡ min (counts.total + (get_or binaries p no_binary).size) (2 ^ 128 - 1)
+      → new.cells ≡ min (counts.cells + 1) (2 ^ 64 - 1) → Adds binaries counts new (n ∷ [])
+  add-new counts new fits few small unheld turn seen holders count total cells = record {
+    later = λ heaps refs had.
+        let before : is_among refs (number_at binaries p) ≡ false = sym (had.seen p within) ∙ ne_eqb (slice_index counts.seen.items p) counts.turn unheld in
+        let after : is_among (refs ++ n ∷ []) (number_at binaries p) ≡ true = among-here refs n (number_at binaries p) (sym only.1) in
+        let others : (k : ℕ) → k < length binaries → k ≢ p → is_among (refs ++ n ∷ []) (number_at binaries k) ≡ is_among refs (number_at binaries k) =
+        λ k inside other. among-other refs n (number_at binaries k) (apart k inside other) in
+        let seen_room : p < length counts.seen.items = omega (arith, within, had.seen_size) in
+        let holders_room : p < length counts.holders.items = omega (arith, within, had.holders_size) in
+        record {
+          turn = turn ∙ had.turn;
+          seen_size = ap length seen ∙ length-set counts.seen.items p counts.turn ∙ had.seen_size;
+          holders_size = ap length holders ∙ length-set counts.holders.items p (min (slice_index counts.holders.items p + 1) (2 ^ 32 - 1)) ∙ had.holders_size;
+          upto = λ k. ⊎_elim
+              (λ same.
+              let here : slice_index new.seen.items k ≡ counts.turn = ap (λ l. slice_index l k) seen ∙ ap (λ m. slice_index (set counts.seen.items p counts.turn) m) same ∙ get_or-set_same counts.seen.items p counts.turn 0 seen_room in
+              omega (arith, here, turn))
+              (λ other.
+              let there : slice_index new.seen.items k ≡ slice_index counts.seen.items k = ap (λ l. slice_index l k) seen ∙ get_or-set_other counts.seen.items p k counts.turn 0 other in
+              let most = had.upto k in
+              omega (arith, there, turn, most))
+              (cases_eq k p);
+          seen = λ k inside. ⊎_elim
+              (λ same.
+              let here : slice_index new.seen.items k ≡ new.turn = ap (λ l. slice_index l k) seen ∙ ap (λ m. slice_index (set counts.seen.items p counts.turn) m) same ∙ get_or-set_same counts.seen.items p counts.turn 0 seen_room ∙ sym turn in
+              eq-eqb (slice_index new.seen.items k) new.turn here ∙ sym after ∙ ap (λ m. is_among (refs ++ n ∷ []) (number_at binaries m)) (sym same))
+              (λ other.
+              let there : slice_index new.seen.items k ≡ slice_index counts.seen.items k = ap (λ l. slice_index l k) seen ∙ get_or-set_other counts.seen.items p k counts.turn 0 other in
+              ap (λ m. m == new.turn) there ∙ ap (λ m. slice_index counts.seen.items k == m) turn ∙ had.seen k inside ∙ sym (others k inside other))
+              (cases_eq k p);
+          holders = λ k inside. ⊎_elim
+              (λ same.
+              let was = had.holders p within in
+              let few_heaps = count_by-le-length (λ xs. is_among xs (number_at binaries p)) heaps in
+              let pushed = sum_by_push (λ xs. one (is_among xs (number_at binaries p))) heaps refs ∙ ap (λ t. holders_of heaps (number_at binaries p) + one t) before in
+              let room : slice_index counts.holders.items p + 1 ≤ 2 ^ 32 - 1 = omega (arith, was, few_heaps, pushed, had.turn, small) in
+              let here : min (slice_index counts.holders.items p + 1) (2 ^ 32 - 1) ≡ slice_index counts.holders.items p + 1 = omega (arith, room) in
+              ap (λ l. slice_index l k) holders
+              ∙ ap (λ m. slice_index (set counts.holders.items p (min (slice_index counts.holders.items p + 1) (2 ^ 32 - 1))) m) same
+              ∙ get_or-set_same counts.holders.items p (min (slice_index counts.holders.items p + 1) (2 ^ 32 - 1)) 0 holders_room
+              ∙ here ∙ ap (λ m. m + 1) was ∙ sym (holders-grow binaries refs n p within before after others heaps) ∙ ap (λ m. holders_of (heaps ++ (refs ++ n ∷ []) ∷ []) (number_at binaries m)) (sym same))
+              (λ other.
+              ap (λ l. slice_index l k) holders
+              ∙ get_or-set_other counts.holders.items p k (min (slice_index counts.holders.items p + 1) (2 ^ 32 - 1)) 0 other
+              ∙ had.holders k inside
+              ∙ sum_by_push (λ xs. one (is_among xs (number_at binaries k))) heaps refs
+              ∙ ap (λ t. holders_of heaps (number_at binaries k) + one t) (sym (others k inside other))
+              ∙ sym (sum_by_push (λ xs. one (is_among xs (number_at binaries k))) heaps (refs ++ n ∷ [])))
+              (cases_eq k p);
+          count = (let most = count_by-le-length (holds refs) binaries in
+              let room : min (counts.count + 1) (2 ^ 64 - 1) ≡ counts.count + 1 = omega (arith, most, had.count, few) in
+              count ∙ room ∙ ap (λ m. m + 1) had.count ∙ sym (count-grows binaries refs n p within before after others));
+          total = (let grown = bytes-grow binaries refs n p within before after others in
+              let most = sum-part (holds (refs ++ n ∷ [])) (λ (b : Binary). b.size) binaries in
+              let room : min (counts.total + (get_or binaries p no_binary).size) (2 ^ 128 - 1) ≡ bytes_held binaries (refs ++ n ∷ []) = omega (arith, grown, most, had.total, fits) in
+              total ∙ room);
+          cells = one-cell refs counts.cells new.cells had.cells cells;
+        };
+  }
+
+-- ---- one heap behind another
+
+-- a heap that refers to nothing holds nothing
+none-held : (binaries : List Binary) → count_by (holds []) binaries ≡ 0
+none-held [] = refl
+none-held (b ∷ binaries) = let rest = none-held binaries in omega (arith, rest, sum_by-cons (λ c. one (holds [] c)) b binaries)
+
+sum-none : (binaries : List Binary) → sum_by (λ (b : Binary). b.size) (filter (holds []) binaries) ≡ 0
+sum-none [] = refl
+sum-none (b ∷ binaries) = sum-none binaries
+
+-- the next turn
+pub next-turn : (binaries : List Binary) (heaps : List (List ℕ)) (refs : List ℕ) (counts new : Counts) → HasCounted binaries heaps refs counts → new.turn ≡ counts.turn + 1
+    → new.seen ≡ counts.seen → new.holders ≡ counts.holders → new.count ≡ 0 → new.total ≡ 0 → new.cells ≡ 0 → HasCounted binaries (heaps ++ refs ∷ []) [] new
+next-turn binaries heaps refs counts new had turn seen holders count bytes cells = record {
+  turn = turn ∙ (let e = length_push heaps refs in let same : counts.turn + 1 ≡ length (heaps ++ refs ∷ []) + 1 = omega (arith, e, had.turn) in same);
+  seen_size = ap (λ (v : _). length v.items) seen ∙ had.seen_size;
+  holders_size = ap (λ (v : _). length v.items) holders ∙ had.holders_size;
+  upto = λ k. (let most = had.upto k in let same : slice_index new.seen.items k ≡ slice_index counts.seen.items k = ap (λ (v : _). slice_index v.items k) seen in omega (arith, most, same, turn));
+  seen = λ k inside.
+      (let most = had.upto k in
+      let same : slice_index new.seen.items k ≡ slice_index counts.seen.items k = ap (λ (v : _). slice_index v.items k) seen in
+      ne_eqb (slice_index new.seen.items k) new.turn (λ is. omega (arith, most, same, turn, is)));
+  holders = λ k inside.
+      ap (λ (v : _). slice_index v.items k) holders ∙ had.holders k inside
+      ∙ (let e : holders_of (heaps ++ refs ∷ []) (number_at binaries k) ≡ holders_of (heaps ++ refs ∷ []) (number_at binaries k) + 0 = omega arith in e)
+      ∙ sym (sum_by_push (λ xs. one (is_among xs (number_at binaries k))) (heaps ++ refs ∷ []) []);
+  count = count ∙ sym (none-held binaries);
+  total = bytes ∙ sym (sum-none binaries);
+  cells = cells;
+}
+
+-- nothing was counted
+pub nothing-counted : (binaries : List Binary) (counts : Counts) → counts.turn ≡ 1 → counts.count ≡ 0 → counts.total ≡ 0 → counts.cells ≡ 0
+    → length counts.seen.items ≡ length binaries → length counts.holders.items ≡ length binaries
+    → ((k : ℕ) → slice_index counts.seen.items k ≡ 0) → ((k : ℕ) → slice_index counts.holders.items k ≡ 0) → HasCounted binaries [] [] counts
+nothing-counted binaries counts turn count bytes cells seen_size holders_size seen holders = record {
+  turn = turn;
+  seen_size = seen_size;
+  holders_size = holders_size;
+  upto = λ k. (let none = seen k in omega (arith, none));
+  seen = λ k inside. (let none = seen k in ne_eqb (slice_index counts.seen.items k) counts.turn (λ is. omega (arith, none, is, turn)));
+  holders = λ k inside. holders k;
+  count = count ∙ sym (none-held binaries);
+  total = bytes ∙ sym (sum-none binaries);
+  cells = cells;
+}
+
+-- room that nothing was written into
+pub zeros-at : (n k : ℕ) → slice_index (replicate n 0) k ≡ 0
+zeros-at zero k = refl
+zeros-at (suc n) zero = refl
+zeros-at (suc n) (suc k) = zeros-at n k
+
+-- what a process holds
+pub held-is : (binaries : List Binary) (heaps : List (List ℕ)) (refs : List ℕ) (counts : Counts) (process : ℕ) → HasCounted binaries heaps refs counts → length refs < 2 ^ 64
+    → counted process counts ≡ holding_of binaries (process, refs)
+held-is binaries heaps refs counts process had few =
+    let most = count_by-le-length (is_among (numbers_in binaries)) refs in
+    let cells : counts.cells ≡ cells_holding binaries refs = omega (arith, had.cells, most, few) in
+    ap (λ n. made n counts.count counts.cells) had.total ∙ ap (λ n. made (bytes_held binaries refs) n counts.cells) had.count ∙ ap (λ n. made (bytes_held binaries refs) (count_by (holds refs) binaries) n) cells
+  where
+    made : ℕ → ℕ → ℕ → Holding
+    made total count cells = record { process = process; bytes = capped total; total = total; count = count; cells = cells }
+
+-- ---- the room stays
+
+pub room-kept : (count : ℕ) (old new : Counts) → HasRoom count old → KeepsRoom old new → HasRoom count new
+room-kept count old new room keeps = record {
+  turn = omega (arith, room.turn, keeps.turn);
+  seen = keeps.seen ∙ room.seen;
+  holders = keeps.holders ∙ room.holders;
+}
+
+pub keeps-then : (old mid new : Counts) → KeepsRoom old mid → KeepsRoom mid new → KeepsRoom old new
+keeps-then old mid new first second = record {
+  turn = second.turn ∙ first.turn;
+  seen = second.seen ∙ first.seen;
+  holders = second.holders ∙ first.holders;
+}
+
+-- no reference was counted
+pub Adds-none : (binaries : List Binary) (counts : Counts) → Adds binaries counts counts []
+Adds-none binaries counts = record {
+  later = λ heaps refs had. subst (λ l. HasCounted binaries heaps l counts) (sym (append-nil refs)) had;
+}

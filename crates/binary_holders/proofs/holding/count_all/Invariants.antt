@@ -1,0 +1,26 @@
+use Rattle.std.proofs.Common.{◌≡◌, ◌+◌, ◌<◌, [], List, ℕ, length, map, take}
+use Rattle.std.specs.Prelude.{All}
+use Rattle.std.specs.List.{sum_by}
+use Rattle.dump_io.specs.Dumps.{told, ReadsAtMost}
+use Rattle.binary_holders.specs.Held.{holdings}
+use Rattle.binary_holders.specs.Usage.{NamesProcess}
+use Rattle.binary_holders.specs.Inner.HeapSinks.{IsReady}
+use Rattle.binary_holders.specs.Inner.Places.{references_at, size_at}
+use Rattle.binary_holders.specs.Inner.Counting.{HasCounted}
+use Rattle.binary_holders.proofs.holding.count_all.Given as goal
+
+-- the heaps of the processes so far were counted
+abbrev pub invariant-loop-process : goal.invariant-loop-process
+invariant-loop-process g l =
+    let d = g.D.Dumps in
+    record {
+      buffer : 72 < length l.buffer;
+      enc : l.sink.enc ≡ l.initial.sink.enc;
+      targets : l.sink.targets.now ≡ l.initial.sink.targets.now;
+      reads : ReadsAtMost (d.state l.initial.dumps) (d.state l.dumps) (sum_by (size_at l.index) (take l.process l.heaps));
+      turn : l.sink.counts.turn ≡ l.process + 1;
+      room : IsReady l.sink;
+      held : (dump : List ℕ) → (d.state l.initial.dumps).now ≡ told dump → l.held.items ≡ holdings l.initial.sink.targets.now (map (references_at dump l.index) (take l.process l.heaps));
+      named : All (NamesProcess (length l.heaps)) l.held.items;
+      had : (dump : List ℕ) → (d.state l.initial.dumps).now ≡ told dump → HasCounted l.initial.sink.targets.now (map (references_at dump l.index) (take l.process l.heaps)) [] l.sink.counts;
+    }

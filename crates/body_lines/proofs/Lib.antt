@@ -1,0 +1,6 @@
+mod Eaches
+mod Hearings
+mod Places
+mod Readings
+mod Steps
+mod Wholes

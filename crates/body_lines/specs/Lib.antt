@@ -1,0 +1,5 @@
+pub mod Hearing
+pub mod Inner
+pub mod Laws
+pub mod Lines
+pub mod WholeLines

@@ -1,0 +1,59 @@
+// The first place of each key.
+ghost use Rattle.std.specs.Prelude.{◌≡◌, true, false, IfOk};
+ghost use Rattle.std.specs.List.Sorted.{IsPartitionPoint, IsSortedByKey};
+ghost use Rattle.std.specs.Ordering.{is_lt};
+ghost use Rattle.first_sections.specs.Places.{place_by};
+
+use std::alloc::AllocError;
+use std::marker::Model;
+
+// How many of the pairs have a lower key: these come first.
+fn count_below<K: Ord + Copy>(pairs: &[(K, usize)], key: K) -> usize
+    requires { IsSortedByKey (λ pair. pair.0) K.cmp pairs.now }
+    ensures { IsPartitionPoint (λ pair. is_lt (K.cmp pair.0 key) ≡ true)
+        (λ pair. is_lt (K.cmp pair.0 key) ≡ false) pairs.now result }
+{
+    pairs.partition_point(|pair| pair.0.cmp(&key).is_lt())
+}
+
+/// Keys and places, sorted by key, so that the first place of a key is found by a binary search. Those with the
+/// same key stay in their order. Nothing is hashed: whoever writes a dump could give all keys one hash.
+#[derive(Drop)]
+pub struct FirstPlaces<K: Ord + Copy> {
+    pairs: Vec<(K, usize)>,
+}
+
+impl<K: Ord + Copy> Model for FirstPlaces<K> {
+    ghost use Rattle.std.specs.Prelude.{List, ℕ};
+    ghost use Rattle.std.specs.List.Sorted.{IsSortedByKey};
+
+    ghost Value = { List (K × ℕ) };
+
+    ghost view = { λ f. f.pairs.items };
+
+    ghost invariant = { λ f. IsSortedByKey (λ pair. pair.0) K.cmp f.pairs.items };
+}
+
+impl<K: Ord + Copy> FirstPlaces<K> {
+    /// Sorts keys and their places. Returns an error only if memory is lacking.
+    pub fn of(mut pairs: Vec<(K, usize)>) -> Result<FirstPlaces<K>, AllocError>
+        ensures { IfOk result (λ firsts. (key : K) → place_by K.cmp key firsts
+            ≡ place_by K.cmp key pairs.items) }
+    {
+        pairs.sort_by_key(|pair| pair.0)?;
+        Ok(FirstPlaces { pairs })
+    }
+
+    /// The first place of a key. Returns `None` exactly when there is none.
+    pub fn get(&self, key: K) -> Option<usize>
+        ensures { result ≡ place_by K.cmp key self.now }
+    {
+        let pairs = self.pairs.as_slice();
+        let (found, place) = *pairs.get(count_below(pairs, key))?;
+        if found.cmp(&key).is_eq() {
+            Some(place)
+        } else {
+            None
+        }
+    }
+}
