@@ -2,7 +2,8 @@
 # Refuses each growth of memory once: runs edump again and again, of which the first, the second and each further call of
 # malloc or realloc fails, up to the number that is given. Each run must end with its report and its status, or with
 # status 6 and nothing written; `redact` may have written a front of its report then. Says for each command how many runs ended
-# so, and fails where one ended otherwise.
+# so, and fails where one ended otherwise, or where fewer than 30 of the first 60 of `trial 0 10`, which makes a heap and a walker
+# for each of ten processes, ended with 6.
 #
 #   bench/growths.sh [MOST]
 most=${1:-60}
@@ -44,6 +45,10 @@ try() {
 }
 
 try trial 0 10
+if [ "$most" -ge 60 ] && [ "$wanting" -lt 30 ]; then
+    echo "edump trial: fewer than 30 runs ended with 6"
+    failed=1
+fi
 try term "$folder/dump" "<0.4.0>" 4000
 try mail "$folder/dump" "<0.4.0>"
 try audit "$folder/dump" 8

@@ -18,6 +18,7 @@ cc -O2 -o "$folder/bench" "$here/bench.c" || exit 1
 cc -O2 -o "$folder/hostile" "$here/hostile.c" || exit 1
 edump="$here/../crates/edump/out/edump"
 "$here/../edump" trial 0 1 >/dev/null || exit 1
+forms=$("$here/../.ci/documents" --forms) || exit 1
 slow=0
 
 # The best seconds of some rounds of a command on a file.
@@ -44,27 +45,30 @@ tell() {
     }' || slow=1
 }
 
-# A shape, with so many of what it has: all commands on it.
+# A command with its kinds of words, on the shape.
+try() {
+    case $3 in
+    "FILE" | "FILE [N]") tell "$1" "$2" ;;
+    "FILE PID") tell "$1" "$2" "<0.1.0>" ;;
+    "FILE PID [NODES] [marked]") tell "$1" "$2" "<0.1.0>" 1 ;;
+    "FILE PID ADDR"*) tell "$1" "$2" "<0.1.0>" 10 ;;
+    "FILE ADDR") tell "$1" "$2" 1 ;;
+    "FILE LIMIT [full]") tell "$1" "$2" 5 && tell "$1" "$2" 5 full ;;
+    "SEED COUNT") ;;
+    *) tell "$1" "$2" State ;;
+    esac
+}
+
+# A shape, with so many of what it has: all commands of the README on it.
 shape() {
     "$folder/hostile" "$1" "$folder/once" "$2" || exit 1
     "$folder/hostile" plain "$1" "$folder/plain" "$2" || exit 1
     "$folder/hostile" "$1" "$folder/twice" $((2 * $2)) || exit 1
-    for command in index info procs memory ets ports nodes mods links redact binaries triage; do
-        tell "$1" "$command"
-    done
-    tell "$1" audit 5
-    tell "$1" audit 5 full
-    tell "$1" audit-json 5
-    tell "$1" proc "<0.1.0>"
-    for command in stack dict mail; do
-        tell "$1" "$command" "<0.1.0>" 1
-    done
-    tell "$1" term "<0.1.0>" 10
-    tell "$1" ext "<0.1.0>" 10
-    tell "$1" reach "<0.1.0>"
-    tell "$1" cells "<0.1.0>"
-    tell "$1" binary 10
-    tell "$1" holders 1
+    while read -r command words; do
+        try "$1" "$command" "$words" </dev/null
+    done <<END
+$forms
+END
 }
 
 shape pids 100000

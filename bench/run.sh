@@ -6,7 +6,8 @@
 # and `edump binaries` beside `edump index` and a program in C that reads the same; then an external term, read and written;
 # then `edump audit` beside `edump procs`, and `edump audit-json` beside `edump audit`; and then `edump redact` of a dump of
 # 1 GiB beside `cat`, each into a file that isn't there before. Each command runs in turn for a number of rounds; the script
-# prints its median in seconds, how many times that of another this is, and the most memory that it had.
+# prints its median in seconds, how many times that of another this is, and the most memory that it had. `bench/table` writes
+# what it has printed into docs/SPEED.md and README.md.
 #
 #   bench/run.sh [ROUNDS]
 #
@@ -21,6 +22,8 @@ bench="$folder/bench"
 dump="$folder/dump"
 edump="$here/../crates/edump/out/edump"
 heap_bench="$here/../crates/heap_bench/out/heap_bench"
+echo "measured: $rounds rounds of the tree of $(git -C "$here" log -1 --format='%cs (%h)'), on $(nproc) processors ($(sed -n \
+    's/^model name.*: //p' /proc/cpuinfo | head -n 1)) with $(uname -sr), whose load was $(cut -d ' ' -f 1 /proc/loadavg) before"
 # The gate builds heap_bench too; where it hasn't, the crates below it are proved first.
 [ -x "$heap_bench" ] || (cd "$here/../crates/heap_bench" && rt run -- lines data/small.heap) >"$folder/build.log" 2>&1 || exit 1
 
@@ -62,7 +65,7 @@ for sections in 500000 900000; do
     done
     tell index "edump index"
     tell info "edump info"
-    tell loop "the C loop"
+    tell loop "the C loop" loop itself
     tell grep "grep -ab '^='"
 done
 
@@ -112,6 +115,7 @@ for shape in "list 1000000 0" "list 10000000 1" "tuples 1000000"; do
     awk -v most="$(memory load)" -v size="$size" 'BEGIN { printf "the load had %.2f times the text\n", most * 1000000 / size }'
     cmp "$folder/out" "$folder/plain" || exit 1
     tell term "edump term" plain "the C program"
+    tell plain "the C program" plain itself
     [ "$2" -gt 1000000 ] && continue
     awk -v walk="$(median walk)" -v load="$(median previews)" -v cells="$2" \
         'BEGIN { printf "judge and print: %.1f million nodes a second\n", 2 * cells / (walk - load) / 1000000 }'

@@ -1,39 +1,38 @@
-# Completes the words of edump in bash: the command, the name of a dump, a pid that stands in it, and the last words.
+# Completes the words of edump in bash: the command, the name of a dump, a pid that stands in it, and the words that may be left
+# out. In place of FORMS `install` writes the commands, each with the kinds of its words.
+_edump_forms="FORMS"
 
-# The pids of the processes of a dump, as bash wants them quoted.
+# The pids of the processes of a dump, each in this form of printf. To find them the whole dump is read, so none is offered
+# of a dump of more than 256 MB.
 _edump_pids() {
-    local pid
-    edump index "$1" 2>/dev/null | sed -n 's/^[0-9]* [0-9]* [0-9]* =proc:\(<[0-9.]*>\)$/\1/p' | sort -u | while read -r pid; do
-        printf '%q\n' "$pid"
+    local pid file=${1/#\~/$HOME}
+    [ -f "$file" ] && [ "$(wc -c <"$file")" -le 256000000 ] || return
+    edump index "$file" 2>/dev/null | sed -n 's/^[0-9]* [0-9]* [0-9]* =proc:\(<[0-9.]*>\)$/\1/p' | sort -u | while read -r pid; do
+        printf "$2\\n" "$pid"
     done
 }
 
 _edump() {
-    local word=${COMP_WORDS[COMP_CWORD]} command=${COMP_WORDS[1]}
-    local commands="index info procs proc memory ets ports nodes mods stack dict mail term ext reach cells binary binaries holders triage links redact audit audit-json make trial"
+    local word=${COMP_WORDS[COMP_CWORD]} before=${COMP_WORDS[COMP_CWORD - 1]} form
     COMPREPLY=()
     if [ "$COMP_CWORD" -eq 1 ]; then
-        COMPREPLY=($(compgen -W "$commands" -- "$word"))
+        COMPREPLY=($(compgen -W "$(printf '%s\n' "$_edump_forms" | cut -d ' ' -f 1)" -- "$word"))
         return
     fi
-    case $command in make | trial) return ;; esac
-    if [ "$COMP_CWORD" -eq 2 ]; then
-        compopt -o filenames
-        COMPREPLY=($(compgen -f -- "$word"))
-        return
-    fi
-    case $command in
-        proc | stack | dict | mail | term | ext | reach | cells)
-            if [ "$COMP_CWORD" -eq 3 ]; then
-                local IFS=$'\n'
-                COMPREPLY=($(_edump_pids "${COMP_WORDS[2]}" | grep -F -- "$word"))
-                return
-            fi
+    # The kinds of the words from the file on, of which the first is the second word after the program's name.
+    read -ra form <<<"$(printf '%s\n' "$_edump_forms" | sed -n "s/^${COMP_WORDS[1]} //p")"
+    case ${form[COMP_CWORD - 2]} in
+        FILE)
+            compopt -o filenames
+            COMPREPLY=($(compgen -f -- "$word"))
             ;;
-    esac
-    case $command in
-        stack | dict | mail | term) COMPREPLY=($(compgen -W "marked" -- "$word")) ;;
-        audit | audit-json) COMPREPLY=($(compgen -W "full" -- "$word")) ;;
+        PID)
+            local IFS=$'\n' quoting=%q
+            case $word in [\"\']*) word=${word:1} quoting=%s ;; esac
+            COMPREPLY=($(_edump_pids "${COMP_WORDS[2]}" "$quoting" | grep -F -- "$word"))
+            ;;
+        "[NODES]" | "[marked]") [ "$before" = marked ] || COMPREPLY=($(compgen -W "marked" -- "$word")) ;;
+        "[full]") COMPREPLY=($(compgen -W "full" -- "$word")) ;;
     esac
 }
 
