@@ -14,10 +14,14 @@ cover_of enc size from count =
     if count == 0 then record { first = 0; chars = 0; skip = 0; bytes = 0 }
     else record { first = chars_of enc start; chars = chars_of enc (past - start); skip = from - start; bytes = past - start }
 
+-- the characters of a cover
+abbrev pub chars_in : Cover → List ℕ → List ℕ
+chars_in cover chars = take cover.chars (drop cover.first chars)
+
 -- the characters of a cover are the payload of its bytes, which are those that are skipped, then the range
 pub record IsCovered (enc : Enc) (cover : Cover) (chars bytes : List ℕ) (from count : ℕ) : Type 0 where
   pub within : cover.first + cover.chars ≤ length chars
   pub covered : List ℕ
-  pub payload : IsPayload enc (take cover.chars (drop cover.first chars)) covered
+  pub payload : IsPayload enc (chars_in cover chars) covered
   pub size : length covered ≡ cover.bytes
   pub range : take count (drop cover.skip covered) ≡ take count (drop from bytes)

@@ -1,7 +1,7 @@
 // Which characters of a payload write a range of its bytes.
 ghost use Rattle.std.specs.Prelude.{◌≡◌, ◌↔◌, ℕ, ◌+◌, ◌-◌, ◌*◌, ◌/◌, ◌^◌, ◌<◌, ◌≤◌, List, length, take, drop, option_map, IsTrue, Some};
 ghost use Rattle.std.specs.Int.{div_ceil};
-ghost use Rattle.binary_payloads.specs.Cover.{cover_of, IsCovered};
+ghost use Rattle.binary_payloads.specs.Cover.{cover_of, IsCovered, chars_in};
 ghost use Rattle.binary_payloads.specs.Payload.{IsPayload, IsPayloadOf, chars_of, group_of};
 ghost use Rattle.binary_payloads.specs.ReadingPayloads.{payload_bytes};
 
@@ -45,8 +45,15 @@ fn chars_of(enc: Enc, size: u64) -> u64
     }
 }
 
-// What `cover` returns, for each place that a payload in memory can have.
-fn range_cover(enc: Enc, size: u64, from: u64, count: u32) -> Cover
+/// The characters that write the `count` bytes from place `from` on of a payload
+/// of `size` bytes. They are whole groups, so some of the bytes that they write
+/// may come before the range or after it. If `count` is 0, all four numbers are 0.
+///
+/// A preview shows at most 32 bytes, so `count` is at most 32: then there are at most
+/// 64 characters, which write at most 36 bytes, so that a buffer of fixed size holds
+/// them. `from` is below 2^63, far beyond the end of the largest dump, so that no place
+/// of a character overflows: there are at most two characters for each byte.
+pub fn cover(enc: Enc, size: u64, from: u64, count: u32) -> Cover
     requires few { count ≤ 32 }
     requires within { from + count ≤ size }
     requires small { from < 2 ^ 63 }
@@ -73,26 +80,6 @@ fn range_cover(enc: Enc, size: u64, from: u64, count: u32) -> Cover
     }
 }
 
-/// The characters that write the `count` bytes from place `from` on of a payload
-/// of `size` bytes. They are whole groups, so some of the bytes that they write
-/// may come before the range or after it. If `count` is 0, all four numbers are 0.
-///
-/// A preview shows at most 32 bytes, so `count` is at most 32: then there are at most
-/// 64 characters, which write at most 36 bytes, so that a buffer of fixed size holds
-/// them. `from` is at most 2^60, far beyond the end of the largest dump, so that no
-/// place of a character overflows: there are at most two characters for each byte.
-pub fn cover(enc: Enc, size: u64, from: u64, count: u32) -> Cover
-    requires few { count ≤ 32 }
-    requires within { from + count ≤ size }
-    requires small { from ≤ 2 ^ 60 }
-    ensures value { result ≡ cover_of enc size from count }
-    ensures holds { result.skip + count ≤ result.bytes }
-    ensures bytes { result.bytes ≤ count + 4 }
-    ensures chars { result.chars ≤ 64 }
-{
-    range_cover(enc, size, from, count)
-}
-
 /// The law that says what a cover is for: in any payload, the characters of the cover
 /// are themselves the payload of some bytes, and these contain the bytes of the range.
 pub fn cover_holds_range(enc: Enc)
@@ -111,8 +98,8 @@ fn part(text: &[u8], from: usize, count: usize) -> &[u8]
 // Whether the characters of the cover can be decoded; if so, `into` holds the bytes of the cover.
 fn read_cover(chars: &[u8], enc: Enc, cover: &Cover, into: &mut [u8]) -> bool
     requires within { cover.now.first + cover.now.chars ≤ length chars.now }
-    ensures found { IsTrue result ↔ IsPayloadOf enc (take cover.now.chars (drop cover.now.first chars.now)) (length into.old) }
-    ensures bytes { IsTrue result → IsPayload enc (take cover.now.chars (drop cover.now.first chars.now)) into.new }
+    ensures found { IsTrue result ↔ IsPayloadOf enc (chars_in cover.now chars.now) (length into.old) }
+    ensures bytes { IsTrue result → IsPayload enc (chars_in cover.now chars.now) into.new }
 {
     payload(
         part(chars, cover.first as usize, cover.chars as usize),
@@ -129,11 +116,13 @@ pub fn payload_part(chars: &[u8], enc: Enc, size: u64, from: u64, into: &mut [u8
     requires few { length into.old ≤ 32 }
     requires within { from + length into.old ≤ size }
     // Whatever bytes the characters are the payload of, the bytes read are those of the range.
-    ensures part { (bytes : List ℕ) → IsPayload enc chars.now bytes → into.new ≡ take (length into.old) (drop from bytes) }
+    ensures part { (bytes : List ℕ) → IsPayload enc chars.now bytes
+        → into.new ≡ take (length into.old) (drop from bytes) }
     // They are the range of what the definitions compute as the payload.
-    ensures exact { option_map (λ bytes. take (length into.old) (drop from bytes)) (payload_bytes enc chars.now) ≡ Some into.new }
+    ensures exact { option_map (λ bytes. take (length into.old) (drop from bytes))
+        (payload_bytes enc chars.now) ≡ Some into.new }
 {
-    let cover = range_cover(enc, size, from, into.len() as u32);
+    let cover = cover(enc, size, from, into.len() as u32);
     let mut buffer = [0; 36];
     let read = &mut buffer[..cover.bytes as usize];
     if read_cover(chars, enc, &cover, read) {

@@ -138,5 +138,6 @@ pub fn payload_is_of_one(enc: Enc)
 
 /// What `payload_bytes` computes is the bytes of a payload, and nothing if the characters are none.
 pub fn payload_bytes_are_read(enc: Enc)
-    ensures { (chars bytes : List ℕ) → (payload_bytes enc chars ≡ Some bytes) ↔ IsPayload enc chars bytes }
+    ensures { (chars bytes : List ℕ)
+        → (payload_bytes enc chars ≡ Some bytes) ↔ IsPayload enc chars bytes }
 {}

@@ -2,12 +2,13 @@
 -- range to which a cell refers, at most 32, or that they are unknown.
 use Rattle.std.specs.Prelude.{◌≡◌, ℕ, zero, suc, ◌+◌, ◌==◌, ◌≤◌, List, [], ◌++◌, length, take, drop, find, nat_le, is_some, Option, None, Some, if◌then◌else◌}
 use Rattle.std.specs.Option.{option_map, option_and_then, option_to_list}
+use Rattle.dump_io.specs.Dumps.{Now, IfTold}
 use Rattle.dump_sections.specs.Index.{Contents}
 use Rattle.binary_payloads.specs.declared.enc.Enc.{Enc}
 use Rattle.term_forms.specs.Forms.{HeapForm, HeapBin, RefBin, SubBin}
 use Rattle.binary_payloads.specs.ReadingPayloads.{payload_bytes}
 use Rattle.heap_cells.specs.Cells.{Cell}
-use Rattle.heap_cells.specs.HeapMap.{number_at, form_at}
+use Rattle.heap_cells.specs.HeapMap.{HeapMap, number_at, form_at}
 use Rattle.stored_binaries.specs.Ranges.{count_shown, in_dump}
 use Rattle.binary_refs.specs.declared.entries.Entry.{Entry}
 use Rattle.binary_refs.specs.declared.entries.Preview.{Preview}
@@ -50,15 +51,27 @@ abbrev pub by_number : {X : Type 0} → (ℕ → HeapForm → Option X) → List
 by_number f cells zero = []
 by_number f cells (suc n) = by_number f cells n ++ option_to_list (option_and_then (f n) (form_at cells n))
 
+-- the entry of the cell with this number, if it refers to a binary
+abbrev pub preview_at : List ℕ → Contents → HeapMap → ℕ → Option Entry
+preview_at dump index heap n = option_and_then (preview_entry dump index heap.enc heap.cells n) (form_at heap.cells n)
+
 -- the previews of a heap's cells over the bytes of a dump
 abbrev pub previews_of : List ℕ → Contents → Enc → List Cell → List Entry
 previews_of dump index enc cells = by_number (preview_entry dump index enc cells) cells (length cells)
+
+-- these are the previews of a heap, if the device tells the bytes of what is open
+abbrev pub ArePreviewsOf : Now → Contents → HeapMap → List Entry → Type 0
+ArePreviewsOf now index heap entries = IfTold now (λ dump. entries ≡ previews_of dump index heap.enc heap.cells)
 
 -- the number of a cell that refers to a binary, and the size that it states
 abbrev pub stated : ℕ → HeapForm → Option (ℕ × ℕ)
 stated n (RefBin address offset size) = Some (n, size)
 stated n (SubBin address offset size) = Some (n, size)
 stated n form = None
+
+-- those of the cell with a number, if it refers to a binary
+abbrev pub stated_at : List Cell → ℕ → Option (ℕ × ℕ)
+stated_at cells n = option_and_then (stated n) (form_at cells n)
 
 -- those of all cells of a heap that refer to a binary
 abbrev pub binaries : List Cell → List (ℕ × ℕ)
@@ -74,7 +87,7 @@ entry_at entries n = find (λ e. e.cell == n) entries
 
 -- each cell that refers to a binary has an entry, and no other cell has one
 abbrev pub AreFor : List Cell → List Entry → Type 0
-AreFor cells entries = (n : ℕ) → is_some (entry_at entries n) ≡ is_some (option_and_then (stated n) (form_at cells n))
+AreFor cells entries = (n : ℕ) → is_some (entry_at entries n) ≡ is_some (stated_at cells n)
 
 -- the entry that a preview stands for
 abbrev pub told_entry : ℕ → Preview → Entry

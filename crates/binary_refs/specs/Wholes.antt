@@ -1,5 +1,5 @@
 -- Whole binaries, from the first lines of their sections' bodies.
-use Rattle.std.specs.Prelude.{◌≡◌, ℕ, List, [], ◌∷◌, Option, None, Some, Result, Ok, Err, slice_get}
+use Rattle.std.specs.Prelude.{◌≡◌, ℕ, List, [], ◌∷◌, Option, None, Some, Result, Ok, Err, IfSome, IsErrOf, slice_get}
 use Rattle.std.specs.Global.{Vec}
 use Rattle.std.specs.Option.{option_map, option_and_then}
 use Rattle.dump_io.specs.Dumps.{DeviceState}
@@ -53,22 +53,28 @@ abbrev pub refused : ℕ → Option Section → Option BinFault
 refused limit None = Some NoBinary
 refused limit (Some section) = option_map (λ large. bin_fault_of (body_fault large)) (large_fault limit (section ∷ []))
 
+-- a refusal that comes before anything is read is what the call ends with, whatever the device does
+abbrev pub IsRefusedFor : {T : Type 0} → ℕ → Option Section → Result T BinFault → Type 0
+IsRefusedFor limit found result = IfSome (refused limit found) (IsErrOf result)
+
 -- what the fault of a binary says
 abbrev pub bin_cause : BinFault → Cause BinFault
 bin_cause Read = fails
 bin_cause Memory = lacks
 bin_cause refusal = refuses refusal
 
--- why a binary is refused: the first line of its section isn't of the grammar; any other refusal comes before anything is read
-abbrev pub IsBinRefusal : Option Section → ℕ → BinFault → Type 0
-IsBinRefusal found limit (BadBinary at) = option_map (λ section. section.at) found ≡ Some at
-IsBinRefusal found limit fault = refused limit found ≡ Some fault
-
--- why no bytes are given: the binary is refused, or the device failed; memory may be lacking at any time
+-- why no bytes are given: the first line of the section isn't of the grammar; or there is a refusal before
+-- anything is read; or there is none, and the device failed; memory may be lacking at any time
 abbrev pub IsBinCauseOf : Option Section → ℕ → DeviceState → DeviceState → BinFault → Type 0
-IsBinCauseOf found limit before after fault = IsCauseOf (IsBinRefusal found limit) before after (bin_cause fault)
+IsBinCauseOf found limit before after (BadBinary at) = option_map (λ section. section.at) found ≡ Some at
+IsBinCauseOf found limit before after fault = IsCauseOf (refused limit found) before after (bin_cause fault)
 
 -- what each call does that loads the binary whose section was found
 abbrev pub LoadsBinary : {D T : Type 0} → (D → DeviceState) → Option Section → ℕ → D → D → Result T BinFault → Type 0
 LoadsBinary state found limit before after result =
     Loads state (body_size found) (refused limit found) (IsBinCauseOf found limit) before after result
+
+-- what a call does that loads the first `binary` section with this address
+abbrev pub LoadsBinaryOf : {D T : Type 0} → (D → DeviceState) → Contents → ℕ → ℕ → D → D → Result T BinFault → Type 0
+LoadsBinaryOf state index address limit before after result =
+    LoadsBinary state (binary_section address (sections_in index)) limit before after result

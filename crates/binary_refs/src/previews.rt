@@ -1,17 +1,17 @@
 // The previews of a heap's references to binaries.
-ghost use Rattle.std.specs.Prelude.{◌≡◌, ℕ, ◌+◌, ◌*◌, ◌<◌, ◌≤◌, ◌++◌, [], List, length, map, nat_lt, true, false, Some, None, IsSome, OnOk, OnErr, IfOk, IfErr, IfSome};
-ghost use Rattle.std.specs.Option.{option_map, option_and_then, option_to_list};
-ghost use Rattle.std.specs.List.Sorted.{IsNonDecreasingBy, IsPartitionPoint};
-ghost use Rattle.dump_io.specs.Dumps.{told, DeviceFailed, ReadsAtMost};
+ghost use Rattle.std.specs.Prelude.{◌≡◌, ◌<◌, ◌≤◌, ◌++◌, [], List, length, map, false, Some, IsSome, OnOk, OnErr, IfOk, IfErr, IfSome};
+ghost use Rattle.std.specs.Option.{option_map, option_to_list};
+ghost use Rattle.std.specs.List.Sorted.{IsNonDecreasingBy};
+ghost use Rattle.dump_io.specs.Dumps.{told, DeviceFailed, ReadsAtMost, IfTold};
 ghost use Rattle.dump_sections.specs.Index.{IsBuiltOver};
 ghost use Rattle.binary_payloads.specs.Payload.{IsPayloadOf};
 ghost use Rattle.term_forms.specs.Seen.{number_rest};
 ghost use Rattle.term_forms.specs.SeenForms.{heap_form};
-ghost use Rattle.heap_cells.specs.HeapMap.{form_at};
 ghost use Rattle.heap_cells.specs.Targets.{number};
-ghost use Rattle.binary_refs.specs.Loading.{IsPreviewCauseOf};
-ghost use Rattle.binary_refs.specs.Previews.{own_binary, heap_binary, in_heap, in_part, entry, preview_entry, previews_of, stated, stating, binaries, entry_at, AreFor, IsFew, told_entry};
+ghost use Rattle.binary_refs.specs.Loading.{IsPreviewCauseOf, ReadsPreview, ReadsPreviews};
+ghost use Rattle.binary_refs.specs.Previews.{own_binary, heap_binary, in_heap, entry, stated, stating, binaries, entry_at, AreFor, IsFew, told_entry, preview_at, stated_at, ArePreviewsOf};
 ghost use Rattle.binary_refs.specs.Inner.Kinds.{is_own, refers};
+ghost use Rattle.binary_refs.specs.Inner.Shown.{part_shown, preview_of, IsEntryOf, IsPointOf};
 
 use crate::entries::{Entry, Preview};
 use crate::faults::PreviewFault;
@@ -81,8 +81,8 @@ fn read_shown_part<D: Dumps>(
     requires over { IsBuiltOver (D.state dumps.old).now places.now }
     ensures reads { ReadsAtMost (D.state dumps.old) (D.state dumps.new) 128 }
     ensures failed { OnErr result (DeviceFailed (D.state dumps.old) (D.state dumps.new)) }
-    ensures bytes { IfOk result (λ bytes. (dump : List ℕ) → (D.state dumps.old).now ≡ told dump
-        → bytes ≡ in_part (heap_binary heap.now.cells range.now.address) dump places.now heap.now.enc range.now.address range.now.offset range.now.size) }
+    ensures bytes { IfOk result (λ bytes. IfTold (D.state dumps.old).now
+        (λ dump. bytes ≡ part_shown dump places.now heap.now range.now)) }
 {
     match heap_binary(heap, range.address) {
         Some((size, chars)) => Ok(shown_in(chars, heap.enc(), size, range)),
@@ -105,10 +105,12 @@ fn read_form<D: Dumps>(
     form: &Form<'_>,
 ) -> Result<Option<Entry>, Failed>
     requires over { IsBuiltOver (D.state dumps.old).now places.now }
-    ensures reads { ReadsAtMost (D.state dumps.old) (D.state dumps.new) (128 * length (option_to_list (stated n (heap_form form.now)))) }
+    ensures reads { ReadsPreview (D.state dumps.old) (D.state dumps.new)
+        (stated n (heap_form form.now)) }
     ensures failed { OnErr result (DeviceFailed (D.state dumps.old) (D.state dumps.new)) }
-    ensures stated { IfOk result (λ entry. option_map stating entry ≡ stated n (heap_form form.now)) }
-    ensures entry { IfOk result (λ entry. (dump : List ℕ) → (D.state dumps.old).now ≡ told dump → entry ≡ preview_entry dump places.now heap.now.enc heap.now.cells n (heap_form form.now)) }
+    ensures stated { IfOk result (IsEntryOf (stated n (heap_form form.now))) }
+    ensures entry { IfOk result (λ entry. IfTold (D.state dumps.old).now
+        (λ dump. entry ≡ preview_of dump places.now heap.now n (heap_form form.now))) }
 {
     match form {
         Form::RefBin(address, offset, size) => {
@@ -141,11 +143,11 @@ fn read_entry<D: Dumps>(
 ) -> Result<Option<Entry>, Failed>
     requires over { IsBuiltOver (D.state dumps.old).now places.now }
     requires cell { n < length heap.now.cells }
-    ensures reads { ReadsAtMost (D.state dumps.old) (D.state dumps.new) (128 * length (option_to_list (option_and_then (stated n) (form_at heap.now.cells n)))) }
+    ensures reads { ReadsPreview (D.state dumps.old) (D.state dumps.new) (stated_at heap.now.cells n) }
     ensures failed { OnErr result (DeviceFailed (D.state dumps.old) (D.state dumps.new)) }
-    ensures stated { IfOk result (λ entry. option_map stating entry ≡ option_and_then (stated n) (form_at heap.now.cells n)) }
-    ensures entry { IfOk result (λ entry. (dump : List ℕ) → (D.state dumps.old).now ≡ told dump
-        → entry ≡ option_and_then (preview_entry dump places.now heap.now.enc heap.now.cells n) (form_at heap.now.cells n)) }
+    ensures stated { IfOk result (IsEntryOf (stated_at heap.now.cells n)) }
+    ensures entry { IfOk result (λ entry. IfTold (D.state dumps.old).now
+        (λ dump. entry ≡ preview_at dump places.now heap.now n)) }
 {
     let ix = heap.cell(n);
     if !refers(heap.kind(ix)) {
@@ -167,11 +169,12 @@ fn push_entry<D: Dumps>(
 ) -> Result<(), PreviewFault>
     requires over { IsBuiltOver (D.state dumps.old).now places.now }
     requires cell { n < length heap.now.cells }
-    ensures reads { ReadsAtMost (D.state dumps.old) (D.state dumps.new) (128 * length (option_to_list (option_and_then (stated n) (form_at heap.now.cells n)))) }
+    ensures reads { ReadsPreview (D.state dumps.old) (D.state dumps.new) (stated_at heap.now.cells n) }
     ensures fault { IfErr result (IsPreviewCauseOf (D.state dumps.old) (D.state dumps.new)) }
-    ensures stated { OnOk result (map stating entries.new.items ≡ map stating entries.old.items ++ option_to_list (option_and_then (stated n) (form_at heap.now.cells n))) }
-    ensures entry { OnOk result ((dump : List ℕ) → (D.state dumps.old).now ≡ told dump
-        → entries.new.items ≡ entries.old.items ++ option_to_list (option_and_then (preview_entry dump places.now heap.now.enc heap.now.cells n) (form_at heap.now.cells n))) }
+    ensures stated { OnOk result (map stating entries.new.items
+        ≡ map stating entries.old.items ++ option_to_list (stated_at heap.now.cells n)) }
+    ensures entry { OnOk result (IfTold (D.state dumps.old).now (λ dump. entries.new.items
+        ≡ entries.old.items ++ option_to_list (preview_at dump places.now heap.now n))) }
 {
     let Ok(entry) = read_entry(dumps, places, heap, n) else {
         return Err(PreviewFault::Read);
@@ -192,10 +195,11 @@ fn read_entries<D: Dumps>(
     heap: &Heap,
 ) -> Result<Vec<Entry>, PreviewFault>
     requires over { IsBuiltOver (D.state dumps.old).now places.now }
-    ensures reads { ReadsAtMost (D.state dumps.old) (D.state dumps.new) (128 * length (binaries heap.now.cells)) }
+    ensures reads { ReadsPreviews (D.state dumps.old) (D.state dumps.new) (binaries heap.now.cells) }
     ensures fault { IfErr result (IsPreviewCauseOf (D.state dumps.old) (D.state dumps.new)) }
     ensures stated { IfOk result (λ entries. map stating entries.items ≡ binaries heap.now.cells) }
-    ensures entries { IfOk result (λ entries. (dump : List ℕ) → (D.state dumps.old).now ≡ told dump → entries.items ≡ previews_of dump places.now heap.now.enc heap.now.cells) }
+    ensures entries { IfOk result (λ entries.
+        ArePreviewsOf (D.state dumps.old).now places.now heap.now entries.items) }
 {
     let mut entries = Vec::new(alloc);
     for n in 0..heap.cells() {
@@ -220,7 +224,7 @@ fn has_reference(heap: &Heap) -> bool
 fn count_below(entries: &[Entry], n: u32) -> usize
     requires { IsNonDecreasingBy (λ e. e.cell) entries.now }
     ensures within { result ≤ length entries.now }
-    ensures point { IsPartitionPoint (λ e. nat_lt e.cell n ≡ true) (λ e. nat_lt e.cell n ≡ false) entries.now result }
+    ensures point { IsPointOf entries.now n result }
 {
     entries.partition_point(|e| e.cell < n)
 }
@@ -281,8 +285,8 @@ impl Previews {
         heap: &Heap,
     ) -> Result<Previews, PreviewFault>
         requires { IsBuiltOver (D.state dumps.old).now index.now }
-        ensures reads { ReadsAtMost (D.state dumps.old) (D.state dumps.new) (128 * length (binaries heap.now.cells)) }
-        ensures previews { IfOk result (λ previews. (dump : List ℕ) → (D.state dumps.old).now ≡ told dump → previews ≡ previews_of dump index.now heap.now.enc heap.now.cells) }
+        ensures reads { ReadsPreviews (D.state dumps.old) (D.state dumps.new) (binaries heap.now.cells) }
+        ensures previews { IfOk result (ArePreviewsOf (D.state dumps.old).now index.now heap.now) }
         ensures stated { IfOk result (λ previews. map stating previews ≡ binaries heap.now.cells) }
         ensures each { IfOk result (AreFor heap.now.cells) }
         ensures fault { IfErr result (IsPreviewCauseOf (D.state dumps.old) (D.state dumps.new)) }
@@ -308,8 +312,8 @@ impl Previews {
         heap: &Heap,
     ) -> Result<Previews, PreviewFault>
         requires { IsBuiltOver (D.state dumps.old).now places.now }
-        ensures reads { ReadsAtMost (D.state dumps.old) (D.state dumps.new) (128 * length (binaries heap.now.cells)) }
-        ensures previews { IfOk result (λ previews. (dump : List ℕ) → (D.state dumps.old).now ≡ told dump → previews ≡ previews_of dump places.now heap.now.enc heap.now.cells) }
+        ensures reads { ReadsPreviews (D.state dumps.old) (D.state dumps.new) (binaries heap.now.cells) }
+        ensures previews { IfOk result (ArePreviewsOf (D.state dumps.old).now places.now heap.now) }
         ensures stated { IfOk result (λ previews. map stating previews ≡ binaries heap.now.cells) }
         ensures each { IfOk result (AreFor heap.now.cells) }
         ensures fault { IfErr result (IsPreviewCauseOf (D.state dumps.old) (D.state dumps.new)) }

@@ -1,13 +1,13 @@
 // The bytes of whole binaries.
-ghost use Rattle.std.specs.Prelude.{◌≡◌, ℕ, ◌<◌, List, length, Some, None, IfSome, IfOk, IsErrOf};
+ghost use Rattle.std.specs.Prelude.{◌≡◌, ◌<◌, length, Some, IfOk};
 ghost use Rattle.std.specs.Option.{option_copied};
-ghost use Rattle.dump_io.specs.Dumps.{told};
-ghost use Rattle.dump_sections.specs.Bodies.{section_at, body_of};
+ghost use Rattle.dump_io.specs.Dumps.{IfTold};
+ghost use Rattle.dump_sections.specs.Bodies.{section_at};
 ghost use Rattle.dump_sections.specs.Index.{IsBuiltOver, sections_in};
-ghost use Rattle.heap_cells.specs.Loading.{enc_of};
 ghost use Rattle.stored_binaries.specs.StoredBinaries.{binary_section};
 ghost use Rattle.stored_binaries.specs.Payloads.{bytes_in};
-ghost use Rattle.binary_refs.specs.Wholes.{first_line_text, bytes_of_body, whole_bytes, bin_fault_of, refused, IsBinAnswerFor, LoadsBinary};
+ghost use Rattle.binary_refs.specs.Wholes.{first_line_text, bytes_of_body, whole_bytes, bin_fault_of, refused, IsBinAnswerFor, IsRefusedFor, LoadsBinaryOf};
+ghost use Rattle.binary_refs.specs.Inner.Wholes.{bytes_at, LoadsBinaryAt};
 
 use crate::faults::BinFault;
 use dump_io::{Dumps, Limits};
@@ -60,9 +60,10 @@ fn whole_at<D: Dumps>(
 ) -> Result<Vec<u8>, BinFault>
     requires over { IsBuiltOver (D.state dumps.old).now index.now }
     requires place { i < length index.now.headers }
-    ensures loads { LoadsBinary D.state (Some (section_at index.now i)) limits.now.section dumps.old dumps.new result }
-    ensures answer { (dump : List ℕ) → (D.state dumps.old).now ≡ told dump → IsBinAnswerFor (bytes_of_body (enc_of index.now.version) (body_of dump (section_at index.now i))) result }
-    ensures refused { IfSome (refused limits.now.section (Some (section_at index.now i))) (IsErrOf result) }
+    ensures loads { LoadsBinaryAt D.state index.now i limits.now.section dumps.old dumps.new result }
+    ensures answer { IfTold (D.state dumps.old).now
+        (λ dump. IsBinAnswerFor (bytes_at dump index.now i) result) }
+    ensures refused { IsRefusedFor limits.now.section (Some (section_at index.now i)) result }
 {
     let body = match read_body(alloc, dumps, index, i, limits) {
         Ok(body) => body,
@@ -93,11 +94,14 @@ pub fn whole<D: Dumps>(
     limits: &Limits,
 ) -> Result<Vec<u8>, BinFault>
     requires { IsBuiltOver (D.state dumps.old).now index.now }
-    ensures loads { LoadsBinary D.state (binary_section addr (sections_in index.now)) limits.now.section dumps.old dumps.new result }
-    ensures answer { (dump : List ℕ) → (D.state dumps.old).now ≡ told dump → IsBinAnswerFor (whole_bytes dump index.now addr) result }
+    ensures loads { LoadsBinaryOf D.state index.now addr limits.now.section
+        dumps.old dumps.new result }
+    ensures answer { IfTold (D.state dumps.old).now
+        (λ dump. IsBinAnswerFor (whole_bytes dump index.now addr) result) }
 
     // These two refusals come before anything is read, whatever the device does.
-    ensures refused { IfSome (refused limits.now.section (binary_section addr (sections_in index.now))) (IsErrOf result) }
+    ensures refused { IsRefusedFor limits.now.section
+        (binary_section addr (sections_in index.now)) result }
 {
     let Some(i) = first_binary(index, addr) else {
         return Err(BinFault::NoBinary);

@@ -10,7 +10,7 @@ use Rattle.body_lines.specs.Laws.{AreWhole-none, AreWhole-ended, AreWhole-then, 
 use Rattle.body_lines.specs.Hearing.{Hears, StopsAmong}
 use Rattle.body_lines.specs.Inner.Pieces.{IsOpenLine, Takes, StopsWithin}
 use Rattle.body_lines.proofs.Hearings.{Hears-none, Hears-then, Hears-as, Joins-cut, StopsWithin-whole, StopsWithin-later}
-use Rattle.body_lines.proofs.Places.{free-front, upto-lf}
+use Rattle.dump_io.specs.Laws.LineFeeds.{lf_free, upto-lf}
 
 pub free-append : (xs ys : List ℕ) → HasNoLf xs → HasNoLf ys → HasNoLf (xs ++ ys)
 free-append xs ys one two = All-append (λ c. c ≢ lf) xs ys one two
@@ -74,7 +74,7 @@ module _ {S T : Type 0} (hears : S → S → List CutLine → Type 0) (stops : S
   long-open a none front is =
       open-on hears a kept line at bytes front fresh (omega (arith, same, long)) is
       (subst HasNoLf (take_all (length fresh) fresh (omega arith))
-      (free-front fresh (length fresh) (omega arith) (subst (λ l. Nowhere (Passes (is_byte lf) l) 0 (length l)) hay-is none)))
+      (lf_free fresh (length fresh) (omega arith) (subst (λ l. Nowhere (Passes (is_byte lf) l) 0 (length l)) hay-is none)))
 
   module _ (before : NoneBefore (Passes (is_byte lf) hay) 0 (length hay) lf_at) (here : Passes (is_byte lf) hay lf_at) where
     first : NoneBefore (Passes (is_byte lf) fresh) 0 (length fresh) lf_at
@@ -109,7 +109,7 @@ module _ {S T : Type 0} (hears : S → S → List CutLine → Type 0) (stops : S
           take-append-le kept front (take (lf_at + 1) fresh) (omega (arith, same, long, is.place)) ∙ sym is.front ∙ ap (λ n. take n bytes) most in
           let size : length ended ≡ at + lf_at + 1 - line = omega (arith, ended-size) in
           ap (cut_lines kept line) ended-bytes
-          ∙ cut_lines-ended kept line (front ++ take lf_at fresh) (free-append front (take lf_at fresh) is.free (free-front fresh lf_at (omega (arith, first.high)) first.before))
+          ∙ cut_lines-ended kept line (front ++ take lf_at fresh) (free-append front (take lf_at fresh) is.free (lf_free fresh lf_at (omega (arith, first.high)) first.before))
           ∙ ap (λ l. made (take kept l) (length l)) (sym ended-bytes)
           ∙ ap (λ l. made l (length ended)) kept_is
           ∙ ap (made (take k bytes)) size

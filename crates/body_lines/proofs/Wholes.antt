@@ -14,38 +14,36 @@ pub free-both : (n : ℕ) (bytes : List ℕ) → HasNoLf (take n bytes) → HasN
 free-both n bytes one two = subst HasNoLf (take-append-drop n bytes) (free-append (take n bytes) (drop n bytes) one two)
 
 module _ {S L : Type 0} (hears : S → S → List L → Type 0) (lines_of : ℕ → List ℕ → List L) where
+  -- the same lines, where as many bytes of the next line may be kept as stand in another buffer
+  Takes-other : (a b : S) (few kept at next : ℕ) (bytes buffer other : List ℕ) (takes : Takes hears lines_of a b few at bytes next buffer)
+      → take (min kept (length takes.left)) other ≡ take kept takes.left → Takes hears lines_of a b kept at bytes next other
+  Takes-other a b few kept at next bytes buffer other takes front = record {
+    done = takes.done;
+    left = takes.left;
+    parts = takes.parts;
+    whole = takes.whole;
+    free = takes.free;
+    place = takes.place;
+    front = front;
+    heard = takes.heard;
+  }
+
   -- of what is open all bytes are kept, so it doesn't matter how many more could be
   pub Takes-kept : (a b : S) (few kept at next : ℕ) (bytes buffer : List ℕ) → length bytes ≤ few → length bytes ≤ kept
       → Takes hears lines_of a b few at bytes next buffer → Takes hears lines_of a b kept at bytes next buffer
   Takes-kept a b few kept at next bytes buffer within enough takes =
       let parts : length bytes ≡ length takes.done + length takes.left = ap length takes.parts ∙ length-append takes.done takes.left in
       let same : min kept (length takes.left) ≡ min few (length takes.left) = omega (arith, parts, within, enough) in
-      record {
-        done = takes.done;
-        left = takes.left;
-        parts = takes.parts;
-        whole = takes.whole;
-        free = takes.free;
-        place = takes.place;
-        front = ap (λ n. take n buffer) same ∙ takes.front ∙ take_all few takes.left (omega (arith, parts, within)) ∙ sym (take_all kept takes.left (omega (arith, parts, enough)));
-        heard = takes.heard;
-      }
+      Takes-other a b few kept at next bytes buffer buffer takes
+      (ap (λ n. take n buffer) same ∙ takes.front ∙ take_all few takes.left (omega (arith, parts, within)) ∙ sym (take_all kept takes.left (omega (arith, parts, enough))))
 
   -- the buffer goes on behind the piece
   pub Takes-longer : (a b : S) (kept at next : ℕ) (bytes buffer tail : List ℕ) → length buffer ≡ length bytes
       → Takes hears lines_of a b kept at bytes next buffer → Takes hears lines_of a b kept at bytes next (buffer ++ tail)
   Takes-longer a b kept at next bytes buffer tail size takes =
       let parts : length bytes ≡ length takes.done + length takes.left = ap length takes.parts ∙ length-append takes.done takes.left in
-      record {
-        done = takes.done;
-        left = takes.left;
-        parts = takes.parts;
-        whole = takes.whole;
-        free = takes.free;
-        place = takes.place;
-        front = take-append-le (min kept (length takes.left)) buffer tail (omega (arith, parts, size)) ∙ takes.front;
-        heard = takes.heard;
-      }
+      Takes-other a b kept kept at next bytes buffer (buffer ++ tail) takes
+      (take-append-le (min kept (length takes.left)) buffer tail (omega (arith, parts, size)) ∙ takes.front)
 
 -- a piece in which no line ends
 pub Takes-none : {S L : Type 0} (hears : S → S → List L → Type 0) (lines_of : ℕ → List ℕ → List L) → Joins lines_of → (a : S) (at : ℕ) (bytes : List ℕ) → HasNoLf bytes

@@ -2,7 +2,7 @@
 -- `stops` with which answer it stopped then. `lines_of` says as which lines it hears the bytes from an offset on.
 use Rattle.std.specs.Prelude.{◌≡◌, ℕ, List, ◌++◌}
 use Rattle.std.specs.List.{between}
-use Rattle.dump_io.specs.Dumps.{DeviceState, DeviceFailed, Now, told}
+use Rattle.dump_io.specs.Dumps.{DeviceState, DeviceFailed, Now, IfTold}
 use Rattle.body_lines.specs.declared.faults.LinesFault.{LinesFault}
 use Rattle.body_lines.specs.declared.faults.LinesFault.TheVariants.{Read, Stopped}
 
@@ -26,14 +26,14 @@ pub record StopsAmong {S L T : Type 0} (hears : S → S → List L → Type 0) (
 -- the lines between two offsets of what is open begin with these, if the device tells its bytes
 abbrev pub BeginWith : {L : Type 0} → (ℕ → List ℕ → List L) → ℕ → ℕ → Now → List L → Type 0
 BeginWith {L = L} lines_of from upto now lines =
-    (dump : List ℕ) → now ≡ told dump → (rest : List L) × (lines_of from (between from upto dump) ≡ lines ++ rest)
+    IfTold now (λ dump. (rest : List L) × (lines_of from (between from upto dump) ≡ lines ++ rest))
 
 -- a sink heard exactly the lines between two offsets of what is open
 pub record HearsBody {S L : Type 0} (hears : S → S → List L → Type 0) (lines_of : ℕ → List ℕ → List L)
     (old new : S) (from upto : ℕ) (now : Now) : Type 0 where
   pub lines : List L
   pub heard : Hears hears old new lines
-  pub are : (dump : List ℕ) → now ≡ told dump → lines ≡ lines_of from (between from upto dump)
+  pub are : IfTold now (λ dump. lines ≡ lines_of from (between from upto dump))
 
 -- a sink heard the first of the lines between two offsets of what is open
 pub record HearsFront {S L : Type 0} (hears : S → S → List L → Type 0) (lines_of : ℕ → List ℕ → List L)

@@ -2,13 +2,12 @@
 use Rattle.std.proofs.Common.{◌≡◌, ℕ, ◌+◌, ◌-◌, ◌<◌, ◌==◌, ◌⊎◌, inl, inr, true, false, List, [], ◌∷◌, ◌++◌, length, take, map, if◌then◌else◌, refl, sym, ◌∙◌, ap, subst, append_assoc, arith, length-append}
 use Rattle.std.specs.Prelude.{◌≢◌}
 use Rattle.std.specs.List.{concat}
-use Rattle.std.proofs.lemmas.Bool.{ne_eqb}
 use Rattle.std.proofs.lemmas.Bool.Decides.{eqb_tells}
 use Rattle.std.proofs.lemmas.List.{map-append, take-append-le}
 use Rattle.std.proofs.lemmas.List.Elements.{All-head, All-tail, All-take}
 use Rattle.std.proofs.Math.Seq.{take-length}
 use Rattle.dump_io.specs.Lines.{lf, lines_after, lines_from, raw_lines, Line}
-use Rattle.dump_io.specs.Laws.Lines.{raw_lines-one, AreLines-raw}
+use Rattle.dump_io.specs.Laws.Lines.{raw_lines-inner, raw_lines-one, AreLines-raw}
 use Rattle.body_lines.specs.Lines.{cut, cut_lines, lines_at, one_line, AreWhole, HasNoLf}
 
 -- ---- bytes without an LF
@@ -17,9 +16,6 @@ use Rattle.body_lines.specs.Lines.{cut, cut_lines, lines_at, one_line, AreWhole,
 abbrev pub join : List ℕ → List (List ℕ) → List (List ℕ)
 join front [] = front ∷ []
 join front (line ∷ lines) = (front ++ line) ∷ lines
-
-inner : (c : ℕ) (bytes : List ℕ) → c ≢ lf → raw_lines (c ∷ bytes) ≡ lines_after c (raw_lines bytes)
-inner c bytes n = ap (λ b. if b then (c ∷ []) ∷ raw_lines bytes else lines_after c (raw_lines bytes)) (ne_eqb c lf n)
 
 after-one : (c : ℕ) (lines : List (List ℕ)) → lines_after c lines ≡ join (c ∷ []) lines
 after-one c [] = refl
@@ -31,9 +27,9 @@ after-more c front (line ∷ lines) = refl
 
 -- they go to the front of the first line
 pub lines-join : (c : ℕ) (front rest : List ℕ) → HasNoLf (c ∷ front) → raw_lines ((c ∷ front) ++ rest) ≡ join (c ∷ front) (raw_lines rest)
-lines-join c [] rest none = inner c rest (All-head (λ b. b ≢ lf) c [] none) ∙ after-one c (raw_lines rest)
+lines-join c [] rest none = raw_lines-inner c rest (All-head (λ b. b ≢ lf) c [] none) ∙ after-one c (raw_lines rest)
 lines-join c (d ∷ front) rest none =
-    inner c ((d ∷ front) ++ rest) (All-head (λ b. b ≢ lf) c (d ∷ front) none)
+    raw_lines-inner c ((d ∷ front) ++ rest) (All-head (λ b. b ≢ lf) c (d ∷ front) none)
     ∙ ap (lines_after c) (lines-join d front rest (All-tail (λ b. b ≢ lf) c (d ∷ front) none))
     ∙ after-more c (d ∷ front) (raw_lines rest)
 
@@ -54,7 +50,7 @@ ended-some (c ∷ front) = by (eqb_tells c lf) (ended-some front)
         → (line : List ℕ) × (lines : List (List ℕ)) × (raw_lines (c ∷ (front ++ lf ∷ [])) ≡ line ∷ lines)
     by (inl same) rest =
         (c ∷ [], raw_lines (front ++ lf ∷ []), ap (λ b. if b then (c ∷ []) ∷ raw_lines (front ++ lf ∷ []) else lines_after c (raw_lines (front ++ lf ∷ []))) same.0)
-    by (inr other) rest = (c ∷ rest.0, rest.1, inner c (front ++ lf ∷ []) other.1 ∙ ap (lines_after c) rest.2)
+    by (inr other) rest = (c ∷ rest.0, rest.1, raw_lines-inner c (front ++ lf ∷ []) other.1 ∙ ap (lines_after c) rest.2)
 
 lines-whole : (front more : List ℕ) → raw_lines (front ++ lf ∷ more) ≡ raw_lines (front ++ lf ∷ []) ++ raw_lines more
 lines-whole [] more = refl
@@ -68,10 +64,10 @@ lines-whole (c ∷ front) more = by (eqb_tells c lf) (lines-whole front more) (e
         ∙ ap (λ l. (c ∷ []) ∷ l) rest
         ∙ sym (ap (λ b. (if b then (c ∷ []) ∷ raw_lines (front ++ lf ∷ []) else lines_after c (raw_lines (front ++ lf ∷ []))) ++ raw_lines more) same.0)
     by (inr other) rest some =
-        inner c (front ++ lf ∷ more) other.1
+        raw_lines-inner c (front ++ lf ∷ more) other.1
         ∙ ap (lines_after c) (rest ∙ ap (λ l. l ++ raw_lines more) some.2)
         ∙ after-append c some.0 some.1 (raw_lines more)
-        ∙ sym (ap (λ l. l ++ raw_lines more) (inner c (front ++ lf ∷ []) other.1 ∙ ap (lines_after c) some.2))
+        ∙ sym (ap (λ l. l ++ raw_lines more) (raw_lines-inner c (front ++ lf ∷ []) other.1 ∙ ap (lines_after c) some.2))
 
 pub AreWhole-none : AreWhole []
 AreWhole-none = record { lines = λ more. refl }
@@ -93,8 +89,8 @@ raw-some c bytes = by (eqb_tells c lf) (raw_lines bytes) refl
     by : ((c == lf ≡ true) × (c ≡ lf)) ⊎ ((c == lf ≡ false) × (c ≢ lf)) → (rest : List (List ℕ)) → raw_lines bytes ≡ rest
         → (line : List ℕ) × (later : List (List ℕ)) × (raw_lines (c ∷ bytes) ≡ line ∷ later)
     by (inl same) rest is = (c ∷ [], raw_lines bytes, ap (λ b. if b then (c ∷ []) ∷ raw_lines bytes else lines_after c (raw_lines bytes)) same.0)
-    by (inr other) [] is = (c ∷ [], [], inner c bytes other.1 ∙ ap (lines_after c) is)
-    by (inr other) (line ∷ later) is = (c ∷ line, later, inner c bytes other.1 ∙ ap (lines_after c) is)
+    by (inr other) [] is = (c ∷ [], [], raw_lines-inner c bytes other.1 ∙ ap (lines_after c) is)
+    by (inr other) (line ∷ later) is = (c ∷ line, later, raw_lines-inner c bytes other.1 ∙ ap (lines_after c) is)
 
 -- whole lines behind bytes without an LF, which belong to the first of them
 pub AreWhole-behind : (front bytes : List ℕ) → HasNoLf front → 0 < length bytes → AreWhole bytes → AreWhole (front ++ bytes)

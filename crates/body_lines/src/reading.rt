@@ -1,7 +1,7 @@
 // Reading a body in pieces.
-ghost use Rattle.std.specs.Prelude.{◌≡◌, ℕ, ◌+◌, ◌-◌, ◌<◌, ◌≤◌, List, length, take, drop, min, OnOk, IfOk, IfErr, OnErr};
+ghost use Rattle.std.specs.Prelude.{◌≡◌, ◌+◌, ◌-◌, ◌<◌, ◌≤◌, length, take, drop, OnOk, IfOk, IfErr, OnErr};
 ghost use Rattle.std.specs.List.{between};
-ghost use Rattle.dump_io.specs.Dumps.{told, size_of, IsOpen, DeviceFailed, ReadsAtMost};
+ghost use Rattle.dump_io.specs.Dumps.{size_of, IsOpen, DeviceFailed, ReadsAtMost, IfTold};
 ghost use Rattle.body_lines.specs.Hearing.{HearsBody, Ends};
 ghost use Rattle.body_lines.specs.Lines.{cut_lines};
 
@@ -41,8 +41,8 @@ pub(crate) fn read_piece<D: Dumps>(
         (0 < count) × (count ≤ upto - at) × (kept + count ≤ length buffer.old)) }
     ensures piece_len { IfOk result (λ count. count ≤ 65536) }
     ensures keeps { take kept buffer.new ≡ take kept buffer.old }
-    ensures piece { IfOk result (λ count. (dump : List ℕ) → (D.state dumps.old).now ≡ told dump
-        → take count (drop kept buffer.new) ≡ between at (at + count) dump) }
+    ensures piece { IfOk result (λ count. IfTold (D.state dumps.old).now
+        (λ dump. take count (drop kept buffer.new) ≡ between at (at + count) dump)) }
 {
     let count = PIECE.min(buffer.len() - kept).min((upto - at) as usize);
     read_full(dumps, at, &mut buffer[kept..kept + count])?;

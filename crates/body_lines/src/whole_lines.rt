@@ -1,7 +1,7 @@
 // Reading a body in pieces whose lines are heard whole.
-ghost use Rattle.std.specs.Prelude.{◌≡◌, ℕ, ◌+◌, ◌-◌, ◌<◌, ◌≤◌, ◌^◌, List, length, take, drop, OnOk, IfOk, IfErr};
+ghost use Rattle.std.specs.Prelude.{◌≡◌, ◌+◌, ◌-◌, ◌<◌, ◌≤◌, ◌^◌, length, take, drop, OnOk, IfOk, IfErr};
 ghost use Rattle.std.specs.List.{between};
-ghost use Rattle.dump_io.specs.Dumps.{told, size_of, IsOpen, ReadsAtMost};
+ghost use Rattle.dump_io.specs.Dumps.{size_of, IsOpen, ReadsAtMost, IfTold};
 ghost use Rattle.body_lines.specs.Lines.{HasNoLf, AreWhole, lines_at};
 ghost use Rattle.body_lines.specs.Hearing.{Hears, HearsBody, StopsAmong};
 ghost use Rattle.body_lines.specs.WholeLines.{EndsWhole};
@@ -56,8 +56,8 @@ fn read_more<D: Dumps>(
         (0 < count) × (count ≤ upto - at) × (held + count ≤ length buffer.new.items)) }
     ensures piece_len { IfOk result (λ count. count ≤ 65536) }
     ensures keeps { OnOk result (take held buffer.new.items ≡ take held buffer.old.items) }
-    ensures piece { IfOk result (λ count. (dump : List ℕ) → (D.state dumps.old).now ≡ told dump
-        → take count (drop held buffer.new.items) ≡ between at (at + count) dump) }
+    ensures piece { IfOk result (λ count. IfTold (D.state dumps.old).now
+        (λ dump. take count (drop held buffer.new.items) ≡ between at (at + count) dump)) }
 {
     if make_room(buffer, held).is_err() {
         return Err(Unread::NoMemory);

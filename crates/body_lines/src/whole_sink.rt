@@ -1,5 +1,5 @@
 // What hears the lines of a body whole, however long they are.
-ghost use Rattle.std.specs.Prelude.{◌≡◌, ◌+◌, ◌<◌, ◌^◌, List, length, OnOk, IfErr};
+ghost use Rattle.std.specs.Prelude.{◌+◌, ◌<◌, ◌^◌, List, length, OnOk, IfErr};
 ghost use Rattle.dump_io.specs.Lines.{Line};
 ghost use Rattle.body_lines.specs.Lines.{lines_at};
 ghost use Rattle.body_lines.specs.Hearing.{Hears, StopsAmong};

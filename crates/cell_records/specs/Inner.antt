@@ -1,4 +1,5 @@
 pub mod Firsts
 pub mod Keeping
+pub mod Places
 pub mod Ranks
 pub mod References

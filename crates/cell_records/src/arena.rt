@@ -1,5 +1,5 @@
 // The records of cells, and the slots of their elements.
-ghost use Rattle.std.specs.Prelude.{◌≡◌, ◌+◌, ◌<◌, ◌≤◌, [], length, slice_range};
+ghost use Rattle.std.specs.Prelude.{◌≡◌, ◌<◌, ◌≤◌, [], length, slice_range};
 ghost use Rattle.cell_records.specs.Slots.{start_at, slots_at, AreOrdered};
 
 use crate::cells::{CellRecord, Slot};

@@ -1,5 +1,5 @@
 // Keeping the first of the cells with each address.
-ghost use Rattle.std.specs.Prelude.{◌≡◌, ◌+◌, ◌<◌, ◌≤◌, ◌^◌, ◌++◌, length, OnOk, IfOk};
+ghost use Rattle.std.specs.Prelude.{◌≡◌, ◌<◌, ◌≤◌, ◌^◌, ◌++◌, length, OnOk, IfOk};
 ghost use Rattle.cell_records.specs.Keeping.{moved_record};
 ghost use Rattle.cell_records.specs.Order.{AreRanked};
 ghost use Rattle.cell_records.specs.Inner.Firsts.{AreFirsts};
@@ -27,8 +27,10 @@ fn keep_cell(all: &Arena, i: usize, kept: &mut Arena) -> Result<(), AllocError>
     requires place { i < length all.now.cells.items }
     requires ordered { AreOrdered all.now.cells.items (length all.now.slots.items) }
     requires few { length kept.old.slots.items < 2 ^ 32 }
-    ensures cells { OnOk result (kept.new.cells.items ≡ kept.old.cells.items ++ moved_record all.now.cells.items i (length kept.old.slots.items)) }
-    ensures slots { OnOk result (kept.new.slots.items ≡ kept.old.slots.items ++ slots_at all.now.cells.items all.now.slots.items i) }
+    ensures cells { OnOk result (kept.new.cells.items ≡ kept.old.cells.items
+        ++ moved_record all.now.cells.items i (length kept.old.slots.items)) }
+    ensures slots { OnOk result (kept.new.slots.items ≡ kept.old.slots.items
+        ++ slots_at all.now.cells.items all.now.slots.items i) }
 {
     let first = kept.slots.len() as u32;
     kept.slots.extend_from_slice(slots_of(all, i))?;

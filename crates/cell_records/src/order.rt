@@ -1,8 +1,9 @@
 // The numbers of cells by address.
-ghost use Rattle.std.specs.Prelude.{◌≡◌, ◌<◌, ◌≤◌, ◌||◌, ◌-◌, ◌==◌, length, nat_lt, not, true, false, IfOk, slice_index_or, ◌^◌, [], OnOk};
-ghost use Rattle.std.specs.List.Sorted.{IsNonDecreasingBy, IsPartitionPoint};
+ghost use Rattle.std.specs.Prelude.{◌≡◌, ◌<◌, ◌≤◌, length, IfOk, ◌^◌, [], OnOk};
+ghost use Rattle.std.specs.List.Sorted.{IsNonDecreasingBy};
 ghost use Rattle.cell_records.specs.Order.{address_in, IsOrder, record_with, AreRecordPairs, AreRanked};
 ghost use Rattle.cell_records.specs.Inner.Firsts.{AreFirsts};
+ghost use Rattle.cell_records.specs.Inner.Places.{IsPointOf, begins_at};
 
 use crate::cells::CellRecord;
 use crate::ranks::Ranks;
@@ -21,7 +22,7 @@ fn address_of(cells: &[CellRecord], n: u32) -> u64
 fn count_below(order: &[u32], cells: &[CellRecord], address: u64) -> usize
     requires { IsNonDecreasingBy (address_in cells.now) order.now }
     ensures within { result ≤ length order.now }
-    ensures point { IsPartitionPoint (λ n. nat_lt (address_in cells.now n) address ≡ true) (λ n. nat_lt (address_in cells.now n) address ≡ false) order.now result }
+    ensures point { IsPointOf cells.now address order.now result }
 {
     order.partition_point(|n| address_of(cells, *n) < address)
 }
@@ -78,7 +79,7 @@ pub(crate) fn ranks_of(alloc: Global, cells: &[CellRecord]) -> Result<Ranks, All
 // Whether no number before a place belongs to a cell with the same address as the number there.
 fn begins_address(order: &[u32], cells: &[CellRecord], place: usize) -> bool
     requires { place < length order.now }
-    ensures { result ≡ (place == 0) || not (address_in cells.now (slice_index_or order.now (place - 1) 0) == address_in cells.now (slice_index_or order.now place 0)) }
+    ensures { result ≡ begins_at cells.now order.now place }
 {
     place == 0 || address_of(cells, order[place - 1]) != address_of(cells, order[place])
 }

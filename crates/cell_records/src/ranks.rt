@@ -1,8 +1,8 @@
 // Pairs of an address and a number.
-ghost use Rattle.std.specs.Prelude.{◌≡◌, ◌<◌, ◌≤◌, ◌++◌, ◌∷◌, [], ℕ, List, length, map, slice_index_or, IfOk, OnOk, OnErr, IfSome, true, false, ◌+◌, ◌^◌};
+ghost use Rattle.std.specs.Prelude.{◌≡◌, ◌<◌, ◌++◌, ◌∷◌, [], ℕ, List, length, map, slice_index_or, IfOk, OnOk, OnErr, IfSome, true, false, ◌+◌, ◌^◌};
 ghost use Rattle.std.specs.List.Sorted.{IsNonDecreasingBy, IsPermutation};
 ghost use Rattle.cell_records.specs.declared.cells.CellRecord.{CellRecord};
-ghost use Rattle.cell_records.specs.Order.{rank, is_first, IsOrder, AreRanked, AreAllFirst};
+ghost use Rattle.cell_records.specs.Order.{rank, IsOrder, AreRanked, AreAllFirst};
 ghost use Rattle.cell_records.specs.Inner.Firsts.{AreApart};
 ghost use Rattle.cell_records.specs.Inner.Ranks.{pair_at};
 
@@ -160,7 +160,8 @@ impl Ranks {
     // The numbers of the pairs. Those of ranked cells are the cells' numbers in the order of their addresses.
     pub(crate) fn numbers(&self, alloc: Global) -> Result<Vec<u32>, AllocError>
         ensures numbers { IfOk result (λ numbers. numbers.items ≡ map (λ pair. pair.1) self.now) }
-        ensures order { IfOk result (λ numbers. (cells : List CellRecord) → AreRanked cells self.now → IsOrder cells numbers.items) }
+        ensures order { IfOk result (λ numbers. (cells : List CellRecord)
+            → AreRanked cells self.now → IsOrder cells numbers.items) }
     {
         let mut numbers = Vec::with_capacity(alloc, self.len())?;
         for i in 0..self.len() {

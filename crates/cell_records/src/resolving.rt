@@ -1,9 +1,8 @@
 // Resolving references to the cells that they lead to.
-ghost use Rattle.std.specs.Prelude.{◌≡◌, ℕ, ◌<◌, ◌≤◌, ◌++◌, List, length, map, slice_index_or, IfOk, OnOk, ◌^◌, []};
+ghost use Rattle.std.specs.Prelude.{◌≡◌, ℕ, ◌<◌, ◌≤◌, ◌++◌, length, slice_index_or, IfOk, OnOk, ◌^◌, []};
 ghost use Rattle.std.specs.List.Sorted.{IsNonDecreasingBy};
-ghost use Rattle.cell_records.specs.declared.cells.CellRecord.{CellRecord};
-ghost use Rattle.cell_records.specs.Order.{AreRanked, record_with, IsNumberIn};
-ghost use Rattle.cell_records.specs.Resolving.{settled, AreSettled};
+ghost use Rattle.cell_records.specs.Order.{IsNumberIn};
+ghost use Rattle.cell_records.specs.Resolving.{AreSettled};
 ghost use Rattle.cell_records.specs.Inner.References.{reference_of, found_at, AreReferences, IsFirstFrom};
 
 use crate::cells::{CellIx, Slot};

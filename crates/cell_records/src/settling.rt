@@ -1,5 +1,5 @@
 // Cells whose references lead to cells.
-ghost use Rattle.std.specs.Prelude.{◌<◌, ◌≤◌, ◌^◌, length, IfOk, OnOk};
+ghost use Rattle.std.specs.Prelude.{◌<◌, ◌≤◌, ◌^◌, length, IfOk};
 ghost use Rattle.cell_records.specs.Settling.{IsSettled};
 ghost use Rattle.cell_records.specs.Slots.{AreOrdered};
 

@@ -1,12 +1,12 @@
 -- What is found fits the processes.
 use Rattle.std.proofs.Common.{◌≡◌, ℕ, suc, ◌+◌, ◌<◌, Bool, true, false, List, [], ◌∷◌, ◌++◌, length, Option, None, Some, Result, Ok, Err, refl, sym, ap, subst, arith, if◌then◌else◌}
-use Rattle.std.specs.Prelude.{All, IfOk, IfSome, IsSomeAnd, ◌==◌, cond, flat_map, slice_get, nat_lt, unwrap_or}
-use Rattle.std.specs.List.{enumerate_from, filter_map, cons_option, position_or_len}
+use Rattle.std.specs.Prelude.{All, IfOk, IfSome, IsSomeAnd, ◌==◌, flat_map, slice_get, nat_lt, unwrap_or}
+use Rattle.std.specs.List.{enumerate_from, filter_map, cons_option}
 use Rattle.std.specs.Option.{option_map, option_to_list}
 use Rattle.std.specs.Str.{bytes_eq}
 use Rattle.std.proofs.lemmas.List.Elements.{All-nil, All-cons, All-append}
-use Rattle.std.proofs.lemmas.Bool.{ltb-true}
 use Rattle.std.proofs.lemmas.Option.{slice_get_within}
+use Rattle.dump_io.specs.Laws.Lists.{position-within}
 use Rattle.dump_io.specs.Numbers.{dec_number}
 use Rattle.section_rows.specs.Rows.{Kept}
 use Rattle.process_table.specs.Processes.{Process, nobody, process_at}
@@ -57,13 +57,8 @@ some-if P true o holds = holds
 some-if P false o holds = tt
 
 -- ---- places
-within : (n size : ℕ) (b : Bool) → nat_lt n size ≡ b → IfSome (cond b (Some n) None) (λ q. q < size)
-within n size true is = ltb-true n size is
-within n size false is = tt
-
 place-within : (processes : List Process) (pid : List ℕ) → IfSome (process_place processes pid) (λ q. q < length processes)
-place-within processes pid =
-    let n = position_or_len (λ process. bytes_eq pid process.pid) processes in within n (length processes) (nat_lt n (length processes)) refl
+place-within processes pid = position-within (λ process. bytes_eq pid process.pid) processes
 
 -- ---- links and monitors
 some-entry : (entries : List LinkEntry) (n : ℕ) (e : LinkEntry) (is_kind : Kind → Bool) → slice_get entries n ≡ Some e → is_kind e.kind ≡ true

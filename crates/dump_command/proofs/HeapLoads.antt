@@ -156,7 +156,7 @@ module _ (pid : List ℕ) (before : List Section) (limits : Numbers) (index : Co
       → ((f : HeapFault) → bodies_fault limits.section (heap_bodies pid (sections_in index)) ≡ Some f → IsErrOf {T = HeapMap} (Err fault) f)
       → IsHeapOf old.now index (heap_section pid (sections_in index)) (literals_section (sections_in index)) limits.dense (Err fault)
       → IsHeapless pid before limits index old new (stop_of_heap fault)
-  IsHeapless-heap old new heap_faults.Read cause first answer = cause
+  IsHeapless-heap old new heap_faults.Read cause first answer = cause.1
   IsHeapless-heap old new heap_faults.Memory cause first answer = tt
   IsHeapless-heap old new (heap_faults.SectionTooLarge at len) cause first answer = (
     tt,
@@ -255,17 +255,17 @@ Takes-walk pid before refuses what show limits index old new heap holds count re
 module _ (before after : DeviceState) where
   -- the previews weren't loaded
   pub StopsFor-previews : (fault : PreviewFault) → IsPreviewCause before after fault → StopsFor before after (λ why. ⊥) (stop_of_previews fault)
-  StopsFor-previews preview_faults.Read cause = cause
+  StopsFor-previews preview_faults.Read cause = cause.1
   StopsFor-previews preview_faults.Memory cause = tt
 
   -- bodies weren't read of which none is too large
   pub StopsFor-last : (large : Option LargeSection) (fault : BodyFault) → large ≡ None → AreUnread large before after fault → StopsFor before after (λ why. ⊥) (stop_of_body fault)
-  StopsFor-last large body_faults.Read small cause = cause
+  StopsFor-last large body_faults.Read small cause = cause.1
   StopsFor-last large body_faults.Memory small cause = tt
   StopsFor-last large (body_faults.SectionTooLarge at len) small cause = absurd (let no : ⊥ = cc (ap is_some small, cause) in no)
 
   pub AreUnread-refused : (ss : List Section) (limit : ℕ) (fault : BodyFault) → AreRefused ss limit before after fault → AreUnread (large_fault limit ss) before after fault
-  AreUnread-refused ss limit body_faults.Read cause = cause
+  AreUnread-refused ss limit body_faults.Read cause = (refl, cause.1)
   AreUnread-refused ss limit body_faults.Memory cause = tt
   AreUnread-refused ss limit (body_faults.SectionTooLarge at len) cause = ap is_some cause
 

@@ -50,7 +50,7 @@ module _ (before after : DeviceState) (P : Refusal → Type 0) where
   -- for why the bodies of several sections weren't loaded
   pub StopsFor-bodies : (ss : List Section) (limit : ℕ) (fault : BodyFault) → AreRefused ss limit before after fault
       → ((why : Refusal) → too_large limit ss ≡ Some why → P why) → StopsFor before after P (stop_of_body fault)
-  StopsFor-bodies ss limit body_faults.Read cause follows = cause
+  StopsFor-bodies ss limit body_faults.Read cause follows = cause.1
   StopsFor-bodies ss limit body_faults.Memory cause follows = tt
   StopsFor-bodies ss limit (body_faults.SectionTooLarge at len) cause follows = (tt, follows (SectionTooLarge at len) (ap (option_map large_refusal) cause))
 

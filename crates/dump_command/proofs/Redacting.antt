@@ -113,11 +113,11 @@ module _ (a b c : DeviceState) (file : List ℕ) (limits : Numbers) (index : Con
         record { proper = tt; there = known.there; told = λ bytes dump. refused bytes dump ∙ same-refusal large at len cause },
         unwritten (subst IsSome (sym cause) refl),
       )
-      by (Err faults.Read) writes cause none first = (inl (omega (arith, cause, opened.later)), stopped (λ bytes told_is. (writes bytes told_is).front))
+      by (Err faults.Read) writes cause none first = (inl (omega (arith, cause.1, opened.later)), stopped (λ bytes told_is. (writes bytes told_is).front))
       by (Err faults.Write) writes cause none first =
           record {
             there = known.there;
-            failed = cause;
+            failed = cause.1;
             told = λ bytes dump. (accepted bytes dump (small large refl first), (writes bytes (known.told bytes dump).0.opened).front);
           }
       by (Err faults.Memory) writes cause none first = stopped (λ bytes told_is. (writes bytes told_is).front)

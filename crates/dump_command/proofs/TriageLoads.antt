@@ -127,7 +127,7 @@ LoadsBodies-small state index limit b c result is read =
       reads = read.reads;
       allowed = on-ok result;
       unread = λ some. absurd (let no : ⊥ = cc (ap is_some is, some) in no);
-      fault = IfErr-weaker result _ _ (λ fault cause. AreRefused-unread limit (triage_sections (sections_in index)) (state b) (state c) fault cause) read.fault;
+      fault = IfErr-weaker result _ _ (λ fault cause. AreRefused-unread limit (triage_sections (sections_in index)) (state b) (state c) fault (sym is) cause) read.fault;
     }
   where
     on-ok : (result : Result Loaded BodyFault) → OnOk result (large_fault limit (triage_sections (sections_in index)) ≡ None)

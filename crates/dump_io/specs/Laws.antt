@@ -2,6 +2,7 @@
 pub mod Colons
 pub mod Digits
 pub mod HexNumbers
+pub mod LineFeeds
 pub mod Lines
 pub mod Lists
 pub mod Options

@@ -1,7 +1,6 @@
 // A device whose files are in memory, which can cut its reads and fail.
 ghost use Rattle.std.specs.Prelude.{◌≡◌, ℕ, ◌-◌, ◌<◌, ◌≤◌, List, length, None, Some, min, is_err, is_ok, slice_get, IfOk, if◌then◌else◌};
 ghost use Rattle.std.specs.Option.{option_and_then, option_copied};
-ghost use Rattle.std.specs.Str.{bytes_eq};
 ghost use Rattle.dump_io.specs.Count.{number_in-small};
 ghost use Rattle.dump_io.specs.Counts.{plus_capped, risen_if};
 ghost use Rattle.dump_io.specs.Dumps.{closed, opened, size_of, most_at, Opens, ReadsSome};

@@ -1,5 +1,5 @@
 // A sink in memory, which can take small steps and fail.
-ghost use Rattle.std.specs.Prelude.{◌≡◌, ◌<◌, true, [], length, is_err, not, IsErr, IfOk, ◌&&◌, if◌then◌else◌};
+ghost use Rattle.std.specs.Prelude.{◌≡◌, ◌<◌, true, [], length, is_err, not, IsErr, IfOk, ◌&&◌};
 ghost use Rattle.dump_io.specs.Counts.{plus_capped, risen_if};
 ghost use Rattle.dump_io.specs.Sinks.{TakesSome};
 ghost use Rattle.dump_io.specs.MemSink.{state_of, is_failing, taken_by};

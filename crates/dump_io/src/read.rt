@@ -1,5 +1,5 @@
 // Reads that fill a buffer.
-ghost use Rattle.std.specs.Prelude.{◌≡◌, ◌+◌, ◌≤◌, length, OnOk, OnErr};
+ghost use Rattle.std.specs.Prelude.{◌+◌, ◌≤◌, length, OnOk, OnErr};
 ghost use Rattle.dump_io.specs.Dumps.{size_of, IsOpen, Gives, DeviceFailed, Took, ReadsAtMost};
 
 use crate::dumps::{Dumps, Failed};

@@ -9,6 +9,7 @@ use Rattle.std.proofs.lemmas.List.Sums.{count_by-le-length, length-filter, sum_b
 use Rattle.std.proofs.lemmas.Option.{IfSome_then}
 use Rattle.dump_io.specs.Colons.{has_colon, is_colon}
 use Rattle.dump_io.specs.Lines.{headers, lf, lines_after, lines_from, raw_lines}
+use Rattle.dump_io.specs.Laws.Lines.{length-lines_from, length-raw_lines}
 use Rattle.field_lines.specs.Lines.{TextLine, text_line, text_lines}
 use Rattle.dump_sections.specs.Index.{dump_state}
 use Rattle.dump_sections.specs.Sections.{Section, sections}
@@ -24,23 +25,6 @@ use Rattle.dump_laws.specs.Laws.{AuditsReadBack}
 
 -- ---- lines
 
-length-after : (c : ℕ) (lines : List (List ℕ)) → length (lines_after c lines) ≤ suc (length lines)
-length-after c [] = omega arith
-length-after c (line ∷ lines) = omega arith
-
-lines-pair : (c : ℕ) (bytes : List ℕ) (b : Bool) → length (raw_lines bytes) ≤ length bytes
-    → length (if b then (c ∷ []) ∷ raw_lines bytes else lines_after c (raw_lines bytes)) ≤ suc (length bytes)
-lines-pair c bytes true few = omega (arith, few)
-lines-pair c bytes false few = omega (arith, few, length-after c (raw_lines bytes))
-
-lines-few : (bytes : List ℕ) → length (raw_lines bytes) ≤ length bytes
-lines-few [] = omega arith
-lines-few (c ∷ bytes) = lines-pair c bytes (c == lf) (lines-few bytes)
-
-length-numbered : (at : ℕ) (raws : List (List ℕ)) → length (lines_from at raws) ≡ length raws
-length-numbered at [] = refl
-length-numbered at (raw ∷ raws) = ap suc (length-numbered (at + length raw) raws)
-
 roots-few : (body : List ℕ) → length (root_lines body) ≤ length body
 roots-few body =
     omega (
@@ -48,8 +32,8 @@ roots-few body =
       length-filter has_text (text_lines body),
       count_by-le-length has_text (text_lines body),
       length-map (lines_from 0 (raw_lines body)) text_line,
-      length-numbered 0 (raw_lines body),
-      lines-few body,
+      length-lines_from 0 (raw_lines body),
+      length-raw_lines body,
     )
 
 -- ---- messages

@@ -16,6 +16,7 @@ use Rattle.dump_sections.specs.Lookups.{has_tag, is_named}
 use Rattle.dump_sections.specs.Sections.{Section, section, sections, id_of, tag_of}
 use Rattle.dump_sections.specs.declared.index.State.{State}
 use Rattle.dump_sections.specs.Bodies.{body_of, body_in, at_place}
+use Rattle.process_table.specs.Laws.{All-first_of_each}
 use Rattle.process_table.specs.Processes.{Process, ProcessTable, process_in, process_table}
 use Rattle.process_table.specs.Records.{PlacedSection, first_of_each, is_process, placed_sections, process_sections, records, repeated}
 use Rattle.audit_bodies.specs.Mailboxes.{mail_in, mailbox_place, mailbox_places, mails, pids_in}
@@ -59,11 +60,6 @@ map-same f g [] same = refl
 map-same f g (x ∷ xs) same =
     ap (λ y. y ∷ map f xs) (All-head (λ x. f x ≡ g x) x xs same) ∙ ap (λ ys. g x ∷ ys) (map-same f g xs (All-tail (λ x. f x ≡ g x) x xs same))
 
-all-firsts : (P : PlacedSection → Type 0) (ps : List PlacedSection) → All P ps → All P (first_of_each ps)
-all-firsts P [] all = All-nil P
-all-firsts P (p ∷ ps) all =
-    All-cons P p _ (All-head P p ps all) (All-filter _ P (first_of_each ps) (all-firsts P ps (All-tail P p ps all)))
-
 -- ---- sections in which no payload stands
 
 pub left-holds : (a b : Bool) → (a && b) ≡ true → a ≡ true
@@ -92,7 +88,7 @@ module _ (enc : Enc) (before after : List ℕ) (others : KeepsOthers) where
         let placed_all : All (λ p. IsRedacted enc before after p.1) (placed_sections ss) = all-numbered (IsRedacted enc before after) 0 ss all in
         let kept = All-filter (λ p. is_process p.1) (λ p. IsRedacted enc before after p.1) (placed_sections ss) placed_all in
         let passed = filter_passes (λ p. is_process p.1) (placed_sections ss) in
-        all-firsts (λ p. body_of after p.1 ≡ body_of before p.1) (process_sections (placed_sections ss))
+        All-first_of_each (λ p. body_of after p.1 ≡ body_of before p.1) (process_sections (placed_sections ss))
         (λ k d l. let s = (get_or (process_sections (placed_sections ss)) k d).1 in same-body s (kept k d l) (process-other s (passed k d l)))
 
     same-processes : map (λ p. process_in p (body_of after p.1)) (records ss) ≡ map (λ p. process_in p (body_of before p.1)) (records ss)

@@ -12,8 +12,8 @@ use Rattle.dump_redact.specs.Inner.Copying.{IsBreak, Copies, HasCopied}
 -- what breaks off behind what went well
 break-behind : (a b c : DeviceState) (s t u : SinkState) (fault : RedactFault) → a.faults ≤ b.faults → s.faults ≤ t.faults → IsBreak b c t u fault → IsBreak a c s u fault
 break-behind a b c s t u (SectionTooLarge at len) reads writes is = is
-break-behind a b c s t u Read reads writes is = omega (arith, reads, is)
-break-behind a b c s t u Write reads writes is = omega (arith, writes, is)
+break-behind a b c s t u Read reads writes is = (refl, omega (arith, reads, is.1))
+break-behind a b c s t u Write reads writes is = (refl, omega (arith, writes, is.1))
 break-behind a b c s t u Memory reads writes is = tt
 
 -- bytes were read
@@ -34,7 +34,7 @@ Copies-put {a = a} {s = s} {t = t} {result = Err e} small puts is = record {
   reads = ReadsAtMost-none 0 small;
   later = puts.later;
   writes = λ dump told. puts.writes;
-  fault = subst (IsBreak a a s t) (sym is) puts.failed;
+  fault = subst (IsBreak a a s t) (sym is) (refl, puts.failed);
 }
 
 -- what was copied is all there is
@@ -113,7 +113,7 @@ Copies-piece {most = most} whole reads puts is joins =
 
 -- the device failed
 pub break-read : (a b : DeviceState) (s t : SinkState) (fault : RedactFault) → (fault ≡ Read) × DeviceFailed a b → IsBreak a b s t fault
-break-read a b s t fault is = subst (IsBreak a b s t) (sym is.0) is.1
+break-read a b s t fault is = subst (IsBreak a b s t) (sym is.0) (refl, is.1)
 
 -- memory was lacking
 pub break-memory : (a b : DeviceState) (s t : SinkState) (fault : RedactFault) → fault ≡ Memory → IsBreak a b s t fault

@@ -1,9 +1,9 @@
 -- Pieces of a dump: where its sections begin and end, which is too large, and what is made of some of them.
 use Rattle.std.proofs.Common.{◌≡◌, ℕ, zero, suc, ◌+◌, ◌<◌, Bool, true, false, cond, ◌&&◌, List, [], ◌∷◌, length, drop, slice_get, get_or, Option, None, Some, if◌then◌else◌, refl, sym, ◌∙◌, ap, arith, nat_lt, ◌-◌, ◌≤◌, take, ◌⊎◌, inl, inr, subst, ◌++◌, ap₂, append_assoc}
-use Rattle.std.specs.Prelude.{option_map, unwrap_or, min, All}
+use Rattle.std.specs.Prelude.{option_map, unwrap_or, min}
 use Rattle.std.specs.Option.{option_or}
 use Rattle.std.specs.List.{between}
-use Rattle.std.proofs.lemmas.Option.{slice_get-get_or, get_or_from_slice_get, slice_get_within}
+use Rattle.std.proofs.lemmas.Option.{slice_get-get_or}
 use Rattle.std.proofs.lemmas.Bool.{cases_lt}
 use Rattle.std.proofs.lemmas.List.{length-take-le, take-take, drop-take, drop-drop, take_all, take_at, drop_at}
 use Rattle.std.proofs.lemmas.List.Edits.{length-between}
@@ -32,6 +32,7 @@ use Rattle.dump_redact.proofs.Sections.{redacts-sections, keeps-others}
 use Rattle.dump_redact.proofs.Stretches.{between-join}
 use Rattle.dump_io.specs.Laws.Lists.{All-at, drop-at}
 use Rattle.dump_sections.specs.Laws.{length-sections_of}
+use Rattle.dump_sections.specs.TilingLaws.{Tile-size}
 
 abbrev fault_of : Section → RedactFault
 fault_of s = SectionTooLarge s.at (body_length s)
@@ -137,15 +138,11 @@ section-redacted dump index i s of is =
 
 -- ---- offsets
 
-tile-within : (from size : ℕ) (ss : List Section) → Tile from size ss → from ≤ size
-tile-within from size [] tile = omega (arith, tile)
-tile-within from size (s ∷ ss) tile = omega (arith, tile.0, tile.1, tile.2, tile-within s.end size ss tile.3)
-
 -- an index that has a header has a byte
 pub size-some : (heads : List Header) (size : ℕ) → 1 ≤ length heads → Tile 0 size (sections_of heads size) → 0 < size
 size-some [] size some tile = absurd (omega (arith, some))
 size-some (header ∷ heads) size some tile =
-    omega (arith, tile.1, tile.2, tile-within (next_at (slice_get heads 0) size) size (sections_of heads size) tile.3)
+    omega (arith, tile.1, tile.2, Tile-size (next_at (slice_get heads 0) size) size (sections_of heads size) tile.3)
 
 rise : (heads : List Header) (size from i j : ℕ) → Tile from size (sections_of heads size) → i ≤ j → j ≤ length heads
     → next_at (slice_get heads i) size ≤ next_at (slice_get heads j) size

@@ -1,5 +1,5 @@
 -- Lines of a heap: those in which `:Yh` doesn't stand have no payload.
-use Rattle.std.proofs.Common.{◌≡◌, ℕ, ◌+◌, ◌-◌, ◌<◌, ◌≤◌, Bool, true, false, List, ◌++◌, length, drop, refl, ◌∙◌, ap, arith, nat_lt, ◌∷◌, take, map, sym, append_assoc, ◌==◌, [], Option, Some, None, suc, if◌then◌else◌, ap₂, subst, append-nil, length-append}
+use Rattle.std.proofs.Common.{◌≡◌, ℕ, ◌+◌, ◌-◌, ◌<◌, ◌≤◌, Bool, true, false, List, ◌++◌, length, drop, refl, ◌∙◌, ap, arith, nat_lt, ◌∷◌, take, map, sym, append_assoc, ◌==◌, [], Option, Some, None, if◌then◌else◌, ap₂, subst, append-nil, length-append}
 use Rattle.std.specs.Prelude.{codes, slice_index}
 use Rattle.std.specs.List.{concat}
 use Rattle.std.proofs.lemmas.Bool.{eq-eqb, ltb-true, ltb-false}

@@ -2,8 +2,8 @@
 use Rattle.std.proofs.Common.{◌≡◌, ℕ, ◌<◌, ◌≤◌, List, length, take, sym, ◌∙◌, arith, ◌+◌, ◌-◌, ◌==◌, true, false, [], ◌∷◌, ◌++◌, drop, map, replicate, if◌then◌else◌, refl, ap, ap₂, subst}
 use Rattle.std.specs.Prelude.{◌≢◌, All}
 use Rattle.std.specs.List.{between, list_all}
-use Rattle.std.proofs.lemmas.Bool.{eq-eqb, ne_eqb, eqb-true, and_from, and_parts, false≢true}
-use Rattle.std.proofs.lemmas.List.{get_or-take, length-take-le, drop-drop, drop_more, take-append-drop}
+use Rattle.std.proofs.lemmas.Bool.{ne_eqb, eqb-true, and_from, and_parts, false≢true}
+use Rattle.std.proofs.lemmas.List.{drop-drop, drop_more, take-append-drop}
 use Rattle.std.proofs.lemmas.List.Elements.{All-from_get_or, All-head, All-tail}
 use Rattle.std.proofs.lemmas.List.Folds.{list_all-append, list_all_at}
 use Rattle.std.proofs.Math.Seq.{take-length}
@@ -17,14 +17,7 @@ use Rattle.dump_redact.specs.declared.blanks.Stretch.{Stretch}
 use Rattle.dump_redact.specs.declared.blanks.Stretch.TheVariants.{Plain, Payload}
 use Rattle.dump_redact.specs.Redacted.{blank, zero_of}
 use Rattle.dump_redact.specs.Inner.Copying.{blank_line, copied, stretch_behind}
-
--- LF doesn't stand among the first n bytes
-pub lf_free : (bytes : List ℕ) (n : ℕ) → n ≤ length bytes → Nowhere (Passes (is_byte lf) bytes) 0 n → All (λ c. c ≢ lf) (take n bytes)
-lf_free bytes n fits none =
-    All-from_get_or (λ c. c ≢ lf) (take n bytes) 0 (λ i l same.
-    let len : length (take n bytes) ≡ n = length-take-le n bytes fits in
-    let inside : i < n = omega (arith, l, len) in
-    none i (omega arith) inside (eq-eqb _ _ (sym (get_or-take n bytes i 0 inside) ∙ same)))
+use Rattle.dump_io.specs.Laws.LineFeeds.{lf_free}
 
 -- ---- bytes that are copied in two parts
 

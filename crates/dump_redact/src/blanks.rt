@@ -53,7 +53,7 @@ fn block(chars: &[u8], at: usize) -> &[u8]
     &chars[at..at + BLOCK]
 }
 
-// How many whole blocks of digits begin the characters, counted in characters.
+// How many characters the whole blocks of digits at the beginning have together.
 fn blocks_len(chars: &[u8], enc: Enc) -> usize
     ensures within { result ≤ length chars.now }
     ensures digits { list_all (is_digit_of enc) (take result chars.now) ≡ true }
@@ -76,9 +76,10 @@ fn last_digit_end(chars: &[u8], enc: Enc) -> usize
     end
 }
 
-// How many characters at their beginning are known to be digits: of a payload that fills a block, with its
-// LF, all but the padding and the LF. The digits behind the blocks are tested in a block too, which ends where
-// they end: its first characters are tested twice, which takes less time than to test the last ones singly.
+// How many characters from the beginning on are known to be digits. If they are a payload that fills a block,
+// with its LF, these are all but the padding and the LF. The digits behind the last whole block are tested as a
+// block too, which ends where they end: its first characters are tested twice, but that takes less time than to
+// test the last ones one by one.
 fn digits_len(chars: &[u8], enc: Enc) -> usize
     ensures within { result ≤ length chars.now }
     ensures digits { list_all (is_digit_of enc) (take result chars.now) ≡ true }
@@ -95,7 +96,7 @@ fn digits_len(chars: &[u8], enc: Enc) -> usize
     len
 }
 
-// Makes digits blank, all of which become the same character.
+// Makes digits blank: all of them become the same character.
 fn blank_digits(chars: &mut [u8], enc: Enc)
     requires { list_all (is_digit_of enc) chars.old ≡ true }
     ensures { chars.new ≡ map (blank enc) chars.old }
@@ -120,8 +121,8 @@ fn blank_upto_lf(chars: &mut [u8], enc: Enc) -> Stretch
     }
 }
 
-// The same. Nearly all of a payload are digits, among which there
-// is no LF, so it is looked for behind the blocks of digits alone.
+// Does the same in less time: nearly all characters of a payload are digits,
+// and none of these is an LF, so that it is only searched for behind them.
 fn blank_line(chars: &mut [u8], enc: Enc) -> Stretch
     ensures text { chars.new ≡ copied (Stretch.Payload enc) chars.old }
     ensures behind { result ≡ stretch_behind (Stretch.Payload enc) chars.old }

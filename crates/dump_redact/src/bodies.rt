@@ -1,9 +1,8 @@
 // Redacting and writing the bodies with payloads.
-ghost use Rattle.std.specs.Prelude.{◌≡◌, ℕ, ◌+◌, ◌-◌, ◌<◌, ◌≤◌, ◌++◌, ◌⊎◌, List, length, take, drop, IfSome};
-ghost use Rattle.std.specs.List.{between};
+ghost use Rattle.std.specs.Prelude.{◌≡◌, ℕ, ◌+◌, ◌-◌, ◌<◌, ◌≤◌, ◌++◌, List, length, take, drop, IfSome};
 ghost use Rattle.dump_redact.specs.Bodies.{redacted_body};
 ghost use Rattle.dump_redact.specs.Inner.Copying.{copied, HasUpto, Copies};
-ghost use Rattle.dump_redact.specs.Inner.Places.{IsLeadOf};
+ghost use Rattle.dump_redact.specs.Inner.Places.{IsLeadOf, Begins, HasLead, binary_text};
 
 use crate::blanks::{Stretch, rewrite};
 use crate::copying::{copy, put_bytes, read_piece};
@@ -13,8 +12,8 @@ use crate::parts::Part;
 use dump_io::{Dumps, Sink};
 use term_forms::{Enc, heap_line, number_is_in_front, number_is_read};
 
-// Where the payload of a binary begins, from the first 17 bytes of its
-// body, or fewer: after a hex number of 1 to 16 digits and its colon.
+// Where the payload of a binary begins: after a hex number of 1 to 16 digits and its colon.
+// The first 17 bytes of the body tell this, or all of them if it has fewer.
 fn lead_len(front: &[u8]) -> Option<usize>
     ensures within { IfSome result (λ place. place ≤ length front.now) }
     ensures lead { (body : List ℕ) → front.now ≡ take 17 body → IsLeadOf body result }
@@ -26,10 +25,11 @@ fn lead_len(front: &[u8]) -> Option<usize>
 }
 
 // Redacts the first piece of a binary's body, and returns how to copy what
-// follows it. A piece of 17 bytes has the whole number and its colon.
+// follows it. A piece of 17 bytes or more holds the whole number and its colon.
 fn redact_lead(piece: &mut [u8], enc: Enc) -> Stretch
-    ensures { (body : List ℕ) → piece.old ≡ take (length piece.old) body → (17 ≤ length piece.old) ⊎ (length piece.old ≡ length body)
-        → piece.new ++ copied result (drop (length piece.old) body) ≡ redacted_body enc Part.Binary body }
+    ensures { (body : List ℕ) → Begins piece.old body → HasLead piece.old body
+        → piece.new ++ copied result (drop (length piece.old) body)
+        ≡ redacted_body enc Part.Binary body }
 {
     number_is_read();
     let front = piece.len().min(17);
@@ -39,7 +39,7 @@ fn redact_lead(piece: &mut [u8], enc: Enc) -> Stretch
     }
 }
 
-// Makes the payloads zero in a body whose header begins this part.
+// Makes the payloads in a body zero; its header says which part of a dump it is.
 pub(crate) fn redact_body(body: &mut [u8], part: Part, enc: Enc)
     ensures { body.new ≡ redacted_body enc part body.old }
 {
@@ -52,8 +52,8 @@ pub(crate) fn redact_body(body: &mut [u8], part: Part, enc: Enc)
     }
 }
 
-// Copies what stands from an offset up to the body of a binary, which ends at another offset, and that body
-// with its payload made zero. The first piece reaches as far into the body as its number and colon may.
+// Copies the bytes from an offset up to the body of a binary as they are, and then the body with its payload
+// made zero. The first piece reaches far enough into the body to hold its number and colon.
 pub(crate) fn put_binary<D: Dumps, K: Sink>(
     dumps: &mut D,
     from: u64,
@@ -67,8 +67,9 @@ pub(crate) fn put_binary<D: Dumps, K: Sink>(
     requires ordered { from ≤ body }
     requires some { body < upto }
     requires near { body - from + 17 ≤ length buffer.old }
-    ensures { Copies (D.state dumps.old) (D.state dumps.new) (K.state sink.old) (K.state sink.new) (upto - from)
-        (λ dump. between from body dump ++ redacted_body enc Part.Binary (between body upto dump)) result }
+    ensures { Copies (D.state dumps.old) (D.state dumps.new)
+        (K.state sink.old) (K.state sink.new) (upto - from)
+        (λ dump. binary_text enc from body upto dump) result }
 {
     let count = read_piece(dumps, from, upto, buffer)?;
     let lead = (body - from) as usize;

@@ -1,9 +1,9 @@
 // Copying bytes from the device to the sink, piece by piece.
-ghost use Rattle.std.specs.Prelude.{◌≡◌, ℕ, ◌+◌, ◌-◌, ◌<◌, ◌≤◌, List, length, take, min, IfOk, IfErr, OnOk};
+ghost use Rattle.std.specs.Prelude.{◌≡◌, ◌-◌, ◌<◌, ◌≤◌, length, take, IfOk, IfErr, OnOk};
 ghost use Rattle.std.specs.List.{between};
-ghost use Rattle.dump_io.specs.Dumps.{told, Gives, DeviceFailed, ReadsAtMost};
+ghost use Rattle.dump_io.specs.Dumps.{Gives, ReadsAtMost, IfTold};
 ghost use Rattle.dump_io.specs.Sinks.{Puts};
-ghost use Rattle.dump_redact.specs.Inner.Copying.{copied, stretch_behind, HasUpto, Copies};
+ghost use Rattle.dump_redact.specs.Inner.Copying.{copied, stretch_behind, HasUpto, Copies, piece_size, first_piece, IsReadFault};
 
 use crate::blanks::{Stretch, rewrite};
 use crate::faults::RedactFault;
@@ -20,8 +20,8 @@ pub(crate) fn make_buffer(alloc: Global) -> Result<Vec<u8>, AllocError>
     vec![in alloc; 0u8; PIECE]
 }
 
-// Makes a buffer large enough for this many bytes. One that is
-// too small is freed first, so that no two are held at a time.
+// Makes sure that a buffer has room for this many bytes. One that is too
+// small is freed first, so that two of them are never held at once.
 pub(crate) fn make_room(alloc: Global, buffer: &mut Vec<u8>, len: usize) -> Result<(), RedactFault>
     ensures room { OnOk result (len ≤ length buffer.new.items) }
     ensures fault { IfErr result (λ fault. fault ≡ RedactFault.Memory) }
@@ -46,10 +46,12 @@ pub(crate) fn read_piece<D: Dumps>(
 ) -> Result<usize, RedactFault>
     requires held { HasUpto (D.state dumps.old).now upto }
     requires ordered { from ≤ upto }
-    ensures reads { ReadsAtMost (D.state dumps.old) (D.state dumps.new) (min (length buffer.old) (upto - from)) }
-    ensures count { IfOk result (λ count. count ≡ min (length buffer.old) (upto - from)) }
-    ensures piece { IfOk result (λ count. Gives (D.state dumps.old).now from (take count buffer.new)) }
-    ensures fault { IfErr result (λ fault. (fault ≡ RedactFault.Read) × DeviceFailed (D.state dumps.old) (D.state dumps.new)) }
+    ensures reads { ReadsAtMost (D.state dumps.old) (D.state dumps.new)
+        (piece_size buffer.old from upto) }
+    ensures count { IfOk result (λ count. count ≡ piece_size buffer.old from upto) }
+    ensures piece { IfOk result (λ count.
+        Gives (D.state dumps.old).now from (take count buffer.new)) }
+    ensures fault { IfErr result (IsReadFault (D.state dumps.old) (D.state dumps.new)) }
 {
     let count = buffer.len().min((upto - from) as usize);
     if read_full(dumps, from, &mut buffer[..count]).is_err() {
@@ -81,12 +83,12 @@ fn copy_piece<D: Dumps, K: Sink>(
     requires held { HasUpto (D.state dumps.old).now upto }
     requires some { from < upto }
     requires room { 0 < length buffer.old }
-    ensures copies { let count = min (length buffer.old) (upto - from) in
-        Copies (D.state dumps.old) (D.state dumps.new) (K.state sink.old) (K.state sink.new) count
-        (λ dump. copied stretch.old (between from (from + count) dump)) result }
-    ensures count { IfOk result (λ count. count ≡ min (length buffer.old) (upto - from)) }
-    ensures behind { OnOk result ((dump : List ℕ) → (D.state dumps.old).now ≡ told dump
-        → stretch.new ≡ stretch_behind stretch.old (between from (from + min (length buffer.old) (upto - from)) dump)) }
+    ensures copies { Copies (D.state dumps.old) (D.state dumps.new)
+        (K.state sink.old) (K.state sink.new) (piece_size buffer.old from upto)
+        (λ dump. copied stretch.old (first_piece buffer.old from upto dump)) result }
+    ensures count { IfOk result (λ count. count ≡ piece_size buffer.old from upto) }
+    ensures behind { OnOk result (IfTold (D.state dumps.old).now (λ dump.
+        stretch.new ≡ stretch_behind stretch.old (first_piece buffer.old from upto dump))) }
 {
     let count = read_piece(dumps, from, upto, buffer)?;
     let piece = &mut buffer[..count];
@@ -108,7 +110,8 @@ pub(crate) fn copy<D: Dumps, K: Sink>(
     requires held { HasUpto (D.state dumps.old).now upto }
     requires ordered { from ≤ upto }
     requires room { 0 < length buffer.old }
-    ensures { Copies (D.state dumps.old) (D.state dumps.new) (K.state sink.old) (K.state sink.new) (upto - from)
+    ensures { Copies (D.state dumps.old) (D.state dumps.new)
+        (K.state sink.old) (K.state sink.new) (upto - from)
         (λ dump. copied stretch (between from upto dump)) result }
 {
     let mut at = from;

@@ -16,8 +16,8 @@ use term_forms::{Enc, form_is_read, heap_line, number_is_read};
 // How many bytes behind a letter count as near.
 const NEAR: usize = 16;
 
-// Where the payload begins in the line, if it is a heap line with one. Any
-// other form is recognized by its first two characters, and isn't read.
+// Where the payload begins in a line, if it is a heap line with one. The first two
+// characters of a form tell whether it has a payload; a form without one isn't read.
 fn payload_at(raw: &[u8], enc: Enc) -> Option<usize>
     ensures place { result ≡ payload_place enc raw.now }
     ensures within { IfSome result (λ at. at ≤ length raw.now) }
@@ -66,8 +66,8 @@ fn letter_from(bytes: &[u8], at: usize) -> usize
     }
 }
 
-// The same, where the letter may well be near: the first few bytes are
-// looked at one by one, which takes less time than to begin a search.
+// Does the same where the letter may well be near: it looks at the first
+// few bytes one by one, which takes less time than to begin a search.
 fn near_letter_from(bytes: &[u8], at: usize) -> usize
     requires { at ≤ length bytes.now }
     ensures within { result ≤ length bytes.now }
@@ -91,8 +91,8 @@ fn is_mark(bytes: &[u8], place: usize) -> bool
     place > 0 && bytes[place - 1..].starts_with(b":Yh")
 }
 
-// Where the `Y` of the first `:Yh` stands; if there is none, the length. Other lines
-// with that letter, however many there are, cost only the search for the next one.
+// Where the `Y` of the first `:Yh` stands; if there is none, the length. Each other
+// `Y` before it costs no more than the search for the next one.
 fn mark_at(bytes: &[u8]) -> usize
     ensures within { result ≤ length bytes.now }
     ensures marks { AreMarksFrom result bytes.now }
@@ -104,11 +104,12 @@ fn mark_at(bytes: &[u8]) -> usize
     place
 }
 
-// How many bytes the lines before the first one with a `:Yh` have. No payload stands in
-// them, since the form of a line with one begins with these letters, after a colon.
+// How many bytes the lines before the first one with a `:Yh` have. There is no payload
+// in these: the form of a line with a payload begins with `Yh`, behind a colon.
 fn plain_len(bytes: &[u8], enc: Enc) -> usize
     ensures within { result ≤ length bytes.now }
-    ensures plain { redacted_body enc Part.Heap bytes.now ≡ take result bytes.now ++ redacted_body enc Part.Heap (drop result bytes.now) }
+    ensures plain { redacted_body enc Part.Heap bytes.now
+        ≡ take result bytes.now ++ redacted_body enc Part.Heap (drop result bytes.now) }
 {
     number_is_read();
     form_is_read(enc);

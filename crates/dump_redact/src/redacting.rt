@@ -1,14 +1,14 @@
 // Writing a dump with its payloads made zero.
-ghost use Rattle.std.specs.Prelude.{◌≡◌, ℕ, ◌+◌, ◌-◌, ◌<◌, ◌≤◌, ◌⊎◌, List, length, Some, IsErrOf, IsSome};
-ghost use Rattle.dump_io.specs.Dumps.{told};
+ghost use Rattle.std.specs.Prelude.{◌≡◌, ◌+◌, ◌<◌, ◌≤◌, ◌⊎◌, length, IsSome};
+ghost use Rattle.dump_io.specs.Dumps.{IfTold};
 ghost use Rattle.dump_io.specs.Sinks.{WritesAll};
 ghost use Rattle.dump_sections.specs.Bodies.{section_at};
 ghost use Rattle.dump_sections.specs.Index.{IsBuiltOver, sections_in};
 ghost use Rattle.dump_redact.specs.Redacted.{redacted};
-ghost use Rattle.dump_redact.specs.Refusals.{large_heap, LoadsDump};
-ghost use Rattle.dump_redact.specs.declared.faults.RedactFault.{RedactFault};
+ghost use Rattle.dump_redact.specs.Refusals.{large_heap, LoadsDump, RefusesLarge};
 ghost use Rattle.dump_redact.specs.Inner.Copying.{Copies};
-ghost use Rattle.dump_redact.specs.Inner.Places.{length_between, text_between, HasRoom, fault_at};
+ghost use Rattle.dump_redact.specs.Inner.Places.{length_between, HasRoom, fault_at};
+ghost use Rattle.dump_redact.specs.Inner.Writing.{CopiesSections};
 
 use crate::blanks::Stretch;
 use crate::bodies::put_binary;
@@ -21,8 +21,8 @@ use dump_sections::Index;
 use heap_cells::enc_of;
 use std::alloc::Global;
 
-// The refusal of the section at a place, if it is a heap or literals with more
-// bytes than the limit. Most sections are smaller, and the tags of those aren't read.
+// The refusal of the section at a place, if it is a heap or literals and its body has more
+// bytes than the limit. Most bodies have fewer, and the tags of their sections aren't read.
 fn judge(index: &Index, i: usize, limits: &Limits) -> Option<RedactFault>
     requires { i < length index.now.headers }
     ensures { result ≡ fault_at limits.now.section (section_at index.now i) }
@@ -35,7 +35,7 @@ fn judge(index: &Index, i: usize, limits: &Limits) -> Option<RedactFault>
     None
 }
 
-// The first such refusal.
+// The refusal of the first section that has one.
 fn large(index: &Index, limits: &Limits) -> Option<RedactFault>
     ensures refusal { result ≡ large_heap limits.now.section (sections_in index.now) }
     ensures some { 0 < index.now.size }
@@ -61,8 +61,8 @@ fn put_sections<D: Dumps, K: Sink>(
     requires some { i < next }
     requires within { next ≤ length index.now.headers }
     requires room { length_between index.now i next ≤ length buffer.old }
-    ensures { Copies (D.state dumps.old) (D.state dumps.new) (K.state sink.old) (K.state sink.new) (length_between index.now i next)
-        (λ dump. text_between index.now i next (redacted dump)) result }
+    ensures { CopiesSections (D.state dumps.old) (D.state dumps.new)
+        (K.state sink.old) (K.state sink.new) index.now i next result }
 {
     let from = offset(index, i);
     let upto = offset(index, next);
@@ -84,8 +84,8 @@ fn put_heap<D: Dumps, K: Sink>(
 ) -> Result<(), RedactFault>
     requires over { IsBuiltOver (D.state dumps.old).now index.now }
     requires place { i < length index.now.headers }
-    ensures { Copies (D.state dumps.old) (D.state dumps.new) (K.state sink.old) (K.state sink.new) (length_between index.now i (i + 1))
-        (λ dump. text_between index.now i (i + 1) (redacted dump)) result }
+    ensures { CopiesSections (D.state dumps.old) (D.state dumps.new)
+        (K.state sink.old) (K.state sink.new) index.now i (i + 1) result }
 {
     let from = offset(index, i);
     let upto = offset(index, i + 1);
@@ -107,8 +107,8 @@ fn put_large<D: Dumps, K: Sink>(
     requires place { i < length index.now.headers }
     requires room { HasRoom buffer.old }
     requires large { length buffer.old < length_between index.now i (i + 1) }
-    ensures { Copies (D.state dumps.old) (D.state dumps.new) (K.state sink.old) (K.state sink.new) (length_between index.now i (i + 1))
-        (λ dump. text_between index.now i (i + 1) (redacted dump)) result }
+    ensures { CopiesSections (D.state dumps.old) (D.state dumps.new)
+        (K.state sink.old) (K.state sink.new) index.now i (i + 1) result }
 {
     let section = index.section(i);
     match part_of(section.tag) {
@@ -146,8 +146,8 @@ fn put_some<D: Dumps, K: Sink>(
     requires within { next ≤ length index.now.headers }
     requires room { HasRoom buffer.old }
     requires fits { (next ≡ i + 1) ⊎ (length_between index.now i next ≤ length buffer.old) }
-    ensures { Copies (D.state dumps.old) (D.state dumps.new) (K.state sink.old) (K.state sink.new) (length_between index.now i next)
-        (λ dump. text_between index.now i next (redacted dump)) result }
+    ensures { CopiesSections (D.state dumps.old) (D.state dumps.new)
+        (K.state sink.old) (K.state sink.new) index.now i next result }
 {
     let from = offset(index, i);
     let upto = offset(index, next);
@@ -158,7 +158,7 @@ fn put_some<D: Dumps, K: Sink>(
     }
 }
 
-// Writes the dump.
+// Writes the whole dump, redacted.
 fn put_dump<D: Dumps, K: Sink>(
     alloc: Global,
     dumps: &mut D,
@@ -168,7 +168,8 @@ fn put_dump<D: Dumps, K: Sink>(
 ) -> Result<(), RedactFault>
     requires over { IsBuiltOver (D.state dumps.old).now index.now }
     requires room { HasRoom buffer.old }
-    ensures { Copies (D.state dumps.old) (D.state dumps.new) (K.state sink.old) (K.state sink.new) index.now.size redacted result }
+    ensures { Copies (D.state dumps.old) (D.state dumps.new)
+        (K.state sink.old) (K.state sink.new) index.now.size redacted result }
 {
     let mut heap = Vec::new(alloc);
     let mut i = 0;
@@ -192,7 +193,7 @@ fn put_dump<D: Dumps, K: Sink>(
 /// Returns `SectionTooLarge` exactly when the body of a heap or of literals has more bytes than the limit
 /// on a section's body; it names the first in the dump, and nothing is read or written then. Returns
 /// `Read` only if the device's count of faults rose, and `Write` only if the sink's did; `Memory` may
-/// come from allocating room for a heap or for literals that don't fit into a piece, or the pieces of
+/// come from allocating room for a heap or for literals that don't fit into a piece, or for the pieces of
 /// at most 65,536 bytes in which all other bytes are copied. After any of these three a proper prefix of
 /// the redacted dump was written. Whatever it returns, at most as many bytes are read as the file has.
 pub fn redact<D: Dumps, K: Sink>(
@@ -203,13 +204,16 @@ pub fn redact<D: Dumps, K: Sink>(
     sink: &mut K,
 ) -> Result<(), RedactFault>
     requires { IsBuiltOver (D.state dumps.old).now index.now }
-    ensures loads { LoadsDump D.state index.now.size (sections_in index.now) limits.now.section (K.state sink.old) (K.state sink.new) dumps.old dumps.new result }
+    ensures loads { LoadsDump D.state index.now limits.now.section
+        (K.state sink.old) (K.state sink.new) dumps.old dumps.new result }
     ensures later { (K.state sink.old).faults ≤ (K.state sink.new).faults }
-    ensures writes { (bytes : List ℕ) → (D.state dumps.old).now ≡ told bytes → WritesAll (K.state sink.old).written (K.state sink.new).written (redacted bytes) result }
+    ensures writes { IfTold (D.state dumps.old).now (λ bytes.
+        WritesAll (K.state sink.old).written (K.state sink.new).written (redacted bytes) result) }
 
     // A body that is too large is always refused as such, whatever the device and the sink do.
-    ensures too_large { (fault : RedactFault) → large_heap limits.now.section (sections_in index.now) ≡ Some fault → IsErrOf result fault }
-    ensures unwritten { IsSome (large_heap limits.now.section (sections_in index.now)) → sink.new ≡ sink.old }
+    ensures too_large { RefusesLarge limits.now.section index.now result }
+    ensures unwritten { IsSome (large_heap limits.now.section (sections_in index.now))
+        → sink.new ≡ sink.old }
 {
     if let Some(fault) = large(index, limits) {
         return Err(fault);

@@ -1,11 +1,8 @@
 // Redacting spans of sections in place.
-ghost use Rattle.std.specs.Prelude.{◌≡◌, ℕ, ◌+◌, ◌-◌, ◌<◌, ◌≤◌, ◌⊎◌, List, length};
+ghost use Rattle.std.specs.Prelude.{◌≡◌, ◌+◌, ◌<◌, ◌≤◌, ◌⊎◌, length};
 ghost use Rattle.dump_sections.specs.Bodies.{section_at};
-ghost use Rattle.dump_sections.specs.Index.{AreBounded, IsIndexOf};
-ghost use Rattle.dump_sections.specs.Sections.{tag_of};
-ghost use Rattle.heap_cells.specs.Loading.{enc_of};
-ghost use Rattle.dump_redact.specs.Redacted.{part_of, redacted};
-ghost use Rattle.dump_redact.specs.Inner.Places.{offset_of, length_between, text_between, redacted_between};
+ghost use Rattle.dump_sections.specs.Index.{AreBounded};
+ghost use Rattle.dump_redact.specs.Inner.Places.{offset_of, length_between, redacted_at, RedactsPiece};
 
 use crate::bodies::redact_body;
 use crate::parts::part_of;
@@ -25,7 +22,7 @@ pub(crate) fn offset(index: &Index, i: usize) -> u64
     }
 }
 
-// The place after the sections from a place on that together have at most `most` bytes, and after at least one.
+// The place behind as many sections, from a place on, as have at most `most` bytes together, but behind one at least.
 pub(crate) fn next_place(index: &Index, i: usize, most: usize) -> usize
     requires { i < length index.now.headers }
     ensures some { i < result }
@@ -46,8 +43,7 @@ fn redact_section(piece: &mut [u8], index: &Index, i: usize, from: u64)
     requires place { i < length index.now.headers }
     requires begins { from ≤ (section_at index.now i).at }
     requires ends { (section_at index.now i).end ≤ from + length piece.old }
-    ensures { let section = section_at index.now i in
-        piece.new ≡ redacted_between (enc_of index.now.version) (part_of (tag_of section.text)) (section.body - from) (section.end - from) piece.old }
+    ensures { piece.new ≡ redacted_at index.now (section_at index.now i) from piece.old }
 {
     let section = index.section(i);
     let body = (section.body - from) as usize;
@@ -64,7 +60,7 @@ pub(crate) fn redact_sections(piece: &mut [u8], index: &Index, i: usize, next: u
     requires some { i < next }
     requires within { next ≤ length index.now.headers }
     requires size { length piece.old ≡ length_between index.now i next }
-    ensures { (dump : List ℕ) → IsIndexOf dump index.now → piece.old ≡ text_between index.now i next dump → piece.new ≡ text_between index.now i next (redacted dump) }
+    ensures { RedactsPiece index.now i next piece.old piece.new }
 {
     let from = offset(index, i);
     for k in i..next {

@@ -2,10 +2,7 @@
 use Rattle.std.proofs.Common.{◌≡◌, ℕ, zero, suc, ◌<◌, ◌≤◌, List, [], ◌∷◌, slice_get, Some, arith}
 use Rattle.dump_sections.specs.Sections.{Section}
 use Rattle.dump_sections.specs.Tiling.{Tile}
-
-Tile-size : (from size : ℕ) (sections : List Section) → Tile from size sections → from ≤ size
-Tile-size from size [] tile = omega arith
-Tile-size from size (section ∷ rest) tile = omega (arith, Tile-size section.end size rest tile.3)
+use Rattle.dump_sections.specs.TilingLaws.{Tile-size}
 
 -- a section begins before its body, whose end is within the bytes
 pub Tile-at : (from size : ℕ) (sections : List Section) (i : ℕ) (section : Section) → Tile from size sections → slice_get sections i ≡ Some section

@@ -1,5 +1,5 @@
 -- Loading the bodies of several sections, and why they aren't loaded.
-use Rattle.std.specs.Prelude.{◌≡◌, ℕ, List, map, find, Option, Some, None, Result, nat_lt, option_map, IfErr, IsSome, OnOk}
+use Rattle.std.specs.Prelude.{◌≡◌, ℕ, List, map, find, Option, None, Result, nat_lt, option_map, IfErr, IsSome, OnOk}
 use Rattle.std.specs.List.{sum_by}
 use Rattle.dump_io.specs.Dumps.{DeviceState, ReadsAtMost}
 use Rattle.dump_io.specs.Faults.{Cause, refuses, fails, lacks, IsCauseOf}
@@ -40,15 +40,15 @@ body_cause (SectionTooLarge at len) = refuses (record { at = at; len = len })
 body_cause Read = fails
 body_cause Memory = lacks
 
--- why the bodies of sections aren't loaded: the first that is too large is
--- named, or the device failed; memory may be lacking at any time
+-- why the bodies of sections aren't loaded: the first that is too large is named; or
+-- none is, and the device failed; memory may be lacking at any time
 abbrev pub AreRefused : List Section → ℕ → DeviceState → DeviceState → BodyFault → Type 0
 AreRefused sections limit before after fault =
-    IsCauseOf (λ large. large_fault limit sections ≡ Some large) before after (body_cause fault)
+    IsCauseOf (large_fault limit sections) before after (body_cause fault)
 
 -- why bodies none of which is too large aren't loaded: nothing is refused
 abbrev pub IsUnloaded : DeviceState → DeviceState → BodyFault → Type 0
-IsUnloaded before after fault = IsCauseOf (λ _. ⊥) before after (body_cause fault)
+IsUnloaded before after fault = IsCauseOf None before after (body_cause fault)
 
 -- what each call does that loads bodies of so many bytes, or says why not, between two states of its device:
 -- it reads at most so many; if they are refused, it doesn't load them and reads nothing; each fault has its cause

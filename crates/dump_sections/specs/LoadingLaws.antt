@@ -47,23 +47,23 @@ All-small limit (s ∷ sections) none = by (nat_lt limit (body_length s)) refl (
 -- the causes of a fault where no body is too large
 pub IsUnloaded-small : (limit : ℕ) (sections : List Section) (before after : DeviceState) (fault : BodyFault) → large_fault limit sections ≡ None
     → AreRefused sections limit before after fault → IsUnloaded before after fault
-IsUnloaded-small limit sections before after Read none cause = cause
+IsUnloaded-small limit sections before after Read none cause = (refl, cause.1)
 IsUnloaded-small limit sections before after Memory none cause = tt
 IsUnloaded-small limit sections before after (SectionTooLarge at len) none cause = absurd (let no : ⊥ = cc (none, cause) in no)
 
--- they are causes in any case
-pub AreRefused-unread : (limit : ℕ) (sections : List Section) (before after : DeviceState) (fault : BodyFault) → IsUnloaded before after fault
-    → AreRefused sections limit before after fault
-AreRefused-unread limit sections before after Read cause = cause
-AreRefused-unread limit sections before after Memory cause = tt
-AreRefused-unread limit sections before after (SectionTooLarge at len) cause = absurd cause
+-- they are the causes for those bodies
+pub AreRefused-unread : (limit : ℕ) (sections : List Section) (before after : DeviceState) (fault : BodyFault) → large_fault limit sections ≡ None
+    → IsUnloaded before after fault → AreRefused sections limit before after fault
+AreRefused-unread limit sections before after Read none cause = (none, cause.1)
+AreRefused-unread limit sections before after Memory none cause = tt
+AreRefused-unread limit sections before after (SectionTooLarge at len) none cause = absurd (let no : ⊥ = cc (cause) in no)
 
 -- a failure in one step of a call is one in the call
 pub IsUnloaded-later : (step step' before after : DeviceState) (fault : BodyFault) → (DeviceFailed step step' → DeviceFailed before after)
     → IsUnloaded step step' fault → IsUnloaded before after fault
-IsUnloaded-later step step' before after Read later cause = later cause
+IsUnloaded-later step step' before after Read later cause = (refl, later cause.1)
 IsUnloaded-later step step' before after Memory later cause = tt
-IsUnloaded-later step step' before after (SectionTooLarge at len) later cause = absurd cause
+IsUnloaded-later step step' before after (SectionTooLarge at len) later cause = absurd (let no : ⊥ = cc (cause) in no)
 
 -- how many bytes two bodies have, either of which may be missing
 pub bodies-two : (one other : Option Section) → bodies_length (option_to_list one ++ option_to_list other) ≡ body_size one + body_size other

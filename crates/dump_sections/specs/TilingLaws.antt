@@ -7,8 +7,13 @@ use Rattle.std.proofs.lemmas.List.Elements.{All-head, All-tail}
 use Rattle.dump_io.specs.Lines.{equals_sign, is_header, Header, lines_from, header_of, Line}
 use Rattle.dump_io.specs.Laws.Lines.{AreLines-raw}
 use Rattle.dump_sections.specs.Versions.{signature}
-use Rattle.dump_sections.specs.Sections.{sections_of, sections}
+use Rattle.dump_sections.specs.Sections.{sections_of, sections, Section}
 use Rattle.dump_sections.specs.Tiling.{Tile}
+
+-- what is tiled ends no earlier than it begins
+pub Tile-size : (from size : ℕ) (sections : List Section) → Tile from size sections → from ≤ size
+Tile-size from size [] tile = omega (arith, tile)
+Tile-size from size (section ∷ rest) tile = omega (arith, tile.0, tile.1, tile.2, Tile-size section.end size rest tile.3)
 
 -- a raw line, and how many bytes stand before it
 abbrev pub line_at : ℕ → List ℕ → Line

@@ -31,15 +31,6 @@ pub largest-all : {X E : Type 0} (number : ℕ × X → Option ℕ) (items : Lis
 largest-all number items i most rows result all are first =
     subst (λ l. IfOk result (λ first. first.items ≡ first_rows most l)) (are ∙ ap (rows_by number) (take_all i items all)) first
 
--- ---- what stands at a place
-
-pub process-there : (processes : List Process) (p : ℕ) → p < length processes → slice_get processes p ≡ Some (process_at processes p)
-process-there processes p inside = slice_get-get_or processes p nobody inside ∙ ap Some (sym (unwrap_or-slice_get processes p nobody))
-
-pub row-there : (rows : List Row) (i : ℕ) → i < length rows → slice_get rows i ≡ Some (row_at rows i)
-row-there rows i inside =
-    slice_get-get_or rows i (record { at = 0; cells = [] }) inside ∙ ap Some (sym (unwrap_or-slice_get rows i (record { at = 0; cells = [] })))
-
 -- ---- each row is of a place
 
 rows-within : {X : Type 0} (number : ℕ × X → Option ℕ) (count n : ℕ) (items : List X) → n + length items ≤ count

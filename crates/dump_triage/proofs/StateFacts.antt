@@ -14,11 +14,11 @@ use Rattle.std.proofs.lemmas.Slice.Eq.{bytes_eq-Decides}
 use Rattle.process_table.specs.Processes.{Process, process_at}
 use Rattle.dump_triage.specs.Triage.{count_at_first, text_count, process_state_text, state_texts}
 use Rattle.dump_triage.specs.Inner.States.{AreCounted, AreLeft, counted, unless_zero}
-use Rattle.dump_triage.proofs.RankFacts.{process-there}
+use Rattle.process_table.specs.Laws.{process_at-there}
 use Rattle.dump_io.specs.Laws.Texts.{bytes_eq-refl, bytes_eq-swap}
 
 pub state-there : (processes : List Process) (p : ℕ) → p < length processes → slice_get (state_texts processes) p ≡ Some (process_state_text (process_at processes p))
-state-there processes p inside = slice_get-map process_state_text processes p ∙ ap (option_map process_state_text) (process-there processes p inside)
+state-there processes p inside = slice_get-map process_state_text processes p ∙ ap (option_map process_state_text) (process_at-there processes p inside)
 
 -- ---- how often a text stands in front of a place
 

@@ -35,7 +35,7 @@ memory-opening bytes fault accepted answer unread = absurd (refused-accepted byt
 pub memory-bodies : (sections : List Section) (before after : DeviceState) (fault : BodyFault) → All IsSmall sections → (DeviceFailed before after → ⊥)
     → AreRefused sections usual.section before after fault → fault ≡ body_faults.Memory
 memory-bodies sections before after (body_faults.SectionTooLarge at len) all works cause = absurd (none-some _ (sym (none-large sections all) ∙ cause))
-memory-bodies sections before after body_faults.Read all works cause = absurd (works cause)
+memory-bodies sections before after body_faults.Read all works cause = absurd (works cause.1)
 memory-bodies sections before after body_faults.Memory all works cause = refl
 
 -- of a heap
@@ -45,5 +45,5 @@ pub memory-heap : (version : Version) (heap literals : List ℕ) (bodies : List 
 memory-heap version heap literals bodies before after (heap_faults.SectionTooLarge at len) all few works answer cause =
     absurd (none-some _ (sym (ap (option_map (λ large. heap_fault_of (body_fault large))) (none-large bodies all)) ∙ cause))
 memory-heap version heap literals bodies before after (heap_faults.TooDense count) all few works answer cause = absurd (omega (arith, few, answer.0, answer.1))
-memory-heap version heap literals bodies before after heap_faults.Read all few works answer cause = absurd (works cause)
+memory-heap version heap literals bodies before after heap_faults.Read all few works answer cause = absurd (works cause.1)
 memory-heap version heap literals bodies before after heap_faults.Memory all few works answer cause = refl

@@ -1,11 +1,11 @@
 -- The heap lines and elements of a body are no more than half of its bytes.
-use Rattle.std.proofs.Common.{◌≡◌, ℕ, ◌+◌, ◌-◌, ◌*◌, ◌≤◌, true, false, List, [], ◌∷◌, length, map, take, drop, Option, None, Some, if◌then◌else◌, refl, subst, arith, length-append, length-take, length-drop}
-use Rattle.std.specs.Prelude.{◌↔◌, nat_eq}
-use Rattle.std.specs.List.{concat, cons_option, filter_map, sum_by, ends_with}
+use Rattle.std.proofs.Common.{◌≡◌, ℕ, ◌+◌, ◌-◌, ◌*◌, ◌≤◌, List, [], ◌∷◌, length, map, drop, Option, None, Some, refl, subst, arith, length-append, length-take, length-drop}
+use Rattle.std.specs.Prelude.{◌↔◌}
+use Rattle.std.specs.List.{concat, cons_option, filter_map, sum_by}
 use Rattle.std.specs.Option.{option_map}
 use Rattle.std.proofs.lemmas.List.Sums.{sum_by-cons, sum_by-append}
-use Rattle.dump_io.specs.Laws.Lines.{AreLines-raw}
-use Rattle.dump_io.specs.Lines.{cr, lf, raw_lines, lines_from, text_of}
+use Rattle.dump_io.specs.Laws.Lines.{length-text_of, AreLines-raw}
+use Rattle.dump_io.specs.Lines.{raw_lines, lines_from}
 use Rattle.field_lines.specs.Lines.{TextLine, text_line, text_lines}
 use Rattle.heap_cells.specs.Cells.{Cell, spelled_cell, cell_of, line_cells, elements_in, cell_weight, weight_of, weight}
 use Rattle.dump_sections.specs.Bodies.{body_in}
@@ -17,21 +17,13 @@ use Rattle.term_forms.specs.ReadingForms.{form_of}
 use Rattle.term_forms.specs.Words.{led_of, IsLed}
 use Rattle.dump_write.proofs.Weights.{led_bytes, form_bytes}
 
--- a line's text has no more bytes than the line
-text_of-le : (raw : List ℕ) → length (text_of raw) ≤ length raw
-text_of-le raw =
-    elim (ends_with nat_eq raw (cr ∷ lf ∷ [])) as (λ b. length (if b then take (length raw - 2) raw else (if ends_with nat_eq raw (lf ∷ []) then take (length raw - 1) raw else raw)) ≤ length raw) [
-      | true ↦ omega (arith, length-take (length raw - 2) raw)
-      | false ↦ elim (ends_with nat_eq raw (lf ∷ [])) as (λ b. length (if b then take (length raw - 1) raw else raw) ≤ length raw) [ true ↦ omega (arith, length-take (length raw - 1) raw) | false ↦ omega arith ]
-    ]
-
 texts-le : (at : ℕ) (raws : List (List ℕ)) → sum_by (λ (l : TextLine). length l.text) (map text_line (lines_from at raws)) ≤ length (concat raws)
 texts-le at [] = omega arith
 texts-le at (raw ∷ raws) =
     omega (
       arith,
       sum_by-cons (λ (l : TextLine). length l.text) (text_line (record { at = at; raw = raw })) (map text_line (lines_from (at + length raw) raws)),
-      text_of-le raw,
+      length-text_of raw,
       texts-le (at + length raw) raws,
       length-append raw (concat raws),
     )

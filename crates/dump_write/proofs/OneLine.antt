@@ -1,11 +1,11 @@
 -- A text with LF behind it is one line, which reads as the text.
 use Rattle.std.proofs.Common.{◌≡◌, ℕ, suc, ◌-◌, ◌≤◌, ◌==◌, true, false, List, [], ◌∷◌, ◌++◌, length, take, drop, if◌then◌else◌, refl, sym, ◌∙◌, ap, subst, append_assoc, arith, length-append, inl, inr}
-use Rattle.std.specs.Prelude.{not, nat_eq, slice_index}
+use Rattle.std.specs.Prelude.{not, nat_eq}
 use Rattle.std.specs.Cmp.Lexicographic.{pointwise}
 use Rattle.std.specs.List.{ends_with}
 use Rattle.std.proofs.lemmas.Bool.{and_parts, not-true}
 use Rattle.std.proofs.lemmas.List.{take_at, drop_at}
-use Rattle.dump_io.specs.Lines.{lf, cr, IsEnded, lines_after, raw_lines, text_of, is_header}
+use Rattle.dump_io.specs.Lines.{lf, cr, lines_after, raw_lines, text_of, is_header}
 use Rattle.line_source.specs.Streams.{has_lf, begins_with_equals}
 use Rattle.dump_write.specs.Written.{lacks, is_line_text, line, AreWholeLines, IsOneLine}
 use Rattle.dump_io.specs.Laws.Lines.{IsEnded-tail}

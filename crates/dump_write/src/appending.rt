@@ -1,10 +1,10 @@
 // Appending texts and lines to a vector.
-ghost use Rattle.std.specs.Prelude.{◌≡◌, ◌++◌, Some, OnOk};
+ghost use Rattle.std.specs.Prelude.{◌≡◌, ◌++◌, OnOk};
 ghost use Rattle.std.specs.List.{flat_map};
 ghost use Rattle.dump_io.specs.Pieces.{piece_text, pieces_text};
-ghost use Rattle.dump_io.specs.Sinks.{WritesAll};
 ghost use Rattle.dump_write.specs.Inner.Pieces.{pieces_line};
 ghost use Rattle.dump_write.specs.Written.{line};
+ghost use Rattle.term_forms.specs.Appending.{Appends};
 
 use dump_io::{HexText, Piece};
 use itoa::Buffer;
@@ -12,7 +12,7 @@ use std::alloc::AllocError;
 
 // An empty text is appended without a call, since a call that fails has to leave out some of the text.
 pub(crate) fn append(into: &mut Vec<u8>, text: &[u8]) -> Result<(), AllocError>
-    ensures { WritesAll (Some into.old.items) (Some into.new.items) text.now result }
+    ensures { Appends into.old into.new text.now result }
 {
     if text.is_empty() {
         return Ok(());
@@ -21,7 +21,7 @@ pub(crate) fn append(into: &mut Vec<u8>, text: &[u8]) -> Result<(), AllocError>
 }
 
 fn append_piece(into: &mut Vec<u8>, piece: &Piece<'_>) -> Result<(), AllocError>
-    ensures { WritesAll (Some into.old.items) (Some into.new.items) (piece_text piece.now) result }
+    ensures { Appends into.old into.new (piece_text piece.now) result }
 {
     match piece {
         Piece::Bytes(bytes) => append(into, bytes),
@@ -31,8 +31,7 @@ fn append_piece(into: &mut Vec<u8>, piece: &Piece<'_>) -> Result<(), AllocError>
 }
 
 pub(crate) fn append_pieces(into: &mut Vec<u8>, pieces: &[Piece<'_>]) -> Result<(), AllocError>
-    ensures { WritesAll (Some into.old.items) (Some into.new.items)
-        (pieces_text pieces.now) result }
+    ensures { Appends into.old into.new (pieces_text pieces.now) result }
 {
     for piece in pieces {
         append_piece(into, piece)?;
@@ -42,8 +41,7 @@ pub(crate) fn append_pieces(into: &mut Vec<u8>, pieces: &[Piece<'_>]) -> Result<
 
 // Appends the pieces and LF.
 pub(crate) fn append_line(into: &mut Vec<u8>, pieces: &[Piece<'_>]) -> Result<(), AllocError>
-    ensures { WritesAll (Some into.old.items) (Some into.new.items)
-        (line (pieces_text pieces.now)) result }
+    ensures { Appends into.old into.new (line (pieces_text pieces.now)) result }
 {
     append_pieces(into, pieces)?;
     append(into, b"\n")

@@ -1,13 +1,13 @@
 // The lines of a dump.
-ghost use Rattle.std.specs.Prelude.{◌≡◌, false, Some, IsTrue};
+ghost use Rattle.std.specs.Prelude.{◌≡◌, false, IsTrue};
 ghost use Rattle.std.specs.Option.{option_copied};
 ghost use Rattle.dump_io.specs.Colons.{colon};
 ghost use Rattle.dump_io.specs.Lines.{is_header};
-ghost use Rattle.dump_io.specs.Sinks.{WritesAll};
 ghost use Rattle.term_forms.specs.Forms.{plain_form};
 ghost use Rattle.term_forms.specs.SeenForms.{heap_form};
 ghost use Rattle.line_source.specs.Streams.{begins_with_equals};
 ghost use Rattle.dump_write.specs.Written.{lacks, is_line_text, line, header_text, heap_text, IsOneLine, IsHeaderOf};
+ghost use Rattle.term_forms.specs.Appending.{Appends};
 
 use crate::appending::{append, append_line, append_pieces};
 use dump_io::Piece::{Bytes, Hex};
@@ -20,7 +20,7 @@ fn append_header<'a>(
     tag: &'a [u8],
     id: Option<&'a [u8]>,
 ) -> Result<(), AllocError>
-    ensures { WritesAll (Some into.old.items) (Some into.new.items)
+    ensures { Appends into.old into.new
         (line (header_text tag.now (option_copied id.entry))) result }
 {
     match id {
@@ -36,7 +36,7 @@ fn append_header<'a>(
 pub fn put_header(into: &mut Vec<u8>, tag: &[u8], id: Option<&[u8]>) -> Result<(), AllocError>
     requires no_colon { IsTrue (lacks colon tag.now) }
     requires text { IsTrue (is_line_text (header_text tag.now (option_copied id))) }
-    ensures appends { WritesAll (Some into.old.items) (Some into.new.items)
+    ensures appends { Appends into.old into.new
         (line (header_text tag.now (option_copied id.entry))) result }
     ensures one { let text = header_text tag.now (option_copied id.entry) in
         IsOneLine text (line text) }
@@ -51,7 +51,7 @@ pub fn put_header(into: &mut Vec<u8>, tag: &[u8], id: Option<&[u8]>) -> Result<(
 pub fn put_line(into: &mut Vec<u8>, text: &[u8]) -> Result<(), AllocError>
     requires line { IsTrue (is_line_text text.now) }
     requires no_header { begins_with_equals text.now ≡ false }
-    ensures appends { WritesAll (Some into.old.items) (Some into.new.items) (line text.now) result }
+    ensures appends { Appends into.old into.new (line text.now) result }
     ensures one { IsOneLine text.now (line text.now) }
     ensures no_header { is_header (line text.now) ≡ false }
 {
@@ -59,8 +59,7 @@ pub fn put_line(into: &mut Vec<u8>, text: &[u8]) -> Result<(), AllocError>
 }
 
 fn append_cell(into: &mut Vec<u8>, addr: u64, f: &Form<'_>) -> Result<(), AllocError>
-    ensures { WritesAll (Some into.old.items) (Some into.new.items)
-        (line (heap_text addr (heap_form f.now))) result }
+    ensures { Appends into.old into.new (line (heap_text addr (heap_form f.now))) result }
 {
     append_pieces(into, &[Hex(addr), Bytes(b":")])?;
     put_form(into, f)?;
@@ -72,8 +71,7 @@ fn append_cell(into: &mut Vec<u8>, addr: u64, f: &Form<'_>) -> Result<(), AllocE
 /// error only if memory is lacking; a proper prefix of the line was appended then.
 pub fn put_heap(into: &mut Vec<u8>, addr: u64, f: &Form<'_>) -> Result<(), AllocError>
     requires { IsTrue (is_line_text (plain_form (heap_form f.now))) }
-    ensures appends { WritesAll (Some into.old.items) (Some into.new.items)
-        (line (heap_text addr (heap_form f.now))) result }
+    ensures appends { Appends into.old into.new (line (heap_text addr (heap_form f.now))) result }
     ensures one { let text = heap_text addr (heap_form f.now) in IsOneLine text (line text) }
     ensures no_header { is_header (line (heap_text addr (heap_form f.now))) ≡ false }
 {

@@ -71,6 +71,10 @@ chars_text (b ∷ bytes) = codes "[" ++ (decimal b ++ (flat_map comma_number byt
 abbrev pub fun_text : List ℕ → ℕ → ℕ → List ℕ
 fun_text name index arity = codes "#Fun<" ++ (atom_text name ++ (codes "/" ++ (decimal index ++ (codes "/" ++ (decimal arity ++ codes ":")))))
 
+-- the names of a module and of a function, and its arity
+abbrev pub export_text : List ℕ → List ℕ → ℕ → List ℕ
+export_text name function arity = codes "fun " ++ (atom_text name ++ (codes ":" ++ (atom_text function ++ (codes "/" ++ decimal arity))))
+
 -- the digits in base 256 from the last to the first
 abbrev pub digits_text : List ℕ → List ℕ
 digits_text digits = if length digits == 0 then codes "00" else flat_map hex_byte (reverse digits)
@@ -97,8 +101,7 @@ opening_text (Linked n) = if n == 0 then [] else codes "["
 opening_text (Bin bytes) = bin_text bytes
 opening_text (Big sign digits) = big_text sign digits
 opening_text (Fun name index arity n) = fun_text name index arity
-opening_text (Export name function arity) =
-    codes "fun " ++ (atom_text name ++ (codes ":" ++ (atom_text function ++ (codes "/" ++ decimal arity))))
+opening_text (Export name function arity) = export_text name function arity
 opening_text (Pairs n) = codes "#{"
 
 -- what comes after this many terms

@@ -1,12 +1,13 @@
 // A term that was read, and how it is written.
-ghost use Rattle.std.specs.Prelude.{◌≡◌, suc, ◌≤◌, length, None, IfOk, IfErr};
+ghost use Rattle.std.specs.Prelude.{◌≡◌, ◌≤◌, length, None, IfOk, IfErr};
 ghost use Rattle.dump_io.specs.Sinks.{Puts};
-ghost use Rattle.etf_terms.specs.Depth.{depth};
 ghost use Rattle.etf_terms.specs.Faults.{IsFault};
 ghost use Rattle.etf_terms.specs.Reading.{external_text};
-ghost use Rattle.etf_terms.specs.Terms.{Term, IsTerm, IsExternal};
+ghost use Rattle.etf_terms.specs.Terms.{Term, IsExternal};
 ghost use Rattle.etf_terms.specs.Text.{text};
 ghost use Rattle.etf_terms.specs.Walks.{bad_place};
+ghost use Rattle.etf_terms.specs.Inner.Serving.{IsExact};
+ghost use Rattle.etf_terms.specs.Held.{IsRoomFor};
 
 use crate::nesting::height;
 use crate::printing::put_term;
@@ -47,7 +48,7 @@ impl<'a> Model for Ext<'a> {
 
 // A stack for the term with these bytes.
 fn stack_for(alloc: Global, bytes: &[u8]) -> Result<Stack, AllocError>
-    ensures { IfOk result (λ stack. (term : Term) → IsTerm bytes.now term → stack.room ≡ suc (depth term)) }
+    ensures { IfOk result (λ stack. IsExact bytes.now stack.room) }
 {
     Stack::new(alloc, height(alloc, bytes)?)
 }
@@ -60,7 +61,7 @@ impl<'a> Ext<'a> {
     pub fn judged(alloc: Global, bytes: &'a [u8]) -> Result<Ext<'a>, AllocError>
         requires { bad_place bytes.now ≡ None }
         ensures same { IfOk result (λ ext. ext.bytes ≡ bytes.now) }
-        ensures room { IfOk result (λ ext. (term : Term) → IsExternal bytes.now term → ext.room ≡ suc (depth term)) }
+        ensures room { IfOk result (λ ext. IsRoomFor bytes.now ext.room) }
         ensures few { IfOk result (λ ext. ext.room ≤ length bytes.now) }
     {
         match bytes.split_first() {
@@ -78,7 +79,7 @@ impl<'a> Ext<'a> {
     pub fn read(alloc: Global, bytes: &'a [u8]) -> Result<Ext<'a>, ExtFault>
         ensures same { IfOk result (λ ext. ext.bytes ≡ bytes.now) }
         ensures ok { IfOk result (λ ext. (term : Term) × IsExternal bytes.now term) }
-        ensures room { IfOk result (λ ext. (term : Term) → IsExternal bytes.now term → ext.room ≡ suc (depth term)) }
+        ensures room { IfOk result (λ ext. IsRoomFor bytes.now ext.room) }
         ensures few { IfOk result (λ ext. ext.room ≤ length bytes.now) }
         ensures fault { IfErr result (λ fault. IsFault fault bytes.now) }
     {
@@ -95,8 +96,10 @@ impl<'a> Ext<'a> {
     /// sink's count of faults rose; a proper prefix of the text was written then.
     pub fn put<K: Sink>(&mut self, sink: &mut K) -> Result<(), Failed>
         ensures same { self.new ≡ self.old }
-        ensures puts { (term : Term) → IsExternal self.old.bytes term → Puts (K.state sink.old) (K.state sink.new) (text term) result }
-        ensures writes { Puts (K.state sink.old) (K.state sink.new) (external_text self.old.bytes) result }
+        ensures puts { (term : Term) → IsExternal self.old.bytes term
+            → Puts (K.state sink.old) (K.state sink.new) (text term) result }
+        ensures writes { Puts (K.state sink.old) (K.state sink.new)
+            (external_text self.old.bytes) result }
     {
         put_term(self.bytes, &mut self.stack, sink)
     }

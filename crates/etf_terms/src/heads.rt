@@ -1,5 +1,5 @@
 // Heads: what a term is, apart from the terms after it.
-ghost use Rattle.std.specs.Prelude.{◌≡◌, ◌≤◌, ◌^◌, Ok};
+ghost use Rattle.std.specs.Prelude.{◌≡◌, ◌≤◌, ◌^◌};
 ghost use Rattle.etf_terms.specs.Heads.{Small, Int, Atom, Tuple, Chars, Linked, Bin, Pairs, kids};
 ghost use Rattle.etf_terms.specs.Inner.Parts.{Gives, head, headed, byte_of, run_of, number2_of, number4_of, number8_of, sized1_of, sized2_of, sized4_of, atom_of, small_of, integer_of, creation_of, pid_with_of, pid_of, sign_of, part_of, float_of, bits_of, port_with_of, port120_of, ref_with_of, big_of, small_big_of, large_big_of, owner_of, closure_of, export_of, head_of};
 

@@ -1,8 +1,7 @@
 // How deeply a term nests.
-ghost use Rattle.std.specs.Prelude.{◌≡◌, ℕ, suc, ◌+◌, ◌*◌, ◌<◌, max, [], ◌∷◌, length, IfOk, OnOk, MatchOption};
-ghost use Rattle.etf_terms.specs.Depth.{depth};
-ghost use Rattle.etf_terms.specs.Terms.{Term, IsTerm};
-ghost use Rattle.etf_terms.specs.Inner.Awaiting.{opened, Awaits, Goes};
+ghost use Rattle.std.specs.Prelude.{◌≡◌, ℕ, suc, max, [], ◌∷◌, length, IfOk, OnOk, MatchOption};
+ghost use Rattle.etf_terms.specs.Inner.Awaiting.{opened, Awaits, Goes, Falls};
+ghost use Rattle.etf_terms.specs.Inner.Serving.{IsExact};
 
 use crate::heads::read_head;
 use std::alloc::{AllocError, Global};
@@ -65,7 +64,7 @@ impl Wanted {
 
 // Goes on with a head that was taken off and still needs `count` terms.
 fn step<'a>(rest: &'a [u8], wanted: &mut Wanted, count: u64) -> Result<&'a [u8], AllocError>
-    ensures falls { IfOk result (λ behind. 2 * length behind.now + length wanted.new < 2 * length rest.now + length wanted.old + 1) }
+    ensures falls { Falls rest.now wanted.old wanted.new result }
     ensures goes { (most : ℕ) → Awaits (count ∷ wanted.old) rest.now most
         → IfOk result (λ behind. Goes (suc (length wanted.old)) most wanted.new behind.now) }
 {
@@ -92,7 +91,7 @@ fn larger(a: usize, b: usize) -> usize
 /// How many heads are open at once while the term with these bytes is written,
 /// including the one around the whole. Takes as much memory as the term is deep.
 pub(crate) fn height(alloc: Global, bytes: &[u8]) -> Result<usize, AllocError>
-    ensures { IfOk result (λ most. (term : Term) → IsTerm bytes.now term → most ≡ suc (depth term)) }
+    ensures { IfOk result (IsExact bytes.now) }
 {
     let mut wanted = Wanted::new(alloc);
     wanted.push(1)?;

@@ -1,5 +1,5 @@
 // Writing a term.
-ghost use Rattle.std.specs.Prelude.{◌≡◌, ℕ, ◌+◌, ◌≤◌, ◌<◌, List, [], ◌∷◌, ◌++◌, length, take, reverse, codes, decimal, if◌then◌else◌, nat_lt, ◌==◌};
+ghost use Rattle.std.specs.Prelude.{◌≡◌, ℕ, ◌≤◌, ◌<◌, List, [], ◌∷◌, ◌++◌, length, take, reverse, codes, decimal, if◌then◌else◌, nat_lt, ◌==◌};
 ghost use Rattle.std.specs.List.{flat_map};
 ghost use Rattle.dump_io.specs.Sinks.{Puts};
 ghost use Rattle.dump_io.specs.Atoms.{atom_text};
@@ -8,9 +8,10 @@ ghost use Rattle.dump_io.specs.Pieces.{pieces_text};
 ghost use Rattle.etf_terms.specs.Heads.{kids};
 ghost use Rattle.etf_terms.specs.Inner.Parts.{head};
 ghost use Rattle.etf_terms.specs.Inner.Serving.{Serves};
-ghost use Rattle.etf_terms.specs.Inner.Standing.{entered, ended, Stands, Moves, Falls};
+ghost use Rattle.etf_terms.specs.Inner.Standing.{entered, ended, Moves, StandsWith, own_of};
 ghost use Rattle.etf_terms.specs.Terms.{Term, IsTerm};
-ghost use Rattle.etf_terms.specs.Text.{terms_kind, dotted, float_text, bits_text, pid_text, external_port_text, words_text, ref_text, int_text, comma_number, chars_text, fun_text, first_bytes_text, bin_text, digits_text, big_text, opening_text, closing, between, is_end, own_text, text};
+ghost use Rattle.etf_terms.specs.Text.{terms_kind, dotted, float_text, bits_text, pid_text, external_port_text, words_text, ref_text, int_text, comma_number, chars_text, fun_text, first_bytes_text, bin_text, digits_text, big_text, opening_text, closing, between, is_end, text, export_text};
+ghost use Rattle.etf_terms.specs.Inner.Awaiting.{Falls};
 
 use crate::heads::{HeadRead, number4, read_head};
 use crate::stack::{Entry, Kind, Stack};
@@ -121,7 +122,8 @@ fn put_bin<K: Sink>(sink: &mut K, bytes: &[u8]) -> Result<(), Failed>
 
 // The digits from the last to the first.
 fn put_digits<K: Sink>(sink: &mut K, digits: &[u8]) -> Result<(), Failed>
-    ensures { Puts (K.state sink.old) (K.state sink.new) (flat_map hex_byte (reverse digits.now)) result }
+    ensures { Puts (K.state sink.old) (K.state sink.new)
+        (flat_map hex_byte (reverse digits.now)) result }
 {
     let mut left = digits.len();
     while left > 0 {
@@ -156,7 +158,7 @@ fn put_big<K: Sink>(sink: &mut K, sign: u8, digits: &[u8]) -> Result<(), Failed>
 
 fn put_export<K: Sink>(sink: &mut K, name: &[u8], function: &[u8], arity: u8) -> Result<(), Failed>
     ensures { Puts (K.state sink.old) (K.state sink.new)
-        (codes "fun " ++ (atom_text name.now ++ (codes ":" ++ (atom_text function.now ++ (codes "/" ++ decimal arity))))) result }
+        (export_text name.now function.now arity) result }
 {
     put_named(sink, b"fun ", name, &[Piece::Bytes(b":")])?;
     put_atom(sink, function)?;
@@ -184,7 +186,8 @@ fn put_named<K: Sink>(
     name: &[u8],
     pieces: &[Piece<'_>],
 ) -> Result<(), Failed>
-    ensures { Puts (K.state sink.old) (K.state sink.new) (front.now ++ (atom_text name.now ++ pieces_text pieces.now)) result }
+    ensures { Puts (K.state sink.old) (K.state sink.new)
+        (front.now ++ (atom_text name.now ++ pieces_text pieces.now)) result }
 {
     write_all(sink, front)?;
     put_atom(sink, name)?;
@@ -220,7 +223,8 @@ fn put_pid<K: Sink>(
     serial: u32,
     creation: u32,
 ) -> Result<(), Failed>
-    ensures { Puts (K.state sink.old) (K.state sink.new) (pid_text name.now id serial creation) result }
+    ensures { Puts (K.state sink.old) (K.state sink.new)
+        (pid_text name.now id serial creation) result }
 {
     let pieces = [
         Piece::Bytes(b"."),
@@ -235,7 +239,8 @@ fn put_pid<K: Sink>(
 }
 
 fn put_port<K: Sink>(sink: &mut K, name: &[u8], id: u64, creation: u32) -> Result<(), Failed>
-    ensures { Puts (K.state sink.old) (K.state sink.new) (external_port_text name.now id creation) result }
+    ensures { Puts (K.state sink.old) (K.state sink.new)
+        (external_port_text name.now id creation) result }
 {
     let pieces = [
         Piece::Bytes(b"."),
@@ -260,7 +265,8 @@ fn put_words<K: Sink>(sink: &mut K, words: &[u8]) -> Result<(), Failed>
 }
 
 fn put_ref<K: Sink>(sink: &mut K, name: &[u8], creation: u32, words: &[u8]) -> Result<(), Failed>
-    ensures { Puts (K.state sink.old) (K.state sink.new) (ref_text name.now creation words.now) result }
+    ensures { Puts (K.state sink.old) (K.state sink.new)
+        (ref_text name.now creation words.now) result }
 {
     let pieces = [Piece::Bytes(b"."), Piece::Dec(creation as u64)];
     put_named(sink, b"#Ref<", name, &pieces)?;
@@ -294,7 +300,7 @@ fn put_numbers<K: Sink>(sink: &mut K, bytes: &[u8]) -> Result<(), Failed>
 }
 
 fn put_some<K: Sink>(sink: &mut K, first: u8, others: &[u8]) -> Result<(), Failed>
-    ensures { Puts (K.state sink.old) (K.state sink.new) (codes "[" ++ (decimal first ++ (flat_map comma_number others.now ++ codes "]"))) result }
+    ensures { Puts (K.state sink.old) (K.state sink.new) (chars_text (first ∷ others.now)) result }
 {
     put_pieces(sink, &[Piece::Bytes(b"["), Piece::Dec(first as u64)])?;
     put_numbers(sink, others)?;
@@ -354,7 +360,8 @@ fn put_opening<K: Sink>(sink: &mut K, found: &HeadRead<'_>) -> Result<(), Failed
 }
 
 fn put_placed<K: Sink>(sink: &mut K, front: &[u8], found: &HeadRead<'_>) -> Result<(), Failed>
-    ensures { Puts (K.state sink.old) (K.state sink.new) (front.now ++ opening_text (head found.now)) result }
+    ensures { Puts (K.state sink.old) (K.state sink.new)
+        (front.now ++ opening_text (head found.now)) result }
 {
     write_all(sink, front)?;
     put_opening(sink, found)
@@ -363,7 +370,7 @@ fn put_placed<K: Sink>(sink: &mut K, front: &[u8], found: &HeadRead<'_>) -> Resu
 // A head, as that of the next term of another.
 fn put_own<K: Sink>(sink: &mut K, entry: Entry, found: &HeadRead<'_>) -> Result<(), Failed>
     requires { entry.next < entry.kids }
-    ensures { Puts (K.state sink.old) (K.state sink.new) (own_text entry.kind entry.kids entry.next (head found.now)) result }
+    ensures { Puts (K.state sink.old) (K.state sink.new) (own_of entry (head found.now)) result }
 {
     if ends(entry.kind, entry.kids, entry.next, found) {
         return write_all(sink, b"");
@@ -391,7 +398,7 @@ fn end_text(found: &HeadRead<'_>) -> &'static [u8]
 fn put_begun<K: Sink>(sink: &mut K, entry: Entry, found: &HeadRead<'_>) -> Result<(), Failed>
     requires { entry.next < entry.kids }
     ensures { Puts (K.state sink.old) (K.state sink.new)
-        (own_text entry.kind entry.kids entry.next (head found.now) ++ ended (head found.now)) result }
+        (own_of entry (head found.now) ++ ended (head found.now)) result }
 {
     put_own(sink, entry, found)?;
     write_all(sink, end_text(found))
@@ -400,7 +407,9 @@ fn put_begun<K: Sink>(sink: &mut K, entry: Entry, found: &HeadRead<'_>) -> Resul
 // Enters a head that has terms.
 fn enter(stack: &mut Stack, found: &HeadRead<'_>)
     requires { 0 < kids (head found.now) → length stack.old.entries < stack.old.room }
-    ensures { stack.new ≡ record stack.old { entries = entered (head found.now) stack.old.entries } }
+    ensures { stack.new ≡ record stack.old {
+      entries = entered (head found.now) stack.old.entries;
+    } }
 {
     let count = found.kids();
     if count > 0 {
@@ -419,12 +428,13 @@ fn visit<'a, K: Sink>(
     entry: Entry,
     sink: &mut K,
 ) -> Result<&'a [u8], Failed>
-    requires stands { (to_come : List ℕ) × Stands stack.old.room (entry ∷ stack.old.entries) rest.now to_come }
+    requires stands { (to_come : List ℕ) × StandsWith entry stack.old rest.now to_come }
     ensures room { stack.new.room ≡ stack.old.room }
-    ensures falls { Falls rest.now stack.old stack.new result }
+    ensures falls { Falls rest.now stack.old.entries stack.new.entries result }
     ensures later { (K.state sink.old).faults ≤ (K.state sink.new).faults }
-    ensures moves { (to_come : List ℕ) → Stands stack.old.room (entry ∷ stack.old.entries) rest.now to_come
-        → Moves (K.state sink.old) (K.state sink.new) to_come stack.new.room stack.new.entries result }
+    ensures moves { (to_come : List ℕ) → StandsWith entry stack.old rest.now to_come
+        → Moves (K.state sink.old) (K.state sink.new)
+        to_come stack.new.room stack.new.entries result }
 {
     if entry.next >= entry.kids {
         return match write_all(sink, closing_text(entry.kind, entry.kids)) {
@@ -453,7 +463,8 @@ fn visit<'a, K: Sink>(
 pub(crate) fn put_term<K: Sink>(bytes: &[u8], stack: &mut Stack, sink: &mut K) -> Result<(), Failed>
     requires { Serves bytes.now stack.old.room }
     ensures room { stack.new.room ≡ stack.old.room }
-    ensures puts { (term : Term) → IsTerm bytes.now term → Puts (K.state sink.old) (K.state sink.new) (text term) result }
+    ensures puts { (term : Term) → IsTerm bytes.now term
+        → Puts (K.state sink.old) (K.state sink.new) (text term) result }
 {
     stack.clear();
     stack.push(Entry {

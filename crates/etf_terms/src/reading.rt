@@ -1,7 +1,8 @@
 // Which bytes are a term, and how far other bytes begin one.
-ghost use Rattle.std.specs.Prelude.{◌≡◌, ◌≤◌, length, None, Some, IfErr, MatchResult};
+ghost use Rattle.std.specs.Prelude.{◌≤◌, length, IfErr};
 ghost use Rattle.etf_terms.specs.Walks.{bad_place, left_of, walk_terms};
 ghost use Rattle.etf_terms.specs.Inner.Walks.{Stopped};
+ghost use Rattle.etf_terms.specs.Place.{Reports};
 
 use crate::heads::read_head;
 
@@ -26,7 +27,7 @@ fn over_term(bytes: &[u8]) -> Result<&[u8], usize>
 // Whether the bytes are one term. The error is how many of
 // them are left from the first that isn't allowed there.
 fn one_term(bytes: &[u8]) -> Result<(), usize>
-    ensures left { MatchResult result (λ _. left_of (walk_terms 1 bytes.now) ≡ None) (λ left. left_of (walk_terms 1 bytes.now) ≡ Some left) }
+    ensures left { Reports (left_of (walk_terms 1 bytes.now)) result }
     ensures within { IfErr result (λ left. left ≤ length bytes.now) }
 {
     match over_term(bytes) {
@@ -43,7 +44,7 @@ fn one_term(bytes: &[u8]) -> Result<(), usize>
 /// Whether the bytes are 131 and one term. The error is the length of their longest prefix that begins
 /// some 131 and term, by the law [`bad_place_is_longest`](crate::bad_place_is_longest). Takes no memory.
 pub fn judge(bytes: &[u8]) -> Result<(), u64>
-    ensures { MatchResult result (λ _. bad_place bytes.now ≡ None) (λ at. bad_place bytes.now ≡ Some at) }
+    ensures { Reports (bad_place bytes.now) result }
 {
     let Some((first, rest)) = bytes.split_first() else {
         return Err(0);

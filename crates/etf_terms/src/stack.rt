@@ -36,7 +36,10 @@ impl Model for Stack {
 
     ghost Value = { Open };
 
-    ghost view = { λ s. record { room = vec_capacity s.entries; entries = reverse s.entries.items } };
+    ghost view = { λ s. record {
+      room = vec_capacity s.entries;
+      entries = reverse s.entries.items;
+    } };
 }
 
 impl Stack {
@@ -60,7 +63,8 @@ impl Stack {
 
     /// Leaves the innermost head.
     pub fn pop(&mut self) -> Option<Entry>
-        ensures top { MatchOption result (self.old.entries ≡ []) (λ e. self.old.entries ≡ e ∷ self.new.entries) }
+        ensures top { MatchOption result (self.old.entries ≡ [])
+            (λ e. self.old.entries ≡ e ∷ self.new.entries) }
         ensures room { self.new.room ≡ self.old.room }
     {
         self.entries.pop()

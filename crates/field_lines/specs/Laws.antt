@@ -1,38 +1,22 @@
 -- Laws of the definitions, each with its proof, for the proofs of callers.
-use Rattle.std.proofs.Common.{◌≡◌, ℕ, suc, ◌+◌, ◌<◌, ◌≤◌, ◌==◌, ◌&&◌, true, false, nat_lt, List, [], ◌∷◌, length, None, Some, if◌then◌else◌, refl, sym, ◌∙◌, ap, true≢false, lt-ltb, eq-eqb, arith}
-use Rattle.std.specs.Prelude.{map, slice_index, unwrap_or}
+use Rattle.std.proofs.Common.{◌≡◌, ℕ, ◌+◌, ◌<◌, ◌≤◌, ◌==◌, ◌&&◌, true, false, nat_lt, List, [], ◌∷◌, length, None, Some, if◌then◌else◌, sym, ◌∙◌, ap, true≢false, lt-ltb, eq-eqb, arith}
+use Rattle.std.specs.Prelude.{slice_index, unwrap_or}
 use Rattle.std.specs.List.{position_or_len}
 use Rattle.std.specs.Str.{bytes_eq}
 use Rattle.std.proofs.lemmas.Bool.{and_parts, and_from, eqb-true, false_from_ne_true}
-use Rattle.std.proofs.lemmas.List.{length-drop, length-take-le}
+use Rattle.std.proofs.lemmas.List.{length-drop, length-map, length-take-le}
 use Rattle.std.proofs.lemmas.List.Sums.{passes_at_first}
 use Rattle.std.proofs.lemmas.Slice.Eq.{bytes_eq-Decides}
 use Rattle.dump_io.specs.Colons.{colon, is_colon, has_colon, after_colon}
-use Rattle.dump_io.specs.Lines.{lf, lines_after, raw_lines, lines_from}
+use Rattle.dump_io.specs.Lines.{raw_lines, lines_from}
 use Rattle.dump_io.specs.Laws.Colons.{colon-within}
+use Rattle.dump_io.specs.Laws.Lines.{length-lines_from, length-raw_lines}
 use Rattle.field_lines.specs.Fields.{Field, field_of, space_byte, without_space, key_of, value_of, has_key}
 use Rattle.field_lines.specs.Lines.{TextLine, text_line, text_lines}
 
-length-lines_after : (c : ℕ) (raws : List (List ℕ)) → length (lines_after c raws) ≤ suc (length raws)
-length-lines_after c [] = omega arith
-length-lines_after c (raw ∷ raws) = omega arith
-
-length-raw_lines : (bytes : List ℕ) → length (raw_lines bytes) ≤ length bytes
-length-raw_lines [] = omega arith
-length-raw_lines (c ∷ bytes) =
-    let rest = length-raw_lines bytes in
-    elim (c == lf) as (λ b. length (if b then (c ∷ []) ∷ raw_lines bytes else lines_after c (raw_lines bytes)) ≤ suc (length bytes)) [
-      | true ↦ omega (arith, rest)
-      | false ↦ omega (arith, rest, length-lines_after c (raw_lines bytes))
-    ]
-
-length-texts : (at : ℕ) (raws : List (List ℕ)) → length (map text_line (lines_from at raws)) ≡ length raws
-length-texts at [] = refl
-length-texts at (raw ∷ raws) = ap suc (length-texts (at + length raw) raws)
-
 -- a body has no more lines than bytes
 pub length-text_lines : (body : List ℕ) → length (text_lines body) ≤ length body
-length-text_lines body = let e = length-texts 0 (raw_lines body) in let l = length-raw_lines body in omega (arith, e, l)
+length-text_lines body = omega (arith, length-map (lines_from 0 (raw_lines body)) text_line, length-lines_from 0 (raw_lines body), length-raw_lines body)
 
 -- the value of a field that was found
 pub field_of-value : (text : List ℕ) (field : Field) → Some field ≡ field_of text → field.value ≡ value_of text
@@ -42,7 +26,8 @@ field_of-value text field =
       | false ↦ λ e. absurd (cc e)
     ]
 
-length-without_space : (bytes : List ℕ) → length (without_space bytes) ≤ length bytes
+-- a text is no longer without one leading space
+pub length-without_space : (bytes : List ℕ) → length (without_space bytes) ≤ length bytes
 length-without_space [] = omega arith
 length-without_space (c ∷ bytes) =
     elim (c == space_byte) as (λ b. length (if b then bytes else c ∷ bytes) ≤ length (c ∷ bytes)) [

@@ -37,6 +37,10 @@ form_at cells number = option_and_then (λ cell. cell.form) (slice_get cells num
 abbrev pub elements_at : List Cell → ℕ → List Element
 elements_at cells number = elements_in (form_at cells number)
 
+-- the element at a place of that form
+abbrev pub nth_element : List Cell → ℕ → ℕ → Option Element
+nth_element cells number place = slice_get (elements_at cells number) place
+
 -- some text spells the form
 abbrev pub IsSpelled : Enc → HeapForm → Type 0
 IsSpelled enc form = (text : List ℕ) × IsForm enc text form

@@ -1,3 +1,4 @@
+pub mod Bodies
 pub mod Faults
 pub mod Found
 pub mod Gathering

@@ -1,13 +1,13 @@
 -- What loading a heap promises.
-use Rattle.std.specs.Prelude.{◌≡◌, ℕ, ◌<◌, ◌≤◌, List, ◌++◌, Option, Some, Result, Ok, Err, IfOk, codes, option_map}
+use Rattle.std.specs.Prelude.{◌≡◌, ℕ, ◌<◌, ◌≤◌, List, ◌++◌, Option, Some, Result, Ok, Err, IfOk, IsErrOf, codes, option_map}
 use Rattle.std.specs.Option.{option_to_list}
 use Rattle.dump_io.specs.Dumps.{DeviceState, Now, IfTold}
 use Rattle.dump_io.specs.Faults.{Cause, refuses, fails, lacks, IsCauseOf}
 use Rattle.dump_io.specs.Limits.{Numbers}
 use Rattle.dump_sections.specs.declared.bodies.BodyFault.{BodyFault}
 use Rattle.dump_sections.specs.declared.bodies.BodyFault.TheVariants as body
-use Rattle.dump_sections.specs.Bodies.{body_in}
-use Rattle.dump_sections.specs.Index.{Contents}
+use Rattle.dump_sections.specs.Bodies.{section_in, body_in}
+use Rattle.dump_sections.specs.Index.{Contents, sections_in}
 use Rattle.dump_sections.specs.Loading.{bodies_length, body_fault, large_fault, Loads}
 use Rattle.dump_sections.specs.Lookups.{first_named, first_tagged}
 use Rattle.dump_sections.specs.Sections.{Section}
@@ -42,6 +42,10 @@ two_bodies heap literals = option_to_list heap ++ option_to_list literals
 abbrev pub heap_bodies : List ℕ → List Section → List Section
 heap_bodies pid sections = two_bodies (heap_section pid sections) (literals_section sections)
 
+-- those at two places of an index
+abbrev pub bodies_at : Contents → Option ℕ → Option ℕ → List Section
+bodies_at index heap literals = two_bodies (section_in index heap) (section_in index literals)
+
 -- the fault of a body, as a fault of the heap
 abbrev pub heap_fault_of : BodyFault → HeapFault
 heap_fault_of (body.SectionTooLarge at len) = SectionTooLarge at len
@@ -69,24 +73,45 @@ pub record IsHeapOf (now : Now) (index : Contents) (heap literals : Option Secti
   pub enc : IfOk answer (λ found. found.enc ≡ enc_of index.version)
   pub told : IfTold now (λ dump. IsHeapAnswerFor (enc_of index.version) (body_in dump heap) (body_in dump literals) dense answer)
 
+-- what it says of the heap of the process with this pid
+abbrev pub IsHeapFor : Now → Contents → List ℕ → ℕ → Result HeapMap HeapFault → Type 0
+IsHeapFor now index pid dense answer =
+    let sections = sections_in index in
+    IsHeapOf now index (heap_section pid sections) (literals_section sections) dense answer
+
+-- what it says of the sections at two places of an index
+abbrev pub IsHeapAt : Now → Contents → Option ℕ → Option ℕ → ℕ → Result HeapMap HeapFault → Type 0
+IsHeapAt now index heap literals dense answer =
+    IsHeapOf now index (section_in index heap) (section_in index literals) dense answer
+
 -- what the fault of a heap says
 abbrev pub heap_cause : HeapFault → Cause HeapFault
 heap_cause Read = fails
 heap_cause Memory = lacks
 heap_cause refusal = refuses refusal
 
--- why a heap is refused: one of its bodies is too large, and this is the first; or the heap is too dense
-abbrev pub IsHeapRefusal : Option HeapFault → ℕ → HeapFault → Type 0
-IsHeapRefusal refused dense (SectionTooLarge at len) = refused ≡ Some (SectionTooLarge at len)
-IsHeapRefusal refused dense (TooDense count) = dense < count
-IsHeapRefusal refused dense fault = ⊥
-
--- why a heap isn't loaded: it is refused, or the device failed; memory may be lacking at any time
+-- why a heap isn't loaded: it is too dense; or one of its bodies is too large, and this is the
+-- first; or none is, and the device failed; memory may be lacking at any time
 abbrev pub IsHeapCauseOf : Option HeapFault → ℕ → DeviceState → DeviceState → HeapFault → Type 0
-IsHeapCauseOf refused dense before after fault = IsCauseOf (IsHeapRefusal refused dense) before after (heap_cause fault)
+IsHeapCauseOf refused dense before after (TooDense count) = dense < count
+IsHeapCauseOf refused dense before after fault = IsCauseOf refused before after (heap_cause fault)
 
 -- what each call does that loads the heap with these bodies
 abbrev pub LoadsHeap : {D T : Type 0} → (D → DeviceState) → List Section → Numbers → D → D → Result T HeapFault → Type 0
 LoadsHeap state bodies limits before after result =
     let refusal = bodies_fault limits.section bodies in
     Loads state (bodies_length bodies) refusal (IsHeapCauseOf refusal limits.dense) before after result
+
+-- what a call does that loads the heap of the process with this pid
+abbrev pub LoadsHeapFor : {D T : Type 0} → (D → DeviceState) → Contents → List ℕ → Numbers → D → D → Result T HeapFault → Type 0
+LoadsHeapFor state index pid limits before after result =
+    LoadsHeap state (heap_bodies pid (sections_in index)) limits before after result
+
+-- what a call does that loads the heap in the sections at two places of an index
+abbrev pub LoadsHeapAt : {D T : Type 0} → (D → DeviceState) → Contents → Option ℕ → Option ℕ → Numbers → D → D → Result T HeapFault → Type 0
+LoadsHeapAt state index heap literals limits before after result =
+    LoadsHeap state (bodies_at index heap literals) limits before after result
+
+-- if one of these bodies is too large, the first is refused as such, whatever the device does
+abbrev pub RefusesLarge : {T : Type 0} → ℕ → List Section → Result T HeapFault → Type 0
+RefusesLarge limit bodies result = (fault : HeapFault) → bodies_fault limit bodies ≡ Some fault → IsErrOf result fault

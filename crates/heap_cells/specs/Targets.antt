@@ -1,5 +1,5 @@
 -- Where addresses and elements lead among the cells of a heap.
-use Rattle.std.specs.Prelude.{◌≡◌, ℕ, ◌<◌, List, length, Option, None, Some, IsSome}
+use Rattle.std.specs.Prelude.{◌≡◌, ℕ, ◌<◌, List, length, map, Option, None, Some, IsSome, All}
 use Rattle.term_forms.specs.Elements.{Element, Ref}
 use Rattle.term_forms.specs.Seen.{element}
 use Rattle.heap_cells.specs.declared.cells.Seat.{Seat}
@@ -9,7 +9,7 @@ use Rattle.cell_records.specs.declared.cells.Slot.TheVariants as slot
 use Rattle.heap_cells.specs.declared.cells.Kid.{Kid}
 use Rattle.heap_cells.specs.declared.cells.Kid.TheVariants as kid
 use Rattle.heap_cells.specs.Cells.{Cell}
-use Rattle.heap_cells.specs.HeapMap.{number_at, form_at}
+use Rattle.heap_cells.specs.HeapMap.{number_at, form_at, elements_at}
 pub use Rattle.cell_records.specs.Numbers.{number}
 
 -- what an element leads to: nothing, since it is no reference;
@@ -28,6 +28,10 @@ target_at address (Some number) = At number
 abbrev pub target : List Cell → Element → Target
 target cells (Ref address) = target_at address (number_at cells address)
 target cells element = Imm
+
+-- where the elements of a cell's form lead, including the keys element of a flat map; a malformed cell has none
+abbrev pub targets_at : List Cell → ℕ → List Target
+targets_at cells number = map (target cells) (elements_at cells number)
 
 -- where a slot leads; the span in an `Imm` plays no part
 abbrev pub slot_target : Slot → Target
@@ -58,3 +62,7 @@ IsSeatOf cells address (seat.Cell ix) =
 abbrev pub IsWithin : ℕ → Target → Type 0
 IsWithin count (At number) = number < count
 IsWithin count place = Unit {0}
+
+-- each of these slots that leads to a cell leads to one whose number is below this bound
+abbrev pub AreWithin : ℕ → List Slot → Type 0
+AreWithin count slots = All (λ slot. IsWithin count (slot_target slot)) slots

@@ -1,13 +1,11 @@
 // What the text of a cell's form spells: its kind, and the slots of its elements.
 ghost use Rattle.std.specs.Prelude.{◌≡◌, ◌+◌, ◌^◌, ◌<◌, ◌≤◌, ◌∷◌, [], length, None, Some, OnOk, IfOk};
-ghost use Rattle.std.specs.Option.{option_map};
-ghost use Rattle.term_forms.specs.Places.{elements_of};
 ghost use Rattle.term_forms.specs.Seen.{element};
 ghost use Rattle.term_forms.specs.SeenForms.{heap_form};
 ghost use Rattle.term_forms.specs.SeenPlaces.{placed};
 ghost use Rattle.term_forms.specs.ReadingForms.{form_of};
 ghost use Rattle.heap_cells.specs.Cells.{elements_in, kind_of};
-ghost use Rattle.heap_cells.specs.Inner.Found.{read_of, read_with, Pushes, IsReadInto};
+ghost use Rattle.heap_cells.specs.Inner.Found.{read_of, read_with, spelled_elements, PushesTo, IsReadTo};
 ghost use Rattle.heap_cells.specs.Inner.Gathering.{slot_with};
 
 use cell_records::{Kind, Slot, Span};
@@ -72,7 +70,7 @@ fn push_elem(
     most: usize,
 ) -> Result<(), AllocError>
     requires { from + found.now.at + found.now.len < 2 ^ 32 }
-    ensures { OnOk result (Pushes from most (placed found.now ∷ []) slots.old.items slots.new.items) }
+    ensures { OnOk result (PushesTo from most (placed found.now ∷ []) slots.old slots.new) }
 {
     if slots.len() >= most {
         return Ok(());
@@ -91,7 +89,8 @@ fn push_pair(
 ) -> Result<(), AllocError>
     requires head { from + head.now.at + head.now.len < 2 ^ 32 }
     requires tail { from + tail.now.at + tail.now.len < 2 ^ 32 }
-    ensures { OnOk result (Pushes from most (placed head.now ∷ placed tail.now ∷ []) slots.old.items slots.new.items) }
+    ensures { OnOk result (PushesTo from most
+        (placed head.now ∷ placed tail.now ∷ []) slots.old slots.new) }
 {
     push_elem(slots, head, from, most)?;
     push_elem(slots, tail, from, most)
@@ -119,7 +118,8 @@ fn push_joined(
     requires small { from + length elements.text < 2 ^ 32 }
     requires few { before ≤ 1 }
     ensures read { IfOk result (λ read. read ≡ read_with kind before elements.entry.elements) }
-    ensures pushed { OnOk result (IsReadInto elements.entry.text from most elements.entry.elements slots.old.items slots.new.items) }
+    ensures pushed { OnOk result (IsReadTo elements.entry.text from most
+        elements.entry.elements slots.old slots.new) }
 {
     front_is_longest();
     whole_is_read();
@@ -149,7 +149,8 @@ fn push_opened(
 ) -> Result<Read, AllocError>
     requires { from + length text.now < 2 ^ 32 }
     ensures read { IfOk result (λ read. read ≡ read_of (form_of enc text.now)) }
-    ensures pushed { OnOk result (IsReadInto text.now from most (option_map elements_of (form_of enc text.now)) slots.old.items slots.new.items) }
+    ensures pushed { OnOk result (IsReadTo text.now from most
+        (spelled_elements enc text.now) slots.old slots.new) }
 {
     front_is_longest();
     whole_is_read();
@@ -189,7 +190,8 @@ pub(crate) fn push_form(
 ) -> Result<Read, AllocError>
     requires { from + length text.now < 2 ^ 32 }
     ensures read { IfOk result (λ read. read ≡ read_of (form_of enc text.now)) }
-    ensures pushed { OnOk result (IsReadInto text.now from most (Some (elements_in (form_of enc text.now))) slots.old.items slots.new.items) }
+    ensures pushed { OnOk result (IsReadTo text.now from most
+        (Some (elements_in (form_of enc text.now))) slots.old slots.new) }
 {
     let before = slots.len();
     let read = push_opened(slots, text, enc, from, most)?;

@@ -1,15 +1,13 @@
 // Gathering the heap lines of the bodies one by one.
-ghost use Rattle.std.specs.Prelude.{◌≡◌, ◌+◌, ◌^◌, ◌<◌, ◌≤◌, ◌-◌, ◌*◌, ◌∷◌, ◌++◌, [], List, length, slice_range, OnOk, IfOk, IfErr};
+ghost use Rattle.std.specs.Prelude.{◌≡◌, ◌+◌, ◌^◌, ◌<◌, ◌≤◌, ◌-◌, ◌*◌, ◌∷◌, ◌++◌, [], length, slice_range, OnOk, IfOk, IfErr};
 ghost use Rattle.dump_io.specs.Limits.{usual};
-ghost use Rattle.std.specs.List.{filter_map};
-ghost use Rattle.field_lines.specs.Lines.{TextLine};
 ghost use Rattle.field_lines.specs.Shown.{shown_line};
-ghost use Rattle.heap_cells.specs.Cells.{Cell, spelled_cell, cell_of, line_cells, weight};
-ghost use Rattle.heap_cells.specs.Inner.Gathering.{new_record, IsLineAt, IsBodyAt, IsGathered, IsNothing, Leads, AreAll};
+ghost use Rattle.heap_cells.specs.Cells.{spelled_cell, line_cells, weight};
+ghost use Rattle.heap_cells.specs.Inner.Gathering.{new_record, IsLineAt, IsBodyAt, IsNothing, AreAll, IsGatheredIn, Gathers, GathersLine};
 ghost use Rattle.heap_cells.specs.Inner.Faults.{IsOfTheTexts};
 ghost use Rattle.heap_cells.specs.Inner.Keeping.{IsSettledHeap};
 ghost use Rattle.heap_cells.specs.Inner.Parts.{IsPart};
-ghost use Rattle.heap_cells.specs.Inner.Texts.{text_of, seam_of};
+ghost use Rattle.heap_cells.specs.Inner.Texts.{text_of, seam_of, weight_in};
 
 use crate::faults::HeapFault;
 use crate::found::push_form;
@@ -41,7 +39,8 @@ fn push_record(
     requires ordered { from ≤ upto }
     requires within { upto < 2 ^ 32 }
     requires few { first < 2 ^ 32 }
-    ensures { OnOk result (cells.new.items ≡ cells.old.items ++ new_record address from upto first kind ∷ []) }
+    ensures { OnOk result (cells.new.items
+        ≡ cells.old.items ++ new_record address from upto first kind ∷ []) }
 {
     cells.push(CellRecord {
         address,
@@ -78,13 +77,12 @@ fn gather_cell(
     requires small { length (text_of texts.now) ≤ 2 * usual.section }
     requires limit { g.old.dense ≤ usual.dense }
     requires room { g.old.weight + (upto - from) + 1 < 2 ^ 64 }
-    requires gathered { IsGathered (text_of texts.now) (seam_of texts.now) texts.now.enc g.old }
+    requires gathered { IsGatheredIn texts.now g.old }
     ensures limit { g.new.dense ≡ g.old.dense }
     ensures weight { g.new.weight ≤ g.old.weight + (upto - from) + 1 }
-    ensures gathered { OnOk result (IsGathered (text_of texts.now) (seam_of texts.now) texts.now.enc g.new) }
-    ensures leads { OnOk result ((rest all : List Cell)
-        → Leads (text_of texts.now) texts.now.enc g.old (spelled_cell texts.now.enc (address, slice_range (text_of texts.now) from upto) ∷ rest) all
-        → Leads (text_of texts.now) texts.now.enc g.new rest all) }
+    ensures gathered { OnOk result (IsGatheredIn texts.now g.new) }
+    ensures leads { OnOk result (Gathers texts.now g.old g.new
+        (spelled_cell texts.now.enc (address, slice_range (text_of texts.now) from upto) ∷ [])) }
 {
     form_is_read(texts.enc);
     let most = most_slots(g);
@@ -109,13 +107,11 @@ fn gather_line(
     requires small { length (text_of texts.now) ≤ 2 * usual.section }
     requires limit { g.old.dense ≤ usual.dense }
     requires room { g.old.weight + length line.now.text.now < 2 ^ 64 }
-    requires gathered { IsGathered (text_of texts.now) (seam_of texts.now) texts.now.enc g.old }
+    requires gathered { IsGatheredIn texts.now g.old }
     ensures limit { g.new.dense ≡ g.old.dense }
     ensures weight { g.new.weight ≤ g.old.weight + length line.now.text.now }
-    ensures gathered { OnOk result (IsGathered (text_of texts.now) (seam_of texts.now) texts.now.enc g.new) }
-    ensures leads { OnOk result ((rest : List TextLine) (more all : List Cell)
-        → Leads (text_of texts.now) texts.now.enc g.old (filter_map (cell_of texts.now.enc) (shown_line line.now ∷ rest) ++ more) all
-        → Leads (text_of texts.now) texts.now.enc g.new (filter_map (cell_of texts.now.enc) rest ++ more) all) }
+    ensures gathered { OnOk result (IsGatheredIn texts.now g.new) }
+    ensures leads { OnOk result (GathersLine texts.now g.old g.new (shown_line line.now)) }
 {
     let Some((address, spelled)) = heap_line(line.text) else {
         return Ok(());
@@ -136,13 +132,12 @@ pub(crate) fn gather_lines(
     requires few { length body.now ≤ usual.section }
     requires limit { g.old.dense ≤ usual.dense }
     requires room { g.old.weight ≤ 2 ^ 62 }
-    requires gathered { IsGathered (text_of texts.now) (seam_of texts.now) texts.now.enc g.old }
+    requires gathered { IsGatheredIn texts.now g.old }
     ensures limit { g.new.dense ≡ g.old.dense }
     ensures weight { g.new.weight ≤ g.old.weight + 2 ^ 58 }
-    ensures gathered { OnOk result (IsGathered (text_of texts.now) (seam_of texts.now) texts.now.enc g.new) }
-    ensures leads { OnOk result ((rest all : List Cell)
-        → Leads (text_of texts.now) texts.now.enc g.old (line_cells texts.now.enc body.now ++ rest) all
-        → Leads (text_of texts.now) texts.now.enc g.new rest all) }
+    ensures gathered { OnOk result (IsGatheredIn texts.now g.new) }
+    ensures leads { OnOk result (Gathers texts.now g.old g.new
+        (line_cells texts.now.enc body.now)) }
 {
     for line in lines(body) {
         gather_line(texts, base, &line, g)?;
@@ -172,7 +167,7 @@ pub(crate) fn settled_texts(alloc: Global, texts: &Texts, dense: u32) -> Result<
     requires literals { length texts.now.literals.items ≤ usual.section }
     requires limit { dense ≤ usual.dense }
     ensures settled { IfOk result (IsSettledHeap texts.now) }
-    ensures weight { OnOk result (weight texts.now.enc texts.now.heap.items texts.now.literals.items ≤ dense) }
+    ensures weight { OnOk result (weight_in texts.now ≤ dense) }
     ensures fault { IfErr result (IsOfTheTexts texts.now dense) }
 {
     let mut g = Gathering {

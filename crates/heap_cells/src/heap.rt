@@ -1,16 +1,14 @@
 // The heap of a process, by address.
-ghost use Rattle.std.specs.Prelude.{◌≡◌, ◌+◌, ◌<◌, ◌≤◌, map, length, slice_get, None, Some, IfSome, IfOk, IfErr, IsErrOf, All};
+ghost use Rattle.std.specs.Prelude.{◌≡◌, ◌<◌, ◌≤◌, map, length, Some, IfSome, IfOk, IfErr};
 ghost use Rattle.std.specs.Option.{option_map};
 ghost use Rattle.dump_io.specs.Limits.{usual};
 ghost use Rattle.term_forms.specs.SeenForms.{heap_form};
 ghost use Rattle.heap_cells.specs.Cells.{kind_of};
-ghost use Rattle.heap_cells.specs.HeapMap.{IsBounded, address_at, form_at, elements_at, IsSpelled};
+ghost use Rattle.heap_cells.specs.HeapMap.{IsBounded, address_at, form_at, elements_at, IsSpelled, nth_element};
 ghost use Rattle.dump_sections.specs.Index.{IsBuiltOver, sections_in};
-ghost use Rattle.heap_cells.specs.declared.faults.HeapFault.{HeapFault};
-ghost use Rattle.heap_cells.specs.Loading.{heap_section, literals_section, two_bodies, heap_bodies, bodies_fault, IsHeapAnswerFor, IsHeapOf, LoadsHeap};
+ghost use Rattle.heap_cells.specs.Loading.{heap_bodies, IsHeapAnswerFor, bodies_at, IsHeapFor, IsHeapAt, LoadsHeapFor, LoadsHeapAt, RefusesLarge};
 ghost use Rattle.heap_cells.specs.Inner.Faults.{IsOfTheTexts};
-ghost use Rattle.dump_sections.specs.Bodies.{section_in};
-ghost use Rattle.heap_cells.specs.Targets.{number, target, slot_target, kid_target, KeepsElement, IsSeatOf, IsWithin};
+ghost use Rattle.heap_cells.specs.Targets.{number, target, slot_target, kid_target, KeepsElement, IsSeatOf, IsWithin, targets_at, AreWithin};
 
 use crate::cells::{Kid, Seat};
 use crate::faults::HeapFault;
@@ -38,8 +36,9 @@ pub struct Heap {
 
 impl Model for Heap {
     ghost use Rattle.heap_cells.specs.HeapMap.{HeapMap};
-    ghost use Rattle.heap_cells.specs.Inner.Texts.{text_of, seam_of};
-    ghost use Rattle.heap_cells.specs.Inner.Records.{cells_in, IsArena};
+    ghost use Rattle.heap_cells.specs.Inner.Keeping.{IsArenaOf};
+    ghost use Rattle.heap_cells.specs.Inner.Texts.{text_of};
+    ghost use Rattle.heap_cells.specs.Inner.Records.{cells_in};
 
     ghost Value = { HeapMap };
 
@@ -49,7 +48,7 @@ impl Model for Heap {
       enc = h.texts.enc;
     } };
 
-    ghost invariant = { λ h. IsArena (text_of h.texts) (seam_of h.texts) h.texts.enc h.arena.cells.items h.arena.slots.items h.order.items h.own };
+    ghost invariant = { λ h. IsArenaOf h.texts h.arena h.order.items h.own };
 }
 
 impl Heap {
@@ -76,11 +75,14 @@ impl Heap {
         limits: &Limits,
     ) -> Result<Heap, HeapFault>
         requires over { IsBuiltOver (D.state dumps.old).now index.now }
-        ensures loads { LoadsHeap D.state (heap_bodies pid.now (sections_in index.now)) limits.now dumps.old dumps.new result }
-        ensures answer { IsHeapOf (D.state dumps.old).now index.now (heap_section pid.now (sections_in index.now)) (literals_section (sections_in index.now)) limits.now.dense result }
+        ensures loads { LoadsHeapFor D.state index.now pid.now limits.now
+            dumps.old dumps.new result }
+        ensures answer { IsHeapFor (D.state dumps.old).now index.now pid.now
+            limits.now.dense result }
 
         // A body that is too large is always refused as such, whatever the device does.
-        ensures too_large { (fault : HeapFault) → bodies_fault limits.now.section (heap_bodies pid.now (sections_in index.now)) ≡ Some fault → IsErrOf result fault }
+        ensures too_large { RefusesLarge limits.now.section
+            (heap_bodies pid.now (sections_in index.now)) result }
     {
         let heap = index.first(b"proc_heap", Some(pid));
         let literals = index.first_tag(b"literals");
@@ -100,10 +102,12 @@ impl Heap {
         requires over { IsBuiltOver (D.state dumps.old).now index.now }
         requires heap { IfSome heap (λ i. i < length index.now.headers) }
         requires literals { IfSome literals (λ i. i < length index.now.headers) }
-        ensures loads { LoadsHeap D.state (two_bodies (section_in index.now heap) (section_in index.now literals)) limits.now dumps.old dumps.new result }
-        ensures answer { IsHeapOf (D.state dumps.old).now index.now (section_in index.now heap) (section_in index.now literals) limits.now.dense result }
-        ensures too_large { (fault : HeapFault) → bodies_fault limits.now.section (two_bodies (section_in index.now heap) (section_in index.now literals)) ≡ Some fault
-            → IsErrOf result fault }
+        ensures loads { LoadsHeapAt D.state index.now heap literals limits.now
+            dumps.old dumps.new result }
+        ensures answer { IsHeapAt (D.state dumps.old).now index.now heap literals
+            limits.now.dense result }
+        ensures too_large { RefusesLarge limits.now.section
+            (bodies_at index.now heap literals) result }
     {
         if let Some(large) = large_bodies(index, heap, literals, limits) {
             return Err(HeapFault::from(BodyFault::from(large)));
@@ -192,8 +196,9 @@ impl Heap {
     pub fn kid(&self, ix: CellIx, n: u32) -> Kid<'_>
         requires cell { number ix < length self.now.cells }
         requires place { n < length (elements_at self.now.cells (number ix)) }
-        ensures target { option_map (target self.now.cells) (slice_get (elements_at self.now.cells (number ix)) n) ≡ Some (kid_target result) }
-        ensures element { IfSome (slice_get (elements_at self.now.cells (number ix)) n) (KeepsElement result) }
+        ensures target { option_map (target self.now.cells) (nth_element self.now.cells (number ix) n)
+            ≡ Some (kid_target result) }
+        ensures element { IfSome (nth_element self.now.cells (number ix) n) (KeepsElement result) }
         ensures within { IsWithin (length self.now.cells) (kid_target result) }
     {
         let i = ix.number() as usize;
@@ -221,8 +226,8 @@ impl Heap {
     /// The elements of a cell's form as they are stored, as many as `kids` says and numbered as in `kid`.
     pub fn slots(&self, ix: CellIx) -> &[Slot]
         requires { number ix < length self.now.cells }
-        ensures targets { map slot_target result.now ≡ map (target self.now.cells) (elements_at self.now.cells (number ix)) }
-        ensures within { All (λ slot. IsWithin (length self.now.cells) (slot_target slot)) result.now }
+        ensures targets { map slot_target result.now ≡ targets_at self.now.cells (number ix) }
+        ensures within { AreWithin (length self.now.cells) result.now }
         ensures few { length result.now ≤ usual.dense }
     {
         slots_of(&self.arena, ix.number() as usize)

@@ -3,9 +3,9 @@ ghost use Rattle.std.specs.Prelude.{◌≡◌, ◌+◌, ◌<◌, ◌≤◌, leng
 ghost use Rattle.dump_io.specs.Dumps.{ReadsAtMost};
 ghost use Rattle.dump_sections.specs.Index.{IsBuiltOver};
 ghost use Rattle.dump_sections.specs.Loading.{large_fault};
-ghost use Rattle.heap_cells.specs.Loading.{enc_of, two_bodies};
+ghost use Rattle.heap_cells.specs.Loading.{enc_of, bodies_at};
 ghost use Rattle.heap_cells.specs.Inner.Faults.{IsReadFault};
-ghost use Rattle.dump_sections.specs.Bodies.{section_in, body_size, IsBodyIn};
+ghost use Rattle.heap_cells.specs.Inner.Bodies.{size_at, IsBodyFrom};
 
 use crate::faults::HeapFault;
 use crate::texts::Texts;
@@ -33,9 +33,9 @@ pub(crate) fn large_bodies(
 ) -> Option<LargeSection>
     requires heap { IfSome heap (λ i. i < length index.now.headers) }
     requires literals { IfSome literals (λ i. i < length index.now.headers) }
-    ensures fault { result ≡ large_fault limits.now.section (two_bodies (section_in index.now heap) (section_in index.now literals)) }
-    ensures small_heap { result ≡ None → body_size (section_in index.now heap) ≤ limits.now.section }
-    ensures small_literals { result ≡ None → body_size (section_in index.now literals) ≤ limits.now.section }
+    ensures fault { result ≡ large_fault limits.now.section (bodies_at index.now heap literals) }
+    ensures small_heap { result ≡ None → size_at index.now heap ≤ limits.now.section }
+    ensures small_literals { result ≡ None → size_at index.now literals ≤ limits.now.section }
 {
     let first = large_body(index, heap, limits);
     if first.is_some() {
@@ -54,10 +54,10 @@ fn read_or_empty<D: Dumps>(
 ) -> Result<Vec<u8>, HeapFault>
     requires over { IsBuiltOver (D.state dumps.old).now index.now }
     requires place { IfSome place (λ i. i < length index.now.headers) }
-    requires small { body_size (section_in index.now place) ≤ limits.now.section }
-    ensures reads { ReadsAtMost (D.state dumps.old) (D.state dumps.new) (body_size (section_in index.now place)) }
-    ensures body { IfOk result (λ body. IsBodyIn (D.state dumps.old).now (section_in index.now place) body.items) }
-    ensures size { IfOk result (λ body. length body.items ≡ body_size (section_in index.now place)) }
+    requires small { size_at index.now place ≤ limits.now.section }
+    ensures reads { ReadsAtMost (D.state dumps.old) (D.state dumps.new) (size_at index.now place) }
+    ensures body { IfOk result (λ body. IsBodyFrom (D.state dumps.old).now index.now place body.items) }
+    ensures size { IfOk result (λ body. length body.items ≡ size_at index.now place) }
     ensures fault { IfErr result (IsReadFault (D.state dumps.old) (D.state dumps.new)) }
 {
     let Some(i) = place else {
@@ -79,14 +79,17 @@ pub(crate) fn read_texts<D: Dumps>(
     requires over { IsBuiltOver (D.state dumps.old).now index.now }
     requires heap { IfSome heap (λ i. i < length index.now.headers) }
     requires literals { IfSome literals (λ i. i < length index.now.headers) }
-    requires small_heap { body_size (section_in index.now heap) ≤ limits.now.section }
-    requires small_literals { body_size (section_in index.now literals) ≤ limits.now.section }
+    requires small_heap { size_at index.now heap ≤ limits.now.section }
+    requires small_literals { size_at index.now literals ≤ limits.now.section }
     ensures reads { ReadsAtMost (D.state dumps.old) (D.state dumps.new)
-        (body_size (section_in index.now heap) + body_size (section_in index.now literals)) }
-    ensures heap { IfOk result (λ texts. IsBodyIn (D.state dumps.old).now (section_in index.now heap) texts.heap.items) }
-    ensures literals { IfOk result (λ texts. IsBodyIn (D.state dumps.old).now (section_in index.now literals) texts.literals.items) }
-    ensures heap_size { IfOk result (λ texts. length texts.heap.items ≡ body_size (section_in index.now heap)) }
-    ensures literals_size { IfOk result (λ texts. length texts.literals.items ≡ body_size (section_in index.now literals)) }
+        (size_at index.now heap + size_at index.now literals) }
+    ensures heap { IfOk result (λ texts.
+        IsBodyFrom (D.state dumps.old).now index.now heap texts.heap.items) }
+    ensures literals { IfOk result (λ texts.
+        IsBodyFrom (D.state dumps.old).now index.now literals texts.literals.items) }
+    ensures heap_size { IfOk result (λ texts. length texts.heap.items ≡ size_at index.now heap) }
+    ensures literals_size { IfOk result (λ texts.
+        length texts.literals.items ≡ size_at index.now literals) }
     ensures enc { IfOk result (λ texts. texts.enc ≡ enc_of index.now.version) }
     ensures fault { IfErr result (IsReadFault (D.state dumps.old) (D.state dumps.new)) }
 {

@@ -1,5 +1,5 @@
 // The texts of the two bodies of a heap.
-ghost use Rattle.std.specs.Prelude.{◌≡◌, ◌<◌, ◌≤◌, length, slice_range};
+ghost use Rattle.std.specs.Prelude.{◌≡◌, ◌≤◌, length, slice_range};
 ghost use Rattle.heap_cells.specs.Inner.Parts.{IsPart};
 ghost use Rattle.heap_cells.specs.Inner.Texts.{text_of, seam_of};
 

@@ -12,8 +12,8 @@ use Rattle.term_forms.specs.Forms.{HeapForm, HeapBin, SubBin}
 use Rattle.cell_records.specs.declared.cells.Kind.TheVariants as kind
 use Rattle.heap_cells.specs.Cells.{Cell, elements_in, kind_of}
 use Rattle.heap_cells.specs.HeapMap.{form_at, number_at}
-use Rattle.heap_cells.specs.Targets.{Target, Imm, At, Gone, target, target_at}
-use Rattle.heap_reach.specs.Reached.{IsBinAt, Leads, targets_at}
+use Rattle.heap_cells.specs.Targets.{Target, Imm, At, Gone, target, target_at, targets_at}
+use Rattle.heap_reach.specs.Reached.{IsBinAt, Leads}
 use Rattle.heap_reach.specs.Rounds.{is_at, is_bin, is_bin_at, is_part_of, leads_to}
 
 -- ---- tests of an option, a list and a form

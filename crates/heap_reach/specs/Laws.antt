@@ -2,7 +2,7 @@
 use Rattle.std.specs.Prelude.{◌≡◌, ℕ, Bool, true, ◌↔◌, List}
 use Rattle.term_forms.specs.Elements.{Element}
 use Rattle.heap_cells.specs.Cells.{Cell}
-use Rattle.heap_reach.specs.Reached.{IsIn, IsClosed, Leads, Begun, Reached}
+use Rattle.heap_reach.specs.Reached.{IsIn, IsClosed, Leads, Begun, Reached, AreReached}
 use Rattle.heap_reach.specs.Rounds.{reached_from}
 
 -- the roots are reached, and with a reached cell each to which it leads
@@ -17,7 +17,7 @@ IsLeast = (cells : List Cell) (begun set : List Bool) → ((n : ℕ) → IsIn be
 
 -- one root after others reaches what all of them reach together
 abbrev pub IsSameAtOnce : Type 0
-IsSameAtOnce = (cells : List Cell) (begun set : List Bool) (e : Element) → ((n : ℕ) → IsIn set n ↔ Reached cells (IsIn begun) n)
+IsSameAtOnce = (cells : List Cell) (begun set : List Bool) (e : Element) → AreReached cells (IsIn begun) set
     → (n : ℕ) → Reached cells (Begun cells set e) n ↔ Reached cells (Begun cells begun e) n
 
 -- the rounds find exactly the reached cells

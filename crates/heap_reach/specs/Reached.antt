@@ -1,17 +1,13 @@
 -- The cells that roots reach: the least set that contains the roots and, for each of
 -- its cells, those to which that cell leads. Cells are identified by their numbers.
-use Rattle.std.specs.Prelude.{◌≡◌, ℕ, Bool, true, false, ◌⊎◌, List, map, slice_get, slice_index_or, Some}
+use Rattle.std.specs.Prelude.{◌≡◌, ℕ, Bool, true, false, ◌⊎◌, ◌↔◌, List, slice_get, slice_index_or, Some}
 use Rattle.std.specs.Option.{option_map}
 use Rattle.term_forms.specs.Elements.{Element}
 use Rattle.term_forms.specs.Forms.{SubBin}
 use Rattle.cell_records.specs.declared.cells.Kind.TheVariants.{HeapBin}
 use Rattle.heap_cells.specs.Cells.{Cell, kind_of}
-use Rattle.heap_cells.specs.HeapMap.{HeapMap, elements_at, form_at, number_at}
-use Rattle.heap_cells.specs.Targets.{Target, At, target}
-
--- where the elements of a cell's form lead, including the keys element of a flat map; a malformed cell has none
-abbrev pub targets_at : List Cell → ℕ → List Target
-targets_at cells number = map (target cells) (elements_at cells number)
+use Rattle.heap_cells.specs.HeapMap.{HeapMap, form_at, number_at}
+use Rattle.heap_cells.specs.Targets.{Target, At, target, targets_at}
 
 -- one of the targets is the cell
 abbrev pub IsAmong : List Target → ℕ → Type 0
@@ -50,6 +46,10 @@ IsIn marks n = is_in marks n ≡ true
 -- the cells of a set, and the one to which an element refers
 abbrev pub Begun : List Cell → List Bool → Element → ℕ → Type 0
 Begun cells marks e n = IsIn marks n ⊎ (target cells e ≡ At n)
+
+-- the set is that of the cells that these roots reach
+abbrev pub AreReached : List Cell → (ℕ → Type 0) → List Bool → Type 0
+AreReached cells Root marks = (n : ℕ) → IsIn marks n ↔ Reached cells Root n
 
 -- a set that has, for each of its cells, those to which that cell leads
 abbrev pub IsClosed : List Cell → List Bool → Type 0

@@ -1,14 +1,14 @@
 -- The reached cells as a value: a set of cells is a test of
 -- their numbers, and what elements reach is found in rounds.
-use Rattle.std.specs.Prelude.{◌≡◌, ℕ, zero, suc, ◌==◌, Bool, true, false, ◌&&◌, ◌||◌, List, length}
+use Rattle.std.specs.Prelude.{◌≡◌, ℕ, zero, suc, ◌==◌, Bool, true, false, ◌&&◌, ◌||◌, List, ◌++◌, length}
 use Rattle.std.specs.List.{list_any}
 use Rattle.std.specs.Option.{option_map_or}
 use Rattle.term_forms.specs.Elements.{Element}
 use Rattle.term_forms.specs.Forms.{HeapForm, HeapBin, SubBin}
 use Rattle.heap_cells.specs.Cells.{Cell}
 use Rattle.heap_cells.specs.HeapMap.{form_at, number_at}
-use Rattle.heap_cells.specs.Targets.{Target, At, target}
-use Rattle.heap_reach.specs.Reached.{Reaching, is_in, targets_at}
+use Rattle.heap_cells.specs.Targets.{Target, At, target, targets_at}
+use Rattle.heap_reach.specs.Reached.{Reaching, is_in}
 
 -- whether the target is the cell
 abbrev pub is_at : ℕ → Target → Bool
@@ -58,3 +58,7 @@ reached_by cells roots n = reached_from cells (is_referred cells roots) n
 -- exactly the cells that these elements reach are marked
 abbrev pub IsReachOf : Reaching → List Element → Type 0
 IsReachOf reach roots = (n : ℕ) → is_in reach.marks n ≡ reached_by reach.heap.cells roots n
+
+-- to what some elements reach, that of these further ones was added
+abbrev pub AddsRoots : Reaching → Reaching → List Element → Type 0
+AddsRoots before after more = (roots : List Element) → IsReachOf before roots → IsReachOf after (roots ++ more)

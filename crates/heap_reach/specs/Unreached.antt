@@ -1,6 +1,6 @@
 -- The addresses of the cells that aren't in a set, and how
 -- many are in one. A set of cells is a test of their numbers.
-use Rattle.std.specs.Prelude.{◌≡◌, ℕ, zero, suc, ◌+◌, ◌<◌, ◌==◌, nat_lt, Bool, true, false, if◌then◌else◌, List, [], ◌∷◌, ◌++◌, Option, Some}
+use Rattle.std.specs.Prelude.{◌≡◌, ◌↔◌, Contains, ℕ, zero, suc, ◌+◌, ◌<◌, ◌==◌, nat_lt, Bool, true, false, if◌then◌else◌, List, [], ◌∷◌, ◌++◌, Option, Some}
 use Rattle.heap_cells.specs.Cells.{Cell}
 use Rattle.heap_cells.specs.HeapMap.{HeapMap, address_at}
 
@@ -20,6 +20,10 @@ pub record IsMissed (cells : List Cell) (set : ℕ → Bool) (count address : �
   pub own : number < count
   pub off : set number ≡ false
   pub here : address_at cells number ≡ Some address
+
+-- these are the addresses of the heap's own cells that aren't in the set
+abbrev pub AreMissed : HeapMap → (ℕ → Bool) → List ℕ → Type 0
+AreMissed heap set addresses = (address : ℕ) → Contains addresses address ↔ IsMissed heap.cells set heap.own address
 
 -- a number inserted among numbers that rise
 abbrev pub inserted : ℕ → List ℕ → List ℕ

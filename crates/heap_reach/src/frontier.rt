@@ -20,7 +20,11 @@ impl Model for Marked {
 
     ghost Value = { Frontier };
 
-    ghost view = { λ m. record { marks = m.marks.items; reserved = vec_capacity m.waiting; waiting = reverse m.waiting.items } };
+    ghost view = { λ m. record {
+      marks = m.marks.items;
+      reserved = vec_capacity m.waiting;
+      waiting = reverse m.waiting.items;
+    } };
 
     ghost invariant = { λ m. IsTied m.marks.items (vec_capacity m.waiting) (reverse m.waiting.items) };
 }
@@ -71,8 +75,10 @@ impl Marked {
     pub fn pop(&mut self) -> Option<u32>
         ensures marks { self.new.marks ≡ self.old.marks }
         ensures reserved { self.new.reserved ≡ self.old.reserved }
-        ensures popped { MatchOption result (self.old.waiting ≡ []) (λ cell. self.old.waiting ≡ cell ∷ self.new.waiting) }
-        ensures empty { MatchOption result (self.new.waiting ≡ []) (λ cell. cell < length self.old.marks) }
+        ensures popped { MatchOption result (self.old.waiting ≡ [])
+            (λ cell. self.old.waiting ≡ cell ∷ self.new.waiting) }
+        ensures empty { MatchOption result (self.new.waiting ≡ [])
+            (λ cell. cell < length self.old.marks) }
         ensures marked { IfSome result (λ cell. IsIn self.old.marks cell) }
     {
         self.waiting.pop()

@@ -1,13 +1,12 @@
 // Marking what the roots of a heap reach.
-ghost use Rattle.std.specs.Prelude.{◌≡◌, ℕ, ◌<◌, ◌↔◌, List, [], ◌∷◌, ◌++◌, length, map, All, Contains, IfOk, OnOk, false};
+ghost use Rattle.std.specs.Prelude.{◌≡◌, ℕ, ◌<◌, [], ◌∷◌, ◌++◌, length, map, All, IfOk, OnOk, false};
 ghost use Rattle.std.specs.List.Sorted.{IsStrictlyIncreasing};
-ghost use Rattle.term_forms.specs.Elements.{Element};
 ghost use Rattle.term_forms.specs.Seen.{element};
 ghost use Rattle.heap_cells.specs.HeapMap.{address_at};
 ghost use Rattle.heap_cells.specs.Targets.{At, number, target, slot_target, IsWithin};
-ghost use Rattle.heap_reach.specs.Reached.{Reached, is_in, IsIn, Begun, Leads, IsAmong, IsBinAt, IsPartOf};
-ghost use Rattle.heap_reach.specs.Rounds.{IsReachOf};
-ghost use Rattle.heap_reach.specs.Unreached.{missed, missed_below, unreached_of, IsMissed};
+ghost use Rattle.heap_reach.specs.Reached.{is_in, IsIn, Begun, Leads, IsAmong, IsBinAt, IsPartOf, AreReached};
+ghost use Rattle.heap_reach.specs.Rounds.{IsReachOf, AddsRoots};
+ghost use Rattle.heap_reach.specs.Unreached.{missed, missed_below, unreached_of, AreMissed};
 ghost use Rattle.heap_reach.specs.Inner.Frontiers.{Adds, IsLooked, IsSettled};
 
 use crate::frontier::Marked;
@@ -79,7 +78,7 @@ fn spread(heap: &Heap, marked: &mut Marked)
     requires looked { IsLooked heap.now.cells marked.old }
     ensures settled { IsSettled heap.now.cells marked.new }
     ensures reserved { marked.new.reserved ≡ marked.old.reserved }
-    ensures reached { (n : ℕ) → IsIn marked.new.marks n ↔ Reached heap.now.cells (IsIn marked.old.marks) n }
+    ensures reached { AreReached heap.now.cells (IsIn marked.old.marks) marked.new.marks }
 {
     while let Some(n) = marked.pop() {
         look_at(heap, marked, heap.cell(n));
@@ -102,7 +101,8 @@ fn add_root(heap: &Heap, marked: &mut Marked, root: &Elem<'_>)
 fn push_missed(found: &mut Vec<u64>, heap: &Heap, marked: &Marked, n: u32) -> Result<(), AllocError>
     requires marks { length marked.now.marks ≡ length heap.now.cells }
     requires cell { n < length heap.now.cells }
-    ensures { OnOk result (found.new.items ≡ found.old.items ++ missed (is_in marked.now.marks n) (address_at heap.now.cells n)) }
+    ensures { OnOk result (found.new.items
+        ≡ found.old.items ++ missed (is_in marked.now.marks n) (address_at heap.now.cells n)) }
 {
     if !marked.contains(n) {
         found.push(heap.addr(heap.cell(n)))?;
@@ -113,7 +113,8 @@ fn push_missed(found: &mut Vec<u64>, heap: &Heap, marked: &Marked, n: u32) -> Re
 // The addresses of the heap's own cells that aren't marked, in the order of the cells.
 fn missed_cells(alloc: Global, heap: &Heap, marked: &Marked) -> Result<Vec<u64>, AllocError>
     requires { length marked.now.marks ≡ length heap.now.cells }
-    ensures { IfOk result (λ found. found.items ≡ missed_below heap.now.cells (is_in marked.now.marks) heap.now.own) }
+    ensures { IfOk result (λ found. found.items
+        ≡ missed_below heap.now.cells (is_in marked.now.marks) heap.now.own) }
 {
     let mut found = Vec::new(alloc);
     for n in 0..heap.own() {
@@ -139,7 +140,11 @@ impl<'h> Model for Reach<'h> {
 
     ghost Value = { Reaching };
 
-    ghost view = { λ r. record { heap = r.heap.now; marks = r.marked.marks; reserved = r.marked.reserved } };
+    ghost view = { λ r. record {
+      heap = r.heap.now;
+      marks = r.marked.marks;
+      reserved = r.marked.reserved;
+    } };
 
     ghost invariant = { λ r. IsBounded r.heap.now × IsSettled r.heap.now.cells r.marked };
 }
@@ -163,8 +168,9 @@ impl<'h> Reach<'h> {
     pub fn root(&mut self, root: Elem<'_>)
         ensures heap { self.new.heap ≡ self.old.heap }
         ensures reserved { self.new.reserved ≡ self.old.reserved }
-        ensures reached { (n : ℕ) → IsIn self.new.marks n ↔ Reached self.old.heap.cells (Begun self.old.heap.cells self.old.marks (element root.entry)) n }
-        ensures roots { (roots : List Element) → IsReachOf self.old roots → IsReachOf self.new (roots ++ element root.entry ∷ []) }
+        ensures reached { let cells = self.old.heap.cells in
+            AreReached cells (Begun cells self.old.marks (element root.entry)) self.new.marks }
+        ensures roots { AddsRoots self.old self.new (element root.entry ∷ []) }
     {
         add_root(self.heap, &mut self.marked, &root);
         spread(self.heap, &mut self.marked);
@@ -181,8 +187,10 @@ impl<'h> Reach<'h> {
     /// The addresses of the heap's own cells that aren't reached, ascending.
     pub fn unreached(&self, alloc: Global) -> Result<Vec<u64>, AllocError>
         ensures ascending { IfOk result (λ found. IsStrictlyIncreasing found.items) }
-        ensures each { IfOk result (λ found. (address : ℕ) → Contains found.items address ↔ IsMissed self.now.heap.cells (is_in self.now.marks) self.now.heap.own address) }
-        ensures value { IfOk result (λ found. found.items ≡ unreached_of self.now.heap (is_in self.now.marks)) }
+        ensures each { IfOk result (λ found.
+            AreMissed self.now.heap (is_in self.now.marks) found.items) }
+        ensures value { IfOk result (λ found.
+            found.items ≡ unreached_of self.now.heap (is_in self.now.marks)) }
     {
         let mut found = missed_cells(alloc, self.heap, &self.marked)?;
         found.sort_unstable();

@@ -34,6 +34,9 @@ use Rattle.dump_sections.specs.Index.{index_of}
 use Rattle.dump_sections.specs.Versions.{signature}
 use Rattle.json_report.specs.Laws.{AreCounts, Has64Bits, AreOfFile, ReadsBack}
 use Rattle.json_report.proofs.ReadingBack.{reads-back}
+use Rattle.dump_io.specs.Laws.Lines.{length-text_of}
+use Rattle.dump_sections.specs.TilingLaws.{Tile-size}
+use Rattle.field_lines.specs.Laws.{length-without_space}
 use Rattle.process_table.specs.Laws.{All-first_of_each}
 
 -- ---- lists
@@ -73,17 +76,6 @@ total-lines : (bytes : List ℕ) → total length (raw_lines bytes) ≡ length b
 total-lines [] = refl
 total-lines (c ∷ bytes) = total-pair c bytes (c == lf) (total-lines bytes)
 
-length-cut : (n : ℕ) (raw : List ℕ) → length (take n raw) ≤ length raw
-length-cut n raw = omega (arith, length-take n raw)
-
-length-chosen : (raw : List ℕ) (a b : Bool) → length (if a then take (length raw - 2) raw else (if b then take (length raw - 1) raw else raw)) ≤ length raw
-length-chosen raw true b = length-cut (length raw - 2) raw
-length-chosen raw false true = length-cut (length raw - 1) raw
-length-chosen raw false false = omega arith
-
-length-text_of : (raw : List ℕ) → length (text_of raw) ≤ length raw
-length-text_of raw = length-chosen raw (ends_with nat_eq raw (cr ∷ lf ∷ [])) (ends_with nat_eq raw (lf ∷ []))
-
 lines-inside : (at : ℕ) (raws : List (List ℕ)) → All (λ line. line.at + length line.text ≤ at + total length raws) (map text_line (lines_from at raws))
 lines-inside at [] = All-nil (λ line. line.at + length line.text ≤ at + 0)
 lines-inside at (raw ∷ raws) =
@@ -95,14 +87,6 @@ text-inside : (body : List ℕ) → All (λ line. line.at + length line.text ≤
 text-inside body = let all = lines-inside 0 (raw_lines body) in λ k d l. omega (arith, all k d l, total-lines body)
 
 -- ---- fields
-
-length-without_space : (text : List ℕ) → length (without_space text) ≤ length text
-length-without_space [] = omega arith
-length-without_space (c ∷ text) = of (c == 32)
-  where
-    of : (b : Bool) → length (if b then text else c ∷ text) ≤ length (c ∷ text)
-    of true = omega arith
-    of false = omega arith
 
 -- a key and a value together are no longer than their line
 length-parts : (text : List ℕ) → length (key_of text) + length (value_of text) ≤ length text
@@ -232,10 +216,6 @@ pub record LiesIn (size : ℕ) (s : Section) : Type 0 where
   pub body : s.body ≤ s.end
   pub end : s.end ≤ size
 
-Tile-rises : (from size : ℕ) (ss : List Section) → Tile from size ss → from ≤ size
-Tile-rises from size [] tiled = omega (arith, tiled)
-Tile-rises from size (s ∷ ss) tiled = omega (arith, tiled.0, tiled.1, tiled.2, Tile-rises s.end size ss tiled.3)
-
 -- together the sections have the bytes between the first and the end
 pub total-spans : (from size : ℕ) (ss : List Section) → Tile from size ss → from + total span ss ≡ size
 total-spans from size [] tiled = omega (arith, tiled)
@@ -244,7 +224,7 @@ total-spans from size (s ∷ ss) tiled = omega (arith, tiled.0, tiled.1, tiled.2
 pub all-lie : (from size : ℕ) (ss : List Section) → Tile from size ss → All (LiesIn size) ss
 all-lie from size [] tiled = All-nil (LiesIn size)
 all-lie from size (s ∷ ss) tiled =
-    All-cons (LiesIn size) s ss (record { header = tiled.1; body = tiled.2; end = Tile-rises s.end size ss tiled.3 }) (all-lie s.end size ss tiled.3)
+    All-cons (LiesIn size) s ss (record { header = tiled.1; body = tiled.2; end = Tile-size s.end size ss tiled.3 }) (all-lie s.end size ss tiled.3)
 
 -- where the section at a place begins, or where there is none
 at-or-none : (size : ℕ) (s : Option Section) → ((x : Section) → s ≡ Some x → LiesIn size x) → (unwrap_or s (section 0 0 0 [])).at ≤ size

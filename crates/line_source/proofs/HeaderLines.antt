@@ -1,8 +1,8 @@
 -- The bytes of a header line, up to its LF or to the end of the piece.
-use Rattle.std.proofs.Common.{◌≡◌, ℕ, zero, suc, ◌+◌, ◌-◌, ◌<◌, ◌≤◌, true, false, List, [], ◌∷◌, ◌++◌, length, take, drop, get_or, Option, Some, refl, sym, ◌∙◌, ap, append-nil, arith, ◌==◌, nat_lt}
+use Rattle.std.proofs.Common.{◌≡◌, ℕ, zero, suc, ◌+◌, ◌-◌, ◌<◌, ◌≤◌, true, false, List, [], ◌∷◌, ◌++◌, length, take, drop, Option, Some, refl, sym, ◌∙◌, ap, append-nil, arith, ◌==◌, nat_lt}
 use Rattle.std.specs.Prelude.{All, slice_get}
-use Rattle.std.proofs.lemmas.Bool.{eqb-true, and_from, le-ltb, lt-ltb, le-leb, not_from_false, false_from_ne_true}
-use Rattle.std.proofs.lemmas.List.{take_more, drop_more, take-append-drop, length_push}
+use Rattle.std.proofs.lemmas.Bool.{and_from, le-ltb, lt-ltb, le-leb, not_from_false, false_from_ne_true}
+use Rattle.std.proofs.lemmas.List.{drop_more, take-append-drop, length_push}
 use Rattle.std.proofs.lemmas.List.Elements.{All-weaker, All-same}
 use Rattle.memchr.specs.Find.{Nowhere, Passes, is_byte}
 use Rattle.dump_io.specs.Lines.{lf, text_of, Header}
@@ -13,8 +13,9 @@ use Rattle.line_source.specs.Inner.Ends.{EndsTooLong, EndsRefused}
 use Rattle.line_source.specs.Inner.LastLine.{header_bytes, is_header_line}
 use Rattle.line_source.proofs.Walk.{last_by, heard_by, long_by, last_by-append, heard_by-append, long_by-append}
 use Rattle.line_source.proofs.Pieces.{Lies, held, heard_by-lies, long_by-from}
-use Rattle.line_source.proofs.Stretches.{lacks_lf, last_by-header, heard_by-header, long_by-header, passes}
+use Rattle.line_source.proofs.Stretches.{last_by-header, heard_by-header, long_by-header, passes}
 use Rattle.line_source.proofs.Scans.{too_long-walked, new_headers-walked, StandsFor-more}
+use Rattle.dump_io.specs.Laws.LineFeeds.{lacks_lf}
 use Rattle.dump_io.specs.Laws.Lists.{filter-none}
 
 -- bytes before the first LF
@@ -98,9 +99,6 @@ EndsRefused-here scan s t x more before after stop refused stands line low lacks
 -- the bytes around an LF
 pub around-lf : (rest : List ℕ) (end : ℕ) → end < length rest → Passes (is_byte lf) rest end → take end rest ++ lf ∷ drop (end + 1) rest ≡ rest
 around-lf rest end inside is = grind (arith, drop_more, take-append-drop)
-
-pub up-to-lf : (rest : List ℕ) (end : ℕ) → end < length rest → Passes (is_byte lf) rest end → take (end + 1) rest ≡ take end rest ++ lf ∷ []
-up-to-lf rest end inside is = take_more rest end 0 inside ∙ ap (λ b. take end rest ++ b ∷ []) (eqb-true (get_or rest end 0) lf is)
 
 -- the line has its LF
 pub StandsFor-line : (scan after : Scan) (s t x : List ℕ) → StandsFor scan s → scan.last ≡ header t → length t ≤ scan.offset → lacks_lf x ≡ true

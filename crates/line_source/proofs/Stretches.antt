@@ -1,14 +1,13 @@
 -- Stretches of the stream in which no header begins, and the bytes of one header line.
 use Rattle.std.proofs.Common.{◌≡◌, ℕ, zero, suc, ◌+◌, ◌-◌, ◌≤◌, Bool, true, false, not, ◌&&◌, List, [], ◌∷◌, ◌++◌, length, take, get_or, refl, sym, ◌∙◌, ap, append_assoc, append-nil, arith, if◌then◌else◌, ◌==◌, nat_le, nat_lt}
-use Rattle.std.specs.List.{list_all}
-use Rattle.std.proofs.lemmas.Bool.{cond-false, and_parts, not-true}
+use Rattle.std.proofs.lemmas.Bool.{cond-false, not-true}
 use Rattle.std.proofs.lemmas.List.{length_push, get_or-take, length-take-le}
 use Rattle.memchr.specs.Find.{Nowhere}
 use Rattle.dump_io.specs.Lines.{lf}
+use Rattle.dump_io.specs.Laws.LineFeeds.{lacks_lf, lacks_lf-head, lacks_lf-tail}
 use Rattle.line_source.specs.Streams.{LastLine, ended, plain, header}
 use Rattle.line_source.specs.Inner.Starts.{begins_line, BeginsHeader}
 use Rattle.line_source.proofs.Walk.{step, heard_at, long_at, last_by, heard_by, long_by}
-use Rattle.std.proofs.Math.Bool.{not-not}
 
 -- a last line that is no header's
 abbrev pub other_line : Bool → LastLine
@@ -49,27 +48,17 @@ last_by-quiet begun b [] quiet = step-quiet begun b [] quiet
 last_by-quiet begun b (c ∷ cs) quiet =
     ap (λ l. last_by l (c ∷ cs)) (step-quiet begun b (c ∷ cs) quiet) ∙ last_by-quiet (not (b == lf)) c cs (Nowhere-next begun b (c ∷ cs) quiet)
 
--- bytes without an LF
-abbrev pub lacks_lf : List ℕ → Bool
-lacks_lf bytes = list_all (λ b. not (b == lf)) bytes
-
-lacks-head : (b : ℕ) (bs : List ℕ) → lacks_lf (b ∷ bs) ≡ true → (b == lf) ≡ false
-lacks-head b bs e = not-true (b == lf) (and_parts _ _ e).0
-
-lacks-tail : (b : ℕ) (bs : List ℕ) → lacks_lf (b ∷ bs) ≡ true → lacks_lf bs ≡ true
-lacks-tail b bs e = (and_parts _ _ e).1
-
 step-header : (t : List ℕ) (b : ℕ) → (b == lf) ≡ false → step (header t) b ≡ header (t ++ b ∷ [])
 step-header t b e = cond-false (b == lf) _ _ e
 
 -- more bytes of a header line
 pub last_by-header : (t x : List ℕ) → lacks_lf x ≡ true → last_by (header t) x ≡ header (t ++ x)
 last_by-header t [] e = ap header (sym (append-nil t))
-last_by-header t (b ∷ bs) e = grind (arith, last_by-header (t ++ b ∷ []) bs (lacks-tail b bs e), append_assoc)
+last_by-header t (b ∷ bs) e = grind (arith, last_by-header (t ++ b ∷ []) bs (lacks_lf-tail b bs e), append_assoc)
 
 pub heard_by-header : (n : ℕ) (t x : List ℕ) → lacks_lf x ≡ true → heard_by n (header t) x ≡ []
 heard_by-header n t [] e = refl
-heard_by-header n t (b ∷ bs) e = grind (arith, heard_by-header (n + 1) (t ++ b ∷ []) bs (lacks-tail b bs e))
+heard_by-header n t (b ∷ bs) e = grind (arith, heard_by-header (n + 1) (t ++ b ∷ []) bs (lacks_lf-tail b bs e))
 
 -- whether the limit is passed within m bytes behind k others
 abbrev pub passes : ℕ → ℕ → ℕ → Bool
@@ -88,7 +77,7 @@ long_by-header limit n t [] fits e = passes-none limit (length t) (n - length t)
 long_by-header limit n t (b ∷ bs) fits e =
     let size : length (t ++ b ∷ []) ≡ length t + 1 = length_push t b in
     let same : n + 1 - length (t ++ b ∷ []) ≡ n - length t = omega (arith, size) in
-    cc (step-header t b (lacks-head b bs e), long_by-header limit (n + 1) (t ++ b ∷ []) bs (omega (arith, size, fits)) (lacks-tail b bs e), passes-more limit (length t) (length bs) (n - length t))
+    cc (step-header t b (lacks_lf-head b bs e), long_by-header limit (n + 1) (t ++ b ∷ []) bs (omega (arith, size, fits)) (lacks_lf-tail b bs e), passes-more limit (length t) (length bs) (n - length t))
 
 -- the line after a stretch in which no header begins
 pub last_by-stretch : (begun : Bool) (p : List ℕ) (m : ℕ) → length p ≡ suc m → Nowhere (BeginsHeader begun p) 0 (length p)

@@ -10,11 +10,11 @@ use Rattle.line_source.specs.Scan.{Scan, StandsFor}
 use Rattle.line_source.specs.declared.header_sink.RefusedHeader.{RefusedHeader}
 use Rattle.line_source.specs.Inner.Ends.{EndsRefused}
 use Rattle.line_source.proofs.Walk.{last_by, heard_by, long_by}
-use Rattle.line_source.proofs.Stretches.{lacks_lf}
+use Rattle.dump_io.specs.Laws.LineFeeds.{lacks_lf, upto-lf}
 use Rattle.line_source.proofs.Scans.{StandsFor-more, new_headers-walked}
 use Rattle.line_source.proofs.Pieces.{new_headers-append}
 use Rattle.line_source.proofs.Joins.{EndsRefused-later}
-use Rattle.line_source.proofs.HeaderLines.{lacks-before, EndsRefused-here, around-lf, up-to-lf, StandsFor-line, new_headers-line}
+use Rattle.line_source.proofs.HeaderLines.{lacks-before, EndsRefused-here, around-lf, StandsFor-line, new_headers-line}
 
 -- a scan that took the equals sign of a header's line
 abbrev pub begun : Scan → Scan
@@ -61,7 +61,7 @@ module _ (scan : Scan) (s : List ℕ) (stands : StandsFor scan s) (line : scan.l
     stands_begun = StandsFor-begun (omega (arith, some, fits))
 
     whole : take (end + 1) rest ≡ equals_sign ∷ (take (end - 1) (drop 1 rest) ++ lf ∷ [])
-    whole = up-to-lf rest end inside here ∙ ap (λ l. l ++ lf ∷ []) split
+    whole = upto-lf rest end inside here ∙ ap (λ l. l ++ lf ∷ []) split
 
     pub stands-heard : (after : Scan) → after.limit ≡ scan.limit → after.offset ≡ scan.offset + length (take end rest) + 1 → after.last ≡ ended
         → StandsFor after (s ++ take (end + 1) rest)

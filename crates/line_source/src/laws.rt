@@ -12,9 +12,13 @@ ghost use Rattle.line_source.specs.Growth.{TooLongGrows};
 /// it. The headers that more bytes bring begin after the first line that is too long,
 /// and the lines that they make too long begin after each header that has its LF.
 pub fn streams_grow()
-    ensures headers { (stream : List ℕ) → headers stream ≡ ended_headers stream ++ open_headers stream }
-    ensures ended { (stream more : List ℕ) → ended_headers (stream ++ more) ≡ ended_headers stream ++ new_headers stream more }
+    ensures headers { (stream : List ℕ)
+        → headers stream ≡ ended_headers stream ++ open_headers stream }
+    ensures ended { (stream more : List ℕ)
+        → ended_headers (stream ++ more) ≡ ended_headers stream ++ new_headers stream more }
     ensures too_long { (limit : ℕ) (stream more : List ℕ) → TooLongGrows limit stream more }
-    ensures after_too_long { (limit at : ℕ) (stream more : List ℕ) → first_too_long limit stream ≡ Some at
-        → All (λ header. at ≤ header.at) (new_headers stream more ++ open_headers (stream ++ more)) }
+    ensures after_too_long { (limit at : ℕ) (stream more : List ℕ)
+        → first_too_long limit stream ≡ Some at
+        → All (λ header. at ≤ header.at)
+            (new_headers stream more ++ open_headers (stream ++ more)) }
 {}

@@ -123,10 +123,12 @@ impl LineScan {
             × (first_too_long self.old.limit (stream ++ piece.now) ≡ Some at)) }
         ensures heard_before_long { (stream : List ℕ) → StandsFor self.old stream
             → (at : ℕ) → IsErrOf result (ScanFault.HeaderTooLong at)
-            → H.heard into.new ≡ H.heard into.old ++ headers_before at (new_headers stream piece.now) }
+            → H.heard into.new
+            ≡ H.heard into.old ++ headers_before at (new_headers stream piece.now) }
         ensures refused { (stream : List ℕ) → StandsFor self.old stream
             → (refused : RefusedHeader) → H.stop into.new ≡ Some refused
-            → StopsAmong (H.heard into.old) (H.heard into.new) refused (new_headers stream piece.now) }
+            → StopsAmong (H.heard into.old) (H.heard into.new) refused
+                (new_headers stream piece.now) }
         ensures refused_is_short { (stream : List ℕ) → StandsFor self.old stream
             → (refused : RefusedHeader) → H.stop into.new ≡ Some refused
             → All (λ at. refused.at < at) (too_long self.old.limit (stream ++ piece.now)) }
@@ -202,7 +204,8 @@ impl LineScan {
             → StandsFor self.new (stream ++ take result rest.now) }
         ensures silent { (stream : List ℕ) → StandsFor self.old stream
             → new_headers stream (take result rest.now) ≡ [] }
-        ensures header { result < length rest.now → (self.new.last ≡ ended) × (slice_index rest.now result ≡ equals_sign) }
+        ensures header { result < length rest.now
+            → (self.new.last ≡ ended) × (slice_index rest.now result ≡ equals_sign) }
     {
         match header_start(rest, self.has_begun()) {
             Some(at) => {
@@ -277,10 +280,12 @@ impl LineScan {
           last = header (header_bytes self.old.last ++ part.now);
         }) }
         ensures err { OnErr result (self.new ≡ self.old) }
-        ensures fits { OnOk result (length (header_bytes self.old.last) + length part.now ≤ self.old.limit) }
-        ensures over { OnErr result (self.old.limit < length (header_bytes self.old.last) + length part.now) }
-        ensures fault { IfErr result (λ fault.
-            fault ≡ ScanFault.HeaderTooLong (self.old.offset - length (header_bytes self.old.last))) }
+        ensures fits { OnOk result
+            (length (header_bytes self.old.last) + length part.now ≤ self.old.limit) }
+        ensures over { OnErr result
+            (self.old.limit < length (header_bytes self.old.last) + length part.now) }
+        ensures fault { IfErr result (λ fault. fault
+            ≡ ScanFault.HeaderTooLong (self.old.offset - length (header_bytes self.old.last))) }
         ensures within_limit { length (header_bytes self.old.last) ≤ self.old.limit }
         ensures within_offset { length (header_bytes self.old.last) ≤ self.old.offset }
     {
@@ -326,7 +331,8 @@ impl LineScan {
         requires some { 0 < length rest.now }
         requires fits { self.old.offset + length rest.now < 2 ^ 64 }
         requires open { H.stop into.old ≡ None }
-        ensures { Takes self.old self.new rest.now (H.heard into.old) (H.heard into.new) (H.stop into.new) result }
+        ensures { Takes self.old self.new rest.now
+            (H.heard into.old) (H.heard into.new) (H.stop into.new) result }
     {
         match memchr(b'\n', rest) {
             Some(end) => {
@@ -385,7 +391,8 @@ impl LineScan {
         requires sign { slice_index rest.now 0 ≡ equals_sign }
         requires fits { self.old.offset + length rest.now < 2 ^ 64 }
         requires open { H.stop into.old ≡ None }
-        ensures { Takes self.old self.new rest.now (H.heard into.old) (H.heard into.new) (H.stop into.new) result }
+        ensures { Takes self.old self.new rest.now
+            (H.heard into.old) (H.heard into.new) (H.stop into.new) result }
     {
         match self.line_end(rest) {
             Some(end) => {
@@ -405,7 +412,8 @@ impl LineScan {
         requires some { 0 < length rest.now }
         requires fits { self.old.offset + length rest.now < 2 ^ 64 }
         requires open { H.stop into.old ≡ None }
-        ensures { Takes self.old self.new rest.now (H.heard into.old) (H.heard into.new) (H.stop into.new) result }
+        ensures { Takes self.old self.new rest.now
+            (H.heard into.old) (H.heard into.new) (H.stop into.new) result }
     {
         let passed = self.pass(rest);
         if passed == rest.len() {
@@ -427,7 +435,8 @@ impl LineScan {
         requires some { 0 < length rest.now }
         requires fits { self.old.offset + length rest.now < 2 ^ 64 }
         requires open { H.stop into.old ≡ None }
-        ensures { Takes self.old self.new rest.now (H.heard into.old) (H.heard into.new) (H.stop into.new) result }
+        ensures { Takes self.old self.new rest.now
+            (H.heard into.old) (H.heard into.new) (H.stop into.new) result }
     {
         if self.in_header() {
             self.take_header(rest, into)

@@ -1,5 +1,5 @@
 // The process table.
-ghost use Rattle.std.specs.Prelude.{◌≡◌, ℕ, List, ◌<◌, length, map, slice_get, None, Some, IfSome, IfOk, All, position};
+ghost use Rattle.std.specs.Prelude.{◌≡◌, ◌<◌, length, map, slice_get, None, Some, IfSome, IfOk, All, position};
 ghost use Rattle.std.specs.Str.{bytes_eq};
 ghost use Rattle.dump_io.specs.Dumps.{IfTold};
 ghost use Rattle.dump_sections.specs.Index.{IsBuiltOver, sections_in};
@@ -57,7 +57,10 @@ impl Model for Procs {
 
     ghost Value = { ProcessTable };
 
-    ghost view = { λ t. record { processes = all_joined (named_places t.places.items) t.fields.rows; repeated = t.repeated } };
+    ghost view = { λ t. record {
+        processes = all_joined (named_places t.places.items) t.fields.rows;
+        repeated = t.repeated;
+    } };
 
     ghost invariant = { λ t. AreJoined t.places.items t.order t.fields };
 }
@@ -125,8 +128,8 @@ impl Procs {
         limits: &Limits,
     ) -> Result<Procs, BodyFault>
         requires { IsBuiltOver (D.state dumps.old).now index.now }
-        ensures loads { LoadsBodies D.state (record_sections (sections_in index.now)) limits.now.section
-            dumps.old dumps.new result }
+        ensures loads { LoadsBodies D.state (record_sections (sections_in index.now))
+            limits.now.section dumps.old dumps.new result }
         ensures table { IfOk result (λ procs. IfTold (D.state dumps.old).now
             (λ bytes. procs ≡ process_table bytes)) }
         ensures over { IfOk result (AreProcessesOver index.now) }
@@ -151,8 +154,8 @@ impl Procs {
     ) -> Result<Procs, BodyFault>
         requires over { IsBuiltOver (D.state dumps.old).now index.now }
         requires found { found ≡ proc_places (sections_in index.now) }
-        ensures loads { LoadsBodies D.state (record_sections (sections_in index.now)) limits.now.section
-            dumps.old dumps.new result }
+        ensures loads { LoadsBodies D.state (record_sections (sections_in index.now))
+            limits.now.section dumps.old dumps.new result }
         ensures table { IfOk result (λ procs. IfTold (D.state dumps.old).now
             (λ bytes. procs ≡ process_table bytes)) }
         ensures over { IfOk result (AreProcessesOver index.now) }

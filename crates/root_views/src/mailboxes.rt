@@ -24,7 +24,8 @@ pub struct MailRoots<'a> {
 impl<'a> Model for MailRoots<'a> {
     ghost Value = { List BodyRoot };
 
-    ghost view = { λ s. option_to_list (option_map root s.token) ++ flat_map mail_line (filter has_text s.lines) };
+    ghost view = { λ s.
+        option_to_list (option_map root s.token) ++ flat_map mail_line (filter has_text s.lines) };
 
     ghost invariant = { λ s. All IsSmall s.lines };
 }

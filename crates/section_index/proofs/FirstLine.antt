@@ -1,20 +1,17 @@
 -- The first line, by the first LF.
 use Rattle.std.proofs.lemmas.Grind.{common_steps}
 use Rattle.std.proofs.Common.{◌≡◌, ℕ, suc, ◌+◌, ◌-◌, ◌<◌, ◌≤◌, Bool, true, false, not, cond, ltb, List, [], ◌∷◌, ◌++◌, length, take, drop, get_or, Option, MatchOption, None, Some, refl, sym, ◌∙◌, ap, append_assoc, append-nil, length-append, arith, if◌then◌else◌, ◌==◌, nat_eq}
-use Rattle.std.specs.List.{list_all, position, position_or_len}
+use Rattle.std.specs.List.{position, position_or_len}
 use Rattle.std.specs.Cmp.Lexicographic.{pointwise}
-use Rattle.std.proofs.lemmas.Bool.{cond-true, cond-false, and_parts, not-true, ltb-true, ltb-false, eqb-true}
+use Rattle.std.proofs.lemmas.Bool.{cond-true, cond-false, ltb-true, ltb-false, eqb-true}
 use Rattle.std.proofs.lemmas.List.{drop_at, length_push, take_all, take-append-drop, drop_more, length-take-le}
 use Rattle.std.proofs.lemmas.List.Sums.{passes_at_first}
 use Rattle.dump_io.specs.Lines.{lf, text_of}
+use Rattle.dump_io.specs.Laws.LineFeeds.{lacks_lf, lacks_lf-head, lacks_lf-tail}
 use Rattle.line_source.specs.Laws.{text_of-open}
 use Rattle.line_source.specs.Streams.{has_lf, length_before_lf}
 use Rattle.dump_sections.specs.Versions.{first_line}
 use Rattle.section_index.specs.Inner.Beginning.{is_lf}
-
--- bytes without an LF
-abbrev pub lacks_lf : List ℕ → Bool
-lacks_lf bytes = list_all (λ c. not (c == lf)) bytes
 
 -- the place of the first LF, if there is one
 abbrev pub IsFirstLf : List ℕ → Option ℕ → Type 0
@@ -45,25 +42,19 @@ first-if false bytes e =
 pub IsFirstLf-position : (bytes : List ℕ) → IsFirstLf bytes (position is_lf bytes)
 IsFirstLf-position bytes = first-if (ltb (position_or_len is_lf bytes) (length bytes)) bytes refl
 
-lacks-head : (c : ℕ) (bytes : List ℕ) → lacks_lf (c ∷ bytes) ≡ true → (c == lf) ≡ false
-lacks-head c bytes e = not-true (c == lf) (and_parts _ _ e).0
-
-lacks-tail : (c : ℕ) (bytes : List ℕ) → lacks_lf (c ∷ bytes) ≡ true → lacks_lf bytes ≡ true
-lacks-tail c bytes e = (and_parts _ _ e).1
-
 pub first_line-behind : (line more : List ℕ) → lacks_lf line ≡ true → first_line (line ++ more) ≡ line ++ first_line more
 first_line-behind [] more lacks = refl
-first_line-behind (c ∷ line) more lacks = grind (arith, first_line-behind line more (lacks-tail c line lacks))
+first_line-behind (c ∷ line) more lacks = grind (arith, first_line-behind line more (lacks_lf-tail c line lacks))
 
 last-if : (c : ℕ) → (c == lf) ≡ false → pointwise nat_eq (lf ∷ []) (c ∷ []) ≡ false
 last-if c e = grind arith
 
 has_lf-open : (line : List ℕ) → lacks_lf line ≡ true → has_lf line ≡ false
 has_lf-open [] lacks = refl
-has_lf-open (c ∷ []) lacks = last-if c (lacks-head c [] lacks)
+has_lf-open (c ∷ []) lacks = last-if c (lacks_lf-head c [] lacks)
 has_lf-open (c ∷ d ∷ line) lacks =
     let e : length (c ∷ d ∷ line) - 1 ≡ suc (length (d ∷ line) - 1) = omega arith in
-    ap (λ n. pointwise nat_eq (lf ∷ []) (drop n (c ∷ d ∷ line))) e ∙ has_lf-open (d ∷ line) (lacks-tail c (d ∷ line) lacks)
+    ap (λ n. pointwise nat_eq (lf ∷ []) (drop n (c ∷ d ∷ line))) e ∙ has_lf-open (d ∷ line) (lacks_lf-tail c (d ∷ line) lacks)
 
 has_lf-ended : (line : List ℕ) → has_lf (line ++ lf ∷ []) ≡ true
 has_lf-ended line = grind (arith, drop_at, length_push)

@@ -1,22 +1,14 @@
 -- The lines of headers that aren't too long.
-use Rattle.std.proofs.Common.{◌≡◌, ℕ, ◌+◌, ◌-◌, ◌≤◌, Bool, true, false, List, [], ◌∷◌, length, take, map, filter, if◌then◌else◌, refl, arith}
-use Rattle.std.specs.Prelude.{nat_eq, All}
-use Rattle.std.specs.List.{ends_with}
+use Rattle.std.proofs.Common.{◌≡◌, ℕ, ◌+◌, ◌≤◌, Bool, true, false, List, [], ◌∷◌, length, map, filter, if◌then◌else◌, refl, arith}
+use Rattle.std.specs.Prelude.{All}
 use Rattle.std.proofs.lemmas.Bool.{ltb-false}
-use Rattle.std.proofs.lemmas.List.{length-take}
 use Rattle.std.proofs.lemmas.List.Elements.{All-nil, All-cons}
 use Rattle.dump_io.specs.Limits.{usual}
-use Rattle.dump_io.specs.Lines.{lf, cr, raw_lines, is_header, headers, lines_from, header_of, Line, text_of}
+use Rattle.dump_io.specs.Lines.{raw_lines, is_header, headers, lines_from, header_of, Line}
+use Rattle.dump_io.specs.Laws.Lines.{length-text_of}
 use Rattle.line_source.specs.Streams.{begins_with_equals, length_before_lf, is_too_long, too_long}
 use Rattle.dump_sections.specs.Index.{HasShortLine}
 use Rattle.dump_sections.specs.TilingLaws.{line_at, headers_in}
-
--- a text is a front of its line
-chosen-short : (a b : Bool) (m n : ℕ) (raw : List ℕ) → length (if a then take m raw else (if b then take n raw else raw)) ≤ length raw
-chosen-short a b m n raw = grind (arith, length-take)
-
-text-short : (raw : List ℕ) → length (text_of raw) ≤ length raw
-text-short raw = chosen-short (ends_with nat_eq raw (cr ∷ lf ∷ [])) (ends_with nat_eq raw (lf ∷ [])) (length raw - 2) (length raw - 1) raw
 
 -- a line has at most its LF beside the bytes before it
 line-short : (raw : List ℕ) → length raw ≤ length_before_lf raw + 1
@@ -27,7 +19,7 @@ header-begins : (raw : List ℕ) → is_header raw ≡ true → begins_with_equa
 header-begins raw is = grind arith
 
 short-line : (limit at : ℕ) (raw : List ℕ) → limit ≤ usual.header → is_header raw ≡ true → is_too_long limit raw ≡ false → HasShortLine (header_of (line_at at raw))
-short-line limit at raw small is short = grind (arith, header-begins, text-short, line-short, ltb-false)
+short-line limit at raw small is short = grind (arith, header-begins, length-text_of, line-short, ltb-false)
 
 -- where no line that begins with an equals sign is too long, no header's line is
 short-lines : (limit at : ℕ) (raws : List (List ℕ)) → limit ≤ usual.header

@@ -28,7 +28,8 @@ fn first_text(first: &[u8], limit: usize) -> Option<&[u8]>
     requires { limit ≤ usual.header }
     ensures { (more : List ℕ) → IsAllOrLong first.now more
         → let line = first_line (first.now ++ more) in
-        MatchOption result (limit < length_before_lf line) (λ text. (length_before_lf line ≤ limit) × (text.now ≡ text_of line)) }
+        MatchOption result (limit < length_before_lf line)
+        (λ text. (length_before_lf line ≤ limit) × (text.now ≡ text_of line)) }
 {
     match first_lf(first) {
         Some(end) if end <= limit => Some(text_before_lf(&first[..end])),

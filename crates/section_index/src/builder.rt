@@ -141,7 +141,8 @@ pub fn build<D: Dumps>(
     limits: &Limits,
 ) -> Result<Index, OpenFault>
     ensures device { ReadsFile (D.state dumps.old) (D.state dumps.new) name.now }
-    ensures answer { (bytes : List ℕ) → IsFileOf (D.state dumps.old) (D.state dumps.new) name.now bytes
+    ensures answer { (bytes : List ℕ)
+        → IsFileOf (D.state dumps.old) (D.state dumps.new) name.now bytes
         → IsAnswerFor bytes limits.now result }
     ensures absent { IsAbsent (D.state dumps.old).files name.now → IsErrOf result OpenFault.Read }
     ensures over { IfOk result (IsBuiltOver (D.state dumps.new).now) }
@@ -149,7 +150,8 @@ pub fn build<D: Dumps>(
     ensures sections { IfOk result (λ index. length index.headers ≤ limits.now.sections) }
     ensures too_large { IfErr result (IsTooLargeFor (D.state dumps.new).now limits.now) }
     ensures read { IsErrOf result OpenFault.Read
-        → DeviceFailed (D.state dumps.old) (D.state dumps.new) ⊎ IsAbsent (D.state dumps.old).files name.now }
+        → DeviceFailed (D.state dumps.old) (D.state dumps.new)
+        ⊎ IsAbsent (D.state dumps.old).files name.now }
 {
     let Ok(size) = dumps.open_dump(name) else {
         return Err(OpenFault::Read);

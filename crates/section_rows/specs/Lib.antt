@@ -1,3 +1,4 @@
 pub mod Inner
+pub mod Laws
 pub mod Rows
 pub mod Shown

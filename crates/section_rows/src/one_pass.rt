@@ -61,8 +61,9 @@ fn see_line<'a>(
     ensures count { length cells.new ≡ length cells.old }
     ensures others { (k : ℕ) → (k ≡ c → ⊥) → get_or cells.new k None ≡ get_or cells.old k None }
     ensures settles { (body : List ℕ) (rest : List TextLine)
-        → IsSettled (shown_section section.now) body (shown_column column.now) (shown_line line.now ∷ rest) (shown_cell (get_or cells.old c None))
-        → IsSettled (shown_section section.now) body (shown_column column.now) rest (shown_cell (get_or cells.new c None)) }
+        → let Settled = IsSettled (shown_section section.now) body (shown_column column.now) in
+        Settled (shown_line line.now ∷ rest) (shown_cell (get_or cells.old c None))
+        → Settled rest (shown_cell (get_or cells.new c None)) }
     ensures over { result ≡ false → (more ≡ false)
         × IsOver (shown_column column.now) (shown_cell (get_or cells.new c None)) }
 {
@@ -91,8 +92,8 @@ fn take_line<'a>(
     requires count { length cells.old ≡ length columns.now }
     ensures count { length cells.new ≡ length columns.now }
     ensures settles { (body : List ℕ) (rest : List TextLine)
-        → AreSettled (shown_section section.now) body columns.now (shown_line line.now ∷ rest) cells.old
-        → AreSettled (shown_section section.now) body columns.now rest cells.new }
+        → let Settled = AreSettled (shown_section section.now) body columns.now in
+        Settled (shown_line line.now ∷ rest) cells.old → Settled rest cells.new }
     ensures over { result ≡ false → AreOver columns.now cells.new }
 {
     let mut more = false;

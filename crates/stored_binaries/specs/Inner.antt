@@ -1,3 +1,5 @@
--- What only private functions cite: the beginning of a body, and the sections by address.
+-- What only private functions cite: the beginning of a body, the characters of a cover, and the sections by address.
+pub mod Covers
 pub mod Leads
+pub mod Numbers
 pub mod Places

@@ -5,10 +5,11 @@ use Rattle.dump_sections.specs.Bodies.{body_of}
 use Rattle.dump_sections.specs.Index.{Contents, sections_in}
 use Rattle.binary_payloads.specs.declared.covers.Cover.{Cover}
 use Rattle.binary_payloads.specs.declared.enc.Enc.{Enc}
-use Rattle.binary_payloads.specs.Cover.{cover_of}
+use Rattle.binary_payloads.specs.Cover.{cover_of, chars_in}
 use Rattle.term_forms.specs.Words.{led_of}
 use Rattle.stored_binaries.specs.Payloads.{counted_bytes}
-use Rattle.stored_binaries.specs.StoredBinaries.{binary_section}
+use Rattle.stored_binaries.specs.StoredBinaries.{binary_section, body_at}
+use Rattle.stored_binaries.specs.declared.ranges.Range.{Range}
 
 -- how many bytes of a range are shown
 abbrev pub count_shown : ℕ → ℕ
@@ -18,7 +19,7 @@ count_shown size = min size 32
 abbrev pub covered : Enc → List ℕ → Cover → Option (List ℕ)
 covered enc chars cover =
     if nat_le (cover.first + cover.chars) (length chars)
-    then counted_bytes enc cover.bytes (take cover.chars (drop cover.first chars)) else None
+    then counted_bytes enc cover.bytes (chars_in cover chars) else None
 
 -- this many bytes of a range, from those of its cover, behind the ones that come before the range
 abbrev pub covered_range : Enc → List ℕ → Cover → ℕ → Option (List ℕ)
@@ -43,3 +44,11 @@ in_body enc offset size body = option_and_then (λ led. in_chars enc led.0 led.1
 abbrev pub in_dump : List ℕ → Contents → Enc → ℕ → ℕ → ℕ → Option (List ℕ)
 in_dump dump index enc address offset size =
     option_and_then (λ section. in_body enc offset size (body_of dump section)) (binary_section address (sections_in index))
+
+-- what is shown of a range of the binary whose section is at a place of the index
+abbrev pub in_section : List ℕ → Contents → ℕ → Enc → Range → Option (List ℕ)
+in_section dump index place enc range = in_body enc range.offset range.size (body_at dump index place)
+
+-- what is shown of a range, from the bytes of a dump
+abbrev pub range_of : List ℕ → Contents → Enc → Range → Option (List ℕ)
+range_of dump index enc range = in_dump dump index enc range.address range.offset range.size

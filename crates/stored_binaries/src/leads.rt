@@ -1,11 +1,11 @@
 // What the body of a binary begins with: the number of its bytes.
-ghost use Rattle.std.specs.Prelude.{◌≡◌, ℕ, ◌+◌, ◌≤◌, ◌<◌, List, length, take, drop, IfSome, OnOk, OnErr, IfOk};
-ghost use Rattle.dump_io.specs.Dumps.{told, DeviceFailed, ReadsAtMost};
+ghost use Rattle.std.specs.Prelude.{◌≡◌, ℕ, ◌+◌, ◌≤◌, ◌<◌, List, length, take, drop, OnOk, OnErr, IfOk};
+ghost use Rattle.dump_io.specs.Dumps.{DeviceFailed, ReadsAtMost, IfTold};
 ghost use Rattle.dump_io.specs.Limits.{usual};
-ghost use Rattle.dump_sections.specs.Bodies.{section_at, body_length, body_of};
+ghost use Rattle.dump_sections.specs.Bodies.{section_at, body_length};
 ghost use Rattle.dump_sections.specs.Index.{IsBuiltOver};
-ghost use Rattle.stored_binaries.specs.StoredBinaries.{size_stated};
-ghost use Rattle.stored_binaries.specs.Inner.Leads.{IsLeadOf};
+ghost use Rattle.stored_binaries.specs.StoredBinaries.{size_stated, body_at};
+ghost use Rattle.stored_binaries.specs.Inner.Leads.{IsLeadOf, IsLeadWithin};
 
 use dump_io::{Dumps, Failed, read_full};
 use dump_sections::Index;
@@ -44,8 +44,8 @@ pub(crate) fn read_part<D: Dumps>(
     requires within { from + length into.old ≤ body_length (section_at index.now place) }
     ensures reads { ReadsAtMost (D.state dumps.old) (D.state dumps.new) (length into.old) }
     ensures failed { OnErr result (DeviceFailed (D.state dumps.old) (D.state dumps.new)) }
-    ensures part { OnOk result ((dump : List ℕ) → (D.state dumps.old).now ≡ told dump
-        → into.new ≡ take (length into.old) (drop from (body_of dump (section_at index.now place)))) }
+    ensures part { OnOk result (IfTold (D.state dumps.old).now
+        (λ dump. into.new ≡ take (length into.old) (drop from (body_at dump index.now place)))) }
 {
     let (body, _) = body_of(index, place);
     read_full(dumps, body + from, into)
@@ -53,7 +53,7 @@ pub(crate) fn read_part<D: Dumps>(
 
 // The number of bytes with which a body begins, from the first 17 bytes of the body, or fewer: 16 digits and a colon.
 fn lead_of(front: &[u8]) -> Option<Lead>
-    ensures within { IfSome result (λ lead. lead.chars ≤ length front.now) }
+    ensures within { IsLeadWithin (length front.now) result }
     ensures lead { (body : List ℕ) → front.now ≡ take 17 body → IsLeadOf body result }
 {
     number_is_in_front();
@@ -74,8 +74,9 @@ pub(crate) fn read_lead<D: Dumps>(
     requires place { place < length index.now.headers }
     ensures reads { ReadsAtMost (D.state dumps.old) (D.state dumps.new) 17 }
     ensures failed { OnErr result (DeviceFailed (D.state dumps.old) (D.state dumps.new)) }
-    ensures within { IfOk result (λ lead. IfSome lead (λ lead. lead.chars ≤ body_length (section_at index.now place))) }
-    ensures lead { IfOk result (λ lead. (dump : List ℕ) → (D.state dumps.old).now ≡ told dump → IsLeadOf (body_of dump (section_at index.now place)) lead) }
+    ensures within { IfOk result (IsLeadWithin (body_length (section_at index.now place))) }
+    ensures lead { IfOk result (λ lead. IfTold (D.state dumps.old).now
+        (λ dump. IsLeadOf (body_at dump index.now place) lead)) }
 {
     let (_, len) = body_of(index, place);
     let mut buffer = [0; 17];
@@ -103,8 +104,8 @@ pub fn read_size<D: Dumps>(dumps: &mut D, index: &Index, i: usize) -> Result<u64
     requires place { i < length index.now.headers }
     ensures reads { ReadsAtMost (D.state dumps.old) (D.state dumps.new) 17 }
     ensures failed { OnErr result (DeviceFailed (D.state dumps.old) (D.state dumps.new)) }
-    ensures size { IfOk result (λ size. (dump : List ℕ) → (D.state dumps.old).now ≡ told dump
-        → size ≡ size_stated (body_of dump (section_at index.now i))) }
+    ensures size { IfOk result (λ size. IfTold (D.state dumps.old).now
+        (λ dump. size ≡ size_stated (body_at dump index.now i))) }
 {
     let lead = read_lead(dumps, index, i)?;
     Ok(size_of(lead))

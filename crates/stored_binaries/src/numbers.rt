@@ -1,18 +1,17 @@
 // The numbers of binaries.
-ghost use Rattle.std.specs.Prelude.{◌≡◌, ◌<◌, length, codes, slice_get, None, Some, IfSome, if◌then◌else◌};
-ghost use Rattle.std.specs.Option.{option_and_then, option_copied};
-ghost use Rattle.std.specs.Str.{bytes_eq};
-ghost use Rattle.dump_io.specs.Numbers.{hex_number};
+ghost use Rattle.std.specs.Prelude.{◌≡◌, ◌<◌, length, slice_get, Some, IfSome};
+ghost use Rattle.std.specs.Option.{option_copied};
 ghost use Rattle.dump_sections.specs.Bodies.{section_at, section_in};
 ghost use Rattle.dump_sections.specs.Index.{sections_in};
 ghost use Rattle.stored_binaries.specs.StoredBinaries.{binary_section, binary_number};
+ghost use Rattle.stored_binaries.specs.Inner.Numbers.{number_with};
 
 use dump_io::hex_u64;
 use dump_sections::Index;
 
 // The number that an id writes, if the tag is that of binaries.
 fn number_with(tag: &[u8], id: Option<&[u8]>) -> Option<u64>
-    ensures { result ≡ (if bytes_eq tag.now (codes "binary") then option_and_then hex_number (option_copied id.entry) else None) }
+    ensures { result ≡ number_with tag.now (option_copied id.entry) }
 {
     if tag == b"binary".as_slice() {
         hex_u64(id?)

@@ -1,11 +1,11 @@
 // The first bytes of ranges.
-ghost use Rattle.std.specs.Prelude.{◌≡◌, ℕ, ◌+◌, ◌≤◌, ◌<◌, List, length, take, drop, nat_le, OnErr, IfOk};
-ghost use Rattle.std.specs.Option.{option_map};
-ghost use Rattle.dump_io.specs.Dumps.{told, DeviceFailed, ReadsAtMost};
-ghost use Rattle.dump_sections.specs.Bodies.{section_at, body_length, body_of};
+ghost use Rattle.std.specs.Prelude.{◌≡◌, ◌+◌, ◌≤◌, ◌<◌, length, nat_le, OnErr, IfOk};
+ghost use Rattle.dump_io.specs.Dumps.{DeviceFailed, ReadsAtMost, IfTold};
+ghost use Rattle.dump_sections.specs.Bodies.{section_at, body_length};
 ghost use Rattle.dump_sections.specs.Index.{IsBuiltOver};
-ghost use Rattle.stored_binaries.specs.Payloads.{counted_bytes};
-ghost use Rattle.stored_binaries.specs.Ranges.{bytes_from, in_body, in_dump};
+ghost use Rattle.stored_binaries.specs.Ranges.{range_of, in_section};
+ghost use Rattle.stored_binaries.specs.StoredBinaries.{body_at};
+ghost use Rattle.stored_binaries.specs.Inner.Covers.{range_by, range_at, bytes_behind};
 
 use crate::few_bytes::FewBytes;
 use crate::leads::{Lead, body_of, read_lead, read_part};
@@ -54,7 +54,7 @@ fn decoded(chars: &[u8], enc: Enc, cover: &Cover, count: u32) -> Option<FewBytes
     requires few { count ≤ 32 }
     requires bytes { cover.now.bytes ≤ 36 }
     requires within { cover.now.skip + count ≤ cover.now.bytes }
-    ensures { result ≡ option_map (λ bytes. take count (drop cover.now.skip bytes)) (counted_bytes enc cover.now.bytes chars.now) }
+    ensures { result ≡ range_by enc cover.now count chars.now }
 {
     payload_bytes_are_read(enc);
     let mut buffer = [0; 36];
@@ -84,8 +84,8 @@ fn read_cover<D: Dumps>(
     requires within { from + cover.now.chars ≤ body_length (section_at index.now place) }
     ensures reads { ReadsAtMost (D.state dumps.old) (D.state dumps.new) 64 }
     ensures failed { OnErr result (DeviceFailed (D.state dumps.old) (D.state dumps.new)) }
-    ensures bytes { IfOk result (λ bytes. (dump : List ℕ) → (D.state dumps.old).now ≡ told dump
-        → bytes ≡ option_map (λ bytes. take count (drop cover.now.skip bytes)) (counted_bytes enc cover.now.bytes (take cover.now.chars (drop from (body_of dump (section_at index.now place)))))) }
+    ensures bytes { IfOk result (λ bytes. IfTold (D.state dumps.old).now
+        (λ dump. bytes ≡ range_at enc cover.now count from (body_at dump index.now place))) }
 {
     let mut buffer = [0; 64];
     let chars = &mut buffer[..cover.chars as usize];
@@ -111,8 +111,8 @@ fn read_bytes<D: Dumps>(
     requires chars { lead.now.chars ≤ body_length (section_at index.now place) }
     ensures reads { ReadsAtMost (D.state dumps.old) (D.state dumps.new) 64 }
     ensures failed { OnErr result (DeviceFailed (D.state dumps.old) (D.state dumps.new)) }
-    ensures bytes { IfOk result (λ bytes. (dump : List ℕ) → (D.state dumps.old).now ≡ told dump
-        → bytes ≡ bytes_from enc lead.now.length (drop lead.now.chars (body_of dump (section_at index.now place))) offset count) }
+    ensures bytes { IfOk result (λ bytes. IfTold (D.state dumps.old).now
+        (λ dump. bytes ≡ bytes_behind enc lead.now offset count (body_at dump index.now place))) }
 {
     if count == 0 {
         return Ok(Some(FewBytes::new(&[])));
@@ -150,8 +150,8 @@ fn read_shown<D: Dumps>(
     requires place { place < length index.now.headers }
     ensures reads { ReadsAtMost (D.state dumps.old) (D.state dumps.new) 128 }
     ensures failed { OnErr result (DeviceFailed (D.state dumps.old) (D.state dumps.new)) }
-    ensures bytes { IfOk result (λ bytes. (dump : List ℕ) → (D.state dumps.old).now ≡ told dump
-        → bytes ≡ in_body enc range.now.offset range.now.size (body_of dump (section_at index.now place))) }
+    ensures bytes { IfOk result (λ bytes. IfTold (D.state dumps.old).now
+        (λ dump. bytes ≡ in_section dump index.now place enc range.now)) }
 {
     let Some(lead) = read_lead(dumps, index, place)? else {
         return Ok(None);
@@ -185,8 +185,8 @@ pub fn read_range<D: Dumps>(
     requires { IsBuiltOver (D.state dumps.old).now places.now }
     ensures reads { ReadsAtMost (D.state dumps.old) (D.state dumps.new) 128 }
     ensures failed { OnErr result (DeviceFailed (D.state dumps.old) (D.state dumps.new)) }
-    ensures bytes { IfOk result (λ bytes. (dump : List ℕ) → (D.state dumps.old).now ≡ told dump
-        → bytes ≡ in_dump dump places.now enc range.now.address range.now.offset range.now.size) }
+    ensures bytes { IfOk result (λ bytes. IfTold (D.state dumps.old).now
+        (λ dump. bytes ≡ range_of dump places.now enc range.now)) }
 {
     let Some(place) = places.first(range.address) else {
         return Ok(None);

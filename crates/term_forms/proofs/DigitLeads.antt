@@ -1,5 +1,5 @@
 -- The number that leads a text, by the hex digits with which the text begins.
-use Rattle.std.proofs.Common.{◌≡◌, ℕ, zero, suc, ◌+◌, ◌-◌, ◌<◌, ◌≤◌, true, List, [], ◌∷◌, ◌++◌, length, take, drop, get_or, Option, None, Some, refl, sym, ◌∙◌, ap, arith, append_assoc, length-append}
+use Rattle.std.proofs.Common.{◌≡◌, ℕ, zero, suc, ◌+◌, ◌-◌, ◌<◌, ◌≤◌, true, List, [], ◌∷◌, ◌++◌, length, take, drop, get_or, None, Some, sym, ◌∙◌, ap, arith, append_assoc, length-append}
 use Rattle.std.specs.List.{list_all, prefix_len}
 use Rattle.std.proofs.Math.Seq.{take-append-add}
 use Rattle.std.proofs.lemmas.List.{get_or-append-add, take-append-drop, take_more}
@@ -7,10 +7,7 @@ use Rattle.dump_io.specs.Numbers.{hex_number}
 use Rattle.term_forms.specs.Words.{colon, is_hex_digit, led_of}
 use Rattle.term_forms.proofs.Hexes.{hex_parts, led_full, led_sound}
 use Rattle.term_forms.proofs.Runs.{run_over}
-
-none-of : {X : Type 0} (o : Option X) → ((x : X) → o ≡ Some x → ⊥) → o ≡ None
-none-of None never = refl
-none-of (Some x) never = absurd (never x refl)
+use Rattle.dump_io.specs.Laws.Options.{none-of}
 
 -- how many of the first 16 bytes are the digits before the first other
 abbrev digits_of : List ℕ → ℕ

@@ -1,5 +1,5 @@
 -- Hex numbers, and what stands behind one and a colon.
-use Rattle.std.proofs.Common.{◌≡◌, ℕ, ◌+◌, ◌<◌, ◌≤◌, ◌^◌, Bool, true, false, not, ◌&&◌, ◌||◌, List, [], ◌∷◌, ◌++◌, length, take, drop, get_or, Some, refl, ◌∙◌, ap, subst, arith}
+use Rattle.std.proofs.Common.{◌≡◌, ℕ, ◌+◌, ◌<◌, ◌≤◌, ◌^◌, true, false, not, ◌&&◌, List, ◌∷◌, ◌++◌, length, take, drop, get_or, Some, ◌∙◌, ap, subst, arith}
 use Rattle.std.specs.Prelude.{nat_lt, nat_le}
 use Rattle.std.specs.List.{list_all, prefix_len, position_or_len}
 use Rattle.std.specs.Str.Parse.{digits_value}
@@ -9,11 +9,12 @@ use Rattle.std.proofs.lemmas.Option.{some_pair_parts}
 use Rattle.std.proofs.Math.Seq.{take-append_seam, drop-append-add}
 use Rattle.dump_io.specs.Colons.{is_colon, has_colon, before_colon, after_colon}
 use Rattle.dump_io.specs.Numbers.{hex_number, is_numeral}
-use Rattle.dump_io.specs.Laws.Colons.{colon-within}
+use Rattle.dump_io.specs.Laws.Colons.{colon-within, has_colon-at}
 use Rattle.term_forms.specs.Words.{colon, is_hex_digit, IsLed, led_of}
 use Rattle.term_forms.specs.Reading.{◌>>=◌}
 use Rattle.term_forms.proofs.Steps.{bind_some, bind_from, guard_some, guard_from, guard_option}
-use Rattle.term_forms.proofs.Runs.{run_over, list_all_also}
+use Rattle.term_forms.proofs.Runs.{run_over}
+use Rattle.dump_io.specs.Laws.Lists.{list_all-weaker}
 
 -- what a hex number is
 pub record IsHex (text : List ℕ) (n : ℕ) : Type 0 where
@@ -45,14 +46,6 @@ no_colon c h = not_from_false (is_colon c) (false_from_ne_true (is_colon c) (λ 
 
 -- ---- the first colon
 
-or_true : (b : Bool) → (b || true) ≡ true
-or_true true = refl
-or_true false = refl
-
-has_colon-at : (hex rest : List ℕ) → has_colon (hex ++ colon ∷ rest) ≡ true
-has_colon-at [] rest = refl
-has_colon-at (c ∷ hex) rest = ap (λ b. is_colon c || b) (has_colon-at hex rest) ∙ or_true (is_colon c)
-
 -- a text is read by where its first colon stands
 led_at : (text : List ℕ) (at : ℕ) → has_colon text ≡ true → position_or_len is_colon text ≡ at
     → led_of text ≡ (hex_number (take at text) >>= λ n. Some (n, drop (at + 1) text))
@@ -64,7 +57,7 @@ led_at text at some e =
 colon_after : (hex rest : List ℕ) → list_all is_hex_digit hex ≡ true → position_or_len is_colon (hex ++ colon ∷ rest) ≡ length hex
 colon_after hex rest digits =
     let over : prefix_len (λ c. not (is_colon c)) (hex ++ colon ∷ rest) ≡ length hex + 0
-    = run_over (λ c. not (is_colon c)) hex (colon ∷ rest) (list_all_also is_hex_digit (λ c. not (is_colon c)) hex no_colon digits) in
+    = run_over (λ c. not (is_colon c)) hex (colon ∷ rest) (list_all-weaker is_hex_digit (λ c. not (is_colon c)) no_colon hex digits) in
     omega (arith, over)
 
 -- the number that leads a text, and what stands behind its colon, are read

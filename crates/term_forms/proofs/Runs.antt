@@ -21,13 +21,6 @@ pub run_passes : (p : ℕ → Bool) (xs : List ℕ) → list_all p (take (prefix
 run_passes p [] = refl
 run_passes p (x ∷ xs) = run_passes_first p x xs (prefix_len p xs) (p x) refl (run_passes p xs)
 
--- what passes one test passes another
-pub list_all_also : (p q : ℕ → Bool) (xs : List ℕ) → ((x : ℕ) → p x ≡ true → q x ≡ true) → list_all p xs ≡ true → list_all q xs ≡ true
-list_all_also p q [] also h = refl
-list_all_also p q (x ∷ xs) also h =
-    let parts = and_parts (p x) (list_all p xs) h in
-    and_from (q x) (list_all q xs) (also x parts.0) (list_all_also p q xs also parts.1)
-
 both_shorter : (b : Bool) (m n : ℕ) → m ≤ n → cond b (1 + m) 0 ≤ cond b (1 + n) 0
 both_shorter false m n h = omega arith
 both_shorter true m n h = omega (arith, h)

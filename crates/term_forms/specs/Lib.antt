@@ -1,3 +1,4 @@
+pub mod Appending
 pub mod Elements
 pub mod Forms
 pub mod Inner

@@ -1,5 +1,5 @@
 // Elements joined by commas.
-ghost use Rattle.std.specs.Prelude.{◌≡◌, ◌-◌, ◌<◌, List, [], ◌^◌, length, true, is_some, IsTrue, Some, IsSome, IfSome, IfNone};
+ghost use Rattle.std.specs.Prelude.{◌≡◌, ◌-◌, ◌<◌, List, [], ◌^◌, length, true, is_some, IsTrue, IsSome, IfSome, IfNone};
 ghost use Rattle.std.specs.Option.{option_map, option_copied};
 ghost use Rattle.std.specs.Iterator.{YieldsFirstBy, item_count};
 ghost use Rattle.term_forms.specs.Elements.{Element, IsElem};

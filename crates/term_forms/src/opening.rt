@@ -34,7 +34,11 @@ impl<'a> Model for Joined<'a> {
 
     ghost Value = { Unread };
 
-    ghost view = { λ s. record { text = s.text.now; count = s.left; elements = joined_of s.left s.rest.now } };
+    ghost view = { λ s. record {
+      text = s.text.now;
+      count = s.left;
+      elements = joined_of s.left s.rest.now;
+    } };
 
     ghost invariant = { λ s. IsEnd s.text.now s.rest.now };
 }
@@ -81,7 +85,8 @@ pub(crate) fn first_in<'a>(
 ) -> Option<(PlacedElem<'a>, &'a [u8])>
     requires end { IsEnd text.now rest.now }
     requires some { 0 < count }
-    ensures joined { joined_of count rest.now ≡ with_first (count - 1) (option_map placed_rest result) }
+    ensures joined { joined_of count rest.now
+        ≡ with_first (count - 1) (option_map placed_rest result) }
     ensures stands { IfSome result (λ found. StandsAt text.now (placed found.0)) }
     ensures end { IfSome result (λ found. IsEnd text.now found.1.now) }
 {

@@ -1,10 +1,10 @@
 // Reading forms without elements.
-ghost use Rattle.std.specs.Prelude.{◌≡◌, ◌≢◌, ◌∷◌, true, codes, IsSome};
+ghost use Rattle.std.specs.Prelude.{◌≡◌, ◌∷◌, true, IsSome};
 ghost use Rattle.std.specs.Option.{option_map, option_copied};
-ghost use Rattle.dump_io.specs.Letters.{letter};
 ghost use Rattle.term_forms.specs.ReadingForms.{form_of, float_of, bracketed_of, port_of, payload_of, range_of, binary_of, payload_test};
 ghost use Rattle.term_forms.specs.Seen.{number_rest};
 ghost use Rattle.term_forms.specs.SeenForms.{heap_form};
+ghost use Rattle.term_forms.specs.Inner.Tags.{IsPlainTag};
 
 use crate::shapes::Form;
 use crate::words::{bracketed_prefix, is_long, split_number};
@@ -110,7 +110,7 @@ fn binary(text: &[u8], enc: Enc, spelled: bool) -> Option<Form<'_>>
 // If the text is known to spell a form, the characters of its payload aren't checked.
 #[tactic(auto, unfolding(crate::specs::ReadingForms::form_of))]
 pub(crate) fn read_plain(tag: u8, text: &[u8], enc: Enc, spelled: bool) -> Option<Form<'_>>
-    requires other { (tag ≢ letter (codes "l")) × (tag ≢ letter (codes "t")) × (tag ≢ letter (codes "M")) }
+    requires other { IsPlainTag tag }
     requires known { spelled ≡ true → IsSome (form_of enc (tag ∷ text.now)) }
     ensures { option_map heap_form result ≡ form_of enc (tag ∷ text.now) }
 {

@@ -1,10 +1,10 @@
 // Writing elements and forms.
-ghost use Rattle.std.specs.Prelude.{◌∷◌, ◌++◌, length, codes, Some};
+ghost use Rattle.std.specs.Prelude.{◌∷◌, ◌++◌, length, codes};
 ghost use Rattle.dump_io.specs.Numbers.{hexadecimal};
-ghost use Rattle.dump_io.specs.Sinks.{WritesAll};
+ghost use Rattle.term_forms.specs.Appending.{Appends};
 ghost use Rattle.term_forms.specs.Elements.{plain_elem};
-ghost use Rattle.term_forms.specs.Words.{bar, colon, comma};
-ghost use Rattle.term_forms.specs.Forms.{plain_form};
+ghost use Rattle.term_forms.specs.Words.{colon, comma};
+ghost use Rattle.term_forms.specs.Forms.{plain_form, Cons, Flat, Hash};
 ghost use Rattle.term_forms.specs.Joined.{plain_joined};
 ghost use Rattle.term_forms.specs.Seen.{element};
 ghost use Rattle.term_forms.specs.SeenForms.{heap_form};
@@ -15,7 +15,7 @@ use dump_io::HexText;
 use std::alloc::AllocError;
 
 fn put_text(into: &mut Vec<u8>, text: &[u8]) -> Result<(), AllocError>
-    ensures { WritesAll (Some into.old.items) (Some into.new.items) text.now result }
+    ensures { Appends into.old into.new text.now result }
 {
     if text.is_empty() {
         return Ok(());
@@ -24,20 +24,20 @@ fn put_text(into: &mut Vec<u8>, text: &[u8]) -> Result<(), AllocError>
 }
 
 fn put_hex(into: &mut Vec<u8>, n: u64) -> Result<(), AllocError>
-    ensures { WritesAll (Some into.old.items) (Some into.new.items) (hexadecimal n) result }
+    ensures { Appends into.old into.new (hexadecimal n) result }
 {
     put_text(into, HexText::new(n).bytes())
 }
 
 fn put_tagged(into: &mut Vec<u8>, tag: &[u8], text: &[u8]) -> Result<(), AllocError>
-    ensures { WritesAll (Some into.old.items) (Some into.new.items) (tag.now ++ text.now) result }
+    ensures { Appends into.old into.new (tag.now ++ text.now) result }
 {
     put_text(into, tag)?;
     put_text(into, text)
 }
 
 fn put_address(into: &mut Vec<u8>, address: u64) -> Result<(), AllocError>
-    ensures { WritesAll (Some into.old.items) (Some into.new.items) (codes "H" ++ hexadecimal address) result }
+    ensures { Appends into.old into.new (codes "H" ++ hexadecimal address) result }
 {
     put_text(into, b"H")?;
     put_hex(into, address)
@@ -45,8 +45,7 @@ fn put_address(into: &mut Vec<u8>, address: u64) -> Result<(), AllocError>
 
 // A tag, a length, and that many bytes, or the characters that write that many.
 fn put_sized(into: &mut Vec<u8>, tag: &[u8], size: u64, text: &[u8]) -> Result<(), AllocError>
-    ensures { WritesAll (Some into.old.items) (Some into.new.items)
-        (tag.now ++ (hexadecimal size ++ colon ∷ text.now)) result }
+    ensures { Appends into.old into.new (tag.now ++ (hexadecimal size ++ colon ∷ text.now)) result }
 {
     put_text(into, tag)?;
     put_hex(into, size)?;
@@ -56,7 +55,7 @@ fn put_sized(into: &mut Vec<u8>, tag: &[u8], size: u64, text: &[u8]) -> Result<(
 /// Appends the plain spelling of an element: numbers in upper-case hex without
 /// leading zeros, a port as `p<..>`. An error leaves a part of the spelling appended.
 pub fn put_elem(into: &mut Vec<u8>, e: &Elem<'_>) -> Result<(), AllocError>
-    ensures { WritesAll (Some into.old.items) (Some into.new.items) (plain_elem (element e.now)) result }
+    ensures { Appends into.old into.new (plain_elem (element e.now)) result }
 {
     match e {
         Elem::Nil => put_text(into, b"N"),
@@ -70,14 +69,14 @@ pub fn put_elem(into: &mut Vec<u8>, e: &Elem<'_>) -> Result<(), AllocError>
 
 // An element after a comma.
 fn put_next(into: &mut Vec<u8>, e: &Elem<'_>) -> Result<(), AllocError>
-    ensures { WritesAll (Some into.old.items) (Some into.new.items) (comma ∷ plain_elem (element e.now)) result }
+    ensures { Appends into.old into.new (comma ∷ plain_elem (element e.now)) result }
 {
     put_text(into, b",")?;
     put_elem(into, e)
 }
 
 fn put_joined(into: &mut Vec<u8>, elements: &Elems<'_>) -> Result<(), AllocError>
-    ensures { WritesAll (Some into.old.items) (Some into.new.items) (plain_joined elements.now) result }
+    ensures { Appends into.old into.new (plain_joined elements.now) result }
 {
     let mut rest = elements.again();
     let Some(first) = rest.next() else {
@@ -91,14 +90,14 @@ fn put_joined(into: &mut Vec<u8>, elements: &Elems<'_>) -> Result<(), AllocError
 }
 
 fn put_count(into: &mut Vec<u8>, elements: &Elems<'_>) -> Result<(), AllocError>
-    ensures { WritesAll (Some into.old.items) (Some into.new.items) (hexadecimal (length elements.now)) result }
+    ensures { Appends into.old into.new (hexadecimal (length elements.now)) result }
 {
     put_hex(into, elements.left())
 }
 
 // A tag, the number of elements, and the elements.
 fn put_counted(into: &mut Vec<u8>, tag: &[u8], elements: &Elems<'_>) -> Result<(), AllocError>
-    ensures { WritesAll (Some into.old.items) (Some into.new.items)
+    ensures { Appends into.old into.new
         (tag.now ++ (hexadecimal (length elements.now) ++ colon ∷ plain_joined elements.now)) result }
 {
     put_text(into, tag)?;
@@ -109,8 +108,7 @@ fn put_counted(into: &mut Vec<u8>, tag: &[u8], elements: &Elems<'_>) -> Result<(
 
 // Two numbers with a colon between them.
 fn put_pair(into: &mut Vec<u8>, one: u64, other: u64) -> Result<(), AllocError>
-    ensures { WritesAll (Some into.old.items) (Some into.new.items)
-        (hexadecimal one ++ colon ∷ hexadecimal other) result }
+    ensures { Appends into.old into.new (hexadecimal one ++ colon ∷ hexadecimal other) result }
 {
     put_hex(into, one)?;
     put_text(into, b":")?;
@@ -125,7 +123,7 @@ fn put_range(
     offset: u64,
     size: u64,
 ) -> Result<(), AllocError>
-    ensures { WritesAll (Some into.old.items) (Some into.new.items)
+    ensures { Appends into.old into.new
         (tag.now ++ (hexadecimal address ++ colon ∷ (hexadecimal offset ++ colon ∷ hexadecimal size))) result }
 {
     put_text(into, tag)?;
@@ -135,8 +133,8 @@ fn put_range(
 }
 
 fn put_list(into: &mut Vec<u8>, head: &Elem<'_>, tail: &Elem<'_>) -> Result<(), AllocError>
-    ensures { WritesAll (Some into.old.items) (Some into.new.items)
-        (codes "l" ++ (plain_elem (element head.now) ++ bar ∷ plain_elem (element tail.now))) result }
+    ensures { Appends into.old into.new
+        (plain_form (Cons (element head.now) (element tail.now))) result }
 {
     put_text(into, b"l")?;
     put_elem(into, head)?;
@@ -146,7 +144,7 @@ fn put_list(into: &mut Vec<u8>, head: &Elem<'_>, tail: &Elem<'_>) -> Result<(), 
 
 // The keys element and the values, each after a colon.
 fn put_keyed(into: &mut Vec<u8>, keys: &Elem<'_>, values: &Elems<'_>) -> Result<(), AllocError>
-    ensures { WritesAll (Some into.old.items) (Some into.new.items)
+    ensures { Appends into.old into.new
         (colon ∷ (plain_elem (element keys.now) ++ colon ∷ plain_joined values.now)) result }
 {
     put_text(into, b":")?;
@@ -156,8 +154,7 @@ fn put_keyed(into: &mut Vec<u8>, keys: &Elem<'_>, values: &Elems<'_>) -> Result<
 }
 
 fn put_flat(into: &mut Vec<u8>, keys: &Elem<'_>, values: &Elems<'_>) -> Result<(), AllocError>
-    ensures { WritesAll (Some into.old.items) (Some into.new.items)
-        (codes "Mf" ++ (hexadecimal (length values.now) ++ colon ∷ (plain_elem (element keys.now) ++ colon ∷ plain_joined values.now))) result }
+    ensures { Appends into.old into.new (plain_form (Flat (element keys.now) values.now)) result }
 {
     put_text(into, b"Mf")?;
     put_count(into, values)?;
@@ -165,8 +162,7 @@ fn put_flat(into: &mut Vec<u8>, keys: &Elem<'_>, values: &Elems<'_>) -> Result<(
 }
 
 fn put_hash(into: &mut Vec<u8>, size: u64, children: &Elems<'_>) -> Result<(), AllocError>
-    ensures { WritesAll (Some into.old.items) (Some into.new.items)
-        (codes "Mh" ++ (hexadecimal size ++ colon ∷ (hexadecimal (length children.now) ++ colon ∷ plain_joined children.now))) result }
+    ensures { Appends into.old into.new (plain_form (Hash size children.now)) result }
 {
     put_text(into, b"Mh")?;
     put_hex(into, size)?;
@@ -176,7 +172,7 @@ fn put_hash(into: &mut Vec<u8>, size: u64, children: &Elems<'_>) -> Result<(), A
 /// Appends the plain spelling of a form: numbers in upper-case hex without leading zeros, a port as
 /// `p<..>`, and all that was kept of the text as it was. An error leaves a part of the spelling appended.
 pub fn put_form(into: &mut Vec<u8>, f: &Form<'_>) -> Result<(), AllocError>
-    ensures { WritesAll (Some into.old.items) (Some into.new.items) (plain_form (heap_form f.now)) result }
+    ensures { Appends into.old into.new (plain_form (heap_form f.now)) result }
 {
     match f {
         Form::List(head, tail) => put_list(into, head, tail),

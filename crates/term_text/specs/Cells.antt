@@ -65,10 +65,26 @@ word_count cells word = count_by (λ cell. bytes_eq (word_of cell.form) word) ce
 abbrev pub kind_line : List Cell → Option Kind → List ℕ
 kind_line cells kind = count_line (codes "kind") (cell_word kind) (word_count cells (cell_word kind))
 
+-- a line for each of some cells
+abbrev pub cell_lines : List Cell → List ℕ
+cell_lines cells = flat_map cell_line cells
+
+-- a line for each kind among some cells
+abbrev pub kind_lines : List Cell → List ℕ
+kind_lines cells = flat_map (kind_line cells) all_kinds
+
+-- how many cells there are
+abbrev pub count_of_cells : List Cell → List ℕ
+count_of_cells cells = total_line (codes "cells") (length cells)
+
 -- the report of some cells
 abbrev pub cells_text : List Cell → List ℕ
-cells_text cells = flat_map cell_line cells ++ (flat_map (kind_line cells) all_kinds ++ total_line (codes "cells") (length cells))
+cells_text cells = cell_lines cells ++ (kind_lines cells ++ count_of_cells cells)
 
--- the report of the heap's own cells, which come before the literals
+-- the heap's own cells, which come before the literals
+abbrev pub own_cells : HeapMap → List Cell
+own_cells heap = take heap.own heap.cells
+
+-- the report of the heap's own cells
 abbrev pub cells_report : HeapMap → List ℕ
-cells_report heap = cells_text (take heap.own heap.cells)
+cells_report heap = cells_text (own_cells heap)

@@ -23,9 +23,13 @@ content_text say Unread = codes "?"
 abbrev pub root_line : (Element → List ℕ) → ℕ → BodyRoot → List ℕ
 root_line say base root = line_of word_space (decimal (base + root.at) ∷ root.label ∷ content_text say root.content ∷ [])
 
+-- a line for each root of a body that begins at this offset
+abbrev pub root_lines : (Element → List ℕ) → ℕ → List BodyRoot → List ℕ
+root_lines say base roots = flat_map (root_line say base) roots
+
 -- the report of the roots of a body that begins at this offset
 abbrev pub roots_report : (Element → List ℕ) → ℕ → List BodyRoot → List ℕ
-roots_report say base roots = flat_map (root_line say base) roots ++ total_line (codes "roots") (length roots)
+roots_report say base roots = root_lines say base roots ++ total_line (codes "roots") (length roots)
 
 -- the report of one term: the answer to the reference to this address
 abbrev pub term_report : (Element → List ℕ) → ℕ → List ℕ

@@ -41,7 +41,8 @@ fn split_line(bytes: &[u8]) -> (&[u8], &[u8])
 }
 
 fn put_hex_lines<K: Sink>(sink: &mut K, bytes: &[u8]) -> Result<(), Failed>
-    ensures { Puts (K.state sink.old) (K.state sink.new) (hex_lines (line_count bytes.now) bytes.now) result }
+    ensures { Puts (K.state sink.old) (K.state sink.new)
+        (hex_lines (line_count bytes.now) bytes.now) result }
 {
     let mut rest = bytes;
     while !rest.is_empty() {

@@ -1,14 +1,13 @@
 // The report of `cells`.
-ghost use Rattle.std.specs.Prelude.{◌≡◌, ◌<◌, codes, decimal, length, take};
-ghost use Rattle.std.specs.List.{flat_map};
+ghost use Rattle.std.specs.Prelude.{◌≡◌, ◌<◌, decimal, length};
 ghost use Rattle.std.specs.Option.{option_and_then, option_map};
 ghost use Rattle.std.specs.Str.{bytes_eq};
 ghost use Rattle.dump_io.specs.Pieces.{piece_text};
 ghost use Rattle.dump_io.specs.Sinks.{Puts};
 ghost use Rattle.term_forms.specs.SeenForms.{heap_form};
 ghost use Rattle.heap_cells.specs.Targets.{number};
-ghost use Rattle.report_lines.specs.Lines.{text_or_dash, total_line};
-ghost use Rattle.term_text.specs.Cells.{all_kinds, cell_line, cells_report, word_count, kind_line, cell_word, form_size, word_of};
+ghost use Rattle.report_lines.specs.Lines.{text_or_dash};
+ghost use Rattle.term_text.specs.Cells.{cell_line, cells_report, word_count, kind_line, cell_word, form_size, word_of, own_cells, cell_lines, kind_lines, count_of_cells};
 ghost use Rattle.term_text.specs.Inner.Cells.{cell_at};
 
 use dump_io::{Failed, Piece, Sink};
@@ -75,7 +74,8 @@ fn size_piece<'a>(size: Option<u64>) -> Piece<'a>
 
 fn put_cell<K: Sink>(sink: &mut K, heap: &Heap, ix: CellIx) -> Result<(), Failed>
     requires { number ix < length heap.now.cells }
-    ensures { Puts (K.state sink.old) (K.state sink.new) (cell_line (cell_at heap.now.cells (number ix))) result }
+    ensures { Puts (K.state sink.old) (K.state sink.new)
+        (cell_line (cell_at heap.now.cells (number ix))) result }
 {
     put_line(
         sink,
@@ -89,7 +89,7 @@ fn put_cell<K: Sink>(sink: &mut K, heap: &Heap, ix: CellIx) -> Result<(), Failed
 }
 
 fn put_own<K: Sink>(sink: &mut K, heap: &Heap) -> Result<(), Failed>
-    ensures { Puts (K.state sink.old) (K.state sink.new) (flat_map cell_line (take heap.now.own heap.now.cells)) result }
+    ensures { Puts (K.state sink.old) (K.state sink.new) (cell_lines (own_cells heap.now)) result }
 {
     for n in 0..heap.own() {
         put_cell(sink, heap, heap.cell(n))?;
@@ -107,7 +107,7 @@ fn has_word(heap: &Heap, ix: CellIx, word: &[u8]) -> bool
 
 // How many of the heap's own cells have the kind with this word.
 fn count_of(heap: &Heap, word: &[u8]) -> u32
-    ensures { result ≡ word_count (take heap.now.own heap.now.cells) word.now }
+    ensures { result ≡ word_count (own_cells heap.now) word.now }
 {
     let mut count = 0;
     for n in 0..heap.own() {
@@ -120,7 +120,7 @@ fn count_of(heap: &Heap, word: &[u8]) -> u32
 
 // Writes a line for a kind, if the heap has cells of that kind of its own.
 fn put_kind<K: Sink>(sink: &mut K, heap: &Heap, kind: Option<Kind>) -> Result<(), Failed>
-    ensures { Puts (K.state sink.old) (K.state sink.new) (kind_line (take heap.now.own heap.now.cells) kind) result }
+    ensures { Puts (K.state sink.old) (K.state sink.new) (kind_line (own_cells heap.now) kind) result }
 {
     let word = kind_word(kind);
     put_count_line(sink, b"kind", word, u64::from(count_of(heap, word)))
@@ -145,7 +145,7 @@ const KINDS: [Option<Kind>; 14] = [
 ];
 
 fn put_kinds<K: Sink>(sink: &mut K, heap: &Heap) -> Result<(), Failed>
-    ensures { Puts (K.state sink.old) (K.state sink.new) (flat_map (kind_line (take heap.now.own heap.now.cells)) all_kinds) result }
+    ensures { Puts (K.state sink.old) (K.state sink.new) (kind_lines (own_cells heap.now)) result }
 {
     for kind in KINDS {
         put_kind(sink, heap, kind)?;
@@ -154,7 +154,7 @@ fn put_kinds<K: Sink>(sink: &mut K, heap: &Heap) -> Result<(), Failed>
 }
 
 fn put_total<K: Sink>(sink: &mut K, heap: &Heap) -> Result<(), Failed>
-    ensures { Puts (K.state sink.old) (K.state sink.new) (total_line (codes "cells") (length (take heap.now.own heap.now.cells))) result }
+    ensures { Puts (K.state sink.old) (K.state sink.new) (count_of_cells (own_cells heap.now)) result }
 {
     put_total_line(sink, b"cells", u64::from(heap.own()))
 }

@@ -1,12 +1,12 @@
 // The report of what the roots of a process reach.
-ghost use Rattle.std.specs.Prelude.{◌≡◌, ◌+◌, ◌≤◌, List, ◌++◌, length};
+ghost use Rattle.std.specs.Prelude.{◌≡◌, ◌+◌, ◌≤◌, List, length};
 ghost use Rattle.std.specs.List.{flat_map};
 ghost use Rattle.dump_io.specs.Sinks.{Puts};
 ghost use Rattle.root_views.specs.Kinds.{roots_in};
 ghost use Rattle.root_views.specs.Seen.{content};
 ghost use Rattle.term_forms.specs.Elements.{Element};
 ghost use Rattle.heap_reach.specs.Reached.{is_in};
-ghost use Rattle.heap_reach.specs.Rounds.{reached_by, IsReachOf};
+ghost use Rattle.heap_reach.specs.Rounds.{reached_by, IsReachOf, AddsRoots};
 ghost use Rattle.heap_reach.specs.Unreached.{count_below, one_if, unreached_of};
 ghost use Rattle.term_text.specs.Reach.{reach_report, term_in, root_elements, totals_line, unreached_line};
 
@@ -19,7 +19,7 @@ use root_views::{RootKind, What};
 // Adds what a root reaches, if it is a term.
 fn add_content(reach: &mut Reach<'_>, what: &What<'_>)
     ensures heap { reach.new.heap ≡ reach.old.heap }
-    ensures roots { (roots : List Element) → IsReachOf reach.old roots → IsReachOf reach.new (roots ++ term_in (content what.now)) }
+    ensures roots { AddsRoots reach.old reach.new (term_in (content what.now)) }
 {
     if let What::Term(e) = what {
         reach.root(*e);
@@ -29,7 +29,7 @@ fn add_content(reach: &mut Reach<'_>, what: &What<'_>)
 /// Adds what those roots of a body reach that are terms. Takes no memory.
 pub fn add_roots(reach: &mut Reach<'_>, kind: RootKind, body: &[u8])
     ensures heap { reach.new.heap ≡ reach.old.heap }
-    ensures roots { (roots : List Element) → IsReachOf reach.old roots → IsReachOf reach.new (roots ++ root_elements (roots_in kind body.now)) }
+    ensures roots { AddsRoots reach.old reach.new (root_elements (roots_in kind body.now)) }
 {
     for found in kind.roots(body) {
         add_content(reach, &found.what);
@@ -48,7 +48,8 @@ fn count_reached(heap: &Heap, reach: &Reach<'_>, first: u32, end: u32) -> u32
     requires heap { reach.now.heap ≡ heap.now }
     requires order { first ≤ end }
     requires within { end ≤ length heap.now.cells }
-    ensures { result + count_below (is_in reach.now.marks) first ≡ count_below (is_in reach.now.marks) end }
+    ensures { let set = is_in reach.now.marks in
+        result + count_below set first ≡ count_below set end }
 {
     let mut count = 0;
     for n in first..end {
@@ -64,7 +65,8 @@ fn put_unreached<K: Sink>(sink: &mut K, addr: u64) -> Result<(), Failed>
 }
 
 fn put_each<K: Sink>(sink: &mut K, unreached: &[u64]) -> Result<(), Failed>
-    ensures { Puts (K.state sink.old) (K.state sink.new) (flat_map unreached_line unreached.now) result }
+    ensures { Puts (K.state sink.old) (K.state sink.new)
+        (flat_map unreached_line unreached.now) result }
 {
     for addr in unreached {
         put_unreached(sink, *addr)?;
@@ -101,7 +103,8 @@ pub fn put_reach<K: Sink>(
     requires heap { reach.now.heap ≡ heap.now }
     requires unreached { unreached.now ≡ unreached_of heap.now (is_in reach.now.marks) }
     ensures { (roots : List Element) → IsReachOf reach.now roots
-        → Puts (K.state sink.old) (K.state sink.new) (reach_report heap.now (reached_by heap.now.cells roots)) result }
+        → Puts (K.state sink.old) (K.state sink.new)
+        (reach_report heap.now (reached_by heap.now.cells roots)) result }
 {
     let own = heap.own();
     let reached = count_reached(heap, reach, 0, own);

@@ -1,13 +1,12 @@
 // The reports of the roots of a process, and of one term.
 ghost use Rattle.std.specs.Prelude.{◌≡◌, ◌+◌, ◌<◌, ◌^◌, [], length, IfOk};
-ghost use Rattle.std.specs.List.{flat_map};
 ghost use Rattle.dump_io.specs.Sinks.{Puts};
 ghost use Rattle.root_views.specs.Kinds.{roots_in};
 ghost use Rattle.root_views.specs.Seen.{content, root};
 ghost use Rattle.term_forms.specs.Seen.{element};
 ghost use Rattle.term_unfold.specs.Walks.{judged_text};
 ghost use Rattle.term_text.specs.Inner.Headings.{root_heading};
-ghost use Rattle.term_text.specs.Roots.{answer_over, content_text, root_line, roots_report, term_report};
+ghost use Rattle.term_text.specs.Roots.{answer_over, content_text, root_line, roots_report, term_report, root_lines};
 
 use dump_io::{Failed, Piece, Sink, put_pieces, write_all};
 use heap_cells::Why;
@@ -17,7 +16,8 @@ use term_forms::shapes::Elem;
 use term_unfold::{Verdict, Walker, why_text};
 
 fn put_bad<K: Sink>(sink: &mut K, addr: u64, why: Why) -> Result<(), Failed>
-    ensures { Puts (K.state sink.old) (K.state sink.new) (judged_text (Verdict.Bad addr why) []) result }
+    ensures { Puts (K.state sink.old) (K.state sink.new)
+        (judged_text (Verdict.Bad addr why) []) result }
 {
     put_pieces(
         sink,
@@ -39,7 +39,8 @@ fn put_answer<K: Sink>(
     marked: bool,
 ) -> Result<(), Failed>
     requires budget { 0 < budget }
-    ensures puts { Puts (K.state sink.old) (K.state sink.new) (answer_over walker.old budget marked (element e.entry)) result }
+    ensures puts { Puts (K.state sink.old) (K.state sink.new)
+        (answer_over walker.old budget marked (element e.entry)) result }
     ensures same { walker.new ≡ walker.old }
 {
     if marked {
@@ -60,7 +61,8 @@ fn put_content<K: Sink>(
     marked: bool,
 ) -> Result<(), Failed>
     requires budget { 0 < budget }
-    ensures puts { Puts (K.state sink.old) (K.state sink.new) (content_text (answer_over walker.old budget marked) (content what.now)) result }
+    ensures puts { Puts (K.state sink.old) (K.state sink.new)
+        (content_text (answer_over walker.old budget marked) (content what.now)) result }
     ensures same { walker.new ≡ walker.old }
 {
     match what {
@@ -73,7 +75,8 @@ fn put_content<K: Sink>(
 
 fn put_heading<K: Sink>(sink: &mut K, base: u64, found: &Root<'_>) -> Result<(), Failed>
     requires { base + found.now.at < 2 ^ 64 }
-    ensures { Puts (K.state sink.old) (K.state sink.new) (root_heading base (root found.now)) result }
+    ensures { Puts (K.state sink.old) (K.state sink.new)
+        (root_heading base (root found.now)) result }
 {
     put_pieces(
         sink,
@@ -96,7 +99,8 @@ fn put_root<K: Sink>(
 ) -> Result<(), Failed>
     requires place { base + found.now.at < 2 ^ 64 }
     requires budget { 0 < budget }
-    ensures puts { Puts (K.state sink.old) (K.state sink.new) (root_line (answer_over walker.old budget marked) base (root found.now)) result }
+    ensures puts { Puts (K.state sink.old) (K.state sink.new)
+        (root_line (answer_over walker.old budget marked) base (root found.now)) result }
     ensures same { walker.new ≡ walker.old }
 {
     put_heading(sink, base, found)?;
@@ -116,7 +120,8 @@ fn put_each<K: Sink>(
 ) -> Result<u64, Failed>
     requires places { base + length body.now < 2 ^ 64 }
     requires budget { 0 < budget }
-    ensures puts { Puts (K.state sink.old) (K.state sink.new) (flat_map (root_line (answer_over walker.old budget marked) base) (roots_in kind body.now)) result }
+    ensures puts { Puts (K.state sink.old) (K.state sink.new)
+        (root_lines (answer_over walker.old budget marked) base (roots_in kind body.now)) result }
     ensures count { IfOk result (λ count. count ≡ length (roots_in kind body.now)) }
     ensures same { walker.new ≡ walker.old }
 {
@@ -146,7 +151,8 @@ pub fn put_roots<K: Sink>(
 ) -> Result<(), Failed>
     requires places { base + length body.now < 2 ^ 64 }
     requires budget { 0 < budget }
-    ensures puts { Puts (K.state sink.old) (K.state sink.new) (roots_report (answer_over walker.old budget marked) base (roots_in kind body.now)) result }
+    ensures puts { Puts (K.state sink.old) (K.state sink.new)
+        (roots_report (answer_over walker.old budget marked) base (roots_in kind body.now)) result }
     ensures same { walker.new ≡ walker.old }
 {
     let count = put_each(sink, walker, kind, body, base, budget, marked)?;
@@ -162,7 +168,8 @@ pub fn put_term<K: Sink>(
     marked: bool,
 ) -> Result<(), Failed>
     requires budget { 0 < budget }
-    ensures puts { Puts (K.state sink.old) (K.state sink.new) (term_report (answer_over walker.old budget marked) addr) result }
+    ensures puts { Puts (K.state sink.old) (K.state sink.new)
+        (term_report (answer_over walker.old budget marked) addr) result }
     ensures same { walker.new ≡ walker.old }
 {
     put_answer(sink, walker, Elem::Ref(addr), budget, marked)?;

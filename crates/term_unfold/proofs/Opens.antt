@@ -2,7 +2,7 @@
 use Rattle.std.proofs.Common.{◌≡◌, ℕ, ◌-◌, ◌<◌, ◌≤◌, Bool, true, false, cond, ◌||◌, not, eqb, ltb, List, [], ◌∷◌, length, take, drop, get_or, Option, Some, None, refl, sym, ◌∙◌, ap, subst, inl, inr, arith}
 use Rattle.std.specs.Option.{option_map, unwrap_or}
 use Rattle.std.specs.List.{IsDistinct, position_or_len}
-use Rattle.std.proofs.lemmas.Bool.{cases_eq, cases_lt, eq-eqb, ne_eqb, lt-ltb, ltb-false}
+use Rattle.std.proofs.lemmas.Bool.{cases_eq, cases_lt, eq-eqb, ne_eqb, lt-ltb, ltb-false, not-true}
 use Rattle.std.proofs.lemmas.List.{length-map}
 use Rattle.std.proofs.lemmas.Map.Keys.{apart_from_distinct}
 use Rattle.std.proofs.lemmas.Option.{slice_get-map, slice_get-get_or, unwrap_or-slice_get}
@@ -30,6 +30,7 @@ use Rattle.term_unfold.specs.Inner.Openings.{is_leaf_form, Opens}
 use Rattle.term_unfold.specs.Rules.{Term, Item, leaf, bad, node, is_on, unless_on, terms, items, pairs, keyed, cell_opening, term_opening, item_opening, opening}
 use Rattle.term_unfold.specs.Trees.{OfCell}
 use Rattle.term_unfold.proofs.ChildFacts.{flat_kids-at}
+use Rattle.std.proofs.Math.Bool.{or-true}
 
 -- addresses and numbers
 
@@ -58,10 +59,6 @@ on-path heap n [] distinct within line = refl
 on-path heap n (e ∷ es) distinct within line =
     ap (λ b. b || is_on (address_of heap n) (path_of heap es)) (address-eqb heap n (number e.cell) distinct within line.0)
     ∙ ap (λ b. eqb n (number e.cell) || b) (on-path heap n es distinct within line.2)
-
-or-true : (b : Bool) → (b || true) ≡ true
-or-true true = refl
-or-true false = refl
 
 pub on-longer : (a b : ℕ) (path : List ℕ) → is_on b path ≡ true → is_on b (a ∷ path) ≡ true
 on-longer a b path on = ap (λ x. eqb b a || x) on ∙ or-true (eqb b a)
@@ -104,10 +101,6 @@ no_cell = record { address = 0; form = None }
 
 address-cell : (heap : List Cell) (n : ℕ) → n < length heap → address_of heap n ≡ (get_or heap n no_cell).address
 address-cell heap n within = ap (λ o. unwrap_or (option_map (λ (c : Cell). c.address) o) 0) (slice_get-get_or heap n no_cell within)
-
-not-true : (b : Bool) → not b ≡ true → b ≡ false
-not-true true h = cc
-not-true false h = refl
 
 cond-none : (b : Bool) (k : ℕ) → cond b (Some k) None ≡ None → b ≡ false
 cond-none true k h = cc

@@ -16,7 +16,9 @@ use Rattle.term_unfold.specs.Text.{Shown, shown, led, ◌then◌, Cut, At, close
 use Rattle.term_unfold.specs.Trees.{Value, Tree, none, more}
 use Rattle.term_unfold.specs.Unfolding.{trees, unfolded}
 use Rattle.term_unfold.proofs.ChildFacts.{double, even, odd}
-use Rattle.term_unfold.proofs.Visited.{drop-at_get, drop-past_get}
+use Rattle.term_unfold.proofs.Visited.{drop-past_get}
+use Rattle.std.proofs.Math.Bool.{not-not}
+use Rattle.dump_io.specs.Laws.Lists.{drop-at}
 
 -- texts and what follows them
 
@@ -41,7 +43,7 @@ left-none heap e es is = ap (trees (unfolded heap (path_of heap (e ∷ es)))) (d
 pub left-more : (heap : List Cell) (came : Bool) (e : Entry) (es : List Entry) (child : Child) → slice_get (children_of heap e.kind (number e.cell)) e.next ≡ Some child
     → left_of heap e es ≡ more (unfolded heap (path_of heap (next_of came e ∷ es)) child) (left_of heap (next_of came e) es)
 left-more heap came e es child is =
-    ap (trees (unfolded heap (path_of heap (e ∷ es)))) (drop-at_get (children_of heap e.kind (number e.cell)) e.next child is)
+    ap (trees (unfolded heap (path_of heap (e ∷ es)))) (drop-at (children_of heap e.kind (number e.cell)) e.next child is)
 
 -- what the innermost cell has to write, where its kind is given
 
@@ -154,10 +156,6 @@ pub cut-left : (leaf : Value → List ℕ) (heap : List Cell) (e : Entry) (es : 
 cut-left leaf heap e es child other has = cut-by leaf heap e es child e.kind refl other has
 
 -- which children of a flat map are values
-
-not-not : (b : Bool) → not (not b) ≡ b
-not-not true = refl
-not-not false = refl
 
 double-key : (i : ℕ) → is_value (double i) ≡ false
 double-key zero = refl

@@ -1,8 +1,7 @@
 -- The steps of the walk, by what the stack stands for.
 use Rattle.std.proofs.Common.{◌≡◌, ℕ, zero, suc, ◌+◌, ◌-◌, ◌<◌, ◌≤◌, Bool, List, [], ◌∷◌, ◌++◌, length, take, drop, Some, None, refl, sym, ◌∙◌, ap, append_assoc, arith}
 use Rattle.std.specs.Prelude.{slice_get}
-use Rattle.std.proofs.lemmas.List.{drop_more, length-map}
-use Rattle.std.proofs.lemmas.Option.{slice_get_within, get_or_from_slice_get}
+use Rattle.std.proofs.lemmas.List.{length-map}
 use Rattle.heap_cells.specs.Cells.{Cell}
 use Rattle.heap_cells.specs.Targets.{number}
 use Rattle.term_unfold.specs.Maps.{address_of}
@@ -19,6 +18,7 @@ use Rattle.term_unfold.specs.Rules.{Child, Opening, opening}
 use Rattle.term_unfold.specs.Trees.{Immediate, OfCell, Tree, Leaf, Bad, Branch, pre, pre_all, first_bad}
 use Rattle.term_unfold.specs.Unfolding.{trees, grown_tree, unfolded}
 use Rattle.term_unfold.proofs.Levels.{unfolded-rule}
+use Rattle.dump_io.specs.Laws.Lists.{drop-at}
 
 -- the tree of a child, by what it opens
 
@@ -55,10 +55,6 @@ visits-opened heap before after child (opened.Node ix kind) came few is now =
 
 -- children by place
 
-pub drop-at_get : {X : Type 0} → (xs : List X) (i : ℕ) (x : X) → slice_get xs i ≡ Some x → drop i xs ≡ x ∷ drop (i + 1) xs
-drop-at_get xs i x is =
-    drop_more xs i x (slice_get_within xs i x is) ∙ ap (λ y. y ∷ drop (i + 1) xs) (get_or_from_slice_get xs i x x is)
-
 pub drop-past_get : {X : Type 0} → (xs : List X) (i : ℕ) → slice_get xs i ≡ None → drop i xs ≡ []
 drop-past_get [] zero is = refl
 drop-past_get [] (suc i) is = refl
@@ -71,7 +67,7 @@ to_come-next : (heap : List Cell) (came : Bool) (e : Entry) (es : List Entry) (s
 to_come-next heap came e es s is =
     let tree : Child → Tree = unfolded heap (path_of heap (e ∷ es)) in
     let kids = children_of heap e.kind (number e.cell) in
-    ap (λ ss. pre_all (trees tree ss) ++ to_come heap es) (drop-at_get kids e.next s is)
+    ap (λ ss. pre_all (trees tree ss) ++ to_come heap es) (drop-at kids e.next s is)
     ∙ append_assoc (pre (tree s)) (pre_all (trees tree (drop (e.next + 1) kids))) (to_come heap es)
 
 pub to_come-step : (heap : List Cell) (came : Bool) (before after : List Entry) (e : Entry) (es : List Entry) (s : Child) → before ≡ e ∷ es → slice_get (children_of heap e.kind (number e.cell)) e.next ≡ Some s

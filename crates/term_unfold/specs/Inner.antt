@@ -6,3 +6,4 @@ pub mod Maps
 pub mod Openings
 pub mod Rest
 pub mod Steps
+pub mod Written

@@ -1,10 +1,12 @@
 -- What the laws of the unfolding say.
-use Rattle.std.specs.Prelude.{◌≡◌, ℕ, ◌+◌, ◌<◌, false, List, [], ◌∷◌, length, IsSome}
+use Rattle.std.specs.Prelude.{◌≡◌, ℕ, ◌+◌, ◌<◌, false, List, [], ◌∷◌, length, take, IsSome}
 use Rattle.heap_cells.specs.Cells.{Cell}
 use Rattle.heap_cells.specs.HeapMap.{number_at}
 use Rattle.term_unfold.specs.Rules.{Child, Term, Item, is_on, opening}
 use Rattle.term_unfold.specs.Terms.{IsTerm, IsItem}
-use Rattle.term_unfold.specs.Trees.{Tree, Trees, none, more}
+use Rattle.term_unfold.specs.Places.{nodes_of}
+use Rattle.term_unfold.specs.Trees.{Value, Tree, Branch, Trees, none, more}
+use Rattle.term_unfold.specs.declared.node.NodeKind.TheVariants.{Hash, Inner}
 use Rattle.term_unfold.specs.Unfolding.{grown_tree, unfold_by, unfolded}
 
 -- distinct addresses of the heap
@@ -31,3 +33,15 @@ Suits (Item parent element) tree = IsItem tree
 abbrev pub joined : Trees → Trees → Trees
 joined none others = others
 joined (more tree trees) others = more tree (joined trees others)
+
+-- the first n nodes of two trees look alike, and stand at the same places
+abbrev pub LookAlike : (Value → List ℕ) → ℕ → Tree → Tree → Type 0
+LookAlike leaf n one other = take n (nodes_of leaf one) ≡ take n (nodes_of leaf other)
+
+-- a hash map with these children
+abbrev pub hash_map : Trees → Tree
+hash_map children = Branch Hash children
+
+-- the children of a map that begin with an inner node with some of them
+abbrev pub behind_inner : Trees → Trees → Trees
+behind_inner children rest = more (Branch Inner children) rest

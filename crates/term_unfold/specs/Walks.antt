@@ -8,7 +8,7 @@ use Rattle.heap_cells.specs.HeapMap.{HeapMap}
 use Rattle.binary_refs.specs.declared.entries.Entry.{Entry}
 use Rattle.term_unfold.specs.declared.verdict.Verdict.{Verdict}
 use Rattle.term_unfold.specs.declared.verdict.Verdict.TheVariants.{Clean, Bad}
-use Rattle.term_unfold.specs.Leaves.{leaf_text}
+use Rattle.term_unfold.specs.Leaves.{leaf_text, leaves}
 use Rattle.term_unfold.specs.Text.{reason, show}
 use Rattle.term_unfold.specs.Trees.{verdict}
 use Rattle.term_unfold.specs.Unfolding.{unfolding_of}
@@ -23,6 +23,14 @@ pub record Walk : Type 0 where
 -- a walker over these two, with room for exactly one more entry than there are cells
 abbrev pub new_walk : HeapMap → List Entry → Walk
 new_walk heap previews = record { heap = heap; previews = previews; reserved = length heap.cells + 1 }
+
+-- the text of a root over so many nodes, with bad addresses in their places
+abbrev pub whole_text : HeapMap → List Entry → Element → ℕ → List ℕ
+whole_text heap previews root n = show (leaves heap previews) (unfolding_of heap.cells root) n
+
+-- the first bad address among so many nodes of a root, if there is one
+abbrev pub root_verdict : HeapMap → Element → ℕ → Verdict
+root_verdict heap root n = verdict (unfolding_of heap.cells root) n
 
 -- the first bad address, or the text if none is bad
 abbrev pub judged_text : Verdict → List ℕ → List ℕ

@@ -5,7 +5,7 @@ ghost use Rattle.term_forms.specs.Seen.{element};
 ghost use Rattle.dump_io.specs.Limits.{usual};
 ghost use Rattle.heap_cells.specs.HeapMap.{IsBounded, form_at};
 ghost use Rattle.heap_cells.specs.Targets.{number};
-ghost use Rattle.term_unfold.specs.Inner.Children.{child_shown, children_in, keyed_children, HasMembers, IsChild, IsChildAt};
+ghost use Rattle.term_unfold.specs.Inner.Children.{child_shown, HasMembers, IsChild, IsChildIn, IsKeyedChild};
 ghost use Rattle.term_unfold.specs.Inner.Openings.{immediate_of};
 
 use crate::node::NodeKind;
@@ -26,7 +26,7 @@ pub(crate) enum Child<'h> {
 fn term_at(heap: &Heap, ix: CellIx, place: u32) -> Option<Child<'_>>
     requires cell { number ix < length heap.now.cells }
     requires bounded { IsBounded heap.now }
-    ensures { IsChildAt heap.now.cells (children_in heap.now NodeKind.Tuple ix) place usual.dense result }
+    ensures { IsChildIn heap.now NodeKind.Tuple ix place usual.dense result }
 {
     let slot = heap.slots(ix).get(place as usize)?;
     Some(Child::Term(slot, ix, place))
@@ -37,7 +37,7 @@ fn term_at(heap: &Heap, ix: CellIx, place: u32) -> Option<Child<'_>>
 fn head_or_tail(heap: &Heap, ix: CellIx, place: u32) -> Option<Child<'_>>
     requires cell { number ix < length heap.now.cells }
     requires bounded { IsBounded heap.now }
-    ensures { IsChildAt heap.now.cells (children_in heap.now NodeKind.Cons ix) place 2 result }
+    ensures { IsChildIn heap.now NodeKind.Cons ix place 2 result }
 {
     if place < 2 {
         term_at(heap, ix, place)
@@ -52,7 +52,7 @@ fn key_or_value(heap: &Heap, ix: CellIx, keys: CellIx, place: u32) -> Option<Chi
     requires map { number ix < length heap.now.cells }
     requires keys { number keys < length heap.now.cells }
     requires bounded { IsBounded heap.now }
-    ensures { IsChildAt heap.now.cells (keyed_children heap.now keys ix) place (2 * usual.dense) result }
+    ensures { IsKeyedChild heap.now keys ix place (2 * usual.dense) result }
 {
     let key = term_at(heap, keys, place / 2)?;
     let value = term_at(heap, ix, place / 2 + 1)?;
@@ -68,7 +68,7 @@ fn key_or_value(heap: &Heap, ix: CellIx, keys: CellIx, place: u32) -> Option<Chi
 fn pair_part(heap: &Heap, ix: CellIx, place: u32) -> Option<Child<'_>>
     requires cell { number ix < length heap.now.cells }
     requires bounded { IsBounded heap.now }
-    ensures { IsChildAt heap.now.cells (children_in heap.now NodeKind.Flat ix) place (2 * usual.dense) result }
+    ensures { IsChildIn heap.now NodeKind.Flat ix place (2 * usual.dense) result }
 {
     if heap.kids(ix) == 0 {
         return None;
@@ -84,7 +84,7 @@ fn item_at(heap: &Heap, ix: CellIx, place: u32) -> Option<Child<'_>>
     requires cell { number ix < length heap.now.cells }
     requires bounded { IsBounded heap.now }
     requires kind { HasMembers (form_at heap.now.cells (number ix)) }
-    ensures { IsChildAt heap.now.cells (children_in heap.now NodeKind.Hash ix) place usual.dense result }
+    ensures { IsChildIn heap.now NodeKind.Hash ix place usual.dense result }
 {
     if place >= heap.kids(ix) {
         return None;
@@ -97,7 +97,7 @@ fn item_at(heap: &Heap, ix: CellIx, place: u32) -> Option<Child<'_>>
 fn member_at(heap: &Heap, ix: CellIx, place: u32) -> Option<Child<'_>>
     requires cell { number ix < length heap.now.cells }
     requires bounded { IsBounded heap.now }
-    ensures { IsChildAt heap.now.cells (children_in heap.now NodeKind.Hash ix) place usual.dense result }
+    ensures { IsChildIn heap.now NodeKind.Hash ix place usual.dense result }
 {
     match heap.kind(ix) {
         Some(Kind::Hash | Kind::Tuple | Kind::Node) => item_at(heap, ix, place),
@@ -110,7 +110,7 @@ fn member_at(heap: &Heap, ix: CellIx, place: u32) -> Option<Child<'_>>
 pub(crate) fn child_at(heap: &Heap, ix: CellIx, kind: NodeKind, place: u32) -> Option<Child<'_>>
     requires cell { number ix < length heap.now.cells }
     requires bounded { IsBounded heap.now }
-    ensures { IsChildAt heap.now.cells (children_in heap.now kind ix) place (2 * usual.dense) result }
+    ensures { IsChildIn heap.now kind ix place (2 * usual.dense) result }
 {
     match kind {
         NodeKind::Cons => head_or_tail(heap, ix, place),

@@ -1,13 +1,13 @@
 // The walk that judges.
-ghost use Rattle.std.specs.Prelude.{◌≡◌, ◌<◌, ◌≤◌, ◌++◌, [], length, IfSome, MatchOption};
+ghost use Rattle.std.specs.Prelude.{◌≡◌, ◌<◌, ◌≤◌, [], length, IfSome, MatchOption};
 ghost use Rattle.term_forms.specs.Seen.{element};
-ghost use Rattle.term_unfold.specs.Inner.Coming.{to_come, entered_by, verdict_on, Visits};
-ghost use Rattle.term_unfold.specs.Inner.Entries.{path_of, Serves};
+ghost use Rattle.term_unfold.specs.Inner.Coming.{to_come, entered_by, verdict_on, coming_with, VisitsIn};
+ghost use Rattle.term_unfold.specs.Inner.Entries.{Serves};
 ghost use Rattle.term_unfold.specs.Inner.Children.{child_shown, IsChild};
 ghost use Rattle.term_unfold.specs.Inner.Openings.{MayEnter};
 ghost use Rattle.term_unfold.specs.Rules.{Term};
-ghost use Rattle.term_unfold.specs.Trees.{pre, verdict};
-ghost use Rattle.term_unfold.specs.Unfolding.{unfolded, unfolding_of};
+ghost use Rattle.term_unfold.specs.Trees.{verdict};
+ghost use Rattle.term_unfold.specs.Unfolding.{unfolding_of};
 
 use crate::children::{Child, child_at};
 use crate::openings::{Opened, open_child, open_root};
@@ -25,7 +25,7 @@ fn next_child<'h>(heap: &'h Heap, path: &mut Path) -> Option<Child<'h>>
     ensures next { MatchOption result
         (to_come heap.now.cells path.old.entries ≡ [])
         (λ child. to_come heap.now.cells path.old.entries
-        ≡ pre (unfolded heap.now.cells (path_of heap.now.cells path.new.entries) (child_shown heap.now.cells child)) ++ to_come heap.now.cells path.new.entries) }
+        ≡ coming_with heap.now.cells path.new.entries (child_shown heap.now.cells child)) }
 {
     while let Some(entry) = path.top() {
         if let Some(child) = child_at(heap, entry.cell, entry.kind, entry.next) {
@@ -65,7 +65,7 @@ fn visit(heap: &Heap, path: &mut Path, child: Child<'_>) -> Verdict
     requires few { length path.old.entries ≤ length heap.now.cells }
     requires placed { IsChild heap.now.cells child }
     ensures cells { path.new.cells ≡ path.old.cells }
-    ensures visits { Visits heap.now.cells path.old.entries path.new.entries (child_shown heap.now.cells child.entry) result }
+    ensures visits { VisitsIn heap.now path.old path.new (child_shown heap.now.cells child.entry) result }
 {
     let opened = open_child(heap, path, child);
     enter(path, opened, false);
@@ -77,7 +77,7 @@ fn visit_root(heap: &Heap, path: &mut Path, root: &Elem<'_>) -> Verdict
     requires serves { Serves heap.now path.old.cells }
     requires few { length path.old.entries ≤ length heap.now.cells }
     ensures cells { path.new.cells ≡ path.old.cells }
-    ensures visits { Visits heap.now.cells path.old.entries path.new.entries (Term (element root.now)) result }
+    ensures visits { VisitsIn heap.now path.old path.new (Term (element root.now)) result }
 {
     let opened = open_root(heap, path, root);
     enter(path, opened, false);

@@ -1,12 +1,11 @@
 // The laws of the definitions. Each is the contract of a function that does nothing.
-ghost use Rattle.std.specs.Prelude.{◌≡◌, ℕ, ◌+◌, List, take};
+ghost use Rattle.std.specs.Prelude.{◌≡◌, ℕ, ◌+◌, List};
 ghost use Rattle.heap_cells.specs.Cells.{Cell};
-ghost use Rattle.term_unfold.specs.Laws.{FollowsRules, IsEnough, Suits, joined};
-ghost use Rattle.term_unfold.specs.Places.{nodes_of};
+ghost use Rattle.term_unfold.specs.Laws.{FollowsRules, IsEnough, Suits, joined, LookAlike, hash_map, behind_inner};
 ghost use Rattle.term_unfold.specs.Rules.{Child};
 ghost use Rattle.term_unfold.specs.Terms.{IsTerm};
 ghost use Rattle.term_unfold.specs.Text.{show};
-ghost use Rattle.term_unfold.specs.Trees.{Value, Tree, Trees, Branch, more};
+ghost use Rattle.term_unfold.specs.Trees.{Value, Tree, Trees};
 ghost use Rattle.term_unfold.specs.Unfolding.{unfolded};
 
 use crate::node::NodeKind;
@@ -16,18 +15,21 @@ use crate::node::NodeKind;
 pub fn unfolding_is_finite()
     ensures rules { FollowsRules unfolded }
     ensures enough { IsEnough }
-    ensures suits { (heap : List Cell) (path : List ℕ) (child : Child) → Suits child (unfolded heap path child) }
+    ensures suits { (heap : List Cell) (path : List ℕ) (child : Child)
+        → Suits child (unfolded heap path child) }
 {}
 
 /// The text over n nodes depends on the first n nodes alone: two terms whose first n nodes look
 /// alike and stand at the same places have the same text, whatever the texts of leaves are.
 pub fn text_is_of_first_nodes()
-    ensures { (leaf : Value → List ℕ) (t u : Tree) (n : ℕ) → IsTerm t → IsTerm u → take n (nodes_of leaf t) ≡ take n (nodes_of leaf u) → show leaf t n ≡ show leaf u n }
+    ensures { (leaf : Value → List ℕ) (t u : Tree) (n : ℕ)
+        → IsTerm t → IsTerm u → LookAlike leaf n t u → show leaf t n ≡ show leaf u n }
 {}
 
 /// A hash map that begins with an inner node has the text of the map that begins with
 /// that node's children instead, when one more node is visited: the inner node itself.
 pub fn inner_node_is_its_children()
     ensures { (leaf : Value → List ℕ) (children rest : Trees) (n : ℕ)
-        → show leaf (Branch NodeKind.Hash (more (Branch NodeKind.Inner children) rest)) (n + 2) ≡ show leaf (Branch NodeKind.Hash (joined children rest)) (n + 1) }
+        → show leaf (hash_map (behind_inner children rest)) (n + 2)
+        ≡ show leaf (hash_map (joined children rest)) (n + 1) }
 {}

@@ -1,20 +1,19 @@
 // The texts of leaves and of bad addresses.
-ghost use Rattle.std.specs.Prelude.{◌≡◌, ◌≤◌, ◌*◌, ◌++◌, length, codes, true, is_some, IsSome, IfSome};
+ghost use Rattle.std.specs.Prelude.{◌≡◌, ◌≤◌, ◌*◌, ◌++◌, length, codes, true, IsSome, IfSome};
 ghost use Rattle.std.specs.List.{flat_map};
-ghost use Rattle.std.specs.Option.{option_map};
+ghost use Rattle.std.specs.Option.{option_copied};
 ghost use Rattle.dump_io.specs.Sinks.{Puts};
 ghost use Rattle.dump_io.specs.Numbers.{hex_byte};
-ghost use Rattle.heap_cells.specs.HeapMap.{IsBounded, IsSpelled, form_at};
+ghost use Rattle.heap_cells.specs.HeapMap.{IsBounded, IsSpelled};
 ghost use Rattle.heap_cells.specs.Targets.{number};
-ghost use Rattle.term_unfold.specs.Maps.{address_of};
 ghost use Rattle.binary_payloads.specs.Payload.{IsPayloadOf};
 ghost use Rattle.term_forms.specs.Seen.{element};
 ghost use Rattle.term_forms.specs.SeenForms.{heap_form};
 ghost use Rattle.binary_refs.specs.Previews.{entry_at, stated, AreFor};
 ghost use Rattle.term_unfold.specs.Inner.Openings.{is_immediate, is_leaf_form, IsLeafCell};
-ghost use Rattle.term_unfold.specs.Inner.Rest.{cell_text};
-ghost use Rattle.term_unfold.specs.Leaves.{element_text, port_text, dots, preview_text, preview_of, sized_text, own_preview, form_text, leaves};
+ghost use Rattle.term_unfold.specs.Leaves.{element_text, port_text, dots, preview_text, preview_of, sized_text, own_preview, form_text};
 ghost use Rattle.term_unfold.specs.Text.{reason, bad_text};
+ghost use Rattle.term_unfold.specs.Inner.Written.{HasEntryIf, text_of_cell};
 
 use binary_refs::{Preview, Previews};
 use dump_io::{Failed, Piece, Sink, put_atom, put_pieces, write_all};
@@ -99,7 +98,8 @@ fn put_digits<K: Sink>(sink: &mut K, bytes: &[u8]) -> Result<(), Failed>
 
 fn put_known<K: Sink>(sink: &mut K, size: u64, bytes: &[u8]) -> Result<(), Failed>
     requires { length bytes.now ≤ 32 }
-    ensures { Puts (K.state sink.old) (K.state sink.new) (flat_map hex_byte bytes.now ++ dots size) result }
+    ensures { Puts (K.state sink.old) (K.state sink.new)
+        (flat_map hex_byte bytes.now ++ dots size) result }
 {
     put_digits(sink, bytes)?;
     write_all(sink, dots_text(size))
@@ -107,7 +107,8 @@ fn put_known<K: Sink>(sink: &mut K, size: u64, bytes: &[u8]) -> Result<(), Faile
 
 fn put_preview<K: Sink>(sink: &mut K, size: u64, preview: Option<&[u8]>) -> Result<(), Failed>
     requires { IfSome preview (λ bytes. length bytes.now ≤ 32) }
-    ensures { Puts (K.state sink.old) (K.state sink.new) (preview_text size (option_map (λ bytes. bytes.now) preview.entry)) result }
+    ensures { Puts (K.state sink.old) (K.state sink.new)
+        (preview_text size (option_copied preview.entry)) result }
 {
     match preview {
         None => write_all(sink, b"?"),
@@ -123,7 +124,8 @@ fn put_sized<K: Sink>(
     preview: Option<&[u8]>,
 ) -> Result<(), Failed>
     requires { IfSome preview (λ bytes. length bytes.now ≤ 32) }
-    ensures { Puts (K.state sink.old) (K.state sink.new) (sized_text word.now size (option_map (λ bytes. bytes.now) preview.entry)) result }
+    ensures { Puts (K.state sink.old) (K.state sink.new)
+        (sized_text word.now size (option_copied preview.entry)) result }
 {
     put_pieces(
         sink,
@@ -142,7 +144,8 @@ fn put_payload<K: Sink>(
     chars: &[u8],
 ) -> Result<(), Failed>
     requires { IsPayloadOf enc chars.now size }
-    ensures { Puts (K.state sink.old) (K.state sink.new) (sized_text word.now size (own_preview enc size chars.now)) result }
+    ensures { Puts (K.state sink.old) (K.state sink.new)
+        (sized_text word.now size (own_preview enc size chars.now)) result }
 {
     let mut buffer = [0; 32];
     let first = &mut buffer[..size.min(32) as usize];
@@ -153,7 +156,7 @@ fn put_payload<K: Sink>(
 // The first bytes of what a cell refers to, if they are known.
 fn preview_of<'a>(previews: &'a Previews, ix: CellIx) -> Option<&'a [u8]>
     requires { IsSome (entry_at previews.now (number ix)) }
-    ensures bytes { option_map (λ bytes. bytes.now) result ≡ preview_of previews.now (number ix) }
+    ensures bytes { option_copied result ≡ preview_of previews.now (number ix) }
     ensures few { IfSome result (λ bytes. length bytes.now ≤ 32) }
 {
     match previews.get(ix) {
@@ -170,7 +173,8 @@ fn put_reference<K: Sink>(
     size: u64,
 ) -> Result<(), Failed>
     requires { IsSome (entry_at previews.now (number ix)) }
-    ensures { Puts (K.state sink.old) (K.state sink.new) (sized_text (codes "#Bin<") size (preview_of previews.now (number ix))) result }
+    ensures { Puts (K.state sink.old) (K.state sink.new)
+        (sized_text (codes "#Bin<") size (preview_of previews.now (number ix))) result }
 {
     put_sized(sink, b"#Bin<", size, preview_of(previews, ix))
 }
@@ -185,8 +189,9 @@ fn put_form<K: Sink>(
 ) -> Result<(), Failed>
     requires leaf { is_leaf_form (heap_form form.now) ≡ true }
     requires spelled { IsSpelled enc (heap_form form.now) }
-    requires entry { is_some (entry_at previews.now (number ix)) ≡ is_some (stated (number ix) (heap_form form.now)) }
-    ensures { Puts (K.state sink.old) (K.state sink.new) (form_text enc (preview_of previews.now (number ix)) (heap_form form.now)) result }
+    requires entry { HasEntryIf (stated (number ix) (heap_form form.now)) previews.now (number ix) }
+    ensures { Puts (K.state sink.old) (K.state sink.new)
+        (form_text enc (preview_of previews.now (number ix)) (heap_form form.now)) result }
 {
     match form {
         Form::Float(bytes) => write_all(sink, bytes),
@@ -212,7 +217,7 @@ pub(crate) fn put_cell<K: Sink>(
     requires bounded { IsBounded heap.now }
     requires previews { AreFor heap.now.cells previews.now }
     ensures { Puts (K.state sink.old) (K.state sink.new)
-        (cell_text (leaves heap.now previews.now) (address_of heap.now.cells (number ix)) (form_at heap.now.cells (number ix))) result }
+        (text_of_cell heap.now previews.now (number ix)) result }
 {
     match heap.form(ix) {
         Some(form) => put_form(sink, heap.enc(), &form, previews, ix),

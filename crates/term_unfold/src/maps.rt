@@ -1,9 +1,7 @@
 // What the cells are that maps lead to.
-ghost use Rattle.std.specs.Prelude.{◌<◌, length, Some};
-ghost use Rattle.heap_cells.specs.HeapMap.{form_at};
+ghost use Rattle.std.specs.Prelude.{◌<◌, length};
 ghost use Rattle.heap_cells.specs.Targets.{number};
-ghost use Rattle.term_unfold.specs.Inner.Maps.{IsKeysAt, IsMemberAt};
-ghost use Rattle.term_unfold.specs.Maps.{address_of, cell_keys, cell_member};
+ghost use Rattle.term_unfold.specs.Inner.Maps.{IsKeysAt, IsMemberAt, keys_in, member_in};
 
 use heap_cells::{CellIx, Heap, Kind, Why};
 
@@ -31,7 +29,7 @@ pub(crate) enum MapChild {
 /// Returns `Bad` exactly when it isn't a tuple of `size` elements.
 pub(crate) fn keys_in(heap: &Heap, ix: CellIx, size: u32) -> KeysAt
     requires { number ix < length heap.now.cells }
-    ensures { IsKeysAt heap.now.cells (cell_keys (address_of heap.now.cells (number ix)) size (Some (form_at heap.now.cells (number ix)))) result }
+    ensures { IsKeysAt heap.now.cells (keys_in heap.now.cells (number ix) size) result }
 {
     if let Some(Kind::Tuple) = heap.kind(ix) {
         if heap.kids(ix) == size {
@@ -45,7 +43,7 @@ pub(crate) fn keys_in(heap: &Heap, ix: CellIx, size: u32) -> KeysAt
 /// Returns `Bad` exactly when it is no cons cell, node or tuple.
 pub(crate) fn member(heap: &Heap, ix: CellIx) -> MapChild
     requires { number ix < length heap.now.cells }
-    ensures { IsMemberAt heap.now.cells (cell_member (address_of heap.now.cells (number ix)) (Some (form_at heap.now.cells (number ix)))) result }
+    ensures { IsMemberAt heap.now.cells (member_in heap.now.cells (number ix)) result }
 {
     match heap.kind(ix) {
         Some(Kind::List) => MapChild::Pair(ix),

@@ -1,7 +1,7 @@
 // The cells that a walk is in: a stack, and a mark for each cell.
 ghost use Rattle.std.specs.Prelude.{◌≡◌, ◌<◌, ◌≤◌, ◌+◌, ◌^◌, [], ◌∷◌, length, slice_get, drop, IfOk, IfSome, MatchOption};
 ghost use Rattle.heap_cells.specs.Targets.{number};
-ghost use Rattle.term_unfold.specs.Inner.Entries.{Entered, numbers_of, stepped, told, IsLine};
+ghost use Rattle.term_unfold.specs.Inner.Entries.{Entered, numbers_of, stepped, told, IsLine, new_path, IsTop};
 ghost use Rattle.term_unfold.specs.Rules.{is_on};
 
 use crate::node::NodeKind;
@@ -33,7 +33,11 @@ impl Model for Path {
 
     ghost Value = { Entered };
 
-    ghost view = { λ p. record { cells = length p.marks.items; reserved = vec_capacity p.stack; entries = reverse p.stack.items } };
+    ghost view = { λ p. record {
+      cells = length p.marks.items;
+      reserved = vec_capacity p.stack;
+      entries = reverse p.stack.items;
+    } };
 
     ghost invariant = { λ p. IsTied p.marks.items (vec_capacity p.stack) (reverse p.stack.items) };
 }
@@ -42,7 +46,7 @@ impl Path {
     /// Room for a walk over `cells` cells: a mark for each, and one more entry than there are cells.
     pub fn new(alloc: Global, cells: usize) -> Result<Path, AllocError>
         requires { cells < 2 ^ 32 }
-        ensures { IfOk result (λ path. path ≡ record { cells = cells; reserved = cells + 1; entries = [] }) }
+        ensures { IfOk result (λ path. path ≡ new_path cells) }
     {
         let stack = Vec::with_capacity(alloc, cells + 1)?;
         let marks = vec![in alloc; false; cells]?;
@@ -68,7 +72,7 @@ impl Path {
 
     /// The innermost cell.
     pub fn top(&self) -> Option<Entry>
-        ensures top { MatchOption result (self.now.entries ≡ []) (λ e. self.now.entries ≡ e ∷ drop 1 self.now.entries) }
+        ensures top { MatchOption result (self.now.entries ≡ []) (IsTop self.now.entries) }
         ensures inside { IfSome result (λ e. number e.cell < self.now.cells) }
         ensures few { length self.now.entries ≤ self.now.cells }
         ensures reserved { self.now.reserved ≡ self.now.cells + 1 }

@@ -1,5 +1,5 @@
 // The walk that prints.
-ghost use Rattle.std.specs.Prelude.{◌≡◌, ◌<◌, ◌≤◌, ◌-◌, [], ◌∷◌, length, drop};
+ghost use Rattle.std.specs.Prelude.{◌≡◌, ◌<◌, ◌≤◌, [], ◌∷◌, length, drop};
 ghost use Rattle.dump_io.specs.Sinks.{Puts};
 ghost use Rattle.term_forms.specs.Seen.{element};
 ghost use Rattle.binary_refs.specs.Previews.{AreFor};
@@ -8,12 +8,12 @@ ghost use Rattle.heap_cells.specs.HeapMap.{IsBounded};
 ghost use Rattle.heap_cells.specs.Targets.{number};
 ghost use Rattle.term_unfold.specs.Inner.Children.{child_shown, IsChild};
 ghost use Rattle.term_unfold.specs.Inner.Openings.{element_of};
-ghost use Rattle.term_unfold.specs.Inner.Rest.{bracket, child_text, own_text, turn_text, rest, HasOwn, HasText};
+ghost use Rattle.term_unfold.specs.Inner.Rest.{bracket, rest, HasOwn, HasText};
 ghost use Rattle.term_unfold.specs.Inner.Steps.{Steps, Falls, counted_of};
 ghost use Rattle.term_unfold.specs.Leaves.{element_text, leaves};
 ghost use Rattle.term_unfold.specs.Rules.{Term};
-ghost use Rattle.term_unfold.specs.Text.{show};
-ghost use Rattle.term_unfold.specs.Unfolding.{unfolding_of};
+ghost use Rattle.term_unfold.specs.Inner.Written.{text_of_child, text_of_own, text_of_turn, text_of_root};
+ghost use Rattle.term_unfold.specs.Walks.{whole_text};
 
 use crate::children::{Child, child_at, immediate};
 use crate::judging::enter;
@@ -44,7 +44,8 @@ fn bracket_text(kind: NodeKind) -> &'static [u8]
 fn put_immediate<K: Sink>(sink: &mut K, heap: &Heap, child: Child<'_>) -> Result<(), Failed>
     requires placed { IsChild heap.now.cells child }
     requires immediate { HasText heap.now.cells (child_shown heap.now.cells child) Opened.Immediate }
-    ensures { Puts (K.state sink.old) (K.state sink.new) (element_text (element_of (child_shown heap.now.cells child.entry))) result }
+    ensures { Puts (K.state sink.old) (K.state sink.new)
+        (element_text (element_of (child_shown heap.now.cells child.entry))) result }
 {
     match immediate(heap, child) {
         Some(e) => put_element(sink, &e),
@@ -65,7 +66,7 @@ fn put_child<K: Sink>(
     requires placed { IsChild heap.now.cells child }
     requires text { HasText heap.now.cells (child_shown heap.now.cells child) opened }
     ensures { Puts (K.state sink.old) (K.state sink.new)
-        (child_text (leaves heap.now previews.now) heap.now.cells (child_shown heap.now.cells child.entry) opened) result }
+        (text_of_child heap.now previews.now child.entry opened) result }
 {
     match opened {
         Opened::Immediate => put_immediate(sink, heap, child),
@@ -88,7 +89,7 @@ fn put_own<K: Sink>(
     requires placed { IsChild heap.now.cells child }
     requires own { HasOwn heap.now.cells (child_shown heap.now.cells child) own.now }
     ensures { Puts (K.state sink.old) (K.state sink.new)
-        (own_text (leaves heap.now previews.now) heap.now.cells (child_shown heap.now.cells child.entry) own.now) result }
+        (text_of_own heap.now previews.now child.entry own.now) result }
 {
     match own {
         Own::Nothing => write_all(sink, b""),
@@ -110,7 +111,7 @@ fn put_turn<K: Sink>(
     requires placed { IsChild heap.now.cells child }
     requires own { HasOwn heap.now.cells (child_shown heap.now.cells child) turn.now.own }
     ensures { Puts (K.state sink.old) (K.state sink.new)
-        (turn_text (leaves heap.now previews.now) heap.now.cells (child_shown heap.now.cells child.entry) turn.now) result }
+        (text_of_turn heap.now previews.now child.entry turn.now) result }
 {
     write_all(sink, turn.front)?;
     put_own(sink, heap, previews, child, &turn.own)
@@ -170,7 +171,7 @@ fn put_root<K: Sink>(
     requires previews { AreFor heap.now.cells previews.now }
     requires text { HasText heap.now.cells (Term (element root.now)) opened }
     ensures { Puts (K.state sink.old) (K.state sink.new)
-        (child_text (leaves heap.now previews.now) heap.now.cells (Term (element root.now)) opened) result }
+        (text_of_root heap.now previews.now (element root.now) opened) result }
 {
     match opened {
         Opened::Immediate => put_element(sink, root),
@@ -195,7 +196,7 @@ fn print_root<K: Sink>(
     requires budget { 0 < budget }
     ensures cells { path.new.cells ≡ path.old.cells }
     ensures step { Steps (K.state sink.old) (K.state sink.new)
-        (show (leaves heap.now previews.now) (unfolding_of heap.now.cells (element root.now)) budget)
+        (whole_text heap.now previews.now (element root.now) budget)
         (rest (leaves heap.now previews.now) heap.now.cells path.new.entries) result }
 {
     let opened = open_root(heap, path, root);
@@ -218,7 +219,7 @@ pub(crate) fn print_all<K: Sink>(
     requires budget { 0 < budget }
     ensures cells { path.new.cells ≡ path.old.cells }
     ensures puts { Puts (K.state sink.old) (K.state sink.new)
-        (show (leaves heap.now previews.now) (unfolding_of heap.now.cells (element root.now)) budget) result }
+        (whole_text heap.now previews.now (element root.now) budget) result }
 {
     let mut left = print_root(heap, previews, path, root, budget, sink)?;
     while let Some(entry) = path.top() {

@@ -1,10 +1,9 @@
 // The steps of the walk that prints: what each writes, and where the walk is afterwards.
 ghost use Rattle.std.specs.Prelude.{◌≡◌, ℕ, ◌+◌, ◌<◌, ◌≤◌, ◌++◌, List, ◌∷◌, length, drop, slice_get, codes, ◌^◌, Some, IfSome};
 ghost use Rattle.heap_cells.specs.Cells.{Cell};
-ghost use Rattle.heap_cells.specs.Targets.{number};
 ghost use Rattle.term_unfold.specs.Inner.Coming.{left_of, entered_by};
 ghost use Rattle.term_unfold.specs.Inner.Entries.{stepped, outside, is_item, Serves};
-ghost use Rattle.term_unfold.specs.Inner.Children.{children_of, child_shown, IsChild};
+ghost use Rattle.term_unfold.specs.Inner.Children.{child_shown, IsChild, next_of_cell};
 ghost use Rattle.term_unfold.specs.Inner.Openings.{MayEnter, is_list, is_list_kind};
 ghost use Rattle.term_unfold.specs.Inner.Rest.{front_of, is_next_value, left_text, rest, AtChild, TurnsAt, HasItems, HasTerms};
 ghost use Rattle.term_unfold.specs.Rules.{Child as Below};
@@ -113,7 +112,8 @@ pub(crate) fn close(path: &mut Path, entry: Entry) -> &'static [u8]
     requires top { path.old.entries ≡ entry ∷ drop 1 path.old.entries }
     ensures cells { path.new.cells ≡ path.old.cells }
     ensures fewer { length path.new.entries < length path.old.entries }
-    ensures text { (leaf : Value → List ℕ) (heap : List Cell) (m : ℕ) → left_of heap entry (drop 1 path.old.entries) ≡ none
+    ensures text { (leaf : Value → List ℕ) (heap : List Cell) (m : ℕ)
+        → left_of heap entry (drop 1 path.old.entries) ≡ none
         → rest leaf heap path.old.entries m ≡ result.now ++ rest leaf heap path.new.entries m }
 {
     path.pop();
@@ -139,7 +139,8 @@ pub(crate) fn cut(path: &mut Path, entry: Entry) -> &'static [u8]
     requires top { path.old.entries ≡ entry ∷ drop 1 path.old.entries }
     ensures cells { path.new.cells ≡ path.old.cells }
     ensures fewer { length path.new.entries < length path.old.entries }
-    ensures text { (leaf : Value → List ℕ) (heap : List Cell) (child : Below) → slice_get (children_of heap entry.kind (number entry.cell)) entry.next ≡ Some child
+    ensures text { (leaf : Value → List ℕ) (heap : List Cell) (child : Below)
+        → next_of_cell heap entry ≡ Some child
         → rest leaf heap path.old.entries 0 ≡ result.now ++ rest leaf heap path.new.entries 0 }
 {
     leave_node(path);
@@ -154,7 +155,9 @@ fn advance(path: &mut Path, opened: Opened, came: bool, inside: bool)
     requires some { 0 < length path.old.entries }
     requires few { IfSome (slice_get path.old.entries 0) (λ e. e.next + 1 < 2 ^ 32) }
     requires enters { MayEnter path.old opened }
-    ensures { path.new ≡ record path.old { entries = entered_by opened inside (stepped came path.old.entries) } }
+    ensures { path.new ≡ record path.old {
+      entries = entered_by opened inside (stepped came path.old.entries);
+    } }
 {
     path.step(came);
     enter(path, opened, inside);
@@ -330,7 +333,7 @@ pub(crate) fn visit_next<'h>(
     requires top { path.old.entries ≡ entry ∷ drop 1 path.old.entries }
     requires few { length path.old.entries ≤ length heap.now.cells }
     requires next_few { entry.next < 200000000 }
-    requires at { slice_get (children_of heap.now.cells entry.kind (number entry.cell)) entry.next ≡ Some (child_shown heap.now.cells child) }
+    requires at { next_of_cell heap.now.cells entry ≡ Some (child_shown heap.now.cells child) }
     requires placed { IsChild heap.now.cells child }
     ensures cells { path.new.cells ≡ path.old.cells }
     ensures turn { TurnsAt heap.now path.old path.new child.entry result }

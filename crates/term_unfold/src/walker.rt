@@ -3,11 +3,8 @@ ghost use Rattle.std.specs.Prelude.{◌≡◌, ◌<◌, false, IfOk};
 ghost use Rattle.dump_io.specs.Sinks.{Puts};
 ghost use Rattle.term_forms.specs.Seen.{element};
 ghost use Rattle.binary_refs.specs.Previews.{AreFor};
-ghost use Rattle.term_unfold.specs.Leaves.{leaves};
-ghost use Rattle.term_unfold.specs.Text.{show};
 ghost use Rattle.term_unfold.specs.Trees.{verdict};
-ghost use Rattle.term_unfold.specs.Unfolding.{unfolding_of};
-ghost use Rattle.term_unfold.specs.Walks.{new_walk};
+ghost use Rattle.term_unfold.specs.Walks.{new_walk, root_verdict, whole_text};
 
 use crate::judging::first_bad;
 use crate::path::Path;
@@ -31,16 +28,18 @@ pub struct Walker<'h> {
 // Between two calls the walk is in no cell, and there is room for one more entry than the
 // heap has cells. The previews have an entry for exactly those cells that refer to a binary.
 impl<'h> Model for Walker<'h> {
-    ghost use Rattle.std.specs.Prelude.{◌≡◌, ◌+◌, []};
-    ghost use Rattle.binary_refs.specs.Previews.{AreFor};
-    ghost use Rattle.term_unfold.specs.Inner.Entries.{Serves};
+    ghost use Rattle.term_unfold.specs.Inner.Entries.{IsIdle};
     ghost use Rattle.term_unfold.specs.Walks.{Walk};
 
     ghost Value = { Walk };
 
-    ghost view = { λ w. record { heap = w.heap.now; previews = w.previews.now; reserved = w.path.reserved } };
+    ghost view = { λ w. record {
+      heap = w.heap.now;
+      previews = w.previews.now;
+      reserved = w.path.reserved;
+    } };
 
-    ghost invariant = { λ w. Serves w.heap.now w.path.cells × (w.path.entries ≡ []) × (w.path.reserved ≡ w.path.cells + 1) × AreFor w.heap.now.cells w.previews.now };
+    ghost invariant = { λ w. IsIdle w.heap.now w.previews.now w.path };
 }
 
 impl<'h> Walker<'h> {
@@ -66,7 +65,7 @@ impl<'h> Walker<'h> {
     /// The first bad node among the first `budget` nodes of what the root unfolds to. Takes no memory.
     pub fn judge(&mut self, root: Elem<'_>, budget: u32) -> Verdict
         requires { 0 < budget }
-        ensures verdict { result ≡ verdict (unfolding_of self.old.heap.cells (element root.entry)) budget }
+        ensures verdict { result ≡ root_verdict self.old.heap (element root.entry) budget }
         ensures same { self.new ≡ self.old }
     {
         let verdict = first_bad(self.heap, &mut self.path, &root, budget);
@@ -87,9 +86,10 @@ impl<'h> Walker<'h> {
         sink: &mut K,
     ) -> Result<(), Failed>
         requires budget { 0 < budget }
-        requires clean { marked ≡ false → verdict (unfolding_of self.old.heap.cells (element root)) budget ≡ Verdict.Clean }
+        requires clean { marked ≡ false
+            → root_verdict self.old.heap (element root) budget ≡ Verdict.Clean }
         ensures puts { Puts (K.state sink.old) (K.state sink.new)
-            (show (leaves self.old.heap self.old.previews) (unfolding_of self.old.heap.cells (element root.entry)) budget) result }
+            (whole_text self.old.heap self.old.previews (element root.entry) budget) result }
         ensures same { self.new ≡ self.old }
     {
         let result = print_all(

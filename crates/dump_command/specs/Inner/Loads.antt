@@ -13,13 +13,13 @@ use Rattle.audit_bodies.specs.declared.loading.AuditBodies.{AuditBodies}
 use Rattle.dump_io.specs.Dumps.{Now, DeviceState, ReadsAtMost, told}
 use Rattle.dump_sections.specs.Sections.{Section}
 use Rattle.dump_sections.specs.declared.bodies.BodyFault.{BodyFault}
+use Rattle.dump_sections.specs.declared.bodies.BodyFault.TheVariants.{SectionTooLarge}
 use Rattle.dump_sections.specs.declared.bodies.LargeSection.{LargeSection}
 use Rattle.term_forms.specs.Elements.{Element}
 use Rattle.dump_sections.specs.Bodies.{section_in, IsBodyIn}
 use Rattle.root_views.specs.declared.kinds.RootKind.TheVariants.{Stack, Dict, Mail}
 use Rattle.term_text.specs.Reach.{root_elements}
-use Rattle.dump_io.specs.Faults.{IsCauseOf}
-use Rattle.dump_sections.specs.Loading.{bodies_length, body_cause, IsUnloaded}
+use Rattle.dump_sections.specs.Loading.{bodies_length, IsUnloaded}
 use Rattle.process_table.specs.Records.{proc_places}
 use Rattle.table_sections.specs.declared.kinds.TableKind.TheVariants.{Ets}
 use Rattle.table_sections.specs.Tables.{table_of, AreListed, IsTableOver}
@@ -108,7 +108,8 @@ pub record HoldsRoots (index : Contents) (now : Now) (places : RootPlaces) (root
 
 -- why they weren't read: one is too large, or the device failed; memory may be lacking at any time
 abbrev pub AreUnread : Option LargeSection → DeviceState → DeviceState → BodyFault → Type 0
-AreUnread large before after fault = IsCauseOf (λ _. IsSome large) before after (body_cause fault)
+AreUnread large before after (SectionTooLarge at len) = IsSome large
+AreUnread large before after fault = IsUnloaded before after fault
 
 -- the terms among the roots
 abbrev pub terms_loaded : RootBodies → List Element

@@ -1,11 +1,40 @@
--- The raw lines are the only list that satisfies the rule of lines.
-use Rattle.std.proofs.Common.{◌≡◌, ℕ, ◌-◌, ◌<◌, ◌==◌, true, false, List, [], ◌∷◌, ◌++◌, length, take, if◌then◌else◌, refl, sym, ◌∙◌, ap, subst, append-nil, arith, ⊎_elim}
-use Rattle.std.specs.Prelude.{◌≢◌, slice_index, All}
-use Rattle.std.specs.List.{concat}
+-- How many lines there are and how long, and that the raw lines are the only list that satisfies the rule of lines.
+use Rattle.std.proofs.Common.{◌≡◌, ℕ, suc, ◌+◌, ◌-◌, ◌<◌, ◌≤◌, ◌==◌, Bool, true, false, List, [], ◌∷◌, ◌++◌, length, take, if◌then◌else◌, refl, sym, ◌∙◌, ap, subst, append-nil, arith, ⊎_elim}
+use Rattle.std.specs.Prelude.{◌≢◌, nat_eq, slice_index, All}
+use Rattle.std.specs.List.{concat, ends_with}
 use Rattle.std.proofs.lemmas.Bool.{ne_eqb}
 use Rattle.std.proofs.lemmas.Bool.Decides.{eqb_tells}
+use Rattle.std.proofs.lemmas.List.{length-take}
 use Rattle.std.proofs.lemmas.List.Elements.{All-nil, All-cons, All-head, All-tail}
-use Rattle.dump_io.specs.Lines.{lf, lines_after, raw_lines, HasLfLast, IsEnded, AreLines}
+use Rattle.dump_io.specs.Lines.{lf, cr, lines_after, lines_from, raw_lines, text_of, HasLfLast, IsEnded, AreLines}
+
+-- a line's text is no longer than the line
+length-chosen : (raw : List ℕ) (a b : Bool) → length (if a then take (length raw - 2) raw else (if b then take (length raw - 1) raw else raw)) ≤ length raw
+length-chosen raw true b = omega (arith, length-take (length raw - 2) raw)
+length-chosen raw false true = omega (arith, length-take (length raw - 1) raw)
+length-chosen raw false false = omega arith
+
+pub length-text_of : (raw : List ℕ) → length (text_of raw) ≤ length raw
+length-text_of raw = length-chosen raw (ends_with nat_eq raw (cr ∷ lf ∷ [])) (ends_with nat_eq raw (lf ∷ []))
+
+-- there are no more lines than bytes
+length-lines_after : (c : ℕ) (lines : List (List ℕ)) → length (lines_after c lines) ≤ suc (length lines)
+length-lines_after c [] = omega arith
+length-lines_after c (line ∷ lines) = omega arith
+
+pub length-raw_lines : (bytes : List ℕ) → length (raw_lines bytes) ≤ length bytes
+length-raw_lines [] = omega arith
+length-raw_lines (c ∷ bytes) =
+    let rest = length-raw_lines bytes in
+    elim (c == lf) as (λ b. length (if b then (c ∷ []) ∷ raw_lines bytes else lines_after c (raw_lines bytes)) ≤ suc (length bytes)) [
+      | true ↦ omega (arith, rest)
+      | false ↦ omega (arith, rest, length-lines_after c (raw_lines bytes))
+    ]
+
+-- and as many with their offsets
+pub length-lines_from : (at : ℕ) (lines : List (List ℕ)) → length (lines_from at lines) ≡ length lines
+length-lines_from at [] = refl
+length-lines_from at (line ∷ lines) = ap suc (length-lines_from (at + length line) lines)
 
 -- all but the last of a list with at least two elements
 pub front-cons : {X : Type 0} (x y : X) (xs : List X) → take (length (x ∷ y ∷ xs) - 1) (x ∷ y ∷ xs) ≡ x ∷ take (length (y ∷ xs) - 1) (y ∷ xs)

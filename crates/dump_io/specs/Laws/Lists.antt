@@ -1,12 +1,12 @@
 -- Lists in general: elements that pass a test, what stands at a place, and a list that more follows.
-use Rattle.std.proofs.Common.{◌≡◌, ℕ, ◌+◌, ◌<◌, ◌≤◌, Bool, true, false, cond, ltb, not, List, [], ◌∷◌, ◌++◌, length, map, get_or, slice_get, None, Some, refl, ◌∙◌, ap, subst, length-drop, arith}
-use Rattle.std.specs.Prelude.{All, IfSome, ◌||◌, drop, filter, nat_lt, take}
+use Rattle.std.proofs.Common.{◌≡◌, ℕ, ◌+◌, ◌<◌, ◌≤◌, Bool, true, false, cond, ltb, not, List, [], ◌∷◌, ◌++◌, length, map, get_or, slice_get, None, Some, refl, sym, ◌∙◌, ap, subst, length-drop, arith}
+use Rattle.std.specs.Prelude.{All, IfSome, ◌||◌, drop, filter, nat_lt, take, unwrap_or}
 use Rattle.std.specs.List.{between, list_all, list_any, position, position_or_len}
 use Rattle.std.proofs.lemmas.Bool.{lt-ltb, le-ltb, and_parts, and_from}
 use Rattle.std.proofs.lemmas.List.{drop-append-le, take-append-le, length-map, take_more, drop_more}
 use Rattle.std.proofs.lemmas.List.Elements.{All-nil, All-cons, All-head, All-tail}
 use Rattle.std.proofs.lemmas.List.Sums.{position_or_len_is}
-use Rattle.std.proofs.lemmas.Option.{get_or_from_slice_get, slice_get_within}
+use Rattle.std.proofs.lemmas.Option.{get_or_from_slice_get, slice_get-get_or, slice_get_within, unwrap_or-slice_get}
 use Rattle.dump_io.specs.Laws.Options.{below-bound}
 
 -- an element that passes, where none before it does
@@ -71,6 +71,10 @@ All-images P f (x ∷ xs) all =
 -- what holds of each element holds of the one at a place
 pub All-at : {X : Type 0} (P : X → Type 0) (xs : List X) (i : ℕ) (x : X) → All P xs → slice_get xs i ≡ Some x → P x
 All-at P xs i x all is = subst P (get_or_from_slice_get xs i x x is) (all i x (slice_get_within xs i x is))
+
+-- what stands at a place is what is there, whatever stands past the end
+pub slice_get-there : {X : Type 0} (xs : List X) (i : ℕ) (past : X) → i < length xs → slice_get xs i ≡ Some (unwrap_or (slice_get xs i) past)
+slice_get-there xs i past inside = slice_get-get_or xs i past inside ∙ ap Some (sym (unwrap_or-slice_get xs i past))
 
 -- the elements before the next place, and those from a place on
 pub take-at : {X : Type 0} (xs : List X) (i : ℕ) (x : X) → slice_get xs i ≡ Some x → take (i + 1) xs ≡ take i xs ++ x ∷ []

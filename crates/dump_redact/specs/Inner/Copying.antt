@@ -1,14 +1,16 @@
 -- How bytes are copied from the device to the sink.
-use Rattle.std.specs.Prelude.{◌≡◌, ℕ, ◌==◌, ◌≤◌, List, [], ◌∷◌, Result, IfErr, if◌then◌else◌}
-use Rattle.dump_io.specs.Dumps.{Now, IsOpen, size_of, told, DeviceState, DeviceFailed, ReadsAtMost}
+use Rattle.std.specs.Prelude.{◌≡◌, ℕ, ◌+◌, ◌-◌, ◌==◌, ◌≤◌, List, [], ◌∷◌, length, min, None, Result, IfErr, if◌then◌else◌}
+use Rattle.std.specs.List.{between}
+use Rattle.dump_io.specs.Dumps.{Now, IsOpen, IfTold, size_of, DeviceState, DeviceFailed, ReadsAtMost}
 use Rattle.dump_io.specs.Lines.{lf}
-use Rattle.dump_io.specs.Sinks.{SinkState, SinkFailed, Gained, WritesAll}
+use Rattle.dump_io.specs.Sinks.{SinkState, Gained, WritesAll}
 use Rattle.binary_payloads.specs.declared.enc.Enc.{Enc}
 use Rattle.dump_redact.specs.declared.blanks.Stretch.{Stretch}
 use Rattle.dump_redact.specs.declared.blanks.Stretch.TheVariants.{Plain, Payload}
 use Rattle.dump_redact.specs.declared.faults.RedactFault.{RedactFault}
-use Rattle.dump_redact.specs.declared.faults.RedactFault.TheVariants.{SectionTooLarge, Read, Write, Memory}
+use Rattle.dump_redact.specs.declared.faults.RedactFault.TheVariants.{Read}
 use Rattle.dump_redact.specs.Redacted.{blank}
+use Rattle.dump_redact.specs.Refusals.{IsRedactCauseOf}
 
 -- bytes with those before the first LF made blank
 abbrev pub blank_line : Enc → List ℕ → List ℕ
@@ -30,23 +32,32 @@ stretch_behind (Payload enc) (c ∷ bytes) = if c == lf then Plain else stretch_
 abbrev pub HasUpto : Now → ℕ → Type 0
 HasUpto now upto = IsOpen now × (upto ≤ size_of now)
 
--- why copying broke off: the device or the sink failed; memory may be lacking at any time
+-- how many bytes the first piece of those between two offsets has
+abbrev pub piece_size : List ℕ → ℕ → ℕ → ℕ
+piece_size buffer from upto = min (length buffer) (upto - from)
+
+-- that piece of the bytes of a dump
+abbrev pub first_piece : List ℕ → ℕ → ℕ → List ℕ → List ℕ
+first_piece buffer from upto dump = between from (from + piece_size buffer from upto) dump
+
+-- a fault says that the device failed, and it did
+abbrev pub IsReadFault : DeviceState → DeviceState → RedactFault → Type 0
+IsReadFault before after fault = (fault ≡ Read) × DeviceFailed before after
+
+-- why copying broke off, as nothing is refused: the device or the sink failed; memory may be lacking at any time
 abbrev pub IsBreak : DeviceState → DeviceState → SinkState → SinkState → RedactFault → Type 0
-IsBreak before after sink sink' (SectionTooLarge at len) = ⊥
-IsBreak before after sink sink' Read = DeviceFailed before after
-IsBreak before after sink sink' Write = SinkFailed sink sink'
-IsBreak before after sink sink' Memory = Unit {0}
+IsBreak before after sink sink' fault = IsRedactCauseOf None before after sink sink' fault
 
 -- what each call that copies does: it takes at most this many bytes, and writes what the bytes
 -- of the dump become, if the device tells them; on `Err` a proper prefix of that was written
 pub record Copies {T : Type 0} (before after : DeviceState) (sink sink' : SinkState) (most : ℕ) (text : List ℕ → List ℕ) (result : Result T RedactFault) : Type 0 where
   pub reads : ReadsAtMost before after most
   pub later : sink.faults ≤ sink'.faults
-  pub writes : (dump : List ℕ) → before.now ≡ told dump → WritesAll sink.written sink'.written (text dump) result
+  pub writes : IfTold before.now (λ dump. WritesAll sink.written sink'.written (text dump) result)
   pub fault : IfErr result (IsBreak before after sink sink')
 
 -- what several such successful calls have done
 pub record HasCopied (before after : DeviceState) (sink sink' : SinkState) (most : ℕ) (text : List ℕ → List ℕ) : Type 0 where
   pub reads : ReadsAtMost before after most
   pub later : sink.faults ≤ sink'.faults
-  pub gained : (dump : List ℕ) → before.now ≡ told dump → Gained sink sink' (text dump)
+  pub gained : IfTold before.now (λ dump. Gained sink sink' (text dump))

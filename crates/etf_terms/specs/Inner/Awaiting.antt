@@ -1,5 +1,6 @@
 -- How many heads are open at once while a term is written.
-use Rattle.std.specs.Prelude.{◌≡◌, ℕ, suc, ◌+◌, ◌==◌, max, List, [], ◌∷◌, ◌++◌, length, if◌then◌else◌}
+use Rattle.std.specs.Prelude.{◌≡◌, ℕ, suc, ◌+◌, ◌*◌, ◌<◌, ◌==◌, max, List, [], ◌∷◌, ◌++◌, length, Result, IfOk, if◌then◌else◌}
+use Rattle.std.specs.Borrow.{Bor}
 use Rattle.etf_terms.specs.Terms.{Terms, count, AreTerms}
 use Rattle.etf_terms.specs.Depth.{deepest}
 
@@ -20,3 +21,8 @@ pub record Goes (wide most : ℕ) (counts rest : List ℕ) : Type 0 where
   pub later : ℕ
   pub awaits : Awaits counts rest later
   pub reaches : max wide most ≡ max wide (max (length counts) later)
+
+-- the bytes and the open heads that are left come closer to the end
+abbrev pub Falls : {X E : Type 0} → List ℕ → List X → List X → Result (Bor (List ℕ)) E → Type 0
+Falls rest before after result =
+    IfOk result (λ behind. 2 * length behind.now + length after < 2 * length rest + length before + 1)

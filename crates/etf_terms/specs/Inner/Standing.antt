@@ -1,12 +1,12 @@
 -- What is still to be written.
-use Rattle.std.specs.Prelude.{◌≡◌, ℕ, suc, ◌+◌, ◌*◌, ◌<◌, ◌≤◌, List, [], ◌∷◌, ◌++◌, ◌==◌, length, Result, MatchResult, IfOk, OnErr, if◌then◌else◌}
+use Rattle.std.specs.Prelude.{◌≡◌, ℕ, suc, ◌+◌, ◌≤◌, List, [], ◌∷◌, ◌++◌, ◌==◌, length, Result, MatchResult, OnErr, if◌then◌else◌}
 use Rattle.std.specs.Borrow.{Bor}
 use Rattle.dump_io.specs.Sinks.{SinkState, SinkFailed, GainedFront, HasPut}
 use Rattle.etf_terms.specs.declared.stack.Entry.{Entry}
 use Rattle.etf_terms.specs.Depth.{deepest}
 use Rattle.etf_terms.specs.Heads.{Head, kids}
 use Rattle.etf_terms.specs.Terms.{Terms, count, AreTerms}
-use Rattle.etf_terms.specs.Text.{terms_kind, closing, inner}
+use Rattle.etf_terms.specs.Text.{terms_kind, closing, inner, own_text}
 use Rattle.etf_terms.specs.Inner.Open.{Open}
 
 -- a head that was just read
@@ -48,7 +48,10 @@ pub record Moves {E : Type 0} (before after : SinkState) (whole : List ℕ) (roo
       (λ _. GainedFront before after whole)
   pub failed : OnErr result (SinkFailed before after)
 
--- the remaining bytes and entries come closer to the end
-abbrev pub Falls : {E : Type 0} → List ℕ → Open → Open → Result (Bor (List ℕ)) E → Type 0
-Falls rest before after result =
-    IfOk result (λ behind. 2 * length behind.now + length after.entries < 2 * length rest + length before.entries + 1)
+-- with one more entry, which was taken off
+abbrev pub StandsWith : Entry → Open → List ℕ → List ℕ → Type 0
+StandsWith e stack rest to_come = Stands stack.room (e ∷ stack.entries) rest to_come
+
+-- what the next term of an entry writes before its own terms
+abbrev pub own_of : Entry → Head → List ℕ
+own_of e head = own_text e.kind e.kids e.next head

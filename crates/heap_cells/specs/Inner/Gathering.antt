@@ -1,5 +1,5 @@
 -- Gathering the heap lines of the bodies one by one.
-use Rattle.std.specs.Prelude.{◌≡◌, ℕ, ◌+◌, ◌-◌, ◌≤◌, List, [], ◌++◌, length, slice_range, Option}
+use Rattle.std.specs.Prelude.{◌≡◌, ℕ, ◌+◌, ◌-◌, ◌≤◌, List, [], ◌∷◌, ◌++◌, length, slice_range, Option}
 use Rattle.field_lines.specs.Lines.{TextLine}
 use Rattle.binary_payloads.specs.declared.enc.Enc.{Enc}
 use Rattle.term_forms.specs.Elements.{Element, Nil, Small, Atom, Pid, Port, Ref}
@@ -10,10 +10,11 @@ use Rattle.cell_records.specs.declared.cells.Slot.{Slot}
 use Rattle.cell_records.specs.declared.cells.Slot.TheVariants as slot
 use Rattle.cell_records.specs.declared.cells.Span.{Span}
 use Rattle.heap_cells.specs.declared.gathering.Gathering.{Gathering}
-use Rattle.heap_cells.specs.Cells.{Cell, weight_of, weight, line_cells}
+use Rattle.std.specs.List.{filter_map}
+use Rattle.heap_cells.specs.Cells.{Cell, cell_of, weight_of, weight, line_cells}
 use Rattle.heap_cells.specs.Inner.Parts.{IsPart}
 use Rattle.heap_cells.specs.declared.texts.Texts.{Texts}
-use Rattle.heap_cells.specs.Inner.Texts.{text_of, seam_of}
+use Rattle.heap_cells.specs.Inner.Texts.{text_of, seam_of, weight_in}
 use Rattle.heap_cells.specs.Inner.Records.{cells_in, AreSlots}
 
 -- the slot of an element before references are resolved, given the part of the text that spells it
@@ -54,10 +55,28 @@ pub record Leads (text : List ℕ) (enc : Enc) (g : Gathering) (rest all : List 
   -- if there are no more lines and elements than the limit, the records of all are kept
   pub kept : g.weight ≤ g.dense → cells_in text enc g.arena.cells.items ++ rest ≡ all
 
+-- that of the cells of two bodies
+abbrev pub LeadsIn : Texts → Gathering → List Cell → List Cell → Type 0
+LeadsIn texts g rest all = Leads (text_of texts) texts.enc g rest all
+
+-- these cells were gathered: what led to all cells with these in front leads to them without these
+abbrev pub Gathers : Texts → Gathering → Gathering → List Cell → Type 0
+Gathers texts old new cells = (rest all : List Cell) → LeadsIn texts old (cells ++ rest) all → LeadsIn texts new rest all
+
+-- this line was gathered, if it is a heap line: what led to all cells with it in front of the other lines leads to them without it
+abbrev pub GathersLine : Texts → Gathering → Gathering → TextLine → Type 0
+GathersLine texts old new line = (rest : List TextLine) (more all : List Cell)
+    → LeadsIn texts old (filter_map (cell_of texts.enc) (line ∷ rest) ++ more) all
+    → LeadsIn texts new (filter_map (cell_of texts.enc) rest ++ more) all
+
+-- what is kept of two bodies are records and their slots, with no reference resolved
+abbrev pub IsGatheredIn : Texts → Gathering → Type 0
+IsGatheredIn texts g = IsGathered (text_of texts) (seam_of texts) texts.enc g
+
 -- what was gathered from both bodies, and how many of the cells come from the first
 pub record AreAll (texts : Texts) (g : Gathering) (own : ℕ) : Type 0 where
-  pub gathered : IsGathered (text_of texts) (seam_of texts) texts.enc g
-  pub weight_is : g.weight ≡ weight texts.enc texts.heap.items texts.literals.items
+  pub gathered : IsGatheredIn texts g
+  pub weight_is : g.weight ≡ weight_in texts
   -- if there are no more lines and elements than the limit, all are kept
   pub cells_are : g.weight ≤ g.dense
       → cells_in (text_of texts) texts.enc g.arena.cells.items ≡ line_cells texts.enc texts.heap.items ++ line_cells texts.enc texts.literals.items

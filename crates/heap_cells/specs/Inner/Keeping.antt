@@ -20,8 +20,13 @@ pub record IsIndexed (text : List ℕ) (seam : ℕ) (enc : Enc) (cells : List Ce
   pub kept_is : IsKept text seam enc (first_cells [] cells) kept.cells.items kept.slots.items
   pub own_is : kept_own ≡ length (first_cells [] (take own cells))
 
+-- the whole of a heap whose records stand for parts of two bodies
+abbrev pub IsArenaOf : Texts → Arena → List ℕ → ℕ → Type 0
+IsArenaOf texts arena order own =
+    IsArena (text_of texts) (seam_of texts) texts.enc arena.cells.items arena.slots.items order own
+
 -- the whole of the heap of two bodies
 pub record IsSettledHeap (texts : Texts) (found : Settled) : Type 0 where
-  pub arena : IsArena (text_of texts) (seam_of texts) texts.enc found.arena.cells.items found.arena.slots.items found.order.items found.own
+  pub arena : IsArenaOf texts found.arena found.order.items found.own
   pub cells_are : cells_in (text_of texts) texts.enc found.arena.cells.items ≡ cells_of texts.enc texts.heap.items texts.literals.items
   pub own_is : found.own ≡ own_count texts.enc texts.heap.items

@@ -1,5 +1,5 @@
 -- The beginning of a `binary` section's body.
-use Rattle.std.specs.Prelude.{◌≡◌, ℕ, List, drop, Option}
+use Rattle.std.specs.Prelude.{◌≡◌, ℕ, ◌≤◌, List, drop, Option, IfSome}
 use Rattle.std.specs.Option.{option_map}
 use Rattle.term_forms.specs.Words.{led_of}
 use Rattle.stored_binaries.specs.declared.leads.Lead.{Lead}
@@ -11,3 +11,7 @@ led_by body lead = (lead.length, drop lead.chars body)
 -- this is the beginning of the body, if it has such a one
 abbrev pub IsLeadOf : List ℕ → Option Lead → Type 0
 IsLeadOf body lead = option_map (led_by body) lead ≡ led_of body
+
+-- it ends within this many bytes
+abbrev pub IsLeadWithin : ℕ → Option Lead → Type 0
+IsLeadWithin size lead = IfSome lead (λ lead. lead.chars ≤ size)

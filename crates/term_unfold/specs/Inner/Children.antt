@@ -15,6 +15,7 @@ use Rattle.term_unfold.specs.declared.node.NodeKind.TheVariants as kinds
 use Rattle.term_unfold.specs.declared.children.Child.{Child as PlacedChild}
 use Rattle.term_unfold.specs.declared.children.Child.TheVariants as placed
 use Rattle.term_unfold.specs.Rules.{Child, Term, Item, terms, items, pairs}
+use Rattle.term_unfold.specs.declared.path.Entry.{Entry}
 
 -- the children of a cell that is a hash map or an inner node
 abbrev pub members_in : Option HeapForm → List Element
@@ -85,3 +86,15 @@ pub record IsChildAt (heap : List Cell) (children : List Child) (next most : ℕ
   pub child : option_map (child_shown heap) found ≡ slice_get children next
   pub placed : IfSome found (IsChild heap)
   pub few : IfSome found (λ _. next < most)
+
+-- it is one of the children of a cell, by what that is in the walk
+abbrev pub IsChildIn : HeapMap → NodeKind → CellIx → ℕ → ℕ → Option PlacedChild → Type 0
+IsChildIn heap kind ix next most found = IsChildAt heap.cells (children_in heap kind ix) next most found
+
+-- it is one of the children of a flat map whose keys are in another cell
+abbrev pub IsKeyedChild : HeapMap → CellIx → CellIx → ℕ → ℕ → Option PlacedChild → Type 0
+IsKeyedChild heap keys ix next most found = IsChildAt heap.cells (keyed_children heap keys ix) next most found
+
+-- the child that comes next in the innermost cell
+abbrev pub next_of_cell : List Cell → Entry → Option Child
+next_of_cell heap entry = slice_get (children_of heap entry.kind (number entry.cell)) entry.next

@@ -1,8 +1,10 @@
 -- The cells that a walk is in, from the innermost outwards.
-use Rattle.std.specs.Prelude.{◌≡◌, ℕ, ◌+◌, ◌<◌, Bool, true, false, if◌then◌else◌, List, [], ◌∷◌, length, map, slice_index_or}
+use Rattle.std.specs.Prelude.{◌≡◌, ℕ, ◌+◌, ◌<◌, Bool, true, false, if◌then◌else◌, List, [], ◌∷◌, length, map, drop, slice_index_or}
 use Rattle.heap_cells.specs.Cells.{Cell}
 use Rattle.heap_cells.specs.HeapMap.{HeapMap, IsBounded}
 use Rattle.heap_cells.specs.Targets.{number}
+use Rattle.binary_refs.specs.declared.entries.Entry.{Entry as Preview}
+use Rattle.binary_refs.specs.Previews.{AreFor}
 use Rattle.term_unfold.specs.Maps.{address_of}
 use Rattle.term_unfold.specs.declared.node.NodeKind.{NodeKind}
 use Rattle.term_unfold.specs.declared.node.NodeKind.TheVariants as kinds
@@ -15,6 +17,14 @@ pub record Entered : Type 0 where
   -- for how many entries memory has been taken
   pub reserved : ℕ
   pub entries : List Entry
+
+-- a walk over this many cells that is in none of them
+abbrev pub new_path : ℕ → Entered
+new_path cells = record { cells = cells; reserved = cells + 1; entries = [] }
+
+-- this is the innermost cell
+abbrev pub IsTop : List Entry → Entry → Type 0
+IsTop entries e = entries ≡ e ∷ drop 1 entries
 
 abbrev pub numbers_of : List Entry → List ℕ
 numbers_of entries = map (λ (e : Entry). number e.cell) entries
@@ -72,3 +82,8 @@ pub record IsTied (marks : List Bool) (capacity : ℕ) (entries : List Entry) : 
 pub record Serves (heap : HeapMap) (cells : ℕ) : Type 0 where
   pub size : cells ≡ length heap.cells
   pub bounded : IsBounded heap
+
+-- a path that serves the heap is in no cell, and the previews are for the heap
+abbrev pub IsIdle : HeapMap → List Preview → Entered → Type 0
+IsIdle heap previews path =
+    Serves heap path.cells × (path.entries ≡ []) × (path.reserved ≡ path.cells + 1) × AreFor heap.cells previews

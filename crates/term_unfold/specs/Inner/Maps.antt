@@ -9,7 +9,7 @@ use Rattle.term_unfold.specs.declared.maps.KeysAt.{KeysAt}
 use Rattle.term_unfold.specs.declared.maps.KeysAt.TheVariants as keys
 use Rattle.term_unfold.specs.declared.maps.MapChild.{MapChild}
 use Rattle.term_unfold.specs.declared.maps.MapChild.TheVariants as child
-use Rattle.term_unfold.specs.Maps.{Keys, no_keys, keys_of_map, keys_at, bad_keys, Member, pair_at, inner_at, bad_member, address_of}
+use Rattle.term_unfold.specs.Maps.{Keys, no_keys, keys_of_map, keys_at, bad_keys, Member, pair_at, inner_at, bad_member, address_of, cell_keys, cell_member}
 
 -- the cell that holds the keys
 pub record AreKeysOf (heap : List Cell) (n : ℕ) (keys : Keys) : Type 0 where
@@ -44,3 +44,11 @@ IsMemberAt heap member (child.Bad address why) = member ≡ bad_member address w
 abbrev pub form_keys : List Cell → ℕ → Option HeapForm → Keys
 form_keys heap map (Some (Flat keys values)) = keys_of_map heap map keys values
 form_keys heap map form = no_keys
+
+-- the keys that the cell with a number holds for this many values
+abbrev pub keys_in : List Cell → ℕ → ℕ → Keys
+keys_in heap n size = cell_keys (address_of heap n) size (Some (form_at heap n))
+
+-- the child of a hash map that the cell with a number is
+abbrev pub member_in : List Cell → ℕ → Member
+member_in heap n = cell_member (address_of heap n) (Some (form_at heap n))

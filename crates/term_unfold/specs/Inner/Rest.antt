@@ -1,5 +1,5 @@
 -- What the open cells of a walk have yet to write.
-use Rattle.std.specs.Prelude.{◌≡◌, ◌⊎◌, ℕ, zero, suc, ◌+◌, ◌<◌, ◌≤◌, length, drop, slice_get, Bool, true, false, not, nat_lt, if◌then◌else◌, List, [], ◌∷◌, ◌++◌, codes, Option, None, Some}
+use Rattle.std.specs.Prelude.{◌≡◌, ◌⊎◌, ℕ, zero, suc, ◌+◌, ◌<◌, ◌≤◌, length, drop, Bool, true, false, not, nat_lt, if◌then◌else◌, List, [], ◌∷◌, ◌++◌, codes, Option, None, Some}
 use Rattle.term_forms.specs.Forms.{HeapForm}
 use Rattle.term_forms.specs.Seen.{element}
 use Rattle.heap_cells.specs.Cells.{Cell}
@@ -18,7 +18,7 @@ use Rattle.term_unfold.specs.declared.turns.Turn.{Turn}
 use Rattle.term_unfold.specs.Inner.Coming.{left_of}
 use Rattle.term_unfold.specs.Inner.Entries.{Entered, came_of, is_item, path_of}
 use Rattle.term_unfold.specs.Inner.Openings.{element_of, immediate_of, is_immediate, IsLeafCell, Opens}
-use Rattle.term_unfold.specs.Inner.Children.{children_of, child_shown, IsChild}
+use Rattle.term_unfold.specs.Inner.Children.{child_shown, IsChild, next_of_cell}
 use Rattle.term_unfold.specs.Rules.{Child}
 use Rattle.term_unfold.specs.Text.{Shown, shown, Stand, Cut, At, closed, comma_text, bad_text, node_text, head_text, tail_text, elements_text, keys_text, values_text, items_text, item_text, pair_text, value_text}
 use Rattle.term_unfold.specs.Trees.{Value, Immediate, OfCell, Trees, none, more}
@@ -155,7 +155,7 @@ pub record AtChild (heap : HeapMap) (path : Entered) (entry : Entry) (child : Pl
   pub top : path.entries ≡ entry ∷ drop 1 path.entries
   pub few : length path.entries ≤ length heap.cells
   pub next_few : entry.next < 200000000
-  pub at : slice_get (children_of heap.cells entry.kind (number entry.cell)) entry.next ≡ Some (child_shown heap.cells child)
+  pub at : next_of_cell heap.cells entry ≡ Some (child_shown heap.cells child)
   pub placed : IsChild heap.cells child
   pub opens : Opens heap path (child_shown heap.cells child) found
 

@@ -1,14 +1,15 @@
 use Rattle.std.proofs.Common.{◌∙◌, ap, arith}
 use Rattle.process_table.specs.Processes.{process_at}
 use Rattle.dump_triage.specs.Triage.{stated_number}
-use Rattle.dump_triage.proofs.RankFacts.{largest-all, process-there, rows-more}
+use Rattle.process_table.specs.Laws.{process_at-there}
+use Rattle.dump_triage.proofs.RankFacts.{largest-all, rows-more}
 use Rattle.dump_triage.proofs.numbers.longest_queues.Goals as goal
 
 pub loop-p-preserved : goal.loop-p-preserved
 loop-p-preserved c =
     let processes = c.args.procs.now.processes in
     let p = c.loop-p.p in
-    rows-more (λ item. stated_number item.1.queue) processes p (process_at processes p) _ _ _ (process-there processes p (omega arith)) c.loop-p.invariant
+    rows-more (λ item. stated_number item.1.queue) processes p (process_at processes p) _ _ _ (process_at-there processes p (omega arith)) c.loop-p.invariant
     (c.number_in.ensures ∙ ap stated_number c.queue.ensures) c.in_ok-push_row.ensures
 
 pub returns : goal.returns

@@ -1,7 +1,7 @@
 use Rattle.std.proofs.Common.{◌<◌, length, arith}
 use Rattle.dump_io.specs.Laws.Puts.{HasPut-more, Puts-broken}
 use Rattle.report_text.specs.Tables.{row_line}
-use Rattle.report_text.proofs.TableFacts.{row_at-there}
+use Rattle.section_rows.specs.Laws.{row_at-there}
 use Rattle.report_text.proofs.table_report.put_all.Goals as goal
 
 pub loop-i-preserved : goal.loop-i-preserved

@@ -4,7 +4,8 @@ use Rattle.dump_io.specs.Laws.Puts.{HasPut-more, Puts-broken, Puts-all, Puts-as}
 use Rattle.section_rows.specs.Rows.{row_at, cell_at}
 use Rattle.report_lines.specs.Lines.{tab}
 use Rattle.report_text.specs.Inner.Rows.{next_cell}
-use Rattle.report_text.proofs.TableFacts.{cell_at-there, even-row}
+use Rattle.section_rows.specs.Laws.{cell_at-there}
+use Rattle.report_text.proofs.TableFacts.{even-row}
 use Rattle.report_text.proofs.table_report.put_cells.Goals as goal
 
 pub loop-c-preserved : goal.loop-c-preserved

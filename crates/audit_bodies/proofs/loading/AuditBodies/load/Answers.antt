@@ -34,5 +34,5 @@ returns-clause-loads g c =
       allowed = on-ok c.read_bodies.result none;
       unread = λ some. absurd (let no : ⊥ = cc (sym (ap is_some none) ∙ some) in no);
       fault = IfErr-weaker c.read_bodies.result _ _
-          (λ fault is. AreRefused-unread limit bodies (d.state c.args.dumps.now) (d.state c.read_bodies.new.dumps) fault is) c.read_bodies.ensures.fault;
+          (λ fault is. AreRefused-unread limit bodies (d.state c.args.dumps.now) (d.state c.read_bodies.new.dumps) fault none is) c.read_bodies.ensures.fault;
     }

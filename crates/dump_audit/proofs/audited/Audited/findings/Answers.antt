@@ -2,8 +2,8 @@ use Rattle.std.proofs.Common.{◌≡◌, ◌≤◌, ◌<◌, ◌++◌, length, S
 use Rattle.std.specs.Prelude.{flat_map, slice_get}
 use Rattle.std.specs.List.{enumerate_from}
 use Rattle.std.proofs.lemmas.List.{take_all}
-use Rattle.std.proofs.lemmas.Option.{slice_get-get_or, unwrap_or-slice_get}
-use Rattle.process_table.specs.Processes.{nobody, process_at}
+use Rattle.process_table.specs.Laws.{process_at-there}
+use Rattle.process_table.specs.Processes.{process_at}
 use Rattle.dump_audit.specs.Findings.{process_findings}
 use Rattle.dump_audit.specs.Laws.{all-at}
 use Rattle.dump_audit.proofs.audited.Audited.findings.Goals as goal
@@ -13,7 +13,7 @@ loop-p-preserved c =
     let a = c.args.self.now in
     let p = c.loop-p.p in
     let inside : p < length a.processes = omega arith in
-    let at : slice_get a.processes p ≡ Some (process_at a.processes p) = slice_get-get_or a.processes p nobody inside ∙ ap Some (sym (unwrap_or-slice_get a.processes p nobody)) in
+    let at : slice_get a.processes p ≡ Some (process_at a.processes p) = process_at-there a.processes p inside in
     c.in_ok-add_process.ensures
     ∙ ap (λ l. l ++ process_findings a (p, process_at a.processes p)) c.loop-p.invariant
     ∙ sym (all-at (process_findings a) a.processes p (process_at a.processes p) at)

@@ -7,8 +7,8 @@ use Rattle.line_source.specs.Receiver.{stop_value}
 use Rattle.line_source.specs.Scan.{Scan, StandsFor}
 use Rattle.line_source.specs.Inner.Ends.{EndsTooLong, EndsRefused}
 use Rattle.line_source.specs.Inner.LastLine.{header_bytes}
-use Rattle.line_source.proofs.Stretches.{lacks_lf}
-use Rattle.line_source.proofs.HeaderLines.{lacks-before, header-known, EndsTooLong-here, EndsRefused-here, around-lf, up-to-lf, new_headers-line, new_headers-longer, kept-offset, kept-bytes, StandsFor-kept, StandsFor-heard, heard-kept}
+use Rattle.dump_io.specs.Laws.LineFeeds.{lacks_lf, upto-lf}
+use Rattle.line_source.proofs.HeaderLines.{lacks-before, header-known, EndsTooLong-here, EndsRefused-here, around-lf, new_headers-line, new_headers-longer, kept-offset, kept-bytes, StandsFor-kept, StandsFor-heard, heard-kept}
 use Rattle.line_source.proofs.Scans.{Takes-stopped}
 use Rattle.line_source.proofs.line_scan.LineScan.take_header.Goals as goal
 
@@ -82,13 +82,13 @@ returns-in_ok-hear-in-Some g c =
       limit = ap (λ (s : Scan). s.limit) h.ok ∙ ap (λ (s : Scan). s.limit) k.ok;
       stop = ap stop_value h.hears.1;
       stands = λ stream stands.
-          subst (λ bytes. StandsFor c.hear.new.self (stream ++ bytes)) (sym (up-to-lf rest end first.high c.in-Some.ensures.1))
+          subst (λ bytes. StandsFor c.hear.new.self (stream ++ bytes)) (sym (upto-lf rest end first.high c.in-Some.ensures.1))
           (StandsFor-heard scan c.keep.new.self c.hear.new.self stream x stands c.requires.header k.within_offset
           (lacks-before rest end (omega (arith, first.high)) first.before) k.fits k.ok h.ok);
       heard = λ stream stands.
           h.hears.0
           ∙ ap (λ h. before ++ h ∷ []) (heard-kept scan c.keep.new.self x k.ok)
-          ∙ ap (λ hs. before ++ hs) (sym (ap (new_headers stream) (up-to-lf rest end first.high c.in-Some.ensures.1)
+          ∙ ap (λ hs. before ++ hs) (sym (ap (new_headers stream) (upto-lf rest end first.high c.in-Some.ensures.1)
           ∙ new_headers-line scan stream (header_bytes scan.last) x stands (header-known scan.last c.requires.header)
           (lacks-before rest end (omega (arith, first.high)) first.before)));
       ends = tt;
