@@ -1,0 +1,5 @@
+mod FrameFacts
+mod PlaceFacts
+mod ReadFacts
+mod Records
+mod TallyFacts

@@ -1,0 +1,16 @@
+use Rattle.std.proofs.Common.{◌≡◌, ℕ, List, length, map, take}
+use Rattle.dump_io.specs.Dumps.{told, ReadsAtMost}
+use Rattle.process_stacks.specs.Groups.{stand_of}
+use Rattle.process_stacks.specs.Rows.{stacks_length}
+use Rattle.process_stacks.specs.Inner.Counting.{shown_stands}
+use Rattle.process_stacks.proofs.reading.read_stands.Given as goal
+
+-- where the processes so far stand was read
+abbrev pub invariant-loop-p : goal.invariant-loop-p
+invariant-loop-p g l =
+    let d = g.D.Dumps in
+    record {
+      reads : ReadsAtMost (d.state l.initial.dumps) (d.state l.dumps) (stacks_length l.index (take l.p l.procs));
+      count : length l.stands.items ≡ l.p;
+      stands : (dump : List ℕ) → (d.state l.initial.dumps).now ≡ told dump → shown_stands l.stands.items ≡ map (stand_of dump l.index) (take l.p l.procs);
+    }

@@ -1,0 +1,6 @@
+pub mod Frames
+pub mod Groups
+pub mod Inner
+pub mod Places
+pub mod Rows
+pub mod Stacks

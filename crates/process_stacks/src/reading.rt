@@ -1,0 +1,156 @@
+// Reading the stacks of processes, one after another.
+ghost use Rattle.std.specs.Prelude.{◌≡◌, ℕ, List, ◌-◌, ◌<◌, ◌≤◌, ◌++◌, [], ◌∷◌, codes, length, map, IfOk, IfErr, OnOk};
+ghost use Rattle.std.specs.List.{between};
+ghost use Rattle.dump_io.specs.Dumps.{told, size_of, IsOpen, ReadsAtMost};
+ghost use Rattle.dump_sections.specs.Bodies.{body_in, body_size, section_in};
+ghost use Rattle.dump_sections.specs.Index.{IsBuiltOver};
+ghost use Rattle.section_rows.specs.Rows.{row_at};
+ghost use Rattle.process_stacks.specs.Groups.{stand_of};
+ghost use Rattle.process_stacks.specs.Rows.{stack_section, stacks_length};
+ghost use Rattle.process_stacks.specs.Stacks.{IsStackCauseOf};
+ghost use Rattle.process_stacks.specs.Inner.Counting.{shown_stand, shown_stands};
+ghost use Rattle.process_stacks.specs.Inner.Reading.{AreStacksOf, HasFrames, IsWithin};
+
+use crate::faults::StackFault;
+use crate::frame_sink::{FrameSink, Stop};
+use crate::place_lines::first_lines;
+use crate::procs::StackProcs;
+use crate::stands::Stand;
+use body_lines::{WholeLinesFault, hear_whole_lines};
+use dump_io::Dumps;
+use dump_sections::Index;
+use first_sections::FirstSections;
+use std::alloc::Global;
+
+// How many infos of a stack are its frames.
+const FRAMES: usize = 20;
+
+// Appends the lines of the frames of a stack whose body lies between two offsets.
+fn hear_frames<D: Dumps>(
+    dumps: &mut D,
+    from: u64,
+    upto: u64,
+    lines: Vec<u8>,
+    buffer: &mut Vec<u8>,
+) -> Result<Vec<u8>, StackFault>
+    requires open { IsOpen (D.state dumps.old).now }
+    requires within { upto ≤ size_of (D.state dumps.old).now }
+    requires ordered { from ≤ upto }
+    ensures reads { ReadsAtMost (D.state dumps.old) (D.state dumps.new) (upto - from) }
+    ensures fault { IfErr result (IsStackCauseOf (D.state dumps.old) (D.state dumps.new)) }
+    ensures frames { IfOk result (λ all. (dump : List ℕ) → (D.state dumps.old).now ≡ told dump
+        → HasFrames (between from upto dump) lines.items all.items) }
+{
+    let mut sink = FrameSink {
+        left: FRAMES,
+        lines,
+    };
+    match hear_whole_lines(dumps, from, upto, buffer, &mut sink) {
+        Ok(()) => Ok(sink.lines),
+        Err(WholeLinesFault::Stopped(Stop::Full)) => Ok(sink.lines),
+        Err(WholeLinesFault::Stopped(Stop::NoMemory)) => Err(StackFault::Memory),
+        Err(WholeLinesFault::Memory) => Err(StackFault::Memory),
+        Err(WholeLinesFault::Read) => Err(StackFault::Read),
+    }
+}
+
+// Appends the lines of the frames of the stack at a place. A process without a stack has none.
+fn read_frames<D: Dumps>(
+    dumps: &mut D,
+    index: &Index,
+    place: Option<usize>,
+    lines: Vec<u8>,
+    buffer: &mut Vec<u8>,
+) -> Result<Vec<u8>, StackFault>
+    requires over { IsBuiltOver (D.state dumps.old).now index.now }
+    requires within { IsWithin index.now place }
+    ensures reads { ReadsAtMost (D.state dumps.old) (D.state dumps.new)
+        (body_size (section_in index.now place)) }
+    ensures fault { IfErr result (IsStackCauseOf (D.state dumps.old) (D.state dumps.new)) }
+    ensures frames { IfOk result (λ all. (dump : List ℕ) → (D.state dumps.old).now ≡ told dump
+        → HasFrames (body_in dump (section_in index.now place)) lines.items all.items) }
+{
+    let Some(i) = place else {
+        return Ok(lines);
+    };
+    let section = index.section(i);
+    hear_frames(dumps, section.body, section.end, lines, buffer)
+}
+
+// Where the stack of the process at a place is.
+fn stack_place(stacks: &FirstSections<'_>, procs: &StackProcs, p: usize) -> Option<usize>
+    requires process { p < length procs.now }
+    requires tag { stacks.now.tag ≡ codes "proc_stack" }
+    ensures within { IsWithin stacks.now.index result }
+    ensures section { section_in stacks.now.index result
+        ≡ stack_section stacks.now.index (row_at procs.now p) }
+{
+    stacks.get(procs.pid(p))
+}
+
+// Reads where the process at a place stands.
+fn read_stand<D: Dumps>(
+    alloc: Global,
+    dumps: &mut D,
+    index: &Index,
+    stacks: &FirstSections<'_>,
+    procs: &StackProcs,
+    p: usize,
+    buffer: &mut Vec<u8>,
+) -> Result<Stand, StackFault>
+    requires over { IsBuiltOver (D.state dumps.old).now index.now }
+    requires stacks { AreStacksOf index.now stacks.now }
+    requires process { p < length procs.now }
+    ensures reads { ReadsAtMost (D.state dumps.old) (D.state dumps.new)
+        (body_size (stack_section index.now (row_at procs.now p))) }
+    ensures fault { IfErr result (IsStackCauseOf (D.state dumps.old) (D.state dumps.new)) }
+    ensures stand { IfOk result (λ stand. (dump : List ℕ) → (D.state dumps.old).now ≡ told dump
+        → shown_stand stand ≡ stand_of dump index.now (row_at procs.now p)) }
+{
+    let place = stack_place(stacks, procs, p);
+    let Ok(first) = first_lines(alloc, procs, p) else {
+        return Err(StackFault::Memory);
+    };
+    let lines = read_frames(dumps, index, place, first, buffer)?;
+    Ok(Stand {
+        lines,
+        memory: procs.memory(p),
+    })
+}
+
+// Appends a process.
+fn push_stand(stands: &mut Vec<Stand>, stand: Stand) -> Result<(), StackFault>
+    ensures stands { OnOk result (stands.new.items ≡ stands.old.items ++ stand ∷ []) }
+    ensures fault { IfErr result (λ fault. fault ≡ StackFault.Memory) }
+{
+    match stands.push(stand) {
+        Ok(()) => Ok(()),
+        Err(_) => Err(StackFault::Memory),
+    }
+}
+
+/// Reads where each process stands.
+pub(crate) fn read_stands<D: Dumps>(
+    alloc: Global,
+    dumps: &mut D,
+    index: &Index,
+    stacks: &FirstSections<'_>,
+    procs: &StackProcs,
+) -> Result<Vec<Stand>, StackFault>
+    requires over { IsBuiltOver (D.state dumps.old).now index.now }
+    requires stacks { AreStacksOf index.now stacks.now }
+    ensures reads { ReadsAtMost (D.state dumps.old) (D.state dumps.new)
+        (stacks_length index.now procs.now) }
+    ensures fault { IfErr result (IsStackCauseOf (D.state dumps.old) (D.state dumps.new)) }
+    ensures count { IfOk result (λ stands. length stands.items ≡ length procs.now) }
+    ensures stands { IfOk result (λ stands. (dump : List ℕ) → (D.state dumps.old).now ≡ told dump
+        → shown_stands stands.items ≡ map (stand_of dump index.now) procs.now) }
+{
+    let mut buffer = Vec::new(alloc);
+    let mut stands = Vec::new(alloc);
+    for p in 0..procs.len() {
+        let stand = read_stand(alloc, dumps, index, stacks, procs, p, &mut buffer)?;
+        push_stand(&mut stands, stand)?;
+    }
+    Ok(stands)
+}

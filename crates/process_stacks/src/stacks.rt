@@ -1,0 +1,123 @@
+// The processes of a dump by the places at which they stand.
+ghost use Rattle.std.specs.Prelude.{◌≡◌, ℕ, List, [], ◌<◌, codes, length, slice_index_or, IfOk, IfErr};
+ghost use Rattle.dump_io.specs.Dumps.{told, ReadsAtMost};
+ghost use Rattle.dump_sections.specs.Index.{IsBuiltOver};
+ghost use Rattle.size_order.specs.Sorting.{most_first};
+ghost use Rattle.process_stacks.specs.Groups.{found_from, groups, FitsStacks};
+ghost use Rattle.process_stacks.specs.Rows.{stacks_length};
+ghost use Rattle.process_stacks.specs.Stacks.{IsStackCauseOf};
+ghost use Rattle.process_stacks.specs.Inner.Counting.{places_in, shown_stands};
+ghost use Rattle.process_stacks.specs.Inner.Reading.{AreStacksOf};
+
+use crate::faults::StackFault;
+use crate::groups::StackGroup;
+use crate::procs::StackProcs;
+use crate::reading::read_stands;
+use crate::stands::Stand;
+use crate::tallies::groups_of;
+use dump_io::Dumps;
+use dump_sections::Index;
+use first_sections::FirstSections;
+use size_order::sort_most_first;
+use std::alloc::Global;
+use std::marker::Model;
+
+/// The processes of a dump by the places at which they stand.
+#[derive(Drop)]
+pub struct Stacks {
+    stands: Vec<Stand>,
+    groups: Vec<StackGroup>,
+}
+
+impl Model for Stacks {
+    ghost use Rattle.process_stacks.specs.Groups.{Found};
+    ghost use Rattle.process_stacks.specs.Inner.Counting.{places_in};
+
+    ghost Value = { Found };
+
+    ghost view = { λ s. record { places = places_in s.stands.items; groups = s.groups.items } };
+}
+
+// The stacks of an index by their pids.
+fn find_stacks<'a>(alloc: Global, index: &'a Index) -> Result<FirstSections<'a>, StackFault>
+    ensures stacks { IfOk result (AreStacksOf index.now) }
+    ensures fault { IfErr result (λ fault. fault ≡ StackFault.Memory) }
+{
+    match FirstSections::find(alloc, index, b"proc_stack") {
+        Ok(stacks) => Ok(stacks),
+        Err(_) => Err(StackFault::Memory),
+    }
+}
+
+// The groups of these processes, the largest first.
+fn sorted_groups(alloc: Global, stands: &[Stand]) -> Result<Vec<StackGroup>, StackFault>
+    ensures groups { IfOk result (λ found. found.items
+        ≡ most_first (λ group. group.count) (groups (shown_stands stands.now))) }
+    ensures fault { IfErr result (λ fault. fault ≡ StackFault.Memory) }
+{
+    let Ok(mut groups) = groups_of(alloc, stands) else {
+        return Err(StackFault::Memory);
+    };
+    match sort_most_first(&mut groups) {
+        Ok(()) => Ok(groups),
+        Err(_) => Err(StackFault::Memory),
+    }
+}
+
+// The lines of the place at which a process stands.
+fn lines_at(stands: &[Stand], process: usize) -> &[u8]
+    requires { process < length stands.now }
+    ensures { result.now ≡ slice_index_or (places_in stands.now) process [] }
+{
+    stands[process].lines.as_slice()
+}
+
+impl Stacks {
+    /// Reads the stacks of processes, and groups these by the places at which they stand.
+    ///
+    /// The place of a process is its first field `Program counter`, its first field `Current call`, of each at most
+    /// the first 255 bytes, or nothing, and the frames of its stack. These are the first 20 infos of the first
+    /// `proc_stack` section of its pid, of each at most the first 255 bytes. The largest group comes
+    /// first; of equal ones that whose first process comes first in the dump.
+    ///
+    /// The index was built over the open file, which stays open, and the processes are those of the index.
+    /// Returns `Read` only if the device's count of faults rose; `Memory` may come from any allocation. Whatever
+    /// it returns, at most as many bytes are read as the stacks have together. They are read one at a time, in
+    /// pieces of at most 65,536 bytes, into a buffer that grows only to hold a line that is longer.
+    pub fn gather<D: Dumps>(
+        alloc: Global,
+        dumps: &mut D,
+        index: &Index,
+        procs: &StackProcs,
+    ) -> Result<Stacks, StackFault>
+        requires { IsBuiltOver (D.state dumps.old).now index.now }
+        ensures reads { ReadsAtMost (D.state dumps.old) (D.state dumps.new)
+            (stacks_length index.now procs.now) }
+        ensures found { IfOk result (λ stacks. (dump : List ℕ) → (D.state dumps.old).now ≡ told dump
+            → stacks ≡ found_from dump index.now procs.now) }
+        ensures fits { IfOk result (FitsStacks (length procs.now)) }
+        ensures fault { IfErr result (IsStackCauseOf (D.state dumps.old) (D.state dumps.new)) }
+    {
+        let firsts = find_stacks(alloc, index)?;
+        let stands = read_stands(alloc, dumps, index, &firsts, procs)?;
+        let groups = sorted_groups(alloc, &stands)?;
+        Ok(Stacks { stands, groups })
+    }
+
+    /// The groups of processes that stand at the same place, the largest first.
+    pub fn groups(&self) -> &[StackGroup]
+        ensures { result.now ≡ self.now.groups }
+    {
+        self.groups.as_slice()
+    }
+
+    /// The lines of the place at which a process stands, by the place of the process among the others, from 0:
+    /// `at`, a tab and the program counter, if there is one; `call`, a tab and the current call, if there
+    /// is one; and for each frame `frame`, a tab and its text.
+    pub fn place(&self, process: usize) -> &[u8]
+        requires { process < length self.now.places }
+        ensures { result.now ≡ slice_index_or self.now.places process [] }
+    {
+        lines_at(self.stands.as_slice(), process)
+    }
+}
