@@ -1,5 +1,5 @@
 // The bodies of an audit: all of them are judged on the index before one is read.
-ghost use Rattle.std.specs.Prelude.{◌≡◌, ℕ, List, [], ◌++◌, length, All, Some, None, ◌<◌, IfOk, IfErr, if◌then◌else◌};
+ghost use Rattle.std.specs.Prelude.{◌≡◌, [], length, All, Some, None, ◌<◌, IfOk, IfErr, if◌then◌else◌};
 ghost use Rattle.dump_io.specs.Dumps.{IfTold, ReadsAtMost};
 ghost use Rattle.dump_sections.specs.Index.{IsBuiltOver, sections_in};
 ghost use Rattle.dump_sections.specs.Loading.{bodies_length, large_fault, sections_at, IsUnloaded, LoadsBodies};
@@ -126,8 +126,8 @@ impl AuditBodies {
         limits: &Limits,
     ) -> Result<AuditBodies, BodyFault>
         requires { IsBuiltOver (D.state dumps.old).now index.now }
-        ensures loads { LoadsBodies D.state (audited_sections full (sections_in index.now)) limits.now.section
-            dumps.old dumps.new result }
+        ensures loads { LoadsBodies D.state (audited_sections full (sections_in index.now))
+            limits.now.section dumps.old dumps.new result }
         ensures bodies { IfOk result (λ read. IfTold (D.state dumps.old).now
             (λ bytes. AreBodiesOf full index.now bytes read)) }
         ensures auditable { IfOk result (IsAuditable index.now) }

@@ -1,29 +1,40 @@
 -- What is counted when a line refers to a binary.
-use Rattle.std.proofs.Common.{◌≡◌, ◌≢◌, ℕ, zero, suc, ◌+◌, ◌-◌, ◌^◌, ◌<◌, ◌≤◌, ◌==◌, Bool, true, false, cond, ◌||◌, List, [], ◌∷◌, ◌++◌, length, get_or, set, None, Some, refl, sym, ◌∙◌, ap, subst, arith, append-nil, append_assoc, ⊎_elim}
+use Rattle.std.proofs.Common.{◌≡◌, ◌≢◌, ℕ, zero, suc, ◌+◌, ◌-◌, ◌^◌, ◌<◌, ◌≤◌, ◌==◌, Bool, true, false, cond, not, ◌&&◌, ◌||◌, List, [], ◌∷◌, ◌++◌, length, get_or, set, None, Some, refl, sym, ◌∙◌, ap, subst, arith, append-nil, append_assoc, ⊎_elim}
 use Rattle.std.specs.Prelude.{min, slice_index, replicate}
 use Rattle.std.specs.List.{count_by, sum_by, filter}
 use Rattle.std.proofs.lemmas.Bool.{cases_eq, eq-eqb, ne_eqb}
-use Rattle.std.proofs.lemmas.List.{get_or-map, get_or-set_same, get_or-set_other, length-set, length-map, length_push}
+use Rattle.std.proofs.lemmas.List.{get_or-map, get_or-set_same, get_or-set_other, length-set, length-map, length_push, map-append}
 use Rattle.std.proofs.lemmas.List.Folds.{list_any-append, list_any_at, list_any_none}
 use Rattle.std.proofs.lemmas.List.Elements.{All-from_get_or}
 use Rattle.std.proofs.lemmas.List.Sums.{sum_by-cons, sum_by_push, count_by-le-length}
 use Rattle.binary_holders.specs.declared.rows.Holding.{Holding}
 use Rattle.binary_holders.specs.declared.targets.Binary.{Binary}
 use Rattle.binary_holders.specs.declared.counts.Counts.{Counts}
-use Rattle.binary_holders.specs.Held.{bytes_held, capped, cells_holding, holding_of, holds, holders_of}
+use Rattle.size_order.specs.Sums.{capped}
+use Rattle.binary_holders.specs.Held.{bytes_held, cells_holding, holding_of, holds, holders_of, is_unstored, whole_lines}
 use Rattle.binary_holders.specs.StoredBinaries.{is_among}
 use Rattle.binary_holders.specs.Inner.Places.{numbers_in, IsOnlyPlace}
-use Rattle.binary_holders.specs.Inner.Counting.{number_at, counted, HasCounted, HasRoom, Adds, KeepsRoom}
+use Rattle.binary_holders.specs.HeapReferences.{numbers_referred}
+use Rattle.binary_holders.specs.declared.rows.WholeLines.{WholeLines}
+use Rattle.binary_holders.specs.declared.texts.Reference.{Reference}
+use Rattle.binary_holders.specs.Inner.Counting.{number_at, counted, HasCounted, HasRoom, Adds, AddsNumbers, KeepsRoom}
 use Rattle.binary_holders.proofs.SumFacts.{sum-agree, sum-differs, sum-filter, sum-part}
 
 -- ---- several references one after another
 
-pub Adds-then : (binaries : List Binary) (old mid new : Counts) (xs ys : List ℕ) → Adds binaries old mid xs → Adds binaries mid new ys → Adds binaries old new (xs ++ ys)
-Adds-then binaries old mid new xs ys first second = record {
+numbers-then : (binaries : List Binary) (old mid new : Counts) (xs ys : List ℕ) → AddsNumbers binaries old mid xs → AddsNumbers binaries mid new ys → AddsNumbers binaries old new (xs ++ ys)
+numbers-then binaries old mid new xs ys first second = record {
   later = λ heaps refs had. subst (λ l. HasCounted binaries heaps l new) (append_assoc refs xs ys) (second.later heaps (refs ++ xs) (first.later heaps refs had));
 }
 
-pub Adds-as : (binaries : List Binary) (old new : Counts) (xs ys : List ℕ) → xs ≡ ys → Adds binaries old new xs → Adds binaries old new ys
+pub Adds-then : (binaries : List Binary) (old mid new : Counts) (xs ys : List Reference) → Adds binaries old mid xs → Adds binaries mid new ys → Adds binaries old new (xs ++ ys)
+Adds-then binaries old mid new xs ys first second = record {
+  numbers = subst (AddsNumbers binaries old new) (sym (map-append (λ (r : Reference). r.number) xs ys))
+      (numbers-then binaries old mid new (numbers_referred xs) (numbers_referred ys) first.numbers second.numbers);
+  lines = λ before is. second.lines (before ++ xs) (first.lines before is) ∙ ap (whole_lines binaries) (append_assoc before xs ys);
+}
+
+pub Adds-as : (binaries : List Binary) (old new : Counts) (xs ys : List Reference) → xs ≡ ys → Adds binaries old new xs → Adds binaries old new ys
 Adds-as binaries old new xs ys same had = subst (Adds binaries old new) same had
 
 -- ---- one reference more
@@ -149,12 +160,15 @@ pub length-numbers : (binaries : List Binary) → length (numbers_in binaries) �
 length-numbers binaries = length-map binaries (λ (b : Binary). b.number)
 
 -- a reference to none of them
-pub add-unknown : (binaries : List Binary) (counts : Counts) (n : ℕ) → IsOnlyPlace (numbers_in binaries) n None → Adds binaries counts counts (n ∷ [])
+pub unknown : (binaries : List Binary) (n : ℕ) → IsOnlyPlace (numbers_in binaries) n None → is_among (numbers_in binaries) n ≡ false
+unknown binaries n none =
+    list_any_none (λ m. m == n) (numbers_in binaries) (All-from_get_or (λ m. (m == n) ≡ false) (numbers_in binaries) 0 (λ k inside. ne_eqb (get_or (numbers_in binaries) k 0) n (none k inside)))
+
+pub add-unknown : (binaries : List Binary) (counts : Counts) (n : ℕ) → IsOnlyPlace (numbers_in binaries) n None → AddsNumbers binaries counts counts (n ∷ [])
 add-unknown binaries counts n none = record {
   later = λ heaps refs had.
+      let gone = unknown binaries n none in
       let stays = λ (k : ℕ) (inside : k < length binaries). among-other refs n (number_at binaries k) (λ same. none k (omega (arith, inside, length-numbers binaries)) (sym same)) in
-      let gone : is_among (numbers_in binaries) n ≡ false =
-      list_any_none (λ m. m == n) (numbers_in binaries) (All-from_get_or (λ m. (m == n) ≡ false) (numbers_in binaries) 0 (λ k inside. ne_eqb (get_or (numbers_in binaries) k 0) n (none k inside))) in
       counted-stays binaries refs n stays heaps counts counts.cells had
       (had.cells ∙ ap capped (sym (cells-as binaries refs n ∙ ap (λ t. cells_holding binaries refs + one t) gone ∙ (let e : cells_holding binaries refs + 0 ≡ cells_holding binaries refs = omega arith in e))));
 }
@@ -167,7 +181,7 @@ module _ (binaries : List Binary) (n p : ℕ) (only : IsOnlyPlace (numbers_in bi
   apart : (k : ℕ) → k < length binaries → k ≢ p → n ≢ number_at binaries k
   apart k inside other same = other (only.2 k (omega (arith, inside, length-numbers binaries)) (sym same))
 
-  known : is_among (numbers_in binaries) n ≡ true
+  pub known : is_among (numbers_in binaries) n ≡ true
   known = list_any_at (λ m. m == n) (numbers_in binaries) p 0 only.0 (eq-eqb (get_or (numbers_in binaries) p 0) n only.1)
 
   one-cell : (refs : List ℕ) (old new : ℕ) → old ≡ capped (cells_holding binaries refs) → new ≡ min (old + 1) (2 ^ 64 - 1) → new ≡ capped (cells_holding binaries (refs ++ n ∷ []))
@@ -178,7 +192,7 @@ module _ (binaries : List Binary) (n p : ℕ) (only : IsOnlyPlace (numbers_in bi
 
   -- the heap holds it already
   pub add-again : (counts : Counts) (cells : ℕ) → slice_index counts.seen.items p ≡ counts.turn → cells ≡ min (counts.cells + 1) (2 ^ 64 - 1)
-      → Adds binaries counts (record counts { cells = cells }) (n ∷ [])
+      → AddsNumbers binaries counts (record counts { cells = cells }) (n ∷ [])
   add-again counts cells held is = record {
     later = λ heaps refs had.
         let there : is_among refs (number_at binaries p) ≡ true = sym (had.seen p within) ∙ eq-eqb (slice_index counts.seen.items p) counts.turn held in
@@ -194,7 +208,7 @@ module _ (binaries : List Binary) (n p : ℕ) (only : IsOnlyPlace (numbers_in bi
   pub add-new : (counts new : Counts) → sum_by (λ (b : Binary). b.size) binaries < 2 ^ 128 → length binaries + 1 < 2 ^ 64 → counts.turn < 2 ^ 32 → slice_index counts.seen.items p ≢ counts.turn → new.turn ≡ counts.turn
       → new.seen.items ≡ set counts.seen.items p counts.turn → new.holders.items ≡ set counts.holders.items p (min (slice_index counts.holders.items p + 1) (2 ^ 32 - 1))
       → new.count ≡ min (counts.count + 1) (2 ^ 64 - 1) → new.total ≡ min (counts.total + (get_or binaries p no_binary).size) (2 ^ 128 - 1)
-      → new.cells ≡ min (counts.cells + 1) (2 ^ 64 - 1) → Adds binaries counts new (n ∷ [])
+      → new.cells ≡ min (counts.cells + 1) (2 ^ 64 - 1) → AddsNumbers binaries counts new (n ∷ [])
   add-new counts new fits few small unheld turn seen holders count total cells = record {
     later = λ heaps refs had.
         let before : is_among refs (number_at binaries p) ≡ false = sym (had.seen p within) ∙ ne_eqb (slice_index counts.seen.items p) counts.turn unheld in
@@ -338,5 +352,26 @@ keeps-then old mid new first second = record {
 -- no reference was counted
 pub Adds-none : (binaries : List Binary) (counts : Counts) → Adds binaries counts counts []
 Adds-none binaries counts = record {
-  later = λ heaps refs had. subst (λ l. HasCounted binaries heaps l counts) (sym (append-nil refs)) had;
+  numbers = record { later = λ heaps refs had. subst (λ l. HasCounted binaries heaps l counts) (sym (append-nil refs)) had };
+  lines = λ before is. is ∙ ap (whole_lines binaries) (sym (append-nil before));
 }
+
+-- ---- the lines
+
+-- two equal counts of lines
+lines-same : (one other : WholeLines) → one.count ≡ other.count → one.unstored ≡ other.unstored → one ≡ other
+lines-same one other count unstored = λ i. record { count = count i; unstored = unstored i }
+
+-- one line more
+pub one-line : (binaries : List Binary) (old mid new : Counts) (line : Reference) (known : Bool) → mid.lines ≡ old.lines → known ≡ is_among (numbers_in binaries) line.number
+    → new.lines.count ≡ min (mid.lines.count + one line.whole) (2 ^ 64 - 1) → new.lines.unstored ≡ min (mid.lines.unstored + one (line.whole && not known)) (2 ^ 64 - 1)
+    → (before : List Reference) → old.lines ≡ whole_lines binaries before → new.lines ≡ whole_lines binaries (before ++ line ∷ [])
+one-line binaries old mid new line known same is count unstored before had =
+    let counted = ap (λ (l : WholeLines). l.count) (same ∙ had) in
+    let gone = ap (λ (l : WholeLines). l.unstored) (same ∙ had) in
+    lines-same new.lines (whole_lines binaries (before ++ line ∷ []))
+    (count ∙ ap (λ m. min (m + one line.whole) (2 ^ 64 - 1)) counted ∙ capped-sum (count_by (λ (r : Reference). r.whole) before) (one line.whole)
+    ∙ ap capped (sym (sum_by_push (λ (r : Reference). one r.whole) before line)))
+    (unstored ∙ ap (λ m. min (m + one (line.whole && not known)) (2 ^ 64 - 1)) gone ∙ ap (λ k. min (capped (count_by (is_unstored binaries) before) + one (line.whole && not k)) (2 ^ 64 - 1)) is
+    ∙ capped-sum (count_by (is_unstored binaries) before) (one (is_unstored binaries line))
+    ∙ ap capped (sym (sum_by_push (λ (r : Reference). one (is_unstored binaries r)) before line)))

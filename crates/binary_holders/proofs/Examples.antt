@@ -1,8 +1,10 @@
 -- The definitions at worked examples, which the checker computes.
-use Rattle.std.proofs.Common.{◌≡◌, [], ◌∷◌, map, refl}
+use Rattle.std.proofs.Common.{◌≡◌, true, false, [], ◌∷◌, map, None, Some, refl}
 use Rattle.std.specs.Prelude.{codes}
 use Rattle.dump_sections.specs.Sections.{sections}
-use Rattle.binary_holders.specs.Held.{holders_of, holdings}
+use Rattle.term_forms.specs.Forms.{HeapBin, RefBin, SubBin}
+use Rattle.binary_holders.specs.HeapReferences.{reference, referred}
+use Rattle.binary_holders.specs.Held.{holders_of, holdings, whole_lines}
 use Rattle.binary_holders.specs.StoredBinaries.{stored}
 
 -- of the sections with one number the first is stored, and one without a number isn't
@@ -21,3 +23,11 @@ counted_once = refl
 -- so many heaps hold a binary
 holder_count : map (holders_of ((2 ∷ 2 ∷ []) ∷ (1 ∷ 2 ∷ []) ∷ [])) (1 ∷ 2 ∷ 3 ∷ []) ≡ 1 ∷ 2 ∷ 0 ∷ []
 holder_count = refl
+
+-- the form of a whole binary and that of a part are references, whatever their addresses; others aren't
+both_references : map referred (Some (RefBin 1280 0 1) ∷ Some (SubBin 16 2 3) ∷ Some (HeapBin 1 (codes "AA==")) ∷ None ∷ []) ≡ Some (reference true 1280) ∷ Some (reference false 16) ∷ None ∷ None ∷ []
+both_references = refl
+
+-- of three lines of whole binaries one refers to none of the binaries; a part isn't counted
+whole_and_unstored : whole_lines (record { number = 1; size = 5 } ∷ []) (reference true 1 ∷ reference false 2 ∷ reference true 3 ∷ reference true 1 ∷ []) ≡ record { count = 3; unstored = 1 }
+whole_and_unstored = refl

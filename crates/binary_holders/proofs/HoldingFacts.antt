@@ -1,18 +1,20 @@
 -- What processes hold, one heap after another.
-use Rattle.std.proofs.Common.{◌≡◌, ℕ, ◌+◌, ◌-◌, ◌^◌, ◌<◌, ◌≤◌, Bool, true, false, List, [], ◌∷◌, ◌++◌, length, map, filter, drop, Option, None, Some, if◌then◌else◌, sym, ◌∙◌, ap, append-nil, arith, subst}
+use Rattle.std.proofs.Common.{◌≡◌, ℕ, ◌+◌, ◌-◌, ◌^◌, ◌<◌, ◌≤◌, Bool, true, false, List, [], ◌∷◌, ◌++◌, length, map, filter, drop, get_or, take, Option, None, Some, if◌then◌else◌, sym, ◌∙◌, ap, append-nil, arith, subst}
 use Rattle.std.specs.Prelude.{All, nat_lt}
-use Rattle.std.specs.List.{between, enumerate_from}
-use Rattle.std.proofs.lemmas.List.{map_push, length-take, length-drop}
+use Rattle.std.specs.List.{between, enumerate_from, flat_map}
+use Rattle.std.proofs.lemmas.List.{map_push, length-map, length-take, length-drop, take_more}
+use Rattle.std.proofs.lemmas.List.Concat.{flat_map-append}
 use Rattle.std.proofs.lemmas.List.Elements.{All-push, filter-append}
 use Rattle.dump_sections.specs.Bodies.{section_at}
 use Rattle.dump_sections.specs.Index.{Contents}
 use Rattle.heap_cells.specs.Loading.{enc_of}
 use Rattle.binary_holders.specs.declared.rows.Holding.{Holding}
 use Rattle.binary_holders.specs.declared.targets.Binary.{Binary}
+use Rattle.binary_holders.specs.declared.texts.Reference.{Reference}
 use Rattle.binary_holders.specs.declared.counts.Counts.{Counts}
 use Rattle.binary_holders.specs.Held.{holding_of, holdings}
 use Rattle.binary_holders.specs.Usage.{NamesProcess}
-use Rattle.binary_holders.specs.Inner.Places.{references_at}
+use Rattle.binary_holders.specs.Inner.Places.{numbers_at, references_at}
 use Rattle.binary_holders.specs.Inner.Counting.{counted, HasCounted}
 use Rattle.binary_holders.proofs.Scans.{few-references}
 use Rattle.binary_holders.proofs.CountFacts.{held-is}
@@ -55,8 +57,15 @@ named-more count process held counts inside named =
     ]
 
 -- a heap refers to no more binaries than the dump has bytes
-pub few-at : (dump : List ℕ) (index : Contents) (place : Option ℕ) → length (references_at dump index place) ≤ length dump
-few-at dump index None = omega (arith, few-references (enc_of index.version) [])
-few-at dump index (Some i) =
+few-lines-at : (dump : List ℕ) (index : Contents) (place : Option ℕ) → length (references_at dump index place) ≤ length dump
+few-lines-at dump index None = omega (arith, few-references (enc_of index.version) [])
+few-lines-at dump index (Some i) =
     let s = section_at index i in
     omega (arith, few-references (enc_of index.version) (between s.body s.end dump), length-take (s.end - s.body) (drop s.body dump), length-drop s.body dump)
+
+pub few-at : (dump : List ℕ) (index : Contents) (place : Option ℕ) → length (numbers_at dump index place) ≤ length dump
+few-at dump index place = omega (arith, few-lines-at dump index place, length-map (references_at dump index place) (λ (r : Reference). r.number))
+
+-- the lines of one heap more
+pub lines-more : {X Y : Type 0} (f : X → List Y) (xs : List X) (i : ℕ) (d : X) → i < length xs → flat_map f (take (i + 1) xs) ≡ flat_map f (take i xs) ++ f (get_or xs i d)
+lines-more f xs i d inside = ap (flat_map f) (take_more xs i d inside) ∙ flat_map-append f (take i xs) (get_or xs i d ∷ []) ∙ ap (λ l. flat_map f (take i xs) ++ l) (append-nil (f (get_or xs i d)))

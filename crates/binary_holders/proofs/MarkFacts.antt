@@ -12,9 +12,10 @@ use Rattle.dump_io.specs.Laws.Reads.{take-two}
 use Rattle.dump_io.specs.Lines.{lf, cr, raw_lines, text_of}
 use Rattle.dump_io.specs.Numbers.{hex_number}
 use Rattle.binary_payloads.specs.declared.enc.Enc.{Enc}
-use Rattle.term_forms.specs.Forms.{HeapForm, RefBin, IsForm, IsRange}
+use Rattle.term_forms.specs.Forms.{HeapForm, RefBin, SubBin, IsForm, IsRange}
 use Rattle.term_forms.specs.ReadingForms.{form_of}
 use Rattle.term_forms.specs.Words.{colon, led_of, IsLed}
+use Rattle.binary_holders.specs.declared.texts.Reference.{Reference}
 use Rattle.binary_holders.specs.HeapReferences.{referred}
 use Rattle.binary_holders.specs.Inner.Lines.{text_reference, line_reference, line_references, IsMarked}
 use Rattle.body_lines.specs.Lines.{AreWhole, HasNoLf}
@@ -30,34 +31,35 @@ abbrev pub AreForms : Enc → Type 0
 AreForms enc = (text : List ℕ) (f : HeapForm) → (form_of enc text ≡ Some f) ↔ IsForm enc text f
 
 abbrev pub mark : List ℕ
-mark = codes ":Yc"
+mark = codes ":Y"
 
 none-of : {X : Type 0} (o : Option X) → ((x : X) → o ≡ Some x → ⊥) → o ≡ None
 none-of None never = refl
 none-of (Some x) never = absurd (never x refl)
 
--- a text that refers to a binary: its address in hex, the mark, and a range
+-- a text that refers to a binary: its address in hex, the mark, a letter, and a range
 pub record Refers (text : List ℕ) : Type 0 where
   pub hex : List ℕ
   pub address : ℕ
   pub is_hex : hex_number hex ≡ Some address
+  pub kind : ℕ
   pub range : List ℕ
   pub binary : ℕ
   pub offset : ℕ
   pub size : ℕ
   pub is_range : IsRange range binary offset size
-  pub text_is : text ≡ hex ++ (mark ++ range)
+  pub text_is : text ≡ hex ++ (mark ++ kind ∷ range)
 
 -- only the form of such a text is a reference to a binary
-pub refers-range : (enc : Enc) → AreForms enc → (rest : List ℕ) (n : ℕ) (f : Option HeapForm) → form_of enc rest ≡ f → referred f ≡ Some n
-    → (range : List ℕ) × (rest ≡ codes "Yc" ++ range) × (offset : ℕ) × (size : ℕ) × IsRange range n offset size
+pub refers-range : (enc : Enc) → AreForms enc → (rest : List ℕ) (n : Reference) (f : Option HeapForm) → form_of enc rest ≡ f → referred f ≡ Some n
+    → (kind : ℕ) × (range : List ℕ) × (rest ≡ codes "Y" ++ kind ∷ range) × (binary : ℕ) × (offset : ℕ) × (size : ℕ) × IsRange range binary offset size
 refers-range enc forms rest n (Some (RefBin binary offset size)) found refers =
-    let spelled = (forms rest (RefBin binary offset size)).0 found in
-    let same : binary ≡ n = cc (refers) in
-    (spelled.0, spelled.1, offset, size, subst (λ m. IsRange spelled.0 m offset size) same spelled.2)
+    let spelled = (forms rest (RefBin binary offset size)).0 found in (99, spelled.0, spelled.1, binary, offset, size, spelled.2)
+refers-range enc forms rest n (Some (SubBin binary offset size)) found refers =
+    let spelled = (forms rest (SubBin binary offset size)).0 found in (115, spelled.0, spelled.1, binary, offset, size, spelled.2)
 refers-range enc forms rest n f found refers = absurd (let no : ⊥ = cc (refers) in no)
 
-refers-form : (enc : Enc) → AreForms enc → (text hex rest : List ℕ) (address n : ℕ) → hex_number hex ≡ Some address → text ≡ hex ++ colon ∷ rest
+refers-form : (enc : Enc) → AreForms enc → (text hex rest : List ℕ) (address : ℕ) (n : Reference) → hex_number hex ≡ Some address → text ≡ hex ++ colon ∷ rest
     → referred (form_of enc rest) ≡ Some n → Refers text
 refers-form enc forms text hex rest address n is_hex is refers =
     let spelled = refers-range enc forms rest n (form_of enc rest) refl refers in
@@ -65,15 +67,16 @@ refers-form enc forms text hex rest address n is_hex is refers =
       hex = hex;
       address = address;
       is_hex = is_hex;
-      range = spelled.0;
-      binary = n;
-      offset = spelled.2;
-      size = spelled.3;
-      is_range = spelled.4;
-      text_is = is ∙ ap (λ l. hex ++ colon ∷ l) spelled.1;
+      kind = spelled.0;
+      range = spelled.1;
+      binary = spelled.3;
+      offset = spelled.4;
+      size = spelled.5;
+      is_range = spelled.6;
+      text_is = is ∙ ap (λ l. hex ++ colon ∷ l) spelled.2;
     }
 
-pub refers : (enc : Enc) → AreLed → AreForms enc → (text : List ℕ) (n : ℕ) → text_reference enc text ≡ Some n → Refers text
+pub refers : (enc : Enc) → AreLed → AreForms enc → (text : List ℕ) (n : Reference) → text_reference enc text ≡ Some n → Refers text
 refers enc leds forms text n is = by (led_of text) refl
   where
     by : (o : Option (ℕ × List ℕ)) → led_of text ≡ o → Refers text
@@ -100,23 +103,22 @@ pub refers-short : (text : List ℕ) → Refers text → length text ≤ 69
 refers-short text is =
     let one = hex_number-short is.hex is.address is.is_hex in
     let more = range-short is.range is.binary is.offset is.size is.is_range in
-    let whole = ap length is.text_is ∙ length-append is.hex (mark ++ is.range) in
+    let whole = ap length is.text_is ∙ length-append is.hex (mark ++ is.kind ∷ is.range) in
     omega (arith, one, more, whole)
 
 -- ---- the mark in it
 
-mark-reads : (hex range : List ℕ) (j : ℕ) → j < 3 → slice_index (hex ++ (mark ++ range)) (length hex + j) ≡ slice_index mark j
+mark-reads : (hex range : List ℕ) (j : ℕ) → j < 2 → slice_index (hex ++ (mark ++ range)) (length hex + j) ≡ slice_index mark j
 mark-reads hex range zero inside = get_or-append-add hex (mark ++ range) 0 0
 mark-reads hex range (suc zero) inside = get_or-append-add hex (mark ++ range) 1 0
-mark-reads hex range (suc (suc zero)) inside = get_or-append-add hex (mark ++ range) 2 0
-mark-reads hex range (suc (suc (suc j))) inside = absurd (omega (arith, inside))
+mark-reads hex range (suc (suc j)) inside = absurd (omega (arith, inside))
 
 refers-mark : (text : List ℕ) → Refers text → (k : ℕ) × OccursAt text mark k
 refers-mark text is = (
   length is.hex,
   record {
-    fits = (let whole = ap length is.text_is ∙ length-append is.hex (mark ++ is.range) in omega (arith, whole));
-    reads = λ j inside. ap (λ l. slice_index l (length is.hex + j)) is.text_is ∙ mark-reads is.hex is.range j inside;
+    fits = (let whole = ap length is.text_is ∙ length-append is.hex (mark ++ is.kind ∷ is.range) in omega (arith, whole));
+    reads = λ j inside. ap (λ l. slice_index l (length is.hex + j)) is.text_is ∙ mark-reads is.hex (is.kind ∷ is.range) j inside;
   },
 )
 
@@ -157,34 +159,30 @@ occurs-right xs ys needle k is = record {
 pub marks-none : (bytes : List ℕ) → Nowhere (Passes (is_byte 89) bytes) 0 (length bytes) → Nowhere (OccursAt bytes mark) 0 (length bytes + 1)
 marks-none bytes none = λ k low high is. none (k + 1) (omega arith) (let room = is.fits in omega (arith, room)) (ap (λ c. c == 89) (is.reads 1 (omega arith)))
 
-mark-around : (bytes : List ℕ) (at : ℕ) → slice_index bytes at ≡ 58 → slice_index bytes (at + 1) ≡ 89 → slice_index bytes (at + 2) ≡ 99
-    → (j : ℕ) → j < 3 → slice_index bytes (at + j) ≡ slice_index mark j
-mark-around bytes at first second third zero inside = (let e : at + 0 ≡ at = omega arith in ap (slice_index bytes) e) ∙ first
-mark-around bytes at first second third (suc zero) inside = second
-mark-around bytes at first second third (suc (suc zero)) inside = third
-mark-around bytes at first second third (suc (suc (suc j))) inside = absurd (omega (arith, inside))
+mark-around : (bytes : List ℕ) (at : ℕ) → slice_index bytes at ≡ 58 → slice_index bytes (at + 1) ≡ 89
+    → (j : ℕ) → j < 2 → slice_index bytes (at + j) ≡ slice_index mark j
+mark-around bytes at first second zero inside = (let e : at + 0 ≡ at = omega arith in ap (slice_index bytes) e) ∙ first
+mark-around bytes at first second (suc zero) inside = second
+mark-around bytes at first second (suc (suc j)) inside = absurd (omega (arith, inside))
 
-pub mark-at : (bytes : List ℕ) (place : ℕ) → NoneBefore (Passes (is_byte 89) bytes) 0 (length bytes) place → Passes (is_byte 89) bytes place → IsMarked bytes place
+pub mark-at : (bytes : List ℕ) (place : ℕ) → place < length bytes → NoneBefore (Passes (is_byte 89) bytes) 0 (length bytes) place → Passes (is_byte 89) bytes place → IsMarked bytes place
     → NoneBefore (OccursAt bytes mark) 0 (length bytes + 1) (place - 1) × OccursAt bytes mark (place - 1)
-mark-at bytes place first here around =
+mark-at bytes place room first here around =
     let some = around.0 in
-    let room = around.1 in
     let second : slice_index bytes (place - 1 + 1) ≡ 89 =
-    (let e : place - 1 + 1 ≡ place = omega (arith, some) in ap (slice_index bytes) e) ∙ eqb-true (slice_index bytes place) 89 here in
-    let third : slice_index bytes (place - 1 + 2) ≡ 99 =
-    (let e : place - 1 + 2 ≡ place + 1 = omega (arith, some) in ap (slice_index bytes) e) ∙ around.3 in (
+    (let e : place - 1 + 1 ≡ place = omega (arith, some) in ap (slice_index bytes) e) ∙ eqb-true (slice_index bytes place) 89 here in (
       record {
         low = omega arith;
         high = omega (arith, room);
         before = λ k low high is. first.before (k + 1) (omega arith) (omega (arith, high, some)) (ap (λ c. c == 89) (is.reads 1 (omega arith)));
       },
-      record { fits = omega (arith, room, some); reads = mark-around bytes (place - 1) around.2 second third },
+      record { fits = omega (arith, room, some); reads = mark-around bytes (place - 1) around.1 second },
     )
 
 -- ---- a line without the mark, and a long one
 
 module _ (enc : Enc) (leds : AreLed) (forms : AreForms enc) where
-  line-mark : (raw : List ℕ) (n : ℕ) → line_reference enc raw ≡ Some n → (k : ℕ) × OccursAt raw mark k
+  line-mark : (raw : List ℕ) (n : Reference) → line_reference enc raw ≡ Some n → (k : ℕ) × OccursAt raw mark k
   line-mark raw n is =
       let found = refers-mark (text_of raw) (refers enc leds forms (text_of raw) n is) in
       let front = text-front raw in

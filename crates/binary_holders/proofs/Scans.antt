@@ -12,6 +12,7 @@ use Rattle.term_forms.specs.ReadingForms.{form_of}
 use Rattle.term_forms.specs.Words.{led_of}
 use Rattle.binary_holders.specs.declared.targets.Binary.{Binary}
 use Rattle.binary_holders.specs.declared.counts.Counts.{Counts}
+use Rattle.binary_holders.specs.declared.texts.Reference.{Reference}
 use Rattle.binary_holders.specs.HeapReferences.{referred, references}
 use Rattle.binary_holders.specs.Inner.Lines.{line_reference, line_references}
 use Rattle.binary_holders.specs.Inner.Counting.{Adds}
@@ -22,11 +23,11 @@ use Rattle.binary_holders.proofs.CountFacts.{Adds-then}
 
 -- of some bytes all was counted but what the last of them refer to
 pub record AddedSome (enc : Enc) (binaries : List Binary) (old new : Counts) (bytes rest : List ℕ) : Type 0 where
-  pub added : List ℕ
+  pub added : List Reference
   pub adds : Adds binaries old new added
   pub whole : line_references enc bytes ≡ added ++ line_references enc rest
 
-pub some-more : (enc : Enc) (binaries : List Binary) (old mid new : Counts) (bytes rest behind more : List ℕ) → AddedSome enc binaries old mid bytes rest
+pub some-more : (enc : Enc) (binaries : List Binary) (old mid new : Counts) (bytes rest behind : List ℕ) (more : List Reference) → AddedSome enc binaries old mid bytes rest
     → line_references enc rest ≡ more ++ line_references enc behind → Adds binaries mid new more → AddedSome enc binaries old new bytes behind
 some-more enc binaries old mid new bytes rest behind more some next one = record {
   added = some.added ++ more;
@@ -36,7 +37,7 @@ some-more enc binaries old mid new bytes rest behind more some next one = record
 
 -- ---- the lines of a body
 
-reference-spelled : (enc : Enc) (o : Option (ℕ × List ℕ)) → (cell : Option Cell) → cell ≡ option_map (spelled_cell enc) o → (xs : List ℕ)
+reference-spelled : (enc : Enc) (o : Option (ℕ × List ℕ)) → (cell : Option Cell) → cell ≡ option_map (spelled_cell enc) o → (xs : List Reference)
     → filter_map (λ (c : Cell). referred c.form) (option_to_list cell) ++ xs ≡ option_to_list (option_and_then (λ (led : ℕ × List ℕ). referred (form_of enc led.1)) o) ++ xs
 reference-spelled enc None cell is xs = ap (λ c. filter_map (λ (c : Cell). referred c.form) (option_to_list c) ++ xs) is
 reference-spelled enc (Some led) cell is xs =
@@ -69,7 +70,7 @@ few-lines (c ∷ bytes) =
     after [] = omega arith
     after (line ∷ lines) = omega arith
 
-few-kept : (h : List ℕ → Option ℕ) (lines : List (List ℕ)) → length (filter_map h lines) ≤ length lines
+few-kept : (h : List ℕ → Option Reference) (lines : List (List ℕ)) → length (filter_map h lines) ≤ length lines
 few-kept h [] = omega arith
 few-kept h (line ∷ lines) =
     elim (h line) as (λ o. length (cons_option o (filter_map h lines)) ≤ length (line ∷ lines))

@@ -1,7 +1,7 @@
 -- The use of the binaries of a dump, from what was found and counted.
 use Rattle.std.proofs.Common.{◌≡◌, ℕ, ◌+◌, ◌*◌, ◌<◌, ◌≤◌, Bool, true, false, cond, List, [], ◌∷◌, ◌++◌, length, map, get_or, Option, None, Some, Result, Ok, Err, if◌then◌else◌, refl, sym, ◌∙◌, ap, arith, codes}
 use Rattle.std.specs.Prelude.{IfOk, slice_index, sum}
-use Rattle.std.specs.List.{cons_option, count_by, filter_map, sum_by}
+use Rattle.std.specs.List.{cons_option, count_by, filter_map, flat_map, sum_by}
 use Rattle.std.specs.Option.{option_map, option_and_then}
 use Rattle.std.proofs.lemmas.Simd.{map-map}
 use Rattle.std.proofs.lemmas.List.{get_or-map, length-map, same_lists}
@@ -20,11 +20,12 @@ use Rattle.binary_holders.specs.declared.targets.Binary.{Binary}
 use Rattle.binary_holders.specs.declared.stored.StoredAt.{StoredAt}
 use Rattle.binary_holders.specs.declared.counts.Counts.{Counts}
 use Rattle.binary_holders.specs.Held.{holders_of}
-use Rattle.binary_holders.specs.HeapReferences.{references}
+use Rattle.binary_holders.specs.declared.rows.WholeLines.{WholeLines}
+use Rattle.binary_holders.specs.HeapReferences.{numbers_referred, references, references_of}
 use Rattle.binary_holders.specs.StoredBinaries.{Stored, stored_binary, firsts, is_among, stored_at}
-use Rattle.binary_holders.specs.Usage.{Usage, binaries_in, fronts_length, heaps_length, heaps_of, binary_row, rows_in, sized_binary, stored_in}
-use Rattle.binary_holders.specs.Inner.Finding.{stored_of}
-use Rattle.binary_holders.specs.Inner.Places.{heap_place, references_at, size_at}
+use Rattle.binary_holders.specs.Usage.{Usage, binaries_in, fronts_length, heaps_length, heaps_of, lines_of, binary_row, rows_in, sized_binary, stored_in}
+use Rattle.binary_holders.specs.Inner.Finding.{numbers_of, stored_of}
+use Rattle.binary_holders.specs.Inner.Places.{heap_place, numbers_at, numbers_in, references_at, size_at}
 use Rattle.binary_holders.specs.Inner.Rows.{AreRows, row_at}
 use Rattle.binary_holders.specs.Inner.Counting.{HasCounted, number_at}
 use Rattle.binary_holders.proofs.CountFacts.{at-number, no_binary}
@@ -34,13 +35,12 @@ pub both-ok : {T E : Type 0} (r : Result T E) (P Q : T → Type 0) → IfOk r P 
 both-ok (Ok x) P Q p q = (p, q)
 both-ok (Err e) P Q p q = tt
 
--- a use by its four parts
-abbrev pub usage : List Holding → List BinaryRow → ℕ → ℕ → Usage
-usage held binaries bytes with_holders = record { held = held; binaries = binaries; bytes = bytes; with_holders = with_holders }
+-- a use by its five parts
+abbrev pub usage : List Holding → List BinaryRow → ℕ → ℕ → WholeLines → Usage
+usage held binaries bytes with_holders lines = record { held = held; binaries = binaries; bytes = bytes; with_holders = with_holders; lines = lines }
 
-pub usage-same : {h k : List Holding} {b c : List BinaryRow} {m n v w : ℕ} → h ≡ k → b ≡ c → m ≡ n → v ≡ w → usage h b m v ≡ usage k c n w
-usage-same {h} {k} {b} {c} {m} {n} {v} {w} held binaries bytes with_holders =
-    ap (λ x. usage x b m v) held ∙ ap (λ x. usage k x m v) binaries ∙ ap (λ x. usage k c x v) bytes ∙ ap (λ x. usage k c n x) with_holders
+pub usage-same : {h k : List Holding} {b c : List BinaryRow} {m n v w : ℕ} {l r : WholeLines} → h ≡ k → b ≡ c → m ≡ n → v ≡ w → l ≡ r → usage h b m v l ≡ usage k c n w r
+usage-same held binaries bytes with_holders lines = λ i. usage (held i) (binaries i) (bytes i) (with_holders i) (lines i)
 
 -- what is said of the heaps, by their places and by the pids
 by-pid : {X : Type 0} (f : Option Section → X) (index : Contents) (processes : List Process) (heaps : List (Option ℕ)) → heaps ≡ map (λ (p : Process). heap_place (sections_in index) p.pid) processes
@@ -57,8 +57,22 @@ by-pid f index processes heaps is = ap (map (λ place. f (section_in index place
 
 -- what they refer to
 pub heaps-are : (dump : List ℕ) (index : Contents) (processes : List Process) (heaps : List (Option ℕ)) → heaps ≡ map (λ (p : Process). heap_place (sections_in index) p.pid) processes
-    → map (references_at dump index) heaps ≡ heaps_of dump index (map (λ (p : Process). p.pid) processes)
-heaps-are dump index = by-pid (λ heap. references (enc_of index.version) (body_in dump heap)) index
+    → map (numbers_at dump index) heaps ≡ heaps_of dump index (map (λ (p : Process). p.pid) processes)
+heaps-are dump index = by-pid (λ heap. numbers_referred (references (enc_of index.version) (body_in dump heap))) index
+
+pub lines-are : (dump : List ℕ) (index : Contents) (processes : List Process) (heaps : List (Option ℕ)) → heaps ≡ map (λ (p : Process). heap_place (sections_in index) p.pid) processes
+    → flat_map (references_at dump index) heaps ≡ lines_of dump index (map (λ (p : Process). p.pid) processes)
+lines-are dump index processes heaps is =
+    flat_map-is (references_at dump index) heaps ∙ ap join (by-pid (λ heap. references (enc_of index.version) (body_in dump heap)) index processes heaps is)
+    ∙ sym (flat_map-is (references_of dump index) (map (λ (p : Process). p.pid) processes))
+  where
+    join : {Y : Type 0} → List (List Y) → List Y
+    join [] = []
+    join (l ∷ ls) = l ++ join ls
+
+    flat_map-is : {X Y : Type 0} (f : X → List Y) (xs : List X) → flat_map f xs ≡ join (map f xs)
+    flat_map-is f [] = refl
+    flat_map-is f (x ∷ xs) = ap (λ l. f x ++ l) (flat_map-is f xs)
 
 -- they have no more bytes than may be read of the heaps
 pub fits : (index : Contents) (processes : List Process) (heaps read : List (Option ℕ)) → heaps ≡ map (λ (p : Process). heap_place (sections_in index) p.pid) processes → read ≡ heaps
@@ -101,6 +115,12 @@ pub sizes-are : (dump : List ℕ) (index : Contents) (list : List StoredAt) (bin
 sizes-are dump index list binaries are is = is ∙ sym (map-map (sized_binary dump) (stored_of index) list) ∙ ap (map (sized_binary dump)) are
 
 -- ---- the rows of the binaries
+
+-- a list with an element for each target has one for each stored binary
+pub same-sizes : {X : Type 0} (targets : List Binary) (list : List StoredAt) → numbers_in targets ≡ numbers_of list → (xs : List X) (stored : List StoredAt) → length xs ≡ length targets → length stored ≡ length list
+    → length xs ≡ length stored
+same-sizes targets list numbers xs stored first second =
+    first ∙ sym (length-map targets (λ (b : Binary). b.number)) ∙ ap length numbers ∙ length-map list (λ (s : StoredAt). s.number) ∙ sym second
 
 abbrev no_place : StoredAt
 no_place = record { number = 0; section = 0 }

@@ -1,17 +1,16 @@
 -- Which processes hold which binaries, from what their heaps refer to.
-use Rattle.std.specs.Prelude.{ℕ, ◌-◌, ◌^◌, Bool, List, map, filter, min, nat_lt}
+use Rattle.std.specs.Prelude.{ℕ, Bool, ◌&&◌, not, List, map, filter, nat_lt}
 use Rattle.std.specs.List.{count_by, sum_by, enumerate_from}
+use Rattle.size_order.specs.Sums.{capped}
 use Rattle.binary_holders.specs.declared.rows.Holding.{Holding}
+use Rattle.binary_holders.specs.declared.rows.WholeLines.{WholeLines}
 use Rattle.binary_holders.specs.declared.targets.Binary.{Binary}
+use Rattle.binary_holders.specs.declared.texts.Reference.{Reference}
 use Rattle.binary_holders.specs.StoredBinaries.{is_among}
 
 -- whether a heap with these references holds a binary
 abbrev pub holds : List ℕ → Binary → Bool
 holds references binary = is_among references binary.number
-
--- a sum as it is shown, at most 2^64 - 1
-abbrev pub capped : ℕ → ℕ
-capped sum = min sum (2 ^ 64 - 1)
 
 -- the sizes of the binaries that a heap holds, together; each counts once
 abbrev pub bytes_held : List Binary → List ℕ → ℕ
@@ -39,3 +38,14 @@ holdings binaries heaps = filter (λ holding. nat_lt 0 holding.count) (map (hold
 -- how many heaps hold the binary with a number
 abbrev pub holders_of : List (List ℕ) → ℕ → ℕ
 holders_of heaps number = count_by (λ references. is_among references number) heaps
+
+-- whether a line refers to a whole binary that is none of these
+abbrev pub is_unstored : List Binary → Reference → Bool
+is_unstored binaries line = line.whole && not (is_among (map (λ binary. binary.number) binaries) line.number)
+
+-- how many of some lines refer to whole binaries, and how many of them to none of these binaries
+abbrev pub whole_lines : List Binary → List Reference → WholeLines
+whole_lines binaries lines = record {
+  count = capped (count_by (λ line. line.whole) lines);
+  unstored = capped (count_by (is_unstored binaries) lines);
+}

@@ -1,6 +1,6 @@
 -- The binaries of a dump and their holders.
 use Rattle.std.specs.Prelude.{ℕ, ◌*◌, ◌<◌, List, [], ◌∷◌, map, nat_lt, codes}
-use Rattle.std.specs.List.{count_by, sum_by}
+use Rattle.std.specs.List.{count_by, flat_map, sum_by}
 use Rattle.dump_io.specs.Dumps.{DeviceState, DeviceFailed}
 use Rattle.dump_sections.specs.Bodies.{body_size}
 use Rattle.dump_sections.specs.Index.{Contents, sections_in}
@@ -11,10 +11,13 @@ use Rattle.binary_holders.specs.declared.faults.HolderFault.{HolderFault}
 use Rattle.binary_holders.specs.declared.faults.HolderFault.TheVariants.{Read, Memory}
 use Rattle.binary_holders.specs.declared.rows.BinaryRow.{BinaryRow}
 use Rattle.binary_holders.specs.declared.rows.Holding.{Holding}
+use Rattle.binary_holders.specs.declared.rows.WholeLines.{WholeLines}
 use Rattle.binary_holders.specs.declared.using.BinaryUse.{BinaryUse}
 use Rattle.binary_holders.specs.declared.targets.Binary.{Binary}
-use Rattle.binary_holders.specs.Held.{capped, holdings, holders_of}
-use Rattle.binary_holders.specs.HeapReferences.{references_of}
+use Rattle.binary_holders.specs.declared.texts.Reference.{Reference}
+use Rattle.size_order.specs.Sums.{capped}
+use Rattle.binary_holders.specs.Held.{holdings, holders_of, whole_lines}
+use Rattle.binary_holders.specs.HeapReferences.{numbers_referred, references_of}
 use Rattle.size_order.specs.Sorting.{most_first}
 use Rattle.binary_holders.specs.StoredBinaries.{Stored, stored, size_in}
 
@@ -22,9 +25,13 @@ use Rattle.binary_holders.specs.StoredBinaries.{Stored, stored, size_in}
 abbrev pub pids_of : List Process → List (List ℕ)
 pids_of processes = map (λ process. process.pid) processes
 
--- what the heaps of these pids refer to, in their order
+-- to which binaries the heaps of these pids refer, in their order
 abbrev pub heaps_of : List ℕ → Contents → List (List ℕ) → List (List ℕ)
-heaps_of dump index pids = map (references_of dump index) pids
+heaps_of dump index pids = map (λ pid. numbers_referred (references_of dump index pid)) pids
+
+-- the references of all lines of these heaps
+abbrev pub lines_of : List ℕ → Contents → List (List ℕ) → List Reference
+lines_of dump index pids = flat_map (references_of dump index) pids
 
 -- the stored binaries of a dump
 abbrev pub stored_in : Contents → List Stored
@@ -52,12 +59,14 @@ abbrev pub rows_in : List ℕ → Contents → List (List ℕ) → List BinaryRo
 rows_in dump index heaps = map (binary_row dump heaps) (stored_in index)
 
 -- what is found of the binaries of a dump: which processes hold how much, the most first; the
--- binaries, the largest first; their sizes together; and how many of them a process holds
+-- binaries, the largest first; their sizes together; how many of them a process holds; and
+-- how many lines of heaps refer to whole binaries, and how many of them to none that is stored
 pub record Usage : Type 0 where
   pub held : List Holding
   pub binaries : List BinaryRow
   pub bytes : ℕ
   pub with_holders : ℕ
+  pub lines : WholeLines
 
 -- the use of the binaries of a dump by the processes with these pids
 abbrev pub usage_of : List ℕ → Contents → List (List ℕ) → Usage
@@ -66,6 +75,7 @@ usage_of dump index pids = record {
   binaries = most_first (λ row. row.size) (rows_in dump index (heaps_of dump index pids));
   bytes = capped (sum_by (λ binary. binary.size) (binaries_in dump index));
   with_holders = count_by (λ row. nat_lt 0 row.holders) (rows_in dump index (heaps_of dump index pids));
+  lines = whole_lines (binaries_in dump index) (lines_of dump index pids);
 }
 
 -- the value of what was found, regardless of where it lies in memory
@@ -75,6 +85,7 @@ shown_use found = record {
   binaries = found.binaries.items;
   bytes = found.bytes;
   with_holders = found.with_holders;
+  lines = found.lines;
 }
 
 -- a holding is that of one of this many processes

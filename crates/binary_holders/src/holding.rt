@@ -1,11 +1,13 @@
 // The processes that hold binaries, one heap after another.
 ghost use Rattle.std.specs.Prelude.{◌≡◌, ℕ, List, [], ◌∷◌, ◌++◌, ◌+◌, ◌^◌, ◌<◌, ◌≤◌, length, map, All, nat_lt, OnOk, IfOk, IfErr, OnErr, if◌then◌else◌};
-ghost use Rattle.std.specs.List.{sum_by};
+ghost use Rattle.std.specs.List.{flat_map, sum_by};
 ghost use Rattle.dump_io.specs.Dumps.{told, DeviceFailed, ReadsAtMost};
 ghost use Rattle.dump_sections.specs.Index.{IsBuiltOver};
-ghost use Rattle.binary_holders.specs.Held.{holdings};
+ghost use Rattle.binary_holders.specs.Held.{holdings, whole_lines};
+ghost use Rattle.binary_holders.specs.HeapReferences.{numbers_referred};
 ghost use Rattle.binary_holders.specs.Usage.{IsHolderCauseOf, NamesProcess};
-ghost use Rattle.binary_holders.specs.Inner.Places.{IsWithin, references_at, size_at};
+ghost use Rattle.binary_holders.specs.Inner.Places.{IsWithin, numbers_at, references_at, size_at};
+ghost use Rattle.binary_holders.specs.declared.texts.Reference.{Reference};
 ghost use Rattle.binary_holders.specs.Inner.Counting.{HasCounted, HasRoom, Adds, counted};
 ghost use Rattle.binary_holders.specs.declared.heap_sink.TheConstants.{KEPT};
 ghost use Rattle.binary_holders.specs.Inner.HeapSinks.{IsReady, KeepsTargets};
@@ -93,14 +95,19 @@ fn count_process<D: Dumps>(
         → HasCounted sink.old.targets.now before [] sink.old.counts
         → held.old.items ≡ holdings sink.old.targets.now before
         → held.new.items
-        ≡ holdings sink.old.targets.now (before ++ references_at dump index.now place ∷ [])) }
+        ≡ holdings sink.old.targets.now (before ++ numbers_at dump index.now place ∷ [])) }
     ensures named { OnOk result ((count : ℕ) → process < count
         → All (NamesProcess count) held.old.items → All (NamesProcess count) held.new.items) }
     ensures counted { OnOk result ((dump : List ℕ) → (D.state dumps.old).now ≡ told dump
         → (before : List (List ℕ))
         → HasCounted sink.old.targets.now before [] sink.old.counts
         → HasCounted sink.old.targets.now
-        (before ++ references_at dump index.now place ∷ []) [] sink.new.counts) }
+        (before ++ numbers_at dump index.now place ∷ []) [] sink.new.counts) }
+    ensures lines { OnOk result ((dump : List ℕ) → (D.state dumps.old).now ≡ told dump
+        → (before : List Reference)
+        → sink.old.counts.lines ≡ whole_lines sink.old.targets.now before
+        → sink.new.counts.lines
+        ≡ whole_lines sink.old.targets.now (before ++ references_at dump index.now place)) }
 {
     count_section(dumps, index, place, buffer, sink)?;
     push_holding(held, process, &sink.counts)?;
@@ -125,17 +132,21 @@ pub(crate) fn count_all<D: Dumps>(
     requires enc { sink.old.enc ≡ enc_of index.now.version }
     requires room { IsReady sink.old }
     requires counted { HasCounted sink.old.targets.now [] [] sink.old.counts }
+    requires none { sink.old.counts.lines ≡ record { count = 0; unstored = 0 } }
     ensures reads { ReadsAtMost (D.state dumps.old) (D.state dumps.new)
         (sum_by (size_at index.now) heaps.now) }
     ensures fault { IfErr result (IsHolderCauseOf (D.state dumps.old) (D.state dumps.new)) }
     ensures room { OnOk result (HasRoom (length sink.old.targets.now) sink.new.counts) }
     ensures held { IfOk result (λ held. (dump : List ℕ) → (D.state dumps.old).now ≡ told dump
         → held.items
-        ≡ holdings sink.old.targets.now (map (references_at dump index.now) heaps.now)) }
+        ≡ holdings sink.old.targets.now (map (numbers_at dump index.now) heaps.now)) }
     ensures named { IfOk result (λ held. All (NamesProcess (length heaps.now)) held.items) }
     ensures counted { OnOk result ((dump : List ℕ) → (D.state dumps.old).now ≡ told dump
         → HasCounted sink.old.targets.now
-        (map (references_at dump index.now) heaps.now) [] sink.new.counts) }
+        (map (numbers_at dump index.now) heaps.now) [] sink.new.counts) }
+    ensures lines { OnOk result ((dump : List ℕ) → (D.state dumps.old).now ≡ told dump
+        → sink.new.counts.lines
+        ≡ whole_lines sink.old.targets.now (flat_map (references_at dump index.now) heaps.now)) }
 {
     let mut held = Vec::new(alloc);
     for process in 0..heaps.len() {

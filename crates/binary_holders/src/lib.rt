@@ -1,8 +1,8 @@
 //! Which processes hold which of the binaries outside the heaps.
 //!
-//! A process holds such a binary if a cell of its heap refers to it. [`binary_use`] finds for
-//! each process how many of these binaries it holds and how large they are together, and for
-//! each binary how many processes hold it; [`holders`] finds for one binary which processes
+//! A process holds such a binary if a cell of its heap refers to it or to a part of it. [`binary_use`]
+//! finds for each process how many of these binaries it holds and how large they are together, and
+//! for each binary how many processes hold it; [`holders`] finds for one binary which processes
 //! hold it. The heaps are read one at a time and in pieces, whatever their lengths.
 //!
 //! ```text
@@ -29,5 +29,5 @@ mod texts;
 mod using;
 
 pub use faults::HolderFault;
-pub use rows::{BinaryRow, Holding};
+pub use rows::{BinaryRow, Holding, WholeLines};
 pub use using::{BinaryUse, binary_use, holders};

@@ -4,27 +4,27 @@ ghost use Rattle.std.specs.Option.{option_to_list};
 ghost use Rattle.memchr.specs.Find.{FindsNeedle};
 ghost use Rattle.binary_holders.specs.Inner.Lines.{line_references, IsMarked};
 
-use crate::texts::text_reference;
+use crate::texts::{Reference, text_reference};
 use body_lines::line_start;
 use dump_io::{line_len, line_text};
 use memchr::{memchr, memmem};
 use term_forms::{Enc, form_is_read, number_is_read};
 
-// What follows the address in each line that refers to a binary outside the heap.
-const MARK: &[u8] = b":Yc";
+// What follows the address in each line that refers to a binary.
+const MARK: &[u8] = b":Y";
 
-// Whether the rest of the mark stands around the `Y` at a place.
+// Whether the rest of the mark stands before the `Y` at a place.
 fn is_marked(bytes: &[u8], place: usize) -> bool
     requires { place < length bytes.now }
     ensures { IsTrue result → IsMarked bytes.now place }
 {
-    place > 0 && place + 1 < bytes.len() && bytes[place - 1] == b':' && bytes[place + 1] == b'c'
+    place > 0 && bytes[place - 1] == b':'
 }
 
 // Where the first mark stands. Few lines without it have its `Y`, so that letter is sought
 // first; only if another line has it before is the mark sought by all its bytes.
 fn find_mark(bytes: &[u8]) -> Option<usize>
-    ensures { FindsNeedle bytes.now (codes ":Yc") 0 result }
+    ensures { FindsNeedle bytes.now (codes ":Y") 0 result }
 {
     let place = memchr(b'Y', bytes)?;
     if is_marked(bytes, place) {
@@ -34,10 +34,10 @@ fn find_mark(bytes: &[u8]) -> Option<usize>
     }
 }
 
-/// Looks for the first line with the mark, and returns the number to which it refers, if it
-/// does, and the bytes after it. No line before that one refers to a binary, and if there is
+/// Looks for the first line with the mark, and returns its reference, if it
+/// has one, and the bytes after it. No line before that one refers to a binary, and if there is
 /// no such line, none does.
-pub(crate) fn next_reference(bytes: &[u8], enc: Enc) -> Option<(Option<u64>, &[u8])>
+pub(crate) fn next_reference(bytes: &[u8], enc: Enc) -> Option<(Option<Reference>, &[u8])>
     ensures found { IfSome result (λ found.
         line_references enc bytes.now ≡ option_to_list found.0 ++ line_references enc found.1.now) }
     ensures shorter { IfSome result (λ found. length found.1.now < length bytes.now) }
@@ -48,6 +48,6 @@ pub(crate) fn next_reference(bytes: &[u8], enc: Enc) -> Option<(Option<u64>, &[u
     let at = find_mark(bytes)?;
     let start = line_start(&bytes[..at]);
     let end = at + line_len(&bytes[at..]);
-    let number = text_reference(line_text(&bytes[start..end]), enc);
-    Some((number, &bytes[end..]))
+    let reference = text_reference(line_text(&bytes[start..end]), enc);
+    Some((reference, &bytes[end..]))
 }

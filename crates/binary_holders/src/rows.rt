@@ -1,15 +1,5 @@
 // What is found of processes and of binaries.
-ghost use Rattle.std.specs.Prelude.{◌≡◌};
-ghost use Rattle.binary_holders.specs.Held.{capped};
-
 use size_order::Measured;
-
-/// A sum as it is shown, at most 2^64 - 1.
-pub(crate) fn capped(sum: u128) -> u64
-    ensures { result ≡ capped sum }
-{
-    sum.min(u128::from(u64::MAX)) as u64
-}
 
 /// What a process holds of some binaries.
 #[derive(Clone, Copy, Debug, PartialEq, Eq, Drop)]
@@ -46,6 +36,15 @@ pub struct BinaryRow {
     pub number: u64,
     /// The offset in the file of its section's header.
     pub at: u64,
+}
+
+/// Lines of heaps that refer to binaries as a whole.
+#[derive(Clone, Copy, Debug, PartialEq, Eq, Drop)]
+pub struct WholeLines {
+    /// How many there are; at most 2^64 - 1.
+    pub count: u64,
+    /// How many of them refer to no stored binary; at most 2^64 - 1.
+    pub unstored: u64,
 }
 
 impl Measured for BinaryRow {

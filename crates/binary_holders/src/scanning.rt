@@ -13,58 +13,66 @@ use crate::counts::Counts;
 use crate::heap_sink::HeapSink;
 use crate::lines::next_reference;
 use crate::targets::Targets;
+use crate::texts::Reference;
 use body_lines::{LinesFault, hear_body};
 use dump_io::{Dumps, Failed};
 use term_forms::{Enc, form_is_read, number_is_read};
 
-// Puts a number, if there is one, behind those that are gathered, and returns how many these are then.
-fn put_number(numbers: &mut [u64], count: usize, number: Option<u64>) -> usize
-    requires { count < length numbers.old }
+// A reference that stands for none yet.
+const NO_REFERENCE: Reference = Reference {
+    number: 0,
+    whole: false,
+};
+
+// Puts a reference, if there is one, behind those that are gathered, and returns how many these are then.
+fn put_reference(references: &mut [Reference], count: usize, reference: Option<Reference>) -> usize
+    requires { count < length references.old }
     ensures few { result ≤ count + 1 }
-    ensures size { length numbers.new ≡ length numbers.old }
-    ensures put { take result numbers.new ≡ take count numbers.old ++ option_to_list number }
+    ensures size { length references.new ≡ length references.old }
+    ensures put { take result references.new
+        ≡ take count references.old ++ option_to_list reference }
 {
-    match number {
-        Some(number) => {
-            numbers[count] = number;
+    match reference {
+        Some(reference) => {
+            references[count] = reference;
             count + 1
         }
         None => count,
     }
 }
 
-// Gathers what the first lines of these bytes refer to, as many numbers as
+// Gathers the references of the first lines of these bytes, as many as
 // there is room for, and returns how many, and the lines that are left.
-fn gather<'a>(bytes: &'a [u8], enc: Enc, numbers: &mut [u64]) -> (usize, &'a [u8])
+fn gather<'a>(bytes: &'a [u8], enc: Enc, references: &mut [Reference]) -> (usize, &'a [u8])
     requires some { 0 < length bytes.now }
-    requires room { 0 < length numbers.old }
-    ensures few { result.0 ≤ length numbers.new }
-    ensures size { length numbers.new ≡ length numbers.old }
+    requires room { 0 < length references.old }
+    ensures few { result.0 ≤ length references.new }
+    ensures size { length references.new ≡ length references.old }
     ensures found { line_references enc bytes.now
-        ≡ take result.0 numbers.new ++ line_references enc result.1.now }
+        ≡ take result.0 references.new ++ line_references enc result.1.now }
     ensures shorter { length result.1.now < length bytes.now }
 {
     let mut count = 0;
     let mut rest = bytes;
-    while count < numbers.len() {
-        let Some((number, behind)) = next_reference(rest, enc) else {
+    while count < references.len() {
+        let Some((reference, behind)) = next_reference(rest, enc) else {
             return (count, b"");
         };
-        count = put_number(numbers, count, number);
+        count = put_reference(references, count, reference);
         rest = behind;
     }
     (count, rest)
 }
 
-// Counts references to the binaries with these numbers. One look-up
-// after another lets the processor wait for several of them at once.
-fn count_numbers(numbers: &[u64], targets: &Targets, counts: &mut Counts)
+// Counts references. One look-up after another lets the
+// processor wait for several of them at once.
+fn count_references(references: &[Reference], targets: &Targets, counts: &mut Counts)
     requires { HasRoom (length targets.now) counts.old }
     ensures room { KeepsRoom counts.old counts.new }
-    ensures adds { Adds targets.now counts.old counts.new numbers.now }
+    ensures adds { Adds targets.now counts.old counts.new references.now }
 {
-    for number in numbers {
-        counts.add(targets, *number);
+    for reference in references {
+        counts.add(targets, *reference);
     }
 }
 
@@ -74,11 +82,11 @@ pub(crate) fn count_lines(bytes: &[u8], enc: Enc, targets: &Targets, counts: &mu
     ensures room { KeepsRoom counts.old counts.new }
     ensures adds { Adds targets.now counts.old counts.new (line_references enc bytes.now) }
 {
-    let mut numbers = [0u64; 32];
+    let mut references = [NO_REFERENCE; 32];
     let mut rest = bytes;
     while !rest.is_empty() {
-        let (count, behind) = gather(rest, enc, &mut numbers);
-        count_numbers(&numbers[..count], targets, counts);
+        let (count, behind) = gather(rest, enc, &mut references);
+        count_references(&references[..count], targets, counts);
         rest = behind;
     }
 }

@@ -4,9 +4,10 @@ ghost use Rattle.std.specs.List.{sum_by, count_by};
 ghost use Rattle.dump_io.specs.Dumps.{told, ReadsAtMost};
 ghost use Rattle.dump_sections.specs.Index.{IsBuiltOver};
 ghost use Rattle.process_table.specs.Processes.{AreProcessesOver};
-ghost use Rattle.binary_holders.specs.Held.{capped, holdings};
+ghost use Rattle.size_order.specs.Sums.{capped};
+ghost use Rattle.binary_holders.specs.Held.{holdings, whole_lines};
 ghost use Rattle.size_order.specs.Sorting.{most_first};
-ghost use Rattle.binary_holders.specs.Usage.{IsHolderCauseOf, NamesProcess, binaries_in, fronts_length, heaps_length, heaps_of, holders_in, pids_of, shown_use, stored_in, usage_of};
+ghost use Rattle.binary_holders.specs.Usage.{IsHolderCauseOf, NamesProcess, binaries_in, fronts_length, heaps_length, heaps_of, holders_in, lines_of, pids_of, shown_use, stored_in, usage_of};
 ghost use Rattle.binary_holders.specs.Inner.Finding.{numbers_of, stored_of};
 ghost use Rattle.binary_holders.specs.Inner.Places.{numbers_in};
 ghost use Rattle.binary_holders.specs.Inner.Rows.{AreRows, row_at};
@@ -17,7 +18,7 @@ use crate::faults::{HolderFault, push_row};
 use crate::heap_places::heap_places;
 use crate::heap_sink::HeapSink;
 use crate::holding::count_all;
-use crate::rows::{BinaryRow, Holding, capped};
+use crate::rows::{BinaryRow, Holding, WholeLines};
 use crate::stored::{StoredAt, find_stored, read_sizes};
 use crate::targets::{Binary, Targets};
 use body_lines::make_buffer;
@@ -25,7 +26,7 @@ use dump_io::Dumps;
 use dump_sections::Index;
 use heap_cells::enc_of;
 use process_table::Procs;
-use size_order::sort_most_first;
+use size_order::{capped, sort_most_first};
 use std::alloc::{AllocError, Global};
 use std::collections::BTreeMap;
 
@@ -41,6 +42,8 @@ pub struct BinaryUse {
     pub bytes: u64,
     /// How many of the binaries are held by a process.
     pub with_holders: u64,
+    /// How many lines of the heaps refer to binaries as a whole, and how many of them to none that is stored.
+    pub lines: WholeLines,
 }
 
 // The row of a binary.
@@ -91,12 +94,14 @@ fn sorted(
     mut held: Vec<Holding>,
     mut rows: Vec<BinaryRow>,
     bytes: u64,
+    lines: WholeLines,
 ) -> Result<BinaryUse, HolderFault>
     ensures held { IfOk result (λ found.
         found.held.items ≡ most_first (λ holding. holding.total) held.items) }
     ensures binaries { IfOk result (λ found.
         found.binaries.items ≡ most_first (λ row. row.size) rows.items) }
     ensures bytes { IfOk result (λ found. found.bytes ≡ bytes) }
+    ensures lines { IfOk result (λ found. found.lines ≡ lines) }
     ensures with_holders { IfOk result (λ found.
         found.with_holders ≡ count_by (λ row. nat_lt 0 row.holders) rows.items) }
     ensures named { (count : ℕ) → All (NamesProcess count) held.items
@@ -115,6 +120,7 @@ fn sorted(
         binaries: rows,
         bytes,
         with_holders,
+        lines,
     })
 }
 
@@ -140,6 +146,9 @@ fn count_references<D: Dumps>(
     ensures counted { IfOk result (λ found. (dump : List ℕ) → (D.state dumps.old).now ≡ told dump
         → HasCounted targets.now
         (heaps_of dump index.now (pids_of procs.now.processes)) [] found.1) }
+    ensures lines { IfOk result (λ found. (dump : List ℕ) → (D.state dumps.old).now ≡ told dump
+        → found.1.lines
+        ≡ whole_lines targets.now (lines_of dump index.now (pids_of procs.now.processes))) }
 {
     let Ok(heaps) = heap_places(alloc, index, procs) else {
         return Err(HolderFault::Memory);
@@ -198,8 +207,8 @@ fn stored_targets<D: Dumps>(
 /// The stored binaries are the `binary` sections whose id is a hex number of 1 to 16 digits; of those with the same
 /// number only the first counts. The size of one is the hex number of 1 to 16 digits before the `:` with which its body
 /// begins, or 0 if the body doesn't begin so. A process holds one if the first `proc_heap` section of its pid has a heap
-/// line whose form is a reference to a binary with that number; each binary counts once for a process. The processes
-/// are in the order of their whole sums, and a sum above 2^64 - 1 is given as that.
+/// line whose form is a reference to a binary with that number, to the whole of it or to a part; each binary counts
+/// once for a process. The processes are in the order of their whole sums, and a sum above 2^64 - 1 is given as that.
 ///
 /// The index was built over the open file, which stays open, and the processes are those of the
 /// index. Returns `Read` only if the device's count of faults rose; `Memory` may come from any
@@ -228,7 +237,7 @@ pub fn binary_use<D: Dumps>(
     let holders = counts.holders.as_slice();
     let rows = rows_of(alloc, index, list, binaries, holders)?;
     let bytes = capped(targets.total());
-    sorted(held, rows, bytes)
+    sorted(held, rows, bytes, counts.lines)
 }
 
 // One binary whose references are counted, by its number alone.
@@ -242,8 +251,8 @@ fn one_target(alloc: Global, number: u64) -> Result<Targets, AllocError>
     Targets::new(alloc, binaries, places)
 }
 
-/// Which processes hold the binary with this number, in dump order, and by how
-/// many lines of their heaps. What a process holds is counted as in
+/// Which processes hold the binary with this number, in dump order, and by how many lines of
+/// their heaps, whether it is stored or not. What a process holds is counted as in
 /// [`binary_use`], with 0 for the size; nothing of the `binary` sections is read.
 ///
 /// The index was built over the open file, which stays open, and the processes are those

@@ -133,6 +133,7 @@ impl Case {
         }
         match word {
             "words" => self.take_words(alloc, rest)?,
+            "word" => self.words.push(String::from_str(alloc, rest)?)?,
             "heap" => self.take_heap(alloc, rest)?,
             _ => return Ok(self.take_setting(word, rest).is_some()),
         }

@@ -16,6 +16,8 @@
 //! ! an expected line of standard error
 //! ```
 //!
+//! A line `word` adds the rest of its line as one more word, with the blanks in it.
+//!
 //! The dump is the file `F`. `heap 0.5` stands for its first three lines: that of this version, that of the process
 //! `<0.1.0>`, and the header of its heap. In a line of the dump, or of what is expected, one letter may follow
 //! the sign: with `-` the line lacks its LF, and `r` ends it with CR and LF; `h 1F 8B` stands for

@@ -7,17 +7,16 @@ use std::alloc::Global;
 use std::cell::{Cell, RefCell};
 use std::fs;
 use std::io::{self, Write};
-use std::process::Abort;
+use std::process::{self, Abort};
 use std::test::Fail;
 
 // How many bytes a sink's buffer holds.
 const BUFFER: usize = 131_072;
 
-const FIRST: &str = "/tmp/edump-first-test";
-
-const SECOND: &str = "/tmp/edump-second-test";
-
-const CUT: &str = "/tmp/edump-cut-test";
+// The path of a file of this process alone, so that what another user's run left isn't in its way.
+fn own_path(rt: &HostRuntime, name: &str) -> Result<String, Fail> {
+    Ok(format!(in rt.alloc(); "/tmp/edump-{name}-{}", process::id(rt.process()))?)
+}
 
 // Reads seven bytes of the open file from an offset on.
 fn seven_at<D: Dumps>(dumps: &mut D, at: u64) -> Result<[u8; 7], Failed>
@@ -31,25 +30,29 @@ fn seven_at<D: Dumps>(dumps: &mut D, at: u64) -> Result<[u8; 7], Failed>
 
 #[test]
 fn the_named_one_of_two_files_is_read(rt: HostRuntime) -> Result<(), Fail> {
-    fs::write(&rt, FIRST, "first")?;
-    fs::write(&rt, SECOND, "0123456789")?;
+    let first = own_path(&rt, "first")?;
+    let second = own_path(&rt, "second")?;
+    fs::write(&rt, first.as_str(), "first")?;
+    fs::write(&rt, second.as_str(), "0123456789")?;
     let mut dumps = FileDumps::new(&rt);
-    assert_eq!(rt; dumps.open_dump(FIRST)?, 5);
-    assert_eq!(rt; dumps.open_dump(SECOND)?, 10);
+    assert_eq!(rt; dumps.open_dump(&first)?, 5);
+    assert_eq!(rt; dumps.open_dump(&second)?, 10);
     assert_eq!(rt; seven_at(&mut dumps, 2)?, *b"2345678");
-    fs::remove_file(&rt, FIRST)?;
-    assert!(rt; dumps.open_dump(FIRST).is_err());
+    fs::remove_file(&rt, first.as_str())?;
+    assert!(rt; dumps.open_dump(&first).is_err());
+    fs::remove_file(&rt, second.as_str())?;
     Ok(())
 }
 
 #[test]
 fn a_file_that_was_cut_since_it_was_opened(rt: HostRuntime) -> Result<(), Fail> {
-    fs::write(&rt, CUT, "0123456789")?;
+    let path = own_path(&rt, "cut")?;
+    fs::write(&rt, path.as_str(), "0123456789")?;
     let mut dumps = FileDumps::new(&rt);
-    assert_eq!(rt; dumps.open_dump(CUT)?, 10);
-    fs::write(&rt, CUT, "0123")?;
+    assert_eq!(rt; dumps.open_dump(&path)?, 10);
+    fs::write(&rt, path.as_str(), "0123")?;
     assert!(rt; seven_at(&mut dumps, 3).is_err());
-    fs::remove_file(&rt, CUT)?;
+    fs::remove_file(&rt, path.as_str())?;
     Ok(())
 }
 

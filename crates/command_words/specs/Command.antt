@@ -10,7 +10,7 @@ use Rattle.table_sections.specs.declared.kinds.TableKind.TheVariants as kinds
 use Rattle.command_words.specs.declared.words.Cmd.{Cmd}
 use Rattle.command_words.specs.declared.words.Cmd.TheVariants.{On, Make, Trial}
 use Rattle.command_words.specs.declared.words.Query.{Query}
-use Rattle.command_words.specs.declared.words.Query.TheVariants.{Index, Info, Procs, Proc, Memory, Table, Roots, Term, Ext, Reach, Cells, Binary, Binaries, Holders, Triage, Links, Redact, Audit, AuditJson}
+use Rattle.command_words.specs.declared.words.Query.TheVariants.{Index, Info, Procs, Proc, Memory, Field, Table, Roots, Term, Ext, Reach, Cells, Binary, Binaries, Holders, Triage, Stacks, Links, Redact, Audit, AuditJson}
 use Rattle.command_words.specs.Budgets.{budget_of}
 use Rattle.command_words.specs.Ranges.{number_upto}
 
@@ -22,6 +22,8 @@ pub data Ask : Type 0 where
   -- the fields of the process with this pid
   proc : List ℕ → Ask
   memory : Ask
+  -- the field with this key of every process
+  field : List ℕ → Ask
   table : TableKind → Ask
   -- the roots of the process with this pid, each within this many nodes, with bad addresses marked or not
   roots : RootKind → List ℕ → ℕ → Bool → Ask
@@ -41,6 +43,8 @@ pub data Ask : Type 0 where
   holders : ℕ → Ask
   -- what to read first, with at most this many rows of each table
   triage : ℕ → Ask
+  -- which processes stand at the same place, with at most this many groups
+  stacks : ℕ → Ask
   links : Ask
   -- the dump with its payloads made zero
   redact : Ask
@@ -65,6 +69,7 @@ shown_query Info = info
 shown_query Procs = procs
 shown_query (Proc pid) = proc pid.now
 shown_query Memory = memory
+shown_query (Field key) = field key.now
 shown_query (Table kind) = table kind
 shown_query (Roots kind pid nodes marked) = roots kind pid.now nodes marked
 shown_query (Term pid addr nodes marked) = term pid.now addr nodes marked
@@ -75,6 +80,7 @@ shown_query (Binary addr) = binary addr
 shown_query Binaries = binaries
 shown_query (Holders addr) = holders addr
 shown_query (Triage count) = triage count
+shown_query (Stacks count) = stacks count
 shown_query Links = links
 shown_query Redact = redact
 shown_query (Audit limit full) = audit limit full
@@ -86,7 +92,8 @@ shown_command (On file query) = on file.now (shown_query query)
 shown_command (Make seed count) = make seed count
 shown_command (Trial seed count) = trial seed count
 
--- what a command without more words asks; `triage` then shows 10 rows of each table
+-- what a command without more words asks; `triage` then shows
+-- 10 rows of each table, and `stacks` 10 groups
 abbrev pub plain_query : List ℕ → Option Ask
 plain_query name =
     if bytes_eq name (codes "index") then Some index
@@ -99,8 +106,9 @@ plain_query name =
     else (if bytes_eq name (codes "mods") then Some (table kinds.Mods)
     else (if bytes_eq name (codes "binaries") then Some binaries
     else (if bytes_eq name (codes "triage") then Some (triage 10)
+    else (if bytes_eq name (codes "stacks") then Some (stacks 10)
     else (if bytes_eq name (codes "links") then Some links
-    else (if bytes_eq name (codes "redact") then Some redact else None)))))))))))
+    else (if bytes_eq name (codes "redact") then Some redact else None))))))))))))
 
 -- the roots of a process, within the budget of the last words
 abbrev pub roots_query : RootKind → List ℕ → List (List ℕ) → Option Ask
@@ -142,12 +150,14 @@ process_query name word words =
 abbrev pub word_query : List ℕ → List ℕ → Option Ask
 word_query name word =
     if bytes_eq name (codes "proc") then Some (proc word)
+    else (if bytes_eq name (codes "field") then Some (field word)
     else (if bytes_eq name (codes "reach") then Some (reach word)
     else (if bytes_eq name (codes "cells") then Some (cells word)
     else (if bytes_eq name (codes "binary") then option_map binary (hex_number word)
     else (if bytes_eq name (codes "holders") then option_map holders (hex_number word)
     else (if bytes_eq name (codes "triage") then option_map triage (number_upto 1000 word)
-    else process_query name word [])))))
+    else (if bytes_eq name (codes "stacks") then option_map stacks (number_upto 1000 word)
+    else process_query name word [])))))))
 
 -- a command that makes a dump, from a seed and a count of processes, which is from 1 to 200,000
 abbrev pub made_command : (ℕ → ℕ → Command) → List ℕ → List ℕ → Option Command
@@ -179,6 +189,7 @@ abbrev pub IsAskInRange : Ask → Type 0
 IsAskInRange (roots kind pid nodes marked) = 0 < nodes
 IsAskInRange (term pid addr nodes marked) = 0 < nodes
 IsAskInRange (triage count) = (1 ≤ count) × (count ≤ 1000)
+IsAskInRange (stacks count) = (1 ≤ count) × (count ≤ 1000)
 IsAskInRange ask = Unit {0}
 
 -- and so are those of a command

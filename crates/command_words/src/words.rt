@@ -2,7 +2,7 @@
 ghost use Rattle.std.specs.Prelude.{◌≡◌, [], map, option_map};
 ghost use Rattle.std.specs.Option.{IfSome};
 ghost use Rattle.std.specs.String.{string_bytes};
-ghost use Rattle.command_words.specs.Command.{audit, audit_json, audit_query, binary, command, ext_query, full_of, holders, on, plain_query, process_query, roots_query, shown_command, shown_query, term_query, triage, word_command, word_query, IsAskInRange, IsInRange};
+ghost use Rattle.command_words.specs.Command.{audit, audit_json, audit_query, binary, command, ext_query, full_of, holders, on, plain_query, process_query, roots_query, shown_command, shown_query, stacks, term_query, triage, word_command, word_query, IsAskInRange, IsInRange};
 ghost use Rattle.command_words.specs.Ranges.{number_upto};
 ghost use Rattle.dump_io.specs.Numbers.{hex_number};
 
@@ -13,7 +13,7 @@ use dump_io::{dec_u64, hex_u64};
 use root_views::RootKind;
 use table_sections::TableKind;
 
-// How many rows of each table `triage` shows if its words have no number.
+// How many rows of each table `triage` shows, and how many groups `stacks`, if the words have no number.
 const USUAL_ROWS: u32 = 10;
 
 const MOST_ROWS: u32 = 1_000;
@@ -45,6 +45,10 @@ pub enum Query<'a> {
     },
     /// `memory FILE`: the fields of the first section on memory.
     Memory,
+    /// `field FILE KEY`: the field with this key of every process.
+    Field {
+        key: &'a str,
+    },
     /// `ets FILE`, `ports FILE`, `nodes FILE`, `mods FILE`: the ETS tables,
     /// the ports, the other nodes that the dumped node knew, and the modules.
     Table {
@@ -93,6 +97,10 @@ pub enum Query<'a> {
     /// `triage FILE [N]`: what to read first of a dump: its state and its memory,
     /// and the processes and ETS tables that stand out, at most N by each measure.
     Triage {
+        count: u32,
+    },
+    /// `stacks FILE [N]`: which processes stand at the same place, at most N groups of them.
+    Stacks {
         count: u32,
     },
     /// `links FILE`: the links and monitors of all processes.
@@ -163,6 +171,7 @@ fn plain_query<'a>(name: &str) -> Option<Query<'a>>
         }),
         "binaries" => Some(Query::Binaries),
         "triage" => Some(Query::Triage { count: USUAL_ROWS }),
+        "stacks" => Some(Query::Stacks { count: USUAL_ROWS }),
         "links" => Some(Query::Links),
         "redact" => Some(Query::Redact),
         _ => None,
@@ -186,11 +195,13 @@ fn word_query<'a>(name: &str, word: &'a str) -> Option<Query<'a>>
 {
     match name {
         "proc" => Some(Query::Proc { pid: word }),
+        "field" => Some(Query::Field { key: word }),
         "reach" => Some(Query::Reach { pid: word }),
         "cells" => Some(Query::Cells { pid: word }),
         "binary" => binary_query(word),
         "holders" => holders_query(word),
         "triage" => triage_query(word),
+        "stacks" => stacks_query(word),
         _ => process_query(name, word, &[]),
     }
 }
@@ -217,6 +228,14 @@ fn triage_query<'a>(word: &str) -> Option<Query<'a>>
 {
     let count = number_upto(word, MOST_ROWS)?;
     Some(Query::Triage { count })
+}
+
+fn stacks_query<'a>(word: &str) -> Option<Query<'a>>
+    ensures reads { option_map shown_query result ≡ option_map stacks (number_upto 1000 word.now) }
+    ensures range { IfSome result (λ query. IsAskInRange (shown_query query)) }
+{
+    let count = number_upto(word, MOST_ROWS)?;
+    Some(Query::Stacks { count })
 }
 
 fn process_query<'a>(name: &str, word: &'a str, words: &[String]) -> Option<Query<'a>>

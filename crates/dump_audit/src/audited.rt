@@ -47,10 +47,12 @@ impl<'a> Model for Audited<'a> {
 
     ghost Value = { Audit };
 
-    ghost view = { λ a. audit_of a.index.now a.procs.now.processes a.limit (option_copied a.mails) };
+    ghost view = { λ a.
+        audit_of a.index.now a.procs.now.processes a.limit (option_copied a.mails) };
 
-    ghost invariant = { λ a. IsKept (audit_of a.index.now a.procs.now.processes a.limit (option_copied a.mails))
-        a.graph.now a.state a.judged.now a.names_gone };
+    ghost invariant = { λ a.
+        IsKept (audit_of a.index.now a.procs.now.processes a.limit (option_copied a.mails))
+            a.graph.now a.state a.judged.now a.names_gone };
 }
 
 impl<'a> Audited<'a> {

@@ -4,7 +4,7 @@ ghost use Rattle.std.specs.Option.{option_copied, option_map};
 ghost use Rattle.process_table.specs.Processes.{IsProcessIn, process_at};
 ghost use Rattle.link_entries.specs.Texts.{is_local};
 ghost use Rattle.link_graph.specs.Graph.{links_of, graph_of};
-ghost use Rattle.dump_audit.specs.Findings.{audit_of, is_cut, is_whole, is_dumped, is_judged, section_offset, link_findings, process_findings, findings, findings_in};
+ghost use Rattle.dump_audit.specs.Findings.{is_cut, is_whole, is_dumped, is_judged, link_findings, process_findings, findings, findings_in};
 ghost use Rattle.dump_audit.specs.Fitting.{Fits};
 ghost use Rattle.dump_audit.specs.declared.finding.Finding.TheVariants.{UnreadLinks};
 ghost use Rattle.dump_audit.specs.Inner.Audited.{IsHolder, held, held_offset};
@@ -73,8 +73,8 @@ impl<'a> Audited<'a> {
     // The finding on the link list of a process, if it is unread.
     fn unread_links(&self, holder: &Holder<'_>) -> Option<Finding>
         requires { IsHolder self.now holder.now }
-        ensures { result
-            ≡ option_map (λ line. UnreadLinks holder.now.p line.at (held_offset self.now holder.now))
+        ensures { let offset = held_offset self.now holder.now in
+            result ≡ option_map (λ line. UnreadLinks holder.now.p line.at offset)
             (held self.now holder.now).links }
     {
         let line = self.procs.links(holder.p)?;

@@ -94,8 +94,10 @@ impl<'a> Audited<'a> {
     // Whether an entry has a counterpart in the link list of its partner `q`, or needs none, as a link to itself.
     fn is_settled(&self, holder: &Holder<'_>, kind: EntryKind<'_>, q: usize) -> bool
         requires { q < length self.now.processes }
-        ensures { let shown = shown_kind kind.entry in let partner = process_at self.now.processes q in
-            result ≡ (is_own_link shown holder.now.p q || is_answered holder.now.pid.now shown (links_of partner.links)) }
+        ensures { let shown = shown_kind kind.entry in
+            let partner = process_at self.now.processes q in
+            result ≡ (is_own_link shown holder.now.p q
+            || is_answered holder.now.pid.now shown (links_of partner.links)) }
     {
         match kind {
             EntryKind::Link(_) => q == holder.p || self.graph.has_link(q, holder.pid),
@@ -137,7 +139,8 @@ impl<'a> Audited<'a> {
     fn entry_at(&self, holder: &Holder<'_>, number: u32) -> Entry<'_>
         requires holder { IsHolder self.now holder.now }
         requires number { number < length (entries_in (held self.now holder.now)) }
-        ensures { let entries = entries_in (held self.now holder.now) in slice_get entries number ≡ Some (shown_entry result) }
+        ensures { let entries = entries_in (held self.now holder.now) in
+            slice_get entries number ≡ Some (shown_entry result) }
     {
         self.graph.entry(holder.p, number)
     }
@@ -150,7 +153,8 @@ impl<'a> Audited<'a> {
     ) -> Result<(), AllocError>
         requires { IsHolder self.now holder.now }
         ensures { OnOk result (findings.new.items ≡ findings.old.items
-            ++ (let process = held self.now holder.now in entry_findings self.now holder.now.p process (entries_in process))) }
+            ++ (let process = held self.now holder.now in
+                entry_findings self.now holder.now.p process (entries_in process))) }
     {
         for number in 0..self.entry_count(holder) {
             let entry = self.entry_at(holder, number);

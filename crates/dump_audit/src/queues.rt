@@ -1,7 +1,7 @@
 // The findings on message queues.
 ghost use Rattle.std.specs.Prelude.{◌≡◌, ◌++◌, OnOk};
 ghost use Rattle.section_rows.specs.Shown.{shown_kept};
-ghost use Rattle.dump_audit.specs.Findings.{mail_of, section_offset, stated_findings, queue_findings};
+ghost use Rattle.dump_audit.specs.Findings.{mail_of, stated_findings, queue_findings};
 ghost use Rattle.dump_audit.specs.Inner.Audited.{IsHolder, held, held_offset};
 
 use crate::audited::{Audited, Holder};
@@ -28,7 +28,8 @@ impl<'a> Audited<'a> {
     ) -> Result<(), AllocError>
         requires { IsHolder self.now holder.now }
         ensures { OnOk result (findings.new.items ≡ findings.old.items
-            ++ stated_findings self.now holder.now.p (shown_kept line.now) (held_offset self.now holder.now) (Some stated)) }
+            ++ stated_findings self.now holder.now.p (shown_kept line.now)
+                (held_offset self.now holder.now) (Some stated)) }
     {
         let p = holder.p as u32;
         let at = line.at;
@@ -63,7 +64,8 @@ impl<'a> Audited<'a> {
     ) -> Result<(), AllocError>
         requires { IsHolder self.now holder.now }
         ensures { OnOk result (findings.new.items ≡ findings.old.items
-            ++ (let process = held self.now holder.now in queue_findings self.now holder.now.p process process.queue)) }
+            ++ (let process = held self.now holder.now in
+                queue_findings self.now holder.now.p process process.queue)) }
     {
         let Some(line) = self.procs.queue(holder.p) else {
             return Ok(());

@@ -1,5 +1,5 @@
 -- What a command has read that loads the processes and then looks through their heaps.
-use Rattle.std.proofs.Common.{◌≡◌, ℕ, ◌+◌, ◌≤◌, List, Option, None, refl, ◌∙◌, ap, arith}
+use Rattle.std.proofs.Common.{◌≡◌, ℕ, ◌+◌, ◌≤◌, List, ◌++◌, None, refl, ◌∙◌, ap, arith}
 use Rattle.dump_io.specs.Dumps.{DeviceState, ReadsAtMost}
 use Rattle.dump_io.specs.Limits.{Numbers}
 use Rattle.dump_sections.specs.Index.{Contents, index_of, sections_in}
@@ -10,7 +10,6 @@ use Rattle.process_table.specs.Records.{record_sections}
 use Rattle.binary_holders.specs.Usage.{IsHolderCauseOf, pids_of}
 use Rattle.binary_holders.specs.declared.faults.HolderFault.{HolderFault}
 use Rattle.binary_holders.specs.declared.faults.HolderFault.TheVariants as holder_faults
-use Rattle.report_text.specs.declared.refusals.Refusal.{Refusal}
 use Rattle.dump_command.specs.Meaning.{Meaning, of_holders}
 use Rattle.dump_command.specs.Inner.Loads.{seen_held}
 use Rattle.dump_command.specs.Inner.Reading.{HasRead, IsIndexed, StopsFor, Takes}
@@ -22,26 +21,29 @@ pub StopsFor-holders : (before after : DeviceState) (fault : HolderFault) → Is
 StopsFor-holders before after holder_faults.Read cause = cause
 StopsFor-holders before after holder_faults.Memory cause = tt
 
-module _ {A : Type 0} (absent : List Section → Option Refusal) (more : Contents → List (List ℕ) → ℕ) (held : List ℕ → Contents → List (List ℕ) → A) (show : Contents → List Process → A → List ℕ)
-    (limits : Numbers) (index : Contents) (there : absent (sections_in index) ≡ None) where
+module _ {A : Type 0} (before : List Section → List Section) (more : Contents → List (List ℕ) → ℕ) (held : List ℕ → Contents → List (List ℕ) → A) (show : Contents → List Process → A → List ℕ)
+    (limits : Numbers) (index : Contents) where
   abbrev means : Meaning
-  means = of_holders absent more held show
+  means = of_holders before more held show
 
   pub IsOfBodies-holders : IsOfBodies means index
-  IsOfBodies-holders = record { there = there; few = λ bytes. omega arith }
+  IsOfBodies-holders = record { there = refl; few = λ bytes. omega arith }
+
+  abbrev bodies : List Section → List Section
+  bodies ss = before ss ++ record_sections ss
 
   -- the processes were loaded, and this is their table
-  module _ (old new : DeviceState) (small : large_fault limits.section (record_sections (sections_in index)) ≡ None) (table : ProcessTable)
+  module _ (old new : DeviceState) (small : large_fault limits.section (bodies (sections_in index)) ≡ None) (table : ProcessTable)
       (loaded : (bytes : List ℕ) → IsIndexed bytes limits index old.now → table ≡ process_table bytes) where
     -- what is told over the index and the processes is told of the dump
     over : {X : Type 0} (tell : Contents → List Process → X) (bytes : List ℕ) → IsIndexed bytes limits index old.now → tell index table.processes ≡ tell (index_of bytes) (process_table bytes).processes
     over tell bytes all = ap (λ i. tell i table.processes) all.is ∙ ap (λ t. tell (index_of bytes) t.processes) (loaded bytes all)
 
     -- so much was taken
-    pub Takes-heard : (count : ℕ) → ReadsAtMost old new count → count ≤ bodies_length (record_sections (sections_in index)) + more index (pids_of table.processes) → Takes means limits index old new
+    pub Takes-heard : (count : ℕ) → ReadsAtMost old new count → count ≤ bodies_length (bodies (sections_in index)) + more index (pids_of table.processes) → Takes means limits index old new
     Takes-heard count reads few =
         Takes-listed means limits index old new count (none-large means limits index IsOfBodies-holders small) reads
-        (λ bytes all. omega (arith, few, over (λ i ps. bodies_length (record_sections (sections_in i)) + more i (pids_of ps)) bytes all))
+        (λ bytes all. omega (arith, few, over (λ i ps. bodies_length (bodies (sections_in i)) + more i (pids_of ps)) bytes all))
 
     -- and this is what they hold
     pub HasRead-heard : (found : A) → Takes means limits index old new

@@ -2,6 +2,7 @@ pub mod Audits
 pub mod BinaryLoads
 pub mod HeapLoads
 pub mod HolderLoads
+pub mod NodeLoads
 pub mod Opened
 pub mod Reading
 pub mod Redacting

@@ -1,6 +1,6 @@
 -- What a command has read that tells what stands out in a dump.
 use Rattle.std.proofs.Common.{◌≡◌, ℕ, ◌+◌, List, [], ◌∷◌, ◌++◌, None, Some, Result, Ok, Err, refl, sym, ◌∙◌, ap, subst, arith}
-use Rattle.std.specs.Prelude.{IfOk, IsErrAnd, OnOk, is_some}
+use Rattle.std.specs.Prelude.{IfErr, IfOk, IsErrAnd, OnOk, is_some}
 use Rattle.std.proofs.lemmas.Result.{IfErr-weaker}
 use Rattle.std.specs.Option.{option_or, option_to_list}
 use Rattle.std.proofs.lemmas.List.Sums.{sum_by-append, sum_by-cons}
@@ -11,6 +11,7 @@ use Rattle.dump_sections.specs.Bodies.{body_length, section_in}
 use Rattle.dump_sections.specs.Index.{Contents, sections_in}
 use Rattle.dump_sections.specs.Sections.{Section}
 use Rattle.dump_sections.specs.declared.bodies.BodyFault.{BodyFault}
+use Rattle.dump_sections.specs.declared.bodies.BodyFault.TheVariants.{Memory}
 use Rattle.dump_sections.specs.declared.bodies.LargeSection.{LargeSection}
 use Rattle.dump_sections.specs.LoadingLaws.{large-append, small-both, AreRefused-unread}
 use Rattle.dump_sections.specs.Loading.{bodies_length, body_fault, large_fault, IsUnloaded, LoadsBodies}
@@ -119,18 +120,23 @@ pub LoadsBodies-large : {D T : Type 0} (state : D → DeviceState) (ss : List Se
 LoadsBodies-large state ss limit device large none is =
     record { reads = ReadsAtMost-within (omega arith) none; allowed = tt; unread = λ some. refl; fault = sym is }
 
+-- there was no memory to find them
+pub LoadsBodies-memory : {D T : Type 0} (state : D → DeviceState) (ss : List Section) (limit : ℕ) (device : D) → ReadsAtMost (state device) (state device) 0
+    → LoadsBodies {T = T} state ss limit device device (Err Memory)
+LoadsBodies-memory state ss limit device none = record { reads = ReadsAtMost-within (omega arith) none; allowed = tt; unread = λ some. refl; fault = tt }
+
 -- none is, and they were read or not
-pub LoadsBodies-small : {D : Type 0} (state : D → DeviceState) (index : Contents) (limit : ℕ) (b c : D) (result : Result Loaded BodyFault) → None ≡ large_fault limit (triage_sections (sections_in index))
-    → ReadsBodies index (state b) (state c) result → LoadsBodies state (triage_sections (sections_in index)) limit b c result
-LoadsBodies-small state index limit b c result is read =
+pub LoadsBodies-small : {D T : Type 0} (state : D → DeviceState) (ss : List Section) (limit : ℕ) (b c : D) (result : Result T BodyFault) → None ≡ large_fault limit ss
+    → ReadsAtMost (state b) (state c) (bodies_length ss) → IfErr result (IsUnloaded (state b) (state c)) → LoadsBodies state ss limit b c result
+LoadsBodies-small state ss limit b c result is reads cause =
     record {
-      reads = read.reads;
+      reads = reads;
       allowed = on-ok result;
       unread = λ some. absurd (let no : ⊥ = cc (ap is_some is, some) in no);
-      fault = IfErr-weaker result _ _ (λ fault cause. AreRefused-unread limit (triage_sections (sections_in index)) (state b) (state c) fault (sym is) cause) read.fault;
+      fault = IfErr-weaker result _ _ (λ fault cause. AreRefused-unread limit ss (state b) (state c) fault (sym is) cause) cause;
     }
   where
-    on-ok : (result : Result Loaded BodyFault) → OnOk result (large_fault limit (triage_sections (sections_in index)) ≡ None)
+    on-ok : {T : Type 0} (result : Result T BodyFault) → OnOk result (large_fault limit ss ≡ None)
     on-ok (Ok loaded) = sym is
     on-ok (Err fault) = tt
 

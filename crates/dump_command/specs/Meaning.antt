@@ -4,7 +4,7 @@ use Rattle.std.specs.Prelude.{ℕ, ◌+◌, ◌*◌, Bool, List, [], ◌∷◌, 
 use Rattle.std.specs.Option.{option_or, option_to_list}
 use Rattle.dump_io.specs.Limits.{Numbers}
 use Rattle.dump_sections.specs.Bodies.{at_place, body_in, body_of}
-use Rattle.dump_sections.specs.Index.{Contents, index_of}
+use Rattle.dump_sections.specs.Index.{Contents, index_of, sections_in}
 use Rattle.dump_sections.specs.Loading.{bodies_length}
 use Rattle.dump_sections.specs.Lookups.{first_named, first_tagged}
 use Rattle.dump_sections.specs.Sections.{Section, sections}
@@ -14,10 +14,11 @@ use Rattle.report_text.specs.declared.refusals.Refusal.{Refusal}
 use Rattle.report_text.specs.declared.refusals.Refusal.TheVariants.{NoProcess}
 use Rattle.report_text.specs.Links.{links_report}
 use Rattle.report_text.specs.Reports.{index_report, info_report}
-use Rattle.report_text.specs.Tables.{fields_report, procs_report, rows_report}
+use Rattle.report_text.specs.Tables.{fields_report, procs_report, rows_report, values_report}
 use Rattle.root_views.specs.Kinds.{roots_in}
 use Rattle.root_views.specs.Sections.{root_section}
 use Rattle.root_views.specs.declared.kinds.RootKind.TheVariants.{Stack, Dict, Mail}
+use Rattle.process_table.specs.Fields.{field_table}
 use Rattle.process_table.specs.Processes.{Process, process_table}
 use Rattle.process_table.specs.Records.{record_sections}
 use Rattle.table_sections.specs.declared.kinds.TableKind.TheVariants.{Ets}
@@ -30,8 +31,12 @@ use Rattle.stored_binaries.specs.StoredBinaries.{binary_section}
 use Rattle.term_unfold.specs.DumpWalks.{walk_of}
 use Rattle.term_unfold.specs.Walks.{Walk}
 use Rattle.heap_reach.specs.Rounds.{reached_by}
-use Rattle.binary_holders.specs.Usage.{fronts_length, heaps_length, holders_in, pids_of, usage_of}
+use Rattle.binary_holders.specs.Usage.{Usage, fronts_length, heaps_length, holders_in, pids_of, usage_of}
 use Rattle.glance_text.specs.Holders.{binaries_report, holders_report}
+use Rattle.process_stacks.specs.Groups.{Found, found_from}
+use Rattle.process_stacks.specs.Rows.{stack_rows, stacks_length}
+use Rattle.section_rows.specs.Rows.{Row}
+use Rattle.stack_text.specs.Stacks.{stacks_report}
 use Rattle.term_text.specs.Cells.{cells_report}
 use Rattle.term_text.specs.Reach.{reach_report}
 use Rattle.term_text.specs.Roots.{answer_over, binary_report, ext_report, roots_report, term_report}
@@ -43,7 +48,7 @@ use Rattle.dump_audit.specs.declared.finding.Finding.{Finding}
 use Rattle.json_report.specs.Trees.{audit_tree, json_text}
 use Rattle.dump_redact.specs.Redacted.{redacted}
 use Rattle.dump_redact.specs.Refusals.{heap_sections}
-use Rattle.command_words.specs.Command.{Ask, index, info, procs, proc, memory, table, roots, term, ext, reach, cells, binary, binaries, holders, triage, links, redact, audit, audit_json}
+use Rattle.command_words.specs.Command.{Ask, index, info, procs, proc, memory, field, table, roots, term, ext, reach, cells, binary, binaries, holders, triage, stacks, links, redact, audit, audit_json}
 use Rattle.dump_command.specs.Terms.{bad_binary, base_of, binary_bytes, binary_cause, binary_count, external_at, no_address, no_external, root_terms, too_dense}
 use Rattle.dump_command.specs.Triage.{Told, triage_over}
 
@@ -124,6 +129,28 @@ abbrev pub held_by : {A : Type 0} → (List ℕ → Contents → List (List ℕ)
 held_by held bytes =
     let processes = (process_table bytes).processes in record { index = index_of bytes; processes = processes; held = held bytes (index_of bytes) (pids_of processes) }
 
+-- the use of the binaries of a dump, and the body of its first section on memory
+pub record Used : Type 0 where
+  pub usage : Usage
+  pub memory : List ℕ
+
+-- those of the dump with these bytes and this index, by processes with these pids
+abbrev pub used_in : List ℕ → Contents → List (List ℕ) → Used
+used_in bytes i pids = record { usage = usage_of bytes i pids; memory = body_in bytes (memory_section (sections_in i)) }
+
+-- the report of `binaries`
+abbrev pub used_report : Contents → List Process → Used → List ℕ
+used_report i processes used = binaries_report i used.memory processes used.usage
+
+-- what is loaded of the processes of a dump, and their groups by the places at which they stand
+pub record Stacked : Type 0 where
+  pub rows : List Row
+  pub found : Found
+
+-- those of the dump with these bytes
+abbrev pub stacked_in : List ℕ → Stacked
+stacked_in bytes = record { rows = stack_rows bytes; found = found_from bytes (index_of bytes) (stack_rows bytes) }
+
 -- what a walker goes over, and the body with the roots from which it goes
 pub record Rooted : Type 0 where
   pub walk : Walk
@@ -182,14 +209,14 @@ of_subject find why show = record (of_section find show) { absent = λ ss. if is
 abbrev pub of_audit : ℕ → Bool → (Audit → List ℕ) → Meaning
 of_audit limit full show = record (of_bodies (audited_sections full) (audit_in limit full) show) { found = Some findings }
 
--- one that loads the processes and then looks through their heaps for what
--- they hold: by the index and the pids it takes so many bytes more
-abbrev pub of_holders : {A : Type 0} → (List Section → Option Refusal) → (Contents → List (List ℕ) → ℕ)
+-- one that loads these bodies and then the processes, and looks through their heaps
+-- for what they hold: by the index and the pids it takes so many bytes more
+abbrev pub of_holders : {A : Type 0} → (List Section → List Section) → (Contents → List (List ℕ) → ℕ)
     → (List ℕ → Contents → List (List ℕ) → A) → (Contents → List Process → A → List ℕ) → Meaning
-of_holders {A} absent more held show =
-    record (of_bodies record_sections (held_by held) (λ h. show h.index h.processes h.held)) {
-      absent = absent;
-      takes = λ bytes. bodies_length (record_sections (sections bytes)) + more (index_of bytes) (pids_of (process_table bytes).processes);
+of_holders {A} before more held show =
+    let bodies : List Section → List Section = λ ss. before ss ++ record_sections ss in
+    record (of_bodies bodies (held_by held) (λ h. show h.index h.processes h.held)) {
+      takes = λ bytes. bodies_length (bodies (sections bytes)) + more (index_of bytes) (pids_of (process_table bytes).processes);
     }
 
 -- one that loads these bodies and then the heap of a process: it is also refused if the process
@@ -224,6 +251,10 @@ no_body sections = []
 abbrev pub first_body : List Section → List Section
 first_body sections = first_section sections ∷ []
 
+-- the body of the first section on memory, if there is one
+abbrev pub memory_body : List Section → List Section
+memory_body sections = option_to_list (memory_section sections)
+
 -- no refusal
 abbrev pub never : {X : Type 0} → X → Option Refusal
 never x = None
@@ -235,6 +266,7 @@ meaning info = of_bodies first_body overview_of info_of
 meaning procs = of_bodies record_sections process_table procs_report
 meaning (proc pid) = of_subject (process_section pid) (NoProcess pid) fields_of
 meaning memory = of_section memory_section fields_of
+meaning (field key) = of_bodies record_sections (field_table key) values_report
 meaning (table kind) = of_bodies (listed kind) (table_of kind) rows_report
 meaning (roots kind pid nodes marked) =
     of_walk {A = Rooted} pid (λ ss. option_to_list (root_section kind pid ss)) never (λ bytes walk. record { walk = walk; part = part_in (root_section kind pid) bytes })
@@ -249,9 +281,13 @@ meaning (binary addr) =
       absent = λ ss. binary_cause addr (binary_section addr ss);
       held = λ limits bytes. bad_binary addr bytes;
     }
-meaning binaries = of_holders never (λ i pids. fronts_length i + heaps_length i pids) usage_of binaries_report
-meaning (holders addr) = of_holders (λ ss. binary_cause addr (binary_section addr ss)) heaps_length (λ bytes i pids. holders_in bytes i pids addr) holders_report
+meaning binaries = of_holders memory_body (λ i pids. fronts_length i + heaps_length i pids) used_in used_report
+meaning (holders addr) = of_holders no_body heaps_length (λ bytes i pids. holders_in bytes i pids addr) holders_report
 meaning (triage most) = of_bodies triage_sections told_in (triage_over most)
+meaning (stacks most) =
+    record (of_bodies record_sections stacked_in (λ s. stacks_report most s.rows s.found)) {
+      takes = λ bytes. bodies_length (record_sections (sections bytes)) + stacks_length (index_of bytes) (stack_rows bytes);
+    }
 meaning links = of_bodies record_sections process_table (λ table. links_report table.processes)
 -- it is copied from the whole dump
 meaning redact = record (of_bodies heap_sections (λ bytes. bytes) redacted) { takes = λ bytes. length bytes }

@@ -8,6 +8,7 @@ mod binaries;
 mod binary;
 mod cells;
 mod ext;
+mod field;
 mod holders;
 mod index;
 mod info;
@@ -19,6 +20,7 @@ mod procs;
 mod reach;
 mod redact;
 mod roots;
+mod stacks;
 mod subjects;
 mod tables;
 mod term;
@@ -35,6 +37,7 @@ use cells::Cells;
 use command_words::{Cmd, Query};
 use dump_io::{Dumps, Limits, Sink};
 use ext::Ext;
+use field::Field;
 use holders::Holders;
 use index::Index;
 use info::Info;
@@ -46,6 +49,7 @@ use procs::ProcessTable;
 use reach::Reach;
 use redact::run_redact;
 use roots::Roots;
+use stacks::StackGroups;
 use std::alloc::Global;
 use tables::Table;
 use term::Term;
@@ -93,6 +97,10 @@ fn run_query<D: Dumps, K: Sink>(
             run_report(alloc, file, &Proc { pid }, limits, dumps, out)
         }
         Query::Memory => run_report(alloc, file, &Memory, limits, dumps, out),
+        Query::Field { key } => {
+            let key = key.as_bytes();
+            run_report(alloc, file, &Field { key }, limits, dumps, out)
+        }
         Query::Table { kind } => run_report(alloc, file, &Table { kind }, limits, dumps, out),
         Query::Roots {
             kind,
@@ -141,6 +149,9 @@ fn run_query<D: Dumps, K: Sink>(
         }
         Query::Triage { count } => {
             run_report(alloc, file, &Triage { count }, limits, dumps, out)
+        }
+        Query::Stacks { count } => {
+            run_report(alloc, file, &StackGroups { count }, limits, dumps, out)
         }
         Query::Links => run_report(alloc, file, &Links, limits, dumps, out),
         Query::Redact => run_redact(alloc, file, limits, dumps, out),

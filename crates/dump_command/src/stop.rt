@@ -1,6 +1,6 @@
 // Why a command ended without its whole report.
 ghost use Rattle.std.specs.Prelude.{◌≡◌};
-ghost use Rattle.dump_command.specs.Inner.Stops.{or_stop, stop_of_opening, stop_of_body, stop_of_large, stop_of_heap, stop_of_previews, stop_of_holders, stop_of_redact, stop_of_json};
+ghost use Rattle.dump_command.specs.Inner.Stops.{or_stop, stop_of_opening, stop_of_body, stop_of_large, stop_of_heap, stop_of_previews, stop_of_holders, stop_of_stacks, stop_of_redact, stop_of_json};
 
 use binary_holders::HolderFault;
 use binary_refs::PreviewFault;
@@ -9,6 +9,7 @@ use dump_redact::RedactFault;
 use dump_sections::{BodyFault, LargeSection};
 use heap_cells::HeapFault;
 use json_report::JsonFault;
+use process_stacks::StackFault;
 use report_text::Refusal;
 use section_index::OpenFault;
 use std::alloc::AllocError;
@@ -101,6 +102,17 @@ impl From<HolderFault> for Stop {
         match fault {
             HolderFault::Read => Stop::NotRead,
             HolderFault::Memory => Stop::NoMemory,
+        }
+    }
+}
+
+impl From<StackFault> for Stop {
+    ghost from_gives = { λ fault stop. stop ≡ stop_of_stacks fault };
+
+    fn from(fault: StackFault) -> Stop {
+        match fault {
+            StackFault::Read => Stop::NotRead,
+            StackFault::Memory => Stop::NoMemory,
         }
     }
 }

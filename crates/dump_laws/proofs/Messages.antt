@@ -1,5 +1,5 @@
 -- A mailbox has no more messages than its body has bytes.
-use Rattle.std.proofs.Common.{◌≡◌, ℕ, suc, ◌+◌, ◌-◌, ◌<◌, ◌≤◌, ◌^◌, ◌==◌, ◌&&◌, Bool, true, false, List, [], ◌∷◌, length, drop, Option, None, Some, cond, if◌then◌else◌, refl, ap, arith}
+use Rattle.std.proofs.Common.{◌≡◌, ℕ, ◌+◌, ◌-◌, ◌<◌, ◌≤◌, ◌^◌, ◌&&◌, Bool, true, false, List, [], ◌∷◌, length, drop, Option, None, Some, cond, if◌then◌else◌, refl, arith}
 use Rattle.std.specs.Prelude.{IfSome, codes, count_by, flat_map, nat_eq, slice_index_or, unwrap_or}
 use Rattle.std.specs.List.{after_last, before_last, between, starts_with}
 use Rattle.std.specs.Option.{option_and_then, option_map, option_or}
@@ -8,7 +8,7 @@ use Rattle.std.proofs.lemmas.List.Elements.{All-map}
 use Rattle.std.proofs.lemmas.List.Sums.{count_by-le-length, length-filter, sum_by-append}
 use Rattle.std.proofs.lemmas.Option.{IfSome_then}
 use Rattle.dump_io.specs.Colons.{has_colon, is_colon}
-use Rattle.dump_io.specs.Lines.{headers, lf, lines_after, lines_from, raw_lines}
+use Rattle.dump_io.specs.Lines.{headers, lines_from, raw_lines}
 use Rattle.dump_io.specs.Laws.Lines.{length-lines_from, length-raw_lines}
 use Rattle.field_lines.specs.Lines.{TextLine, text_line, text_lines}
 use Rattle.dump_sections.specs.Index.{dump_state}

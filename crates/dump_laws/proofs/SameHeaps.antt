@@ -5,7 +5,7 @@ use Rattle.std.specs.Prelude.{All, ◌&&◌, is_some, get_or, ◌==◌, cond, fi
 use Rattle.std.specs.Option.{option_eq}
 use Rattle.std.specs.Str.{bytes_eq}
 use Rattle.std.specs.List.{between, cons_option, filter_map, list_any, position_or_len, slice_get, take-map}
-use Rattle.std.proofs.lemmas.List.Elements.{All-nil, All-cons, All-head, All-tail, All-filter, filter_passes}
+use Rattle.std.proofs.lemmas.List.Elements.{All-head, All-tail, All-filter, filter_passes}
 use Rattle.std.proofs.lemmas.List.Quantifiers.{position-Some}
 use Rattle.std.proofs.lemmas.Option.{unwrap_or-slice_get, slice_get-map}
 use Rattle.std.proofs.lemmas.Slice.Eq.{bytes_eq-Decides}
@@ -18,7 +18,7 @@ use Rattle.dump_sections.specs.declared.index.State.{State}
 use Rattle.dump_sections.specs.Bodies.{body_of, body_in, at_place}
 use Rattle.process_table.specs.Laws.{All-first_of_each}
 use Rattle.process_table.specs.Processes.{Process, ProcessTable, process_in, process_table}
-use Rattle.process_table.specs.Records.{PlacedSection, first_of_each, is_process, placed_sections, process_sections, records, repeated}
+use Rattle.process_table.specs.Records.{is_process, placed_sections, process_sections, records, repeated}
 use Rattle.audit_bodies.specs.Mailboxes.{mail_in, mailbox_place, mailbox_places, mails, pids_in}
 use Rattle.root_views.specs.Roots.{message_count}
 use Rattle.dump_audit.specs.Findings.{audit_of, findings, is_cut}

@@ -6,15 +6,14 @@ use Rattle.std.specs.List.{enumerate_from, filter_map, cons_option}
 use Rattle.std.specs.Option.{option_to_list}
 use Rattle.std.proofs.lemmas.List.{length-map, take_all}
 use Rattle.std.proofs.lemmas.List.Elements.{All-nil, All-cons, All-head, All-tail, All-take}
-use Rattle.std.proofs.lemmas.Option.{slice_get-get_or, unwrap_or-slice_get}
 use Rattle.size_order.specs.Sorting.{put_row, most_first}
 use Rattle.dump_sections.specs.Index.{Contents}
-use Rattle.section_rows.specs.Rows.{Row, row_at}
-use Rattle.process_table.specs.Processes.{Process, nobody, process_at}
+use Rattle.section_rows.specs.Rows.{Row}
+use Rattle.process_table.specs.Processes.{Process}
 use Rattle.dump_audit.specs.Laws.{told-at}
 use Rattle.dump_triage.specs.declared.ranked.Ranked.{Ranked}
 use Rattle.dump_triage.specs.Ranking.{AreWithin, first_rows, largest, ranked_row, rows_by}
-use Rattle.dump_triage.specs.Triage.{FitsTriage, count_at_first, stated_number, process_state_text, state_texts, triage_of, words_in}
+use Rattle.dump_triage.specs.Triage.{FitsTriage, binary_words, count_at_first, stated_number, process_state_text, state_texts, triage_of, words_in}
 
 -- the row of one place more
 pub rows-more : {X : Type 0} (number : ℕ × X → Option ℕ) (items : List X) (i : ℕ) (x : X) (told : Option ℕ) (before after : List Ranked) → slice_get items i ≡ Some x
@@ -69,5 +68,6 @@ triage-fits index processes rows most = record {
   states = largest-within most (count_at_first (state_texts processes)) (state_texts processes) (length processes) (omega (arith, length-map processes process_state_text));
   queues = largest-within most (λ item. stated_number item.1.queue) processes (length processes) (omega arith);
   memory = largest-within most (λ item. stated_number item.1.memory) processes (length processes) (omega arith);
+  binaries = largest-within most (λ item. Some (binary_words item.1)) processes (length processes) (omega arith);
   tables = largest-within most (λ item. words_in item.1) rows (length rows) (omega arith);
 }

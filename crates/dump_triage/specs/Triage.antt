@@ -1,5 +1,5 @@
 -- What stands out in a dump.
-use Rattle.std.specs.Prelude.{ℕ, ◌-◌, ◌^◌, List, map, take, length, codes, count_by, nat_lt, unwrap_or, Option, None, Some, if◌then◌else◌}
+use Rattle.std.specs.Prelude.{ℕ, ◌+◌, ◌-◌, ◌^◌, List, map, take, length, codes, count_by, nat_lt, unwrap_or, Option, None, Some, if◌then◌else◌}
 use Rattle.std.specs.Option.{option_and_then}
 use Rattle.std.specs.Str.{bytes_eq}
 use Rattle.dump_io.specs.Numbers.{dec_number}
@@ -48,6 +48,15 @@ longest_queues most processes = largest most (λ item. stated_number item.1.queu
 abbrev pub largest_processes : ℕ → List Process → List Ranked
 largest_processes most processes = largest most (λ item. stated_number item.1.memory) processes
 
+-- how many words the binaries take to which a process refers: the sum of
+-- its counts for its young and its old cells; what isn't a number counts 0
+abbrev pub binary_words : Process → ℕ
+binary_words process = unwrap_or (stated_number process.virtual_heap) 0 + unwrap_or (stated_number process.old_virtual_heap) 0
+
+-- the processes whose binaries take the most words
+abbrev pub most_binaries : ℕ → List Process → List Ranked
+most_binaries most processes = largest most (λ item. Some (binary_words item.1)) processes
+
 -- the words of an ETS table, in the last of its columns
 abbrev pub words_in : Row → Option ℕ
 words_in row = stated_number (cell_at row 4)
@@ -63,6 +72,7 @@ pub record Triaged : Type 0 where
   pub states : List Ranked
   pub queues : List Ranked
   pub memory : List Ranked
+  pub binaries : List Ranked
   pub tables : List Ranked
   pub findings : FindingCounts
 
@@ -73,6 +83,7 @@ triage_of index processes rows most = record {
   states = commonest_states most processes;
   queues = longest_queues most processes;
   memory = largest_processes most processes;
+  binaries = most_binaries most processes;
   tables = largest_tables most rows;
   findings = counts_of (findings (audit_of index processes (2 ^ 64 - 1) None));
 }
@@ -82,4 +93,5 @@ pub record FitsTriage (processes : List Process) (rows : List Row) (triage : Tri
   pub states : AreWithin (length processes) triage.states
   pub queues : AreWithin (length processes) triage.queues
   pub memory : AreWithin (length processes) triage.memory
+  pub binaries : AreWithin (length processes) triage.binaries
   pub tables : AreWithin (length rows) triage.tables

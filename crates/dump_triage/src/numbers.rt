@@ -2,11 +2,12 @@
 ghost use Rattle.std.specs.Prelude.{◌≡◌, ◌<◌, length, IfOk};
 ghost use Rattle.section_rows.specs.Rows.{row_at};
 ghost use Rattle.section_rows.specs.Shown.{shown_cell};
-ghost use Rattle.dump_triage.specs.Triage.{largest_processes, largest_tables, longest_queues, stated_number, words_in};
+ghost use Rattle.process_table.specs.Shown.{shown_process};
+ghost use Rattle.dump_triage.specs.Triage.{binary_words, largest_processes, largest_tables, longest_queues, most_binaries, stated_number, words_in};
 
-use crate::ranked::{Ranked, first_rows, push_row};
+use crate::ranked::{Ranked, first_rows, push_row, push_sum};
 use dump_io::dec_u64;
-use process_table::{Kept, Procs};
+use process_table::{Kept, Proc, Procs};
 use std::alloc::{AllocError, Global};
 use table_sections::Rows;
 
@@ -47,6 +48,30 @@ pub(crate) fn largest_processes(
     for p in 0..procs.len() {
         let process = procs.at(p);
         push_row(&mut rows, p, number_in(&process.memory))?;
+    }
+    first_rows(rows, most)
+}
+
+// How many words the binaries take to which a process refers, as its two counts say.
+fn binary_words(process: &Proc<'_>) -> u128
+    ensures { result ≡ binary_words (shown_process process.now) }
+{
+    let young = number_in(&process.virtual_heap).unwrap_or(0);
+    let old = number_in(&process.old_virtual_heap).unwrap_or(0);
+    u128::from(young) + u128::from(old)
+}
+
+// The processes whose binaries take the most words, at most `most`.
+pub(crate) fn most_binaries(
+    alloc: Global,
+    procs: &Procs,
+    most: u64,
+) -> Result<Vec<Ranked>, AllocError>
+    ensures { IfOk result (λ rows. rows.items ≡ most_binaries most procs.now.processes) }
+{
+    let mut rows = Vec::new(alloc);
+    for p in 0..procs.len() {
+        push_sum(&mut rows, p, binary_words(&procs.at(p)))?;
     }
     first_rows(rows, most)
 }

@@ -1,5 +1,5 @@
 // Places with a number each, the largest number first.
-ghost use Rattle.std.specs.Prelude.{◌≡◌, ◌++◌, IfOk, OnOk};
+ghost use Rattle.std.specs.Prelude.{◌≡◌, ◌++◌, IfOk, OnOk, Some};
 ghost use Rattle.std.specs.Option.{option_to_list};
 ghost use Rattle.dump_triage.specs.Ranking.{first_rows, ranked_row};
 
@@ -11,15 +11,15 @@ use std::alloc::AllocError;
 pub struct Ranked {
     /// The place of the process in the process table, or of the table among the rows of its kind, from 0.
     pub place: usize,
-    /// The number, such as that of bytes or of messages, which isn't 0.
-    pub number: u64,
+    /// The number, such as that of bytes or of messages, which isn't 0. It may be a sum above 2^64 - 1.
+    pub number: u128,
 }
 
 impl Measured for Ranked {
     ghost size = { λ row. row.number };
 
     fn size(&self) -> u128 {
-        u128::from(self.number)
+        self.number
     }
 }
 
@@ -33,12 +33,21 @@ pub(crate) fn push_row(
         ≡ rows.old.items ++ option_to_list (ranked_row place number)) }
 {
     match number {
-        None | Some(0) => Ok(()),
-        Some(number) => {
-            rows.push(Ranked { place, number })?;
-            Ok(())
-        }
+        None => Ok(()),
+        Some(number) => push_sum(rows, place, u128::from(number)),
     }
+}
+
+// Appends the row of a place, if its sum isn't 0.
+pub(crate) fn push_sum(rows: &mut Vec<Ranked>, place: usize, sum: u128) -> Result<(), AllocError>
+    ensures { OnOk result (rows.new.items
+        ≡ rows.old.items ++ option_to_list (ranked_row place (Some sum))) }
+{
+    if sum == 0 {
+        return Ok(());
+    }
+    rows.push(Ranked { place, number: sum })?;
+    Ok(())
 }
 
 // The first of these rows, at most `most`, with the largest first.

@@ -8,7 +8,7 @@ ghost use Rattle.dump_triage.specs.FindingCounts.{counts_of};
 ghost use Rattle.dump_triage.specs.Triage.{FitsTriage, triage_of};
 
 use crate::finding_counts::{FindingCounts, counts_of};
-use crate::numbers::{largest_processes, largest_tables, longest_queues};
+use crate::numbers::{largest_processes, largest_tables, longest_queues, most_binaries};
 use crate::ranked::Ranked;
 use crate::states::commonest_states;
 use dump_audit::audit;
@@ -26,6 +26,7 @@ pub struct Triage {
     states: Vec<Ranked>,
     queues: Vec<Ranked>,
     memory: Vec<Ranked>,
+    binaries: Vec<Ranked>,
     tables: Vec<Ranked>,
     findings: FindingCounts,
 }
@@ -39,6 +40,7 @@ impl Model for Triage {
       states = t.states.items;
       queues = t.queues.items;
       memory = t.memory.items;
+      binaries = t.binaries.items;
       tables = t.tables.items;
       findings = t.findings;
     } };
@@ -58,10 +60,12 @@ fn count_findings(alloc: Global, index: &Index, procs: &Procs) -> Result<Finding
 
 impl Triage {
     /// What stands out in a dump with these processes and these ETS tables, which are those of its
-    /// index: at most `most` states, message queues, processes and tables, and the numbers of findings.
+    /// index: at most `most` states, message queues, processes by memory and by binaries, and tables, and the
+    /// numbers of findings.
     ///
     /// A process without a `State` is in the state `-`. A message queue, a memory or the words of a table count
-    /// if they are decimal numbers below 2^64 and not 0. Findings are those of [`audit`](dump_audit::audit)
+    /// if they are decimal numbers below 2^64 and not 0. The binaries of a process are the sum of its `BinVHeap` and
+    /// its `OldBinVHeap`, each of which counts 0 if it isn't such a number. Findings are those of [`audit`](dump_audit::audit)
     /// with the limit 2^64 - 1, which no message queue exceeds. `AllocError` may come from any allocation.
     pub fn of(
         alloc: Global,
@@ -80,6 +84,7 @@ impl Triage {
             states: commonest_states(alloc, procs, most)?,
             queues: longest_queues(alloc, procs, most)?,
             memory: largest_processes(alloc, procs, most)?,
+            binaries: most_binaries(alloc, procs, most)?,
             tables: largest_tables(alloc, tables, most)?,
             findings: count_findings(alloc, index, procs)?,
         })
@@ -105,6 +110,13 @@ impl Triage {
         ensures { result.now ≡ self.now.memory }
     {
         self.memory.as_slice()
+    }
+
+    /// The processes by the words of the binaries to which they refer, as they count them.
+    pub fn binaries(&self) -> &[Ranked]
+        ensures { result.now ≡ self.now.binaries }
+    {
+        self.binaries.as_slice()
     }
 
     /// The ETS tables by their words.

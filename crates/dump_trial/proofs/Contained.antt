@@ -1,5 +1,5 @@
 -- What holds of all sections holds of those that are looked up.
-use Rattle.std.proofs.Common.{◌≡◌, ℕ, zero, suc, ◌+◌, ◌≤◌, List, [], ◌∷◌, Option, None, Some, refl, ◌∙◌, ap, arith, nat_lt, not}
+use Rattle.std.proofs.Common.{◌≡◌, ℕ, zero, suc, ◌+◌, ◌≤◌, List, [], ◌∷◌, Option, None, Some, refl, ◌∙◌, ap, arith, nat_lt}
 use Rattle.std.specs.Prelude.{All, slice_get, unwrap_or}
 use Rattle.std.specs.List.{enumerate_from}
 use Rattle.std.specs.Option.{option_map, option_to_list}
@@ -10,7 +10,7 @@ use Rattle.dump_sections.specs.Sections.{Section}
 use Rattle.dump_sections.specs.Bodies.{body_length, section_at, section_in}
 use Rattle.dump_sections.specs.Index.{Contents, sections_in}
 use Rattle.dump_sections.specs.Loading.{large_fault, large_section}
-use Rattle.process_table.specs.Records.{PlacedSection, is_process, first_of_each, has_same_pid, placed_sections, process_sections, records, record_sections}
+use Rattle.process_table.specs.Records.{PlacedSection, is_process, placed_sections, process_sections, records, record_sections}
 use Rattle.process_table.specs.Laws.{All-first_of_each}
 
 -- the body of a section is within the usual limit

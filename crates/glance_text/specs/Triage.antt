@@ -1,8 +1,11 @@
 -- The report of `triage`. Offsets are of the file.
-use Rattle.std.specs.Prelude.{ℕ, List, [], ◌∷◌, ◌++◌, length, decimal, codes, if◌then◌else◌}
+use Rattle.std.specs.Prelude.{ℕ, ◌==◌, Bool, false, ◌&&◌, not, nat_lt, List, [], ◌∷◌, ◌++◌, length, decimal, codes, Option, if◌then◌else◌}
 use Rattle.std.specs.List.{flat_map}
+use Rattle.std.specs.Option.{option_map_or}
 use Rattle.dump_io.specs.Colons.{has_colon}
-use Rattle.field_lines.specs.Fields.{find_value, key_of, value_of}
+use Rattle.size_order.specs.Sums.{capped}
+use Rattle.field_lines.specs.declared.shapes.FieldAt.{FieldAt}
+use Rattle.field_lines.specs.Fields.{find_field, key_of, value_of}
 use Rattle.field_lines.specs.Lines.{TextLine, text_lines}
 use Rattle.dump_sections.specs.Index.{Contents, sections_in, dump_state}
 use Rattle.section_rows.specs.Rows.{Row, cell_at, row_at}
@@ -20,34 +23,55 @@ abbrev pub memory_line : TextLine → List ℕ
 memory_line line =
     if has_colon line.text then line_of tab (codes "memory" ∷ key_of line.text ∷ value_of line.text ∷ []) else []
 
--- the first lines: those of `info`, the memory of the node, and how many processes there are
+-- whether a line of a body is the first field with the key `Slogan`, by where it stands
+abbrev pub is_slogan : Option FieldAt → TextLine → Bool
+is_slogan slogan line = option_map_or (λ field. field.at == line.at) slogan false
+
+-- the line of a line of the first section's body: its whole text; what is empty, and the slogan, have none
+abbrev pub dump_line : Option FieldAt → TextLine → List ℕ
+dump_line slogan line =
+    if nat_lt 0 (length line.text) && not (is_slogan slogan line) then line_of tab (codes "dump" ∷ line.text ∷ []) else []
+
+-- the lines of the first section's body, but that of its slogan
+abbrev pub dump_lines : List ℕ → List ℕ
+dump_lines body = flat_map (dump_line (find_field body (codes "Slogan"))) (text_lines body)
+
+-- the first lines: those of `info`, the others of the first section, the memory of the node, and how many processes there are
 abbrev pub triage_heading : Contents → List ℕ → List ℕ → ProcessTable → List ℕ
 triage_heading index first_body memory_body table =
     info_heading (version_text index.version) index.size (length index.headers) first_body
-    ++ (flat_map memory_line (text_lines memory_body) ++ processes_line (length table.processes) table.repeated)
+    ++ (dump_lines first_body
+    ++ (flat_map memory_line (text_lines memory_body) ++ processes_line (length table.processes) table.repeated))
 
--- the line of a state, with the number of processes that are in it
-abbrev pub state_count_line : List Process → Ranked → List ℕ
-state_count_line processes row = count_line (codes "state") (cell_text (process_at processes row.place).state) row.number
+-- the number of a row, as it is shown
+abbrev pub number_text : Ranked → List ℕ
+number_text row = decimal (capped row.number)
+
+-- the line of a state: how many processes are in it, and which of them is the first
+abbrev pub state_count_line : Contents → List Process → Ranked → List ℕ
+state_count_line index processes row =
+    let process = process_at processes row.place in
+    line_of tab (codes "state" ∷ number_text row ∷ cell_text process.state ∷ process_end index process)
 
 -- the line of a process with one of its numbers: a word, the number, and which process it is
 abbrev pub process_number_line : List ℕ → Contents → List Process → Ranked → List ℕ
-process_number_line word index processes row = line_of tab (word ∷ decimal row.number ∷ process_end index (process_at processes row.place))
+process_number_line word index processes row = line_of tab (word ∷ number_text row ∷ process_end index (process_at processes row.place))
 
 -- the line of an ETS table with its number of words: also its id and its name,
 -- which are the first and the third of its columns, and the offset of its section
 abbrev pub table_words_line : List Row → Ranked → List ℕ
 table_words_line rows row =
     let table = row_at rows row.place in
-    line_of tab (codes "ets" ∷ decimal row.number ∷ cell_text (cell_at table 0) ∷ cell_text (cell_at table 2) ∷ decimal table.at ∷ [])
+    line_of tab (codes "ets" ∷ number_text row ∷ cell_text (cell_at table 0) ∷ cell_text (cell_at table 2) ∷ decimal table.at ∷ [])
 
--- the lines of states, message queues, processes and tables
+-- the lines of states, message queues, processes by memory and by binaries, and tables
 abbrev pub triage_rows : Contents → List Process → List Row → Triaged → List ℕ
 triage_rows index processes tables triage =
-    flat_map (state_count_line processes) triage.states
+    flat_map (state_count_line index processes) triage.states
     ++ (flat_map (process_number_line (codes "queue") index processes) triage.queues
     ++ (flat_map (process_number_line (codes "process") index processes) triage.memory
-    ++ flat_map (table_words_line tables) triage.tables))
+    ++ (flat_map (process_number_line (codes "binary") index processes) triage.binaries
+    ++ flat_map (table_words_line tables) triage.tables)))
 
 -- the lines of the kinds of findings that occur, with the number of findings of each
 abbrev pub finding_counts : FindingCounts → List ℕ

@@ -10,17 +10,57 @@ ghost use Rattle.table_sections.specs.declared.kinds.TableKind.TheVariants.{Ets}
 ghost use Rattle.dump_triage.specs.Ranking.{AreWithin};
 ghost use Rattle.dump_triage.specs.Triage.{FitsTriage};
 ghost use Rattle.report_lines.specs.Lines.{count_line};
-ghost use Rattle.glance_text.specs.Triage.{finding_counts, memory_line, process_number_line, state_count_line, table_words_line, triage_heading, triage_report, triage_rows};
+ghost use Rattle.glance_text.specs.Triage.{dump_line, dump_lines, finding_counts, is_slogan, memory_line, process_number_line, state_count_line, table_words_line, triage_heading, triage_report, triage_rows};
 
 use dump_io::{Failed, Piece, Sink};
 use dump_sections::Index;
 use dump_triage::{FindingCounts, Ranked, Triage};
-use field_lines::Line;
-use field_lines::reading::{field, lines};
+use field_lines::reading::{field, find, lines};
+use field_lines::{FieldAt, Line};
 use process_table::Procs;
 use report_lines::{put_count_line, put_line};
 use report_text::{process_end, put_heading, put_processes_line, put_state, text_at, text_of};
+use size_order::capped;
 use table_sections::Rows;
+
+// Whether the slogan stands in a line.
+fn is_slogan(slogan: &Option<FieldAt>, line: &Line<'_>) -> bool
+    ensures { result ≡ is_slogan slogan.now (shown_line line.now) }
+{
+    match slogan {
+        Some(field) => field.at == line.at,
+        None => false,
+    }
+}
+
+// Writes the line of a line of the first section's body.
+fn put_dump_line<K: Sink>(
+    sink: &mut K,
+    slogan: &Option<FieldAt>,
+    line: &Line<'_>,
+) -> Result<(), Failed>
+    ensures { Puts (K.state sink.old) (K.state sink.new)
+        (dump_line slogan.now (shown_line line.now)) result }
+{
+    if line.text.is_empty() || is_slogan(slogan, line) {
+        return Ok(());
+    }
+    put_line(
+        sink,
+        b"\t",
+        &[Piece::Bytes(b"dump"), Piece::Bytes(line.text)],
+    )
+}
+
+fn put_dump<K: Sink>(sink: &mut K, body: &[u8]) -> Result<(), Failed>
+    ensures { Puts (K.state sink.old) (K.state sink.new) (dump_lines body.now) result }
+{
+    let slogan = find(body, b"Slogan");
+    for line in lines(body) {
+        put_dump_line(sink, &slogan, &line)?;
+    }
+    Ok(())
+}
 
 // Writes the line of a field of the `memory` section.
 fn put_memory_line<K: Sink>(sink: &mut K, line: &Line<'_>) -> Result<(), Failed>
@@ -63,27 +103,52 @@ fn put_node<K: Sink>(
         (triage_heading index.now first_body.now memory_body.now procs.now) result }
 {
     put_heading(sink, index, first_body)?;
+    put_dump(sink, first_body)?;
     put_memory(sink, memory_body)?;
     put_processes_line(sink, procs)
 }
 
 // Writes the line of a state.
-fn put_state_count<K: Sink>(sink: &mut K, procs: &Procs, row: &Ranked) -> Result<(), Failed>
-    requires { row.now.place < length procs.now.processes }
+fn put_state_count<K: Sink>(
+    sink: &mut K,
+    index: &Index,
+    procs: &Procs,
+    row: &Ranked,
+) -> Result<(), Failed>
+    requires place { row.now.place < length procs.now.processes }
+    requires sections { All (IsProcessIn index.now) procs.now.processes }
     ensures { Puts (K.state sink.old) (K.state sink.new)
-        (state_count_line procs.now.processes row.now) result }
+        (state_count_line index.now procs.now.processes row.now) result }
 {
     let process = procs.at(row.place);
-    put_count_line(sink, b"state", text_of(&process.state), row.number)
+    let (pid, name, at) = process_end(index, procs, row.place);
+    put_line(
+        sink,
+        b"\t",
+        &[
+            Piece::Bytes(b"state"),
+            Piece::Dec(capped(row.number)),
+            Piece::Bytes(text_of(&process.state)),
+            pid,
+            name,
+            at,
+        ],
+    )
 }
 
-fn put_states<K: Sink>(sink: &mut K, procs: &Procs, rows: &[Ranked]) -> Result<(), Failed>
-    requires { AreWithin (length procs.now.processes) rows.now }
+fn put_states<K: Sink>(
+    sink: &mut K,
+    index: &Index,
+    procs: &Procs,
+    rows: &[Ranked],
+) -> Result<(), Failed>
+    requires within { AreWithin (length procs.now.processes) rows.now }
+    requires sections { All (IsProcessIn index.now) procs.now.processes }
     ensures { Puts (K.state sink.old) (K.state sink.new)
-        (flat_map (state_count_line procs.now.processes) rows.now) result }
+        (flat_map (state_count_line index.now procs.now.processes) rows.now) result }
 {
     for row in rows {
-        put_state_count(sink, procs, row)?;
+        put_state_count(sink, index, procs, row)?;
     }
     Ok(())
 }
@@ -105,7 +170,13 @@ fn put_process_number<'x, K: Sink>(
     put_line(
         sink,
         b"\t",
-        &[Piece::Bytes(word), Piece::Dec(row.number), pid, name, at],
+        &[
+            Piece::Bytes(word),
+            Piece::Dec(capped(row.number)),
+            pid,
+            name,
+            at,
+        ],
     )
 }
 
@@ -140,7 +211,7 @@ fn put_table_words<K: Sink>(sink: &mut K, tables: &Rows, row: &Ranked) -> Result
         b"\t",
         &[
             Piece::Bytes(b"ets"),
-            Piece::Dec(row.number),
+            Piece::Dec(capped(row.number)),
             Piece::Bytes(text_at(tables, row.place, 0)),
             Piece::Bytes(text_at(tables, row.place, 2)),
             Piece::Dec(tables.at(row.place)),
@@ -160,7 +231,7 @@ fn put_tables<K: Sink>(sink: &mut K, tables: &Rows, rows: &[Ranked]) -> Result<(
     Ok(())
 }
 
-// Writes the lines of states, message queues, processes and tables.
+// Writes the lines of states, message queues, processes by memory and by binaries, and tables.
 fn put_triage_rows<K: Sink>(
     sink: &mut K,
     index: &Index,
@@ -174,9 +245,10 @@ fn put_triage_rows<K: Sink>(
     ensures { Puts (K.state sink.old) (K.state sink.new)
         (triage_rows index.now procs.now.processes tables.now.rows triage.now) result }
 {
-    put_states(sink, procs, triage.states())?;
+    put_states(sink, index, procs, triage.states())?;
     put_process_numbers(sink, b"queue", index, procs, triage.queues())?;
     put_process_numbers(sink, b"process", index, procs, triage.memory())?;
+    put_process_numbers(sink, b"binary", index, procs, triage.binaries())?;
     put_tables(sink, tables, triage.tables())
 }
 
@@ -199,10 +271,11 @@ fn put_finding_counts<K: Sink>(sink: &mut K, counts: FindingCounts) -> Result<()
 }
 
 /// Writes one page on a dump: version, size, number of sections and slogan, as in
-/// [`put_info`](report_text::put_info); `memory KEY VALUE` for each field of the body of the first `memory`
-/// section, which is empty if there is none; the number of processes, as in
-/// [`put_procs`](report_text::put_procs); `state COUNT STATE`, `queue LENGTH PID NAME AT`,
-/// `process BYTES PID NAME AT` and `ets WORDS ID NAME AT` for each row of the triage; `finding COUNT KIND`
+/// [`put_info`](report_text::put_info); `dump TEXT` for each other line of the first section's body that has a
+/// text; `memory KEY VALUE` for each field of the body of the first `memory` section, which is empty if there is
+/// none; the number of processes, as in [`put_procs`](report_text::put_procs); `state COUNT STATE PID NAME AT` with
+/// the first process in that state, `queue LENGTH PID NAME AT`, `process BYTES PID NAME AT`, `binary WORDS PID NAME AT`
+/// and `ets WORDS ID NAME AT` for each row of the triage, with a sum above 2^64 - 1 as that; `finding COUNT KIND`
 /// for each kind of findings that occurs; and the state line, as in [`put_index`](report_text::put_index). Words
 /// and values have tabs between them, `-` stands for a missing name, and AT is the offset of the section.
 ///

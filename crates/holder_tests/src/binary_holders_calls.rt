@@ -9,8 +9,8 @@ use section_index::build;
 use std::alloc::{AllocError, Global};
 use std::test::Fail;
 
-// Three processes, two of which hold binaries. Two sections have
-// the same number, one body is cut, and one section has no number.
+// Three processes, two of which hold binaries. A line refers to a part of one, and one to a binary without a
+// section. Two sections have the same number, one body is cut, and one section has no number.
 const SAMPLE: &[u8] = b"=erl_crash_dump:0.5
 =proc:<0.1.0>
 =proc:<0.2.0>
@@ -70,10 +70,12 @@ fn drawn(alloc: Global, found: &BinaryUse) -> Result<Vec<u8>, AllocError> {
         .as_bytes())?;
     }
     out.extend_from_slice(format!(in alloc;
-        "{} {} {}\n",
+        "{} {} {} {} {}\n",
         found.binaries.len(),
         found.bytes,
-        found.with_holders
+        found.with_holders,
+        found.lines.unstored,
+        found.lines.count
     )?
     .as_bytes())?;
     Ok(out)
@@ -171,14 +173,14 @@ fn the_most_stands_first(rt: HostRuntime) -> Result<(), Fail> {
     let alloc = rt.alloc();
     for cuts in [&[][..], &[1], &[7, 3]] {
         let text = sample_use(alloc, cuts)?;
-        let expected: &[u8] = b"1 47 3 4
+        let expected: &[u8] = b"1 47 3 5
 0 32 1 2
 32 2 AF0 267
 32 0 2 389
 10 1 900 315
 5 1 500 244
 0 0 1 371
-5 79 3
+5 79 3 1 7
 ";
         assert_eq!(rt; text.as_slice(), expected);
     }
@@ -263,6 +265,7 @@ fn the_rest_of_a_long_line_is_no_line(rt: HostRuntime) -> Result<(), Fail> {
         ("10:Yc500:0:1", 200_000, "10:Yc500:0:1\n", ""),
         ("x", 131_000, "20:Yc500:0:1\n30:Yc500:0:1\n", "0 0 1 1\n"),
         ("10:Yc500:0:1\n", 65_536, ":Yc500:0:1\n", "0 0 1 1\n"),
+        ("10:Ys500:0:1\n", 65_536, ":Ys500:0:1\n", "0 0 1 1\n"),
         ("0", 17, ":Yc500:0:1\n", ""),
         ("10:Yc500:0:1:Yc500:0:1\n", 0, "20:Yc500:0:1\n", "0 0 1 1\n"),
     ] {

@@ -11,8 +11,8 @@ use Rattle.std.proofs.lemmas.Option.{IfSome_then, get_or_from_slice_get, slice_g
 use Rattle.std.proofs.lemmas.Slice.Eq.{bytes_eq-Decides}
 use Rattle.std.proofs.lemmas.Bool.{ltb-true}
 use Rattle.dump_io.specs.Colons.{has_colon, is_colon}
-use Rattle.dump_io.specs.Lines.{cr, lf, lines_after, lines_from, raw_lines, text_of}
-use Rattle.field_lines.specs.Fields.{find_line, has_key, key_of, place_of as line_place, value_of, without_space}
+use Rattle.dump_io.specs.Lines.{lf, lines_after, lines_from, raw_lines}
+use Rattle.field_lines.specs.Fields.{find_line, has_key, key_of, place_of as line_place, value_of}
 use Rattle.field_lines.specs.Lines.{TextLine, text_line, text_lines}
 use Rattle.section_rows.specs.Rows.{Kept, field_kept, kept}
 use Rattle.link_entries.specs.Entries.{LinkEntry, cut, entries_at, entry_of, is_gap, led_by, parts_from, parts_of}

@@ -21,7 +21,8 @@ use std::alloc::{AllocError, Global};
 
 // The text on the state of the dump.
 fn state_text(alloc: Global, index: &Index) -> Result<String, AllocError>
-    ensures { IfOk result (λ s. string_bytes s ≡ state_text index.now (dump_state index.now.headers)) }
+    ensures { let state = dump_state index.now.headers in
+        IfOk result (λ s. string_bytes s ≡ state_text index.now state) }
 {
     match index.state() {
         State::Whole => String::from_str(alloc, "whole"),

@@ -2,7 +2,6 @@
 ghost use Rattle.std.specs.Prelude.{◌≡◌, map, string_bytes, IfOk, IfSome, OnOk};
 ghost use Rattle.serde.specs.Event.{Logs, text};
 ghost use Rattle.serde_json.specs.Data.{object};
-ghost use Rattle.serde_json.specs.Events.{SendsValue};
 ghost use Rattle.json_report.specs.Inner.Members.{shown_member, shown_told, Sends};
 ghost use Rattle.json_report.specs.Trees.{characters, members as members_of};
 

@@ -1,6 +1,6 @@
 // The object of a finding.
 ghost use Rattle.json_report.specs.Inner.Members.{Sends};
-ghost use Rattle.std.specs.Prelude.{◌≡◌, ◌<◌, length, OnOk};
+ghost use Rattle.std.specs.Prelude.{◌≡◌, ◌<◌, length};
 ghost use Rattle.link_entries.specs.Seen.{shown_kind};
 ghost use Rattle.link_graph.specs.Graph.{graph_of};
 ghost use Rattle.dump_audit.specs.FindingNames.{partner_in, pid_at, reference_in};
@@ -90,7 +90,8 @@ fn send_mailbox<S: Serializer>(
     at: u64,
     other: u64,
 ) -> Result<(), S::Error>
-    ensures { Sends (S.written out.old) (S.written out.new) (mailbox_object p.now count at other) result }
+    ensures { Sends (S.written out.old) (S.written out.new)
+        (mailbox_object p.now count at other) result }
 {
     let members = [
         ("at", Told::Number(at)),

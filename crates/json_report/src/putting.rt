@@ -6,7 +6,7 @@ ghost use Rattle.serde_json.specs.Written.{has_float};
 ghost use Rattle.link_graph.specs.Graph.{graph_of};
 ghost use Rattle.dump_audit.specs.Fitting.{Fits};
 ghost use Rattle.json_report.specs.Faults.{IsFaultOf};
-ghost use Rattle.json_report.specs.Trees.{finding_tree, json_text, findings_text};
+ghost use Rattle.json_report.specs.Trees.{json_text, findings_text};
 
 use crate::building::tree_text;
 use dump_audit::Finding;
@@ -74,7 +74,8 @@ fn findings_line(
 ) -> Result<Vec<u8>, AllocError>
     requires graph { graph.now ≡ graph_of procs.now.processes }
     requires fits { All (Fits procs.now.processes) findings.now }
-    ensures { IfOk result (λ line. line.items ≡ findings_text index.now procs.now.processes findings.now) }
+    ensures { IfOk result (λ line.
+        line.items ≡ findings_text index.now procs.now.processes findings.now) }
 {
     ended(tree_text(alloc, index, procs, graph, findings)?)
 }
@@ -106,10 +107,10 @@ pub fn put_findings<K: Sink>(
     requires graph { graph.now ≡ graph_of procs.now.processes }
     requires fits { All (Fits procs.now.processes) findings.now }
     ensures later { (K.state sink.old).faults ≤ (K.state sink.new).faults }
-    ensures puts { OnOk result
-        (Gained (K.state sink.old) (K.state sink.new) (findings_text index.now procs.now.processes findings.now)) }
-    ensures fault { IfErr result
-        (IsFaultOf (K.state sink.old) (K.state sink.new) (findings_text index.now procs.now.processes findings.now)) }
+    ensures puts { let text = findings_text index.now procs.now.processes findings.now in
+        OnOk result (Gained (K.state sink.old) (K.state sink.new) text) }
+    ensures fault { let text = findings_text index.now procs.now.processes findings.now in
+        IfErr result (IsFaultOf (K.state sink.old) (K.state sink.new) text) }
 {
     let line = findings_line(alloc, index, procs, graph, findings)?;
     Ok(write_all(sink, &line)?)

@@ -65,7 +65,8 @@ fn send_tree<S: Serializer>(
 }
 
 impl Described for Found<'_> {
-    ghost writes = { λ parts old new. SendsValue (tree_of parts) old new × All Has64Bits parts.found };
+    ghost writes = { λ parts old new.
+        SendsValue (tree_of parts) old new × All Has64Bits parts.found };
 }
 
 impl Serialize for Found<'_> {

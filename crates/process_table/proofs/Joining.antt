@@ -76,8 +76,19 @@ pub count_of : (places : List PidPlace) (rows : List Row) → length rows ≡ le
 count_of places rows same = length-all_joined (named_places places) rows (same ∙ sym (length-named places)) ∙ length-named places
 
 -- a process by its cells
-pub joined-cells : (entry : List ℕ × ℕ) (row : Row) (state name queue memory links : Option Kept)
-    → cell_at row 0 ≡ state → cell_at row 1 ≡ name → cell_at row 2 ≡ queue → cell_at row 3 ≡ memory → cell_at row 4 ≡ links
-    → joined entry row ≡ (let p : Process = record { section = entry.1; pid = entry.0; state = state; name = name; queue = queue; memory = memory; links = links } in p)
-joined-cells entry row state name queue memory links a b c d e =
-    λ i. record { section = entry.1; pid = entry.0; state = a i; name = b i; queue = c i; memory = d i; links = e i }
+pub joined-cells : (entry : List ℕ × ℕ) (row : Row) (state name queue memory links young old : Option Kept)
+    → cell_at row 0 ≡ state → cell_at row 1 ≡ name → cell_at row 2 ≡ queue → cell_at row 3 ≡ memory → cell_at row 4 ≡ links → cell_at row 5 ≡ young → cell_at row 6 ≡ old
+    → joined entry row
+    ≡ (let p : Process = record {
+      section = entry.1;
+      pid = entry.0;
+      state = state;
+      name = name;
+      queue = queue;
+      memory = memory;
+      links = links;
+      virtual_heap = young;
+      old_virtual_heap = old;
+    } in p)
+joined-cells entry row state name queue memory links young old a b c d e f g =
+    λ i. record { section = entry.1; pid = entry.0; state = a i; name = b i; queue = c i; memory = d i; links = e i; virtual_heap = f i; old_virtual_heap = g i }

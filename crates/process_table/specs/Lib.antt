@@ -1,3 +1,4 @@
+pub mod Fields
 pub mod Inner
 pub mod Laws
 pub mod Processes

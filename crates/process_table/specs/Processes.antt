@@ -18,6 +18,8 @@ pub record Process : Type 0 where
   pub queue : Option Kept
   pub memory : Option Kept
   pub links : Option Kept
+  pub virtual_heap : Option Kept
+  pub old_virtual_heap : Option Kept
 
 -- the process of a section with this body
 abbrev pub process_in : PlacedSection → List ℕ → Process
@@ -31,6 +33,8 @@ process_in (place, s) body =
       queue = field (codes "Message queue length");
       memory = field (codes "Memory");
       links = field (codes "Link list");
+      virtual_heap = field (codes "BinVHeap");
+      old_virtual_heap = field (codes "OldBinVHeap");
     }
 
 -- the processes, and how many sections of processes were
@@ -48,7 +52,17 @@ process_table bytes = record {
 
 -- a process without a pid and fields
 abbrev pub nobody : Process
-nobody = record { section = 0; pid = []; state = None; name = None; queue = None; memory = None; links = None }
+nobody = record {
+  section = 0;
+  pid = [];
+  state = None;
+  name = None;
+  queue = None;
+  memory = None;
+  links = None;
+  virtual_heap = None;
+  old_virtual_heap = None;
+}
 
 -- the process at a place; past the last one, nobody
 abbrev pub process_at : List Process → ℕ → Process
@@ -73,6 +87,8 @@ pub record IsBoundedProcess (p : Process) : Type 0 where
   pub queue : IsBoundedCell p.queue
   pub memory : IsBoundedCell p.memory
   pub links : IsBoundedCell p.links
+  pub virtual_heap : IsBoundedCell p.virtual_heap
+  pub old_virtual_heap : IsBoundedCell p.old_virtual_heap
 
 -- a process table is bounded: it has no more processes than an index has sections, and each is bounded
 pub record AreBoundedProcesses (table : ProcessTable) : Type 0 where

@@ -13,4 +13,6 @@ shown_process p = record {
   queue = shown_cell p.queue;
   memory = shown_cell p.memory;
   links = shown_cell p.links;
+  virtual_heap = shown_cell p.virtual_heap;
+  old_virtual_heap = shown_cell p.old_virtual_heap;
 }

@@ -14,12 +14,15 @@
 //! ```
 #![tactic(auto)]
 
+mod fields;
 mod finding;
 mod hints;
+mod loading;
 mod pids;
 mod proc_sections;
 mod procs;
 
+pub use fields::FieldTable;
 pub use proc_sections::ProcSections;
 pub use procs::{Proc, Procs};
 pub use section_rows::Kept;

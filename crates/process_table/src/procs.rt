@@ -13,6 +13,7 @@ ghost use Rattle.process_table.specs.Inner.Finding.{named_places, IsRecordOf};
 ghost use Rattle.process_table.specs.Inner.Joined.{all_joined, AreJoined, field_columns};
 
 use crate::hints::Hints;
+use crate::loading::load_columns;
 use crate::pids::{PidOrder, PidPlace, number_of};
 use crate::proc_sections::{ProcSections, place_at};
 use dump_io::{Dumps, Limits};
@@ -38,6 +39,10 @@ pub struct Proc<'a> {
     pub memory: Option<Kept<'a>>,
     /// The field `Link list`.
     pub links: Option<Kept<'a>>,
+    /// The field `BinVHeap`: how many words the binaries outside the heaps take to which its young cells refer.
+    pub virtual_heap: Option<Kept<'a>>,
+    /// The field `OldBinVHeap`: the same for its old cells.
+    pub old_virtual_heap: Option<Kept<'a>>,
 }
 
 /// The processes of a dump, in dump order. Of the sections with the same pid the first counts.
@@ -58,8 +63,8 @@ impl Model for Procs {
     ghost Value = { ProcessTable };
 
     ghost view = { λ t. record {
-        processes = all_joined (named_places t.places.items) t.fields.rows;
-        repeated = t.repeated;
+      processes = all_joined (named_places t.places.items) t.fields.rows;
+      repeated = t.repeated;
     } };
 
     ghost invariant = { λ t. AreJoined t.places.items t.order t.fields };
@@ -68,7 +73,7 @@ impl Model for Procs {
 // The process from the entry and the row at a place.
 fn joined_at<'a>(places: &'a [PidPlace], fields: &'a SectionRows, i: usize) -> Proc<'a>
     requires rows { length fields.now.rows ≡ length places.now }
-    requires width { fields.now.width ≡ 5 }
+    requires width { fields.now.width ≡ 7 }
     requires place { i < length places.now }
     ensures { slice_get (all_joined (named_places places.now) fields.now.rows) i
         ≡ Some (shown_process result) }
@@ -82,36 +87,21 @@ fn joined_at<'a>(places: &'a [PidPlace], fields: &'a SectionRows, i: usize) -> P
         queue: fields.cell(i, 2),
         memory: fields.cell(i, 3),
         links: fields.cell(i, 4),
+        virtual_heap: fields.cell(i, 5),
+        old_virtual_heap: fields.cell(i, 6),
     }
 }
 
 // The fields of a process, in the order of the columns.
-const FIELDS: [Column<'static>; 5] = [
+const FIELDS: [Column<'static>; 7] = [
     Column::Field(b"State"),
     Column::Field(b"Name"),
     Column::Field(b"Message queue length"),
     Column::Field(b"Memory"),
     Column::Field(b"Link list"),
+    Column::Field(b"BinVHeap"),
+    Column::Field(b"OldBinVHeap"),
 ];
-
-// Loads the fields of the processes that were found.
-fn load_fields<D: Dumps>(
-    alloc: Global,
-    dumps: &mut D,
-    index: &Index,
-    sections: &[usize],
-    limits: &Limits,
-) -> Result<SectionRows, BodyFault>
-    requires over { IsBuiltOver (D.state dumps.old).now index.now }
-    requires found { sections.now ≡ map (λ r. r.0) (records (sections_in index.now)) }
-    requires records { All (IsRecordOf index.now) (records (sections_in index.now)) }
-    ensures loads { LoadsBodies D.state (record_sections (sections_in index.now)) limits.now.section
-        dumps.old dumps.new result }
-    ensures rows { IfOk result (AreRowsOf (D.state dumps.old).now field_columns
-        (record_sections (sections_in index.now))) }
-{
-    SectionRows::load(alloc, dumps, index, sections, &FIELDS, limits)
-}
 
 impl Procs {
     /// Finds the processes of an index, and reads the bodies of their sections one
@@ -164,7 +154,7 @@ impl Procs {
         let Ok(hints) = Hints::of(alloc, &places) else {
             return Err(BodyFault::Memory);
         };
-        let fields = load_fields(alloc, dumps, index, sections.as_slice(), limits)?;
+        let fields = load_columns(alloc, dumps, index, sections.as_slice(), &FIELDS, limits)?;
         Ok(Procs {
             places,
             order,

@@ -1,9 +1,8 @@
 -- The row at a place of a table.
-use Rattle.std.proofs.Common.{◌≡◌, ℕ, ◌<◌, List, [], length, None, Some, sym, ◌∙◌, ap, subst}
-use Rattle.std.specs.List.{slice_get}
-use Rattle.std.proofs.lemmas.Option.{slice_get-get_or, unwrap_or-slice_get}
+use Rattle.std.proofs.Common.{◌≡◌, ℕ, ◌<◌, [], length, sym, subst}
+use Rattle.std.proofs.lemmas.Option.{unwrap_or-slice_get}
 use Rattle.std.proofs.lemmas.List.Elements.{All-get_or}
-use Rattle.section_rows.specs.Rows.{Row, Table, row_at, cell_at, AreEven}
+use Rattle.section_rows.specs.Rows.{Table, row_at, AreEven}
 
 -- a row of an even table has a cell for each column
 pub even-row : (table : Table) (i : ℕ) → AreEven table → i < length table.rows → length (row_at table.rows i).cells ≡ table.width

@@ -1,5 +1,5 @@
 -- The texts of the reports, line by line. Offsets are of the file.
-use Rattle.std.specs.Prelude.{ℕ, List, [], ◌∷◌, ◌++◌, decimal, codes, length, Option}
+use Rattle.std.specs.Prelude.{ℕ, List, [], ◌∷◌, ◌++◌, decimal, codes, length}
 use Rattle.std.specs.List.{flat_map}
 use Rattle.dump_io.specs.Lines.{Header}
 use Rattle.field_lines.specs.Fields.{find_value}

@@ -7,8 +7,9 @@ use Rattle.field_lines.specs.Fields.{key_of, value_of}
 use Rattle.field_lines.specs.Lines.{TextLine, text_lines}
 use Rattle.dump_sections.specs.Bodies.{section_at}
 use Rattle.dump_sections.specs.Index.{Contents}
+use Rattle.process_table.specs.Fields.{ProcessFields}
 use Rattle.process_table.specs.Processes.{Process, ProcessTable}
-use Rattle.section_rows.specs.Rows.{Kept, Row, Table, text_in}
+use Rattle.section_rows.specs.Rows.{Kept, Row, Table, cell_at, text_in}
 use Rattle.report_lines.specs.Lines.{line_of, word_space, tab, text_or_dash, total_line}
 
 -- the text of a cell, or `-` if there is none
@@ -30,6 +31,15 @@ processes_line count repeated = line_of word_space (codes "processes" ∷ decima
 -- the report of `procs`
 abbrev pub procs_report : ProcessTable → List ℕ
 procs_report table = flat_map process_line table.processes ++ processes_line (length table.processes) table.repeated
+
+-- the line of a process on one of its fields: its pid, its name,
+-- where the header of its section begins, and the field's value
+abbrev pub value_line : Row → List ℕ
+value_line row = line_of tab (cell_text (cell_at row 0) ∷ cell_text (cell_at row 1) ∷ decimal row.at ∷ cell_text (cell_at row 2) ∷ [])
+
+-- the report of `field`
+abbrev pub values_report : ProcessFields → List ℕ
+values_report table = flat_map value_line table.rows ++ processes_line (length table.rows) table.repeated
 
 -- the key and the value of a field line, or `-` and the text of a plain line
 abbrev pub columns : List ℕ → List (List ℕ)

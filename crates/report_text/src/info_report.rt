@@ -35,7 +35,8 @@ fn slogan_of(first_body: &[u8]) -> &[u8]
 ///
 /// Returns `Failed` only if the sink failed; a proper prefix of the lines was written then.
 pub fn put_heading<K: Sink>(sink: &mut K, index: &Index, first_body: &[u8]) -> Result<(), Failed>
-    ensures { let version = version_text index.now.version in Puts (K.state sink.old) (K.state sink.new)
+    ensures { let version = version_text index.now.version in
+        Puts (K.state sink.old) (K.state sink.new)
         (info_heading version index.now.size (length index.now.headers) first_body.now) result }
 {
     let newline = Piece::Bytes(b"\n");
@@ -88,7 +89,8 @@ pub fn put_info<K: Sink>(
     tags: &Tags,
     first_body: &[u8],
 ) -> Result<(), Failed>
-    ensures { let version = version_text index.now.version in Puts (K.state sink.old) (K.state sink.new)
+    ensures { let version = version_text index.now.version in
+        Puts (K.state sink.old) (K.state sink.new)
         (info_report version index.now.headers index.now.size tags.now first_body.now) result }
 {
     put_heading(sink, index, first_body)?;

@@ -16,6 +16,7 @@ mod link_report;
 mod process_report;
 mod refusals;
 mod table_report;
+mod value_report;
 
 pub use field_report::put_fields;
 pub use index_report::put_index;
@@ -25,3 +26,4 @@ pub use process_report::{process_end, put_processes_line, put_procs, text_of};
 pub use refusals::{Refusal, put_refusal};
 pub use report_lines::put_state;
 pub use table_report::{put_rows, text_at};
+pub use value_report::put_values;

@@ -70,6 +70,22 @@ fn put_processes<K: Sink>(sink: &mut K, procs: &Procs) -> Result<(), Failed>
     Ok(())
 }
 
+// Writes how many processes there are, and how many sections of processes were passed over.
+pub(crate) fn put_counts<K: Sink>(sink: &mut K, count: u64, repeated: u64) -> Result<(), Failed>
+    ensures { Puts (K.state sink.old) (K.state sink.new) (processes_line count repeated) result }
+{
+    put_line(
+        sink,
+        b" ",
+        &[
+            Piece::Bytes(b"processes"),
+            Piece::Dec(count),
+            Piece::Bytes(b"repeated"),
+            Piece::Dec(repeated),
+        ],
+    )
+}
+
 /// Writes `processes N repeated R`: how many processes there are, and how many sections of processes were passed over.
 ///
 /// Returns `Failed` only if the sink failed; a proper prefix of the line was written then.
@@ -77,16 +93,7 @@ pub fn put_processes_line<K: Sink>(sink: &mut K, procs: &Procs) -> Result<(), Fa
     ensures { Puts (K.state sink.old) (K.state sink.new)
         (processes_line (length procs.now.processes) procs.now.repeated) result }
 {
-    put_line(
-        sink,
-        b" ",
-        &[
-            Piece::Bytes(b"processes"),
-            Piece::Dec(procs.len() as u64),
-            Piece::Bytes(b"repeated"),
-            Piece::Dec(procs.repeated()),
-        ],
-    )
+    put_counts(sink, procs.len() as u64, procs.repeated())
 }
 
 /// Writes a line for each process, `PID STATE NAME QUEUE MEMORY` with tabs between them, where `-`

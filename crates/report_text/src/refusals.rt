@@ -55,7 +55,8 @@ fn put_long_cause<'x, K: Sink>(
     number: u64,
 ) -> Result<(), Failed>
     ensures { let parts = cause.now ∷ piece_text what.entry ∷ link.now ∷ decimal number ∷ [] in
-        Puts (K.state sink.old) (K.state sink.new) (line_of word_space (codes "refused:" ∷ parts)) result }
+        Puts (K.state sink.old) (K.state sink.new)
+        (line_of word_space (codes "refused:" ∷ parts)) result }
 {
     put_line(
         sink,

@@ -13,11 +13,14 @@ use std::test::Fail;
 use table_sections::{Rows, TableKind};
 
 // One state occurs twice and two of them once, one of these being a missing state; two queues are equally
-// long, one is empty and one is no number; the largest memory comes last; and one of the tables has no words.
+// long, one is empty and one is no number; the largest memory comes last; two sums of words of binaries pass
+// 2^64 - 1, the larger of which comes last; and one of the tables has no words.
 const DUMP: &str = "=proc:<0.1.0>
 State: Running
 Message queue length: 3
 Memory: 0007
+BinVHeap: 5
+OldBinVHeap: 6
 =proc:<0.2.0>
 State: Waiting
 Message queue length: 0
@@ -26,10 +29,14 @@ Link list: [<0.1.0>]
 =proc:<0.3.0>
 Message queue length: x
 Memory: 8
+OldBinVHeap: 18446744073709551615
+BinVHeap: 1
 =proc:<0.4.0>
 State: Waiting
 Message queue length: 3
 Memory: 18446744073709551615
+BinVHeap: 2
+OldBinVHeap: 18446744073709551615
 Link list: [<0.1.0>, <0.3.0>, {from,<0.1.0>,#Ref<0.1>}]
 =ets:a
 Words: 5
@@ -39,7 +46,7 @@ Words: 6
 =end
 ";
 
-// The states, the queues, the memory and the tables, first all rows and then one of each.
+// The states, the queues, the memory, the binaries and the tables, first all rows and then one of each.
 const PRINTED: &str = "1 2
 0 1
 2 1
@@ -51,12 +58,18 @@ const PRINTED: &str = "1 2
 2 8
 0 7
 -
+3 18446744073709551615
+2 18446744073709551615
+0 11
+-
 2 6
 0 5
 -
 1 2
 -
 0 3
+-
+3 18446744073709551615
 -
 3 18446744073709551615
 -
@@ -104,12 +117,12 @@ fn triage(alloc: Global, most: u64) -> Result<Triage, Fail> {
     triage_of(alloc, &mut dumps, most)
 }
 
-// Writes each row as its place and its number.
+// Writes each row as its place and its number, at most 2^64 - 1.
 fn print<K: Sink>(sink: &mut K, rows: &[Ranked]) -> Result<(), Failed> {
     for row in rows {
         put_dec(sink, row.place as u64)?;
         write_all(sink, b" ")?;
-        put_dec(sink, row.number)?;
+        put_dec(sink, row.number.min(u128::from(u64::MAX)) as u64)?;
         write_all(sink, b"\n")?;
     }
     write_all(sink, b"-\n")
@@ -119,6 +132,7 @@ fn print_all<K: Sink>(sink: &mut K, triage: &Triage) -> Result<(), Failed> {
     print(sink, triage.states())?;
     print(sink, triage.queues())?;
     print(sink, triage.memory())?;
+    print(sink, triage.binaries())?;
     print(sink, triage.tables())
 }
 

@@ -18,5 +18,7 @@
 #![tactic(auto)]
 
 mod sorting;
+mod sums;
 
 pub use sorting::{Measured, sort_most_first};
+pub use sums::capped;

@@ -1,5 +1,5 @@
 // The rows of a table.
-ghost use Rattle.std.specs.Prelude.{◌≡◌, ℕ, List, ◌<◌, length, None, IfOk};
+ghost use Rattle.std.specs.Prelude.{◌≡◌, ◌<◌, length, None, IfOk};
 ghost use Rattle.std.specs.Option.{option_copied};
 ghost use Rattle.dump_io.specs.Dumps.{IfTold};
 ghost use Rattle.dump_sections.specs.Index.{IsBuiltOver, sections_in};
@@ -71,8 +71,8 @@ impl Rows {
     ) -> Result<Rows, BodyFault>
         requires over { IsBuiltOver (D.state dumps.old).now index.now }
         requires found { AreListed index.now found }
-        ensures loads { LoadsBodies D.state (listed found.kind (sections_in index.now)) limits.now.section
-            dumps.old dumps.new result }
+        ensures loads { LoadsBodies D.state (listed found.kind (sections_in index.now))
+            limits.now.section dumps.old dumps.new result }
         ensures table { IfOk result (λ rows. IfTold (D.state dumps.old).now
             (λ bytes. rows ≡ table_of found.kind bytes)) }
         ensures over { IfOk result (IsTableOver found.kind index.now) }

@@ -4,7 +4,10 @@ use Rattle.std.specs.List.{count_by}
 use Rattle.binary_holders.specs.declared.counts.Counts.{Counts}
 use Rattle.binary_holders.specs.declared.rows.Holding.{Holding}
 use Rattle.binary_holders.specs.declared.targets.Binary.{Binary}
-use Rattle.binary_holders.specs.Held.{bytes_held, capped, cells_holding, holds, holders_of}
+use Rattle.binary_holders.specs.declared.texts.Reference.{Reference}
+use Rattle.size_order.specs.Sums.{capped}
+use Rattle.binary_holders.specs.Held.{bytes_held, cells_holding, holds, holders_of, whole_lines}
+use Rattle.binary_holders.specs.HeapReferences.{numbers_referred}
 use Rattle.binary_holders.specs.Inner.Places.{numbers_in}
 use Rattle.binary_holders.specs.StoredBinaries.{is_among}
 
@@ -30,9 +33,14 @@ pub record HasCounted (binaries : List Binary) (heaps : List (List ℕ)) (refere
 abbrev pub counted : ℕ → Counts → Holding
 counted process counts = record { process = process; bytes = capped counts.total; total = counts.total; count = counts.count; cells = counts.cells }
 
--- between two counts, these references were counted
-pub record Adds (binaries : List Binary) (old new : Counts) (more : List ℕ) : Type 0 where
+-- between two counts, these numbers were counted, to which lines refer
+pub record AddsNumbers (binaries : List Binary) (old new : Counts) (more : List ℕ) : Type 0 where
   pub later : (heaps : List (List ℕ)) (references : List ℕ) → HasCounted binaries heaps references old → HasCounted binaries heaps (references ++ more) new
+
+-- between two counts, these references were counted, and so were their lines
+pub record Adds (binaries : List Binary) (old new : Counts) (more : List Reference) : Type 0 where
+  pub numbers : AddsNumbers binaries old new (numbers_referred more)
+  pub lines : (before : List Reference) → old.lines ≡ whole_lines binaries before → new.lines ≡ whole_lines binaries (before ++ more)
 
 -- the turn and the room for the binaries stay
 pub record KeepsRoom (old new : Counts) : Type 0 where

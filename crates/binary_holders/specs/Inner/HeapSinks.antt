@@ -1,18 +1,19 @@
 -- Counting what the lines of heaps refer to.
-use Rattle.std.specs.Prelude.{◌≡◌, ℕ, List, length, Option}
+use Rattle.std.specs.Prelude.{◌≡◌, List, length, Option}
 use Rattle.std.specs.List.{filter_map}
 use Rattle.body_lines.specs.Lines.{CutLine}
 use Rattle.binary_payloads.specs.declared.enc.Enc.{Enc}
 use Rattle.binary_holders.specs.declared.heap_sink.HeapSink.{HeapSink}
+use Rattle.binary_holders.specs.declared.texts.Reference.{Reference}
 use Rattle.binary_holders.specs.Inner.Lines.{line_reference}
 use Rattle.binary_holders.specs.Inner.Counting.{HasRoom, Adds, KeepsRoom}
 
--- the number to which a line refers, from what is heard of it
-abbrev pub cut_reference : Enc → CutLine → Option ℕ
+-- the reference of a line, from what is heard of it
+abbrev pub cut_reference : Enc → CutLine → Option Reference
 cut_reference enc line = line_reference enc line.front
 
--- the numbers to which lines refer, from what is heard of them
-abbrev pub cut_references : Enc → List CutLine → List ℕ
+-- the references of lines, from what is heard of them
+abbrev pub cut_references : Enc → List CutLine → List Reference
 cut_references enc lines = filter_map (cut_reference enc) lines
 
 -- there is room for the binaries that are targets

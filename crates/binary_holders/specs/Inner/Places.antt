@@ -9,7 +9,8 @@ use Rattle.dump_sections.specs.Lookups.{is_named}
 use Rattle.dump_sections.specs.Sections.{Section}
 use Rattle.heap_cells.specs.Loading.{enc_of}
 use Rattle.binary_holders.specs.declared.targets.Binary.{Binary}
-use Rattle.binary_holders.specs.HeapReferences.{references}
+use Rattle.binary_holders.specs.declared.texts.Reference.{Reference}
+use Rattle.binary_holders.specs.HeapReferences.{numbers_referred, references}
 
 -- the place of a number among others, if no other place has it; `None` if it isn't among them
 abbrev pub IsOnlyPlace : List ℕ → ℕ → Option ℕ → Type 0
@@ -40,8 +41,12 @@ abbrev pub IsWithin : Contents → Option ℕ → Type 0
 IsWithin index place = IfSome place (λ i. i < length index.headers)
 
 -- what the heap at a place refers to, from the bytes of a dump; a process without a heap refers to nothing
-abbrev pub references_at : List ℕ → Contents → Option ℕ → List ℕ
+abbrev pub references_at : List ℕ → Contents → Option ℕ → List Reference
 references_at dump index place = references (enc_of index.version) (body_in dump (section_in index place))
+
+-- the numbers of the binaries to which the heap at a place refers
+abbrev pub numbers_at : List ℕ → Contents → Option ℕ → List ℕ
+numbers_at dump index place = numbers_referred (references_at dump index place)
 
 -- how many bytes the heap at a place has
 abbrev pub size_at : Contents → Option ℕ → ℕ

@@ -3,8 +3,8 @@ use Rattle.std.specs.Prelude.{ℕ, ◌+◌, ◌^◌, ◌<◌, List, length, All,
 use Rattle.std.specs.Option.{option_map, option_to_list}
 use Rattle.dump_sections.specs.Index.{Contents, sections_in}
 use Rattle.report_text.specs.Reports.{version_text}
-use Rattle.process_table.specs.Processes.{ProcessTable, IsProcessIn, process_table}
-use Rattle.binary_holders.specs.Usage.{NamesProcess}
+use Rattle.process_table.specs.Processes.{ProcessTable, AreProcessesOver, IsProcessIn, process_table}
+use Rattle.binary_holders.specs.Usage.{NamesProcess, shown_use}
 use Rattle.binary_holders.specs.declared.rows.Holding.{Holding}
 use Rattle.term_unfold.specs.Walks.{new_walk}
 use Rattle.root_views.specs.Kinds.{roots_in}
@@ -20,18 +20,20 @@ use Rattle.dump_sections.specs.Bodies.{section_in, IsBodyIn}
 use Rattle.root_views.specs.declared.kinds.RootKind.TheVariants.{Stack, Dict, Mail}
 use Rattle.term_text.specs.Reach.{root_elements}
 use Rattle.dump_sections.specs.Loading.{bodies_length, IsUnloaded}
-use Rattle.process_table.specs.Records.{proc_places}
+use Rattle.process_table.specs.Records.{proc_places, record_sections}
 use Rattle.table_sections.specs.declared.kinds.TableKind.TheVariants.{Ets}
 use Rattle.table_sections.specs.Tables.{table_of, AreListed, IsTableOver}
 use Rattle.dump_command.specs.declared.commands.subjects.Body.{Body}
 use Rattle.dump_command.specs.declared.commands.roots.Loaded.{Loaded as RootsLoaded}
-use Rattle.dump_command.specs.Meaning.{memory_section, triage_sections, Entered, Held, Overview, Part, Rooted}
+use Rattle.dump_command.specs.Meaning.{memory_body, memory_section, triage_sections, Entered, Held, Overview, Part, Rooted, Used}
 use Rattle.root_views.specs.Sections.{root_section}
 use Rattle.dump_command.specs.declared.commands.reach.RootPlaces.{RootPlaces}
 use Rattle.dump_command.specs.declared.commands.reach.RootBodies.{RootBodies}
 use Rattle.dump_command.specs.declared.commands.reach.Loaded.{Loaded as ReachLoaded}
 use Rattle.dump_command.specs.Triage.{Told}
 use Rattle.dump_command.specs.Terms.{base_of}
+use Rattle.dump_command.specs.declared.commands.binaries.Node.{Node}
+use Rattle.dump_command.specs.declared.commands.binaries.Loaded.{Loaded as BinariesLoaded}
 use Rattle.dump_command.specs.declared.commands.triage.Places.{Places}
 use Rattle.dump_command.specs.declared.commands.triage.Loaded.{Loaded as TriageLoaded}
 
@@ -60,6 +62,27 @@ seen_overview index body = record { version = version_text index.version; index 
 -- the processes of an index, and what they hold
 abbrev pub seen_held : {A : Type 0} → Contents → ProcessTable → A → Held A
 seen_held index procs held = record { index = index; processes = procs.processes; held = held }
+
+-- the sections that are read before the heaps are looked through
+abbrev pub node_sections : List Section → List Section
+node_sections sections = memory_body sections ++ record_sections sections
+
+-- what was read of them is of what is open
+pub record HoldsNode (index : Contents) (now : Now) (node : Node) : Type 0 where
+  pub memory : IsBodyIn now (memory_section (sections_in index)) node.memory.bytes.items
+  pub table : (bytes : List ℕ) → now ≡ told bytes → node.procs ≡ process_table bytes
+  pub over : AreProcessesOver index node.procs
+
+-- their bodies, none of which is too large, were read, or not
+pub record ReadsNode (index : Contents) (before after : DeviceState) (result : Result Node BodyFault) : Type 0 where
+  pub reads : ReadsAtMost before after (bodies_length (node_sections (sections_in index)))
+  pub node : IfOk result (HoldsNode index before.now)
+  pub fault : IfErr result (IsUnloaded before after)
+
+-- the processes of an index, and the use of its binaries
+abbrev pub seen_use : Contents → BinariesLoaded → Held Used
+seen_use index loaded =
+    seen_held index loaded.node.procs (record { usage = shown_use loaded.found; memory = loaded.node.memory.bytes.items })
 
 -- each process is one of the index, and each holding is that of a process
 pub record AreNamed (index : Contents) (table : ProcessTable) (held : List Holding) : Type 0 where

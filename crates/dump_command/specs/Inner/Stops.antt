@@ -2,6 +2,7 @@
 use Rattle.dump_sections.specs.declared.bodies.BodyFault.TheVariants as body_faults
 use Rattle.section_index.specs.declared.opening.OpenFault.TheVariants as open_faults
 use Rattle.binary_holders.specs.declared.faults.HolderFault.TheVariants as holder_faults
+use Rattle.process_stacks.specs.declared.faults.StackFault.TheVariants as stack_faults
 use Rattle.dump_redact.specs.declared.faults.RedactFault.TheVariants as redact_faults
 use Rattle.json_report.specs.declared.putting.JsonFault.TheVariants as json_faults
 use Rattle.binary_refs.specs.declared.faults.PreviewFault.TheVariants as preview_faults
@@ -11,6 +12,7 @@ use Rattle.dump_sections.specs.declared.bodies.BodyFault.{BodyFault}
 use Rattle.dump_sections.specs.declared.bodies.LargeSection.{LargeSection}
 use Rattle.section_index.specs.declared.opening.OpenFault.{OpenFault}
 use Rattle.binary_holders.specs.declared.faults.HolderFault.{HolderFault}
+use Rattle.process_stacks.specs.declared.faults.StackFault.{StackFault}
 use Rattle.dump_redact.specs.declared.faults.RedactFault.{RedactFault}
 use Rattle.report_text.specs.declared.refusals.Refusal.TheVariants.{Open, SectionTooLarge, TooDense}
 use Rattle.report_text.specs.Refusals.{IsRefusal, refusal_line}
@@ -54,6 +56,11 @@ or_stop (Err fault) = Err (stop_of_body fault)
 abbrev pub stop_of_holders : HolderFault → Stop
 stop_of_holders holder_faults.Read = NotRead
 stop_of_holders holder_faults.Memory = NoMemory
+
+-- the stop of a command for which the stacks of processes aren't gathered
+abbrev pub stop_of_stacks : StackFault → Stop
+stop_of_stacks stack_faults.Read = NotRead
+stop_of_stacks stack_faults.Memory = NoMemory
 
 -- the stop of `redact`
 abbrev pub stop_of_redact : RedactFault → Stop

@@ -2,7 +2,6 @@
 ghost use Rattle.command_words.specs.Command.{holders};
 ghost use Rattle.dump_command.specs.Inner.Loads.{seen_held, AreNamed};
 
-use crate::commands::subjects::find_binary;
 use crate::open::Opened;
 use crate::report::Report;
 use crate::status::DONE;
@@ -17,7 +16,7 @@ pub(crate) struct Holders {
     pub(crate) addr: u64,
 }
 
-/// The processes, and those that hold the binary.
+/// The processes, and those that hold the binary with the address.
 #[derive(Drop)]
 pub(crate) struct Loaded {
     procs: Procs,
@@ -34,7 +33,6 @@ impl Report for Holders {
     ghost fits = { λ _ index loaded. AreNamed index loaded.procs loaded.held.items };
 
     fn read<D: Dumps>(&self, at: &Opened<'_>, dumps: &mut D) -> Result<Loaded, Stop> {
-        find_binary(at, self.addr)?;
         let procs = Procs::load(at.alloc, dumps, at.index, at.limits)?;
         let held = holders(at.alloc, dumps, at.index, &procs, self.addr)?;
         Ok(Loaded { procs, held })

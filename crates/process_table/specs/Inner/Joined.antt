@@ -9,7 +9,9 @@ use Rattle.process_table.specs.Inner.Finding.{AreOrdered}
 
 -- the fields of a process, in the order of the cells
 abbrev pub field_columns : List Column
-field_columns = field (codes "State") ∷ field (codes "Name") ∷ field (codes "Message queue length") ∷ field (codes "Memory") ∷ field (codes "Link list") ∷ []
+field_columns =
+    field (codes "State") ∷ field (codes "Name") ∷ field (codes "Message queue length") ∷ field (codes "Memory") ∷ field (codes "Link list")
+    ∷ field (codes "BinVHeap") ∷ field (codes "OldBinVHeap") ∷ []
 
 -- the process from an entry and the row of its fields
 abbrev pub joined : List ℕ × ℕ → Row → Process
@@ -21,6 +23,8 @@ joined entry row = record {
   queue = cell_at row 2;
   memory = cell_at row 3;
   links = cell_at row 4;
+  virtual_heap = cell_at row 5;
+  old_virtual_heap = cell_at row 6;
 }
 
 abbrev pub all_joined : List (List ℕ × ℕ) → List Row → List Process
@@ -31,6 +35,6 @@ all_joined (entry ∷ entries) (row ∷ rows) = joined entry row ∷ all_joined 
 -- each process has a row with a cell for each field, and their pids are in order
 pub record AreJoined (places : List PidPlace) (order : PidOrder) (fields : Table) : Type 0 where
   pub rows : length fields.rows ≡ length places
-  pub width : fields.width ≡ 5
+  pub width : fields.width ≡ 7
   pub count : length places ≤ usual.sections
   pub ordered : AreOrdered places order

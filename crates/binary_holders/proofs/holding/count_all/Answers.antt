@@ -1,11 +1,13 @@
 use Rattle.std.proofs.Common.{◌≡◌, ◌<◌, [], ◌∷◌, ◌++◌, get_or, length, map, take, None, sym, ◌∙◌, ap, subst, arith}
 use Rattle.std.proofs.lemmas.List.{map_more, length-map, length-take-le}
 use Rattle.std.proofs.lemmas.List.Sums.{sum_by_more}
+use Rattle.std.specs.List.{flat_map}
 use Rattle.dump_io.specs.Dumps.{ReadsAtMost}
 use Rattle.dump_io.specs.Laws.Reads.{ReadsAtMost-then}
-use Rattle.binary_holders.specs.Held.{holdings}
-use Rattle.binary_holders.specs.Inner.Places.{references_at, size_at}
+use Rattle.binary_holders.specs.Held.{holdings, whole_lines}
+use Rattle.binary_holders.specs.Inner.Places.{numbers_at, references_at, size_at}
 use Rattle.binary_holders.specs.Inner.Counting.{HasCounted}
+use Rattle.binary_holders.proofs.HoldingFacts.{lines-more}
 use Rattle.binary_holders.proofs.holding.count_all.Goals as goal
 
 pub loop-process-preserved : goal.loop-process-preserved
@@ -26,14 +28,20 @@ loop-process-preserved g c =
       room = one.room;
       held = λ dump is.
           let told = before.reads.same_now ∙ is in
-          let done = map (references_at dump index) (take p heaps) in
-          subst (λ b. HasCounted b done [] c.loop-process.sink.counts → c.loop-process.held.items ≡ holdings b done → c.count_process.new.held.items ≡ holdings b (done ++ references_at dump index (get_or heaps p None) ∷ [])) before.targets
-          (one.held dump told done (sym (length-map (take p heaps) (references_at dump index) ∙ length-take-le p heaps (omega (arith, inside))))) (before.had dump is) (before.held dump is)
-          ∙ ap (holdings c.args.sink.now.targets.now) (sym (map_more (references_at dump index) heaps p None inside));
+          let done = map (numbers_at dump index) (take p heaps) in
+          subst (λ b. HasCounted b done [] c.loop-process.sink.counts → c.loop-process.held.items ≡ holdings b done → c.count_process.new.held.items ≡ holdings b (done ++ numbers_at dump index (get_or heaps p None) ∷ [])) before.targets
+          (one.held dump told done (sym (length-map (take p heaps) (numbers_at dump index) ∙ length-take-le p heaps (omega (arith, inside))))) (before.had dump is) (before.held dump is)
+          ∙ ap (holdings c.args.sink.now.targets.now) (sym (map_more (numbers_at dump index) heaps p None inside));
       named = one.named (length heaps) inside before.named;
       had = λ dump is.
           let told = before.reads.same_now ∙ is in
-          let done = map (references_at dump index) (take p heaps) in
-          subst (λ l. HasCounted c.args.sink.now.targets.now l [] c.count_process.new.sink.counts) (sym (map_more (references_at dump index) heaps p None inside))
-          (subst (λ b. HasCounted b done [] c.loop-process.sink.counts → HasCounted b (done ++ references_at dump index (get_or heaps p None) ∷ []) [] c.count_process.new.sink.counts) before.targets (one.counted dump told done) (before.had dump is));
+          let done = map (numbers_at dump index) (take p heaps) in
+          subst (λ l. HasCounted c.args.sink.now.targets.now l [] c.count_process.new.sink.counts) (sym (map_more (numbers_at dump index) heaps p None inside))
+          (subst (λ b. HasCounted b done [] c.loop-process.sink.counts → HasCounted b (done ++ numbers_at dump index (get_or heaps p None) ∷ []) [] c.count_process.new.sink.counts) before.targets (one.counted dump told done) (before.had dump is));
+      lines = λ dump is.
+          let told = before.reads.same_now ∙ is in
+          let done = flat_map (references_at dump index) (take p heaps) in
+          subst (λ b. c.loop-process.sink.counts.lines ≡ whole_lines b done → c.count_process.new.sink.counts.lines ≡ whole_lines b (done ++ references_at dump index (get_or heaps p None))) before.targets
+          (one.lines dump told done) (before.lines dump is)
+          ∙ ap (whole_lines c.args.sink.now.targets.now) (sym (lines-more (references_at dump index) heaps p None inside));
     }

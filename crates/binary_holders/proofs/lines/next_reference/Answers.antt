@@ -30,8 +30,8 @@ returns-clause-found c =
     let rest : take (length bytes - at) (drop at bytes) ≡ drop at bytes = take_rest bytes at in
     let fits : n ≤ length (drop at bytes) = subst (λ l. n ≤ length l) rest c.line_len.ensures.within in
     let first = subst (λ l. raw_lines l ≡ take n l ∷ raw_lines (drop n l)) rest c.line_len.ensures.first in
-    let number : c.text_reference-number.result ≡ line_reference enc (between start (at + n) bytes) =
-    c.text_reference-number.ensures ∙ ap (text_reference enc) c.line_text.ensures in
+    let number : c.text_reference-reference.result ≡ line_reference enc (between start (at + n) bytes) =
+    c.text_reference-reference.ensures ∙ ap (text_reference enc) c.line_text.ensures in
     marked enc c.number_is_read.ensures c.form_is_read.ensures.found bytes at start n inside before low line.whole line.behind fits first
     ∙ ap (λ o. option_to_list o ++ line_references enc (drop (at + n) bytes)) (sym number)
-    ∙ ap (λ l. option_to_list c.text_reference-number.result ++ line_references enc l) (sym (take_rest bytes (at + n)))
+    ∙ ap (λ l. option_to_list c.text_reference-reference.result ++ line_references enc l) (sym (take_rest bytes (at + n)))

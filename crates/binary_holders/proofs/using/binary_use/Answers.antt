@@ -6,12 +6,21 @@ use Rattle.process_table.specs.Processes.{Process}
 use Rattle.binary_holders.specs.declared.rows.BinaryRow.{BinaryRow}
 use Rattle.binary_holders.specs.declared.rows.Holding.{Holding}
 use Rattle.binary_holders.specs.declared.targets.Binary.{Binary}
-use Rattle.binary_holders.specs.Held.{capped, holdings}
+use Rattle.size_order.specs.Sums.{capped}
+use Rattle.binary_holders.specs.Held.{holdings, whole_lines}
 use Rattle.size_order.specs.Sorting.{most_first}
-use Rattle.binary_holders.specs.Usage.{heaps_of, rows_in}
+use Rattle.binary_holders.specs.Usage.{heaps_of, lines_of, rows_in}
 use Rattle.binary_holders.specs.Inner.Rows.{AreRows}
-use Rattle.binary_holders.proofs.UsingFacts.{both-ok, rows-are, usage-same}
+use Rattle.binary_holders.proofs.UsingFacts.{both-ok, rows-are, same-sizes, usage-same}
 use Rattle.binary_holders.proofs.using.binary_use.Goals as goal
+
+pub rows_of-requires-clause-sizes : goal.rows_of-requires-clause-sizes
+rows_of-requires-clause-sizes g c =
+    same-sizes c.in_ok-stored.targets c.in_ok-stored.stored.items c.in_ok-stored.ensures.numbers c.binaries-binaries.result.now c.as_slice-list.result.now (ap length c.binaries-binaries.ensures.value) (ap length c.as_slice-list.ensures.value)
+
+pub rows_of-requires-clause-holders : goal.rows_of-requires-clause-holders
+rows_of-requires-clause-holders g c =
+    same-sizes c.in_ok-stored.targets c.in_ok-stored.stored.items c.in_ok-stored.ensures.numbers c.as_slice-holders.result.now c.as_slice-list.result.now (ap length c.as_slice-holders.ensures.value ∙ c.in_ok-held.ensures.room) (ap length c.as_slice-list.ensures.value)
 
 pub returns-clause-found : goal.returns-clause-found
 returns-clause-found g c =
@@ -31,14 +40,16 @@ returns-clause-found g c =
     (λ made all dump is.
     let told = stored.reads.same_now ∙ is in
     let sizes = stored.sizes dump is in
-    let heaps = heaps_of dump index (map (λ (p : Process). p.pid) c.args.procs.now.processes) in
+    let pids = map (λ (p : Process). p.pid) c.args.procs.now.processes in
+    let heaps = heaps_of dump index pids in
     let told_rows : rows ≡ rows_in dump index heaps =
     rows-are dump index heaps list targets holders counts rows stored.stored sizes (had.counted dump told) c.as_slice-holders.ensures.value found in
     usage-same (all.0 ∙ ap (most_first (λ (h : Holding). h.total)) (had.held dump told ∙ ap (λ l. holdings l heaps) sizes))
     (all.1.0 ∙ ap (most_first (λ (r : BinaryRow). r.size)) told_rows)
     (all.1.1.0 ∙ c.capped-bytes.ensures ∙ ap capped c.total.ensures ∙ ap (λ l. capped (sum_by (λ (b : Binary). b.size) l)) sizes)
-    (all.1.1.1 ∙ ap (count_by (λ (r : BinaryRow). nat_lt 0 r.holders)) told_rows))
-    (both-ok c.sorted.result _ _ sorted.held (both-ok c.sorted.result _ _ sorted.binaries (both-ok c.sorted.result _ _ sorted.bytes sorted.with_holders)))
+    (all.1.1.1.0 ∙ ap (count_by (λ (r : BinaryRow). nat_lt 0 r.holders)) told_rows)
+    (all.1.1.1.1 ∙ had.lines dump told ∙ ap (λ l. whole_lines l (lines_of dump index pids)) sizes))
+    (both-ok c.sorted.result _ _ sorted.held (both-ok c.sorted.result _ _ sorted.binaries (both-ok c.sorted.result _ _ sorted.bytes (both-ok c.sorted.result _ _ sorted.with_holders sorted.lines))))
 
 pub returns-clause-named : goal.returns-clause-named
 returns-clause-named g c = c.sorted.ensures.named (length c.args.procs.now.processes) c.in_ok-held.ensures.named

@@ -1,5 +1,5 @@
 use Rattle.std.proofs.Common.{sym, ◌∙◌, ap}
-use Rattle.command_words.specs.Command.{shown_query, cells, ext, proc, reach, roots, term}
+use Rattle.command_words.specs.Command.{shown_query, cells, ext, field, proc, reach, roots, term}
 use Rattle.dump_command.proofs.Runs.{runs-asked}
 use Rattle.dump_command.proofs.commands.run_query.Goals as goal
 
@@ -17,6 +17,9 @@ returns-in-Proc g c = runs-asked (ap shown_query c.in-Proc.is ∙ ap proc (sym c
 
 pub returns-in-Memory : goal.returns-in-Memory
 returns-in-Memory g c = runs-asked (ap shown_query c.in-Memory.is) c.run_report-in-Memory.ensures
+
+pub returns-in-Field : goal.returns-in-Field
+returns-in-Field g c = runs-asked (ap shown_query c.in-Field.is ∙ ap field (sym c.as_bytes-key.ensures.value)) c.run_report-in-Field.ensures
 
 pub returns-in-Table : goal.returns-in-Table
 returns-in-Table g c = runs-asked (ap shown_query c.in-Table.is) c.run_report-in-Table.ensures
@@ -47,6 +50,9 @@ returns-in-Holders g c = runs-asked (ap shown_query c.in-Holders.is) c.run_repor
 
 pub returns-in-Triage : goal.returns-in-Triage
 returns-in-Triage g c = runs-asked (ap shown_query c.in-Triage.is) c.run_report-in-Triage.ensures
+
+pub returns-in-Stacks : goal.returns-in-Stacks
+returns-in-Stacks g c = runs-asked (ap shown_query c.in-Stacks.is) c.run_report-in-Stacks.ensures
 
 pub returns-in-Links : goal.returns-in-Links
 returns-in-Links g c = runs-asked (ap shown_query c.in-Links.is) c.run_report-in-Links.ensures

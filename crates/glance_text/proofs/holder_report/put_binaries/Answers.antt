@@ -20,4 +20,4 @@ pub returns : goal.returns
 returns g c =
     let line = held_line c.args.index.now c.args.procs.now.processes in
     Puts-then (Puts-as (ap (flat_map line) c.deref.ensures.value) c.in_ok-put_all_held.ensures)
-    (Puts-then (Puts-as (ap (flat_map stored_line) c.deref-2.ensures.value) c.in_ok-put_all_stored.ensures) c.put_total.ensures)
+    (Puts-then (Puts-as (ap (flat_map stored_line) c.deref-2.ensures.value) c.in_ok-put_all_stored.ensures) c.put_totals.ensures)

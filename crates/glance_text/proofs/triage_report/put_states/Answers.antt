@@ -7,10 +7,10 @@ pub loop-row-preserved : goal.loop-row-preserved
 loop-row-preserved g c =
     let rows = c.args.rows.now in
     let i = c.loop-row.row-index in
-    HasPut-more (state_count_line c.args.procs.now.processes) rows i _ (slice_get-get_or rows i _ c.loop-row-test.true) c.loop-row.invariant c.in_ok-put_state_count.ensures
+    HasPut-more (state_count_line c.args.index.now c.args.procs.now.processes) rows i _ (slice_get-get_or rows i _ c.loop-row-test.true) c.loop-row.invariant c.in_ok-put_state_count.ensures
 
 pub returns-in_err-put_state_count : goal.returns-in_err-put_state_count
 returns-in_err-put_state_count g c =
     let rows = c.args.rows.now in
     let i = c.loop-row.row-index in
-    Puts-broken (state_count_line c.args.procs.now.processes) rows i _ (slice_get-get_or rows i _ c.loop-row-test.true) c.loop-row.invariant c.from_residual.ensures.0 c.in_err-put_state_count.ensures
+    Puts-broken (state_count_line c.args.index.now c.args.procs.now.processes) rows i _ (slice_get-get_or rows i _ c.loop-row-test.true) c.loop-row.invariant c.from_residual.ensures.0 c.in_err-put_state_count.ensures

@@ -6,4 +6,4 @@ use Rattle.glance_text.proofs.triage_report.put_states.Given as goal
 
 -- the lines of the rows so far are written
 abbrev pub invariant-loop-row : goal.invariant-loop-row
-invariant-loop-row g l = HasPut (g.K.Sink.state l.initial.sink) (g.K.Sink.state l.sink) (flat_map (state_count_line l.procs.processes) (take l.row-index l.rows))
+invariant-loop-row g l = HasPut (g.K.Sink.state l.initial.sink) (g.K.Sink.state l.sink) (flat_map (state_count_line l.index l.procs.processes) (take l.row-index l.rows))

@@ -1,4 +1,4 @@
-use Rattle.std.proofs.Common.{◌≡◌, ℕ, List, [], ◌∷◌, Result, sym, ◌∙◌, ap, ap₂, subst}
+use Rattle.std.proofs.Common.{◌≡◌, ℕ, List, Result, sym, ◌∙◌, ap, ap₂, subst}
 use Rattle.std.specs.Prelude.{codes, OnOk}
 use Rattle.serde.specs.Event.{Log}
 use Rattle.serde_json.specs.Data.{Data}

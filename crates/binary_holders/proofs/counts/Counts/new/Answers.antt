@@ -13,6 +13,7 @@ returns-clause-counted c = λ binaries count.
       count = 0;
       total = 0;
       cells = 0;
+      lines = record { count = 0; unstored = 0 };
       seen = c.in_ok-seen.seen;
       holders = c.in_ok-holders.holders;
     }) refl refl refl refl

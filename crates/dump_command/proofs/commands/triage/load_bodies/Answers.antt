@@ -9,4 +9,5 @@ returns-in-Some-clause-loads g c =
     rw c.from.ensures (LoadsBodies-large g.D.Dumps.state (triage_sections (sections_in c.args.at.now.index.now)) c.args.at.now.limits.now.section c.args.dumps.now _ (search rules) c.in-Some.ensures)
 
 pub returns-clause-loads : goal.returns-clause-loads
-returns-clause-loads g c = LoadsBodies-small g.D.Dumps.state c.args.at.now.index.now c.args.at.now.limits.now.section _ _ _ c.in_default.ensures c.read_bodies.ensures
+returns-clause-loads g c =
+    LoadsBodies-small g.D.Dumps.state (triage_sections (sections_in c.args.at.now.index.now)) c.args.at.now.limits.now.section _ _ _ c.in_default.ensures c.read_bodies.ensures.reads c.read_bodies.ensures.fault

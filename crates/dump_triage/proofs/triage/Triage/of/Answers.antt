@@ -12,5 +12,6 @@ returns-clause-fits c =
       states = subst (AreWithin (length processes)) (sym c.in_ok-commonest_states.ensures) fits.states;
       queues = subst (AreWithin (length processes)) (sym c.in_ok-longest_queues.ensures) fits.queues;
       memory = subst (AreWithin (length processes)) (sym c.in_ok-largest_processes.ensures) fits.memory;
+      binaries = subst (AreWithin (length processes)) (sym c.in_ok-most_binaries.ensures) fits.binaries;
       tables = subst (AreWithin (length rows)) (sym c.in_ok-largest_tables.ensures) fits.tables;
     }

@@ -5,14 +5,14 @@ use Rattle.process_table.proofs.Building.{IsOver-built, built_told, count_of_pla
 use Rattle.process_table.proofs.Placing.{All-records}
 use Rattle.process_table.proofs.procs.Procs.read.Goals as goal
 
-pub load_fields-requires-clause-found : goal.load_fields-requires-clause-found
-load_fields-requires-clause-found g c =
+pub load_columns-requires-clause-found : goal.load_columns-requires-clause-found
+load_columns-requires-clause-found g c =
     let found = c.into_parts-places in
     c.as_slice.ensures.value ∙ found.ensures.sections
     ∙ places-records (records (sections_in c.args.index.now)) found.result.0.items (found.ensures.places ∙ ap (λ (t : ProcPlaces). t.places) c.requires.found)
 
-pub load_fields-requires-clause-records : goal.load_fields-requires-clause-records
-load_fields-requires-clause-records g c = All-records c.args.index.now
+pub load_columns-requires-clause-records : goal.load_columns-requires-clause-records
+load_columns-requires-clause-records g c = All-records c.args.index.now
 
 pub invariant_of-result : goal.invariant_of-result
 invariant_of-result g c =

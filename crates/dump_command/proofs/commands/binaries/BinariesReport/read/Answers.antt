@@ -1,31 +1,37 @@
-use Rattle.std.proofs.Common.{refl, ◌+◌, ◌∙◌, arith}
+use Rattle.std.proofs.Common.{◌+◌, ◌∙◌, ap, arith, subst}
 use Rattle.dump_io.specs.Laws.Reads.{ReadsAtMost-then}
-use Rattle.binary_holders.specs.Usage.{fronts_length, heaps_length, usage_of}
-use Rattle.glance_text.specs.Holders.{binaries_report}
-use Rattle.dump_command.specs.Meaning.{never}
+use Rattle.dump_sections.specs.Bodies.{IsBodyIn}
+use Rattle.dump_sections.specs.Index.{sections_in}
+use Rattle.binary_holders.specs.Usage.{Usage, fronts_length, heaps_length, shown_use}
+use Rattle.dump_command.specs.Meaning.{Used, memory_body, memory_section, used_in, used_report}
 use Rattle.dump_command.proofs.HolderLoads.{HasRead-heard, IsOfBodies-holders, StopsFor-holders, Takes-heard}
 use Rattle.dump_command.proofs.Reading.{IsHalted-bodies, IsHalted-later, ReadsFor-halted}
 use Rattle.dump_command.proofs.commands.binaries.BinariesReport.read.Goals as goal
 
-pub returns-in_err-procs-clause-reads : goal.returns-in_err-procs-clause-reads
-returns-in_err-procs-clause-reads g c =
+pub returns-in_err-node-clause-reads : goal.returns-in_err-node-clause-reads
+returns-in_err-node-clause-reads g c =
     ReadsFor-halted _ _ c.from_residual.result _ c.from_residual.ensures.1 (IsHalted-bodies _ _ _
-    (IsOfBodies-holders never (λ i pids. fronts_length i + heaps_length i pids) usage_of binaries_report c.args.at.now.limits.now c.args.at.now.index.now refl) g.D.Dumps.state _ _ _ c.in_err-procs.ensures.loads)
+    (IsOfBodies-holders memory_body (λ i pids. fronts_length i + heaps_length i pids) used_in used_report c.args.at.now.limits.now c.args.at.now.index.now) g.D.Dumps.state _ _ _ c.in_err-node.ensures.loads)
 
 pub returns-in_err-found-clause-reads : goal.returns-in_err-found-clause-reads
 returns-in_err-found-clause-reads g c =
-    let read = c.in_ok-procs.ensures in
+    let read = c.in_ok-node.ensures in
     let heard = c.in_err-found.ensures in
     ReadsFor-halted _ _ c.from_residual-in_err-found.result _ c.from_residual-in_err-found.ensures.1 (IsHalted-later _ _ _ _ _ _
-    (Takes-heard never (λ i pids. fronts_length i + heaps_length i pids) usage_of binaries_report _ _ refl _ _ read.loads.allowed c.in_ok-procs.procs (λ bytes all. read.table bytes all.opened)
+    (Takes-heard memory_body (λ i pids. fronts_length i + heaps_length i pids) used_in used_report _ _ _ _ read.loads.allowed c.in_ok-node.node.procs (λ bytes all. read.node.table bytes all.opened)
     _ (ReadsAtMost-then read.loads.reads heard.reads) (omega arith))
-    read.loads.reads (StopsFor-holders (g.D.Dumps.state c.load.new.dumps) (g.D.Dumps.state c.binary_use.new.dumps) _ heard.fault))
+    read.loads.reads (StopsFor-holders (g.D.Dumps.state c.load_node.new.dumps) (g.D.Dumps.state c.binary_use.new.dumps) _ heard.fault))
 
 pub returns-clause-reads : goal.returns-clause-reads
 returns-clause-reads g c =
-    let read = c.in_ok-procs.ensures in
+    let read = c.in_ok-node.ensures in
     let heard = c.in_ok-found.ensures in
     let index = c.args.at.now.index.now in
-    HasRead-heard never (λ i pids. fronts_length i + heaps_length i pids) usage_of binaries_report _ index refl _ _ read.loads.allowed c.in_ok-procs.procs (λ bytes all. read.table bytes all.opened) _
-    (Takes-heard never (λ i pids. fronts_length i + heaps_length i pids) usage_of binaries_report _ _ refl _ _ read.loads.allowed _ (λ bytes all. read.table bytes all.opened) _ (ReadsAtMost-then read.loads.reads heard.reads) (omega arith))
-    (λ bytes all. heard.found bytes (read.loads.reads.same_now ∙ all.opened))
+    let node = c.in_ok-node.node in
+    let now = (g.D.Dumps.state c.args.dumps.now).now in
+    HasRead-heard memory_body (λ i pids. fronts_length i + heaps_length i pids) used_in used_report _ index _ _ read.loads.allowed node.procs (λ bytes all. read.node.table bytes all.opened) _
+    (Takes-heard memory_body (λ i pids. fronts_length i + heaps_length i pids) used_in used_report _ _ _ _ read.loads.allowed _ (λ bytes all. read.node.table bytes all.opened) _ (ReadsAtMost-then read.loads.reads heard.reads) (omega arith))
+    (λ bytes all.
+    let found = heard.found bytes (read.loads.reads.same_now ∙ all.opened) in
+    let memory = subst (λ n. IsBodyIn n (memory_section (sections_in index)) node.memory.bytes.items) all.opened read.node.memory in
+    λ i. record { usage = found i; memory = memory i })

@@ -1,24 +1,17 @@
-use Rattle.std.proofs.Common.{ℕ, ◌∙◌, arith, rules}
+use Rattle.std.proofs.Common.{◌∙◌, arith}
 use Rattle.dump_io.specs.Laws.Reads.{ReadsAtMost-then}
 use Rattle.binary_holders.specs.Usage.{heaps_length, holders_in}
-use Rattle.command_words.specs.Command.{holders}
 use Rattle.glance_text.specs.Holders.{holders_report}
-use Rattle.stored_binaries.specs.StoredBinaries.{binary_section}
-use Rattle.dump_command.specs.Meaning.{meaning}
-use Rattle.dump_command.specs.Terms.{binary_cause}
+use Rattle.dump_command.specs.Meaning.{no_body}
 use Rattle.dump_command.proofs.HolderLoads.{HasRead-heard, IsOfBodies-holders, StopsFor-holders, Takes-heard}
-use Rattle.dump_command.proofs.Reading.{IsHalted-bodies, IsHalted-later, IsHalted-subject, ReadsFor-halted}
+use Rattle.dump_command.proofs.Reading.{IsHalted-bodies, IsHalted-later, ReadsFor-halted}
 use Rattle.dump_command.proofs.commands.holders.HoldersReport.read.Goals as goal
-
-pub returns-in_err-find_binary-clause-reads : goal.returns-in_err-find_binary-clause-reads
-returns-in_err-find_binary-clause-reads g c =
-    ReadsFor-halted _ _ c.from_residual.result _ c.from_residual.ensures.1 (IsHalted-subject (meaning (holders c.args.self.now.addr)) _ c.args.at.now.index.now _ _ ℕ _ (search rules) c.in_err-find_binary.ensures.judges)
 
 pub returns-in_err-procs-clause-reads : goal.returns-in_err-procs-clause-reads
 returns-in_err-procs-clause-reads g c =
     let addr = c.args.self.now.addr in
-    ReadsFor-halted _ _ c.from_residual-in_err-procs.result _ c.from_residual-in_err-procs.ensures.1 (IsHalted-bodies _ _ _
-    (IsOfBodies-holders (λ ss. binary_cause addr (binary_section addr ss)) heaps_length (λ bytes i pids. holders_in bytes i pids addr) holders_report c.args.at.now.limits.now c.args.at.now.index.now c.in_ok-find_binary.ensures.judges) g.D.Dumps.state _ _ _ c.in_err-procs.ensures.loads)
+    ReadsFor-halted _ _ c.from_residual.result _ c.from_residual.ensures.1 (IsHalted-bodies _ _ _
+    (IsOfBodies-holders no_body heaps_length (λ bytes i pids. holders_in bytes i pids addr) holders_report c.args.at.now.limits.now c.args.at.now.index.now) g.D.Dumps.state _ _ _ c.in_err-procs.ensures.loads)
 
 pub returns-in_err-held-clause-reads : goal.returns-in_err-held-clause-reads
 returns-in_err-held-clause-reads g c =
@@ -26,7 +19,7 @@ returns-in_err-held-clause-reads g c =
     let read = c.in_ok-procs.ensures in
     let heard = c.in_err-held.ensures in
     ReadsFor-halted _ _ c.from_residual-in_err-held.result _ c.from_residual-in_err-held.ensures.1 (IsHalted-later _ _ _ _ _ _
-    (Takes-heard (λ ss. binary_cause addr (binary_section addr ss)) heaps_length (λ bytes i pids. holders_in bytes i pids addr) holders_report _ _ c.in_ok-find_binary.ensures.judges _ _ read.loads.allowed c.in_ok-procs.procs (λ bytes all. read.table bytes all.opened)
+    (Takes-heard no_body heaps_length (λ bytes i pids. holders_in bytes i pids addr) holders_report _ _ _ _ read.loads.allowed c.in_ok-procs.procs (λ bytes all. read.table bytes all.opened)
     _ (ReadsAtMost-then read.loads.reads heard.reads) (omega arith))
     read.loads.reads (StopsFor-holders (g.D.Dumps.state c.load.new.dumps) (g.D.Dumps.state c.holders.new.dumps) _ heard.fault))
 
@@ -36,6 +29,6 @@ returns-clause-reads g c =
     let read = c.in_ok-procs.ensures in
     let heard = c.in_ok-held.ensures in
     let index = c.args.at.now.index.now in
-    HasRead-heard (λ ss. binary_cause addr (binary_section addr ss)) heaps_length (λ bytes i pids. holders_in bytes i pids addr) holders_report _ index c.in_ok-find_binary.ensures.judges _ _ read.loads.allowed c.in_ok-procs.procs (λ bytes all. read.table bytes all.opened) _
-    (Takes-heard (λ ss. binary_cause addr (binary_section addr ss)) heaps_length (λ bytes i pids. holders_in bytes i pids addr) holders_report _ _ c.in_ok-find_binary.ensures.judges _ _ read.loads.allowed _ (λ bytes all. read.table bytes all.opened) _ (ReadsAtMost-then read.loads.reads heard.reads) (omega arith))
+    HasRead-heard no_body heaps_length (λ bytes i pids. holders_in bytes i pids addr) holders_report _ index _ _ read.loads.allowed c.in_ok-procs.procs (λ bytes all. read.table bytes all.opened) _
+    (Takes-heard no_body heaps_length (λ bytes i pids. holders_in bytes i pids addr) holders_report _ _ _ _ read.loads.allowed _ (λ bytes all. read.table bytes all.opened) _ (ReadsAtMost-then read.loads.reads heard.reads) (omega arith))
     (λ bytes all. heard.found bytes (read.loads.reads.same_now ∙ all.opened))

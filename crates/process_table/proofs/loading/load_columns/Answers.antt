@@ -3,7 +3,7 @@ use Rattle.dump_sections.specs.Index.{sections_in}
 use Rattle.dump_sections.specs.Loading.{sections_at}
 use Rattle.process_table.specs.Records.{records, record_sections}
 use Rattle.process_table.proofs.Building.{sections_at-records, places-within}
-use Rattle.process_table.proofs.procs.load_fields.Goals as goal
+use Rattle.process_table.proofs.loading.load_columns.Goals as goal
 
 pub load-requires-clause-places : goal.load-requires-clause-places
 load-requires-clause-places g c =
