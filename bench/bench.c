@@ -4,6 +4,7 @@
 //   bench write FILE BYTES SECTIONS   writes a dump of so many bytes and sections, heap lines of about 40 bytes
 //   bench procs FILE BYTES PROCESSES  writes a dump of so many bytes and processes, each with a body of about 300
 //                                     bytes and a heap, and prints how many bytes a process table keeps of them
+//   bench stacks FILE PROCESSES       writes a dump of so many processes, each with ten infos on its stack, at fifty places in all
 //   bench list FILE CELLS ORDER       writes a dump with one process, whose dictionary refers to its first cell, and whose
 //                                     heap is a list of so many cells, 40 bytes each with their LF; with ORDER 1 their
 //                                     addresses stand in no order
@@ -74,6 +75,22 @@ static int write_processes(const char *name, long bytes, long count) {
     }
     fprintf(f, "=end\n");
     printf("%ld\n", kept);
+    return fclose(f) != 0;
+}
+
+static int write_stacks(const char *name, long count) {
+    FILE *f = fopen(name, "w");
+    if (!f) return 1;
+    long kept = 0;
+    fprintf(f, "=erl_crash_dump:0.5\nSlogan: a benchmark\n");
+    for (long i = 1; i <= count; i++) write_process(f, i, &kept);
+    for (long i = 1; i <= count; i++) {
+        fprintf(f, "=proc_stack:<0.%ld.0>\n", i);
+        for (long k = 0; k < 10; k++)
+            fprintf(f, "0x%016lX:SReturn addr 0x%016lX (module_%ld:function_%ld/2 + %ld)\ny0:I%ld\n", i * 4096 + k * 16,
+                i * 7 % 50 * 4096 + k * 64, i * 7 % 50, k, k * 64, i);
+    }
+    fprintf(f, "=end\n");
     return fclose(f) != 0;
 }
 
@@ -299,7 +316,7 @@ static int reread(const char *name, int kinds, int look) {
                 if (n <= 0) return 1;
                 at += n;
                 if (kind != 1 || !look) continue;
-                for (char *p = piece; (p = memmem(p, piece + n - p, ":Yc", 3)); p++) found++;
+                for (char *p = piece; (p = memmem(p, piece + n - p, ":Y", 2)); p++) found++;
             }
         }
     printf("%ld sections, %ld references\n", count, found);
@@ -327,6 +344,7 @@ static int measure(const char *out, char **command) {
 int main(int count, char **words) {
     if (count == 5 && !strcmp(words[1], "write")) return write_dump(words[2], atol(words[3]), atol(words[4]));
     if (count == 5 && !strcmp(words[1], "procs")) return write_processes(words[2], atol(words[3]), atol(words[4]));
+    if (count == 4 && !strcmp(words[1], "stacks")) return write_stacks(words[2], atol(words[3]));
     if (count == 5 && !strcmp(words[1], "list")) return write_list(words[2], atol(words[3]), atoi(words[4]));
     if (count == 4 && !strcmp(words[1], "tuples")) return write_tuples(words[2], atol(words[3]));
     if (count == 4 && !strcmp(words[1], "graph")) return write_graph(words[2], atol(words[3]));

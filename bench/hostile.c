@@ -22,6 +22,7 @@
 //   hostile letters FILE N    a heap of N lines that are the letter with which references to binaries begin
 //   hostile marks FILE N      a heap of N lines that begin as a heap binary does, and are none
 //   hostile states FILE N     N processes, each in a state of its own, all of which begin with the same hundred bytes
+//   hostile frames FILE N     N processes, each with a stack of 20 frames, all of which but the end of the last are the same
 //   hostile numbers FILE N    N sections of one binary, and a heap with as many references to it
 #include <stdio.h>
 #include <stdlib.h>
@@ -218,6 +219,13 @@ static void marks(FILE *f, long count) {
     for (long i = 0; i < count; i++) fputs(plain ? "1:Xh\n" : "1:Yh\n", f);
 }
 
+static void frames(FILE *f, long count) {
+    for (long i = 0; i < count; i++) {
+        fprintf(f, "=proc:<0.%ld.0>\nState: Waiting\n=proc_stack:<0.%ld.0>\n", i, i);
+        for (int k = 0; k < 20; k++) fprintf(f, "y0:S%0255ld\n", k == (plain ? 0 : 19) ? i : 0);
+    }
+}
+
 static void states(FILE *f, long count) {
     for (long i = 0; i < count; i++) fprintf(f, "=proc:<0.%ld.0>\nState: %0100d%08ld\n", i + 1, 0, plain ? 0 : i);
 }
@@ -306,7 +314,7 @@ static const struct {
     {"pids", pids}, {"tags", tags}, {"mailboxes", mailboxes}, {"kinds", kinds}, {"payload", payload}, {"external", external},
     {"subs", subs}, {"address", one_address}, {"falling", falling}, {"commas", commas}, {"equals", equals}, {"roots", roots},
     {"one_pid", one_pid}, {"star", star}, {"nested", nested}, {"counts", counts}, {"quoted", quoted},
-    {"letters", letters}, {"marks", marks}, {"states", states}, {"numbers", numbers},
+    {"letters", letters}, {"marks", marks}, {"states", states}, {"frames", frames}, {"numbers", numbers},
 };
 
 int main(int count, char **words) {

@@ -91,5 +91,6 @@ shape quoted 200
 shape letters 10000000
 shape marks 4000000
 shape states 200000
+shape frames 20000
 shape numbers 500000
 exit "$slow"

@@ -1,7 +1,7 @@
 #!/bin/sh
 # Times `edump index` and `edump info` on a dump of 1 GiB, once with 500,000 and once with 900,000 sections, warm, beside a
-# C loop and grep; then `edump procs` and `edump triage` on a dump of 1 GiB with 200,000 processes, beside `edump index` and
-# a program in C that only reads the same; then the load of heaps, beside the reading of their lines through `heap_line` and
+# C loop and grep; then `edump procs`, `edump field` and `edump triage` on a dump of 1 GiB with 200,000 processes, beside `edump index` and
+# a program in C that only reads the same, and `edump stacks` beside `edump procs`; then the load of heaps, beside the reading of their lines through `heap_line` and
 # `form`, `edump term` beside a program in C that writes the same, and the walk of a term; then the previews of binaries,
 # and `edump binaries` beside `edump index` and a program in C that reads the same; then an external term, read and written;
 # then `edump audit` beside `edump procs`, and `edump audit-json` beside `edump audit`; and then `edump redact` of a dump of
@@ -78,17 +78,32 @@ echo "a dump of 1 GiB with $processes processes, $rounds rounds, $(tail -n 1 "$f
 for _ in $(seq "$rounds"); do
     round index /dev/null "$edump" index "$dump"
     round procs /dev/null "$edump" procs "$dump"
+    round field /dev/null "$edump" field "$dump" "Spawned by"
     round reread /dev/null "$bench" reread "$dump" 1 0
     round triage /dev/null "$edump" triage "$dump"
 done
 tell index "edump index" index "edump index"
 tell procs "edump procs" index "edump index"
 tell reread "reads alone" index "edump index"
+tell field "edump field" procs "edump procs"
 tell triage "edump triage" procs "edump procs"
 # What the process table takes beside the index and the texts that it keeps.
 for name in index procs; do sort -n -k 2 "$folder/$name.times" | tail -n 1; done |
     awk -v kept="$kept" -v count="$processes" \
         '{ most[NR] = $2 * 1024 } END { printf "%.0f bytes a process beside the index and the %d bytes that are kept of it\n", (most[2] - most[1] - kept) / count, kept / count }'
+rm -f "$dump"
+
+# Where processes stand: ten infos on the stack of each.
+rm -f "$folder"/*.times
+"$bench" stacks "$dump" "$processes" || exit 1
+sync "$dump"
+for _ in $(seq "$rounds"); do
+    round procs /dev/null "$edump" procs "$dump"
+    round stacks /dev/null "$edump" stacks "$dump"
+done
+echo "a dump of $(wc -c <"$dump") bytes, $processes stacks of ten infos:"
+tell procs "edump procs" procs "itself"
+tell stacks "edump stacks" procs "edump procs"
 rm -f "$dump"
 
 # Heaps: the reading of the lines alone, the load of the heap, the walk of its one term, and what its one root reaches.
