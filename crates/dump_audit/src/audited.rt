@@ -52,7 +52,7 @@ impl<'a> Model for Audited<'a> {
 
     ghost invariant = { λ a.
         IsKept (audit_of a.index.now a.procs.now.processes a.limit (option_copied a.mails))
-            a.graph.now a.state a.judged.now a.names_gone };
+        a.graph.now a.state a.judged.now a.names_gone };
 }
 
 impl<'a> Audited<'a> {

@@ -154,7 +154,7 @@ impl<'a> Audited<'a> {
         requires { IsHolder self.now holder.now }
         ensures { OnOk result (findings.new.items ≡ findings.old.items
             ++ (let process = held self.now holder.now in
-                entry_findings self.now holder.now.p process (entries_in process))) }
+            entry_findings self.now holder.now.p process (entries_in process))) }
     {
         for number in 0..self.entry_count(holder) {
             let entry = self.entry_at(holder, number);

@@ -29,7 +29,7 @@ impl<'a> Audited<'a> {
         requires { IsHolder self.now holder.now }
         ensures { OnOk result (findings.new.items ≡ findings.old.items
             ++ stated_findings self.now holder.now.p (shown_kept line.now)
-                (held_offset self.now holder.now) (Some stated)) }
+            (held_offset self.now holder.now) (Some stated)) }
     {
         let p = holder.p as u32;
         let at = line.at;
@@ -65,7 +65,7 @@ impl<'a> Audited<'a> {
         requires { IsHolder self.now holder.now }
         ensures { OnOk result (findings.new.items ≡ findings.old.items
             ++ (let process = held self.now holder.now in
-                queue_findings self.now holder.now.p process process.queue)) }
+            queue_findings self.now holder.now.p process process.queue)) }
     {
         let Some(line) = self.procs.queue(holder.p) else {
             return Ok(());

@@ -20,5 +20,5 @@ pub fn streams_grow()
     ensures after_too_long { (limit at : ℕ) (stream more : List ℕ)
         → first_too_long limit stream ≡ Some at
         → All (λ header. at ≤ header.at)
-            (new_headers stream more ++ open_headers (stream ++ more)) }
+        (new_headers stream more ++ open_headers (stream ++ more)) }
 {}

@@ -128,7 +128,7 @@ impl LineScan {
         ensures refused { (stream : List ℕ) → StandsFor self.old stream
             → (refused : RefusedHeader) → H.stop into.new ≡ Some refused
             → StopsAmong (H.heard into.old) (H.heard into.new) refused
-                (new_headers stream piece.now) }
+            (new_headers stream piece.now) }
         ensures refused_is_short { (stream : List ℕ) → StandsFor self.old stream
             → (refused : RefusedHeader) → H.stop into.new ≡ Some refused
             → All (λ at. refused.at < at) (too_long self.old.limit (stream ++ piece.now)) }

@@ -65,5 +65,8 @@ returns-clause-reads g c =
     HasRead-listed (meaning (stacks most)) limits index _ _ _
     (takes most limits index _ _ read.loads.allowed c.in_ok-procs.procs (λ bytes all. read.rows bytes all.opened) (ReadsAtMost-then read.loads.reads heard.reads))
     (none-large (meaning (stacks most)) limits index (of most limits index) read.loads.allowed)
-    (λ bytes all. (refl, ap (λ found. record { rows = c.in_ok-procs.procs; found = found }) (heard.found bytes (read.loads.reads.same_now ∙ all.opened))
-    ∙ over most limits index before before read.loads.allowed c.in_ok-procs.procs (λ bytes all. read.rows bytes all.opened) (λ i rs. record { rows = rs; found = found_from bytes i rs }) bytes all))
+    (λ bytes all. (
+      refl,
+      ap (λ found. record { rows = c.in_ok-procs.procs; found = found }) (heard.found bytes (read.loads.reads.same_now ∙ all.opened))
+          ∙ over most limits index before before read.loads.allowed c.in_ok-procs.procs (λ bytes all. read.rows bytes all.opened) (λ i rs. record { rows = rs; found = found_from bytes i rs }) bytes all,
+    ))
