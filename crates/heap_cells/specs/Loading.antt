@@ -115,3 +115,9 @@ LoadsHeapAt state index heap literals limits before after result =
 -- if one of these bodies is too large, the first is refused as such, whatever the device does
 abbrev pub RefusesLarge : {T : Type 0} → ℕ → List Section → Result T HeapFault → Type 0
 RefusesLarge limit bodies result = (fault : HeapFault) → bodies_fault limit bodies ≡ Some fault → IsErrOf result fault
+
+-- why a heap isn't made of a text that is in memory: it is too dense, or memory was lacking
+abbrev pub IsTextFault : HeapFault → Type 0
+IsTextFault (SectionTooLarge at len) = ⊥
+IsTextFault Read = ⊥
+IsTextFault fault = Unit {0}

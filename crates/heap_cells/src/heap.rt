@@ -1,12 +1,12 @@
 // The heap of a process, by address.
-ghost use Rattle.std.specs.Prelude.{◌≡◌, ◌<◌, ◌≤◌, map, length, Some, IfSome, IfOk, IfErr};
+ghost use Rattle.std.specs.Prelude.{◌≡◌, [], ◌<◌, ◌≤◌, map, length, Some, IfSome, IfOk, IfErr};
 ghost use Rattle.std.specs.Option.{option_map};
 ghost use Rattle.dump_io.specs.Limits.{usual};
 ghost use Rattle.term_forms.specs.SeenForms.{heap_form};
 ghost use Rattle.heap_cells.specs.Cells.{kind_of};
 ghost use Rattle.heap_cells.specs.HeapMap.{IsBounded, address_at, form_at, elements_at, IsSpelled, nth_element};
 ghost use Rattle.dump_sections.specs.Index.{IsBuiltOver, sections_in};
-ghost use Rattle.heap_cells.specs.Loading.{heap_bodies, IsHeapAnswerFor, bodies_at, IsHeapFor, IsHeapAt, LoadsHeapFor, LoadsHeapAt, RefusesLarge};
+ghost use Rattle.heap_cells.specs.Loading.{heap_bodies, IsHeapAnswerFor, bodies_at, IsHeapFor, IsHeapAt, LoadsHeapFor, LoadsHeapAt, IsTextFault, RefusesLarge};
 ghost use Rattle.heap_cells.specs.Inner.Faults.{IsOfTheTexts};
 ghost use Rattle.heap_cells.specs.Targets.{number, target, slot_target, kid_target, KeepsElement, IsSeatOf, IsWithin, targets_at, AreWithin};
 
@@ -113,6 +113,32 @@ impl Heap {
             return Err(HeapFault::from(BodyFault::from(large)));
         }
         let texts = read_texts(alloc, dumps, index, heap, literals, limits)?;
+        Heap::new(alloc, texts, limits.dense())
+    }
+
+    /// The heap whose lines are those of a text that is in memory, such as
+    /// some lines of a heap that is too large to be loaded. It has no literals.
+    ///
+    /// The heap lines are those of [`Heap::load`]. `TooDense` is returned exactly when they and the elements of
+    /// their forms are more than the limit, unless `Memory` is returned, which may come from any allocation.
+    pub fn of_lines(
+        alloc: Global,
+        lines: Vec<u8>,
+        enc: Enc,
+        limits: &Limits,
+    ) -> Result<Heap, HeapFault>
+        requires { length lines.items ≤ limits.now.section }
+        ensures answer { IsHeapAnswerFor enc lines.items [] limits.now.dense result }
+        ensures enc { IfOk result (λ heap. heap.enc ≡ enc) }
+        ensures fault { IfErr result IsTextFault }
+    {
+        let texts = Texts {
+            heap: lines,
+            literals: Vec::new(alloc),
+            enc,
+        };
+        // What holds of each limit is known where one of them is named.
+        let _ = limits.section();
         Heap::new(alloc, texts, limits.dense())
     }
 

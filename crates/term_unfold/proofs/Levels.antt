@@ -83,7 +83,7 @@ trees-same f g (child ∷ children) h =
     ap (λ t. more t (trees f children)) (h child) ∙ ap (more (g child)) (trees-same f g children h)
 
 -- a node is of a cell that lengthens the path
-abbrev IsOpening : List Cell → List ℕ → Opening → Type 0
+abbrev pub IsOpening : List Cell → List ℕ → Opening → Type 0
 IsOpening heap path (leaf value) = Unit {0}
 IsOpening heap path (bad a why) = Unit {0}
 IsOpening heap path (node a kind children) = IsPath heap (a ∷ path)
@@ -131,7 +131,7 @@ cell_member-is : (heap : List Cell) (path : List ℕ) (a : ℕ) (number : Option
 cell_member-is heap path a None is = tt
 cell_member-is heap path a (Some n) is = member-is heap path a (form_at heap n) (is refl)
 
-opening-is : (heap : List Cell) (path : List ℕ) (child : Child) → IsPath heap path → IsOpening heap path (opening heap path child)
+pub opening-is : (heap : List Cell) (path : List ℕ) (child : Child) → IsPath heap path → IsOpening heap path (opening heap path child)
 opening-is heap path (Term (Ref a)) is =
     unless-is heap path (is_on a path) a (cell_opening heap path a (form_at_address heap a)) (λ off. cell-is heap path a (number_at heap a) (λ some. (some, off, is)))
 opening-is heap path (Item parent (Ref a)) is =

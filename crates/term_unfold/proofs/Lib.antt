@@ -5,6 +5,9 @@ pub mod InnerNodes
 pub mod FirstNodes
 pub mod Levels
 pub mod Opens
+pub mod PartFaces
+pub mod PartPreviews
+pub mod Parts
 pub mod Previewed
 pub mod Sized
 pub mod Stepping

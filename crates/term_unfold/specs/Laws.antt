@@ -34,9 +34,10 @@ abbrev pub joined : Trees → Trees → Trees
 joined none others = others
 joined (more tree trees) others = more tree (joined trees others)
 
--- the first n nodes of two trees look alike, and stand at the same places
-abbrev pub LookAlike : (Value → List ℕ) → ℕ → Tree → Tree → Type 0
-LookAlike leaf n one other = take n (nodes_of leaf one) ≡ take n (nodes_of leaf other)
+-- the first n nodes of two trees, whose leaves may have their texts from
+-- two functions, look alike, and stand at the same places
+abbrev pub LookAlike : (Value → List ℕ) → (Value → List ℕ) → ℕ → Tree → Tree → Type 0
+LookAlike leaf leaf' n one other = take n (nodes_of leaf one) ≡ take n (nodes_of leaf' other)
 
 -- a hash map with these children
 abbrev pub hash_map : Trees → Tree

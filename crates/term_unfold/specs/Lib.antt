@@ -3,6 +3,7 @@ pub mod Inner
 pub mod Laws
 pub mod Leaves
 pub mod Maps
+pub mod Parts
 pub mod Places
 pub mod Rules
 pub mod Terms

@@ -1,7 +1,7 @@
 // The walk that judges.
 ghost use Rattle.std.specs.Prelude.{◌≡◌, ◌<◌, ◌≤◌, [], length, IfSome, MatchOption};
 ghost use Rattle.term_forms.specs.Seen.{element};
-ghost use Rattle.term_unfold.specs.Inner.Coming.{to_come, entered_by, verdict_on, coming_with, VisitsIn};
+ghost use Rattle.term_unfold.specs.Inner.Coming.{to_come, entered_by, verdict_on, coming_with, HasLeafIn, VisitsIn};
 ghost use Rattle.term_unfold.specs.Inner.Entries.{Serves};
 ghost use Rattle.term_unfold.specs.Inner.Children.{child_shown, IsChild};
 ghost use Rattle.term_unfold.specs.Inner.Openings.{MayEnter};
@@ -16,8 +16,8 @@ use crate::verdict::Verdict;
 use heap_cells::Heap;
 use term_forms::shapes::Elem;
 
-// The child that comes next. Leaves the innermost cells that have none left.
-fn next_child<'h>(heap: &'h Heap, path: &mut Path) -> Option<Child<'h>>
+/// The child that comes next. Leaves the innermost cells that have none left.
+pub(crate) fn next_child<'h>(heap: &'h Heap, path: &mut Path) -> Option<Child<'h>>
     requires serves { Serves heap.now path.old.cells }
     ensures cells { path.new.cells ≡ path.old.cells }
     ensures few { IfSome result (λ _. length path.new.entries ≤ length heap.now.cells) }
@@ -59,29 +59,31 @@ fn judge_opened(opened: Opened) -> Verdict
     }
 }
 
-// Visits a child of the innermost cell, and returns the verdict on it.
-fn visit(heap: &Heap, path: &mut Path, child: Child<'_>) -> Verdict
+/// Visits a child of the innermost cell, and returns what it was opened as.
+pub(crate) fn visit(heap: &Heap, path: &mut Path, child: Child<'_>) -> Opened
     requires serves { Serves heap.now path.old.cells }
     requires few { length path.old.entries ≤ length heap.now.cells }
     requires placed { IsChild heap.now.cells child }
     ensures cells { path.new.cells ≡ path.old.cells }
     ensures visits { VisitsIn heap.now path.old path.new (child_shown heap.now.cells child.entry) result }
+    ensures inside { HasLeafIn heap.now.cells result }
 {
     let opened = open_child(heap, path, child);
     enter(path, opened, false);
-    judge_opened(opened)
+    opened
 }
 
-// Visits a root, and returns the verdict on it.
-fn visit_root(heap: &Heap, path: &mut Path, root: &Elem<'_>) -> Verdict
+/// Visits a root, and returns what it was opened as.
+pub(crate) fn visit_root(heap: &Heap, path: &mut Path, root: &Elem<'_>) -> Opened
     requires serves { Serves heap.now path.old.cells }
     requires few { length path.old.entries ≤ length heap.now.cells }
     ensures cells { path.new.cells ≡ path.old.cells }
     ensures visits { VisitsIn heap.now path.old path.new (Term (element root.now)) result }
+    ensures inside { HasLeafIn heap.now.cells result }
 {
     let opened = open_root(heap, path, root);
     enter(path, opened, false);
-    judge_opened(opened)
+    opened
 }
 
 /// The first bad node among the first `budget` nodes of the root. The walk is left where it stops.
@@ -92,7 +94,8 @@ pub(crate) fn first_bad(heap: &Heap, path: &mut Path, root: &Elem<'_>, budget: u
     ensures cells { path.new.cells ≡ path.old.cells }
     ensures verdict { result ≡ verdict (unfolding_of heap.now.cells (element root.now)) budget }
 {
-    let mut found = visit_root(heap, path, root);
+    let opened = visit_root(heap, path, root);
+    let mut found = judge_opened(opened);
     for _ in 1..budget {
         if let Verdict::Bad(_, _) = found {
             return found;
@@ -100,7 +103,8 @@ pub(crate) fn first_bad(heap: &Heap, path: &mut Path, root: &Elem<'_>, budget: u
         let Some(child) = next_child(heap, path) else {
             return Verdict::Clean;
         };
-        found = visit(heap, path, child);
+        let opened = visit(heap, path, child);
+        found = judge_opened(opened);
     }
     found
 }

@@ -2,6 +2,7 @@
 ghost use Rattle.std.specs.Prelude.{◌≡◌, ℕ, ◌+◌, List};
 ghost use Rattle.heap_cells.specs.Cells.{Cell};
 ghost use Rattle.term_unfold.specs.Laws.{FollowsRules, IsEnough, Suits, joined, LookAlike, hash_map, behind_inner};
+ghost use Rattle.term_unfold.specs.Parts.{IsPartOfHeap, IsEnoughOf};
 ghost use Rattle.term_unfold.specs.Rules.{Child};
 ghost use Rattle.term_unfold.specs.Terms.{IsTerm};
 ghost use Rattle.term_unfold.specs.Text.{show};
@@ -20,10 +21,17 @@ pub fn unfolding_is_finite()
 {}
 
 /// The text over n nodes depends on the first n nodes alone: two terms whose first n nodes look
-/// alike and stand at the same places have the same text, whatever the texts of leaves are.
+/// alike and stand at the same places have the same text. What a leaf looks like is its text,
+/// which may come from another function for each of the two.
 pub fn text_is_of_first_nodes()
-    ensures { (leaf : Value → List ℕ) (t u : Tree) (n : ℕ)
-        → IsTerm t → IsTerm u → LookAlike leaf n t u → show leaf t n ≡ show leaf u n }
+    ensures { (leaf leaf' : Value → List ℕ) (t u : Tree) (n : ℕ)
+        → IsTerm t → IsTerm u → LookAlike leaf leaf' n t u → show leaf t n ≡ show leaf' u n }
+{}
+
+/// A part of a heap, of which each cell is one of the heap's, gives the heap's answer to each
+/// root, unless one of the nodes within the budget asks for a cell that only the heap has.
+pub fn part_is_enough()
+    ensures { (part whole : List Cell) → IsPartOfHeap part whole → IsEnoughOf part whole }
 {}
 
 /// A hash map that begins with an inner node has the text of the map that begins with

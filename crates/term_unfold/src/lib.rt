@@ -14,6 +14,7 @@
 #![tactic(auto)]
 
 mod children;
+mod gaps;
 mod judging;
 mod laws;
 mod leaves;
@@ -26,7 +27,10 @@ mod turns;
 mod verdict;
 mod walker;
 
-pub use laws::{inner_node_is_its_children, text_is_of_first_nodes, unfolding_is_finite};
+pub use gaps::{Addresses, PartWalker};
+pub use laws::{
+    inner_node_is_its_children, part_is_enough, text_is_of_first_nodes, unfolding_is_finite,
+};
 pub use leaves::why_text;
 pub use node::NodeKind;
 pub use verdict::Verdict;

@@ -11,7 +11,7 @@ use Rattle.cell_records.specs.declared.cells.Slot.TheVariants as slot
 use Rattle.cell_records.specs.declared.cells.Span.{Span}
 use Rattle.heap_cells.specs.declared.gathering.Gathering.{Gathering}
 use Rattle.std.specs.List.{filter_map}
-use Rattle.heap_cells.specs.Cells.{Cell, cell_of, weight_of, weight, line_cells}
+use Rattle.heap_cells.specs.Cells.{Cell, cell_of, weight_of, line_cells}
 use Rattle.heap_cells.specs.Inner.Parts.{IsPart}
 use Rattle.heap_cells.specs.declared.texts.Texts.{Texts}
 use Rattle.heap_cells.specs.Inner.Texts.{text_of, seam_of, weight_in}

@@ -1,7 +1,10 @@
 -- What the stack stands for: the nodes that the walk has yet to come to.
-use Rattle.std.specs.Prelude.{◌≡◌, Bool, List, [], ◌∷◌, ◌++◌, drop}
+use Rattle.std.specs.Prelude.{◌≡◌, ℕ, ◌<◌, Bool, List, [], ◌∷◌, ◌++◌, drop, length, Option, None, Some}
+use Rattle.std.specs.Option.{option_and_then}
+use Rattle.term_forms.specs.Forms.{HeapForm, SubBin}
 use Rattle.heap_cells.specs.Cells.{Cell}
-use Rattle.heap_cells.specs.HeapMap.{HeapMap}
+use Rattle.heap_cells.specs.HeapMap.{HeapMap, form_at}
+use Rattle.cell_records.specs.declared.cells.Why.TheVariants.{Missing}
 use Rattle.heap_cells.specs.Targets.{number}
 use Rattle.term_unfold.specs.declared.openings.Opened.{Opened}
 use Rattle.term_unfold.specs.declared.openings.Opened.TheVariants as opened
@@ -10,6 +13,7 @@ use Rattle.term_unfold.specs.declared.verdict.Verdict.{Verdict}
 use Rattle.term_unfold.specs.declared.verdict.Verdict.TheVariants as verdicts
 use Rattle.term_unfold.specs.Inner.Entries.{path_of, Entered}
 use Rattle.term_unfold.specs.Inner.Children.{children_of}
+use Rattle.term_unfold.specs.Parts.{asked, if_lacking}
 use Rattle.term_unfold.specs.Rules.{Child}
 use Rattle.term_unfold.specs.Trees.{Tree, Bad, Trees, pre, pre_all}
 use Rattle.term_unfold.specs.Unfolding.{trees, unfolded}
@@ -46,13 +50,34 @@ abbrev pub or_else : Verdict → Verdict → Verdict
 or_else verdicts.Clean later = later
 or_else (verdicts.Bad address why) later = verdicts.Bad address why
 
--- a child below the entries was visited: its first node has
--- given the verdict, and its other nodes are still to come
-pub record Visits (heap : List Cell) (before after : List Entry) (child : Child) (verdict : Verdict) : Type 0 where
+-- the address of a further cell to which a form refers, if it is a sub binary
+abbrev pub asked_by : Option HeapForm → Option ℕ
+asked_by (Some (SubBin address offset size)) = Some address
+asked_by form = None
+
+-- what a child asks for by itself
+abbrev pub asked_on : List Cell → Opened → Option ℕ
+asked_on heap (opened.Bad address Missing) = Some address
+asked_on heap (opened.Leaf ix) = asked_by (form_at heap (number ix))
+asked_on heap found = None
+
+-- what a child asks for, if the heap lacks it and `has` tells it
+abbrev pub gap_on : (ℕ → Bool) → List Cell → Opened → Option ℕ
+gap_on has heap found = option_and_then (if_lacking has heap) (asked_on heap found)
+
+-- the cell of a leaf is one of the heap's
+abbrev pub HasLeafIn : List Cell → Opened → Type 0
+HasLeafIn heap (opened.Leaf ix) = number ix < length heap
+HasLeafIn heap found = Unit {0}
+
+-- a child below the entries was visited and opened as this: its
+-- first node is what was opened, and its other nodes are still to come
+pub record Visits (heap : List Cell) (before after : List Entry) (child : Child) (found : Opened) : Type 0 where
   pub node : Tree
   pub first : coming_with heap before child ≡ node ∷ to_come heap after
-  pub seen : verdict ≡ seen node
+  pub seen : verdict_on found ≡ seen node
+  pub asks : asked_on heap found ≡ asked node
 
 -- a child below the cells that a walk is in was visited
-abbrev pub VisitsIn : HeapMap → Entered → Entered → Child → Verdict → Type 0
-VisitsIn heap before after child verdict = Visits heap.cells before.entries after.entries child verdict
+abbrev pub VisitsIn : HeapMap → Entered → Entered → Child → Opened → Type 0
+VisitsIn heap before after child found = Visits heap.cells before.entries after.entries child found

@@ -1,0 +1,4 @@
+-- Laws of the definitions, each with its proof, for the proofs of who makes a table of lines.
+pub mod Firsts
+pub mod Lines
+pub mod Places

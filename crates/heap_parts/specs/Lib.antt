@@ -1,0 +1,5 @@
+pub mod Faults
+pub mod Firsts
+pub mod Inner
+pub mod Laws
+pub mod Places

@@ -1,0 +1,20 @@
+//! A part of a heap that is too large to be loaded: the cells that some roots need within a budget of nodes.
+//!
+//! [`load_part`] gathers lines of the whole heap, depth first from the roots, and makes a heap of them. Whether they
+//! are enough is then decided by walks over that heap: where one asks for a cell that only the whole heap has, the
+//! lines below that cell are gathered too. So nothing has to be known about which lines are gathered, but that each
+//! is the first with its address.
+#![tactic(auto)]
+
+mod faults;
+mod gathering;
+mod joining;
+mod laws;
+mod lines;
+mod reading;
+
+pub use faults::PartFault;
+pub use joining::load_part;
+pub use laws::one_line_is_one_cell;
+pub use lines::WholeHeap;
+pub use reading::push_text;

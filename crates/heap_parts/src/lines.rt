@@ -1,0 +1,54 @@
+// The lines of a heap that isn't loaded.
+ghost use Rattle.std.specs.Prelude.{◌≡◌, ℕ, Bool, List, ◌++◌, ◌+◌, ◌-◌, ◌*◌, ◌<◌, ◌≤◌, length, OnOk, IfErr};
+ghost use Rattle.std.specs.Option.{option_to_list};
+ghost use Rattle.dump_io.specs.Dumps.{Now, ReadsAtMost};
+ghost use Rattle.binary_payloads.specs.declared.enc.Enc.{Enc};
+ghost use Rattle.heap_cells.specs.Cells.{Cell, first_cells, line_cells};
+ghost use Rattle.term_unfold.specs.Parts.{has_cell};
+ghost use Rattle.heap_parts.specs.Firsts.{MayGrow, IsLawful, IsPushed, IsPartCause, ReadsLines};
+
+use crate::faults::PartFault;
+use dump_io::Dumps;
+use term_forms::Enc;
+use term_unfold::Addresses;
+
+/// The lines of a heap that isn't loaded, and where each can be read in the open file.
+pub trait WholeHeap: Addresses {
+    /// The table may serve for what is open.
+    ghost serves: { Self → Now → Type 0 };
+
+    /// For what is open these are the cells of all heap lines, including repeated addresses.
+    ghost has_lines: { Self → Now → List Cell → Type 0 };
+
+    /// How the payloads are written.
+    ghost written: { Self → Enc };
+
+    /// States a law and does no work: an address is known exactly if one of the lines has it.
+    fn law(&self)
+        ensures { (now : Now) (all : List Cell)
+            → has_lines self.now now all → IsLawful (Self.known self.now) all };
+
+    fn enc(&self) -> Enc
+        ensures { result ≡ written self.now };
+
+    /// Reads the first line with an address, and appends its text and an end of line. Each
+    /// line of the text that it appends to has its own.
+    fn push_line<D: Dumps>(
+        &self,
+        dumps: &mut D,
+        addr: u64,
+        limit: usize,
+        lines: &mut Vec<u8>,
+    ) -> Result<(), PartFault>
+        requires over { serves self.now (D.state dumps.old).now }
+        requires room { MayGrow limit lines.old.items }
+        ensures reads { ReadsLines (D.state dumps.old) (D.state dumps.new) limit lines.old.items }
+        ensures fault { IfErr result (IsPartCause (D.state dumps.old) (D.state dumps.new)) }
+        ensures spent { OnOk result (ReadsAtMost (D.state dumps.old) (D.state dumps.new)
+            (16 * (length lines.new.items - length lines.old.items))) }
+        ensures room { OnOk result (MayGrow limit lines.new.items) }
+        ensures longer { OnOk result (length lines.old.items < length lines.new.items) }
+        ensures pushed { OnOk result ((all : List Cell)
+            → has_lines self.now (D.state dumps.old).now all
+            → IsPushed (written self.now) all addr lines.old.items lines.new.items) };
+}
