@@ -1,7 +1,8 @@
 -- The lines of a heap's body that refer to binaries.
-use Rattle.std.specs.Prelude.{◌≡◌, ℕ, ◌-◌, ◌<◌, Bool, List, codes, Option, slice_index}
+use Rattle.std.specs.Prelude.{◌≡◌, ℕ, ◌-◌, ◌<◌, Bool, List, [], ◌∷◌, ◌++◌, codes, Option, slice_index, if◌then◌else◌}
 use Rattle.std.specs.List.{filter_map}
 use Rattle.std.specs.Option.{option_and_then, option_map}
+use Rattle.memchr.specs.Find.{OccursAt}
 use Rattle.dump_io.specs.Letters.{letter}
 use Rattle.dump_io.specs.Lines.{raw_lines, text_of}
 use Rattle.binary_payloads.specs.declared.enc.Enc.{Enc}
@@ -25,6 +26,14 @@ line_references enc bytes = filter_map (line_reference enc) (raw_lines bytes)
 -- the byte before a place is `:`
 abbrev pub IsMarked : List ℕ → ℕ → Type 0
 IsMarked bytes place = (0 < place) × (slice_index bytes (place - 1) ≡ letter (codes ":"))
+
+-- the mark of a whole binary, or of a part of one: what follows the address in a line that refers to it
+abbrev pub mark : Bool → List ℕ
+mark whole = codes ":Y" ++ (if whole then letter (codes "c") else letter (codes "s")) ∷ []
+
+-- one of these two marks stands at a place
+abbrev pub IsReferenceMark : List ℕ → ℕ → Type 0
+IsReferenceMark bytes k = (whole : Bool) × OccursAt bytes (mark whole) k
 
 -- the reference of a range: its address, for a whole binary or for a part
 abbrev pub range_reference : Bool → List ℕ → Option Reference
