@@ -1,9 +1,4 @@
-pub mod Adding
-pub mod Closing
-pub mod Leading
 pub mod Missed
 pub mod Once
 pub mod Ordered
 pub mod Rooted
-pub mod Slots
-pub mod Spreading

@@ -1,16 +1,18 @@
 -- What one root after the others reaches is what all of them reach.
 use Rattle.std.proofs.Common.{◌≡◌, ℕ, Bool, true, false, ◌||◌, ◌↔◌, List, [], ◌∷◌, ◌++◌, refl, sym, ◌∙◌, ap, inl, inr}
-use Rattle.std.proofs.lemmas.Bool.{false≢true, or_cases, or_left, or_right}
+use Rattle.std.proofs.lemmas.Bool.{eq-eqb, eqb-true, false≢true, or_cases, or_left, or_right}
 use Rattle.std.proofs.lemmas.List.Folds.{list_any-append}
 use Rattle.term_forms.specs.Elements.{Element}
 use Rattle.heap_cells.specs.Cells.{Cell}
 use Rattle.heap_cells.specs.HeapMap.{HeapMap}
-use Rattle.heap_cells.specs.Targets.{At, target}
-use Rattle.heap_reach.specs.Reached.{is_in, IsIn, Begun, Reached, Reaching, root, step}
+use Rattle.heap_cells.specs.Targets.{Target, At, target}
+use Rattle.cell_graphs.specs.Graphs.{Graph, LeadsWithin, graph_of}
+use Rattle.cell_graphs.specs.Reached.{is_in, IsIn, Reached, root, step}
+use Rattle.cell_graphs.specs.Laws.HeapGraphs.{heap-within}
+use Rattle.heap_reach.specs.Reached.{Begun, Reaching}
 use Rattle.heap_reach.specs.Rounds.{is_at, is_referred, reached_by, IsReachOf}
-use Rattle.heap_reach.proofs.Closing.{found-reached, reached-found}
-use Rattle.heap_reach.proofs.Leading.{at-is_at, is_at-true}
-use Rattle.heap_reach.proofs.Spreading.{reached-closed, reached-more}
+use Rattle.cell_graphs.specs.Laws.Closing.{found-reached, reached-found}
+use Rattle.cell_graphs.specs.Laws.Spreading.{reached-closed, reached-more}
 
 bool-same : (a b : Bool) → (a ≡ true → b ≡ true) → (b ≡ true → a ≡ true) → a ≡ b
 bool-same true b there back = sym (there refl)
@@ -21,11 +23,24 @@ not-true : (b : Bool) → (b ≡ true → ⊥) → b ≡ false
 not-true true other = absurd (other refl)
 not-true false other = refl
 
+is_at-true : (n : ℕ) (t : Target) → is_at n t ≡ true → t ≡ At n
+is_at-true n (At m) is = ap At (eqb-true m n is)
+is_at-true n t is = absurd (false≢true is)
+
+at-is_at : (n : ℕ) (t : Target) → t ≡ At n → is_at n t ≡ true
+at-is_at n t is = ap (is_at n) is ∙ eq-eqb n n refl
+
 module _ (cells : List Cell) where
+  abbrev graph : Graph
+  graph = graph_of cells
+
+  within : LeadsWithin graph
+  within = heap-within cells
+
   -- no root reaches a cell
   none-reached : (n : ℕ) → reached_by cells [] n ≡ true → ⊥
   none-reached n is =
-      reached-closed cells (λ k. is_referred cells [] k ≡ true) (λ k. ⊥) n (found-reached cells (is_referred cells []) n is) (λ k referred. false≢true referred) (λ m k none leads. none)
+      reached-closed graph (λ k. is_referred cells [] k ≡ true) (λ k. ⊥) n (found-reached graph (is_referred cells []) n is) (λ k referred. false≢true referred) (λ m k none leads. none)
 
   module _ (marks : List Bool) (roots : List Element) (e : Element) (exact : (k : ℕ) → is_in marks k ≡ reached_by cells roots k) where
     abbrev all : List Element
@@ -42,28 +57,28 @@ module _ (cells : List Cell) where
         referred-parts k
         ∙ or_right (is_referred cells roots k) (is_at k (target cells e) || false) (or_left (is_at k (target cells e)) false (at-is_at k (target cells e) is))
 
-    begun-reached : (k : ℕ) → Begun cells marks e k → Reached cells (λ j. is_referred cells all j ≡ true) k
+    begun-reached : (k : ℕ) → Begun cells marks e k → Reached graph (λ j. is_referred cells all j ≡ true) k
     begun-reached k (inl was) =
-        reached-more cells (λ j. is_referred cells roots j ≡ true) (λ j. is_referred cells all j ≡ true) k referred-before
-        (found-reached cells (is_referred cells roots) k (sym (exact k) ∙ was))
+        reached-more graph (λ j. is_referred cells roots j ≡ true) (λ j. is_referred cells all j ≡ true) k referred-before
+        (found-reached graph (is_referred cells roots) k (sym (exact k) ∙ was))
     begun-reached k (inr is) = root k (referred-last k is)
 
     referred-begun : (k : ℕ) → is_referred cells all k ≡ true → Begun cells marks e k
     referred-begun k is =
         elim (or_cases (is_referred cells roots k) (is_at k (target cells e) || false) (sym (referred-parts k) ∙ is)) [
-          | inl before ↦ inl (exact k ∙ reached-found cells (is_referred cells roots) k (root k before))
+          | inl before ↦ inl (exact k ∙ reached-found graph (is_referred cells roots) within k (root k before))
           | inr last ↦ elim (or_cases (is_at k (target cells e)) false last) [
             | inl here ↦ inr (is_at-true k (target cells e) here)
             | inr none ↦ absurd (false≢true none)
           ]
         ]
 
-    one-more : (n : ℕ) (b : Bool) → ((b ≡ true) ↔ Reached cells (Begun cells marks e) n) → b ≡ reached_by cells all n
+    one-more : (n : ℕ) (b : Bool) → ((b ≡ true) ↔ Reached graph (Begun cells marks e) n) → b ≡ reached_by cells all n
     one-more n b reached =
         bool-same b (reached_by cells all n)
-        (λ is. reached-found cells (is_referred cells all) n
-        (reached-closed cells (Begun cells marks e) (Reached cells (λ j. is_referred cells all j ≡ true)) n (reached.0 is) begun-reached (λ m k r leads. step m k r leads)))
-        (λ is. reached.1 (reached-more cells (λ j. is_referred cells all j ≡ true) (Begun cells marks e) n referred-begun (found-reached cells (is_referred cells all) n is)))
+        (λ is. reached-found graph (is_referred cells all) within n
+        (reached-closed graph (Begun cells marks e) (Reached graph (λ j. is_referred cells all j ≡ true)) n (reached.0 is) begun-reached (λ m k r leads. step m k r leads)))
+        (λ is. reached.1 (reached-more graph (λ j. is_referred cells all j ≡ true) (Begun cells marks e) n referred-begun (found-reached graph (is_referred cells all) n is)))
 
 -- where no cell is marked
 pub IsReachOf-none : (reach : Reaching) → ((n : ℕ) → is_in reach.marks n ≡ false) → IsReachOf reach []
@@ -71,7 +86,7 @@ IsReachOf-none reach none n = none n ∙ sym (not-true (reached_by reach.heap.ce
 
 -- one root more
 pub IsReachOf-more : (old new : Reaching) (roots : List Element) (e : Element) → new.heap ≡ old.heap
-    → ((n : ℕ) → IsIn new.marks n ↔ Reached old.heap.cells (Begun old.heap.cells old.marks e) n) → IsReachOf old roots → IsReachOf new (roots ++ e ∷ [])
+    → ((n : ℕ) → IsIn new.marks n ↔ Reached (graph_of old.heap.cells) (Begun old.heap.cells old.marks e) n) → IsReachOf old roots → IsReachOf new (roots ++ e ∷ [])
 IsReachOf-more old new roots e same reached exact n =
     one-more old.heap.cells old.marks roots e exact n (is_in new.marks n) (reached n)
     ∙ ap (λ (h : HeapMap). reached_by h.cells (roots ++ e ∷ []) n) (sym same)

@@ -1,8 +1,8 @@
--- The addresses of the cells that aren't in a set, and how
--- many are in one. A set of cells is a test of their numbers.
-use Rattle.std.specs.Prelude.{◌≡◌, ◌↔◌, Contains, ℕ, zero, suc, ◌+◌, ◌<◌, ◌==◌, nat_lt, Bool, true, false, if◌then◌else◌, List, [], ◌∷◌, ◌++◌, Option, Some}
+-- The addresses of the cells that aren't in a set. A set of cells is a test of their numbers.
+use Rattle.std.specs.Prelude.{◌≡◌, ◌↔◌, Contains, ℕ, zero, suc, ◌<◌, ◌==◌, nat_lt, Bool, false, if◌then◌else◌, List, [], ◌∷◌, ◌++◌, Option, Some}
 use Rattle.heap_cells.specs.Cells.{Cell}
 use Rattle.heap_cells.specs.HeapMap.{HeapMap, address_at}
+pub use Rattle.cell_graphs.specs.Counts.{count_below, one_if}
 
 -- the address, unless the cell is in the set
 abbrev pub missed : Bool → Option ℕ → List ℕ
@@ -38,13 +38,3 @@ ascending (x ∷ xs) = inserted x (ascending xs)
 -- the addresses of a heap's own cells that aren't in the set, ascending
 abbrev pub unreached_of : HeapMap → (ℕ → Bool) → List ℕ
 unreached_of heap set = ascending (missed_below heap.cells set heap.own)
-
--- 1 if this is so, and otherwise 0
-abbrev pub one_if : Bool → ℕ
-one_if true = 1
-one_if false = 0
-
--- how many of the first n cells are in the set
-abbrev pub count_below : (ℕ → Bool) → ℕ → ℕ
-count_below set zero = 0
-count_below set (suc n) = count_below set n + one_if (set n)

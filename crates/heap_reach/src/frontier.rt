@@ -1,7 +1,7 @@
 // The marked cells of a heap, and those of them that wait to be visited.
 ghost use Rattle.std.specs.Prelude.{◌≡◌, ℕ, ◌<◌, ◌^◌, [], ◌∷◌, length, IfOk, IfSome, MatchOption, slice_index_or, false};
-ghost use Rattle.heap_reach.specs.Reached.{IsIn};
-ghost use Rattle.heap_reach.specs.Inner.Frontiers.{Adds};
+ghost use Rattle.cell_graphs.specs.Reached.{IsIn};
+ghost use Rattle.cell_graphs.specs.Frontiers.{Adds};
 
 use std::alloc::{AllocError, Global};
 use std::marker::Model;
@@ -16,7 +16,7 @@ pub(crate) struct Marked {
 impl Model for Marked {
     ghost use Rattle.std.specs.Prelude.{reverse};
     ghost use Rattle.std.specs.Vec.{vec_capacity};
-    ghost use Rattle.heap_reach.specs.Inner.Frontiers.{Frontier, IsTied};
+    ghost use Rattle.cell_graphs.specs.Frontiers.{Frontier, IsTied};
 
     ghost Value = { Frontier };
 

@@ -18,8 +18,6 @@
 #![tactic(auto)]
 
 mod frontier;
-mod laws;
 mod reach;
 
-pub use laws::{reached_is_least, rounds_find_the_reached};
 pub use reach::Reach;

@@ -1,87 +1,57 @@
 // Marking what the roots of a heap reach.
-ghost use Rattle.std.specs.Prelude.{◌≡◌, ℕ, ◌<◌, [], ◌∷◌, ◌++◌, length, map, All, IfOk, OnOk, false};
+ghost use Rattle.std.specs.Prelude.{◌≡◌, ℕ, ◌<◌, [], ◌∷◌, ◌++◌, length, Some, IfSome, IfOk, OnOk, false};
 ghost use Rattle.std.specs.List.Sorted.{IsStrictlyIncreasing};
 ghost use Rattle.term_forms.specs.Seen.{element};
 ghost use Rattle.heap_cells.specs.HeapMap.{address_at};
-ghost use Rattle.heap_cells.specs.Targets.{At, number, target, slot_target, IsWithin};
-ghost use Rattle.heap_reach.specs.Reached.{is_in, IsIn, Begun, Leads, IsAmong, IsBinAt, IsPartOf, AreReached};
+ghost use Rattle.heap_cells.specs.Targets.{At, number, target};
+ghost use Rattle.cell_graphs.specs.Graphs.{Leads, LeadsWithin, graph_of};
+ghost use Rattle.cell_graphs.specs.Reached.{is_in, IsIn, AreReached};
+ghost use Rattle.cell_graphs.specs.Frontiers.{Adds, IsLooked, IsSettled};
+ghost use Rattle.heap_reach.specs.Reached.{Begun};
 ghost use Rattle.heap_reach.specs.Rounds.{IsReachOf, AddsRoots};
 ghost use Rattle.heap_reach.specs.Unreached.{missed, missed_below, unreached_of, AreMissed};
-ghost use Rattle.heap_reach.specs.Inner.Frontiers.{Adds, IsLooked, IsSettled};
 
 use crate::frontier::Marked;
-use heap_cells::{CellIx, Heap, Kind, Seat, Slot};
+use cell_graphs::CellGraph;
+use heap_cells::{CellIx, Heap, Seat};
 use std::alloc::{AllocError, Global};
 use std::marker::Model;
-use term_forms::shapes::{Elem, Form};
+use term_forms::shapes::Elem;
 
-// Adds the cell to which an element refers.
-fn add_slot(marked: &mut Marked, slot: Slot)
-    requires { IsWithin (length marked.old.marks) (slot_target slot) }
-    ensures { Adds marked.old marked.new (λ n. slot_target slot ≡ At n) }
+// Adds the cell to which a place leads.
+fn add_lead(marked: &mut Marked, lead: Option<u32>)
+    requires { IfSome lead (λ n. n < length marked.old.marks) }
+    ensures { Adds marked.old marked.new (λ n. lead ≡ Some n) }
 {
-    if let Slot::Cell(ix) = slot {
-        marked.add(ix.number());
-    }
-}
-
-fn add_slots(marked: &mut Marked, slots: &[Slot])
-    requires { All (λ slot. IsWithin (length marked.old.marks) (slot_target slot)) slots.now }
-    ensures { Adds marked.old marked.new (IsAmong (map slot_target slots.now)) }
-{
-    for slot in slots {
-        add_slot(marked, *slot);
-    }
-}
-
-// Adds the heap binary at an address.
-fn add_bin(heap: &Heap, marked: &mut Marked, addr: u64)
-    requires { length marked.old.marks ≡ length heap.now.cells }
-    ensures { Adds marked.old marked.new (IsBinAt heap.now.cells addr) }
-{
-    if let Seat::Cell(bin) = heap.at(addr) {
-        if let Some(Kind::HeapBin) = heap.kind(bin) {
-            marked.add(bin.number());
-        }
-    }
-}
-
-// Adds the heap binary of which a cell is a part. Checking
-// the kind first means that no other cell's text is split.
-fn add_whole(heap: &Heap, marked: &mut Marked, ix: CellIx)
-    requires cells { length marked.old.marks ≡ length heap.now.cells }
-    requires cell { number ix < length heap.now.cells }
-    ensures { Adds marked.old marked.new (IsPartOf heap.now.cells (number ix)) }
-{
-    let Some(Kind::SubBin) = heap.kind(ix) else {
-        return;
-    };
-    if let Some(Form::SubBin(addr, _, _)) = heap.form(ix) {
-        add_bin(heap, marked, addr);
+    if let Some(n) = lead {
+        marked.add(n);
     }
 }
 
 // Adds the cells to which a cell leads.
-fn look_at(heap: &Heap, marked: &mut Marked, ix: CellIx)
-    requires cells { length marked.old.marks ≡ length heap.now.cells }
-    requires cell { number ix < length heap.now.cells }
-    ensures { Adds marked.old marked.new (Leads heap.now.cells (number ix)) }
+fn look_at<G: CellGraph>(graph: &G, marked: &mut Marked, cell: u32)
+    requires within { LeadsWithin (G.graph graph.now) }
+    requires cells { length marked.old.marks ≡ length (G.graph graph.now) }
+    requires cell { cell < length (G.graph graph.now) }
+    ensures { Adds marked.old marked.new (Leads (G.graph graph.now) cell) }
 {
-    add_slots(marked, heap.slots(ix));
-    add_whole(heap, marked, ix);
+    for place in 0..graph.places(cell) {
+        add_lead(marked, graph.lead(cell, place));
+    }
 }
 
 // Visits each cell that waits, including those that start to wait meanwhile.
-fn spread(heap: &Heap, marked: &mut Marked)
-    requires cells { length marked.old.marks ≡ length heap.now.cells }
-    requires room { marked.old.reserved ≡ length heap.now.cells }
-    requires looked { IsLooked heap.now.cells marked.old }
-    ensures settled { IsSettled heap.now.cells marked.new }
+fn spread<G: CellGraph>(graph: &G, marked: &mut Marked)
+    requires within { LeadsWithin (G.graph graph.now) }
+    requires cells { length marked.old.marks ≡ length (G.graph graph.now) }
+    requires room { marked.old.reserved ≡ length (G.graph graph.now) }
+    requires looked { IsLooked (G.graph graph.now) marked.old }
+    ensures settled { IsSettled (G.graph graph.now) marked.new }
     ensures reserved { marked.new.reserved ≡ marked.old.reserved }
-    ensures reached { AreReached heap.now.cells (IsIn marked.old.marks) marked.new.marks }
+    ensures reached { AreReached (G.graph graph.now) (IsIn marked.old.marks) marked.new.marks }
 {
-    while let Some(n) = marked.pop() {
-        look_at(heap, marked, heap.cell(n));
+    while let Some(cell) = marked.pop() {
+        look_at(graph, marked, cell);
     }
 }
 
@@ -135,8 +105,9 @@ pub struct Reach<'h> {
 // as the heap has cells. A cell waits at most once, so there are never more.
 impl<'h> Model for Reach<'h> {
     ghost use Rattle.heap_cells.specs.HeapMap.{IsBounded};
+    ghost use Rattle.cell_graphs.specs.Graphs.{graph_of};
+    ghost use Rattle.cell_graphs.specs.Frontiers.{IsSettled};
     ghost use Rattle.heap_reach.specs.Reached.{Reaching};
-    ghost use Rattle.heap_reach.specs.Inner.Frontiers.{IsSettled};
 
     ghost Value = { Reaching };
 
@@ -146,7 +117,7 @@ impl<'h> Model for Reach<'h> {
       reserved = r.marked.reserved;
     } };
 
-    ghost invariant = { λ r. IsBounded r.heap.now × IsSettled r.heap.now.cells r.marked };
+    ghost invariant = { λ r. IsBounded r.heap.now × IsSettled (graph_of r.heap.now.cells) r.marked };
 }
 
 impl<'h> Reach<'h> {
@@ -169,7 +140,7 @@ impl<'h> Reach<'h> {
         ensures heap { self.new.heap ≡ self.old.heap }
         ensures reserved { self.new.reserved ≡ self.old.reserved }
         ensures reached { let cells = self.old.heap.cells in
-            AreReached cells (Begun cells self.old.marks (element root.entry)) self.new.marks }
+            AreReached (graph_of cells) (Begun cells self.old.marks (element root.entry)) self.new.marks }
         ensures roots { AddsRoots self.old self.new (element root.entry ∷ []) }
     {
         add_root(self.heap, &mut self.marked, &root);

@@ -1,5 +1,5 @@
 use Rattle.std.proofs.Common.{◌≡◌}
-use Rattle.heap_reach.specs.Reached.{is_in}
+use Rattle.cell_graphs.specs.Reached.{is_in}
 use Rattle.heap_reach.specs.Unreached.{missed_below}
 use Rattle.heap_reach.proofs.reach.missed_cells.Given as goal
 

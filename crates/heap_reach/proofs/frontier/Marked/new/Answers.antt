@@ -1,5 +1,5 @@
 use Rattle.std.proofs.Common.{arith}
-use Rattle.heap_reach.proofs.Adding.{IsTied-none}
+use Rattle.cell_graphs.specs.Laws.Adding.{IsTied-none}
 use Rattle.heap_reach.proofs.frontier.Marked.new.Goals as goal
 
 pub invariant_of-result : goal.invariant_of-result

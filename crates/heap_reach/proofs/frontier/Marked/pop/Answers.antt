@@ -1,6 +1,6 @@
 use Rattle.std.proofs.Common.{[], length, ◌≡◌, subst, MatchOption, ◌<◌, reverse, rules}
-use Rattle.heap_reach.specs.Inner.Frontiers.{Frontier}
-use Rattle.heap_reach.proofs.Adding.{IsTied-pop, IsTied-popped}
+use Rattle.cell_graphs.specs.Frontiers.{Frontier}
+use Rattle.cell_graphs.specs.Laws.Adding.{IsTied-pop, IsTied-popped}
 use Rattle.heap_reach.proofs.frontier.Marked.pop.Goals as goal
 
 pub invariant_of-self : goal.invariant_of-self

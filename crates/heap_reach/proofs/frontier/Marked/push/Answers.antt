@@ -1,7 +1,7 @@
 use Rattle.std.proofs.Common.{◌≡◌, ◌<◌, length, get_or, set, true, false, ap, ◌∙◌, subst, sym, arith}
 use Rattle.std.specs.Prelude.{reverse}
-use Rattle.heap_reach.specs.Inner.Frontiers.{Frontier, IsTied}
-use Rattle.heap_reach.proofs.Adding.{reverse-push, IsTied-room, IsTied-push}
+use Rattle.cell_graphs.specs.Frontiers.{Frontier, IsTied}
+use Rattle.cell_graphs.specs.Laws.Adding.{reverse-push, IsTied-room, IsTied-push}
 use Rattle.heap_reach.proofs.frontier.Marked.push.Goals as goal
 
 pub push_reserved-requires : goal.push_reserved-requires

@@ -1,6 +1,7 @@
 use Rattle.std.proofs.Common.{◌≡◌, ℕ, ◌↔◌, ◌∙◌, ap, subst, Contains}
 use Rattle.std.proofs.lemmas.List.Sorted.{Contains-permutation, IsNonDecreasingBy-from_sort, IsPermutation-sym}
-use Rattle.heap_reach.specs.Reached.{Reaching, is_in}
+use Rattle.cell_graphs.specs.Reached.{is_in}
+use Rattle.heap_reach.specs.Reached.{Reaching}
 use Rattle.heap_reach.specs.Unreached.{ascending, unreached_of, IsMissed}
 use Rattle.heap_reach.proofs.Missed.{missed-sorted}
 use Rattle.heap_reach.proofs.Once.{rising-sorted}

@@ -1,0 +1,6 @@
+pub mod Counts
+pub mod Frontiers
+pub mod Graphs
+pub mod Laws
+pub mod Reached
+pub mod Rounds

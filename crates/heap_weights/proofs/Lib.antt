@@ -1,0 +1,10 @@
+pub mod Going
+pub mod Holding
+pub mod Labelling
+pub mod Reachers
+pub mod Reaching
+pub mod Resting
+pub mod Summing
+pub mod Taking
+pub mod Tallying
+pub mod Turning

@@ -1,0 +1,5 @@
+pub mod Holders
+pub mod Inner
+pub mod Laws
+pub mod Parts
+pub mod Shares

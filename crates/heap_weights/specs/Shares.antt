@@ -1,0 +1,54 @@
+-- How many cells and words are held.
+use Rattle.std.specs.Prelude.{◌≡◌, ℕ, zero, suc, ◌+◌, ◌==◌, Bool, true, false, List, [], ◌∷◌, length}
+use Rattle.cell_graphs.specs.Counts.{count_below}
+use Rattle.cell_graphs.specs.Graphs.{Graph}
+use Rattle.cell_words.specs.Words.{words_at}
+use Rattle.heap_weights.specs.declared.holders.Holder.{Holder}
+use Rattle.heap_weights.specs.declared.holders.Holder.TheVariants.{Several, Part}
+use Rattle.heap_weights.specs.declared.shares.Shares.{Shares}
+use Rattle.heap_weights.specs.declared.shares.Weight.{Weight}
+use Rattle.heap_weights.specs.Holders.{is_held, label_of}
+use Rattle.heap_weights.specs.Parts.{holder_of}
+
+-- the words, if this is so
+abbrev pub words_if : Bool → ℕ → ℕ
+words_if true words = words
+words_if false words = 0
+
+-- how many words those of the first n cells have that are in a set
+abbrev pub words_below : List ℕ → (ℕ → Bool) → ℕ → ℕ
+words_below words set zero = 0
+words_below words set (suc n) = words_below words set n + words_if (set n) (words_at words n)
+
+-- those of the first n cells that are in a set
+abbrev pub weight_below : List ℕ → (ℕ → Bool) → ℕ → Weight
+weight_below words set n = record { cells = count_below set n; words = words_below words set n }
+
+-- whether two holders are the same
+abbrev pub is_same : Holder → Holder → Bool
+is_same a b = label_of a == label_of b
+
+-- the cells of one holder among the first n
+abbrev pub weight_of : List ℕ → (ℕ → Holder) → Holder → ℕ → Weight
+weight_of words holders holder n = weight_below words (λ k. is_same holder (holders k)) n
+
+-- what each of so many parts alone holds, given the number of the first
+abbrev pub weights_from : ℕ → List ℕ → (ℕ → Holder) → ℕ → ℕ → List Weight
+weights_from part words holders n zero = []
+weights_from part words holders n (suc count) =
+    weight_of words holders (Part part) n ∷ weights_from (suc part) words holders n count
+
+-- what so many parts hold of the first n cells
+pub record AreSharesFor (words : List ℕ) (holders : ℕ → Holder) (parts n : ℕ) (shares : Shares) : Type 0 where
+  -- each of them alone
+  pub alone : shares.alone.items ≡ weights_from 0 words holders n parts
+  -- two or more of them
+  pub shared : shares.shared ≡ weight_of words holders Several n
+  -- one of them or more
+  pub reached : shares.reached ≡ weight_below words (λ k. is_held (holders k)) n
+  -- and all that there is
+  pub own : shares.own ≡ weight_below words (λ k. true) n
+
+-- what the parts with these roots hold of the first n cells
+abbrev pub AreShares : Graph → List ℕ → ℕ → List ℕ → Shares → Type 0
+AreShares graph words n roots shares = AreSharesFor words (holder_of graph roots) (length roots) n shares
