@@ -1,5 +1,5 @@
 -- What is heard of lines has the addresses and offsets of the heap lines.
-use Rattle.std.proofs.Common.{◌≡◌, ◌⊎◌, inl, inr, ℕ, zero, suc, ◌+◌, ◌-◌, ◌<◌, ◌==◌, nat_eq, Bool, true, false, not, ◌||◌, cond, if◌then◌else◌, List, [], ◌∷◌, ◌++◌, length, take, drop, map, Option, None, Some, refl, sym, ◌∙◌, ap, ap₂, append_assoc, append-nil, take-append-drop, arith}
+use Rattle.std.proofs.Common.{◌≡◌, ◌⊎◌, ℕ, suc, ◌+◌, ◌-◌, ◌<◌, ◌==◌, nat_eq, Bool, true, false, not, ◌||◌, cond, if◌then◌else◌, List, [], ◌∷◌, ◌++◌, length, take, drop, map, Option, None, Some, refl, sym, ◌∙◌, ap, ap₂, append_assoc, append-nil, take-append-drop, arith}
 use Rattle.std.specs.Prelude.{find}
 use Rattle.std.specs.List.{filter_map, cons_option, ends_with, position_or_len}
 use Rattle.std.specs.Option.{option_map, option_and_then}

@@ -1,1 +1,2 @@
 pub mod HearFacts
+pub mod WholeFacts

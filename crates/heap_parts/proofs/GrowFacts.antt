@@ -1,13 +1,16 @@
 -- A text of first lines that grows, and what is enough for some roots.
-use Rattle.std.proofs.Common.{◌≡◌, ℕ, ◌+◌, ◌-◌, ◌*◌, ◌^◌, ◌<◌, ◌≤◌, Bool, false, if◌then◌else◌, List, [], ◌∷◌, length, take, Option, None, Some, slice_index_or, refl, sym, ◌∙◌, ap, ap₂, subst, append-nil, arith}
+use Rattle.std.proofs.Common.{◌≡◌, ℕ, ◌+◌, ◌-◌, ◌*◌, ◌^◌, ◌<◌, ◌≤◌, Bool, false, if◌then◌else◌, List, [], ◌∷◌, length, take, map, get_or, Option, None, Some, refl, sym, ◌∙◌, ap, ap₂, subst, append-nil, arith}
 use Rattle.std.specs.Option.{option_and_then, option_or}
+use Rattle.std.proofs.lemmas.List.{length-map, get_or-map}
 use Rattle.dump_io.specs.Dumps.{Now, DeviceState, ReadsAtMost}
 use Rattle.dump_io.specs.Laws.Reads.{ReadsAtMost-none, ReadsAtMost-both, ReadsAtMost-within}
 use Rattle.binary_payloads.specs.declared.enc.Enc.{Enc}
 use Rattle.term_forms.specs.Seen.{element}
 use Rattle.term_forms.specs.declared.shapes.Elem.{Elem}
+use Rattle.term_forms.specs.declared.shapes.Elem.TheVariants.{Nil}
+use Rattle.binary_refs.specs.Previews.{binaries}
 use Rattle.heap_cells.specs.Cells.{Cell, first_cells, line_cells, cells_of}
-use Rattle.term_unfold.specs.Parts.{IsPartOfHeap, IsEnoughOf, has_cell, asked, if_lacking, gap_at, first_gap}
+use Rattle.term_unfold.specs.Parts.{IsPartOfHeap, IsEnoughOf, has_cell, asked, if_lacking, gap_at, gap_of, first_gap}
 use Rattle.term_unfold.specs.Trees.{Tree, pre}
 use Rattle.term_unfold.specs.Unfolding.{unfolding_of}
 use Rattle.heap_parts.specs.declared.faults.PartFault.{PartFault}
@@ -15,6 +18,7 @@ use Rattle.heap_parts.specs.declared.faults.PartFault.TheVariants.{Read}
 use Rattle.heap_parts.specs.Inner.Growing.{Grows, FindsNoGap}
 use Rattle.heap_parts.specs.Firsts.{AreFirstLines, MayGrow, IsPushed, IsEnoughFor, IsLawful, IsPartCause, ReadsLines}
 use Rattle.heap_parts.specs.Laws.Firsts.{firsts-part, firsts-more}
+use Rattle.heap_parts.proofs.CountFacts.{fewer-binaries}
 
 -- nothing was gathered
 pub Grows-none : (has_lines : Now → List Cell → Type 0) (enc : Enc) (limit : ℕ) (a : DeviceState) (lines : List ℕ) → MayGrow limit lines → a.taken < 2 ^ 64 → Grows has_lines enc limit a a lines lines
@@ -80,17 +84,20 @@ gap-nodes f g part (node ∷ nodes) h = ap₂ option_or (gap-ask f g part (asked
 
 pub enough-for : (all part : List Cell) (known : ℕ → Bool) (roots : List Elem) (n : ℕ) (enc : Enc) (lines : List ℕ)
     → ((part whole : List Cell) → IsPartOfHeap part whole → IsEnoughOf part whole) → part ≡ cells_of enc lines [] → AreFirstLines all (line_cells enc lines) → IsLawful known all
-    → FindsNoGap known part roots n → IsEnoughFor all part roots n
+    → FindsNoGap known part roots n → IsEnoughFor all part (map element roots) n
 enough-for all part known roots n enc lines law is firsts lawful none =
     let whole = first_cells [] all in
-    let of : IsPartOfHeap part whole =
-    subst (λ cells. IsPartOfHeap cells whole) (sym (is ∙ ap (first_cells []) (append-nil (line_cells enc lines)))) (firsts-part all (line_cells enc lines) firsts) in
+    let cells : part ≡ first_cells [] (line_cells enc lines) = is ∙ ap (first_cells []) (append-nil (line_cells enc lines)) in
+    let of : IsPartOfHeap part whole = subst (λ cells. IsPartOfHeap cells whole) (sym cells) (firsts-part all (line_cells enc lines) firsts) in
     record {
       part_of = of;
-      answers = λ k d inside dump index e marked.
-          let root = element (slice_index_or roots k d) in
+      fewer = subst (λ cells. length (binaries cells) ≤ length (binaries whole)) (sym cells) (fewer-binaries all (line_cells enc lines) firsts);
+      answers = λ root among dump index e marked.
+          let inside : among.0 < length roots = omega (arith, among.1, length-map roots element) in
+          let here : element (get_or roots among.0 Nil) ≡ root = sym (get_or-map element roots among.0 Nil root inside) ∙ among.2 in
           law part whole of dump index e root n marked
-          (gap-nodes (has_cell whole) known part (take n (pre (unfolding_of part root))) (λ a. sym (lawful.same a)) ∙ none.none k d inside);
+          (gap-nodes (has_cell whole) known part (take n (pre (unfolding_of part root))) (λ a. sym (lawful.same a))
+          ∙ ap (λ r. gap_of known part r n) (sym here) ∙ none.none among.0 Nil inside);
     }
 
 -- a text with no lines

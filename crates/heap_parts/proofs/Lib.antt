@@ -1,2 +1,3 @@
+pub mod CountFacts
 pub mod GrowFacts
 pub mod ReadFacts

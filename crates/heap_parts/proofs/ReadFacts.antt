@@ -1,5 +1,5 @@
 -- A line that is read in pieces.
-use Rattle.std.proofs.Common.{◌≡◌, ℕ, zero, suc, ◌+◌, ◌-◌, ◌<◌, ◌≤◌, List, [], ◌∷◌, ◌++◌, length, take, drop, length-drop, true, false, Some, slice_get, unwrap_or, refl, sym, ◌∙◌, ap, subst, append_assoc, append-nil, drop-drop, take-append-drop, arith}
+use Rattle.std.proofs.Common.{◌≡◌, ℕ, zero, suc, ◌+◌, ◌-◌, ◌<◌, ◌≤◌, List, [], ◌∷◌, ◌++◌, length, take, drop, length-drop, length-append, true, false, Some, slice_get, unwrap_or, refl, sym, ◌∙◌, ap, subst, append_assoc, append-nil, drop-drop, take-append-drop, arith}
 use Rattle.std.specs.Prelude.{◌≢◌, All, nat_eq, slice_index, if◌then◌else◌}
 use Rattle.std.specs.List.{between, ends_with}
 use Rattle.std.proofs.lemmas.Bool.{eqb-true}
@@ -14,7 +14,8 @@ use Rattle.dump_io.specs.Laws.Lines.{length-text_of, raw_lines-ended, raw_lines-
 use Rattle.dump_io.specs.Laws.Reads.{take-two}
 use Rattle.heap_parts.specs.Laws.Lines.{drop-front, take-front}
 use Rattle.heap_parts.specs.Inner.Pieces.{BeginsLine, IsFirstLine, IsCutAt}
-use Rattle.body_lines.specs.Lines.{HasNoLf}
+use Rattle.body_lines.specs.Laws.{AreWhole-ended}
+use Rattle.body_lines.specs.Lines.{AreWhole, HasNoLf}
 use Rattle.heap_parts.specs.Places.{first_raw, ended_text}
 
 after-first : (c : ℕ) (lines : List (List ℕ)) → unwrap_or (slice_get (lines_after c lines) 0) [] ≡ c ∷ unwrap_or (slice_get lines 0) []
@@ -137,3 +138,12 @@ text-cut old lines raw kept last len is count cut pushed =
     let front : kept ≡ old ++ text_of raw =
     cut ∙ ap (take (length old + len)) is ∙ take-behind old raw len ∙ ap (λ n. old ++ take n raw) size ∙ ap (λ l. old ++ l) (text-front raw) in
     pushed ∙ ap (λ l. l ++ (cr ∷ lf ∷ [])) front ∙ append_assoc old (text_of raw) (cr ∷ lf ∷ [])
+
+-- CR and LF are appended at least
+pub longer-cut : (old lines kept last : List ℕ) (upto : ℕ) → length old ≤ upto → upto ≤ length lines → kept ≡ take upto lines → last ≡ kept ++ (cr ∷ lf ∷ []) → length old + 2 ≤ length last
+longer-cut old lines kept last upto least within cut pushed =
+    omega (arith, least, ap length pushed, length-append kept (cr ∷ lf ∷ []), ap length cut, length-take-le upto lines within)
+
+-- what ends in LF is whole lines
+pub whole-cut : (kept last : List ℕ) → last ≡ kept ++ (cr ∷ lf ∷ []) → AreWhole last
+whole-cut kept last pushed = subst AreWhole (append_assoc kept (cr ∷ []) (lf ∷ []) ∙ sym pushed) (AreWhole-ended (kept ++ cr ∷ []))

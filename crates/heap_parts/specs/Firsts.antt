@@ -1,12 +1,12 @@
 -- Which cells make a part of a larger heap: for an address, the first of the larger heap's lines.
-use Rattle.std.specs.Prelude.{◌≡◌, ℕ, ◌+◌, ◌-◌, ◌*◌, ◌==◌, ◌<◌, ◌≤◌, Bool, List, [], ◌∷◌, ◌++◌, length, find, slice_index_or, Option, Some}
+use Rattle.std.specs.Prelude.{◌≡◌, ℕ, ◌+◌, ◌-◌, ◌*◌, ◌==◌, ◌≤◌, Bool, List, [], ◌∷◌, ◌++◌, length, find, Contains, Option, Some}
 use Rattle.std.specs.Option.{option_to_list}
 use Rattle.dump_io.specs.Dumps.{DeviceState, DeviceFailed, ReadsAtMost}
 use Rattle.dump_sections.specs.Index.{Contents}
 use Rattle.binary_payloads.specs.declared.enc.Enc.{Enc}
 use Rattle.body_lines.specs.Lines.{AreWhole}
-use Rattle.term_forms.specs.Seen.{element}
-use Rattle.term_forms.specs.declared.shapes.Elem.{Elem}
+use Rattle.binary_refs.specs.Previews.{binaries}
+use Rattle.term_forms.specs.Elements.{Element}
 use Rattle.heap_cells.specs.Cells.{Cell, first_cells, line_cells}
 use Rattle.heap_parts.specs.declared.faults.PartFault.{PartFault}
 use Rattle.heap_parts.specs.declared.faults.PartFault.TheVariants.{Read}
@@ -47,8 +47,10 @@ pub record MayGrow (limit : ℕ) (text : List ℕ) : Type 0 where
 abbrev pub ReadsLines : DeviceState → DeviceState → ℕ → List ℕ → Type 0
 ReadsLines before after limit old = ReadsAtMost before after (16 * (limit + 4 - length old))
 
--- a part of the whole heap that is enough for some roots, within n nodes of each
-pub record IsEnoughFor (all part : List Cell) (roots : List Elem) (n : ℕ) : Type 0 where
+-- a part of the heap with all these lines that is enough for some roots, within n nodes of each: it has no more
+-- references to binaries, and the answer over it to each of these roots is the answer over the whole heap
+pub record IsEnoughFor (all part : List Cell) (roots : List Element) (n : ℕ) : Type 0 where
   pub part_of : IsPartOfHeap part (first_cells [] all)
-  pub answers : (k : ℕ) (d : Elem) → k < length roots → (dump : List ℕ) (index : Contents) (enc : Enc) (marked : Bool)
-      → answer_in dump index enc part (element (slice_index_or roots k d)) n marked ≡ answer_in dump index enc (first_cells [] all) (element (slice_index_or roots k d)) n marked
+  pub fewer : length (binaries part) ≤ length (binaries (first_cells [] all))
+  pub answers : (root : Element) → Contains roots root → (dump : List ℕ) (index : Contents) (enc : Enc) (marked : Bool)
+      → answer_in dump index enc part root n marked ≡ answer_in dump index enc (first_cells [] all) root n marked

@@ -1,7 +1,8 @@
 // Loading a part of a heap that is enough for some roots.
-ghost use Rattle.std.specs.Prelude.{◌≡◌, [], List, ◌+◌, ◌*◌, ◌<◌, ◌≤◌, length, None, IfOk, IfErr, OnOk};
+ghost use Rattle.std.specs.Prelude.{◌≡◌, [], List, ◌+◌, ◌*◌, ◌<◌, ◌≤◌, length, map, None, IfOk, IfErr, OnOk};
 ghost use Rattle.dump_io.specs.Dumps.{Now, ReadsAtMost};
 ghost use Rattle.heap_cells.specs.Cells.{Cell};
+ghost use Rattle.term_forms.specs.Seen.{element};
 ghost use Rattle.heap_cells.specs.Loading.{IsHeapAnswerFor};
 ghost use Rattle.heap_parts.specs.Inner.Growing.{Grows, FindsNoGap, IsOwnFault};
 ghost use Rattle.heap_parts.specs.Firsts.{MayGrow, IsEnoughFor, IsLawful, IsPartCause, ReadsLines};
@@ -86,9 +87,9 @@ fn gather_roots<W: WholeHeap, D: Dumps>(
     Ok(())
 }
 
-/// Loads a part of the whole heap that is enough for these roots, within so many nodes of each: an
-/// answer over the part, with the previews of its cells, is the answer over the whole heap with the
-/// previews of that.
+/// Loads a part of the whole heap that is enough for these roots, within so many nodes of each: the
+/// answer to each of them over the part, with the previews of its cells, is the answer over the whole
+/// heap with the previews of that. The part has no more references to binaries than the whole heap.
 ///
 /// What a depth-first search from each root finds is gathered first. Mostly that is enough; walks over
 /// the part tell, and as long as one of them asks for a cell that only the whole heap has, what is below
@@ -110,7 +111,7 @@ pub fn load_part<W: WholeHeap, D: Dumps>(
     ensures fault { IfErr result (IsPartCause (D.state dumps.old) (D.state dumps.new)) }
     ensures enough { IfOk result (λ heap. (all : List Cell)
         → W.has_lines whole.now (D.state dumps.old).now all
-        → IsEnoughFor all heap.cells roots.now budget) }
+        → IsEnoughFor all heap.cells (map element roots.now) budget) }
     ensures enc { IfOk result (λ heap. heap.enc ≡ W.written whole.now) }
 {
     part_is_enough();

@@ -3,6 +3,7 @@ ghost use Rattle.std.specs.Prelude.{◌≡◌, ◌+◌, ◌-◌, ◌<◌, ◌≤
 ghost use Rattle.std.specs.List.{between};
 ghost use Rattle.dump_io.specs.Dumps.{size_of, IsOpen, DeviceFailed, ReadsAtMost, IfTold};
 ghost use Rattle.dump_io.specs.Lines.{text_of};
+ghost use Rattle.body_lines.specs.Lines.{AreWhole};
 ghost use Rattle.heap_parts.specs.Inner.Growing.{IsOwnFault};
 ghost use Rattle.heap_parts.specs.Firsts.{IsPartCause};
 ghost use Rattle.heap_parts.specs.Inner.Pieces.{IsCutAt};
@@ -131,6 +132,8 @@ pub fn push_text<D: Dumps>(
     ensures spent { OnOk result (ReadsAtMost (D.state dumps.old) (D.state dumps.new)
         (length lines.new.items - length lines.old.items + length piece.old)) }
     ensures few { OnOk result (length lines.new.items ≤ limit) }
+    ensures longer { OnOk result (length lines.old.items + 2 ≤ length lines.new.items) }
+    ensures whole { OnOk result (AreWhole lines.new.items) }
     ensures pushed { OnOk result (IfTold (D.state dumps.old).now (λ dump.
         lines.new.items ≡ lines.old.items ++ ended_text (text_of (first_raw (between from upto dump))))) }
 {

@@ -10,4 +10,6 @@ mod dump_write_calls;
 #[cfg(test)]
 mod heap_cells_calls;
 #[cfg(test)]
+mod heap_parts_calls;
+#[cfg(test)]
 mod root_views_calls;

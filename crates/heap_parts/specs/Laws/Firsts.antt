@@ -59,7 +59,7 @@ any-push p (y ∷ ys) x none not =
 abbrev was_seen : List ℕ → ℕ → Bool
 was_seen seen a = list_any (λ address. address == a) seen
 
-keeps-first : (seen : List ℕ) (cells : List Cell) (a : ℕ) → was_seen seen a ≡ false → first_with (first_cells seen cells) a ≡ first_with cells a
+pub keeps-first : (seen : List ℕ) (cells : List Cell) (a : ℕ) → was_seen seen a ≡ false → first_with (first_cells seen cells) a ≡ first_with cells a
 keeps-first seen [] a new = refl
 keeps-first seen (cell ∷ cells) a new =
     by (λ other. keeps-first (seen ++ cell.address ∷ []) cells a (any-push (λ address. address == a) seen cell.address new other)) (cell.address == a) refl (was_seen seen cell.address) refl

@@ -1,0 +1,28 @@
+-- The lines of one body, and from where to where a line is read.
+use Rattle.std.specs.Prelude.{◌≡◌, ◌≤◌, ℕ, List, min, Option, None, Some}
+use Rattle.std.specs.Ordering.{nat_cmp}
+use Rattle.dump_io.specs.Dumps.{Now, size_of, IfTold}
+use Rattle.dump_sections.specs.Bodies.{body_in}
+use Rattle.dump_sections.specs.Sections.{Section}
+use Rattle.first_sections.specs.Places.{place_by}
+use Rattle.heap_lines.specs.Wholes.{bytes_of, IsTableIn}
+use Rattle.heap_lines.specs.declared.whole.BodyLines.{BodyLines}
+use Rattle.heap_lines.specs.declared.whole.HeapLines.{HeapLines}
+
+-- the lines are those of a section that may be missing
+pub record AreBodyLines (now : Now) (found : Option Section) (lines : BodyLines) : Type 0 where
+  pub within : lines.end ≤ size_of now
+  pub body : (dump : List ℕ) → bytes_of lines dump ≡ body_in dump found
+  pub table : IfTold now (λ dump. IsTableIn dump lines)
+
+-- where the line that begins at the first of two places there is begins, and where its body ends;
+-- no line is read past the end of its body
+abbrev pub span_in : Option ℕ → ℕ → Option ℕ → ℕ → ℕ × ℕ
+span_in (Some place) end other end' = (min place end, end)
+span_in None end (Some place) end' = (min place end', end')
+span_in None end None end' = (end', end')
+
+-- the same for the first line with an address: the heap's lines come before those of the literals
+abbrev pub span_of : HeapLines → ℕ → ℕ × ℕ
+span_of lines address =
+    span_in (place_by nat_cmp address lines.heap.table) lines.heap.end (place_by nat_cmp address lines.literals.table) lines.literals.end

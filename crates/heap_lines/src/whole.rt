@@ -1,0 +1,177 @@
+// The heap lines of a process and of the literals, which stay in the file.
+ghost use Rattle.std.specs.Prelude.{◌≡◌, ◌+◌, ◌-◌, ◌<◌, ◌≤◌, length, min, IfErr, IfOk, IfSome};
+ghost use Rattle.dump_io.specs.Dumps.{Now, size_of, IsOpen, ReadsAtMost, IfTold};
+ghost use Rattle.dump_sections.specs.Bodies.{body_size, section_in};
+ghost use Rattle.dump_sections.specs.Index.{IsBuiltOver, sections_in};
+ghost use Rattle.heap_cells.specs.Loading.{enc_of, heap_section, literals_section};
+ghost use Rattle.heap_parts.specs.Firsts.{IsLawful};
+ghost use Rattle.heap_lines.specs.Tables.{IsTableCauseOf};
+ghost use Rattle.heap_lines.specs.Wholes.{cells_in, is_known, HasLines, IsTableIn, ServesLines};
+ghost use Rattle.heap_lines.specs.Inner.Bodies.{AreBodyLines, span_of};
+
+use crate::faults::TableFault;
+use crate::line_table::LineTable;
+use dump_io::Dumps;
+use dump_sections::Index;
+use heap_cells::enc_of;
+use heap_parts::{PartFault, WholeHeap, push_text};
+use std::alloc::Global;
+use term_forms::Enc;
+use term_unfold::Addresses;
+
+// The heap lines of a body, and the offsets between which it lies.
+#[derive(Drop)]
+struct BodyLines {
+    table: LineTable,
+    from: u64,
+    end: u64,
+}
+
+/// Where the heap lines of a process and those of the literals begin, which stay in the file. Of equal addresses the
+/// first line counts, and the lines of the heap come before those of the literals.
+#[derive(Drop)]
+pub struct HeapLines {
+    heap: BodyLines,
+    literals: BodyLines,
+    enc: Enc,
+}
+
+// The lines of the body between two offsets.
+fn lines_between<D: Dumps>(
+    alloc: Global,
+    dumps: &mut D,
+    from: u64,
+    end: u64,
+) -> Result<BodyLines, TableFault>
+    requires open { IsOpen (D.state dumps.old).now }
+    requires within { end ≤ size_of (D.state dumps.old).now }
+    requires ordered { from ≤ end }
+    ensures reads { ReadsAtMost (D.state dumps.old) (D.state dumps.new) (end - from) }
+    ensures fault { IfErr result (IsTableCauseOf (D.state dumps.old) (D.state dumps.new)) }
+    ensures from { IfOk result (λ lines. lines.from ≡ from) }
+    ensures end { IfOk result (λ lines. lines.end ≡ end) }
+    ensures table { IfOk result (λ lines. IfTold (D.state dumps.old).now
+        (λ dump. IsTableIn dump lines)) }
+{
+    let table = LineTable::read(alloc, dumps, from, end)?;
+    Ok(BodyLines { table, from, end })
+}
+
+// The lines of the section at a place. A missing section counts as empty.
+fn body_lines<D: Dumps>(
+    alloc: Global,
+    dumps: &mut D,
+    index: &Index,
+    place: Option<usize>,
+) -> Result<BodyLines, TableFault>
+    requires over { IsBuiltOver (D.state dumps.old).now index.now }
+    requires place { IfSome place (λ i. i < length index.now.headers) }
+    ensures reads { ReadsAtMost (D.state dumps.old) (D.state dumps.new)
+        (body_size (section_in index.now place)) }
+    ensures fault { IfErr result (IsTableCauseOf (D.state dumps.old) (D.state dumps.new)) }
+    ensures lines { IfOk result
+        (AreBodyLines (D.state dumps.old).now (section_in index.now place)) }
+{
+    let Some(i) = place else {
+        return lines_between(alloc, dumps, 0, 0);
+    };
+    let section = index.section(i);
+    lines_between(alloc, dumps, section.body, section.end)
+}
+
+// A place, or the end if it is past that.
+fn within(place: u64, end: u64) -> u64
+    ensures { result ≡ min place end }
+{
+    if place < end { place } else { end }
+}
+
+// Where the first line with an address begins, and where its body ends. If no line has it, both are the same.
+fn span(lines: &HeapLines, address: u64) -> (u64, u64)
+    ensures span { result ≡ span_of lines.now address }
+    ensures ordered { result.0 ≤ result.1 }
+    ensures inside { (now : Now) → ServesLines lines.now now → result.1 ≤ size_of now }
+{
+    if let Some(place) = lines.heap.table.find(address) {
+        return (within(place, lines.heap.end), lines.heap.end);
+    }
+    let end = lines.literals.end;
+    match lines.literals.table.find(address) {
+        Some(place) => (within(place, end), end),
+        None => (end, end),
+    }
+}
+
+impl HeapLines {
+    /// Reads the heap of a process and the literals once, in pieces of at most 65,536 bytes, whatever their
+    /// lengths: the first `proc_heap` section with exactly the pid as its id, and the first `literals`
+    /// section. A missing section counts as empty. The index was built over the open file, which stays open.
+    ///
+    /// If the device tells the dump, these are the lines of which `heap_map` has the cells, and an address is
+    /// known exactly if that has a cell there. `Read` is returned only if the device's count of faults rose,
+    /// and `Memory` may come from any allocation. Whatever it returns, at most as many bytes are read as the
+    /// two bodies have.
+    pub fn load<D: Dumps>(
+        alloc: Global,
+        dumps: &mut D,
+        index: &Index,
+        pid: &[u8],
+    ) -> Result<HeapLines, TableFault>
+        requires over { IsBuiltOver (D.state dumps.old).now index.now }
+        ensures reads { ReadsAtMost (D.state dumps.old) (D.state dumps.new)
+            (body_size (heap_section pid.now (sections_in index.now))
+            + body_size (literals_section (sections_in index.now))) }
+        ensures fault { IfErr result (IsTableCauseOf (D.state dumps.old) (D.state dumps.new)) }
+        ensures serves { IfOk result (λ lines. ServesLines lines (D.state dumps.old).now) }
+        ensures enc { IfOk result (λ lines. lines.enc ≡ enc_of index.now.version) }
+        ensures lines { IfOk result (λ lines. IfTold (D.state dumps.old).now (λ dump.
+            HasLines lines (D.state dumps.old).now (cells_in pid.now dump))) }
+        ensures known { IfOk result (λ lines. IfTold (D.state dumps.old).now (λ dump.
+            IsLawful (is_known lines) (cells_in pid.now dump))) }
+    {
+        let heap_at = index.first(b"proc_heap", Some(pid));
+        let literals_at = index.first_tag(b"literals");
+        let heap = body_lines(alloc, dumps, index, heap_at)?;
+        let literals = body_lines(alloc, dumps, index, literals_at)?;
+        Ok(HeapLines {
+            heap,
+            literals,
+            enc: enc_of(index.version()),
+        })
+    }
+}
+
+impl Addresses for HeapLines {
+    ghost known = { is_known };
+
+    fn has(&self, addr: u64) -> bool {
+        self.heap.table.find(addr).is_some() || self.literals.table.find(addr).is_some()
+    }
+}
+
+impl WholeHeap for HeapLines {
+    ghost serves = { ServesLines };
+
+    ghost has_lines = { HasLines };
+
+    ghost written = { λ lines. lines.enc };
+
+    fn law(&self) {}
+
+    fn enc(&self) -> Enc {
+        self.enc
+    }
+
+    // A line is read in pieces of so few bytes that what is read in vain stays within 16 times what is appended.
+    fn push_line<D: Dumps>(
+        &self,
+        dumps: &mut D,
+        addr: u64,
+        limit: usize,
+        lines: &mut Vec<u8>,
+    ) -> Result<(), PartFault> {
+        let mut piece = [0u8; 28];
+        let (from, upto) = span(self, addr);
+        push_text(dumps, from, upto, &mut piece, limit, lines)
+    }
+}
