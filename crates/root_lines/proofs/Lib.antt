@@ -1,0 +1,4 @@
+mod HearFacts
+mod KeepFacts
+mod LineFacts
+mod SomeFacts
