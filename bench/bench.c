@@ -119,6 +119,20 @@ static int write_list(const char *name, long cells, int shuffled) {
     return end_dump(f);
 }
 
+// Lists of a hundred cells, in lines of 40 bytes, and ten messages that refer to some of them.
+static int write_messages(const char *name, long cells) {
+    FILE *f = fopen(name, "w");
+    if (!f) return 1;
+    fprintf(f, "=erl_crash_dump:0.5\n=proc:<0.1.0>\nState: Waiting\n=proc_messages:<0.1.0>\n");
+    for (long i = 0; i < 10; i++) fprintf(f, "H%lX:N\n", address(cells / 1000 * i * 100, 0));
+    fprintf(f, "=proc_heap:<0.1.0>\n");
+    for (long i = 0; i < cells; i++) {
+        if (i % 100 < 99) fprintf(f, "%012lX:lI%010ld|H%012lX\n", address(i, 0), i, address(i + 1, 0));
+        else fprintf(f, "%012lX:lI%022ld|N\n", address(i, 0), i);
+    }
+    return end_dump(f);
+}
+
 static int write_tuples(const char *name, long cells) {
     FILE *f = begin_process(name);
     if (!f) return 1;
@@ -323,6 +337,33 @@ static int reread(const char *name, int kinds, int look) {
     return 0;
 }
 
+// The addresses of the heap lines of a file, and nothing else.
+static int addresses(const char *name) {
+    static char piece[65536];
+    int f = open(name, O_RDONLY);
+    unsigned long address = 0, sum = 0;
+    long count = 0;
+    int leads = 1;
+    for (ssize_t n; (n = read(f, piece, sizeof piece)) > 0;)
+        for (char *p = piece, *end = piece + n; p < end;) {
+            if (!leads) {
+                char *lf = memchr(p, '\n', end - p);
+                if (!lf) break;
+                p = lf + 1, leads = 1, address = 0;
+                continue;
+            }
+            char c = *p++;
+            if (c >= '0' && c <= '9') address = address << 4 | (c - '0');
+            else if (c >= 'A' && c <= 'F') address = address << 4 | (c - 'A' + 10);
+            else {
+                if (c == ':') count++, sum += address;
+                leads = c == '\n', address = 0;
+            }
+        }
+    printf("%ld lines, %lX\n", count, sum);
+    return 0;
+}
+
 static int measure(const char *out, char **command) {
     struct timespec from, upto;
     clock_gettime(CLOCK_MONOTONIC, &from);
@@ -346,6 +387,7 @@ int main(int count, char **words) {
     if (count == 5 && !strcmp(words[1], "procs")) return write_processes(words[2], atol(words[3]), atol(words[4]));
     if (count == 4 && !strcmp(words[1], "stacks")) return write_stacks(words[2], atol(words[3]));
     if (count == 5 && !strcmp(words[1], "list")) return write_list(words[2], atol(words[3]), atoi(words[4]));
+    if (count == 4 && !strcmp(words[1], "messages")) return write_messages(words[2], atol(words[3]));
     if (count == 4 && !strcmp(words[1], "tuples")) return write_tuples(words[2], atol(words[3]));
     if (count == 4 && !strcmp(words[1], "graph")) return write_graph(words[2], atol(words[3]));
     if (count == 5 && !strcmp(words[1], "binaries")) return write_binaries(words[2], atol(words[3]), atol(words[4]));
@@ -358,6 +400,7 @@ int main(int count, char **words) {
     if (count == 5 && !strcmp(words[1], "payloads")) return write_payloads(words[2], atol(words[3]), atol(words[4]));
     if (count == 3 && !strcmp(words[1], "copy")) return copy(words[2]);
     if (count == 3 && !strcmp(words[1], "scan")) return scan(words[2]);
+    if (count == 3 && !strcmp(words[1], "addresses")) return addresses(words[2]);
     if (count == 5 && !strcmp(words[1], "reread")) return reread(words[2], atoi(words[3]), atoi(words[4]));
     if (count > 3 && !strcmp(words[1], "measure")) return measure(words[2], words + 3);
     return 2;

@@ -52,6 +52,7 @@ try() {
     "FILE PID") tell "$1" "$2" "<0.1.0>" ;;
     "FILE PID [NODES] [marked]") tell "$1" "$2" "<0.1.0>" 1 ;;
     "FILE PID ADDR"*) tell "$1" "$2" "<0.1.0>" 10 ;;
+    "FILE PID KIND"*) tell "$1" "$2" "<0.1.0>" mail 0 1000 1 ;;
     "FILE ADDR") tell "$1" "$2" 1 ;;
     "FILE LIMIT [full]") tell "$1" "$2" 5 && tell "$1" "$2" 5 full ;;
     "SEED COUNT") ;;

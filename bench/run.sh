@@ -1,9 +1,10 @@
 #!/bin/sh
 # Times `edump index` and `edump info` on a dump of 1 GiB, once with 500,000 and once with 900,000 sections, warm, beside a
 # C loop and grep; then `edump procs`, `edump field` and `edump triage` on a dump of 1 GiB with 200,000 processes, beside `edump index` and
-# a program in C that only reads the same, and `edump stacks` beside `edump procs`; then the load of heaps, beside the reading of their lines through `heap_line` and
-# `form`, `edump term` beside a program in C that writes the same, and the walk of a term; then the previews of binaries,
-# and `edump binaries` beside `edump index` and a program in C that reads the same; then an external term, read and written;
+# a program in C that only reads the same, and `edump stacks` beside `edump procs`; then the load of heaps, beside the reading
+# of their lines through `heap_line` and `form`, `edump term` beside a program in C that writes the same, and the walk of a
+# term; then `edump peek` of ten messages beside a program in C that looks for each line's address, and beside `edump mail`;
+# then the previews of binaries, and `edump binaries` beside `edump index` and a program in C that reads the same; then an external term, read and written;
 # then `edump audit` beside `edump procs`, and `edump audit-json` beside `edump audit`; and then `edump redact` of a dump of
 # 1 GiB beside `cat`, each into a file that isn't there before. Each command runs in turn for a number of rounds; the script
 # prints its median in seconds, how many times that of another this is, and the most memory that it had. `bench/table` writes
@@ -137,6 +138,23 @@ for shape in "list 1000000 0" "list 10000000 1" "tuples 1000000"; do
     tell reach "edump reach" load "the load"
 done
 rm -f "$folder/out" "$folder/plain"
+
+# Ten messages of a heap that is loaded, and of one of 4 GiB that isn't.
+for cells in 10000000 100000000; do
+    rm -f "$folder"/*.times
+    "$bench" messages "$dump" "$cells" || exit 1
+    sync "$dump"
+    for _ in $(seq "$rounds"); do
+        round addresses /dev/null "$bench" addresses "$dump"
+        round peek /dev/null "$edump" peek "$dump" "<0.1.0>" mail 0 10
+        [ "$cells" -gt 10000000 ] && continue
+        round mail /dev/null "$edump" mail "$dump" "<0.1.0>"
+    done
+    echo "a heap of $cells cells, ten messages, $(wc -c <"$dump") bytes:"
+    tell addresses "the addresses" addresses itself
+    tell peek "edump peek" addresses "a program in C that only looks for addresses"
+    [ "$cells" -gt 10000000 ] || tell mail "edump mail" peek "edump peek"
+done
 
 # References to binaries, over few and over many sections.
 for sections in 10000 100000; do

@@ -13,14 +13,19 @@ _edump_pids() {
 }
 
 _edump() {
-    local word=${COMP_WORDS[COMP_CWORD]} before=${COMP_WORDS[COMP_CWORD - 1]} form
+    local word=${COMP_WORDS[COMP_CWORD]} before=${COMP_WORDS[COMP_CWORD - 1]} forms form
     COMPREPLY=()
     if [ "$COMP_CWORD" -eq 1 ]; then
         COMPREPLY=($(compgen -W "$(printf '%s\n' "$_edump_forms" | cut -d ' ' -f 1)" -- "$word"))
         return
     fi
-    # The kinds of the words from the file on, of which the first is the second word after the program's name.
-    read -ra form <<<"$(printf '%s\n' "$_edump_forms" | sed -n "s/^${COMP_WORDS[1]} //p")"
+    # The kinds of the words from the file on, of which the first is the second word after the program's name. Of two forms the
+    # second has a kind of roots, and is taken if that is to be completed, or stands there.
+    forms=$(printf '%s\n' "$_edump_forms" | sed -n "s/^${COMP_WORDS[1]} //p")
+    case "$COMP_CWORD ${COMP_WORDS[4]}" in
+        "4 "* | *" stack" | *" dict" | *" mail") forms=$(printf '%s\n' "$forms" | tail -n 1) ;;
+    esac
+    read -ra form <<<"$forms"
     case ${form[COMP_CWORD - 2]} in
         FILE)
             compopt -o filenames
@@ -32,6 +37,7 @@ _edump() {
             COMPREPLY=($(_edump_pids "${COMP_WORDS[2]}" "$quoting" | grep -F -- "$word"))
             ;;
         "[NODES]" | "[marked]") [ "$before" = marked ] || COMPREPLY=($(compgen -W "marked" -- "$word")) ;;
+        KIND) COMPREPLY=($(compgen -W "stack dict mail" -- "$word")) ;;
         "[full]") COMPREPLY=($(compgen -W "full" -- "$word")) ;;
     esac
 }

@@ -102,6 +102,27 @@ impl Case {
         }
     }
 
+    /// Gives the case the words of `peek` that must leave the same: for `term`, and for all roots of `stack`, `dict`
+    /// and `mail`. Returns `false` if there are none. Where the case is refused `peek` may not be; it may take more,
+    /// and has the usual limits, since the lines that it gathers end in CR and LF.
+    pub fn turn_to_peek(&mut self, alloc: Global) -> Result<bool, AllocError> {
+        let [name, file, pid, rest @ ..] = self.words.as_slice() else {
+            return Ok(false);
+        };
+        if self.status != 0 {
+            return Ok(false);
+        }
+        let front = match name.as_str() {
+            "term" => format!(in alloc; "peek {file} {pid}")?,
+            "stack" | "dict" | "mail" => format!(in alloc; "peek {file} {pid} {name} 0 1000")?,
+            _ => return Ok(false),
+        };
+        self.words = words_of(alloc, front.as_str(), rest)?;
+        self.taken = u64::MAX;
+        self.bounds = Bounds::usual();
+        Ok(true)
+    }
+
     /// Begins the next case, on the same dump.
     pub fn begin(&mut self, alloc: Global, name: &str) -> Result<(), AllocError> {
         self.name = String::from_str(alloc, name)?;
@@ -190,6 +211,18 @@ impl Case {
             self.is_same_dump = false;
         }
     }
+}
+
+// The words of a text, and these behind them.
+fn words_of(alloc: Global, front: &str, rest: &[String]) -> Result<Vec<String>, AllocError> {
+    let mut words = Vec::new(alloc);
+    for word in front.split_whitespace() {
+        words.push(String::from_str(alloc, word)?)?;
+    }
+    for word in rest {
+        words.push(String::from_str(alloc, word.as_str())?)?;
+    }
+    Ok(words)
 }
 
 fn length_of(text: &str) -> Option<usize> {

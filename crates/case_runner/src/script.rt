@@ -41,18 +41,31 @@ fn tell_failed(rt: &HostRuntime, case: &Case, failed: &Failure) -> io::Result<()
     tell_text(rt, "standard error", &case.err)
 }
 
-// Whether a case passed, as a count; if no case has begun, there is none.
-fn end_case(rt: &HostRuntime, case: &Case) -> io::Result<u64> {
+// Whether a case passes as it stands; if it doesn't, that is reported.
+fn passes(rt: &HostRuntime, case: &Case) -> io::Result<bool> {
+    match fails(rt.alloc(), case)? {
+        None => Ok(true),
+        Some(failed) => {
+            tell_failed(rt, case, &failed)?;
+            Ok(false)
+        }
+    }
+}
+
+// How many cases an ended case makes that passed: the case itself, and the
+// same through `peek`, if that shows it too; if no case has begun, none.
+fn end_case(rt: &HostRuntime, case: &mut Case) -> io::Result<u64> {
     if case.name.is_empty() {
         return Ok(0);
     }
-    match fails(rt.alloc(), case)? {
-        None => Ok(1),
-        Some(failed) => {
-            tell_failed(rt, case, &failed)?;
-            Ok(0)
-        }
+    let mut passed = 0u64;
+    if passes(rt, case)? {
+        passed += 1;
     }
+    if case.turn_to_peek(rt.alloc())? && passes(rt, case)? {
+        passed += 1;
+    }
+    Ok(passed)
 }
 
 /// Runs the cases of a file, reports each that does not pass, and returns how many passed.
@@ -65,12 +78,12 @@ pub fn run_file(rt: &HostRuntime, text: &str) -> io::Result<u64> {
             continue;
         }
         if let Some(name) = line.strip_prefix("case ") {
-            passed = passed.saturating_add(end_case(rt, &case)?);
+            passed = passed.saturating_add(end_case(rt, &mut case)?);
             case.begin(alloc, name)?;
         } else if !case.take(alloc, line)? {
             println!(rt; "not understood: {line}")?;
         }
     }
-    passed = passed.saturating_add(end_case(rt, &case)?);
+    passed = passed.saturating_add(end_case(rt, &mut case)?);
     Ok(passed)
 }

@@ -10,7 +10,7 @@ use Rattle.table_sections.specs.declared.kinds.TableKind.TheVariants as kinds
 use Rattle.command_words.specs.declared.words.Cmd.{Cmd}
 use Rattle.command_words.specs.declared.words.Cmd.TheVariants.{On, Make, Trial}
 use Rattle.command_words.specs.declared.words.Query.{Query}
-use Rattle.command_words.specs.declared.words.Query.TheVariants.{Index, Info, Procs, Proc, Memory, Field, Table, Roots, Term, Ext, Reach, Cells, Binary, Binaries, Holders, Triage, Stacks, Links, Redact, Audit, AuditJson}
+use Rattle.command_words.specs.declared.words.Query.TheVariants.{Index, Info, Procs, Proc, Memory, Field, Table, Roots, Term, PeekTerm, PeekRoots, Ext, Reach, Cells, Binary, Binaries, Holders, Triage, Stacks, Links, Redact, Audit, AuditJson}
 use Rattle.command_words.specs.Budgets.{budget_of}
 use Rattle.command_words.specs.Ranges.{number_upto}
 
@@ -29,6 +29,10 @@ pub data Ask : Type 0 where
   roots : RootKind → List ℕ → ℕ → Bool → Ask
   -- the term at this address, in the heap of the process with this pid
   term : List ℕ → ℕ → ℕ → Bool → Ask
+  -- the same, whatever the size of the heap
+  peek_term : List ℕ → ℕ → ℕ → Bool → Ask
+  -- of the roots of this process those from this place on, at most this many, whatever the sizes of the bodies
+  peek_roots : RootKind → List ℕ → ℕ → ℕ → ℕ → Bool → Ask
   -- the external term at this address, in the heap of the process with this pid
   ext : List ℕ → ℕ → Ask
   -- what the roots of the process with this pid reach
@@ -73,6 +77,8 @@ shown_query (Field key) = field key.now
 shown_query (Table kind) = table kind
 shown_query (Roots kind pid nodes marked) = roots kind pid.now nodes marked
 shown_query (Term pid addr nodes marked) = term pid.now addr nodes marked
+shown_query (PeekTerm pid addr nodes marked) = peek_term pid.now addr nodes marked
+shown_query (PeekRoots kind pid first count nodes marked) = peek_roots kind pid.now first count nodes marked
 shown_query (Ext pid addr) = ext pid.now addr
 shown_query (Reach pid) = reach pid.now
 shown_query (Cells pid) = cells pid.now
@@ -114,11 +120,27 @@ plain_query name =
 abbrev pub roots_query : RootKind → List ℕ → List (List ℕ) → Option Ask
 roots_query kind pid words = option_map (λ b. roots kind pid b.nodes b.marked) (budget_of words)
 
--- the term at an address, which is in hex
-abbrev pub term_query : List ℕ → List (List ℕ) → Option Ask
-term_query pid [] = None
-term_query pid (addr ∷ words) =
-    option_and_then (λ a. option_map (λ b. term pid a b.nodes b.marked) (budget_of words)) (hex_number addr)
+-- the term at an address, which is in hex, of a heap that is loaded or of one of any size
+abbrev pub term_query : (List ℕ → ℕ → ℕ → Bool → Ask) → List ℕ → List (List ℕ) → Option Ask
+term_query form pid [] = None
+term_query form pid (addr ∷ words) =
+    option_and_then (λ a. option_map (λ b. form pid a b.nodes b.marked) (budget_of words)) (hex_number addr)
+
+-- some roots of a process: from a place on, which is decimal, at most a number of them from 1 to 1,000
+abbrev pub some_roots_query : RootKind → List ℕ → List (List ℕ) → Option Ask
+some_roots_query kind pid (first ∷ count ∷ words) =
+    option_and_then (λ f. option_and_then (λ c. option_map (λ b. peek_roots kind pid f c b.nodes b.marked) (budget_of words))
+    (number_upto 1000 count)) (dec_number first)
+some_roots_query kind pid words = None
+
+-- a term of a heap of any size, or some of its roots
+abbrev pub peek_query : List ℕ → List (List ℕ) → Option Ask
+peek_query pid [] = None
+peek_query pid (what ∷ words) =
+    if bytes_eq what (codes "stack") then some_roots_query bodies.Stack pid words
+    else (if bytes_eq what (codes "dict") then some_roots_query bodies.Dict pid words
+    else (if bytes_eq what (codes "mail") then some_roots_query bodies.Mail pid words
+    else term_query peek_term pid (what ∷ words)))
 
 -- the external term at an address, which is in hex
 abbrev pub ext_query : List ℕ → List (List ℕ) → Option Ask
@@ -141,10 +163,11 @@ process_query name word words =
     if bytes_eq name (codes "stack") then roots_query bodies.Stack word words
     else (if bytes_eq name (codes "dict") then roots_query bodies.Dict word words
     else (if bytes_eq name (codes "mail") then roots_query bodies.Mail word words
-    else (if bytes_eq name (codes "term") then term_query word words
+    else (if bytes_eq name (codes "term") then term_query term word words
+    else (if bytes_eq name (codes "peek") then peek_query word words
     else (if bytes_eq name (codes "ext") then ext_query word words
     else (if bytes_eq name (codes "audit") then audit_query audit word words
-    else (if bytes_eq name (codes "audit-json") then audit_query audit_json word words else None))))))
+    else (if bytes_eq name (codes "audit-json") then audit_query audit_json word words else None)))))))
 
 -- what a command asks with another word
 abbrev pub word_query : List ℕ → List ℕ → Option Ask
@@ -188,6 +211,8 @@ file_name (trial seed count) = None
 abbrev pub IsAskInRange : Ask → Type 0
 IsAskInRange (roots kind pid nodes marked) = 0 < nodes
 IsAskInRange (term pid addr nodes marked) = 0 < nodes
+IsAskInRange (peek_term pid addr nodes marked) = 0 < nodes
+IsAskInRange (peek_roots kind pid first count nodes marked) = (0 < nodes) × (1 ≤ count) × (count ≤ 1000)
 IsAskInRange (triage count) = (1 ≤ count) × (count ≤ 1000)
 IsAskInRange (stacks count) = (1 ≤ count) × (count ≤ 1000)
 IsAskInRange ask = Unit {0}

@@ -1,8 +1,8 @@
 // The words of the command line.
-ghost use Rattle.std.specs.Prelude.{◌≡◌, [], map, option_map};
+ghost use Rattle.std.specs.Prelude.{◌≡◌, ◌<◌, ℕ, Bool, [], List, map, option_map};
 ghost use Rattle.std.specs.Option.{IfSome};
 ghost use Rattle.std.specs.String.{string_bytes};
-ghost use Rattle.command_words.specs.Command.{audit, audit_json, audit_query, binary, command, ext_query, full_of, holders, on, plain_query, process_query, roots_query, shown_command, shown_query, stacks, term_query, triage, word_command, word_query, IsAskInRange, IsInRange};
+ghost use Rattle.command_words.specs.Command.{Ask, audit, audit_json, audit_query, binary, command, ext_query, full_of, holders, on, peek_query, peek_term, plain_query, process_query, roots_query, shown_command, shown_query, some_roots_query, stacks, term, term_query, triage, word_command, word_query, IsAskInRange, IsInRange};
 ghost use Rattle.command_words.specs.Ranges.{number_upto};
 ghost use Rattle.dump_io.specs.Numbers.{hex_number};
 
@@ -16,6 +16,7 @@ use table_sections::TableKind;
 // How many rows of each table `triage` shows, and how many groups `stacks`, if the words have no number.
 const USUAL_ROWS: u32 = 10;
 
+// The most rows, groups or roots for which a number in the words may ask.
 const MOST_ROWS: u32 = 1_000;
 
 /// A command with its words.
@@ -67,6 +68,24 @@ pub enum Query<'a> {
     Term {
         pid: &'a str,
         addr: u64,
+        nodes: u32,
+        marked: bool,
+    },
+    /// `peek FILE PID ADDR [NODES] [marked]`: the same, whatever the size of the heap.
+    PeekTerm {
+        pid: &'a str,
+        addr: u64,
+        nodes: u32,
+        marked: bool,
+    },
+    /// `peek FILE PID stack FIRST COUNT [NODES] [marked]`, `peek FILE PID dict ..`, `peek FILE PID mail ..`: of the
+    /// roots of a process's stack, dictionary or mailbox those from place FIRST on, at most COUNT of them,
+    /// whatever the sizes of these and of the heap.
+    PeekRoots {
+        kind: RootKind,
+        pid: &'a str,
+        first: u64,
+        count: u32,
         nodes: u32,
         marked: bool,
     },
@@ -248,6 +267,7 @@ fn process_query<'a>(name: &str, word: &'a str, words: &[String]) -> Option<Quer
         "dict" => roots_query(RootKind::Dict, word, words),
         "mail" => roots_query(RootKind::Mail, word, words),
         "term" => term_query(word, words),
+        "peek" => peek_query(word, words),
         "ext" => ext_query(word, words),
         "audit" => audit_query(word, words),
         "audit-json" => audit_json_query(word, words),
@@ -269,22 +289,89 @@ fn roots_query<'a>(kind: RootKind, pid: &'a str, words: &[String]) -> Option<Que
     })
 }
 
-fn term_query<'a>(pid: &'a str, words: &[String]) -> Option<Query<'a>>
-    ensures reads { option_map shown_query result
-        ≡ term_query pid.now (map string_bytes words.now) }
-    ensures range { IfSome result (λ query. IsAskInRange (shown_query query)) }
+// An address, and the budget behind it.
+struct Place {
+    addr: u64,
+    budget: Budget,
+}
+
+fn read_place(words: &[String]) -> Option<Place>
+    ensures reads { (form : List ℕ → ℕ → ℕ → Bool → Ask) (pid : List ℕ)
+        → option_map (λ p. form pid p.addr p.budget.nodes p.budget.marked) result
+        ≡ term_query form pid (map string_bytes words.now) }
+    ensures range { IfSome result (λ p. 0 < p.budget.nodes) }
 {
     let [addr, rest @ ..] = words else {
         return None;
     };
     let addr = hex_u64(addr.as_bytes())?;
-    let Budget { nodes, marked } = read_budget(rest)?;
+    let budget = read_budget(rest)?;
+    Some(Place { addr, budget })
+}
+
+fn term_query<'a>(pid: &'a str, words: &[String]) -> Option<Query<'a>>
+    ensures reads { option_map shown_query result
+        ≡ term_query term pid.now (map string_bytes words.now) }
+    ensures range { IfSome result (λ query. IsAskInRange (shown_query query)) }
+{
+    let Place { addr, budget } = read_place(words)?;
     Some(Query::Term {
         pid,
         addr,
+        nodes: budget.nodes,
+        marked: budget.marked,
+    })
+}
+
+fn peek_term_query<'a>(pid: &'a str, words: &[String]) -> Option<Query<'a>>
+    ensures reads { option_map shown_query result
+        ≡ term_query peek_term pid.now (map string_bytes words.now) }
+    ensures range { IfSome result (λ query. IsAskInRange (shown_query query)) }
+{
+    let Place { addr, budget } = read_place(words)?;
+    Some(Query::PeekTerm {
+        pid,
+        addr,
+        nodes: budget.nodes,
+        marked: budget.marked,
+    })
+}
+
+fn some_roots_query<'a>(kind: RootKind, pid: &'a str, words: &[String]) -> Option<Query<'a>>
+    ensures reads { option_map shown_query result
+        ≡ some_roots_query kind pid.now (map string_bytes words.now) }
+    ensures range { IfSome result (λ query. IsAskInRange (shown_query query)) }
+{
+    let [first, count, rest @ ..] = words else {
+        return None;
+    };
+    let first = dec_u64(first.as_bytes())?;
+    let count = number_upto(count.as_str(), MOST_ROWS)?;
+    let Budget { nodes, marked } = read_budget(rest)?;
+    Some(Query::PeekRoots {
+        kind,
+        pid,
+        first,
+        count,
         nodes,
         marked,
     })
+}
+
+fn peek_query<'a>(pid: &'a str, words: &[String]) -> Option<Query<'a>>
+    ensures reads { option_map shown_query result
+        ≡ peek_query pid.now (map string_bytes words.now) }
+    ensures range { IfSome result (λ query. IsAskInRange (shown_query query)) }
+{
+    let [what, rest @ ..] = words else {
+        return None;
+    };
+    match what.as_str() {
+        "stack" => some_roots_query(RootKind::Stack, pid, rest),
+        "dict" => some_roots_query(RootKind::Dict, pid, rest),
+        "mail" => some_roots_query(RootKind::Mail, pid, rest),
+        _ => peek_term_query(pid, words),
+    }
 }
 
 fn ext_query<'a>(pid: &'a str, words: &[String]) -> Option<Query<'a>>

@@ -38,7 +38,7 @@ module _ (addr : ℕ) (bytes : List ℕ) (index : Contents) (section : Section) 
 -- ---- what was read of it
 
 module _ {D : Type 0} (state : D → DeviceState) (b c : D) (addr : ℕ) (limits : Numbers) (index : Contents) (section : Section) (there : binary_section addr (sections_in index) ≡ Some section) where
-  of-binary : IsOfBodies (meaning (binary addr)) index
+  of-binary : IsOfBodies (meaning (binary addr)) limits index
   of-binary = record { there = ap (binary_cause addr) there; few = λ bytes. omega arith }
 
   loads-binary : {T : Type 0} {result : Result T BodyFault} → LoadsBodies state (section ∷ []) limits.section b c result → LoadsBodies state (option_to_list (binary_section addr (sections_in index))) limits.section b c result

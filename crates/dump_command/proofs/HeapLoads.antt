@@ -193,16 +193,16 @@ cause-too : (listed dense more : Option Refusal) (why : Refusal) → option_or l
 cause-too None dense more why is = ap (λ o. option_or o more) is
 cause-too (Some other) dense more why is = is
 
+-- the bodies in the dump have as many bytes as those before the heap and those of the heap
+pub bytes-loaded : (pid : List ℕ) (before : List Section → List Section) (index : Contents) (bytes : List ℕ) → index ≡ index_of bytes
+    → bodies_length (before (sections bytes) ++ heap_bodies pid (sections bytes)) ≡ bodies_length (before (sections_in index)) + bodies_length (heap_bodies pid (sections_in index))
+bytes-loaded pid before index bytes is =
+    ap (λ i. bodies_length (before (sections_in i) ++ heap_bodies pid (sections_in i))) (sym is) ∙ sum_by-append body_length (before (sections_in index)) (heap_bodies pid (sections_in index))
+
 module _ {A : Type 0} (pid : List ℕ) (before : List Section → List Section) (refuses : HeapMap → Option Refusal) (what : List ℕ → A) (show : A → List ℕ) (more : List ℕ → ℕ) (limits : Numbers)
     (index : Contents) (old new : DeviceState) where
   abbrev means : Meaning
   means = on_heap pid before refuses what show more
-
-  -- the bodies in the dump have as many bytes as those before the heap and those of the heap
-  bytes-loaded : (bytes : List ℕ) → index ≡ index_of bytes → bodies_length (means.bodies (sections bytes))
-      ≡ bodies_length (before (sections_in index)) + bodies_length (heap_bodies pid (sections_in index))
-  bytes-loaded bytes is =
-      ap (λ i. bodies_length (means.bodies (sections_in i))) (sym is) ∙ sum_by-append body_length (before (sections_in index)) (heap_bodies pid (sections_in index))
 
   -- the heap wasn't loaded
   pub IsHalted-heap : (stop : Stop) → ReadsAtMost old new (bodies_length (heap_bodies pid (sections_in index)))
@@ -213,7 +213,7 @@ module _ {A : Type 0} (pid : List ℕ) (before : List Section → List Section) 
         takes = record {
           bytes = bodies_length (heap_bodies pid (sections_in index));
           reads = reads;
-          few = λ bytes all. omega (arith, bytes-loaded bytes all.is);
+          few = λ bytes all. omega (arith, bytes-loaded pid before index bytes all.is);
           unread = unread;
         };
         cause = StopsFor-too old new _ _ stop cause
@@ -226,7 +226,7 @@ module _ {A : Type 0} (pid : List ℕ) (before : List Section → List Section) 
     pub Takes-heap : (count extra : ℕ) → ReadsAtMost old new count → count ≤ bodies_length (before (sections_in index)) + bodies_length (heap_bodies pid (sections_in index)) + extra
         → ((bytes : List ℕ) → IsIndexed bytes limits index old.now → extra ≤ more bytes) → Takes means limits index old new
     Takes-heap count extra reads few within =
-        Takes-listed means limits index old new count holds.listed reads (λ bytes all. omega (arith, few, within bytes all, bytes-loaded bytes all.is))
+        Takes-listed means limits index old new count holds.listed reads (λ bytes all. omega (arith, few, within bytes all, bytes-loaded pid before index bytes all.is))
 
     -- the question is refused for what the heap holds
     pub IsHalted-refused : (T : Type 0) (stop : Stop) → Takes means limits index old new → Judges {T = T} (refuses heap) (Err stop) → IsHalted means limits index old new stop

@@ -26,7 +26,7 @@ module _ {A : Type 0} (before : List Section → List Section) (more : Contents 
   abbrev means : Meaning
   means = of_holders before more held show
 
-  pub IsOfBodies-holders : IsOfBodies means index
+  pub IsOfBodies-holders : IsOfBodies means limits index
   IsOfBodies-holders = record { there = refl; few = λ bytes. omega arith }
 
   abbrev bodies : List Section → List Section

@@ -4,6 +4,7 @@ pub mod HeapLoads
 pub mod HolderLoads
 pub mod NodeLoads
 pub mod Opened
+pub mod PartLoads
 pub mod Reading
 pub mod Redacting
 pub mod Runs

@@ -80,7 +80,7 @@ module _ (means : Meaning) (limits : Numbers) (index : Contents) (before after :
 
   -- no refusal stands before the bodies
   pub Takes-listed : (count : ℕ) → refusal_listed means (sections_in index) limits ≡ None → ReadsAtMost before after count
-      → ((bytes : List ℕ) → IsIndexed bytes limits index before.now → count ≤ means.takes bytes) → Takes means limits index before after
+      → ((bytes : List ℕ) → IsIndexed bytes limits index before.now → count ≤ means.takes limits bytes) → Takes means limits index before after
   Takes-listed count none reads few =
       record { bytes = count; reads = reads; few = few; unread = λ some. absurd (let no : ⊥ = cc (sym (ap is_some none) ∙ some) in no) }
 
@@ -125,15 +125,15 @@ module _ (means : Meaning) (limits : Numbers) (index : Contents) (before after :
 -- ---- a question that loads its bodies
 
 -- what it asks for is there, and it takes its bodies at least
-pub record IsOfBodies (means : Meaning) (index : Contents) : Type 0 where
+pub record IsOfBodies (means : Meaning) (limits : Numbers) (index : Contents) : Type 0 where
   pub there : means.absent (sections_in index) ≡ None
-  pub few : (bytes : List ℕ) → bodies_length (means.bodies (sections bytes)) ≤ means.takes bytes
+  pub few : (bytes : List ℕ) → bodies_length (means.bodies (sections bytes)) ≤ means.takes limits bytes
 
 -- a question that takes these bodies alone
-pub alone : {A : Type 0} {bodies : List Section → List Section} {what : List ℕ → A} {show : A → List ℕ} (index : Contents) → IsOfBodies (of_bodies bodies what show) index
-alone index = record { there = refl; few = λ bytes. omega arith }
+pub alone : {A : Type 0} {bodies : List Section → List Section} {what : List ℕ → A} {show : A → List ℕ} (limits : Numbers) (index : Contents) → IsOfBodies (of_bodies bodies what show) limits index
+alone limits index = record { there = refl; few = λ bytes. omega arith }
 
-module _ (means : Meaning) (limits : Numbers) (index : Contents) (of : IsOfBodies means index) where
+module _ (means : Meaning) (limits : Numbers) (index : Contents) (of : IsOfBodies means limits index) where
   listed-bodies : refusal_listed means (sections_in index) limits ≡ too_large limits.section (means.bodies (sections_in index))
   listed-bodies = ap (λ o. option_or o (too_large limits.section (means.bodies (sections_in index)))) of.there
 
@@ -182,7 +182,7 @@ module _ (means : Meaning) (limits : Numbers) (index : Contents) (of : IsOfBodie
 
 -- ---- a question that loads the body of one section
 
-module _ (means : Meaning) (limits : Numbers) (index : Contents) (of : IsOfBodies means index) {D : Type 0} (state : D → DeviceState) (b c : D)
+module _ (means : Meaning) (limits : Numbers) (index : Contents) (of : IsOfBodies means limits index) {D : Type 0} (state : D → DeviceState) (b c : D)
     (found : Option Section) (is : means.bodies (sections_in index) ≡ option_to_list found) where
   pub ReadsFor-found : ((bytes : List ℕ) → means.held limits bytes ≡ None) → (seen : Body → means.What) (loaded : Result Body BodyFault) → LoadsBodies state (option_to_list found) limits.section b c loaded
       → IfOk loaded (IsBodyFound (state b).now found)

@@ -102,8 +102,8 @@ through {a} {b} {c} ask name limits index opened takes =
           omega (
             arith,
             opened.taken bytes (file bytes dump),
-            taken-few _ b c takes.bytes ((meaning ask).takes bytes) takes.reads (takes.few bytes all) takes.unread,
-            ap (λ r. if is_some r then 0 else (meaning ask).takes bytes) (unread-indexed (meaning ask) bytes limits index b.now all),
+            taken-few _ b c takes.bytes ((meaning ask).takes limits bytes) takes.reads (takes.few bytes all) takes.unread,
+            ap (λ r. if is_some r then 0 else (meaning ask).takes limits bytes) (unread-indexed (meaning ask) bytes limits index b.now all),
           );
     }
 

@@ -39,7 +39,7 @@ use Rattle.section_rows.specs.Rows.{Row}
 use Rattle.stack_text.specs.Stacks.{stacks_report}
 use Rattle.term_text.specs.Cells.{cells_report}
 use Rattle.term_text.specs.Reach.{reach_report}
-use Rattle.term_text.specs.Roots.{answer_over, binary_report, ext_report, roots_report, term_report}
+use Rattle.term_text.specs.Roots.{answer_over, binary_report, ext_report, roots_report, some_roots_report, term_report}
 use Rattle.audit_bodies.specs.Audits.{audit_in}
 use Rattle.audit_bodies.specs.Mailboxes.{audited_sections}
 use Rattle.audit_text.specs.Findings.{audit_report}
@@ -48,7 +48,7 @@ use Rattle.dump_audit.specs.declared.finding.Finding.{Finding}
 use Rattle.json_report.specs.Trees.{audit_tree, json_text}
 use Rattle.dump_redact.specs.Redacted.{redacted}
 use Rattle.dump_redact.specs.Refusals.{heap_sections}
-use Rattle.command_words.specs.Command.{Ask, index, info, procs, proc, memory, field, table, roots, term, ext, reach, cells, binary, binaries, holders, triage, stacks, links, redact, audit, audit_json}
+use Rattle.command_words.specs.Command.{Ask, index, info, procs, proc, memory, field, table, roots, term, peek_term, peek_roots, ext, reach, cells, binary, binaries, holders, triage, stacks, links, redact, audit, audit_json}
 use Rattle.dump_command.specs.Terms.{bad_binary, base_of, binary_bytes, binary_cause, binary_count, external_at, no_address, no_external, root_terms, too_dense}
 use Rattle.dump_command.specs.Triage.{Told, triage_over}
 
@@ -180,9 +180,13 @@ pub record Meaning : Type 1 where
   -- why it is refused for what they hold
   pub held : Numbers → List ℕ → Option Refusal
   -- the most bytes that it takes from the device after the pass over the dump
-  pub takes : List ℕ → ℕ
+  pub takes : Numbers → List ℕ → ℕ
 
 -- ---- kinds of questions
+
+-- no body
+abbrev pub no_body : List Section → List Section
+no_body sections = []
 
 -- one that loads these bodies alone, and is refused only if one is too large
 abbrev pub of_bodies : {A : Type 0} → (List Section → List Section) → (List ℕ → A) → (A → List ℕ) → Meaning
@@ -194,7 +198,7 @@ of_bodies {A} bodies what show = record {
   absent = λ ss. None;
   bodies = bodies;
   held = λ limits bytes. None;
-  takes = λ bytes. bodies_length (bodies (sections bytes));
+  takes = λ limits bytes. bodies_length (bodies (sections bytes));
 }
 
 -- one that may load the body of one section, and shows it
@@ -216,7 +220,7 @@ abbrev pub of_holders : {A : Type 0} → (List Section → List Section) → (Co
 of_holders {A} before more held show =
     let bodies : List Section → List Section = λ ss. before ss ++ record_sections ss in
     record (of_bodies bodies (held_by held) (λ h. show h.index h.processes h.held)) {
-      takes = λ bytes. bodies_length (bodies (sections bytes)) + more (index_of bytes) (pids_of (process_table bytes).processes);
+      takes = λ limits bytes. bodies_length (bodies (sections bytes)) + more (index_of bytes) (pids_of (process_table bytes).processes);
     }
 
 -- one that loads these bodies and then the heap of a process: it is also refused if the process
@@ -230,7 +234,7 @@ on_heap {A} pid before refuses what show more = record {
   absent = no_process pid;
   bodies = λ ss. before ss ++ heap_bodies pid ss;
   held = λ limits bytes. option_or (too_dense limits.dense pid bytes) (refuses (heap_map pid bytes));
-  takes = λ bytes. bodies_length (before (sections bytes) ++ heap_bodies pid (sections bytes)) + more bytes;
+  takes = λ limits bytes. bodies_length (before (sections bytes) ++ heap_bodies pid (sections bytes)) + more bytes;
 }
 
 -- one that shows that heap
@@ -241,11 +245,22 @@ of_heap pid before refuses what show = on_heap pid before refuses (λ bytes. wha
 abbrev pub of_walk : {A : Type 0} → List ℕ → (List Section → List Section) → (HeapMap → Option Refusal) → (List ℕ → Walk → A) → (A → List ℕ) → Meaning
 of_walk pid before refuses what show = on_heap pid before refuses (λ bytes. what bytes (walk_of pid bytes)) show (λ bytes. 128 * binary_count pid bytes)
 
--- ---- the questions
+-- one that shows terms of that heap whatever its size, and of some of its lines alone: it is refused only if the
+-- process isn't there, or for what this says of the heap. Beside these bodies and the heap it takes the lines, 16
+-- bytes for each of as many bytes as a section's body may have and four more, and 128 for each reference to a binary
+abbrev pub of_part : List ℕ → (List Section → List Section) → (HeapMap → Option Refusal) → (List ℕ → Walk → List ℕ) → Meaning
+of_part pid before refuses text = record {
+  What = List ℕ;
+  what = λ bytes. text bytes (walk_of pid bytes);
+  show = λ text. text;
+  found = None;
+  absent = no_process pid;
+  bodies = no_body;
+  held = λ limits bytes. refuses (heap_map pid bytes);
+  takes = λ limits bytes. bodies_length (before (sections bytes) ++ heap_bodies pid (sections bytes)) + (16 * (limits.section + 4) + 128 * binary_count pid bytes);
+}
 
--- no body
-abbrev pub no_body : List Section → List Section
-no_body sections = []
+-- ---- the questions
 
 -- the body of the first section
 abbrev pub first_body : List Section → List Section
@@ -272,6 +287,10 @@ meaning (roots kind pid nodes marked) =
     of_walk {A = Rooted} pid (λ ss. option_to_list (root_section kind pid ss)) never (λ bytes walk. record { walk = walk; part = part_in (root_section kind pid) bytes })
     (λ r. roots_report (answer_over r.walk nodes marked) r.part.base (roots_in kind r.part.bytes))
 meaning (term pid addr nodes marked) = of_walk pid no_body (no_address addr) (λ bytes walk. walk) (λ walk. term_report (answer_over walk nodes marked) addr)
+meaning (peek_term pid addr nodes marked) = of_part pid no_body (no_address addr) (λ bytes walk. term_report (answer_over walk nodes marked) addr)
+meaning (peek_roots kind pid first count nodes marked) =
+    of_part pid (λ ss. option_to_list (root_section kind pid ss)) never
+    (λ bytes walk. let part = part_in (root_section kind pid) bytes in some_roots_report (answer_over walk nodes marked) part.base first count (roots_in kind part.bytes))
 meaning (ext pid addr) = of_heap pid no_body (no_external addr) (λ bytes heap. unwrap_or (external_at addr heap) []) ext_report
 meaning (reach pid) =
     of_heap {A = Entered} pid (root_bodies pid) never (λ bytes heap. record { heap = heap; terms = root_terms pid bytes }) (λ e. reach_report e.heap (reached_by e.heap.cells e.terms))
@@ -286,10 +305,10 @@ meaning (holders addr) = of_holders no_body heaps_length (λ bytes i pids. holde
 meaning (triage most) = of_bodies triage_sections told_in (triage_over most)
 meaning (stacks most) =
     record (of_bodies record_sections stacked_in (λ s. stacks_report most s.rows s.found)) {
-      takes = λ bytes. bodies_length (record_sections (sections bytes)) + stacks_length (index_of bytes) (stack_rows bytes);
+      takes = λ limits bytes. bodies_length (record_sections (sections bytes)) + stacks_length (index_of bytes) (stack_rows bytes);
     }
 meaning links = of_bodies record_sections process_table (λ table. links_report table.processes)
 -- it is copied from the whole dump
-meaning redact = record (of_bodies heap_sections (λ bytes. bytes) redacted) { takes = λ bytes. length bytes }
+meaning redact = record (of_bodies heap_sections (λ bytes. bytes) redacted) { takes = λ limits bytes. length bytes }
 meaning (audit limit full) = of_audit limit full audit_report
 meaning (audit_json limit full) = of_audit limit full (λ audit. json_text (audit_tree audit))

@@ -65,6 +65,6 @@ refusal (trial seed count) bytes limits = None
 -- the most bytes that a command takes from the device: those of the dump and, unless it
 -- is refused before it reads a body, those that it takes after the pass over the dump
 abbrev pub allowance : Command → List ℕ → Numbers → ℕ
-allowance (on file ask) bytes limits = length bytes + (if is_some (refusal_unread (meaning ask) bytes limits) then 0 else (meaning ask).takes bytes)
+allowance (on file ask) bytes limits = length bytes + (if is_some (refusal_unread (meaning ask) bytes limits) then 0 else (meaning ask).takes limits bytes)
 allowance (make seed count) bytes limits = 0
 allowance (trial seed count) bytes limits = 0

@@ -1,5 +1,5 @@
 -- What the commands on the terms of a process, and on a binary, report on the bytes of an accepted dump.
-use Rattle.std.specs.Prelude.{ℕ, List, [], ◌++◌, length, Option, None, Some, is_some, nat_lt, unwrap_or, if◌then◌else◌}
+use Rattle.std.specs.Prelude.{ℕ, Bool, List, [], ◌++◌, length, Option, None, Some, is_some, nat_lt, unwrap_or, if◌then◌else◌}
 use Rattle.std.specs.Option.{option_and_then, option_map, option_map_or, option_or}
 use Rattle.dump_sections.specs.Index.{index_of}
 use Rattle.dump_sections.specs.Sections.{Section, sections}
@@ -19,6 +19,7 @@ use Rattle.report_text.specs.declared.refusals.Refusal.TheVariants.{TooDense, No
 use Rattle.root_views.specs.declared.kinds.RootKind.{RootKind}
 use Rattle.root_views.specs.declared.kinds.RootKind.TheVariants.{Stack, Dict, Mail}
 use Rattle.term_text.specs.Reach.{root_elements}
+use Rattle.term_unfold.specs.Parts.{has_cell}
 use Rattle.root_views.specs.Sections.{root_section}
 use Rattle.root_views.specs.Kinds.{roots_in}
 
@@ -35,12 +36,12 @@ abbrev pub too_dense : ℕ → List ℕ → List ℕ → Option Refusal
 too_dense limit pid bytes = dense_cause limit (heap_weight pid bytes)
 
 -- the heap has no cell at the address
-abbrev pub address_cause : ℕ → Option ℕ → Option Refusal
-address_cause addr found = if is_some found then None else Some (NoAddress addr)
+abbrev pub address_cause : ℕ → Bool → Option Refusal
+address_cause addr there = if there then None else Some (NoAddress addr)
 
 -- why a term isn't there: its heap has no cell at the address
 abbrev pub no_address : ℕ → HeapMap → Option Refusal
-no_address addr heap = address_cause addr (number_at heap.cells addr)
+no_address addr heap = address_cause addr (has_cell heap.cells addr)
 
 -- the bytes that the characters of an external term write; any other form has none
 abbrev pub external_in : Enc → HeapForm → Option (List ℕ)

@@ -15,6 +15,7 @@ mod info;
 mod links;
 mod make;
 mod memory;
+mod peek;
 mod proc;
 mod procs;
 mod reach;
@@ -44,6 +45,7 @@ use info::Info;
 use links::Links;
 use make::run_make;
 use memory::Memory;
+use peek::{PeekRoots, PeekTerm};
 use proc::Proc;
 use procs::ProcessTable;
 use reach::Reach;
@@ -129,6 +131,38 @@ fn run_query<D: Dumps, K: Sink>(
                 marked,
             };
             run_report(alloc, file, &term, limits, dumps, out)
+        }
+        Query::PeekTerm {
+            pid,
+            addr,
+            nodes,
+            marked,
+        } => {
+            let term = PeekTerm {
+                pid: pid.as_bytes(),
+                addr,
+                nodes,
+                marked,
+            };
+            run_report(alloc, file, &term, limits, dumps, out)
+        }
+        Query::PeekRoots {
+            kind,
+            pid,
+            first,
+            count,
+            nodes,
+            marked,
+        } => {
+            let roots = PeekRoots {
+                pid: pid.as_bytes(),
+                kind,
+                first,
+                count,
+                nodes,
+                marked,
+            };
+            run_report(alloc, file, &roots, limits, dumps, out)
         }
         Query::Ext { pid, addr } => {
             let pid = pid.as_bytes();

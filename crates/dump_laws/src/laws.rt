@@ -1,6 +1,7 @@
-// What is the same in a redacted dump, and what is read back of an
-// audit. Each law is the contract of a function that does nothing.
+// What is the same in a redacted dump, what `peek` reports, and what is read
+// back of an audit. Each law is the contract of a function that does nothing.
 ghost use Rattle.dump_laws.specs.Laws.{KeepsProcesses, KeepsFindings, KeepsHeaps, KeepsAddresses, KeepsRoots, KeepsTrees, KeepsVerdicts, KeepsLeaves, AuditsReadBack};
+ghost use Rattle.dump_laws.specs.Peeks.{PeeksRoots, PeeksTerms};
 
 use dump_redact::{binaries_stay, bodies_are_redacted, sections_stay};
 use json_report::text_reads_back;
@@ -38,6 +39,14 @@ pub fn trees_stay()
     bodies_are_redacted();
     heaps_stay();
 }
+
+/// States a law and does no work: where `term`, `stack`, `dict` or `mail` isn't refused, `peek` of
+/// the same words isn't either and reports the same; of roots, if it shows them from the first on
+/// and may show as many as there are.
+pub fn peek_reports_the_same()
+    ensures terms { PeeksTerms }
+    ensures roots { PeeksRoots }
+{}
 
 /// States a law and does no work: the text that `audit-json` writes for a
 /// dump in a file, without its LF, is read back as the tree of the audit.

@@ -5,6 +5,7 @@ use Rattle.dump_io.specs.Numbers.{hexadecimal, hex_byte}
 use Rattle.etf_terms.specs.Reading.{external_text}
 use Rattle.term_forms.specs.Elements.{Element, Ref}
 use Rattle.term_unfold.specs.Walks.{Walk, answer}
+use Rattle.root_lines.specs.Shown.{some_of}
 use Rattle.root_views.specs.Roots.{Content, Term, Info, Dist, Unread, BodyRoot}
 use Rattle.report_lines.specs.Lines.{line_of, newline, word_space, total_line}
 
@@ -27,9 +28,17 @@ root_line say base root = line_of word_space (decimal (base + root.at) ∷ root.
 abbrev pub root_lines : (Element → List ℕ) → ℕ → List BodyRoot → List ℕ
 root_lines say base roots = flat_map (root_line say base) roots
 
--- the report of the roots of a body that begins at this offset
+-- the lines of the roots that are shown of such a body, and of how many it has in all
+abbrev pub shown_report : (Element → List ℕ) → ℕ → List BodyRoot → ℕ → List ℕ
+shown_report say base shown count = root_lines say base shown ++ total_line (codes "roots") count
+
+-- the report of all roots of a body that begins at this offset
 abbrev pub roots_report : (Element → List ℕ) → ℕ → List BodyRoot → List ℕ
-roots_report say base roots = root_lines say base roots ++ total_line (codes "roots") (length roots)
+roots_report say base roots = shown_report say base roots (length roots)
+
+-- the report of at most this many of them, from a place on
+abbrev pub some_roots_report : (Element → List ℕ) → ℕ → ℕ → ℕ → List BodyRoot → List ℕ
+some_roots_report say base first most roots = shown_report say base (some_of first most roots) (length roots)
 
 -- the report of one term: the answer to the reference to this address
 abbrev pub term_report : (Element → List ℕ) → ℕ → List ℕ

@@ -19,4 +19,4 @@ pub use binary_report::put_binary;
 pub use cell_report::put_cells;
 pub use ext_report::put_ext;
 pub use reach_report::{add_roots, put_reach};
-pub use root_report::{put_roots, put_term};
+pub use root_report::{put_roots, put_shown_roots, put_term};

@@ -1,16 +1,18 @@
 // The reports of the roots of a process, and of one term.
-ghost use Rattle.std.specs.Prelude.{◌≡◌, ◌+◌, ◌<◌, ◌^◌, [], length, IfOk};
+ghost use Rattle.std.specs.Prelude.{◌≡◌, ◌+◌, ◌<◌, ◌^◌, [], length, All, IfOk};
 ghost use Rattle.dump_io.specs.Sinks.{Puts};
 ghost use Rattle.root_views.specs.Kinds.{roots_in};
+ghost use Rattle.root_lines.specs.Shown.{IsPlaced};
 ghost use Rattle.root_views.specs.Seen.{content, root};
 ghost use Rattle.term_forms.specs.Seen.{element};
 ghost use Rattle.term_unfold.specs.Walks.{judged_text};
 ghost use Rattle.term_text.specs.Inner.Headings.{root_heading};
-ghost use Rattle.term_text.specs.Roots.{answer_over, content_text, root_line, roots_report, term_report, root_lines};
+ghost use Rattle.term_text.specs.Roots.{answer_over, content_text, root_line, roots_report, shown_report, term_report, root_lines};
 
 use dump_io::{Failed, Piece, Sink, put_pieces, write_all};
 use heap_cells::Why;
 use report_lines::put_total_line;
+use root_lines::ShownRoots;
 use root_views::{Root, RootKind, What};
 use term_forms::shapes::Elem;
 use term_unfold::{Verdict, Walker, why_text};
@@ -157,6 +159,46 @@ pub fn put_roots<K: Sink>(
 {
     let count = put_each(sink, walker, kind, body, base, budget, marked)?;
     put_total_line(sink, b"roots", count)
+}
+
+// Writes a line for each root that is shown.
+fn put_shown<K: Sink>(
+    sink: &mut K,
+    walker: &mut Walker<'_>,
+    roots: &ShownRoots,
+    base: u64,
+    budget: u32,
+    marked: bool,
+) -> Result<(), Failed>
+    requires places { All (IsPlaced base) roots.now.shown }
+    requires budget { 0 < budget }
+    ensures puts { Puts (K.state sink.old) (K.state sink.new)
+        (root_lines (answer_over walker.old budget marked) base roots.now.shown) result }
+    ensures same { walker.new ≡ walker.old }
+{
+    for i in 0..roots.len() {
+        put_root(sink, walker, base, &roots.root(i), budget, marked)?;
+    }
+    Ok(())
+}
+
+/// Writes a line for each root that is shown of a body, as [`put_roots`] does, and then `roots N` with the number of all.
+pub fn put_shown_roots<K: Sink>(
+    sink: &mut K,
+    walker: &mut Walker<'_>,
+    roots: &ShownRoots,
+    base: u64,
+    budget: u32,
+    marked: bool,
+) -> Result<(), Failed>
+    requires places { All (IsPlaced base) roots.now.shown }
+    requires budget { 0 < budget }
+    ensures puts { Puts (K.state sink.old) (K.state sink.new) (shown_report
+        (answer_over walker.old budget marked) base roots.now.shown roots.now.count) result }
+    ensures same { walker.new ≡ walker.old }
+{
+    put_shown(sink, walker, roots, base, budget, marked)?;
+    put_total_line(sink, b"roots", roots.count())
 }
 
 /// Writes the answer to the reference to an address, as for the roots of a process.

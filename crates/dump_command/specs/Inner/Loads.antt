@@ -1,29 +1,38 @@
 -- From what the reports are written, and what is known of it.
-use Rattle.std.specs.Prelude.{ℕ, ◌+◌, ◌^◌, ◌<◌, List, length, All, ◌≡◌, ◌++◌, Option, IfSome, IsSome, Some, Result, IfErr, IfOk}
+use Rattle.std.specs.Prelude.{ℕ, ◌+◌, ◌*◌, ◌^◌, ◌<◌, ◌≤◌, Bool, List, [], length, All, Contains, ◌≡◌, ◌++◌, Option, IfSome, IsSome, Some, Result, IfErr, IfOk}
 use Rattle.std.specs.Option.{option_map, option_to_list}
 use Rattle.dump_sections.specs.Index.{Contents, sections_in}
 use Rattle.report_text.specs.Reports.{version_text}
 use Rattle.process_table.specs.Processes.{ProcessTable, AreProcessesOver, IsProcessIn, process_table}
 use Rattle.binary_holders.specs.Usage.{NamesProcess, shown_use}
 use Rattle.binary_holders.specs.declared.rows.Holding.{Holding}
-use Rattle.term_unfold.specs.Walks.{new_walk}
+use Rattle.term_unfold.specs.Parts.{answer_in}
+use Rattle.term_unfold.specs.Walks.{new_walk, Walk}
+use Rattle.binary_refs.specs.Previews.{binaries}
+use Rattle.heap_cells.specs.Cells.{Cell, first_cells}
+use Rattle.heap_lines.specs.Wholes.{HasLines}
+use Rattle.heap_lines.specs.declared.whole.HeapLines.{HeapLines}
+use Rattle.root_lines.specs.Shown.{shown_roots, IsPlaced, SomeRoots}
 use Rattle.root_views.specs.Kinds.{roots_in}
+use Rattle.root_views.specs.declared.kinds.RootKind.{RootKind}
 use Rattle.dump_audit.specs.Findings.{Audit, audit_of}
 use Rattle.audit_bodies.specs.declared.loading.AuditBodies.{AuditBodies}
-use Rattle.dump_io.specs.Dumps.{Now, DeviceState, ReadsAtMost, told}
+use Rattle.dump_io.specs.Dumps.{Now, DeviceState, IfTold, ReadsAtMost, told}
 use Rattle.dump_sections.specs.Sections.{Section}
 use Rattle.dump_sections.specs.declared.bodies.BodyFault.{BodyFault}
 use Rattle.dump_sections.specs.declared.bodies.BodyFault.TheVariants.{SectionTooLarge}
 use Rattle.dump_sections.specs.declared.bodies.LargeSection.{LargeSection}
 use Rattle.term_forms.specs.Elements.{Element}
-use Rattle.dump_sections.specs.Bodies.{section_in, IsBodyIn}
+use Rattle.dump_sections.specs.Bodies.{body_in, section_in, IsBodyIn}
 use Rattle.root_views.specs.declared.kinds.RootKind.TheVariants.{Stack, Dict, Mail}
 use Rattle.term_text.specs.Reach.{root_elements}
+use Rattle.term_text.specs.Roots.{answer_over}
 use Rattle.dump_sections.specs.Loading.{bodies_length, IsUnloaded}
 use Rattle.process_table.specs.Records.{proc_places, record_sections}
 use Rattle.table_sections.specs.declared.kinds.TableKind.TheVariants.{Ets}
 use Rattle.table_sections.specs.Tables.{table_of, AreListed, IsTableOver}
 use Rattle.dump_command.specs.declared.commands.subjects.Body.{Body}
+use Rattle.dump_command.specs.declared.commands.peek.HeapPart.{HeapPart}
 use Rattle.dump_command.specs.declared.commands.roots.Loaded.{Loaded as RootsLoaded}
 use Rattle.dump_command.specs.Meaning.{memory_body, memory_section, triage_sections, Entered, Held, Overview, Part, Rooted, Used}
 use Rattle.root_views.specs.Sections.{root_section}
@@ -94,6 +103,30 @@ pub record AreNamed (index : Contents) (table : ProcessTable) (held : List Holdi
 -- the body with the roots, and what a walker goes over from it
 abbrev pub seen_roots : RootsLoaded → Rooted
 seen_roots loaded = record { walk = new_walk loaded.heap loaded.previews; part = shown_body loaded.body }
+
+-- ---- from what the reports of `peek` are written
+
+-- what a walker goes over in a part of a heap
+abbrev pub walk_in : HeapPart → Walk
+walk_in part = new_walk part.heap part.previews
+
+-- what is read of a heap of any size for some terms: as much as its lines may take, and
+-- 128 bytes for each of so many references to binaries, of which the heap has as many
+pub record ReadsPart (section : ℕ) (has_lines : List Cell → Type 0) (before after : DeviceState) : Type 0 where
+  pub count : ℕ
+  pub reads : ReadsAtMost before after (16 * (section + 4) + 128 * count)
+  pub few : (all : List Cell) → has_lines all → count ≤ length (binaries (first_cells [] all))
+
+-- over a part of a heap these elements have the answers that they have over the whole
+pub record AreAnswered (now : Now) (index : Contents) (lines : HeapLines) (nodes : ℕ) (walk : Walk) (terms : List Element) : Type 0 where
+  pub each : (dump : List ℕ) → now ≡ told dump → (all : List Cell) → HasLines lines now all → (e : Element) → Contains terms e → (marked : Bool)
+      → answer_over walk nodes marked e ≡ answer_in dump index lines.enc (first_cells [] all) e nodes marked
+
+-- the roots that are shown of a section that may be missing, and the offset of its body
+pub record AreRootsFound (now : Now) (found : Option Section) (kind : RootKind) (first most : ℕ) (roots : SomeRoots × ℕ) : Type 0 where
+  pub base : roots.1 ≡ base_of found
+  pub shown : IfTold now (λ dump. roots.0 ≡ shown_roots kind first most (body_in dump found))
+  pub places : All (IsPlaced roots.1) roots.0.shown
 
 -- ---- from what the reports of an audit are written
 

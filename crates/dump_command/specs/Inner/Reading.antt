@@ -71,7 +71,7 @@ refusal_over means index bytes limits = option_or (refusal_listed means (section
 pub record Takes (means : Meaning) (limits : Numbers) (index : Contents) (before after : DeviceState) : Type 0 where
   pub bytes : ℕ
   pub reads : ReadsAtMost before after bytes
-  pub few : (all : List ℕ) → IsIndexed all limits index before.now → bytes ≤ means.takes all
+  pub few : (all : List ℕ) → IsIndexed all limits index before.now → bytes ≤ means.takes limits all
   pub unread : IsSome (refusal_listed means (sections_in index) limits) → ReadsAtMost before after 0
 
 -- a command stopped while it read: it is refused for a cause with this

@@ -7,6 +7,9 @@ use Rattle.dump_redact.specs.declared.faults.RedactFault.TheVariants as redact_f
 use Rattle.json_report.specs.declared.putting.JsonFault.TheVariants as json_faults
 use Rattle.binary_refs.specs.declared.faults.PreviewFault.TheVariants as preview_faults
 use Rattle.heap_cells.specs.declared.faults.HeapFault.TheVariants as heap_faults
+use Rattle.heap_lines.specs.declared.faults.TableFault.TheVariants as table_faults
+use Rattle.heap_parts.specs.declared.faults.PartFault.TheVariants as part_faults
+use Rattle.root_lines.specs.declared.faults.RootsFault.TheVariants as roots_faults
 use Rattle.std.specs.Prelude.{◌≡◌, ℕ, Result, Ok, Err, Option, None, Some}
 use Rattle.dump_sections.specs.declared.bodies.BodyFault.{BodyFault}
 use Rattle.dump_sections.specs.declared.bodies.LargeSection.{LargeSection}
@@ -20,6 +23,9 @@ use Rattle.json_report.specs.declared.putting.JsonFault.{JsonFault}
 use Rattle.dump_io.specs.Sinks.{SinkState, IsKept}
 use Rattle.binary_refs.specs.declared.faults.PreviewFault.{PreviewFault}
 use Rattle.heap_cells.specs.declared.faults.HeapFault.{HeapFault}
+use Rattle.heap_lines.specs.declared.faults.TableFault.{TableFault}
+use Rattle.heap_parts.specs.declared.faults.PartFault.{PartFault}
+use Rattle.root_lines.specs.declared.faults.RootsFault.{RootsFault}
 use Rattle.report_text.specs.declared.refusals.Refusal.{Refusal}
 use Rattle.dump_command.specs.Report.{large_refusal}
 use Rattle.dump_command.specs.Run.{EndsTold}
@@ -100,6 +106,21 @@ stop_of_heap (heap_faults.TooDense count) = Refused (TooDense count)
 abbrev pub stop_of_previews : PreviewFault → Stop
 stop_of_previews preview_faults.Read = NotRead
 stop_of_previews preview_faults.Memory = NoMemory
+
+-- the stop of a command for which the lines of a heap aren't found
+abbrev pub stop_of_table : TableFault → Stop
+stop_of_table table_faults.Read = NotRead
+stop_of_table table_faults.Memory = NoMemory
+
+-- the stop of a command for which a part of a heap isn't loaded; one that is too large or too dense counts as want of memory
+abbrev pub stop_of_part : PartFault → Stop
+stop_of_part part_faults.Read = NotRead
+stop_of_part fault = NoMemory
+
+-- the stop of a command for which roots aren't found
+abbrev pub stop_of_roots : RootsFault → Stop
+stop_of_roots roots_faults.Read = NotRead
+stop_of_roots roots_faults.Memory = NoMemory
 
 -- if there is no cause of a refusal, the command goes on, and otherwise
 -- it is refused for that cause; memory may be lacking at any time

@@ -1,7 +1,7 @@
 // What commands find on the index of a dump and read from it:
 // a process, the body of a section, the heap of a process.
 ghost use Rattle.std.specs.Prelude.{◌≡◌, ◌<◌, List, length, None, Some, IfOk, IfSome};
-ghost use Rattle.heap_cells.specs.HeapMap.{number_at};
+ghost use Rattle.term_unfold.specs.Parts.{has_cell};
 ghost use Rattle.dump_sections.specs.Bodies.{section_at, section_in};
 ghost use Rattle.dump_sections.specs.Index.{IsBuiltOver, sections_in};
 ghost use Rattle.dump_sections.specs.Sections.{Section};
@@ -117,7 +117,7 @@ pub(crate) fn load_behind<D: Dumps>(
 
 /// Refuses an address at which the heap has no cell.
 pub(crate) fn find_cell(heap: &Heap, addr: u64) -> Result<(), Stop>
-    ensures { Judges (address_cause addr (number_at heap.now.cells addr)) result }
+    ensures { Judges (address_cause addr (has_cell heap.now.cells addr)) result }
 {
     match heap.at(addr) {
         Seat::Missing => Err(Stop::Refused(Refusal::NoAddress { addr })),

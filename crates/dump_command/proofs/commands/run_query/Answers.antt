@@ -1,5 +1,5 @@
 use Rattle.std.proofs.Common.{sym, ◌∙◌, ap}
-use Rattle.command_words.specs.Command.{shown_query, cells, ext, field, proc, reach, roots, term}
+use Rattle.command_words.specs.Command.{shown_query, cells, ext, field, peek_roots, peek_term, proc, reach, roots, term}
 use Rattle.dump_command.proofs.Runs.{runs-asked}
 use Rattle.dump_command.proofs.commands.run_query.Goals as goal
 
@@ -29,6 +29,16 @@ returns-in-Roots g c = runs-asked (ap shown_query c.in-Roots.is ∙ ap (λ p. ro
 
 pub returns-in-Term : goal.returns-in-Term
 returns-in-Term g c = runs-asked (ap shown_query c.in-Term.is ∙ ap (λ p. term p c.in-Term.addr c.in-Term.nodes c.in-Term.marked) (sym c.as_bytes-in-Term.ensures.value)) c.run_report-in-Term.ensures
+
+pub returns-in-PeekTerm : goal.returns-in-PeekTerm
+returns-in-PeekTerm g c =
+    let t = c.in-PeekTerm in
+    runs-asked (ap shown_query t.is ∙ ap (λ p. peek_term p t.addr t.nodes t.marked) (sym c.as_bytes-in-PeekTerm.ensures.value)) c.run_report-in-PeekTerm.ensures
+
+pub returns-in-PeekRoots : goal.returns-in-PeekRoots
+returns-in-PeekRoots g c =
+    let t = c.in-PeekRoots in
+    runs-asked (ap shown_query t.is ∙ ap (λ p. peek_roots t.kind p t.first t.count t.nodes t.marked) (sym c.as_bytes-in-PeekRoots.ensures.value)) c.run_report-in-PeekRoots.ensures
 
 pub returns-in-Ext : goal.returns-in-Ext
 returns-in-Ext g c = runs-asked (ap shown_query c.in-Ext.is ∙ ap (λ p. ext p c.in-Ext.addr) (sym c.as_bytes-pid-in-Ext.ensures.value)) c.run_report-in-Ext.ensures

@@ -1,9 +1,9 @@
-use Rattle.std.proofs.Common.{◌+◌, ◌∙◌, ap, arith, subst}
+use Rattle.std.proofs.Common.{◌+◌, ◌∙◌, arith, subst}
 use Rattle.dump_io.specs.Laws.Reads.{ReadsAtMost-then}
 use Rattle.dump_sections.specs.Bodies.{IsBodyIn}
 use Rattle.dump_sections.specs.Index.{sections_in}
-use Rattle.binary_holders.specs.Usage.{Usage, fronts_length, heaps_length, shown_use}
-use Rattle.dump_command.specs.Meaning.{Used, memory_body, memory_section, used_in, used_report}
+use Rattle.binary_holders.specs.Usage.{fronts_length, heaps_length}
+use Rattle.dump_command.specs.Meaning.{memory_body, memory_section, used_in, used_report}
 use Rattle.dump_command.proofs.HolderLoads.{HasRead-heard, IsOfBodies-holders, StopsFor-holders, Takes-heard}
 use Rattle.dump_command.proofs.Reading.{IsHalted-bodies, IsHalted-later, ReadsFor-halted}
 use Rattle.dump_command.proofs.commands.binaries.BinariesReport.read.Goals as goal

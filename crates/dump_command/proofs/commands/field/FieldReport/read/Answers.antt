@@ -7,4 +7,4 @@ use Rattle.dump_command.proofs.commands.field.FieldReport.read.Goals as goal
 pub returns-clause-reads : goal.returns-clause-reads
 returns-clause-reads g c =
     let key = c.args.self.now.key.now in
-    rw c.or_stop.ensures (ReadsFor-whole (meaning (field key)) _ _ (alone _) g.D.Dumps.state _ _ (λ _. refl) (λ loaded. loaded) _ c.load.ensures.loads c.load.ensures.table)
+    rw c.or_stop.ensures (ReadsFor-whole (meaning (field key)) _ _ (alone _ _) g.D.Dumps.state _ _ (λ _. refl) (λ loaded. loaded) _ c.load.ensures.loads c.load.ensures.table)

@@ -6,4 +6,4 @@ use Rattle.dump_command.proofs.commands.links.LinksReport.read.Goals as goal
 
 pub returns-clause-reads : goal.returns-clause-reads
 returns-clause-reads g c =
-    rw c.or_stop.ensures (ReadsFor-whole (meaning links) _ _ (alone _) g.D.Dumps.state _ _ (λ _. refl) (λ loaded. loaded) _ c.load.ensures.loads c.load.ensures.table)
+    rw c.or_stop.ensures (ReadsFor-whole (meaning links) _ _ (alone _ _) g.D.Dumps.state _ _ (λ _. refl) (λ loaded. loaded) _ c.load.ensures.loads c.load.ensures.table)

@@ -1,10 +1,10 @@
-use Rattle.std.proofs.Common.{◌≡◌, ℕ, ◌+◌, ◌≤◌, List, None, refl, ◌∙◌, ap, arith}
+use Rattle.std.proofs.Common.{◌≡◌, ℕ, ◌+◌, List, None, refl, ◌∙◌, ap, arith}
 use Rattle.dump_io.specs.Dumps.{DeviceState, ReadsAtMost}
 use Rattle.dump_io.specs.Laws.Reads.{ReadsAtMost-then}
 use Rattle.dump_io.specs.Limits.{Numbers}
 use Rattle.dump_sections.specs.Index.{Contents, index_of, sections_in}
 use Rattle.dump_sections.specs.Loading.{bodies_length, large_fault}
-use Rattle.process_stacks.specs.Groups.{Found, found_from}
+use Rattle.process_stacks.specs.Groups.{found_from}
 use Rattle.process_stacks.specs.Rows.{stack_rows, stacks_length}
 use Rattle.process_stacks.specs.Stacks.{IsStackCauseOf}
 use Rattle.process_stacks.specs.declared.faults.StackFault.{StackFault}
@@ -24,7 +24,7 @@ StopsFor-stacks before after stack_faults.Read cause = cause.1
 StopsFor-stacks before after stack_faults.Memory cause = tt
 
 module _ (most : ℕ) (limits : Numbers) (index : Contents) where
-  of : IsOfBodies (meaning (stacks most)) index
+  of : IsOfBodies (meaning (stacks most)) limits index
   of = record { there = refl; few = λ bytes. omega arith }
 
   -- the rows were loaded

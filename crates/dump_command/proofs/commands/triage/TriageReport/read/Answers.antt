@@ -13,5 +13,5 @@ returns-in_err-places-clause-reads g c =
 pub returns-clause-reads : goal.returns-clause-reads
 returns-clause-reads g c =
     let index = c.args.at.now.index.now in
-    rw c.or_stop.ensures (ReadsFor-bodies (meaning (triage c.args.self.now.count)) _ index (alone index) g.D.Dumps.state _ _ (λ _. refl) (seen_triage index) _ c.load_bodies.ensures.loads
+    rw c.or_stop.ensures (ReadsFor-bodies (meaning (triage c.args.self.now.count)) _ index (alone _ index) g.D.Dumps.state _ _ (λ _. refl) (seen_triage index) _ c.load_bodies.ensures.loads
     (told-loaded _ index _ _ c.load_bodies.ensures.bodies))

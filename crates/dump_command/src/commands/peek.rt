@@ -1,0 +1,257 @@
+// `peek`: terms of a heap of any size.
+ghost use Rattle.std.specs.Prelude.{◌≡◌, ◌+◌, ◌-◌, ◌<◌, ◌≤◌, List, ◌++◌, length, map, All, IfErr, IfOk, IfSome, OnOk};
+ghost use Rattle.std.specs.List.{between};
+ghost use Rattle.binary_refs.specs.Previews.{AreFor};
+ghost use Rattle.command_words.specs.Command.{peek_roots, peek_term, IsAskInRange};
+ghost use Rattle.dump_io.specs.Dumps.{size_of, IfTold, IsOpen, ReadsAtMost};
+ghost use Rattle.dump_sections.specs.Bodies.{body_size, section_in};
+ghost use Rattle.dump_sections.specs.Index.{IsBuiltOver};
+ghost use Rattle.heap_lines.specs.Wholes.{is_known, HasLines, ServesLines};
+ghost use Rattle.root_views.specs.Seen.{content};
+ghost use Rattle.root_lines.specs.Shown.{shown_roots, IsPlaced, IsRootsCauseOf};
+ghost use Rattle.term_forms.specs.Seen.{element};
+ghost use Rattle.term_text.specs.Reach.{root_elements, term_in};
+ghost use Rattle.term_text.specs.Roots.{answer_over, shown_report, term_report};
+ghost use Rattle.dump_command.specs.Terms.{address_cause};
+ghost use Rattle.dump_command.specs.Inner.Loads.{walk_in, AreAnswered, AreRootsFound, ReadsPart};
+ghost use Rattle.dump_command.specs.Inner.Reading.{StopsFor};
+ghost use Rattle.dump_command.specs.Inner.Stops.{Judges};
+
+use crate::commands::subjects::find_process;
+use crate::open::Opened;
+use crate::report::Report;
+use crate::status::DONE;
+use crate::stop::Stop;
+use binary_refs::Previews;
+use dump_io::{Dumps, Sink};
+use heap_cells::Heap;
+use heap_lines::HeapLines;
+use heap_parts::load_part;
+use report_text::Refusal;
+use root_lines::{RootsFault, ShownRoots};
+use root_views::{Root, RootKind, What};
+use std::alloc::{AllocError, Global};
+use term_forms::shapes::Elem;
+use term_text::{put_shown_roots, put_term};
+use term_unfold::{Addresses, Walker};
+
+/// `peek` with an address.
+#[derive(Clone, Copy)]
+pub(crate) struct PeekTerm<'a> {
+    pub(crate) pid: &'a [u8],
+    pub(crate) addr: u64,
+    pub(crate) nodes: u32,
+    pub(crate) marked: bool,
+}
+
+/// `peek` with a kind of roots.
+#[derive(Clone, Copy)]
+pub(crate) struct PeekRoots<'a> {
+    pub(crate) pid: &'a [u8],
+    pub(crate) kind: RootKind,
+    pub(crate) first: u64,
+    pub(crate) count: u32,
+    pub(crate) nodes: u32,
+    pub(crate) marked: bool,
+}
+
+/// As much of a heap as its terms need that are shown, and the previews of its binaries.
+#[derive(Drop)]
+pub(crate) struct HeapPart {
+    heap: Heap,
+    previews: Previews,
+}
+
+/// The roots that are shown, the offset of their body, and a part of the heap to which they refer.
+#[derive(Drop)]
+pub(crate) struct RootsPart {
+    roots: ShownRoots,
+    base: u64,
+    part: HeapPart,
+}
+
+// Refuses an address that no line of the heap has.
+fn find_line(lines: &HeapLines, addr: u64) -> Result<(), Stop>
+    ensures { Judges (address_cause addr (is_known lines.now addr)) result }
+{
+    if lines.has(addr) {
+        Ok(())
+    } else {
+        Err(Stop::Refused(Refusal::NoAddress { addr }))
+    }
+}
+
+// Loads as much of a heap as these terms need within so many nodes of each, and the previews of its binaries.
+fn load_terms<D: Dumps>(
+    at: &Opened<'_>,
+    dumps: &mut D,
+    lines: &HeapLines,
+    terms: &[Elem<'_>],
+    nodes: u32,
+) -> Result<HeapPart, Stop>
+    requires over { IsBuiltOver (D.state dumps.old).now at.now.index.now }
+    requires serves { ServesLines lines.now (D.state dumps.old).now }
+    requires nodes { 0 < nodes }
+    ensures reads { ReadsPart at.now.limits.now.section (HasLines lines.now (D.state dumps.old).now)
+        (D.state dumps.old) (D.state dumps.new) }
+    ensures stops { IfErr result (StopsFor (D.state dumps.old) (D.state dumps.new) (λ why. ⊥)) }
+    ensures answered { IfOk result (λ part. AreAnswered (D.state dumps.old).now at.now.index.now
+        lines.now nodes (walk_in part) (map element terms.now)) }
+    ensures fits { IfOk result (λ part. AreFor part.heap.cells part.previews) }
+{
+    let heap = load_part(at.alloc, lines, dumps, terms, nodes, at.limits)?;
+    let previews = Previews::load(at.alloc, dumps, at.index, &heap)?;
+    Ok(HeapPart { heap, previews })
+}
+
+impl Report for PeekTerm<'_> {
+    type Loaded = HeapPart;
+
+    ghost asks = { λ c. peek_term c.pid.now c.addr c.nodes c.marked };
+
+    ghost seen = { λ c _ part. term_report (answer_over (walk_in part) c.nodes c.marked) c.addr };
+
+    ghost asked = { λ c. 0 < c.nodes };
+
+    ghost fits = { λ _ _ part. AreFor part.heap.cells part.previews };
+
+    fn read<D: Dumps>(&self, at: &Opened<'_>, dumps: &mut D) -> Result<HeapPart, Stop> {
+        find_process(at, self.pid)?;
+        let lines = HeapLines::load(at.alloc, dumps, at.index, self.pid)?;
+        find_line(&lines, self.addr)?;
+        let term = [Elem::Ref(self.addr)];
+        load_terms(at, dumps, &lines, &term, self.nodes)
+    }
+
+    fn put<K: Sink>(&self, at: &Opened<'_>, part: &HeapPart, out: &mut K) -> Result<u8, Stop> {
+        let mut walker = Walker::new(at.alloc, &part.heap, &part.previews)?;
+        put_term(out, &mut walker, self.addr, self.nodes, self.marked)?;
+        Ok(DONE)
+    }
+}
+
+// Reads of the roots of the body between two offsets those that are shown.
+fn read_between<D: Dumps>(
+    at: &Opened<'_>,
+    dumps: &mut D,
+    from: u64,
+    end: u64,
+    roots: &PeekRoots<'_>,
+) -> Result<(ShownRoots, u64), RootsFault>
+    requires open { IsOpen (D.state dumps.old).now }
+    requires within { end ≤ size_of (D.state dumps.old).now }
+    requires ordered { from ≤ end }
+    ensures reads { ReadsAtMost (D.state dumps.old) (D.state dumps.new) (end - from) }
+    ensures fault { IfErr result (IsRootsCauseOf (D.state dumps.old) (D.state dumps.new)) }
+    ensures base { IfOk result (λ read. read.1 ≡ from) }
+    ensures places { IfOk result (λ read. All (IsPlaced from) read.0.shown) }
+    ensures shown { IfOk result (λ read. IfTold (D.state dumps.old).now (λ dump.
+        read.0 ≡ shown_roots roots.now.kind roots.now.first roots.now.count (between from end dump))) }
+{
+    let PeekRoots {
+        kind,
+        first,
+        count,
+        ..
+    } = *roots;
+    let shown = ShownRoots::load(at.alloc, dumps, from, end, kind, first, u64::from(count))?;
+    Ok((shown, from))
+}
+
+// The same for the body of the section at `place`. A missing section counts as empty.
+fn read_roots<D: Dumps>(
+    at: &Opened<'_>,
+    dumps: &mut D,
+    place: Option<usize>,
+    roots: &PeekRoots<'_>,
+) -> Result<(ShownRoots, u64), RootsFault>
+    requires over { IsBuiltOver (D.state dumps.old).now at.now.index.now }
+    requires place { IfSome place (λ i. i < length at.now.index.now.headers) }
+    ensures reads { ReadsAtMost (D.state dumps.old) (D.state dumps.new)
+        (body_size (section_in at.now.index.now place)) }
+    ensures fault { IfErr result (IsRootsCauseOf (D.state dumps.old) (D.state dumps.new)) }
+    ensures roots { let found = section_in at.now.index.now place in IfOk result
+        (AreRootsFound (D.state dumps.old).now found roots.now.kind roots.now.first roots.now.count) }
+{
+    let Some(i) = place else {
+        return read_between(at, dumps, 0, 0, roots);
+    };
+    let section = at.index.section(i);
+    read_between(at, dumps, section.body, section.end, roots)
+}
+
+// Appends the element of a root, if it is a term.
+fn push_term<'a>(terms: &mut Vec<Elem<'a>>, found: &Root<'a>) -> Result<(), AllocError>
+    ensures { OnOk result (map element terms.new.items
+        ≡ map element terms.old.items ++ term_in (content found.now.what)) }
+{
+    if let What::Term(e) = found.what {
+        terms.push(e)?;
+    }
+    Ok(())
+}
+
+// The elements of the roots that are terms.
+fn terms_of(alloc: Global, roots: &ShownRoots) -> Result<Vec<Elem<'_>>, AllocError>
+    ensures { IfOk result (λ terms.
+        map element terms.items ≡ root_elements roots.now.shown) }
+{
+    let mut terms = Vec::new(alloc);
+    for i in 0..roots.len() {
+        push_term(&mut terms, &roots.root(i))?;
+    }
+    Ok(terms)
+}
+
+// The same for the roots that are shown.
+fn load_for_roots<D: Dumps>(
+    at: &Opened<'_>,
+    dumps: &mut D,
+    lines: &HeapLines,
+    roots: &ShownRoots,
+    nodes: u32,
+) -> Result<HeapPart, Stop>
+    requires over { IsBuiltOver (D.state dumps.old).now at.now.index.now }
+    requires serves { ServesLines lines.now (D.state dumps.old).now }
+    requires nodes { 0 < nodes }
+    ensures reads { ReadsPart at.now.limits.now.section (HasLines lines.now (D.state dumps.old).now)
+        (D.state dumps.old) (D.state dumps.new) }
+    ensures stops { IfErr result (StopsFor (D.state dumps.old) (D.state dumps.new) (λ why. ⊥)) }
+    ensures answered { IfOk result (λ part. AreAnswered (D.state dumps.old).now at.now.index.now
+        lines.now nodes (walk_in part) (root_elements roots.now.shown)) }
+    ensures fits { IfOk result (λ part. AreFor part.heap.cells part.previews) }
+{
+    let terms = terms_of(at.alloc, roots)?;
+    load_terms(at, dumps, lines, &terms, nodes)
+}
+
+impl Report for PeekRoots<'_> {
+    type Loaded = RootsPart;
+
+    ghost asks = { λ c. peek_roots c.kind c.pid.now c.first c.count c.nodes c.marked };
+
+    ghost seen = { λ c _ loaded. shown_report (answer_over (walk_in loaded.part) c.nodes c.marked)
+        loaded.base loaded.roots.shown loaded.roots.count };
+
+    ghost asked = { λ c. IsAskInRange (peek_roots c.kind c.pid.now c.first c.count c.nodes c.marked) };
+
+    ghost fits = { λ _ _ loaded. AreFor loaded.part.heap.cells loaded.part.previews
+        × All (IsPlaced loaded.base) loaded.roots.shown };
+
+    fn read<D: Dumps>(&self, at: &Opened<'_>, dumps: &mut D) -> Result<RootsPart, Stop> {
+        find_process(at, self.pid)?;
+        let place = at.index.first(self.kind.tag(), Some(self.pid));
+        let (roots, base) = read_roots(at, dumps, place, self)?;
+        let lines = HeapLines::load(at.alloc, dumps, at.index, self.pid)?;
+        let part = load_for_roots(at, dumps, &lines, &roots, self.nodes)?;
+        Ok(RootsPart { roots, base, part })
+    }
+
+    fn put<K: Sink>(&self, at: &Opened<'_>, loaded: &RootsPart, out: &mut K) -> Result<u8, Stop> {
+        let HeapPart { heap, previews } = &loaded.part;
+        let mut walker = Walker::new(at.alloc, heap, previews)?;
+        let RootsPart { roots, base, .. } = loaded;
+        put_shown_roots(out, &mut walker, roots, *base, self.nodes, self.marked)?;
+        Ok(DONE)
+    }
+}
