@@ -8,8 +8,7 @@ ghost use Rattle.section_rows.specs.Shown.{shown_cell};
 ghost use Rattle.process_table.specs.Fields.{field_table};
 ghost use Rattle.process_table.specs.Records.{record_sections};
 
-use crate::loading::load_columns;
-use crate::proc_sections::ProcSections;
+use crate::loading::load_rows;
 use dump_io::{Dumps, Limits};
 use dump_sections::{BodyFault, Index};
 use section_rows::{Column, Kept, SectionRows};
@@ -52,12 +51,8 @@ impl FieldTable {
         ensures table { IfOk result (λ table. IfTold (D.state dumps.old).now
             (λ bytes. table ≡ field_table key.now bytes)) }
     {
-        let Ok(found) = ProcSections::find(alloc, index) else {
-            return Err(BodyFault::Memory);
-        };
-        let (_, _, sections, repeated) = found.into_parts();
         let columns = [Column::Id, Column::Field(b"Name"), Column::Field(key)];
-        let rows = load_columns(alloc, dumps, index, sections.as_slice(), &columns, limits)?;
+        let (rows, repeated) = load_rows(alloc, dumps, index, &columns, limits)?;
         Ok(FieldTable { rows, repeated })
     }
 

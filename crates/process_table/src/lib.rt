@@ -4,6 +4,7 @@
 //! [`Procs::load`] finds the first section of each process and reads the bodies of
 //! these sections one after another. A caller may take the two steps itself:
 //! [`ProcSections::find`] needs only the index, and [`Procs::read`] reads the bodies.
+//! [`load_rows`] keeps what other columns show of each process.
 //!
 //! ```text
 //! let procs = Procs::load(alloc, &mut dumps, &index, &limits)?;
@@ -23,6 +24,7 @@ mod proc_sections;
 mod procs;
 
 pub use fields::FieldTable;
+pub use loading::load_rows;
 pub use proc_sections::ProcSections;
 pub use procs::{Proc, Procs};
 pub use section_rows::Kept;

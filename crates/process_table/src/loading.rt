@@ -1,12 +1,13 @@
-// Loading what columns show of the processes that were found.
+// Loading what columns show of processes.
 ghost use Rattle.std.specs.Prelude.{◌≡◌, map, IfOk, All};
 ghost use Rattle.dump_sections.specs.Index.{IsBuiltOver, sections_in};
 ghost use Rattle.dump_sections.specs.Loading.{LoadsBodies};
 ghost use Rattle.section_rows.specs.Rows.{AreRowsOf};
 ghost use Rattle.section_rows.specs.Shown.{shown_column};
-ghost use Rattle.process_table.specs.Records.{records, record_sections};
+ghost use Rattle.process_table.specs.Records.{records, record_sections, repeated};
 ghost use Rattle.process_table.specs.Inner.Finding.{IsRecordOf};
 
+use crate::proc_sections::ProcSections;
 use dump_io::{Dumps, Limits};
 use dump_sections::{BodyFault, Index};
 use section_rows::{Column, SectionRows};
@@ -30,4 +31,31 @@ pub(crate) fn load_columns<D: Dumps>(
         (record_sections (sections_in index.now))) }
 {
     SectionRows::load(alloc, dumps, index, sections, columns, limits)
+}
+
+/// Finds the processes of an index, reads the bodies of their sections one after another, and keeps a row of each
+/// with what the columns show, in dump order. Of the sections with the same pid the first counts; returns how many
+/// sections were passed over beside the rows. The index was built over the open file, which stays open.
+///
+/// Returns the faults of [`Procs::load`](crate::Procs::load), for the same causes, and reads as many bytes.
+pub fn load_rows<D: Dumps>(
+    alloc: Global,
+    dumps: &mut D,
+    index: &Index,
+    columns: &[Column<'_>],
+    limits: &Limits,
+) -> Result<(SectionRows, u64), BodyFault>
+    requires { IsBuiltOver (D.state dumps.old).now index.now }
+    ensures loads { LoadsBodies D.state (record_sections (sections_in index.now)) limits.now.section
+        dumps.old dumps.new result }
+    ensures rows { IfOk result (λ loaded. AreRowsOf (D.state dumps.old).now
+        (map shown_column columns.now) (record_sections (sections_in index.now)) loaded.0) }
+    ensures repeated { IfOk result (λ loaded. loaded.1 ≡ repeated (sections_in index.now)) }
+{
+    let Ok(found) = ProcSections::find(alloc, index) else {
+        return Err(BodyFault::Memory);
+    };
+    let (_, _, sections, repeated) = found.into_parts();
+    let rows = load_columns(alloc, dumps, index, sections.as_slice(), columns, limits)?;
+    Ok((rows, repeated))
 }

@@ -1,16 +1,15 @@
 // The process table.
-ghost use Rattle.std.specs.Prelude.{◌≡◌, ◌<◌, length, map, slice_get, None, Some, IfSome, IfOk, All, position};
+ghost use Rattle.std.specs.Prelude.{◌≡◌, ◌<◌, length, slice_get, None, Some, IfSome, IfOk, position};
 ghost use Rattle.std.specs.Str.{bytes_eq};
 ghost use Rattle.dump_io.specs.Dumps.{IfTold};
 ghost use Rattle.dump_sections.specs.Index.{IsBuiltOver, sections_in};
 ghost use Rattle.dump_sections.specs.Loading.{LoadsBodies};
-ghost use Rattle.section_rows.specs.Rows.{AreRowsOf};
 ghost use Rattle.section_rows.specs.Shown.{shown_cell};
-ghost use Rattle.process_table.specs.Records.{proc_places, records, record_sections};
+ghost use Rattle.process_table.specs.Records.{proc_places, record_sections};
 ghost use Rattle.process_table.specs.Processes.{AreBoundedProcesses, AreProcessesOver, process_at, process_table};
 ghost use Rattle.process_table.specs.Shown.{shown_process};
-ghost use Rattle.process_table.specs.Inner.Finding.{named_places, IsRecordOf};
-ghost use Rattle.process_table.specs.Inner.Joined.{all_joined, AreJoined, field_columns};
+ghost use Rattle.process_table.specs.Inner.Finding.{named_places};
+ghost use Rattle.process_table.specs.Inner.Joined.{all_joined, AreJoined};
 
 use crate::hints::Hints;
 use crate::loading::load_columns;

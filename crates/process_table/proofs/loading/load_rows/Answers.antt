@@ -3,7 +3,7 @@ use Rattle.dump_sections.specs.Index.{sections_in}
 use Rattle.process_table.specs.Records.{ProcPlaces, records}
 use Rattle.process_table.proofs.Building.{places-records}
 use Rattle.process_table.proofs.Placing.{All-records}
-use Rattle.process_table.proofs.fields.FieldTable.load.Goals as goal
+use Rattle.process_table.proofs.loading.load_rows.Goals as goal
 
 pub load_columns-requires-clause-found : goal.load_columns-requires-clause-found
 load_columns-requires-clause-found g c =
