@@ -1,5 +1,4 @@
 mod FrameFacts
 mod PlaceFacts
 mod ReadFacts
-mod Records
 mod TallyFacts

@@ -1,7 +1,6 @@
 -- Why stacks aren't gathered.
 use Rattle.std.specs.Prelude.{None}
 use Rattle.dump_io.specs.Dumps.{DeviceState}
-use Rattle.std.specs.Prelude.{None}
 use Rattle.dump_io.specs.Faults.{Cause, fails, lacks, IsCauseOf}
 use Rattle.process_stacks.specs.declared.faults.StackFault.{StackFault}
 use Rattle.process_stacks.specs.declared.faults.StackFault.TheVariants.{Read, Memory}

@@ -1,5 +1,5 @@
 // Hearing the lines of a stack.
-ghost use Rattle.std.specs.Prelude.{◌≡◌, ◌<◌, OnOk};
+ghost use Rattle.std.specs.Prelude.{◌<◌};
 ghost use Rattle.process_stacks.specs.Inner.Hearing.{IsOpen, StopsAt, TakesLines};
 
 use crate::frames::take_frames;

@@ -5,15 +5,15 @@ ghost use Rattle.dump_io.specs.Dumps.{IfTold};
 ghost use Rattle.dump_io.specs.Numbers.{dec_number};
 ghost use Rattle.dump_sections.specs.Index.{IsBuiltOver, sections_in};
 ghost use Rattle.dump_sections.specs.Loading.{LoadsBodies};
-ghost use Rattle.process_table.specs.Records.{proc_places, record_sections};
-ghost use Rattle.section_rows.specs.Rows.{cell_at, row_at, text_in, AreRowsOf};
-ghost use Rattle.process_stacks.specs.Rows.{call_in, counter_in, memory_in, name_in, pid_in, stack_columns, stack_rows};
+ghost use Rattle.process_table.specs.Records.{record_sections};
+ghost use Rattle.section_rows.specs.Rows.{cell_at, row_at, text_in};
+ghost use Rattle.process_stacks.specs.Rows.{call_in, counter_in, memory_in, name_in, pid_in, stack_rows};
 
 use dump_io::{Dumps, Limits, dec_u64};
 use dump_sections::{BodyFault, Index};
-use process_table::ProcSections;
+use process_table::load_rows;
 use section_rows::{Column, SectionRows};
-use std::alloc::{AllocError, Global};
+use std::alloc::Global;
 use std::marker::Model;
 
 // The columns of a row.
@@ -42,45 +42,6 @@ impl Model for StackProcs {
     ghost view = { λ p. p.rows.rows };
 
     ghost invariant = { λ p. p.rows.width ≡ 5 };
-}
-
-// The places of the sections of the processes that were found.
-fn places_of(alloc: Global, found: &ProcSections) -> Result<Vec<usize>, AllocError>
-    ensures { IfOk result (λ places. places.items ≡ map (λ p. p.1) found.now.places) }
-{
-    let mut places = Vec::new(alloc);
-    for p in 0..found.len() {
-        let (_pid, section) = found.at(p);
-        places.push(section)?;
-    }
-    Ok(places)
-}
-
-// The places of the sections of the processes of an index.
-fn find_places(alloc: Global, index: &Index) -> Result<Vec<usize>, AllocError>
-    ensures { IfOk result (λ places.
-        places.items ≡ map (λ p. p.1) (proc_places (sections_in index.now)).places) }
-{
-    let found = ProcSections::find(alloc, index)?;
-    places_of(alloc, &found)
-}
-
-// Loads the rows of the processes whose sections are at these places.
-fn load_rows<D: Dumps>(
-    alloc: Global,
-    dumps: &mut D,
-    index: &Index,
-    places: &[usize],
-    limits: &Limits,
-) -> Result<SectionRows, BodyFault>
-    requires over { IsBuiltOver (D.state dumps.old).now index.now }
-    requires places { places.now ≡ map (λ p. p.1) (proc_places (sections_in index.now)).places }
-    ensures loads { LoadsBodies D.state (record_sections (sections_in index.now)) limits.now.section
-        dumps.old dumps.new result }
-    ensures rows { IfOk result (AreRowsOf (D.state dumps.old).now stack_columns
-        (record_sections (sections_in index.now))) }
-{
-    SectionRows::load(alloc, dumps, index, places, &COLUMNS, limits)
 }
 
 // The text of the cell in row `i` and column `c`, if there is one.
@@ -124,10 +85,7 @@ impl StackProcs {
         ensures offsets { IfOk result (λ procs. map (λ row. row.at) procs
             ≡ map (λ s. s.at) (record_sections (sections_in index.now))) }
     {
-        let Ok(places) = find_places(alloc, index) else {
-            return Err(BodyFault::Memory);
-        };
-        let rows = load_rows(alloc, dumps, index, &places, limits)?;
+        let (rows, _repeated) = load_rows(alloc, dumps, index, &COLUMNS, limits)?;
         Ok(StackProcs { rows })
     }
 

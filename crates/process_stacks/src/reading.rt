@@ -1,7 +1,7 @@
 // Reading the stacks of processes, one after another.
-ghost use Rattle.std.specs.Prelude.{◌≡◌, ℕ, List, ◌-◌, ◌<◌, ◌≤◌, ◌++◌, [], ◌∷◌, codes, length, map, IfOk, IfErr, OnOk};
+ghost use Rattle.std.specs.Prelude.{◌≡◌, ◌-◌, ◌<◌, ◌≤◌, ◌++◌, [], ◌∷◌, codes, length, map, IfOk, IfErr, OnOk};
 ghost use Rattle.std.specs.List.{between};
-ghost use Rattle.dump_io.specs.Dumps.{told, size_of, IsOpen, ReadsAtMost};
+ghost use Rattle.dump_io.specs.Dumps.{size_of, IfTold, IsOpen, ReadsAtMost};
 ghost use Rattle.dump_sections.specs.Bodies.{body_in, body_size, section_in};
 ghost use Rattle.dump_sections.specs.Index.{IsBuiltOver};
 ghost use Rattle.section_rows.specs.Rows.{row_at};
@@ -38,8 +38,8 @@ fn hear_frames<D: Dumps>(
     requires ordered { from ≤ upto }
     ensures reads { ReadsAtMost (D.state dumps.old) (D.state dumps.new) (upto - from) }
     ensures fault { IfErr result (IsStackCauseOf (D.state dumps.old) (D.state dumps.new)) }
-    ensures frames { IfOk result (λ all. (dump : List ℕ) → (D.state dumps.old).now ≡ told dump
-        → HasFrames (between from upto dump) lines.items all.items) }
+    ensures frames { IfOk result (λ all. IfTold (D.state dumps.old).now
+        (λ dump. HasFrames (between from upto dump) lines.items all.items)) }
 {
     let mut sink = FrameSink {
         left: FRAMES,
@@ -67,8 +67,8 @@ fn read_frames<D: Dumps>(
     ensures reads { ReadsAtMost (D.state dumps.old) (D.state dumps.new)
         (body_size (section_in index.now place)) }
     ensures fault { IfErr result (IsStackCauseOf (D.state dumps.old) (D.state dumps.new)) }
-    ensures frames { IfOk result (λ all. (dump : List ℕ) → (D.state dumps.old).now ≡ told dump
-        → HasFrames (body_in dump (section_in index.now place)) lines.items all.items) }
+    ensures frames { IfOk result (λ all. IfTold (D.state dumps.old).now
+        (λ dump. HasFrames (body_in dump (section_in index.now place)) lines.items all.items)) }
 {
     let Some(i) = place else {
         return Ok(lines);
@@ -104,8 +104,8 @@ fn read_stand<D: Dumps>(
     ensures reads { ReadsAtMost (D.state dumps.old) (D.state dumps.new)
         (body_size (stack_section index.now (row_at procs.now p))) }
     ensures fault { IfErr result (IsStackCauseOf (D.state dumps.old) (D.state dumps.new)) }
-    ensures stand { IfOk result (λ stand. (dump : List ℕ) → (D.state dumps.old).now ≡ told dump
-        → shown_stand stand ≡ stand_of dump index.now (row_at procs.now p)) }
+    ensures stand { IfOk result (λ stand. IfTold (D.state dumps.old).now
+        (λ dump. shown_stand stand ≡ stand_of dump index.now (row_at procs.now p))) }
 {
     let place = stack_place(stacks, procs, p);
     let Ok(first) = first_lines(alloc, procs, p) else {
@@ -143,8 +143,8 @@ pub(crate) fn read_stands<D: Dumps>(
         (stacks_length index.now procs.now) }
     ensures fault { IfErr result (IsStackCauseOf (D.state dumps.old) (D.state dumps.new)) }
     ensures count { IfOk result (λ stands. length stands.items ≡ length procs.now) }
-    ensures stands { IfOk result (λ stands. (dump : List ℕ) → (D.state dumps.old).now ≡ told dump
-        → shown_stands stands.items ≡ map (stand_of dump index.now) procs.now) }
+    ensures stands { IfOk result (λ stands. IfTold (D.state dumps.old).now
+        (λ dump. shown_stands stands.items ≡ map (stand_of dump index.now) procs.now)) }
 {
     let mut buffer = Vec::new(alloc);
     let mut stands = Vec::new(alloc);

@@ -1,6 +1,6 @@
 // The processes of a dump by the places at which they stand.
-ghost use Rattle.std.specs.Prelude.{◌≡◌, ℕ, List, [], ◌<◌, codes, length, slice_index_or, IfOk, IfErr};
-ghost use Rattle.dump_io.specs.Dumps.{told, ReadsAtMost};
+ghost use Rattle.std.specs.Prelude.{◌≡◌, [], ◌<◌, length, slice_index_or, IfOk, IfErr};
+ghost use Rattle.dump_io.specs.Dumps.{IfTold, ReadsAtMost};
 ghost use Rattle.dump_sections.specs.Index.{IsBuiltOver};
 ghost use Rattle.size_order.specs.Sorting.{most_first};
 ghost use Rattle.process_stacks.specs.Groups.{found_from, groups, FitsStacks};
@@ -93,8 +93,8 @@ impl Stacks {
         requires { IsBuiltOver (D.state dumps.old).now index.now }
         ensures reads { ReadsAtMost (D.state dumps.old) (D.state dumps.new)
             (stacks_length index.now procs.now) }
-        ensures found { IfOk result (λ stacks. (dump : List ℕ) → (D.state dumps.old).now ≡ told dump
-            → stacks ≡ found_from dump index.now procs.now) }
+        ensures found { IfOk result (λ stacks. IfTold (D.state dumps.old).now
+            (λ dump. stacks ≡ found_from dump index.now procs.now)) }
         ensures fits { IfOk result (FitsStacks (length procs.now)) }
         ensures fault { IfErr result (IsStackCauseOf (D.state dumps.old) (D.state dumps.new)) }
     {

@@ -1,5 +1,5 @@
-use Rattle.std.proofs.Common.{◌≡◌, ℕ, List, length, map, take}
-use Rattle.dump_io.specs.Dumps.{told, ReadsAtMost}
+use Rattle.std.proofs.Common.{◌≡◌, length, map, take}
+use Rattle.dump_io.specs.Dumps.{IfTold, ReadsAtMost}
 use Rattle.process_stacks.specs.Groups.{stand_of}
 use Rattle.process_stacks.specs.Rows.{stacks_length}
 use Rattle.process_stacks.specs.Inner.Counting.{shown_stands}
@@ -12,5 +12,5 @@ invariant-loop-p g l =
     record {
       reads : ReadsAtMost (d.state l.initial.dumps) (d.state l.dumps) (stacks_length l.index (take l.p l.procs));
       count : length l.stands.items ≡ l.p;
-      stands : (dump : List ℕ) → (d.state l.initial.dumps).now ≡ told dump → shown_stands l.stands.items ≡ map (stand_of dump l.index) (take l.p l.procs);
+      stands : IfTold (d.state l.initial.dumps).now (λ dump. shown_stands l.stands.items ≡ map (stand_of dump l.index) (take l.p l.procs));
     }
