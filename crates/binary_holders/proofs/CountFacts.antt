@@ -2,7 +2,8 @@
 use Rattle.std.proofs.Common.{◌≡◌, ◌≢◌, ℕ, zero, suc, ◌+◌, ◌-◌, ◌^◌, ◌<◌, ◌≤◌, ◌==◌, Bool, true, false, cond, not, ◌&&◌, ◌||◌, List, [], ◌∷◌, ◌++◌, length, get_or, set, None, Some, refl, sym, ◌∙◌, ap, subst, arith, append-nil, append_assoc, ⊎_elim}
 use Rattle.std.specs.Prelude.{min, slice_index, replicate}
 use Rattle.std.specs.List.{count_by, sum_by, filter}
-use Rattle.std.proofs.lemmas.Bool.{cases_eq, eq-eqb, ne_eqb}
+use Rattle.std.proofs.Math.Bool.{or-false}
+use Rattle.std.proofs.lemmas.Bool.{cases_eq, eq-eqb, ne_eqb, or_right}
 use Rattle.std.proofs.lemmas.List.{get_or-map, get_or-set_same, get_or-set_other, length-set, length-map, length_push, map-append}
 use Rattle.std.proofs.lemmas.List.Folds.{list_any-append, list_any_at, list_any_none}
 use Rattle.std.proofs.lemmas.List.Elements.{All-from_get_or}
@@ -42,19 +43,11 @@ Adds-as binaries old new xs ys same had = subst (Adds binaries old new) same had
 among-push : (refs : List ℕ) (n m : ℕ) → is_among (refs ++ n ∷ []) m ≡ (is_among refs m || (n == m || false))
 among-push refs n m = list_any-append (λ x. x == m) refs (n ∷ [])
 
-or-false : (a b : Bool) → b ≡ false → (a || (b || false)) ≡ a
-or-false true b is = refl
-or-false false b is = ap (λ c. c || false) is
-
-or-true : (a b : Bool) → b ≡ true → (a || (b || false)) ≡ true
-or-true true b is = refl
-or-true false b is = ap (λ c. c || false) is
-
 among-other : (refs : List ℕ) (n m : ℕ) → n ≢ m → is_among (refs ++ n ∷ []) m ≡ is_among refs m
-among-other refs n m other = among-push refs n m ∙ or-false (is_among refs m) (n == m) (ne_eqb n m other)
+among-other refs n m other = among-push refs n m ∙ ap (λ b. is_among refs m || (b || false)) (ne_eqb n m other) ∙ or-false (is_among refs m)
 
 among-here : (refs : List ℕ) (n m : ℕ) → n ≡ m → is_among (refs ++ n ∷ []) m ≡ true
-among-here refs n m same = among-push refs n m ∙ or-true (is_among refs m) (n == m) (eq-eqb n m same)
+among-here refs n m same = among-push refs n m ∙ or_right (is_among refs m) (n == m || false) (ap (λ b. b || false) (eq-eqb n m same))
 
 abbrev pub no_binary : Binary
 no_binary = record { number = 0; size = 0 }

@@ -4,13 +4,15 @@ use Rattle.std.specs.Prelude.{All, cond, is_some, nat_lt, position, unwrap_or}
 use Rattle.std.specs.List.{position_or_len}
 use Rattle.std.specs.Option.{option_or}
 use Rattle.std.specs.Str.{bytes_eq}
-use Rattle.std.proofs.lemmas.Bool.{cases_eq, false≢true, false_from_ne_true, lt-ltb, ltb-false}
-use Rattle.std.proofs.lemmas.List.{take_more, same_lists, get_or-map, get_or-set_same, get_or-set_other, length-map, length-set, length-take-le}
+use Rattle.std.proofs.lemmas.Bool.{cases_eq, false≢true, not-true, false_from_ne_true, lt-ltb, ltb-false}
+use Rattle.std.proofs.lemmas.List.{same_lists, get_or-map, get_or-set_same, get_or-set_other, length-map, length-set, length-take-le}
 use Rattle.std.proofs.lemmas.List.Elements.{All-filter, All-weaker, filter_passes}
 use Rattle.std.proofs.lemmas.List.Quantifiers.{position-Some}
 use Rattle.std.proofs.lemmas.List.Sums.{position_or_len_is, fails_before_first}
-use Rattle.std.proofs.lemmas.Option.{get_or_from_slice_get, same_Some, slice_get_within, slice_get-get_or}
+use Rattle.std.proofs.lemmas.Option.{same_Some, slice_get_within, slice_get-get_or}
 use Rattle.std.proofs.lemmas.Slice.Eq.{bytes_eq-Decides}
+use Rattle.dump_io.specs.Laws.Lists.{take-at}
+use Rattle.dump_io.specs.Laws.Options.{or-none, or-second, or-some}
 use Rattle.dump_sections.specs.Index.{Contents, sections_in}
 use Rattle.dump_sections.specs.Laws.{first-more, first-passed}
 use Rattle.dump_sections.specs.Sections.{Section}
@@ -20,10 +22,6 @@ use Rattle.binary_holders.specs.Inner.Heaps.{AreApart, AreHeaps, heap_id}
 use Rattle.binary_holders.specs.Inner.Places.{heap_place}
 
 -- ---- no two records have one pid
-
-not-true : (b : Bool) → not b ≡ true → b ≡ false
-not-true true is = absurd (false≢true is)
-not-true false is = refl
 
 abbrev Apart : List PlacedSection → Type 0
 Apart [] = Unit {0}
@@ -76,25 +74,10 @@ apart-records index table over = record {
 
 -- ---- one section more
 
-or-none : {X : Type 0} (o : Option X) → option_or o None ≡ o
-or-none None = refl
-or-none (Some x) = refl
-
-or-some : {X : Type 0} (o more : Option X) → is_some o ≡ true → option_or o more ≡ o
-or-some None more is = absurd (let no : ⊥ = cc (is) in no)
-or-some (Some x) more is = refl
-
-or-left : {X : Type 0} (o more : Option X) → is_some o ≡ false → option_or o more ≡ more
-or-left None more is = refl
-or-left (Some x) more is = absurd (let no : ⊥ = cc (is) in no)
-
 abbrev heap_of : List Section → Process → Option ℕ
 heap_of sections process = heap_place sections process.pid
 
 module _ (processes : List Process) (sections : List Section) (i : ℕ) (s : Section) (at : slice_get sections i ≡ Some s) (heaps : List (Option ℕ)) (before : AreHeaps processes (take i sections) heaps) where
-  one-more : take (i + 1) sections ≡ take i sections ++ s ∷ []
-  one-more = take_more sections i s (slice_get_within sections i s at) ∙ ap (λ y. take i sections ++ y ∷ []) (get_or_from_slice_get sections i s s at)
-
   count : length heaps ≡ length processes
   count = ap length before.are ∙ length-map processes (heap_of (take i sections))
 
@@ -107,7 +90,7 @@ module _ (processes : List Process) (sections : List Section) (i : ℕ) (s : Sec
   by-place after size each = record {
     are = same_lists after (map (heap_of (take i sections ++ s ∷ [])) processes) (size ∙ sym (length-map processes (heap_of (take i sections ++ s ∷ []))))
         (λ k d inside. each k d (omega (arith, inside, size)) ∙ sym (get_or-map (heap_of (take i sections ++ s ∷ [])) processes k nobody d (omega (arith, inside, size))))
-        ∙ ap (λ l. map (heap_of l) processes) (sym one-more);
+        ∙ ap (λ l. map (heap_of l) processes) (sym (take-at sections i s at));
   }
 
   pub heaps-passed : heap_id s ≡ None → AreHeaps processes (take (i + 1) sections) heaps
@@ -159,7 +142,7 @@ module _ (processes : List Process) (sections : List Section) (i : ℕ) (s : Sec
           let size : length (take i sections) ≡ i = length-take-le i sections (omega (arith, slice_get_within sections i s at)) in
           ap (λ m. get_or (set heaps p (Some i)) m d) same ∙ get_or-set_same heaps p (Some i) d (omega (arith, known.0, count))
           ∙ sym (first-more (codes "proc_heap") (take i sections) s id (get_or processes k nobody).pid some
-          ∙ or-left (heap_of (take i sections) (get_or processes k nobody)) _ (ap is_some (sym (at-heap k None inside)) ∙ ap (λ m. is_some (get_or heaps m None)) same ∙ gone)
+          ∙ or-second (heap_of (take i sections) (get_or processes k nobody)) _ (ap is_some (sym (at-heap k None inside)) ∙ ap (λ m. is_some (get_or heaps m None)) same ∙ gone)
           ∙ ap (λ b. if b then Some (length (take i sections)) else None) (ap (λ m. bytes_eq id (get_or processes m nobody).pid) same ∙ known.1)
           ∙ ap Some size))
           (λ other. get_or-set_other heaps p k (Some i) d other ∙ stays k d inside (others k inside other))

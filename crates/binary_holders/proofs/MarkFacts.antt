@@ -9,6 +9,7 @@ use Rattle.memchr.specs.Find.{OccursAt, NoneBefore, Nowhere, Passes, is_byte}
 use Rattle.memchr.proofs.lemmas.FindLemmas.{Nowhere-then, Nowhere-more}
 use Rattle.dump_io.specs.Laws.HexNumbers.{hex_number-short}
 use Rattle.dump_io.specs.Laws.Lines.{AreLines-raw}
+use Rattle.dump_io.specs.Laws.Options.{none-of}
 use Rattle.dump_io.specs.Laws.Reads.{take-two}
 use Rattle.dump_io.specs.Lines.{lf, cr, raw_lines, text_of}
 use Rattle.dump_io.specs.Numbers.{hex_number}
@@ -33,10 +34,6 @@ AreForms enc = (text : List ℕ) (f : HeapForm) → (form_of enc text ≡ Some f
 
 abbrev pub binary_mark : List ℕ
 binary_mark = codes ":Y"
-
-none-of : {X : Type 0} (o : Option X) → ((x : X) → o ≡ Some x → ⊥) → o ≡ None
-none-of None never = refl
-none-of (Some x) never = absurd (never x refl)
 
 -- a text that refers to a binary: its address in hex, a mark, and a range
 pub record Refers (text : List ℕ) : Type 0 where

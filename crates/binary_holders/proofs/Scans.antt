@@ -1,10 +1,11 @@
 -- A heap is counted line by line, and piece by piece.
-use Rattle.std.proofs.Common.{◌≡◌, ℕ, ◌+◌, ◌≤◌, ◌==◌, true, false, List, [], ◌∷◌, ◌++◌, length, Option, None, Some, refl, sym, ◌∙◌, ap, arith, append_assoc, append-nil, if◌then◌else◌}
+use Rattle.std.proofs.Common.{◌≡◌, ℕ, ◌+◌, ◌≤◌, List, [], ◌∷◌, ◌++◌, length, Option, None, Some, refl, sym, ◌∙◌, ap, arith, append_assoc, append-nil}
 use Rattle.std.specs.Prelude.{map}
 use Rattle.std.specs.List.{filter_map, cons_option}
 use Rattle.std.specs.Option.{option_to_list, option_map, option_and_then}
 use Rattle.std.proofs.lemmas.List.Elements.{filter_map-append}
-use Rattle.dump_io.specs.Lines.{lf, raw_lines, lines_after, lines_from, text_of}
+use Rattle.dump_io.specs.Laws.Lines.{length-raw_lines}
+use Rattle.dump_io.specs.Lines.{raw_lines, lines_from, text_of}
 use Rattle.field_lines.specs.Lines.{text_line}
 use Rattle.heap_cells.specs.Cells.{Cell, cell_of, spelled_cell}
 use Rattle.binary_payloads.specs.declared.enc.Enc.{Enc}
@@ -60,16 +61,6 @@ pub references-of-lines : (enc : Enc) (body : List ℕ) → references enc body 
 references-of-lines enc body = lines-same enc 0 (raw_lines body)
 
 -- a body refers to no more binaries than it has bytes
-few-lines : (bytes : List ℕ) → length (raw_lines bytes) ≤ length bytes
-few-lines [] = omega arith
-few-lines (c ∷ bytes) =
-    elim (c == lf) as (λ b. length (if b then (c ∷ []) ∷ raw_lines bytes else lines_after c (raw_lines bytes)) ≤ length (c ∷ bytes))
-    [ true ↦ omega (arith, few-lines bytes) | false ↦ omega (arith, few-lines bytes, after (raw_lines bytes)) ]
-  where
-    after : (lines : List (List ℕ)) → length (lines_after c lines) ≤ length lines + 1
-    after [] = omega arith
-    after (line ∷ lines) = omega arith
-
 few-kept : (h : List ℕ → Option Reference) (lines : List (List ℕ)) → length (filter_map h lines) ≤ length lines
 few-kept h [] = omega arith
 few-kept h (line ∷ lines) =
@@ -77,4 +68,4 @@ few-kept h (line ∷ lines) =
     [ None ↦ omega (arith, few-kept h lines) | Some n ↦ omega (arith, few-kept h lines) ]
 
 pub few-references : (enc : Enc) (body : List ℕ) → length (references enc body) ≤ length body
-few-references enc body = omega (arith, ap length (references-of-lines enc body), few-kept (line_reference enc) (raw_lines body), few-lines body)
+few-references enc body = omega (arith, ap length (references-of-lines enc body), few-kept (line_reference enc) (raw_lines body), length-raw_lines body)

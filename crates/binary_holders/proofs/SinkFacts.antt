@@ -12,7 +12,6 @@ use Rattle.binary_payloads.specs.declared.enc.Enc.{Enc}
 use Rattle.binary_holders.specs.declared.heap_sink.HeapSink.{HeapSink}
 use Rattle.binary_holders.specs.Inner.HeapSinks.{cut_references, AddsLines}
 use Rattle.binary_holders.specs.Inner.Lines.{line_reference, line_references}
-use Rattle.binary_holders.specs.Inner.Counting.{KeepsRoom}
 use Rattle.binary_holders.proofs.LineFacts.{one-more}
 use Rattle.binary_holders.proofs.MarkFacts.{AreLed, AreForms, line-long}
 use Rattle.binary_holders.proofs.CountFacts.{Adds-as, Adds-then, Adds-none, keeps-then}

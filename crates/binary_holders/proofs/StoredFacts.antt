@@ -5,12 +5,14 @@ use Rattle.std.specs.BTreeMap.{BTreeMap, get}
 use Rattle.std.specs.List.{cons_option, filter_map}
 use Rattle.std.specs.Option.{option_map, option_to_list}
 use Rattle.std.specs.Ordering.{nat_cmp, is_eq}
+use Rattle.std.proofs.Math.Bool.{or_assoc, or_comm}
 use Rattle.std.proofs.lemmas.Bool.{cases_eq, cases_lt, eq-eqb, ne_eqb}
 use Rattle.std.proofs.lemmas.Bool.Decides.{nat_tests}
-use Rattle.std.proofs.lemmas.List.{take_more, map_push, get_or_append_left, get_or_push, length_push, length-map}
+use Rattle.std.proofs.lemmas.List.{map_push, get_or_append_left, get_or_push, length_push, length-map}
 use Rattle.std.proofs.lemmas.List.Elements.{All-push, All-from_get_or, filter_map-append}
 use Rattle.std.proofs.lemmas.List.Folds.{list_any_at, list_any_none}
-use Rattle.std.proofs.lemmas.Option.{get_or_from_slice_get, slice_get_within}
+use Rattle.dump_io.specs.Laws.Lists.{take-at}
+use Rattle.dump_io.specs.Laws.Options.{none-where}
 use Rattle.dump_sections.specs.Bodies.{section_at}
 use Rattle.dump_sections.specs.Index.{Contents, sections_in}
 use Rattle.dump_sections.specs.Sections.{Section}
@@ -25,12 +27,6 @@ use Rattle.binary_holders.specs.Inner.Places.{ArePlaces, IsOnlyPlace}
 
 abbrev numbers : List Stored → List ℕ
 numbers binaries = map (λ (b : Stored). b.number) binaries
-
-or-swap : (a b c : Bool) → ((a || b) || c) ≡ (b || (a || c))
-or-swap true true c = refl
-or-swap true false c = refl
-or-swap false true c = refl
-or-swap false false c = refl
 
 push-none : (seen : List ℕ) (y : Stored) (b : Bool) → (if b then firsts seen [] else y ∷ firsts (y.number ∷ seen) []) ≡ [] ++ (if b || false then [] else y ∷ [])
 push-none seen y true = refl
@@ -52,7 +48,8 @@ firsts-push seen (x ∷ xs) y = by (is_among seen x.number) (firsts-push seen xs
     by false here later =
         ap (λ l. x ∷ l) later
         ∙ ap (λ b. x ∷ (firsts (x.number ∷ seen) xs ++ (if b then [] else y ∷ [])))
-        (or-swap (x.number == y.number) (is_among seen y.number) (is_among (numbers (firsts (x.number ∷ seen) xs)) y.number))
+        (ap (λ b. b || is_among (numbers (firsts (x.number ∷ seen) xs)) y.number) (or_comm (x.number == y.number) (is_among seen y.number))
+        ∙ or_assoc (is_among seen y.number) (x.number == y.number) (is_among (numbers (firsts (x.number ∷ seen) xs)) y.number))
 
 pub stored-push : (before : List Section) (s : Section)
     → stored (before ++ s ∷ []) ≡ firsts [] (filter_map stored_binary before ++ option_to_list (stored_binary s))
@@ -130,9 +127,6 @@ places-new places after ns n are none here others = record {
 
 -- ---- one section more
 
-take-section : (sections : List Section) (i : ℕ) (s : Section) → slice_get sections i ≡ Some s → take (i + 1) sections ≡ take i sections ++ s ∷ []
-take-section sections i s at = take_more sections i s (slice_get_within sections i s at) ∙ ap (λ y. take i sections ++ y ∷ []) (get_or_from_slice_get sections i s s at)
-
 module _ (index : Contents) (i : ℕ) (at : slice_get (sections_in index) i ≡ Some (section_at index i)) (found : Found) (before : AreFound index (take i (sections_in index)) found) where
   abbrev s : Section
   s = section_at index i
@@ -141,11 +135,11 @@ module _ (index : Contents) (i : ℕ) (at : slice_get (sections_in index) i ≡ 
   same-found same = record { are = before.are ∙ sym same; within = before.within; places = before.places }
 
   pub found-passed : binary_number s ≡ None → AreFound index (take (i + 1) (sections_in index)) found
-  found-passed none = same-found (ap stored (take-section (sections_in index) i s at) ∙ stored-passed (take i (sections_in index)) s none)
+  found-passed none = same-found (ap stored (take-at (sections_in index) i s at) ∙ stored-passed (take i (sections_in index)) s none)
 
   pub found-again : (n : ℕ) → binary_number s ≡ Some n → is_some (get nat_cmp found.places n) ≡ true → AreFound index (take (i + 1) (sections_in index)) found
   found-again n some there =
-      same-found (ap stored (take-section (sections_in index) i s at)
+      same-found (ap stored (take-at (sections_in index) i s at)
       ∙ stored-more (take i (sections_in index)) s n true some (among-found index (take i (sections_in index)) found n before ∙ there)
       ∙ append-nil (stored (take i (sections_in index))))
 
@@ -157,14 +151,10 @@ module _ (index : Contents) (i : ℕ) (at : slice_get (sections_in index) i ≡ 
       let one : StoredAt = record { number = n; section = i } in
       record {
         are = ap (map (stored_of index)) items ∙ map_push (stored_of index) found.binaries.items one ∙ ap (λ l. l ++ stored_at s n ∷ []) before.are
-            ∙ sym (ap stored (take-section (sections_in index) i s at)
+            ∙ sym (ap stored (take-at (sections_in index) i s at)
             ∙ stored-more (take i (sections_in index)) s n false some (among-found index (take i (sections_in index)) found n before ∙ gone));
         within = subst (All (λ (b : StoredAt). b.section < length index.headers)) (sym items) (All-push (λ (b : StoredAt). b.section < length index.headers) found.binaries.items one before.within inside);
         places = subst (ArePlaces after.places) (sym (ap numbers_of items ∙ map_push (λ (b : StoredAt). b.number) found.binaries.items one))
             (places-new found.places after.places (numbers_of found.binaries.items) n before.places (none-where (get nat_cmp found.places n) gone)
             (here ∙ ap Some (sym (length-map found.binaries.items (λ (b : StoredAt). b.number)))) others);
       }
-    where
-      none-where : {X : Type 0} (o : Option X) → is_some o ≡ false → o ≡ None
-      none-where None is = refl
-      none-where (Some x) is = absurd (let no : ⊥ = cc (is) in no)

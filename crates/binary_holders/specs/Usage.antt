@@ -1,7 +1,8 @@
 -- The binaries of a dump and their holders.
-use Rattle.std.specs.Prelude.{ℕ, ◌*◌, ◌<◌, List, [], ◌∷◌, map, nat_lt, codes}
+use Rattle.std.specs.Prelude.{ℕ, ◌*◌, ◌<◌, List, [], ◌∷◌, None, map, nat_lt, codes}
 use Rattle.std.specs.List.{count_by, flat_map, sum_by}
-use Rattle.dump_io.specs.Dumps.{DeviceState, DeviceFailed}
+use Rattle.dump_io.specs.Dumps.{DeviceState}
+use Rattle.dump_io.specs.Faults.{Cause, fails, lacks, IsCauseOf}
 use Rattle.dump_sections.specs.Bodies.{body_size}
 use Rattle.dump_sections.specs.Index.{Contents, sections_in}
 use Rattle.dump_sections.specs.Lookups.{has_tag}
@@ -104,7 +105,11 @@ heaps_length index pids = sum_by (λ pid. body_size (heap_section pid (sections_
 abbrev pub fronts_length : Contents → ℕ
 fronts_length index = 17 * count_by (λ section. has_tag (codes "binary") section.text) (sections_in index)
 
+-- what such a fault says: nothing is refused
+abbrev pub holder_cause : HolderFault → Cause ⊥
+holder_cause Read = fails
+holder_cause Memory = lacks
+
 -- why holders aren't found: the device failed; memory may be lacking at any time
 abbrev pub IsHolderCauseOf : DeviceState → DeviceState → HolderFault → Type 0
-IsHolderCauseOf before after Read = DeviceFailed before after
-IsHolderCauseOf before after Memory = Unit {0}
+IsHolderCauseOf before after fault = IsCauseOf None before after (holder_cause fault)

@@ -1,7 +1,5 @@
 // Counting what the lines of heaps refer to.
-ghost use Rattle.std.specs.Prelude.{◌≡◌, ◌+◌, ◌<◌, ◌^◌, [], ◌∷◌, length, OnOk};
-ghost use Rattle.body_lines.specs.Lines.{cut_lines};
-ghost use Rattle.body_lines.specs.Hearing.{Hears};
+ghost use Rattle.std.specs.Prelude.{◌≡◌, ◌<◌};
 ghost use Rattle.binary_holders.specs.Inner.HeapSinks.{IsReady, AddsLines};
 
 use crate::counts::Counts;

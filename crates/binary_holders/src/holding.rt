@@ -1,10 +1,9 @@
 // The processes that hold binaries, one heap after another.
-ghost use Rattle.std.specs.Prelude.{◌≡◌, ℕ, List, [], ◌∷◌, ◌++◌, ◌+◌, ◌^◌, ◌<◌, ◌≤◌, length, map, All, nat_lt, OnOk, IfOk, IfErr, OnErr, if◌then◌else◌};
+ghost use Rattle.std.specs.Prelude.{◌≡◌, ℕ, List, [], ◌∷◌, ◌++◌, ◌+◌, ◌^◌, ◌<◌, ◌≤◌, length, map, All, nat_lt, OnOk, IfOk, IfErr, if◌then◌else◌};
 ghost use Rattle.std.specs.List.{flat_map, sum_by};
-ghost use Rattle.dump_io.specs.Dumps.{told, DeviceFailed, ReadsAtMost};
+ghost use Rattle.dump_io.specs.Dumps.{DeviceFailed, IfTold, ReadsAtMost};
 ghost use Rattle.dump_sections.specs.Index.{IsBuiltOver};
 ghost use Rattle.binary_holders.specs.Held.{holdings, whole_lines};
-ghost use Rattle.binary_holders.specs.HeapReferences.{numbers_referred};
 ghost use Rattle.binary_holders.specs.Usage.{IsHolderCauseOf, NamesProcess};
 ghost use Rattle.binary_holders.specs.Inner.Places.{IsWithin, numbers_at, references_at, size_at};
 ghost use Rattle.binary_holders.specs.declared.texts.Reference.{Reference};
@@ -21,7 +20,6 @@ use crate::rows::Holding;
 use crate::scanning::count_heap;
 use dump_io::Dumps;
 use dump_sections::Index;
-use heap_cells::enc_of;
 use std::alloc::Global;
 
 // Counts the references of the heap at a place. A process without a heap refers to nothing.
@@ -41,9 +39,9 @@ fn count_section<D: Dumps>(
     ensures failed { IfErr result (λ fault.
         (fault ≡ HolderFault.Read) × DeviceFailed (D.state dumps.old) (D.state dumps.new)) }
     ensures keeps { OnOk result (KeepsTargets sink.old sink.new) }
-    ensures adds { OnOk result ((dump : List ℕ) → (D.state dumps.old).now ≡ told dump
-        → Adds sink.old.targets.now sink.old.counts sink.new.counts
-        (references_at dump index.now place)) }
+    ensures adds { OnOk result (IfTold (D.state dumps.old).now
+        (λ dump. Adds sink.old.targets.now sink.old.counts sink.new.counts
+        (references_at dump index.now place))) }
 {
     let Some(i) = place else {
         return Ok(());
@@ -90,24 +88,24 @@ fn count_process<D: Dumps>(
     ensures room { OnOk result (IsReady sink.new) }
     ensures enc { OnOk result (sink.new.enc ≡ sink.old.enc) }
     ensures targets { OnOk result (sink.new.targets.now ≡ sink.old.targets.now) }
-    ensures held { OnOk result ((dump : List ℕ) → (D.state dumps.old).now ≡ told dump
-        → (before : List (List ℕ)) → process ≡ length before
+    ensures held { OnOk result (IfTold (D.state dumps.old).now
+        (λ dump. (before : List (List ℕ)) → process ≡ length before
         → HasCounted sink.old.targets.now before [] sink.old.counts
         → held.old.items ≡ holdings sink.old.targets.now before
         → held.new.items
-        ≡ holdings sink.old.targets.now (before ++ numbers_at dump index.now place ∷ [])) }
+        ≡ holdings sink.old.targets.now (before ++ numbers_at dump index.now place ∷ []))) }
     ensures named { OnOk result ((count : ℕ) → process < count
         → All (NamesProcess count) held.old.items → All (NamesProcess count) held.new.items) }
-    ensures counted { OnOk result ((dump : List ℕ) → (D.state dumps.old).now ≡ told dump
-        → (before : List (List ℕ))
+    ensures counted { OnOk result (IfTold (D.state dumps.old).now
+        (λ dump. (before : List (List ℕ))
         → HasCounted sink.old.targets.now before [] sink.old.counts
         → HasCounted sink.old.targets.now
-        (before ++ numbers_at dump index.now place ∷ []) [] sink.new.counts) }
-    ensures lines { OnOk result ((dump : List ℕ) → (D.state dumps.old).now ≡ told dump
-        → (before : List Reference)
+        (before ++ numbers_at dump index.now place ∷ []) [] sink.new.counts)) }
+    ensures lines { OnOk result (IfTold (D.state dumps.old).now
+        (λ dump. (before : List Reference)
         → sink.old.counts.lines ≡ whole_lines sink.old.targets.now before
         → sink.new.counts.lines
-        ≡ whole_lines sink.old.targets.now (before ++ references_at dump index.now place)) }
+        ≡ whole_lines sink.old.targets.now (before ++ references_at dump index.now place))) }
 {
     count_section(dumps, index, place, buffer, sink)?;
     push_holding(held, process, &sink.counts)?;
@@ -137,16 +135,16 @@ pub(crate) fn count_all<D: Dumps>(
         (sum_by (size_at index.now) heaps.now) }
     ensures fault { IfErr result (IsHolderCauseOf (D.state dumps.old) (D.state dumps.new)) }
     ensures room { OnOk result (HasRoom (length sink.old.targets.now) sink.new.counts) }
-    ensures held { IfOk result (λ held. (dump : List ℕ) → (D.state dumps.old).now ≡ told dump
-        → held.items
-        ≡ holdings sink.old.targets.now (map (numbers_at dump index.now) heaps.now)) }
+    ensures held { IfOk result (λ held. IfTold (D.state dumps.old).now
+        (λ dump. held.items
+        ≡ holdings sink.old.targets.now (map (numbers_at dump index.now) heaps.now))) }
     ensures named { IfOk result (λ held. All (NamesProcess (length heaps.now)) held.items) }
-    ensures counted { OnOk result ((dump : List ℕ) → (D.state dumps.old).now ≡ told dump
-        → HasCounted sink.old.targets.now
-        (map (numbers_at dump index.now) heaps.now) [] sink.new.counts) }
-    ensures lines { OnOk result ((dump : List ℕ) → (D.state dumps.old).now ≡ told dump
-        → sink.new.counts.lines
-        ≡ whole_lines sink.old.targets.now (flat_map (references_at dump index.now) heaps.now)) }
+    ensures counted { OnOk result (IfTold (D.state dumps.old).now
+        (λ dump. HasCounted sink.old.targets.now
+        (map (numbers_at dump index.now) heaps.now) [] sink.new.counts)) }
+    ensures lines { OnOk result (IfTold (D.state dumps.old).now
+        (λ dump. sink.new.counts.lines
+        ≡ whole_lines sink.old.targets.now (flat_map (references_at dump index.now) heaps.now))) }
 {
     let mut held = Vec::new(alloc);
     for process in 0..heaps.len() {

@@ -1,8 +1,8 @@
 // Counting what the lines of a heap refer to.
-ghost use Rattle.std.specs.Prelude.{◌≡◌, ℕ, List, ◌+◌, ◌-◌, ◌<◌, ◌≤◌, ◌++◌, length, take, OnOk, OnErr};
+ghost use Rattle.std.specs.Prelude.{◌≡◌, ◌+◌, ◌-◌, ◌<◌, ◌≤◌, ◌++◌, length, take, OnOk, OnErr};
 ghost use Rattle.std.specs.List.{between};
 ghost use Rattle.std.specs.Option.{option_to_list};
-ghost use Rattle.dump_io.specs.Dumps.{told, size_of, IsOpen, DeviceFailed, ReadsAtMost};
+ghost use Rattle.dump_io.specs.Dumps.{size_of, IsOpen, IfTold, DeviceFailed, ReadsAtMost};
 ghost use Rattle.binary_holders.specs.HeapReferences.{references};
 ghost use Rattle.binary_holders.specs.declared.heap_sink.TheConstants.{KEPT};
 ghost use Rattle.binary_holders.specs.Inner.Lines.{line_references};
@@ -107,9 +107,9 @@ pub(crate) fn count_heap<D: Dumps>(
     ensures reads { ReadsAtMost (D.state dumps.old) (D.state dumps.new) (upto - from) }
     ensures failed { OnErr result (DeviceFailed (D.state dumps.old) (D.state dumps.new)) }
     ensures keeps { OnOk result (KeepsTargets sink.old sink.new) }
-    ensures adds { OnOk result ((dump : List ℕ) → (D.state dumps.old).now ≡ told dump
-        → Adds sink.old.targets.now sink.old.counts sink.new.counts
-        (references sink.old.enc (between from upto dump))) }
+    ensures adds { OnOk result (IfTold (D.state dumps.old).now
+        (λ dump. Adds sink.old.targets.now sink.old.counts sink.new.counts
+        (references sink.old.enc (between from upto dump)))) }
 {
     number_is_read();
     form_is_read(sink.enc);

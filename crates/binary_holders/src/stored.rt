@@ -1,6 +1,6 @@
 // The binaries outside the heaps, from the sections of a dump.
-ghost use Rattle.std.specs.Prelude.{◌≡◌, ℕ, List, ◌+◌, ◌*◌, ◌<◌, ◌≤◌, length, map, take, All, IfOk, OnOk, IfErr};
-ghost use Rattle.dump_io.specs.Dumps.{told, DeviceFailed, ReadsAtMost};
+ghost use Rattle.std.specs.Prelude.{◌≡◌, ◌+◌, ◌*◌, ◌<◌, ◌≤◌, length, map, take, All, IfOk, OnOk, IfErr};
+ghost use Rattle.dump_io.specs.Dumps.{DeviceFailed, IfTold, ReadsAtMost};
 ghost use Rattle.dump_sections.specs.Index.{IsBuiltOver, sections_in};
 ghost use Rattle.binary_holders.specs.Usage.{sized_binary, IsHolderCauseOf};
 ghost use Rattle.binary_holders.specs.Inner.Finding.{AreFound, numbers_of, stored_of};
@@ -76,8 +76,8 @@ fn read_binary<D: Dumps>(
     ensures failed { IfErr result (λ fault.
         (fault ≡ HolderFault.Read) × DeviceFailed (D.state dumps.old) (D.state dumps.new)) }
     ensures number { IfOk result (λ binary. binary.number ≡ stored.now.number) }
-    ensures size { IfOk result (λ binary. (dump : List ℕ) → (D.state dumps.old).now ≡ told dump
-        → binary ≡ sized_binary dump (stored_of index.now stored.now)) }
+    ensures size { IfOk result (λ binary. IfTold (D.state dumps.old).now
+        (λ dump. binary ≡ sized_binary dump (stored_of index.now stored.now))) }
 {
     let Ok(size) = read_size(dumps, index, stored.section) else {
         return Err(HolderFault::Read);
@@ -100,9 +100,9 @@ pub(crate) fn read_sizes<D: Dumps>(
     ensures reads { ReadsAtMost (D.state dumps.old) (D.state dumps.new) (17 * length stored.now) }
     ensures fault { IfErr result (IsHolderCauseOf (D.state dumps.old) (D.state dumps.new)) }
     ensures numbers { IfOk result (λ binaries. numbers_in binaries.items ≡ numbers_of stored.now) }
-    ensures sizes { IfOk result (λ binaries. (dump : List ℕ) → (D.state dumps.old).now ≡ told dump
-        → binaries.items
-        ≡ map (λ binary. sized_binary dump (stored_of index.now binary)) stored.now) }
+    ensures sizes { IfOk result (λ binaries. IfTold (D.state dumps.old).now
+        (λ dump. binaries.items
+        ≡ map (λ binary. sized_binary dump (stored_of index.now binary)) stored.now)) }
 {
     let mut binaries = Vec::new(alloc);
     for binary in stored {

@@ -1,7 +1,7 @@
 // The binaries of a dump and their holders.
-ghost use Rattle.std.specs.Prelude.{◌≡◌, ℕ, List, [], ◌∷◌, ◌+◌, ◌<◌, length, map, nat_lt, All, IfOk, IfErr};
-ghost use Rattle.std.specs.List.{sum_by, count_by};
-ghost use Rattle.dump_io.specs.Dumps.{told, ReadsAtMost};
+ghost use Rattle.std.specs.Prelude.{◌≡◌, ℕ, [], ◌∷◌, ◌+◌, ◌<◌, length, map, nat_lt, All, IfOk, IfErr};
+ghost use Rattle.std.specs.List.{count_by};
+ghost use Rattle.dump_io.specs.Dumps.{IfTold, ReadsAtMost};
 ghost use Rattle.dump_sections.specs.Index.{IsBuiltOver};
 ghost use Rattle.process_table.specs.Processes.{AreProcessesOver};
 ghost use Rattle.size_order.specs.Sums.{capped};
@@ -138,17 +138,17 @@ fn count_references<D: Dumps>(
         (heaps_length index.now (pids_of procs.now.processes)) }
     ensures fault { IfErr result (IsHolderCauseOf (D.state dumps.old) (D.state dumps.new)) }
     ensures room { IfOk result (λ found. length found.1.holders.items ≡ length targets.now) }
-    ensures held { IfOk result (λ found. (dump : List ℕ) → (D.state dumps.old).now ≡ told dump
-        → found.0.items
-        ≡ holdings targets.now (heaps_of dump index.now (pids_of procs.now.processes))) }
+    ensures held { IfOk result (λ found. IfTold (D.state dumps.old).now
+        (λ dump. found.0.items
+        ≡ holdings targets.now (heaps_of dump index.now (pids_of procs.now.processes)))) }
     ensures named { IfOk result (λ found.
         All (NamesProcess (length procs.now.processes)) found.0.items) }
-    ensures counted { IfOk result (λ found. (dump : List ℕ) → (D.state dumps.old).now ≡ told dump
-        → HasCounted targets.now
-        (heaps_of dump index.now (pids_of procs.now.processes)) [] found.1) }
-    ensures lines { IfOk result (λ found. (dump : List ℕ) → (D.state dumps.old).now ≡ told dump
-        → found.1.lines
-        ≡ whole_lines targets.now (lines_of dump index.now (pids_of procs.now.processes))) }
+    ensures counted { IfOk result (λ found. IfTold (D.state dumps.old).now
+        (λ dump. HasCounted targets.now
+        (heaps_of dump index.now (pids_of procs.now.processes)) [] found.1)) }
+    ensures lines { IfOk result (λ found. IfTold (D.state dumps.old).now
+        (λ dump. found.1.lines
+        ≡ whole_lines targets.now (lines_of dump index.now (pids_of procs.now.processes)))) }
 {
     let Ok(heaps) = heap_places(alloc, index, procs) else {
         return Err(HolderFault::Memory);
@@ -189,8 +189,8 @@ fn stored_targets<D: Dumps>(
     ensures stored { IfOk result (λ found.
         map (stored_of index.now) found.0.items ≡ stored_in index.now) }
     ensures numbers { IfOk result (λ found. numbers_in found.1 ≡ numbers_of found.0.items) }
-    ensures sizes { IfOk result (λ found. (dump : List ℕ) → (D.state dumps.old).now ≡ told dump
-        → found.1 ≡ binaries_in dump index.now) }
+    ensures sizes { IfOk result (λ found. IfTold (D.state dumps.old).now
+        (λ dump. found.1 ≡ binaries_in dump index.now)) }
 {
     let Ok(found) = find_stored(alloc, index) else {
         return Err(HolderFault::Memory);
@@ -224,8 +224,8 @@ pub fn binary_use<D: Dumps>(
     requires procs { AreProcessesOver index.now procs.now }
     ensures reads { ReadsAtMost (D.state dumps.old) (D.state dumps.new)
         (fronts_length index.now + heaps_length index.now (pids_of procs.now.processes)) }
-    ensures found { IfOk result (λ found. (dump : List ℕ) → (D.state dumps.old).now ≡ told dump
-        → shown_use found ≡ usage_of dump index.now (pids_of procs.now.processes)) }
+    ensures found { IfOk result (λ found. IfTold (D.state dumps.old).now
+        (λ dump. shown_use found ≡ usage_of dump index.now (pids_of procs.now.processes))) }
     ensures named { IfOk result (λ found.
         All (NamesProcess (length procs.now.processes)) found.held.items) }
     ensures fault { IfErr result (IsHolderCauseOf (D.state dumps.old) (D.state dumps.new)) }
@@ -270,8 +270,8 @@ pub fn holders<D: Dumps>(
     requires procs { AreProcessesOver index.now procs.now }
     ensures reads { ReadsAtMost (D.state dumps.old) (D.state dumps.new)
         (heaps_length index.now (pids_of procs.now.processes)) }
-    ensures found { IfOk result (λ found. (dump : List ℕ) → (D.state dumps.old).now ≡ told dump
-        → found.items ≡ holders_in dump index.now (pids_of procs.now.processes) number) }
+    ensures found { IfOk result (λ found. IfTold (D.state dumps.old).now
+        (λ dump. found.items ≡ holders_in dump index.now (pids_of procs.now.processes) number)) }
     ensures named { IfOk result (λ found.
         All (NamesProcess (length procs.now.processes)) found.items) }
     ensures fault { IfErr result (IsHolderCauseOf (D.state dumps.old) (D.state dumps.new)) }

@@ -1,7 +1,7 @@
-use Rattle.std.proofs.Common.{◌≡◌, ◌+◌, ◌<◌, [], List, ℕ, length, map, take}
+use Rattle.std.proofs.Common.{◌≡◌, ◌+◌, ◌<◌, [], length, map, take}
 use Rattle.std.specs.Prelude.{All}
 use Rattle.std.specs.List.{flat_map, sum_by}
-use Rattle.dump_io.specs.Dumps.{told, ReadsAtMost}
+use Rattle.dump_io.specs.Dumps.{IfTold, ReadsAtMost}
 use Rattle.binary_holders.specs.Held.{holdings, whole_lines}
 use Rattle.binary_holders.specs.Usage.{NamesProcess}
 use Rattle.binary_holders.specs.Inner.HeapSinks.{IsReady}
@@ -20,8 +20,8 @@ invariant-loop-process g l =
       reads : ReadsAtMost (d.state l.initial.dumps) (d.state l.dumps) (sum_by (size_at l.index) (take l.process l.heaps));
       turn : l.sink.counts.turn ≡ l.process + 1;
       room : IsReady l.sink;
-      held : (dump : List ℕ) → (d.state l.initial.dumps).now ≡ told dump → l.held.items ≡ holdings l.initial.sink.targets.now (map (numbers_at dump l.index) (take l.process l.heaps));
+      held : IfTold (d.state l.initial.dumps).now (λ dump. l.held.items ≡ holdings l.initial.sink.targets.now (map (numbers_at dump l.index) (take l.process l.heaps)));
       named : All (NamesProcess (length l.heaps)) l.held.items;
-      had : (dump : List ℕ) → (d.state l.initial.dumps).now ≡ told dump → HasCounted l.initial.sink.targets.now (map (numbers_at dump l.index) (take l.process l.heaps)) [] l.sink.counts;
-      lines : (dump : List ℕ) → (d.state l.initial.dumps).now ≡ told dump → l.sink.counts.lines ≡ whole_lines l.initial.sink.targets.now (flat_map (references_at dump l.index) (take l.process l.heaps));
+      had : IfTold (d.state l.initial.dumps).now (λ dump. HasCounted l.initial.sink.targets.now (map (numbers_at dump l.index) (take l.process l.heaps)) [] l.sink.counts);
+      lines : IfTold (d.state l.initial.dumps).now (λ dump. l.sink.counts.lines ≡ whole_lines l.initial.sink.targets.now (flat_map (references_at dump l.index) (take l.process l.heaps)));
     }

@@ -1,5 +1,5 @@
-use Rattle.std.proofs.Common.{◌≡◌, ◌*◌, ℕ, List, map, take}
-use Rattle.dump_io.specs.Dumps.{told, ReadsAtMost}
+use Rattle.std.proofs.Common.{◌≡◌, ◌*◌, map, take}
+use Rattle.dump_io.specs.Dumps.{IfTold, ReadsAtMost}
 use Rattle.binary_holders.specs.Usage.{sized_binary}
 use Rattle.binary_holders.specs.Inner.Finding.{numbers_of, stored_of}
 use Rattle.binary_holders.specs.Inner.Places.{numbers_in}
@@ -12,5 +12,5 @@ invariant-loop-binary g l =
     record {
       reads : ReadsAtMost (d.state l.initial.dumps) (d.state l.dumps) (17 * l.binary-index);
       numbers : numbers_in l.binaries.items ≡ numbers_of (take l.binary-index l.stored);
-      sizes : (dump : List ℕ) → (d.state l.initial.dumps).now ≡ told dump → l.binaries.items ≡ map (λ binary. sized_binary dump (stored_of l.index binary)) (take l.binary-index l.stored);
+      sizes : IfTold (d.state l.initial.dumps).now (λ dump. l.binaries.items ≡ map (λ binary. sized_binary dump (stored_of l.index binary)) (take l.binary-index l.stored));
     }
