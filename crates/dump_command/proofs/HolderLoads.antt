@@ -18,7 +18,7 @@ use Rattle.dump_command.proofs.Reading.{none-large, HasRead-listed, IsOfBodies, 
 
 -- the heaps weren't looked through
 pub StopsFor-holders : (before after : DeviceState) (fault : HolderFault) → IsHolderCauseOf before after fault → StopsFor before after (λ why. ⊥) (stop_of_holders fault)
-StopsFor-holders before after holder_faults.Read cause = cause
+StopsFor-holders before after holder_faults.Read cause = cause.1
 StopsFor-holders before after holder_faults.Memory cause = tt
 
 module _ {A : Type 0} (before : List Section → List Section) (more : Contents → List (List ℕ) → ℕ) (held : List ℕ → Contents → List (List ℕ) → A) (show : Contents → List Process → A → List ℕ)
