@@ -17,10 +17,11 @@ use Rattle.heap_cells.specs.DumpHeaps.{heap_map}
 use Rattle.heap_cells.specs.HeapMap.{HeapMap}
 use Rattle.heap_cells.specs.Loading.{enc_of, heap_bodies, heap_section, literals_section, two_bodies}
 use Rattle.heap_lines.specs.Tables.{IsTableCauseOf}
-use Rattle.heap_lines.specs.Wholes.{cells_in}
+use Rattle.heap_lines.specs.Wholes.{cells_in, HasLines}
+use Rattle.heap_lines.specs.declared.whole.HeapLines.{HeapLines}
 use Rattle.heap_lines.specs.declared.faults.TableFault.{TableFault}
 use Rattle.heap_lines.specs.declared.faults.TableFault.TheVariants as table_faults
-use Rattle.heap_parts.specs.Firsts.{IsPartCause}
+use Rattle.heap_parts.specs.Firsts.{IsLawful, IsPartCause}
 use Rattle.heap_parts.specs.declared.faults.PartFault.{PartFault}
 use Rattle.heap_parts.specs.declared.faults.PartFault.TheVariants as part_faults
 use Rattle.report_lines.specs.Lines.{line_of, total_line, word_space}
@@ -36,17 +37,19 @@ use Rattle.term_forms.specs.Elements.{Element}
 use Rattle.term_text.specs.Reach.{root_elements, term_in}
 use Rattle.term_text.specs.Roots.{answer_over, content_text, root_lines, shown_report, some_roots_report}
 use Rattle.term_unfold.specs.DumpWalks.{walk_of}
-use Rattle.term_unfold.specs.Parts.{answer_in}
+use Rattle.term_unfold.specs.Parts.{answer_in, has_cell}
 use Rattle.term_unfold.specs.Walks.{Walk}
-use Rattle.dump_command.specs.Meaning.{Meaning, no_process, of_part, part_in}
+use Rattle.dump_command.specs.Meaning.{Meaning, no_body, no_process, of_part, part_in}
 use Rattle.dump_command.specs.Report.{refusal_listed}
-use Rattle.dump_command.specs.Terms.{base_of, binary_count}
-use Rattle.dump_command.specs.Inner.Loads.{ReadsPart}
-use Rattle.dump_command.specs.Inner.Reading.{IsHalted, IsIndexed, ReadsFor, StopsFor, Takes}
+use Rattle.dump_command.specs.Terms.{address_cause, base_of, binary_count}
+use Rattle.dump_command.specs.Inner.Loads.{lacks, unknown_cause, walk_in, AreAnswered, GivesPart, ReadsPart}
+use Rattle.dump_command.specs.declared.commands.peek.HeapPart.{HeapPart}
+use Rattle.dump_command.specs.Inner.Reading.{HasRead, IsHalted, IsIndexed, ReadsFor, StopsFor, Takes}
 use Rattle.dump_command.specs.Inner.Stops.{stop_of_part, stop_of_roots, stop_of_table, Judges}
 use Rattle.dump_command.specs.declared.stop.Stop.{Stop}
+use Rattle.dump_command.specs.declared.stop.Stop.TheVariants.{Refused, NotRead, NotWritten, NoMemory}
 use Rattle.dump_command.proofs.HeapLoads.{bytes-loaded}
-use Rattle.dump_command.proofs.Reading.{HasRead-listed, IsHalted-held, IsHalted-later, StopsFor-too, Takes-listed}
+use Rattle.dump_command.proofs.Reading.{HasRead-listed, StopsFor-judged, StopsFor-too, Takes-listed}
 
 -- ---- why it wasn't read
 
@@ -68,12 +71,23 @@ module _ (before after : DeviceState) where
   StopsFor-roots roots_faults.Read cause = cause.1
   StopsFor-roots roots_faults.Memory cause = tt
 
+-- behind a call that reads, a later one stopped it
+StopsFor-behind : (old mid new : DeviceState) (count : ℕ) (P Q : Refusal → Type 0) (stop : Stop) → ReadsAtMost old mid count → StopsFor mid new P stop
+    → ((why : Refusal) → P why → Q why) → StopsFor old new Q stop
+StopsFor-behind old mid new count P Q (Refused why) first cause follows = (cause.0, follows why cause.1)
+StopsFor-behind old mid new count P Q NotRead first cause follows = omega (arith, first.later, cause)
+StopsFor-behind old mid new count P Q NotWritten first cause follows = absurd cause
+StopsFor-behind old mid new count P Q NoMemory first cause follows = tt
+
 -- what stopped it is what its `?` returns
 pub IfErr-halted : {V E : Type 0} (P : E → Type 0) (result : Result V E) (stop : E) → IsErrAnd result (λ e. e ≡ stop) → P stop → IfErr result P
 IfErr-halted P (Ok value) stop is stopped = absurd is
 IfErr-halted P (Err e) stop is stopped = subst P (sym is) stopped
 
--- ---- a question on a part of a heap
+-- the same of a whole result
+pub stopped : {V E : Type 0} (P : Result V E → Type 0) (result : Result V E) (stop : E) → IsErrAnd result (λ e. e ≡ stop) → P (Err stop) → P result
+stopped P (Ok value) stop is said = absurd is
+stopped P (Err e) stop is said = subst (λ e. P (Err e)) (sym is) said
 
 -- a section that may be missing
 pub size-one : (found : Option Section) → bodies_length (option_to_list found) ≡ body_size found
@@ -84,60 +98,136 @@ size-one (Some s) = omega arith
 size-two : (heap literals : Option Section) → bodies_length (two_bodies heap literals) ≡ body_size heap + body_size literals
 size-two heap literals = sum_by-append body_length (option_to_list heap) (option_to_list literals) ∙ ap₂ (λ m n. m + n) (size-one heap) (size-one literals)
 
-module _ (pid : List ℕ) (before : List Section → List Section) (refuses : HeapMap → Option Refusal) (text : List ℕ → Walk → List ℕ) (limits : Numbers) (index : Contents) (old new : DeviceState)
-    (there : no_process pid (sections_in index) ≡ None) where
-  abbrev means : Meaning
-  means = of_part pid before refuses text
-
-  -- how many bytes the heap and the literals have
-  abbrev lines_size : ℕ
-  lines_size = body_size (heap_section pid (sections_in index)) + body_size (literals_section (sections_in index))
-
-  pub listed-part : refusal_listed means (sections_in index) limits ≡ None
-  listed-part = ap (λ o. option_or o None) there
-
-  -- so much was read
-  pub Takes-part : (count extra : ℕ) → ReadsAtMost old new count
-      → count ≤ bodies_length (before (sections_in index)) + bodies_length (heap_bodies pid (sections_in index)) + (16 * (limits.section + 4) + 128 * extra)
-      → ((bytes : List ℕ) → IsIndexed bytes limits index old.now → extra ≤ binary_count pid bytes) → Takes means limits index old new
-  Takes-part count extra reads few within =
-      Takes-listed means limits index old new count listed-part reads (λ bytes all. omega (arith, few, within bytes all, bytes-loaded pid before index bytes all.is))
-
-  -- so much was read when the lines of the heap were found
-  pub Takes-lines : (count : ℕ) → ReadsAtMost old new count → count ≤ bodies_length (before (sections_in index)) + lines_size → Takes means limits index old new
-  Takes-lines count reads few =
-      Takes-part count 0 reads (omega (arith, few, size-two (heap_section pid (sections_in index)) (literals_section (sections_in index)))) (λ bytes all. omega arith)
-
-  -- and behind that the terms that are shown
-  pub Takes-terms : (mid : DeviceState) (count : ℕ) (has_lines : List Cell → Type 0) → ReadsAtMost old mid count → count ≤ bodies_length (before (sections_in index)) + lines_size
-      → ReadsPart limits.section has_lines mid new → ((bytes : List ℕ) → IsIndexed bytes limits index old.now → has_lines (cells_in pid bytes)) → Takes means limits index old new
-  Takes-terms mid count has_lines first few part has =
-      Takes-part _ part.count (ReadsAtMost-then first part.reads) (omega (arith, few, size-two (heap_section pid (sections_in index)) (literals_section (sections_in index))))
-      (λ bytes all. part.few (cells_in pid bytes) (has bytes all))
-
-  -- the first call that reads failed, or memory was lacking for it
-  pub IsHalted-first : (stop : Stop) → Takes means limits index old new → StopsFor old new (λ why. ⊥) stop → IsHalted means limits index old new stop
-  IsHalted-first stop takes cause = record { takes = takes; cause = StopsFor-too old new (λ why. ⊥) _ stop cause (λ why none. absurd none) }
-
-  -- it is refused for what the heap holds
-  pub IsHalted-lacking : (T : Type 0) (cause : Option Refusal) (stop : Stop) → Takes means limits index old new
-      → ((bytes : List ℕ) → IsIndexed bytes limits index old.now → refuses (heap_map pid bytes) ≡ cause) → Judges {T = T} cause (Err stop) → IsHalted means limits index old new stop
-  IsHalted-lacking T cause stop takes held judged = IsHalted-held means limits index old new T cause stop takes listed-part held judged
-
-  -- it isn't, and this is its report; or the terms weren't loaded
-  pub ReadsFor-terms : {V : Type 0} (seen : V → List ℕ) (result : Result V Stop) (mid : DeviceState) (count : ℕ) → Takes means limits index old new → ReadsAtMost old mid count
-      → IfErr result (StopsFor mid new (λ why. ⊥))
-      → IfOk result (λ part. (bytes : List ℕ) → IsIndexed bytes limits index old.now → (refuses (heap_map pid bytes) ≡ None) × (seen part ≡ text bytes (walk_of pid bytes)))
-      → ReadsFor means limits index old new seen result
-  ReadsFor-terms seen (Ok part) mid count takes reads stops shows = HasRead-listed means limits index old new (seen part) takes listed-part shows
-  ReadsFor-terms seen (Err stop) mid count takes reads stops shows = IsHalted-later means limits index old new stop takes reads stops
-
--- ---- answers over a part
+-- ---- what the load of a part gives
 
 -- over the lines of the dump's heap an element has the answer that it has in the dump
 pub answered-told : (pid bytes : List ℕ) (index : Contents) (enc : Enc) (e : Element) (nodes : ℕ) (marked : Bool) → index ≡ index_of bytes → enc ≡ enc_of index.version
     → answer_in bytes index enc (first_cells [] (cells_in pid bytes)) e nodes marked ≡ answer_over (walk_of pid bytes) nodes marked e
 answered-told pid bytes index enc e nodes marked is written = rw (written, is) refl
+
+-- where the same addresses are known, an address is refused alike
+unknown-same : (addr : Option ℕ) (known there : ℕ → Bool) → ((a : ℕ) → known a ≡ there a) → unknown_cause addr known ≡ unknown_cause addr there
+unknown-same None known there same = refl
+unknown-same (Some addr) known there same = ap (address_cause addr) (same addr)
+
+module _ (pid : List ℕ) (addr : Option ℕ) (terms : List Element) (nodes : ℕ) (limits : Numbers) (index : Contents) (old new : DeviceState) where
+  abbrev Gives : Result HeapPart Stop → Type 0
+  Gives result = GivesPart pid addr terms nodes limits index old new result
+
+  abbrev lines_size : ℕ
+  lines_size = body_size (heap_section pid (sections_in index)) + body_size (literals_section (sections_in index))
+
+  -- it stopped for no fault of the heap, and read no more than its lines
+  pub Gives-stopped : (stop : Stop) (count : ℕ) → ReadsAtMost old new count → count ≤ lines_size → StopsFor old new (λ why. ⊥) stop → Gives (Err stop)
+  Gives-stopped stop count reads few cause =
+      record {
+        count = count;
+        reads = reads;
+        few = λ bytes all. omega (arith, few, size-two (heap_section pid (sections_in index)) (literals_section (sections_in index)));
+        part = StopsFor-too old new (λ why. ⊥) _ stop cause (λ why none. absurd none);
+      }
+
+  -- what is known of the lines tells whether the heap lacks the address
+  module _ (known : ℕ → Bool) (same : (bytes : List ℕ) → IsIndexed bytes limits index old.now → IsLawful known (cells_in pid bytes)) where
+    told : (bytes : List ℕ) → IsIndexed bytes limits index old.now → lacks addr (heap_map pid bytes) ≡ unknown_cause addr known
+    told bytes all = sym (unknown-same addr known (has_cell (first_cells [] (cells_in pid bytes))) (same bytes all).same)
+
+    -- it does
+    pub Gives-lacking : (T : Type 0) (stop : Stop) → ReadsAtMost old new lines_size → Judges {T = T} (unknown_cause addr known) (Err stop) → Gives (Err stop)
+    Gives-lacking T stop reads judged =
+        record {
+          count = lines_size;
+          reads = reads;
+          few = λ bytes all. omega (arith, size-two (heap_section pid (sections_in index)) (literals_section (sections_in index)));
+          part = StopsFor-judged old new _ T (unknown_cause addr known) stop judged (λ why is bytes all. told bytes all ∙ is);
+        }
+
+    -- it doesn't, and the terms were loaded or not
+    module _ (mid : DeviceState) (lines : HeapLines) (enc : lines.enc ≡ enc_of index.version) (has : (bytes : List ℕ) → IsIndexed bytes limits index old.now → HasLines lines mid.now (cells_in pid bytes))
+        (first : ReadsAtMost old mid lines_size) (there : unknown_cause addr known ≡ None) (part : ReadsPart limits.section (HasLines lines mid.now) mid new) where
+      few-terms : (bytes : List ℕ) → IsIndexed bytes limits index old.now
+          → lines_size + (16 * (limits.section + 4) + 128 * part.count) ≤ bodies_length (heap_bodies pid (sections_in index)) + (16 * (limits.section + 4) + 128 * binary_count pid bytes)
+      few-terms bytes all =
+          omega (arith, size-two (heap_section pid (sections_in index)) (literals_section (sections_in index)), part.few (cells_in pid bytes) (has bytes all))
+
+      pub Gives-terms : (result : Result HeapPart Stop) → IfErr result (StopsFor mid new (λ why. ⊥))
+          → IfOk result (λ part. AreAnswered mid.now index lines nodes (walk_in part) terms) → Gives result
+      Gives-terms (Ok loaded) stops answered =
+          record {
+            count = _;
+            reads = ReadsAtMost-then first part.reads;
+            few = few-terms;
+            part = record {
+              allowed = λ bytes all. told bytes all ∙ there;
+              answers = λ bytes all e inside marked.
+                  answered.each bytes (first.same_now ∙ all.opened) (cells_in pid bytes) (has bytes all) e inside marked
+                  ∙ answered-told pid bytes index lines.enc e nodes marked all.is enc;
+            };
+          }
+      Gives-terms (Err stop) stops answered =
+          record {
+            count = _;
+            reads = ReadsAtMost-then first part.reads;
+            few = few-terms;
+            part = StopsFor-behind old mid new _ (λ why. ⊥) _ stop first stops (λ why none. absurd none);
+          }
+
+-- ---- a question on a part of a heap
+
+module _ (pid : List ℕ) (before : List Section → List Section) (addr : Option ℕ) (text : List ℕ → Walk → List ℕ) (limits : Numbers) (index : Contents) (old mid : DeviceState)
+    (there : no_process pid (sections_in index) ≡ None) (count : ℕ) (first : ReadsAtMost old mid count) (few : count ≤ bodies_length (before (sections_in index))) where
+  abbrev means : Meaning
+  means = of_part pid before (lacks addr) text
+
+  listed-part : refusal_listed means (sections_in index) limits ≡ None
+  listed-part = ap (λ o. option_or o None) there
+
+  -- the bodies before the heap weren't read
+  pub IsHalted-first : (stop : Stop) → StopsFor old mid (λ why. ⊥) stop → IsHalted means limits index old mid stop
+  IsHalted-first stop cause =
+      record {
+        takes = Takes-listed means limits index old mid count listed-part first (λ bytes all. omega (arith, few, bytes-loaded pid before index bytes all.is));
+        cause = StopsFor-too old mid (λ why. ⊥) _ stop cause (λ why none. absurd none);
+      }
+
+  -- behind them a part of the heap was loaded, or wasn't
+  module _ (terms : List Element) (nodes : ℕ) (new : DeviceState) where
+    still : (bytes : List ℕ) → IsIndexed bytes limits index old.now → IsIndexed bytes limits index mid.now
+    still bytes all = subst (λ now. IsIndexed bytes limits index now) (sym first.same_now) all
+
+    takes-behind : (result : Result HeapPart Stop) → GivesPart pid addr terms nodes limits index mid new result → Takes means limits index old new
+    takes-behind result gives =
+        Takes-listed means limits index old new (count + gives.count) listed-part (ReadsAtMost-then first gives.reads)
+        (λ bytes all. omega (arith, few, gives.few bytes (still bytes all), bytes-loaded pid before index bytes all.is))
+
+    pub IsHalted-behind : (stop : Stop) → GivesPart pid addr terms nodes limits index mid new (Err stop) → IsHalted means limits index old new stop
+    IsHalted-behind stop gives =
+        record {
+          takes = takes-behind (Err stop) gives;
+          cause = StopsFor-behind old mid new _ _ _ stop first gives.part (λ why is bytes all. ap (λ o. option_or o (lacks addr (heap_map pid bytes))) listed-part ∙ is bytes (still bytes all));
+        }
+
+    -- and this is its report
+    pub HasRead-behind : (part : HeapPart) (seen : List ℕ) → GivesPart pid addr terms nodes limits index mid new (Ok part)
+        → ((bytes : List ℕ) → IsIndexed bytes limits index old.now
+          → ((e : Element) → Contains terms e → (marked : Bool) → answer_over (walk_in part) nodes marked e ≡ answer_over (walk_of pid bytes) nodes marked e) → seen ≡ text bytes (walk_of pid bytes))
+        → HasRead means limits index old new seen
+    HasRead-behind part seen gives shows =
+        HasRead-listed means limits index old new seen (takes-behind (Ok part) gives) listed-part
+        (λ bytes all. (gives.part.allowed bytes (still bytes all), shows bytes all (gives.part.answers bytes (still bytes all))))
+
+-- the part is all that is read
+pub ReadsFor-peeked : (pid : List ℕ) (addr : Option ℕ) (text : List ℕ → Walk → List ℕ) (limits : Numbers) (index : Contents) (old new : DeviceState) (terms : List Element) (nodes : ℕ)
+    (seen : HeapPart → List ℕ) (result : Result HeapPart Stop) → no_process pid (sections_in index) ≡ None → ReadsAtMost old old 0 → GivesPart pid addr terms nodes limits index old new result
+    → ((part : HeapPart) (bytes : List ℕ) → ((e : Element) → Contains terms e → (marked : Bool) → answer_over (walk_in part) nodes marked e ≡ answer_over (walk_of pid bytes) nodes marked e)
+      → seen part ≡ text bytes (walk_of pid bytes))
+    → ReadsFor (of_part pid no_body (lacks addr) text) limits index old new seen result
+ReadsFor-peeked pid addr text limits index old new terms nodes seen (Ok part) there none gives shows =
+    HasRead-behind pid no_body addr text limits index old old there 0 none (omega arith) terms nodes new part (seen part) gives (λ bytes all. shows part bytes)
+ReadsFor-peeked pid addr text limits index old new terms nodes seen (Err stop) there none gives shows =
+    IsHalted-behind pid no_body addr text limits index old old there 0 none (omega arith) terms nodes new stop gives
+
+-- ---- the lines of roots
 
 -- the elements of the first roots, and of the next one
 pub elements-more : (roots : List BodyRoot) (i : ℕ) (root : BodyRoot) → slice_get roots i ≡ Some root

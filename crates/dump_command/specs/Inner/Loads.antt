@@ -1,12 +1,13 @@
 -- From what the reports are written, and what is known of it.
-use Rattle.std.specs.Prelude.{ℕ, ◌+◌, ◌*◌, ◌^◌, ◌<◌, ◌≤◌, Bool, List, [], length, All, Contains, ◌≡◌, ◌++◌, Option, IfSome, IsSome, Some, Result, IfErr, IfOk}
+use Rattle.std.specs.Prelude.{ℕ, ◌+◌, ◌*◌, ◌^◌, ◌<◌, ◌≤◌, Bool, List, [], length, All, Contains, ◌≡◌, ◌++◌, Option, IfSome, IsSome, None, Some, Result, IfErr, IfOk, MatchResult}
 use Rattle.std.specs.Option.{option_map, option_to_list}
 use Rattle.dump_sections.specs.Index.{Contents, sections_in}
 use Rattle.report_text.specs.Reports.{version_text}
 use Rattle.process_table.specs.Processes.{ProcessTable, AreProcessesOver, IsProcessIn, process_table}
 use Rattle.binary_holders.specs.Usage.{NamesProcess, shown_use}
 use Rattle.binary_holders.specs.declared.rows.Holding.{Holding}
-use Rattle.term_unfold.specs.Parts.{answer_in}
+use Rattle.term_unfold.specs.DumpWalks.{walk_of}
+use Rattle.term_unfold.specs.Parts.{answer_in, has_cell}
 use Rattle.term_unfold.specs.Walks.{new_walk, Walk}
 use Rattle.binary_refs.specs.Previews.{binaries}
 use Rattle.heap_cells.specs.Cells.{Cell, first_cells}
@@ -40,7 +41,14 @@ use Rattle.dump_command.specs.declared.commands.reach.RootPlaces.{RootPlaces}
 use Rattle.dump_command.specs.declared.commands.reach.RootBodies.{RootBodies}
 use Rattle.dump_command.specs.declared.commands.reach.Loaded.{Loaded as ReachLoaded}
 use Rattle.dump_command.specs.Triage.{Told}
-use Rattle.dump_command.specs.Terms.{base_of}
+use Rattle.dump_command.specs.Terms.{address_cause, base_of, binary_count}
+use Rattle.dump_command.specs.Inner.Reading.{IsIndexed, StopsFor}
+use Rattle.dump_command.specs.declared.stop.Stop.{Stop}
+use Rattle.report_text.specs.declared.refusals.Refusal.{Refusal}
+use Rattle.dump_io.specs.Limits.{Numbers}
+use Rattle.heap_cells.specs.DumpHeaps.{heap_map}
+use Rattle.heap_cells.specs.HeapMap.{HeapMap}
+use Rattle.heap_cells.specs.Loading.{heap_bodies}
 use Rattle.dump_command.specs.declared.commands.binaries.Node.{Node}
 use Rattle.dump_command.specs.declared.commands.binaries.Loaded.{Loaded as BinariesLoaded}
 use Rattle.dump_command.specs.declared.commands.triage.Places.{Places}
@@ -121,6 +129,32 @@ pub record ReadsPart (section : ℕ) (has_lines : List Cell → Type 0) (before 
 pub record AreAnswered (now : Now) (index : Contents) (lines : HeapLines) (nodes : ℕ) (walk : Walk) (terms : List Element) : Type 0 where
   pub each : (dump : List ℕ) → now ≡ told dump → (all : List Cell) → HasLines lines now all → (e : Element) → Contains terms e → (marked : Bool)
       → answer_over walk nodes marked e ≡ answer_in dump index lines.enc (first_cells [] all) e nodes marked
+
+-- an address that isn't known, if one is asked for
+abbrev pub unknown_cause : Option ℕ → (ℕ → Bool) → Option Refusal
+unknown_cause None known = None
+unknown_cause (Some addr) known = address_cause addr (known addr)
+
+-- the heap lacks it
+abbrev pub lacks : Option ℕ → HeapMap → Option Refusal
+lacks addr heap = unknown_cause addr (has_cell heap.cells)
+
+-- a part of the heap of a process was loaded: the heap doesn't lack the address,
+-- and over the part these terms have the answers that they have in the dump
+pub record HoldsPart (pid : List ℕ) (addr : Option ℕ) (terms : List Element) (nodes : ℕ) (limits : Numbers) (index : Contents) (now : Now) (part : HeapPart) : Type 0 where
+  pub allowed : (bytes : List ℕ) → IsIndexed bytes limits index now → lacks addr (heap_map pid bytes) ≡ None
+  pub answers : (bytes : List ℕ) → IsIndexed bytes limits index now → (e : Element) → Contains terms e → (marked : Bool)
+      → answer_over (walk_in part) nodes marked e ≡ answer_over (walk_of pid bytes) nodes marked e
+
+-- what a call does that loads such a part: beside the bodies of the heap and the literals it
+-- reads what a part may take, and it is refused only if the heap lacks the address
+pub record GivesPart (pid : List ℕ) (addr : Option ℕ) (terms : List Element) (nodes : ℕ) (limits : Numbers) (index : Contents) (before after : DeviceState) (result : Result HeapPart Stop) : Type 0 where
+  pub count : ℕ
+  pub reads : ReadsAtMost before after count
+  pub few : (bytes : List ℕ) → IsIndexed bytes limits index before.now
+      → count ≤ bodies_length (heap_bodies pid (sections_in index)) + (16 * (limits.section + 4) + 128 * binary_count pid bytes)
+  pub part : MatchResult result (HoldsPart pid addr terms nodes limits index before.now)
+      (StopsFor before after (λ why. (bytes : List ℕ) → IsIndexed bytes limits index before.now → lacks addr (heap_map pid bytes) ≡ Some why))
 
 -- the roots that are shown of a section that may be missing, and the offset of its body
 pub record AreRootsFound (now : Now) (found : Option Section) (kind : RootKind) (first most : ℕ) (roots : SomeRoots × ℕ) : Type 0 where

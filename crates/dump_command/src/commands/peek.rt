@@ -1,5 +1,5 @@
 // `peek`: terms of a heap of any size.
-ghost use Rattle.std.specs.Prelude.{◌≡◌, ◌+◌, ◌-◌, ◌<◌, ◌≤◌, List, ◌++◌, length, map, All, IfErr, IfOk, IfSome, OnOk};
+ghost use Rattle.std.specs.Prelude.{◌≡◌, ◌+◌, ◌-◌, ◌<◌, ◌≤◌, List, ◌++◌, length, map, None, All, IfErr, IfOk, IfSome, OnOk};
 ghost use Rattle.std.specs.List.{between};
 ghost use Rattle.binary_refs.specs.Previews.{AreFor};
 ghost use Rattle.command_words.specs.Command.{peek_roots, peek_term, IsAskInRange};
@@ -12,8 +12,7 @@ ghost use Rattle.root_lines.specs.Shown.{shown_roots, IsPlaced, IsRootsCauseOf};
 ghost use Rattle.term_forms.specs.Seen.{element};
 ghost use Rattle.term_text.specs.Reach.{root_elements, term_in};
 ghost use Rattle.term_text.specs.Roots.{answer_over, shown_report, term_report};
-ghost use Rattle.dump_command.specs.Terms.{address_cause};
-ghost use Rattle.dump_command.specs.Inner.Loads.{walk_in, AreAnswered, AreRootsFound, ReadsPart};
+ghost use Rattle.dump_command.specs.Inner.Loads.{unknown_cause, walk_in, AreAnswered, AreRootsFound, GivesPart, ReadsPart};
 ghost use Rattle.dump_command.specs.Inner.Reading.{StopsFor};
 ghost use Rattle.dump_command.specs.Inner.Stops.{Judges};
 
@@ -70,10 +69,13 @@ pub(crate) struct RootsPart {
     part: HeapPart,
 }
 
-// Refuses an address that no line of the heap has.
-fn find_line(lines: &HeapLines, addr: u64) -> Result<(), Stop>
-    ensures { Judges (address_cause addr (is_known lines.now addr)) result }
+// Refuses an address that no line of the heap has, if one is asked for.
+fn find_line(lines: &HeapLines, addr: Option<u64>) -> Result<(), Stop>
+    ensures { Judges (unknown_cause addr (is_known lines.now)) result }
 {
+    let Some(addr) = addr else {
+        return Ok(());
+    };
     if lines.has(addr) {
         Ok(())
     } else {
@@ -81,8 +83,9 @@ fn find_line(lines: &HeapLines, addr: u64) -> Result<(), Stop>
     }
 }
 
-// Loads as much of a heap as these terms need within so many nodes of each, and the previews of its binaries.
-fn load_terms<D: Dumps>(
+// Loads as much of the heap with these lines as some terms need within so
+// many nodes of each, and the previews of its binaries.
+fn load_over<D: Dumps>(
     at: &Opened<'_>,
     dumps: &mut D,
     lines: &HeapLines,
@@ -104,6 +107,27 @@ fn load_terms<D: Dumps>(
     Ok(HeapPart { heap, previews })
 }
 
+// The same of the heap of a process, of which only its lines are known meanwhile.
+// An address that it lacks is refused, if one is asked for.
+fn load_terms<D: Dumps>(
+    at: &Opened<'_>,
+    dumps: &mut D,
+    pid: &[u8],
+    addr: Option<u64>,
+    terms: &[Elem<'_>],
+    nodes: u32,
+) -> Result<HeapPart, Stop>
+    requires over { IsBuiltOver (D.state dumps.old).now at.now.index.now }
+    requires nodes { 0 < nodes }
+    ensures gives { GivesPart pid.now addr (map element terms.now) nodes at.now.limits.now at.now.index.now
+        (D.state dumps.old) (D.state dumps.new) result }
+    ensures fits { IfOk result (λ part. AreFor part.heap.cells part.previews) }
+{
+    let lines = HeapLines::load(at.alloc, dumps, at.index, pid)?;
+    find_line(&lines, addr)?;
+    load_over(at, dumps, &lines, terms, nodes)
+}
+
 impl Report for PeekTerm<'_> {
     type Loaded = HeapPart;
 
@@ -117,10 +141,8 @@ impl Report for PeekTerm<'_> {
 
     fn read<D: Dumps>(&self, at: &Opened<'_>, dumps: &mut D) -> Result<HeapPart, Stop> {
         find_process(at, self.pid)?;
-        let lines = HeapLines::load(at.alloc, dumps, at.index, self.pid)?;
-        find_line(&lines, self.addr)?;
         let term = [Elem::Ref(self.addr)];
-        load_terms(at, dumps, &lines, &term, self.nodes)
+        load_terms(at, dumps, self.pid, Some(self.addr), &term, self.nodes)
     }
 
     fn put<K: Sink>(&self, at: &Opened<'_>, part: &HeapPart, out: &mut K) -> Result<u8, Stop> {
@@ -203,26 +225,22 @@ fn terms_of(alloc: Global, roots: &ShownRoots) -> Result<Vec<Elem<'_>>, AllocErr
     Ok(terms)
 }
 
-// The same for the roots that are shown.
+// Loads as much of the heap of a process as the roots that are shown need within so many nodes of each.
 fn load_for_roots<D: Dumps>(
     at: &Opened<'_>,
     dumps: &mut D,
-    lines: &HeapLines,
+    pid: &[u8],
     roots: &ShownRoots,
     nodes: u32,
 ) -> Result<HeapPart, Stop>
     requires over { IsBuiltOver (D.state dumps.old).now at.now.index.now }
-    requires serves { ServesLines lines.now (D.state dumps.old).now }
     requires nodes { 0 < nodes }
-    ensures reads { ReadsPart at.now.limits.now.section (HasLines lines.now (D.state dumps.old).now)
-        (D.state dumps.old) (D.state dumps.new) }
-    ensures stops { IfErr result (StopsFor (D.state dumps.old) (D.state dumps.new) (λ why. ⊥)) }
-    ensures answered { IfOk result (λ part. AreAnswered (D.state dumps.old).now at.now.index.now
-        lines.now nodes (walk_in part) (root_elements roots.now.shown)) }
+    ensures gives { GivesPart pid.now None (root_elements roots.now.shown) nodes at.now.limits.now at.now.index.now
+        (D.state dumps.old) (D.state dumps.new) result }
     ensures fits { IfOk result (λ part. AreFor part.heap.cells part.previews) }
 {
     let terms = terms_of(at.alloc, roots)?;
-    load_terms(at, dumps, lines, &terms, nodes)
+    load_terms(at, dumps, pid, None, &terms, nodes)
 }
 
 impl Report for PeekRoots<'_> {
@@ -242,8 +260,7 @@ impl Report for PeekRoots<'_> {
         find_process(at, self.pid)?;
         let place = at.index.first(self.kind.tag(), Some(self.pid));
         let (roots, base) = read_roots(at, dumps, place, self)?;
-        let lines = HeapLines::load(at.alloc, dumps, at.index, self.pid)?;
-        let part = load_for_roots(at, dumps, &lines, &roots, self.nodes)?;
+        let part = load_for_roots(at, dumps, self.pid, &roots, self.nodes)?;
         Ok(RootsPart { roots, base, part })
     }
 

@@ -1,21 +1,48 @@
-use Rattle.std.proofs.Common.{arith}
-use Rattle.dump_io.specs.Laws.Reads.{ReadsAtMost-then, ReadsAtMost-within}
-use Rattle.dump_command.proofs.PartLoads.{IfErr-halted, StopsFor-part}
+use Rattle.std.proofs.Common.{ℕ, List, Option, Result, arith, map, sym, subst}
+use Rattle.dump_io.specs.Dumps.{DeviceState}
+use Rattle.dump_io.specs.Limits.{Numbers}
+use Rattle.dump_sections.specs.Index.{Contents}
+use Rattle.heap_lines.specs.Wholes.{cells_in, is_known, HasLines}
+use Rattle.term_forms.specs.Seen.{element}
+use Rattle.dump_command.specs.Inner.Loads.{GivesPart}
+use Rattle.dump_command.proofs.PartLoads.{stopped, Gives-lacking, Gives-stopped, Gives-terms, StopsFor-table}
 use Rattle.dump_command.proofs.commands.peek.load_terms.Goals as goal
 
-pub returns-in_err-heap-clause-reads : goal.returns-in_err-heap-clause-reads
-returns-in_err-heap-clause-reads g c =
-    record { count = 0; reads = ReadsAtMost-within (omega arith) c.in_err-heap.ensures.reads; few = λ all has. omega arith }
+pub returns-in_err-lines-clause-gives : goal.returns-in_err-lines-clause-gives
+returns-in_err-lines-clause-gives g c =
+    let at = c.args.at.now in
+    let before = g.D.Dumps.state c.args.dumps.now in
+    let after = g.D.Dumps.state c.load.new.dumps in
+    let terms = map element c.args.terms.now in
+    let table = c.in_err-lines.ensures in
+    stopped (GivesPart c.args.pid.now c.args.addr terms c.args.nodes at.limits.now at.index.now before after)
+    c.from_residual.result _ c.from_residual.ensures.1
+    (Gives-stopped c.args.pid.now c.args.addr terms c.args.nodes at.limits.now at.index.now before after _ _ table.reads (omega arith)
+    (StopsFor-table before after _ table.fault))
 
-pub returns-in_err-heap-clause-stops : goal.returns-in_err-heap-clause-stops
-returns-in_err-heap-clause-stops g c =
-    let state = g.D.Dumps.state in
-    IfErr-halted _ c.from_residual.result _ c.from_residual.ensures.1 (StopsFor-part (state c.args.dumps.now) (state c.load_part.new.dumps) _ c.in_err-heap.ensures.fault)
+pub returns-in_err-find_line-clause-gives : goal.returns-in_err-find_line-clause-gives
+returns-in_err-find_line-clause-gives g c =
+    let at = c.args.at.now in
+    let before = g.D.Dumps.state c.args.dumps.now in
+    let after = g.D.Dumps.state c.load.new.dumps in
+    let terms = map element c.args.terms.now in
+    let table = c.in_ok-lines.ensures in
+    stopped (GivesPart c.args.pid.now c.args.addr terms c.args.nodes at.limits.now at.index.now before after)
+    c.from_residual-in_err-find_line.result _ c.from_residual-in_err-find_line.ensures.1
+    (Gives-lacking c.args.pid.now c.args.addr terms c.args.nodes at.limits.now at.index.now before after (is_known c.in_ok-lines.lines)
+    (λ bytes all. table.known bytes all.opened) (Unit {0}) _ table.reads c.in_err-find_line.ensures)
 
-pub returns-in_err-previews-clause-reads : goal.returns-in_err-previews-clause-reads
-returns-in_err-previews-clause-reads g c =
-    record {
-      count = _;
-      reads = ReadsAtMost-then c.in_ok-heap.ensures.reads c.in_err-previews.ensures.reads;
-      few = λ all has. (c.in_ok-heap.ensures.enough all has).fewer;
-    }
+pub returns-clause-gives : goal.returns-clause-gives
+returns-clause-gives g c =
+    let at = c.args.at.now in
+    let pid = c.args.pid.now in
+    let before = g.D.Dumps.state c.args.dumps.now in
+    let found = g.D.Dumps.state c.load.new.dumps in
+    let after = g.D.Dumps.state c.load_over.new.dumps in
+    let table = c.in_ok-lines.ensures in
+    let lines = c.in_ok-lines.lines in
+    let read = c.load_over.ensures in
+    Gives-terms pid c.args.addr (map element c.args.terms.now) c.args.nodes at.limits.now at.index.now before after (is_known lines)
+    (λ bytes all. table.known bytes all.opened) found lines table.enc
+    (λ bytes all. subst (λ now. HasLines lines now (cells_in pid bytes)) (sym table.reads.same_now) (table.lines bytes all.opened))
+    table.reads c.in_ok-find_line.ensures read.reads c.load_over.result read.stops read.answered
