@@ -106,18 +106,13 @@ impl Case {
     /// and `mail`. Returns `false` if there are none. Where the case is refused `peek` may not be; it may take more,
     /// and has the usual limits, since the lines that it gathers end in CR and LF.
     pub fn turn_to_peek(&mut self, alloc: Global) -> Result<bool, AllocError> {
-        let [name, file, pid, rest @ ..] = self.words.as_slice() else {
-            return Ok(false);
-        };
         if self.status != 0 {
             return Ok(false);
         }
-        let front = match name.as_str() {
-            "term" => format!(in alloc; "peek {file} {pid}")?,
-            "stack" | "dict" | "mail" => format!(in alloc; "peek {file} {pid} {name} 0 1000")?,
-            _ => return Ok(false),
+        let Some(words) = peek_words(alloc, self.words.as_slice())? else {
+            return Ok(false);
         };
-        self.words = words_of(alloc, front.as_str(), rest)?;
+        self.words = words;
         self.taken = u64::MAX;
         self.bounds = Bounds::usual();
         Ok(true)
@@ -211,6 +206,19 @@ impl Case {
             self.is_same_dump = false;
         }
     }
+}
+
+// The words of `peek` that show what these words do, if there are any.
+fn peek_words(alloc: Global, words: &[String]) -> Result<Option<Vec<String>>, AllocError> {
+    let [name, file, pid, rest @ ..] = words else {
+        return Ok(None);
+    };
+    let front = match name.as_str() {
+        "term" => format!(in alloc; "peek {file} {pid}")?,
+        "stack" | "dict" | "mail" => format!(in alloc; "peek {file} {pid} {name} 0 1000")?,
+        _ => return Ok(None),
+    };
+    Ok(Some(words_of(alloc, front.as_str(), rest)?))
 }
 
 // The words of a text, and these behind them.

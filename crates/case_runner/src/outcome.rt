@@ -59,6 +59,21 @@ pub struct Failure {
     pub wanted: &'static str,
 }
 
+/// Why a case doesn't pass.
+#[derive(Drop)]
+pub enum Fault {
+    /// A run didn't end as it must.
+    Failed(Failure),
+    /// There was no memory for a run.
+    Memory(AllocError),
+}
+
+impl From<AllocError> for Fault {
+    fn from(fault: AllocError) -> Fault {
+        Fault::Memory(fault)
+    }
+}
+
 fn dumps_of(alloc: Global, dump: &[u8], hindrance: &Hindrance) -> Result<MemDumps, AllocError> {
     let fails = [hindrance.failing_call];
     match hindrance.cut {

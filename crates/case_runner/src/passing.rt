@@ -1,7 +1,7 @@
 // Whether a case ends as it must, however it is hindered.
 use crate::case::Case;
 use crate::fronts::cut_report;
-use crate::outcome::{Failure, Hindrance, NONE, Outcome, run_case, run_on};
+use crate::outcome::{Failure, Fault, Hindrance, NONE, Outcome, run_case, run_on};
 use dump_command::status::{DONE, FOUND, UNREAD, UNWRITTEN};
 use std::alloc::{AllocError, Global};
 
@@ -18,49 +18,53 @@ const MOST: usize = 1_000;
 const AS_EXPECTED: &str = "as the case says";
 
 // A run of the whole case that had to end in another way.
-fn failure(
+fn failed(
     case: &Case,
     hindrance: Hindrance,
     end: Outcome,
     wanted: &'static str,
-) -> Option<Failure> {
-    Some(Failure {
+) -> Result<(), Fault> {
+    Err(Fault::Failed(Failure {
         hindrance,
         length: case.dump.len(),
         end,
         wanted,
-    })
+    }))
 }
 
-// The run with reads and writes of a size, if it ends in another way, or takes more bytes than it may.
-fn fails_cut(alloc: Global, case: &Case, cut: usize) -> Result<Option<Failure>, AllocError> {
+// Whether a run ended as the case says, and took no more bytes than it may.
+fn is_expected(case: &Case, end: &Outcome) -> bool {
+    end.is(case.status, &case.out, &case.err) && end.taken <= case.taken
+}
+
+// The run with this hindrance has to end as the case says.
+fn check_run(alloc: Global, case: &Case, hindrance: Hindrance) -> Result<(), Fault> {
+    let end = run_case(alloc, case, &hindrance)?;
+    if is_expected(case, &end) {
+        return Ok(());
+    }
+    failed(case, hindrance, end, AS_EXPECTED)
+}
+
+// So does that with reads and writes of a size.
+fn check_cut(alloc: Global, case: &Case, cut: usize) -> Result<(), Fault> {
     let cutting = Hindrance {
         cut,
         step: cut,
         ..NONE
     };
-    let end = run_case(alloc, case, &cutting)?;
-    if end.is(case.status, &case.out, &case.err) && end.taken <= case.taken {
-        return Ok(None);
-    }
-    Ok(failure(case, cutting, end, AS_EXPECTED))
+    check_run(alloc, case, cutting)
 }
 
-// The first of several sizes with which the case fails, or of all up to the one that it names.
-fn fails_cuts(alloc: Global, case: &Case) -> Result<Option<Failure>, AllocError> {
+// So do those with several sizes, and with all up to the one that the case names.
+fn check_cuts(alloc: Global, case: &Case) -> Result<(), Fault> {
     for cut in CUTS {
-        let failed = fails_cut(alloc, case, cut)?;
-        if failed.is_some() {
-            return Ok(failed);
-        }
+        check_cut(alloc, case, cut)?;
     }
     for cut in 1..case.cuts {
-        let failed = fails_cut(alloc, case, cut)?;
-        if failed.is_some() {
-            return Ok(failed);
-        }
+        check_cut(alloc, case, cut)?;
     }
-    Ok(None)
+    Ok(())
 }
 
 // Whether the case opens its dump and reads all that it asks for.
@@ -71,7 +75,7 @@ fn reads_all(case: &Case) -> bool {
 
 // Lets one call of the device fail after another. Each must end the case with a read fault, until the
 // case ends alike since it makes fewer calls; one that reads all that it asks for makes at least two.
-fn fails_calls_cut(alloc: Global, case: &Case, cut: usize) -> Result<Option<Failure>, AllocError> {
+fn check_calls_cut(alloc: Global, case: &Case, cut: usize) -> Result<(), Fault> {
     for failing_call in 1..MOST as u64 {
         let failing = Hindrance {
             cut,
@@ -80,40 +84,34 @@ fn fails_calls_cut(alloc: Global, case: &Case, cut: usize) -> Result<Option<Fail
         };
         let end = run_case(alloc, case, &failing)?;
         if !end.is_unread(case) {
-            if failing_call > 2 || !reads_all(case) {
-                if end.is(case.status, &case.out, &case.err) {
-                    return Ok(None);
-                }
+            let is_behind = failing_call > 2 || !reads_all(case);
+            if is_behind && end.is(case.status, &case.out, &case.err) {
+                return Ok(());
             }
-            return Ok(failure(
+            return failed(
                 case,
                 failing,
                 end,
                 "with a read fault, or as the case says behind its last call",
-            ));
+            );
         }
     }
     let end = run_case(alloc, case, &NONE)?;
-    Ok(failure(case, NONE, end, "after fewer calls of the device"))
+    failed(case, NONE, end, "after fewer calls of the device")
 }
 
 // The same with reads as long as they come and with some forty reads
 // of the dump. A case that isn't done may end before its first read.
-fn fails_calls(alloc: Global, case: &Case) -> Result<Option<Failure>, AllocError> {
+fn check_calls(alloc: Global, case: &Case) -> Result<(), Fault> {
     if case.status == u64::from(UNREAD) {
-        return Ok(None);
+        return Ok(());
     }
-    for cut in [0, case.dump.len() / 40 + 1] {
-        let failed = fails_calls_cut(alloc, case, cut)?;
-        if failed.is_some() {
-            return Ok(failed);
-        }
-    }
-    Ok(None)
+    check_calls_cut(alloc, case, 0)?;
+    check_calls_cut(alloc, case, case.dump.len() / 40 + 1)
 }
 
 // The same with reads of one byte, for the first calls; if none of them fails, the case ends alike.
-fn fails_first_calls(alloc: Global, case: &Case) -> Result<Option<Failure>, AllocError> {
+fn check_first_calls(alloc: Global, case: &Case) -> Result<(), Fault> {
     for failing_call in 1..=FIRST_CALLS {
         let failing = Hindrance {
             cut: 1,
@@ -122,10 +120,10 @@ fn fails_first_calls(alloc: Global, case: &Case) -> Result<Option<Failure>, Allo
         };
         let end = run_case(alloc, case, &failing)?;
         if !end.is_unread(case) && (reads_all(case) || !end.is(case.status, &case.out, &case.err)) {
-            return Ok(failure(case, failing, end, "with a read fault"));
+            return failed(case, failing, end, "with a read fault");
         }
     }
-    Ok(None)
+    Ok(())
 }
 
 // The first `count` bytes of a text, if it has that many.
@@ -133,38 +131,35 @@ fn front(text: &[u8], count: usize) -> &[u8] {
     text.get(..count).unwrap_or(text)
 }
 
-// A run in which a write fails, if it ends in another way than with the bytes before that write.
-fn fails_write(
+// A run in which a write fails has to end with the bytes before that write.
+fn check_write(
     alloc: Global,
     case: &Case,
     failing: Hindrance,
     out: &[u8],
     err: &[u8],
-) -> Result<Option<Failure>, AllocError> {
+) -> Result<(), Fault> {
     let end = run_case(alloc, case, &failing)?;
     if end.is(u64::from(UNWRITTEN), out, err) {
-        return Ok(None);
+        return Ok(());
     }
-    Ok(failure(
+    failed(
         case,
         failing,
         end,
         "with the bytes before the write that failed",
-    ))
+    )
 }
 
-// The first write to `out` or to `err` that fails and leaves other bytes than those before it.
-fn fails_writes(alloc: Global, case: &Case) -> Result<Option<Failure>, AllocError> {
+// Each write of a byte to `out` and to `err` fails once.
+fn check_writes(alloc: Global, case: &Case) -> Result<(), Fault> {
     for written in 0..case.out.len().min(MOST) {
         let failing = Hindrance {
             step: 1,
             failing_out: written as u64 + 1,
             ..NONE
         };
-        let failed = fails_write(alloc, case, failing, front(&case.out, written), b"")?;
-        if failed.is_some() {
-            return Ok(failed);
-        }
+        check_write(alloc, case, failing, front(&case.out, written), b"")?;
     }
     for written in 0..case.err.len().min(MOST) {
         let failing = Hindrance {
@@ -172,21 +167,9 @@ fn fails_writes(alloc: Global, case: &Case) -> Result<Option<Failure>, AllocErro
             failing_err: written as u64 + 1,
             ..NONE
         };
-        let failed = fails_write(alloc, case, failing, b"", front(&case.err, written))?;
-        if failed.is_some() {
-            return Ok(failed);
-        }
+        check_write(alloc, case, failing, b"", front(&case.err, written))?;
     }
-    Ok(None)
-}
-
-// The run that nothing hinders, if it ends in another way.
-fn fails_once(alloc: Global, case: &Case) -> Result<Option<Failure>, AllocError> {
-    let end = run_case(alloc, case, &NONE)?;
-    if end.is(case.status, &case.out, &case.err) && end.taken <= case.taken {
-        return Ok(None);
-    }
-    Ok(failure(case, NONE, end, AS_EXPECTED))
+    Ok(())
 }
 
 // What the case has to write on a prefix of its dump: what it expects, or if
@@ -198,45 +181,35 @@ fn wanted_on(alloc: Global, case: &Case, length: usize) -> Result<String, AllocE
     }
 }
 
-// The first prefix of the dump, of those with a length in this range, on which the case ends in another way.
-fn fails_fronts(
-    alloc: Global,
-    case: &Case,
-    from: usize,
-    upto: usize,
-) -> Result<Option<Failure>, AllocError> {
-    for length in from..upto {
-        let end = run_on(alloc, case, front(&case.dump, length), &NONE)?;
-        let wanted = wanted_on(alloc, case, length)?;
-        if !end.is(case.status, wanted.as_bytes(), &case.err) {
-            return Ok(Some(Failure {
-                hindrance: NONE,
-                length,
-                end,
-                wanted: "with what the case says of the prefix",
-            }));
-        }
+// The run on a prefix of the dump has to end as the case says of it.
+fn check_front(alloc: Global, case: &Case, length: usize) -> Result<(), Fault> {
+    let wanted = wanted_on(alloc, case, length)?;
+    let end = run_on(alloc, case, front(&case.dump, length), &NONE)?;
+    if end.is(case.status, wanted.as_bytes(), &case.err) {
+        return Ok(());
     }
-    Ok(None)
+    Err(Fault::Failed(Failure {
+        hindrance: NONE,
+        length,
+        end,
+        wanted: "with what the case says of the prefix",
+    }))
 }
 
-/// The first run of the case that didn't end as it must.
-pub fn fails(alloc: Global, case: &Case) -> Result<Option<Failure>, AllocError> {
+/// Runs the case in every way in which it must end as it says. Returns
+/// the first run that didn't end so, or that there was no memory for one.
+pub fn check(alloc: Global, case: &Case) -> Result<(), Fault> {
     if case.is_once {
-        return fails_once(alloc, case);
+        return check_run(alloc, case, NONE);
     }
     if let Some((from, upto)) = case.fronts {
-        return fails_fronts(alloc, case, from, upto);
+        for length in from..upto {
+            check_front(alloc, case, length)?;
+        }
+        return Ok(());
     }
-    let mut failed = fails_cuts(alloc, case)?;
-    if failed.is_none() {
-        failed = fails_calls(alloc, case)?;
-    }
-    if failed.is_none() {
-        failed = fails_first_calls(alloc, case)?;
-    }
-    if failed.is_none() {
-        failed = fails_writes(alloc, case)?;
-    }
-    Ok(failed)
+    check_cuts(alloc, case)?;
+    check_calls(alloc, case)?;
+    check_first_calls(alloc, case)?;
+    check_writes(alloc, case)
 }

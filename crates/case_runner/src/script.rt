@@ -1,7 +1,7 @@
 // A file of cases.
 use crate::case::Case;
-use crate::outcome::Failure;
-use crate::passing::fails;
+use crate::outcome::{Failure, Fault, Hindrance, Outcome};
+use crate::passing::check;
 use std::io;
 
 fn tell_text(rt: &HostRuntime, what: &str, text: &[u8]) -> io::Result<()> {
@@ -11,18 +11,10 @@ fn tell_text(rt: &HostRuntime, what: &str, text: &[u8]) -> io::Result<()> {
     }
 }
 
-// Reports a case that did not pass: how its run was hindered,
-// how it had to end, what it left, and what the case expects.
-fn tell_failed(rt: &HostRuntime, case: &Case, failed: &Failure) -> io::Result<()> {
-    let name = case.name.as_str();
-    let wanted = failed.wanted;
-    println!(rt; "not passed: {name}, which had to end {wanted}")?;
-    let length = failed.length;
-    let hindrance = failed.hindrance;
+// Reports how a run was hindered.
+fn tell_hindrance(rt: &HostRuntime, hindrance: Hindrance) -> io::Result<()> {
     let (cut, step) = (hindrance.cut, hindrance.step);
-    println!(rt;
-        "run on {length} bytes, with reads of {cut} and writes of {step} bytes (0: of any size)"
-    )?;
+    println!(rt; "with reads of {cut} and writes of {step} bytes (0: of any size)")?;
     let (call, out, err) = (
         hindrance.failing_call,
         hindrance.failing_out,
@@ -30,22 +22,42 @@ fn tell_failed(rt: &HostRuntime, case: &Case, failed: &Failure) -> io::Result<()
     );
     println!(rt;
         "failing (0: none): call {call}, write {out} to the output, write {err} to standard error"
-    )?;
-    let (status, taken) = (failed.end.status, failed.end.taken);
+    )
+}
+
+// Reports what a run left.
+fn tell_end(rt: &HostRuntime, end: &Outcome) -> io::Result<()> {
+    let (status, taken) = (end.status, end.taken);
     println!(rt; "status {status}, {taken} bytes taken")?;
-    tell_text(rt, "output", failed.end.out.written())?;
-    tell_text(rt, "standard error", failed.end.err.written())?;
+    tell_text(rt, "output", end.out.written())?;
+    tell_text(rt, "standard error", end.err.written())
+}
+
+// Reports what a case expects.
+fn tell_expected(rt: &HostRuntime, case: &Case) -> io::Result<()> {
     let (status, taken) = (case.status, case.taken);
     println!(rt; "the case expects status {status}, at most {taken} bytes taken")?;
     tell_text(rt, "output", &case.out)?;
     tell_text(rt, "standard error", &case.err)
 }
 
+// Reports a case that did not pass: how its run was hindered,
+// how it had to end, what it left, and what the case expects.
+fn tell_failed(rt: &HostRuntime, case: &Case, failed: &Failure) -> io::Result<()> {
+    let name = case.name.as_str();
+    let (wanted, length) = (failed.wanted, failed.length);
+    println!(rt; "not passed: {name}, which had to end {wanted}, on {length} bytes")?;
+    tell_hindrance(rt, failed.hindrance)?;
+    tell_end(rt, &failed.end)?;
+    tell_expected(rt, case)
+}
+
 // Whether a case passes as it stands; if it doesn't, that is reported.
 fn passes(rt: &HostRuntime, case: &Case) -> io::Result<bool> {
-    match fails(rt.alloc(), case)? {
-        None => Ok(true),
-        Some(failed) => {
+    match check(rt.alloc(), case) {
+        Ok(()) => Ok(true),
+        Err(Fault::Memory(fault)) => Err(io::Error::from(fault)),
+        Err(Fault::Failed(failed)) => {
             tell_failed(rt, case, &failed)?;
             Ok(false)
         }
@@ -68,22 +80,28 @@ fn end_case(rt: &HostRuntime, case: &mut Case) -> io::Result<u64> {
     Ok(passed)
 }
 
+// Takes a line of a file of cases, and returns how many passed of the case that it ends.
+fn take_line(rt: &HostRuntime, case: &mut Case, line: &str) -> io::Result<u64> {
+    if line.is_empty() || line.starts_with('#') {
+        return Ok(0);
+    }
+    if let Some(name) = line.strip_prefix("case ") {
+        let passed = end_case(rt, case)?;
+        case.begin(rt.alloc(), name)?;
+        return Ok(passed);
+    }
+    if !case.take(rt.alloc(), line)? {
+        println!(rt; "not understood: {line}")?;
+    }
+    Ok(0)
+}
+
 /// Runs the cases of a file, reports each that does not pass, and returns how many passed.
 pub fn run_file(rt: &HostRuntime, text: &str) -> io::Result<u64> {
-    let alloc = rt.alloc();
-    let mut case = Case::new(alloc);
+    let mut case = Case::new(rt.alloc());
     let mut passed = 0u64;
     for line in text.lines() {
-        if line.is_empty() || line.starts_with('#') {
-            continue;
-        }
-        if let Some(name) = line.strip_prefix("case ") {
-            passed = passed.saturating_add(end_case(rt, &mut case)?);
-            case.begin(alloc, name)?;
-        } else if !case.take(alloc, line)? {
-            println!(rt; "not understood: {line}")?;
-        }
+        passed = passed.saturating_add(take_line(rt, &mut case, line)?);
     }
-    passed = passed.saturating_add(end_case(rt, &mut case)?);
-    Ok(passed)
+    Ok(passed.saturating_add(end_case(rt, &mut case)?))
 }
