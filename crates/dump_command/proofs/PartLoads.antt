@@ -12,9 +12,8 @@ use Rattle.dump_sections.specs.Index.{Contents, index_of, sections_in}
 use Rattle.dump_sections.specs.Loading.{bodies_length}
 use Rattle.dump_sections.specs.Sections.{Section}
 use Rattle.binary_payloads.specs.declared.enc.Enc.{Enc}
-use Rattle.heap_cells.specs.Cells.{Cell, first_cells}
+use Rattle.heap_cells.specs.Cells.{first_cells}
 use Rattle.heap_cells.specs.DumpHeaps.{heap_map}
-use Rattle.heap_cells.specs.HeapMap.{HeapMap}
 use Rattle.heap_cells.specs.Loading.{enc_of, heap_bodies, heap_section, literals_section, two_bodies}
 use Rattle.heap_lines.specs.Tables.{IsTableCauseOf}
 use Rattle.heap_lines.specs.Wholes.{cells_in, HasLines}
@@ -210,7 +209,7 @@ module _ (pid : List ℕ) (before : List Section → List Section) (addr : Optio
     -- and this is its report
     pub HasRead-behind : (part : HeapPart) (seen : List ℕ) → GivesPart pid addr terms nodes limits index mid new (Ok part)
         → ((bytes : List ℕ) → IsIndexed bytes limits index old.now
-          → ((e : Element) → Contains terms e → (marked : Bool) → answer_over (walk_in part) nodes marked e ≡ answer_over (walk_of pid bytes) nodes marked e) → seen ≡ text bytes (walk_of pid bytes))
+        → ((e : Element) → Contains terms e → (marked : Bool) → answer_over (walk_in part) nodes marked e ≡ answer_over (walk_of pid bytes) nodes marked e) → seen ≡ text bytes (walk_of pid bytes))
         → HasRead means limits index old new seen
     HasRead-behind part seen gives shows =
         HasRead-listed means limits index old new seen (takes-behind (Ok part) gives) listed-part
@@ -220,7 +219,7 @@ module _ (pid : List ℕ) (before : List Section → List Section) (addr : Optio
 pub ReadsFor-peeked : (pid : List ℕ) (addr : Option ℕ) (text : List ℕ → Walk → List ℕ) (limits : Numbers) (index : Contents) (old new : DeviceState) (terms : List Element) (nodes : ℕ)
     (seen : HeapPart → List ℕ) (result : Result HeapPart Stop) → no_process pid (sections_in index) ≡ None → ReadsAtMost old old 0 → GivesPart pid addr terms nodes limits index old new result
     → ((part : HeapPart) (bytes : List ℕ) → ((e : Element) → Contains terms e → (marked : Bool) → answer_over (walk_in part) nodes marked e ≡ answer_over (walk_of pid bytes) nodes marked e)
-      → seen part ≡ text bytes (walk_of pid bytes))
+    → seen part ≡ text bytes (walk_of pid bytes))
     → ReadsFor (of_part pid no_body (lacks addr) text) limits index old new seen result
 ReadsFor-peeked pid addr text limits index old new terms nodes seen (Ok part) there none gives shows =
     HasRead-behind pid no_body addr text limits index old old there 0 none (omega arith) terms nodes new part (seen part) gives (λ bytes all. shows part bytes)

@@ -1,5 +1,5 @@
 // `peek`: terms of a heap of any size.
-ghost use Rattle.std.specs.Prelude.{◌≡◌, ◌+◌, ◌-◌, ◌<◌, ◌≤◌, List, ◌++◌, length, map, None, All, IfErr, IfOk, IfSome, OnOk};
+ghost use Rattle.std.specs.Prelude.{◌≡◌, ◌-◌, ◌<◌, ◌≤◌, ◌++◌, length, map, None, All, IfErr, IfOk, IfSome, OnOk};
 ghost use Rattle.std.specs.List.{between};
 ghost use Rattle.binary_refs.specs.Previews.{AreFor};
 ghost use Rattle.command_words.specs.Command.{peek_roots, peek_term, IsAskInRange};

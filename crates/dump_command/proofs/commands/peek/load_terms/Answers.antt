@@ -1,7 +1,4 @@
-use Rattle.std.proofs.Common.{ℕ, List, Option, Result, arith, map, sym, subst}
-use Rattle.dump_io.specs.Dumps.{DeviceState}
-use Rattle.dump_io.specs.Limits.{Numbers}
-use Rattle.dump_sections.specs.Index.{Contents}
+use Rattle.std.proofs.Common.{arith, map, sym, subst}
 use Rattle.heap_lines.specs.Wholes.{cells_in, is_known, HasLines}
 use Rattle.term_forms.specs.Seen.{element}
 use Rattle.dump_command.specs.Inner.Loads.{GivesPart}

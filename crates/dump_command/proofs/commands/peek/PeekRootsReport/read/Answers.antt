@@ -75,7 +75,7 @@ returns-clause-reads g c =
     HasRead-behind t.pid.now (body t.kind t.pid.now) None (text t.kind t.pid.now t.first t.count t.nodes t.marked) at.limits.now at.index.now before rooted
     c.in_ok-find_process.ensures.judges _ roots.reads (omega (arith, here, one)) (root_elements c.in_ok-roots.roots.shown) t.nodes after c.in_ok-part.part _ c.in_ok-part.ensures.gives
     (λ bytes all answers.
-        peeked-told t.kind t.pid.now bytes t.first t.count t.nodes t.marked at.index.now (walk_in c.in_ok-part.part) c.in_ok-roots.base c.in_ok-roots.roots all.is
-        (roots.roots.base ∙ ap base_of section)
-        (roots.roots.shown bytes all.opened ∙ ap (λ s. shown_roots t.kind t.first t.count (body_in bytes s)) section)
-        (λ e inside. answers e inside t.marked))
+    peeked-told t.kind t.pid.now bytes t.first t.count t.nodes t.marked at.index.now (walk_in c.in_ok-part.part) c.in_ok-roots.base c.in_ok-roots.roots all.is
+    (roots.roots.base ∙ ap base_of section)
+    (roots.roots.shown bytes all.opened ∙ ap (λ s. shown_roots t.kind t.first t.count (body_in bytes s)) section)
+    (λ e inside. answers e inside t.marked))
