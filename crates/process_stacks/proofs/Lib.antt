@@ -1,4 +1,3 @@
 mod FrameFacts
 mod PlaceFacts
 mod ReadFacts
-mod TallyFacts

@@ -1,4 +1,3 @@
--- What only private functions cite: how the lines of a stack are heard, and how processes are counted.
-pub mod Counting
+-- What only private functions cite: how the lines of a stack are heard, and how stacks are read.
 pub mod Hearing
 pub mod Reading

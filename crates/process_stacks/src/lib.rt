@@ -17,16 +17,13 @@
 mod faults;
 mod frame_sink;
 mod frames;
-mod groups;
 mod place_lines;
 mod procs;
 mod reading;
 mod stacks;
 mod stands;
-mod tallies;
 
 pub use faults::StackFault;
-pub use groups::StackGroup;
 pub use place_lines::lines_tell_places;
 pub use procs::StackProcs;
 pub use stacks::Stacks;

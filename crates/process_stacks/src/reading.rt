@@ -8,14 +8,13 @@ ghost use Rattle.section_rows.specs.Rows.{row_at};
 ghost use Rattle.process_stacks.specs.Groups.{stand_of};
 ghost use Rattle.process_stacks.specs.Rows.{stack_section, stacks_length};
 ghost use Rattle.process_stacks.specs.Stacks.{IsStackCauseOf};
-ghost use Rattle.process_stacks.specs.Inner.Counting.{shown_stand, shown_stands};
 ghost use Rattle.process_stacks.specs.Inner.Reading.{AreStacksOf, HasFrames, IsWithin};
 
 use crate::faults::StackFault;
 use crate::frame_sink::{FrameSink, Stop};
 use crate::place_lines::first_lines;
 use crate::procs::StackProcs;
-use crate::stands::Stand;
+use crate::stands::{Stand, Stands};
 use body_lines::{WholeLinesFault, hear_whole_lines};
 use dump_io::Dumps;
 use dump_sections::Index;
@@ -105,7 +104,7 @@ fn read_stand<D: Dumps>(
         (body_size (stack_section index.now (row_at procs.now p))) }
     ensures fault { IfErr result (IsStackCauseOf (D.state dumps.old) (D.state dumps.new)) }
     ensures stand { IfOk result (λ stand. IfTold (D.state dumps.old).now
-        (λ dump. shown_stand stand ≡ stand_of dump index.now (row_at procs.now p))) }
+        (λ dump. stand ≡ stand_of dump index.now (row_at procs.now p))) }
 {
     let place = stack_place(stacks, procs, p);
     let Ok(first) = first_lines(alloc, procs, p) else {
@@ -136,21 +135,21 @@ pub(crate) fn read_stands<D: Dumps>(
     index: &Index,
     stacks: &FirstSections<'_>,
     procs: &StackProcs,
-) -> Result<Vec<Stand>, StackFault>
+) -> Result<Stands, StackFault>
     requires over { IsBuiltOver (D.state dumps.old).now index.now }
     requires stacks { AreStacksOf index.now stacks.now }
     ensures reads { ReadsAtMost (D.state dumps.old) (D.state dumps.new)
         (stacks_length index.now procs.now) }
     ensures fault { IfErr result (IsStackCauseOf (D.state dumps.old) (D.state dumps.new)) }
-    ensures count { IfOk result (λ stands. length stands.items ≡ length procs.now) }
+    ensures count { IfOk result (λ stands. length stands.all.items ≡ length procs.now) }
     ensures stands { IfOk result (λ stands. IfTold (D.state dumps.old).now
-        (λ dump. shown_stands stands.items ≡ map (stand_of dump index.now) procs.now)) }
+        (λ dump. stands.all.items ≡ map (stand_of dump index.now) procs.now)) }
 {
     let mut buffer = Vec::new(alloc);
-    let mut stands = Vec::new(alloc);
+    let mut all = Vec::new(alloc);
     for p in 0..procs.len() {
         let stand = read_stand(alloc, dumps, index, stacks, procs, p, &mut buffer)?;
-        push_stand(&mut stands, stand)?;
+        push_stand(&mut all, stand)?;
     }
-    Ok(stands)
+    Ok(Stands { all })
 }

@@ -1,41 +1,40 @@
 // The processes of a dump by the places at which they stand.
-ghost use Rattle.std.specs.Prelude.{◌≡◌, [], ◌<◌, length, slice_index_or, IfOk, IfErr};
+ghost use Rattle.std.specs.Prelude.{◌≡◌, [], ◌<◌, length, slice_index_or, All, IfOk, IfErr};
 ghost use Rattle.dump_io.specs.Dumps.{IfTold, ReadsAtMost};
 ghost use Rattle.dump_sections.specs.Index.{IsBuiltOver};
 ghost use Rattle.size_order.specs.Sorting.{most_first};
-ghost use Rattle.process_stacks.specs.Groups.{found_from, groups, FitsStacks};
+ghost use Rattle.text_groups.specs.Groups.{groups};
+ghost use Rattle.process_stacks.specs.Groups.{found_from, FitsStacks};
 ghost use Rattle.process_stacks.specs.Rows.{stacks_length};
 ghost use Rattle.process_stacks.specs.Stacks.{IsStackCauseOf};
-ghost use Rattle.process_stacks.specs.Inner.Counting.{places_in, shown_stands};
 ghost use Rattle.process_stacks.specs.Inner.Reading.{AreStacksOf};
 
 use crate::faults::StackFault;
-use crate::groups::StackGroup;
 use crate::procs::StackProcs;
 use crate::reading::read_stands;
-use crate::stands::Stand;
-use crate::tallies::groups_of;
+use crate::stands::Stands;
 use dump_io::Dumps;
 use dump_sections::Index;
 use first_sections::FirstSections;
 use size_order::sort_most_first;
 use std::alloc::Global;
 use std::marker::Model;
+use text_groups::{Grouped, TextGroup, group_texts};
 
 /// The processes of a dump by the places at which they stand.
 #[derive(Drop)]
 pub struct Stacks {
-    stands: Vec<Stand>,
-    groups: Vec<StackGroup>,
+    stands: Stands,
+    groups: Vec<TextGroup>,
 }
 
 impl Model for Stacks {
+    ghost use Rattle.std.specs.Prelude.{map};
     ghost use Rattle.process_stacks.specs.Groups.{Found};
-    ghost use Rattle.process_stacks.specs.Inner.Counting.{places_in};
 
     ghost Value = { Found };
 
-    ghost view = { λ s. record { places = places_in s.stands.items; groups = s.groups.items } };
+    ghost view = { λ s. record { places = map (λ i. i.text) s.stands.all.items; groups = s.groups.items } };
 }
 
 // The stacks of an index by their pids.
@@ -50,26 +49,20 @@ fn find_stacks<'a>(alloc: Global, index: &'a Index) -> Result<FirstSections<'a>,
 }
 
 // The groups of these processes, the largest first.
-fn sorted_groups(alloc: Global, stands: &[Stand]) -> Result<Vec<StackGroup>, StackFault>
+fn sorted_groups(alloc: Global, stands: &Stands) -> Result<Vec<TextGroup>, StackFault>
     ensures groups { IfOk result (λ found. found.items
-        ≡ most_first (λ group. group.count) (groups (shown_stands stands.now))) }
+        ≡ most_first (λ group. group.count) (groups stands.now.all.items)) }
+    ensures firsts { IfOk result (λ found.
+        All (λ group. group.first < length stands.now.all.items) found.items) }
     ensures fault { IfErr result (λ fault. fault ≡ StackFault.Memory) }
 {
-    let Ok(mut groups) = groups_of(alloc, stands) else {
+    let Ok(mut groups) = group_texts(alloc, stands) else {
         return Err(StackFault::Memory);
     };
     match sort_most_first(&mut groups) {
         Ok(()) => Ok(groups),
         Err(_) => Err(StackFault::Memory),
     }
-}
-
-// The lines of the place at which a process stands.
-fn lines_at(stands: &[Stand], process: usize) -> &[u8]
-    requires { process < length stands.now }
-    ensures { result.now ≡ slice_index_or (places_in stands.now) process [] }
-{
-    stands[process].lines.as_slice()
 }
 
 impl Stacks {
@@ -104,8 +97,9 @@ impl Stacks {
         Ok(Stacks { stands, groups })
     }
 
-    /// The groups of processes that stand at the same place, the largest first.
-    pub fn groups(&self) -> &[StackGroup]
+    /// The groups of processes that stand at the same place, the largest first. The
+    /// weight of a group is the memory of its processes together, in bytes.
+    pub fn groups(&self) -> &[TextGroup]
         ensures { result.now ≡ self.now.groups }
     {
         self.groups.as_slice()
@@ -118,6 +112,6 @@ impl Stacks {
         requires { process < length self.now.places }
         ensures { result.now ≡ slice_index_or self.now.places process [] }
     {
-        lines_at(self.stands.as_slice(), process)
+        self.stands.text(process)
     }
 }

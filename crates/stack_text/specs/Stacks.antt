@@ -4,17 +4,17 @@ use Rattle.std.specs.List.{flat_map}
 use Rattle.section_rows.specs.Rows.{Row, row_at}
 use Rattle.process_stacks.specs.Groups.{Found}
 use Rattle.process_stacks.specs.Rows.{name_in, pid_in}
-use Rattle.process_stacks.specs.declared.groups.StackGroup.{StackGroup}
+use Rattle.text_groups.specs.declared.text_group.TextGroup.{TextGroup}
 use Rattle.report_lines.specs.Lines.{line_of, tab, text_or_dash, word_space}
 
 -- the line of a group: how many processes it has, their memory, and which is the first of them
-abbrev pub group_line : List Row → StackGroup → List ℕ
+abbrev pub group_line : List Row → TextGroup → List ℕ
 group_line rows group =
     let first = row_at rows group.first in
-    line_of tab (codes "stack" ∷ decimal group.count ∷ decimal group.memory ∷ pid_in first ∷ text_or_dash (name_in first) ∷ decimal first.at ∷ [])
+    line_of tab (codes "stack" ∷ decimal group.count ∷ decimal group.weight ∷ pid_in first ∷ text_or_dash (name_in first) ∷ decimal first.at ∷ [])
 
 -- the lines of a group: that line, and those of the place at which its processes stand
-abbrev pub group_lines : List Row → List (List ℕ) → StackGroup → List ℕ
+abbrev pub group_lines : List Row → List (List ℕ) → TextGroup → List ℕ
 group_lines rows places group = group_line rows group ++ slice_index_or places group.first []
 
 -- the last line: how many groups there are, and how many processes

@@ -3,15 +3,16 @@ ghost use Rattle.std.specs.Prelude.{◌≡◌, ◌<◌, length, take, All};
 ghost use Rattle.std.specs.List.{flat_map};
 ghost use Rattle.dump_io.specs.Sinks.{Puts};
 ghost use Rattle.process_stacks.specs.Groups.{FitsStacks};
-ghost use Rattle.process_stacks.specs.declared.groups.StackGroup.{StackGroup};
+ghost use Rattle.text_groups.specs.declared.text_group.TextGroup.{TextGroup};
 ghost use Rattle.section_rows.specs.Rows.{row_at};
 ghost use Rattle.report_lines.specs.Lines.{text_or_dash};
 ghost use Rattle.process_stacks.specs.Rows.{name_in};
 ghost use Rattle.stack_text.specs.Stacks.{group_line, group_lines, stacks_line, stacks_report};
 
 use dump_io::{Failed, Piece, Sink, write_all};
-use process_stacks::{StackGroup, StackProcs, Stacks};
+use process_stacks::{StackProcs, Stacks};
 use report_lines::put_line;
+use text_groups::TextGroup;
 
 // The name of the process at a place, or `-`.
 fn name_of(procs: &StackProcs, i: usize) -> &[u8]
@@ -22,7 +23,7 @@ fn name_of(procs: &StackProcs, i: usize) -> &[u8]
 }
 
 // Writes the line of a group.
-fn put_group<K: Sink>(sink: &mut K, procs: &StackProcs, group: &StackGroup) -> Result<(), Failed>
+fn put_group<K: Sink>(sink: &mut K, procs: &StackProcs, group: &TextGroup) -> Result<(), Failed>
     requires { group.now.first < length procs.now }
     ensures { Puts (K.state sink.old) (K.state sink.new) (group_line procs.now group.now) result }
 {
@@ -32,7 +33,7 @@ fn put_group<K: Sink>(sink: &mut K, procs: &StackProcs, group: &StackGroup) -> R
         &[
             Piece::Bytes(b"stack"),
             Piece::Dec(group.count),
-            Piece::Dec(group.memory),
+            Piece::Dec(group.weight),
             Piece::Bytes(procs.pid(group.first)),
             Piece::Bytes(name_of(procs, group.first)),
             Piece::Dec(procs.at(group.first)),
@@ -45,7 +46,7 @@ fn put_lines<K: Sink>(
     sink: &mut K,
     procs: &StackProcs,
     stacks: &Stacks,
-    group: &StackGroup,
+    group: &TextGroup,
 ) -> Result<(), Failed>
     requires first { group.now.first < length procs.now }
     requires places { length stacks.now.places ≡ length procs.now }
@@ -57,7 +58,7 @@ fn put_lines<K: Sink>(
 }
 
 // The first groups, at most `most`.
-fn first_groups(groups: &[StackGroup], most: u64) -> &[StackGroup]
+fn first_groups(groups: &[TextGroup], most: u64) -> &[TextGroup]
     ensures { result.now ≡ take most groups.now }
 {
     match groups.get(..most as usize) {
@@ -70,7 +71,7 @@ fn put_groups<K: Sink>(
     sink: &mut K,
     procs: &StackProcs,
     stacks: &Stacks,
-    groups: &[StackGroup],
+    groups: &[TextGroup],
 ) -> Result<(), Failed>
     requires firsts { All (λ group. group.first < length procs.now) groups.now }
     requires places { length stacks.now.places ≡ length procs.now }

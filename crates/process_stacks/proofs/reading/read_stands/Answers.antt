@@ -1,11 +1,10 @@
 use Rattle.std.proofs.Common.{◌≡◌, ◌+◌, ◌<◌, [], ◌∷◌, ◌++◌, get_or, length, map, take, sym, ◌∙◌, ap, subst, arith}
-use Rattle.std.proofs.lemmas.List.{map_more, map-append, length-append}
+use Rattle.std.proofs.lemmas.List.{map_more, length-append}
 use Rattle.std.proofs.lemmas.Option.{unwrap_or-slice_get}
 use Rattle.dump_io.specs.Dumps.{ReadsAtMost}
 use Rattle.dump_io.specs.Laws.Reads.{ReadsAtMost-both, ReadsAtMost-then}
 use Rattle.section_rows.specs.Rows.{Row, row_at}
 use Rattle.process_stacks.specs.Groups.{stand_of}
-use Rattle.process_stacks.specs.Inner.Counting.{shown_stand}
 use Rattle.process_stacks.proofs.ReadFacts.{stacks-more, stacks-upto}
 use Rattle.process_stacks.proofs.reading.read_stands.Goals as goal
 
@@ -22,12 +21,11 @@ loop-p-preserved g c =
     let here : row_at rows p ≡ get_or rows p none = unwrap_or-slice_get rows p none in
     record {
       reads = subst (ReadsAtMost (d.state c.args.dumps.now) (d.state c.read_stand.new.dumps)) (sym (stacks-more c.args.index.now rows p inside)) (ReadsAtMost-then before.reads one.reads);
-      count = ap length c.in_ok-push_stand.ensures.stands ∙ length-append c.loop-p.stands.items (stand ∷ []) ∙ ap (λ n. n + 1) before.count;
+      count = ap length c.in_ok-push_stand.ensures.stands ∙ length-append c.loop-p.all.items (stand ∷ []) ∙ ap (λ n. n + 1) before.count;
       stands = λ dump is.
           let stand_in = stand_of dump c.args.index.now in
-          ap (map shown_stand) c.in_ok-push_stand.ensures.stands
-          ∙ map-append shown_stand c.loop-p.stands.items (stand ∷ [])
-          ∙ ap (λ l. l ++ shown_stand stand ∷ []) (before.stands dump is)
+          c.in_ok-push_stand.ensures.stands
+          ∙ ap (λ l. l ++ stand ∷ []) (before.stands dump is)
           ∙ ap (λ s. map stand_in (take p rows) ++ s ∷ []) (one.stand dump (before.reads.same_now ∙ is) ∙ ap stand_in here)
           ∙ sym (map_more stand_in rows p none inside);
     }

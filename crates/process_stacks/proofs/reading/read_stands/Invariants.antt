@@ -2,7 +2,6 @@ use Rattle.std.proofs.Common.{◌≡◌, length, map, take}
 use Rattle.dump_io.specs.Dumps.{IfTold, ReadsAtMost}
 use Rattle.process_stacks.specs.Groups.{stand_of}
 use Rattle.process_stacks.specs.Rows.{stacks_length}
-use Rattle.process_stacks.specs.Inner.Counting.{shown_stands}
 use Rattle.process_stacks.proofs.reading.read_stands.Given as goal
 
 -- where the processes so far stand was read
@@ -11,6 +10,6 @@ invariant-loop-p g l =
     let d = g.D.Dumps in
     record {
       reads : ReadsAtMost (d.state l.initial.dumps) (d.state l.dumps) (stacks_length l.index (take l.p l.procs));
-      count : length l.stands.items ≡ l.p;
-      stands : IfTold (d.state l.initial.dumps).now (λ dump. shown_stands l.stands.items ≡ map (stand_of dump l.index) (take l.p l.procs));
+      count : length l.all.items ≡ l.p;
+      stands : IfTold (d.state l.initial.dumps).now (λ dump. l.all.items ≡ map (stand_of dump l.index) (take l.p l.procs));
     }

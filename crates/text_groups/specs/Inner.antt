@@ -1,0 +1,2 @@
+-- What only private functions cite: how items are counted.
+pub mod Counting
