@@ -1,10 +1,12 @@
-//! Tests of the crates on heaps: cells, roots, binaries and written dumps.
+//! Tests of the crates on heaps: cells, parts, roots, binaries and written dumps.
 //!
 //! They are separate from what they test, which would otherwise be proved once more together with them.
 #![tactic(auto)]
 
 #[cfg(test)]
 mod binary_refs_calls;
+#[cfg(test)]
+mod cell_parts_calls;
 #[cfg(test)]
 mod dump_write_calls;
 #[cfg(test)]

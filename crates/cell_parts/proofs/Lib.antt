@@ -1,0 +1,7 @@
+pub mod Joining
+pub mod Keeping
+pub mod Opening
+pub mod Passing
+pub mod Pushing
+pub mod Spots
+pub mod Walking

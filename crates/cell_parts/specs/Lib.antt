@@ -1,0 +1,5 @@
+pub mod Elements
+pub mod Inner
+pub mod Kinds
+pub mod Laws
+pub mod Parts
