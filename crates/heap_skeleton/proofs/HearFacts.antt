@@ -1,0 +1,58 @@
+-- What is heard of the lines of a heap.
+use Rattle.std.proofs.Common.{◌≡◌, ℕ, List, [], length, refl, ◌∙◌, ap}
+use Rattle.std.specs.Prelude.{Result, Ok, Err, OnOk, IfErr, Option, None, Some}
+use Rattle.body_lines.specs.Hearing.{Hears, HearsBody, StopsAmong}
+use Rattle.body_lines.specs.Lines.{lines_at}
+use Rattle.dump_io.specs.Dumps.{Now}
+use Rattle.dump_io.specs.Lines.{Line}
+use Rattle.dump_sections.specs.Sections.{Section}
+use Rattle.heap_skeleton.specs.declared.heap_sink.HeapSink.{HeapSink}
+use Rattle.heap_skeleton.specs.Inner.Hearing.{TakesLines, HearsBetween, HearsSection, HoldsSections, section_lines}
+use Rattle.heap_skeleton.specs.Inner.Held.{heap_lines, Gains, IsHeld}
+use Rattle.heap_skeleton.proofs.GainFacts.{Gains-none, IsHeld-then, hears-takes, length-parts}
+
+TakesLines-none : (a : HeapSink) → TakesLines a a []
+TakesLines-none a = record { enc = refl; gains = Gains-none a.held }
+
+-- a sink that gathered the heap lines of a run has heard its lines
+pub run-hears : {E : Type 0} (r : Result (Unit {0}) E) (old new : HeapSink) (at : ℕ) (run : List ℕ) → new.enc ≡ old.enc
+    → OnOk r (Gains old.held new.held (heap_lines old.enc (lines_at at run))) → OnOk r (Hears TakesLines old new (lines_at at run))
+run-hears (Ok u) old new at run enc gains = hears-takes old new (lines_at at run) (record { enc = enc; gains = gains })
+run-hears (Err e) old new at run enc gains = tt
+
+-- whatever it has heard when it stops
+pub run-stops : {E : Type 0} (r : Result (Unit {0}) E) (old new : HeapSink) (lines : List Line)
+    → IfErr r (StopsAmong {T = E} TakesLines (λ _ _ _ _. Unit {0}) old new lines)
+run-stops (Ok u) old new lines = tt
+run-stops (Err e) old new lines = record { heard = []; rest = lines; parts = refl; stopped = record { later = λ first earlier had. tt } }
+
+pub between-hears : (old new : HeapSink) (from upto : ℕ) (now : Now) → HearsBody TakesLines lines_at old new from upto now → HearsBetween old new now from upto
+between-hears old new from upto now body =
+    let took = body.heard.later old [] (TakesLines-none old) in
+    record {
+      enc = took.enc;
+      lines = heap_lines old.enc body.lines;
+      gains = took.gains;
+      are = λ dump is. ap (heap_lines old.enc) (body.are dump is);
+    }
+
+-- no section, and so no lines
+pub section-none : (old : HeapSink) (now : Now) → HearsSection old old now None
+section-none old now = record { enc = refl; lines = []; gains = Gains-none old.held; are = λ dump is. refl }
+
+pub section-hears : (old new : HeapSink) (now : Now) (s : Section) → HearsBetween old new now s.body s.end → HearsSection old new now (Some s)
+section-hears old new now s heard = record { enc = heard.enc; lines = heard.lines; gains = heard.gains; are = heard.are }
+
+-- both sections
+pub sections-hold : (first mid last : HeapSink) (now now' : Now) (heap literals : Option Section) (own : ℕ) → IsHeld [] first.held → now' ≡ now → HearsSection first mid now heap
+    → HearsSection mid last now' literals → own ≡ length mid.held.parts.items → HoldsSections first.enc now heap literals last.held own
+sections-hold first mid last now now' heap literals own empty same one other count =
+    let held = IsHeld-then first.held mid.held [] one.lines empty one.gains in
+    record {
+      heap_lines = one.lines;
+      literal_lines = other.lines;
+      held_is = IsHeld-then mid.held last.held one.lines other.lines held other.gains;
+      own_is = count ∙ ap length held.parts ∙ length-parts 0 one.lines;
+      heap_are = one.are;
+      literals_are = λ dump is. other.are dump (same ∙ is) ∙ ap (λ e. section_lines e dump literals) one.enc;
+    }

@@ -1,0 +1,155 @@
+-- Of the lines with one address the first is kept.
+use Rattle.std.proofs.Common.{◌≡◌, ℕ, zero, suc, ◌+◌, ◌<◌, ◌≤◌, ◌==◌, ◌||◌, Bool, true, false, not, cond, List, [], ◌∷◌, ◌++◌, length, take, drop, map, filter, get_or, Option, refl, sym, ◌∙◌, ap, subst, arith, append_assoc, length-append}
+use Rattle.std.specs.List.{flat_map, list_any}
+use Rattle.std.specs.Option.{option_map_or}
+use Rattle.std.proofs.Math.Bool.{not-not}
+use Rattle.std.proofs.Math.Seq.{take-append_seam, drop-append_seam, take-length}
+use Rattle.std.proofs.lemmas.List.{take_more, length-take, append-nil}
+use Rattle.std.proofs.lemmas.Option.{slice_get-get_or}
+use Rattle.heap_skeleton.specs.declared.held.CellPart.{CellPart}
+use Rattle.heap_skeleton.specs.declared.held.Held.{Held}
+use Rattle.heap_skeleton.specs.Inner.Held.{HeapLine, first_lines, line_at, no_line, marks_of, references_of, parts_of, Gains, IsHeld}
+use Rattle.heap_skeleton.specs.declared.settling.Settled.{Settled}
+use Rattle.heap_skeleton.specs.Inner.Keeping.{AreKept, HoldsLines}
+use Rattle.heap_skeleton.specs.Inner.Order.{address_in, is_first, AreAllFirst, AreFirsts}
+use Rattle.heap_skeleton.proofs.GainFacts.{IsHeld-then}
+use Rattle.heap_skeleton.proofs.LaidFacts.{count-references, lines-count, part-fields, split-at}
+use Rattle.heap_skeleton.specs.Inner.Leads.{leads_in, nowhere}
+
+-- ---- the first of the lines
+
+abbrev pub line_address : HeapLine → ℕ
+line_address line = line.cell.address
+
+abbrev pub is_seen : List ℕ → HeapLine → Bool
+is_seen seen line = list_any (λ address. address == line.cell.address) seen
+
+cond-append : (b : Bool) (xs ys : List HeapLine) (x : HeapLine) → cond b (xs ++ ys) (x ∷ (xs ++ ys)) ≡ cond b xs (x ∷ xs) ++ ys
+cond-append true xs ys x = refl
+cond-append false xs ys x = refl
+
+first_lines-push : (seen : List ℕ) (lines : List HeapLine) (line : HeapLine)
+    → first_lines seen (lines ++ line ∷ []) ≡ first_lines seen lines ++ cond (is_seen (seen ++ map line_address lines) line) [] (line ∷ [])
+first_lines-push seen [] line = ap (λ l. cond (is_seen l line) [] (line ∷ [])) (sym (append-nil seen))
+first_lines-push seen (other ∷ lines) line =
+    let later = first_lines-push (seen ++ other.cell.address ∷ []) lines line in
+    let tail = cond (is_seen (seen ++ map line_address (other ∷ lines)) line) [] (line ∷ []) in
+    let same : first_lines (seen ++ other.cell.address ∷ []) (lines ++ line ∷ []) ≡ first_lines (seen ++ other.cell.address ∷ []) lines ++ tail =
+    later ∙ ap (λ l. first_lines (seen ++ other.cell.address ∷ []) lines ++ cond (is_seen l line) [] (line ∷ [])) (append_assoc seen (other.cell.address ∷ []) (map line_address lines)) in
+    ap (λ l. cond (is_seen seen other) l (other ∷ l)) same
+    ∙ cond-append (is_seen seen other) (first_lines (seen ++ other.cell.address ∷ []) lines) tail other
+
+-- the parts before one have an address where the lines before it do
+seen-parts : (first : ℕ) (lines : List HeapLine) (i a : ℕ) → list_any (λ (p : CellPart). p.address == a) (take i (parts_of first lines)) ≡ list_any (λ b. b == a) (map line_address (take i lines))
+seen-parts first lines zero a = refl
+seen-parts first [] (suc i) a = refl
+seen-parts first (line ∷ lines) (suc i) a = ap (λ b. (line.cell.address == a) || b) (seen-parts (first + length (marks_of line)) lines i a)
+
+pub part-address : (lines : List HeapLine) (i : ℕ) → i < length lines → address_in (parts_of 0 lines) i ≡ (line_at lines i).cell.address
+part-address lines i inside =
+    let d : CellPart = record { address = 0; line = 0; first = 0; words = 0 } in
+    ap (λ (o : Option CellPart). option_map_or (λ p. p.address) o 0) (slice_get-get_or (parts_of 0 lines) i d (omega (arith, inside, lines-parts 0 lines)))
+    ∙ (part-fields 0 lines i d inside).0
+  where
+    lines-parts : (n : ℕ) (ls : List HeapLine) → length (parts_of n ls) ≡ length ls
+    lines-parts n ls = Rattle.heap_skeleton.proofs.GainFacts.length-parts n ls
+
+seen-first : (lines : List HeapLine) (i : ℕ) → i < length lines → is_seen (map line_address (take i lines)) (line_at lines i) ≡ not (is_first (parts_of 0 lines) i)
+seen-first lines i inside =
+    sym (seen-parts 0 lines i (line_at lines i).cell.address)
+    ∙ ap (λ a. list_any (λ (p : CellPart). p.address == a) (take i (parts_of 0 lines))) (sym (part-address lines i inside))
+    ∙ sym (not-not (list_any (λ (p : CellPart). p.address == address_in (parts_of 0 lines) i) (take i (parts_of 0 lines))))
+
+cond-not : (b : Bool) (line : HeapLine) → cond (not b) [] (line ∷ []) ≡ cond b (line ∷ []) []
+cond-not true line = refl
+cond-not false line = refl
+
+-- one more line, which is kept where it is the first with its address
+pub first_lines-more : (lines : List HeapLine) (i : ℕ) → i < length lines
+    → first_lines [] (take (i + 1) lines) ≡ first_lines [] (take i lines) ++ cond (is_first (parts_of 0 lines) i) (line_at lines i ∷ []) []
+first_lines-more lines i inside =
+    let line = line_at lines i in
+    ap (first_lines []) (take_more lines i no_line inside) ∙ first_lines-push [] (take i lines) line
+    ∙ ap (λ b. first_lines [] (take i lines) ++ cond b [] (line ∷ [])) (seen-first lines i inside)
+    ∙ ap (λ l. first_lines [] (take i lines) ++ l) (cond-not (is_first (parts_of 0 lines) i) line)
+
+all-first : (lines : List HeapLine) (i : ℕ) → ((n : ℕ) → n < length lines → is_first (parts_of 0 lines) n ≡ true) → i ≤ length lines → first_lines [] (take i lines) ≡ take i lines
+all-first lines zero each inside = refl
+all-first lines (suc i) each inside =
+    let next : suc i ≡ i + 1 = omega arith in
+    let line = line_at lines i in
+    ap (λ n. first_lines [] (take n lines)) next ∙ first_lines-more lines i (omega (arith, inside))
+    ∙ ap (λ b. first_lines [] (take i lines) ++ cond b (line ∷ []) []) (each i (omega (arith, inside)))
+    ∙ ap (λ l. l ++ line ∷ []) (all-first lines i each (omega (arith, inside)))
+    ∙ sym (take_more lines i no_line (omega (arith, inside))) ∙ ap (λ n. take n lines) (sym next)
+
+-- where each is the first with its address all are kept as they are
+pub all-kept : (held : Held) (own : ℕ) → own ≤ length held.parts.items → AreAllFirst held.parts.items → AreKept held own (record { held = held; own = own })
+all-kept held own few all = record {
+  held_is = λ lines is. subst (λ l. IsHeld l held) (sym (whole lines is)) is;
+  own_is = λ lines is. sym (
+      ap length (all-first lines own (each lines is) (omega (arith, few, lines-count lines held is)))
+      ∙ (let n = length-take own lines in omega (arith, n, few, lines-count lines held is)));
+}
+  where
+    each : (lines : List HeapLine) → IsHeld lines held → (n : ℕ) → n < length lines → is_first (parts_of 0 lines) n ≡ true
+    each lines is n inside = ap (λ l. is_first l n) (sym is.parts) ∙ all.each n (omega (arith, inside, lines-count lines held is))
+
+    whole : (lines : List HeapLine) → IsHeld lines held → first_lines [] lines ≡ lines
+    whole lines is = ap (first_lines []) (sym (take-length lines)) ∙ all-first lines (length lines) (each lines is) (omega arith) ∙ take-length lines
+
+cond-fewer : (b : Bool) (some all : List HeapLine) (x : HeapLine) → length some ≤ length all → length (cond b some (x ∷ some)) ≤ length (cond b all (x ∷ all))
+cond-fewer true some all x fewer = fewer
+cond-fewer false some all x fewer = omega (arith, fewer)
+
+fewer-first : (seen : List ℕ) (lines : List HeapLine) (n : ℕ) → length (first_lines seen (take n lines)) ≤ length (first_lines seen lines)
+fewer-first seen lines zero = omega arith
+fewer-first seen [] (suc n) = omega arith
+fewer-first seen (line ∷ lines) (suc n) =
+    let seen' = seen ++ line.cell.address ∷ [] in
+    cond-fewer (is_seen seen line) (first_lines seen' (take n lines)) (first_lines seen' lines) line (fewer-first seen' lines n)
+
+-- the process's own lines are among those that are kept
+pub own-kept : (held : Held) (kept : Settled) (own : ℕ) → HoldsLines held → AreKept held own kept → kept.own ≤ length kept.held.parts.items
+own-kept held kept own holds are =
+    let lines = holds.lines in
+    let fewer = fewer-first [] lines own in
+    let count = lines-count (first_lines [] lines) kept.held (are.held_is lines holds.held_is) in
+    omega (arith, fewer, count, are.own_is lines holds.held_is)
+
+-- ---- one more line
+
+kept-unless : (lines : List HeapLine) (held old new : Held) (i : ℕ) (b : Bool) → i < length lines → is_first (parts_of 0 lines) i ≡ b → Gains old new (cond b (line_at lines i ∷ []) [])
+    → IsHeld (first_lines [] (take i lines)) old → IsHeld (first_lines [] (take (i + 1) lines)) new
+kept-unless lines held old new i b inside first gains so_far =
+    subst (λ l. IsHeld l new) (sym (first_lines-more lines i inside ∙ ap (λ c. first_lines [] (take i lines) ++ cond c (line_at lines i ∷ []) []) first))
+    (IsHeld-then old new (first_lines [] (take i lines)) (cond b (line_at lines i ∷ []) []) so_far gains)
+
+pub kept-next : (held old new : Held) (firsts : List Bool) (i : ℕ) (b : Bool) → AreFirsts held.parts.items firsts → i < length held.parts.items → get_or firsts i false ≡ b
+    → (lines : List HeapLine) → IsHeld lines held → Gains old new (cond b (line_at lines i ∷ []) [])
+    → IsHeld (first_lines [] (take i lines)) old → IsHeld (first_lines [] (take (i + 1) lines)) new
+kept-next held old new firsts i b are place read lines is gains so_far =
+    kept-unless lines held old new i b (omega (arith, place, lines-count lines held is)) (ap (λ l. is_first l i) (sym is.parts) ∙ sym (are.each i place) ∙ read) gains so_far
+
+-- ---- the addresses that are left
+
+pub left-split : (held : Held) (lines : List HeapLine) (i : ℕ) (left : List ℕ) → IsHeld lines held → i < length held.parts.items → left ≡ flat_map references_of (drop i lines)
+    → left ≡ references_of (line_at lines i) ++ flat_map references_of (drop (i + 1) lines)
+left-split held lines i left is place left_is = left_is ∙ split-at references_of lines i (omega (arith, place, lines-count lines held is))
+
+pub left-parts : (xs ys left : List ℕ) (n : ℕ) → left ≡ xs ++ ys → n ≡ length xs → (take n left ≡ xs) × (drop n left ≡ ys)
+left-parts xs ys left n is count = (
+  ap (λ m. take m left) count ∙ ap (take (length xs)) is ∙ take-append_seam xs ys,
+  ap (λ m. drop m left) count ∙ ap (drop (length xs)) is ∙ drop-append_seam xs ys,
+)
+
+-- how many of them belong to the line with number i
+pub count-held : (lines : List HeapLine) (i n : ℕ) (found : List ℕ) → found ≡ marks_of (line_at lines i) → n ≡ length (filter (λ m. not (m == nowhere)) found) → n ≡ length (references_of (line_at lines i))
+count-held lines i n found is count = count ∙ ap (λ l. length (filter (λ m. not (m == nowhere)) l)) is ∙ count-references (leads_in (line_at lines i).cell.form)
+
+pub left-within : (held : Held) (lines : List HeapLine) (i n : ℕ) (left found : List ℕ) → IsHeld lines held → i < length held.parts.items → left ≡ flat_map references_of (drop i lines)
+    → found ≡ marks_of (line_at lines i) → n ≡ length (filter (λ m. not (m == nowhere)) found) → n ≤ length left
+left-within held lines i n left found is place left_is found_is count =
+    let size = count-held lines i n found found_is count in
+    let all = ap length (left-split held lines i left is place left_is) ∙ length-append (references_of (line_at lines i)) (flat_map references_of (drop (i + 1) lines)) in
+    omega (arith, size, all)

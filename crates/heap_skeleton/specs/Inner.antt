@@ -1,0 +1,9 @@
+-- What only private functions cite.
+pub mod Hearing
+pub mod Held
+pub mod Keeping
+pub mod Leads
+pub mod Order
+pub mod Reading
+pub mod Resolving
+pub mod Shown

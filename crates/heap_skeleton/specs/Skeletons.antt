@@ -1,0 +1,67 @@
+-- The skeleton of a heap: what leads where in it, without its texts.
+use Rattle.std.specs.Prelude.{ℕ, ◌==◌, ◌++◌, List, [], ◌∷◌, map, Option, if◌then◌else◌}
+use Rattle.std.specs.List.{list_any}
+use Rattle.std.specs.Option.{option_map, option_map_or}
+use Rattle.cell_graphs.specs.Graphs.{Graph, graph_of}
+use Rattle.cell_records.specs.declared.cells.Kind.{Kind}
+use Rattle.cell_words.specs.Words.{words_list}
+use Rattle.dump_sections.specs.Bodies.{body_in}
+use Rattle.dump_sections.specs.Index.{Contents, sections_in}
+use Rattle.dump_sections.specs.Sections.{Section}
+use Rattle.heap_cells.specs.Cells.{addresses, kind_of}
+use Rattle.heap_cells.specs.DumpHeaps.{heap_with}
+use Rattle.heap_cells.specs.HeapMap.{HeapMap}
+use Rattle.heap_cells.specs.Loading.{enc_of, heap_section, literals_section}
+use Rattle.heap_parts.specs.Places.{placed_lines}
+
+-- of each cell, by number: its address; the offset in the file of its line; the kind of its form, or none
+-- if it is malformed; its words; and the cells to which it leads. The first `own` are the process's own
+pub record SkeletonMap : Type 0 where
+  pub own : ℕ
+  pub addresses : List ℕ
+  pub lines : List ℕ
+  pub kinds : List (Option Kind)
+  pub words : List ℕ
+  pub leads : Graph
+
+-- the offsets of the lines whose address is none of those seen, and isn't that of a line before them
+abbrev pub first_places : List ℕ → List (ℕ × ℕ) → List ℕ
+first_places seen [] = []
+first_places seen (line ∷ lines) =
+    let later = first_places (seen ++ line.0 ∷ []) lines in
+    if list_any (λ address. address == line.0) seen then later else line.1 ∷ later
+
+-- the offset at which a section's body begins; a missing section counts as empty
+abbrev pub body_start : Option Section → ℕ
+body_start found = option_map_or (λ s. s.body) found 0
+
+-- where the lines of the cells begin whose bodies are those of these sections
+abbrev pub lines_in : List ℕ → Option Section → Option Section → List ℕ
+lines_in dump heap literals =
+    first_places []
+    (placed_lines (body_start heap) (body_in dump heap) ++ placed_lines (body_start literals) (body_in dump literals))
+
+-- the skeleton of a heap whose lines begin at these offsets
+abbrev pub skeleton_of : HeapMap → List ℕ → SkeletonMap
+skeleton_of heap lines = record {
+  own = heap.own;
+  addresses = addresses heap.cells;
+  lines = lines;
+  kinds = map (λ cell. option_map kind_of cell.form) heap.cells;
+  words = words_list heap.cells;
+  leads = graph_of heap.cells;
+}
+
+-- the heap in two sections of a dump
+abbrev pub heap_in : List ℕ → Contents → Option Section → Option Section → HeapMap
+heap_in dump index heap literals = heap_with (enc_of index.version) (body_in dump heap) (body_in dump literals)
+
+-- its skeleton
+abbrev pub skeleton_in : List ℕ → Contents → Option Section → Option Section → SkeletonMap
+skeleton_in dump index heap literals = skeleton_of (heap_in dump index heap literals) (lines_in dump heap literals)
+
+-- the skeleton of the heap of the process with this pid
+abbrev pub skeleton_for : List ℕ → Contents → List ℕ → SkeletonMap
+skeleton_for dump index pid =
+    let sections = sections_in index in
+    skeleton_in dump index (heap_section pid sections) (literals_section sections)

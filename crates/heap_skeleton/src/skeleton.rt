@@ -1,0 +1,240 @@
+// What leads where in a heap.
+ghost use Rattle.std.specs.Prelude.{◌≡◌, ◌<◌, ◌≤◌, ◌^◌, List, length, Some, slice_get, position, ◌==◌, IfOk, IfErr, IfSome};
+ghost use Rattle.cell_graphs.specs.Graphs.{LeadsWithin};
+ghost use Rattle.dump_io.specs.Dumps.{ReadsAtMost, IfTold};
+ghost use Rattle.dump_sections.specs.Index.{IsBuiltOver, sections_in};
+ghost use Rattle.dump_sections.specs.Loading.{bodies_length};
+ghost use Rattle.heap_cells.specs.Loading.{heap_bodies};
+ghost use Rattle.heap_skeleton.specs.Loading.{IsSkeletonCauseOf};
+ghost use Rattle.heap_skeleton.specs.Skeletons.{skeleton_for};
+ghost use Rattle.heap_skeleton.specs.Inner.Held.{HeapLine, IsHeld, IsSmall};
+ghost use Rattle.heap_skeleton.specs.Inner.Keeping.{HoldsLines};
+ghost use Rattle.heap_skeleton.specs.Inner.Leads.{cell_for};
+ghost use Rattle.heap_skeleton.specs.Inner.Order.{IsOrder};
+ghost use Rattle.heap_skeleton.specs.Inner.Resolving.{AreResolved};
+ghost use Rattle.heap_skeleton.specs.Inner.Shown.{skeleton_with, AreLaid, IsSpanOf};
+
+use crate::faults::SkeletonFault;
+use crate::held::{CellPart, Held, start_at};
+use crate::leads::{Leads, NOWHERE};
+use crate::loading::read_lines;
+use crate::order::number_of;
+use crate::resolving::resolve;
+use crate::settling::{Ordered, Settled, settle};
+use cell_graphs::CellGraph;
+use cell_parts::Kinded;
+use cell_records::Kind;
+use cell_words::Weighed;
+use dump_io::Dumps;
+use dump_sections::Index;
+use std::alloc::{AllocError, Global};
+use std::marker::Model;
+
+/// The cells of a process's heap, followed by those of the literals, without their texts.
+/// Contracts see, by number, what is kept of each.
+#[derive(Drop)]
+pub struct Skeleton {
+    parts: Vec<CellPart>,
+    kinds: Vec<Option<Kind>>,
+    // For each element the number of the cell to which it leads.
+    leads: Vec<u32>,
+    // The numbers of the cells in the order of their addresses.
+    order: Vec<u32>,
+    own: u32,
+}
+
+impl Model for Skeleton {
+    ghost use Rattle.heap_skeleton.specs.Skeletons.{SkeletonMap};
+    ghost use Rattle.heap_skeleton.specs.Inner.Shown.{shown_skeleton, IsSound};
+
+    ghost Value = { SkeletonMap };
+
+    ghost view = { λ s. shown_skeleton s.own s.parts.items s.kinds.items s.leads.items };
+
+    ghost invariant = { λ s. IsSound s.own s.parts.items s.kinds.items s.leads.items s.order.items };
+}
+
+// The cell that a number stands for.
+fn cell_for(number: u32) -> Option<u32>
+    ensures { result ≡ cell_for number }
+{
+    if number == NOWHERE {
+        None
+    } else {
+        Some(number)
+    }
+}
+
+// Where the elements of a cell begin and end among those of all cells.
+fn span_of(parts: &[CellPart], leads: &[u32], cell: u32) -> (usize, usize)
+    requires cell { cell < length parts.now }
+    requires laid { AreLaid parts.now (length leads.now) }
+    ensures { IsSpanOf parts.now leads.now cell result }
+{
+    let cell = cell as usize;
+    let from = start_at(parts, cell, leads.len());
+    let upto = start_at(parts, cell + 1, leads.len());
+    (from, upto)
+}
+
+// The numbers of the cells to which elements lead.
+fn resolve_leads(
+    leads: Leads,
+    order: &[u32],
+    parts: &[CellPart],
+    kinds: &[Option<Kind>],
+) -> Vec<u32>
+    requires few { length parts.now < 2 ^ 32 }
+    requires order { IsOrder parts.now order.now }
+    ensures { AreResolved parts.now kinds.now leads result.items }
+{
+    let Leads {
+        mut marks,
+        references,
+    } = leads;
+    resolve(&mut marks, &references, order, parts, kinds);
+    marks.shrink_to_fit();
+    marks
+}
+
+// The skeleton of cells with different addresses. What the vectors
+// have grown to hold beyond the cells and elements is given back.
+fn skeleton_of(ordered: Ordered) -> Skeleton
+    requires holds { HoldsLines ordered.settled.held }
+    requires small { IsSmall ordered.settled.held }
+    requires own { ordered.settled.own ≤ length ordered.settled.held.parts.items }
+    requires order { IsOrder ordered.settled.held.parts.items ordered.order.items }
+    ensures { (lines : List HeapLine) → IsHeld lines ordered.settled.held
+        → result ≡ skeleton_with ordered.settled.own lines }
+{
+    let Ordered { settled, mut order } = ordered;
+    let Settled { held, own } = settled;
+    let Held {
+        mut parts,
+        mut kinds,
+        leads,
+    } = held;
+    let numbers = resolve_leads(leads, &order, &parts, &kinds);
+    parts.shrink_to_fit();
+    kinds.shrink_to_fit();
+    order.shrink_to_fit();
+    Skeleton {
+        parts,
+        kinds,
+        leads: numbers,
+        order,
+        own,
+    }
+}
+
+impl Skeleton {
+    /// Reads the heap of a process and the literals: the first `proc_heap` section with the pid as its id, and the
+    /// first `literals` section, each once and in pieces of at most 65,536 bytes, whatever its length. A missing
+    /// section counts as empty. The index was built over the open file, which stays open.
+    ///
+    /// Nothing that the sections hold is refused. Returns `Read` only if the device's count of faults rose; `Memory` may
+    /// come from any allocation, and comes if there are more than 2^32 - 2 cells and elements, including those of
+    /// repeated addresses, or a cell of 2^32 words or more. Whatever it returns, at most as many bytes are read
+    /// as the two bodies have. Only meanwhile are needed: a buffer of at most twice the longest line and a piece, 8 bytes
+    /// for each element that is a reference, and 16 for each cell while the addresses are sorted; and if addresses
+    /// are repeated, as much again as is kept.
+    pub fn load<D: Dumps>(
+        alloc: Global,
+        dumps: &mut D,
+        index: &Index,
+        pid: &[u8],
+    ) -> Result<Skeleton, SkeletonFault>
+        requires { IsBuiltOver (D.state dumps.old).now index.now }
+        ensures reads { ReadsAtMost (D.state dumps.old) (D.state dumps.new)
+            (bodies_length (heap_bodies pid.now (sections_in index.now))) }
+        ensures fault { IfErr result (IsSkeletonCauseOf (D.state dumps.old) (D.state dumps.new)) }
+        ensures skeleton { IfOk result (λ s. IfTold (D.state dumps.old).now
+            (λ dump. s ≡ skeleton_for dump index.now pid.now)) }
+    {
+        let heap = index.first(b"proc_heap", Some(pid));
+        let literals = index.first_tag(b"literals");
+        let (held, own) = read_lines(alloc, dumps, index, heap, literals)?;
+        Ok(skeleton_of(settle(alloc, held, own)?))
+    }
+
+    /// The number of cells.
+    pub fn cells(&self) -> u32
+        ensures value { result ≡ length self.now.addresses }
+        ensures graph { result ≡ length self.now.leads }
+        ensures within { LeadsWithin self.now.leads }
+    {
+        self.parts.len() as u32
+    }
+
+    /// The number of the cell with an address. Returns `None` exactly when there is none.
+    pub fn find(&self, address: u64) -> Option<u32>
+        ensures value { result ≡ position (λ a. a == address) self.now.addresses }
+        ensures within { IfSome result (λ n. n < length self.now.leads) }
+    {
+        number_of(&self.order, &self.parts, address)
+    }
+
+    /// The address of a cell.
+    pub fn addr(&self, cell: u32) -> u64
+        requires { cell < length self.now.addresses }
+        ensures { slice_get self.now.addresses cell ≡ Some result }
+    {
+        self.parts[cell as usize].address
+    }
+
+    /// The offset in the file at which the line of a cell begins, in bytes.
+    pub fn line(&self, cell: u32) -> u64
+        requires { cell < length self.now.addresses }
+        ensures { slice_get self.now.lines cell ≡ Some result }
+    {
+        self.parts[cell as usize].line
+    }
+
+    /// The kind of a cell's form. A malformed cell has none.
+    pub fn kind(&self, cell: u32) -> Option<Kind>
+        requires { cell < length self.now.addresses }
+        ensures { slice_get self.now.kinds cell ≡ Some result }
+    {
+        self.kinds[cell as usize]
+    }
+}
+
+impl CellGraph for Skeleton {
+    ghost graph = { λ s. s.leads };
+
+    fn cells(&self) -> u32 {
+        Skeleton::cells(self)
+    }
+
+    fn places(&self, cell: u32) -> usize {
+        let (from, upto) = span_of(&self.parts, &self.leads, cell);
+        upto - from
+    }
+
+    fn lead(&self, cell: u32, place: usize) -> Option<u32> {
+        let (from, _) = span_of(&self.parts, &self.leads, cell);
+        cell_for(self.leads[from + place])
+    }
+}
+
+impl Kinded for Skeleton {
+    ghost kinds = { λ s. s.kinds };
+
+    fn kind(&self, cell: u32) -> Option<Kind> {
+        self.kinds[cell as usize]
+    }
+}
+
+impl Weighed for Skeleton {
+    ghost words = { λ s. s.words };
+
+    ghost own = { λ s. s.own };
+
+    fn words(&self, cell: u32) -> u64 {
+        u64::from(self.parts[cell as usize].words)
+    }
+
+    fn own(&self) -> u32 {
+        self.own
+    }
+}

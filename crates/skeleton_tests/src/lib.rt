@@ -1,0 +1,7 @@
+//! Tests of the skeletons of heaps.
+//!
+//! They are separate from what they test, which would otherwise be proved once more together with them.
+#![tactic(auto)]
+
+#[cfg(test)]
+mod heap_skeleton_calls;
