@@ -11,7 +11,8 @@ use Rattle.root_views.specs.Roots.{BodyRoot}
 use Rattle.root_views.specs.declared.kinds.RootKind.{RootKind}
 use Rattle.root_lines.specs.Shown.{some_of, shown_roots, SomeRoots}
 use Rattle.root_lines.specs.Inner.Hearing.{roots_of_lines, Takes, TakesLines, Took}
-use Rattle.root_lines.specs.Inner.Keeping.{all_counted_from, kept_all, kept_one, placed, placed_roots}
+use Rattle.root_lines.specs.Inner.Keeping.{all_counted_from, kept_all, kept_one}
+use Rattle.root_lines.specs.Placed.{placed, placed_roots}
 use Rattle.root_lines.specs.declared.kept_roots.KeptRoots.{KeptRoots}
 use Rattle.root_lines.specs.declared.root_sink.RootSink.{RootSink}
 use Rattle.root_lines.proofs.LineFacts.{lines-roots}
@@ -125,9 +126,10 @@ run-hears old new lines (Ok done) took = hears-takes old new lines took
 run-hears old new lines (Err lack) took = tt
 
 -- whatever it heard before it stopped
-pub stops-anywhere : {E : Type 0} (old new : RootSink) (lines : List Line) (r : Result (Unit {0}) E) → IfErr r (StopsAmong TakesLines (λ _ _ _ _. Unit {0}) old new lines)
-stops-anywhere old new lines (Ok done) = tt
-stops-anywhere old new lines (Err lack) = record { heard = []; rest = lines; parts = refl; stopped = record { later = λ first earlier had. tt } }
+pub stops-anywhere : {S E : Type 0} (hears : S → S → List Line → Type 0) (old new : S) (lines : List Line) (r : Result (Unit {0}) E)
+    → IfErr r (StopsAmong hears (λ _ _ _ _. Unit {0}) old new lines)
+stops-anywhere hears old new lines (Ok done) = tt
+stops-anywhere hears old new lines (Err lack) = record { heard = []; rest = lines; parts = refl; stopped = record { later = λ first earlier had. tt } }
 
 -- of a body that was heard from the beginning it has the roots that are asked for
 pub body-took : (old new : RootSink) (kind : RootKind) (first most from : ℕ) (body : List ℕ) (lines : List Line) → old.kept.kind ≡ kind → old.first ≡ first → old.most ≡ most → old.count ≡ 0

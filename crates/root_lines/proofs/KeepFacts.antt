@@ -11,7 +11,8 @@ use Rattle.root_views.specs.Kinds.{roots_in}
 use Rattle.root_views.specs.Roots.{BodyRoot}
 use Rattle.root_views.specs.declared.kinds.RootKind.{RootKind}
 use Rattle.root_lines.specs.Shown.{some_of, IsPlaced}
-use Rattle.root_lines.specs.Inner.Keeping.{all_counted_from, counted_from, kept_all, kept_line, kept_one, no_root, placed, HasLine, IsKept, Keeps}
+use Rattle.root_lines.specs.Inner.Keeping.{all_counted_from, counted_from, kept_all, kept_line, kept_one, no_root, HasLine, IsKept, Keeps}
+use Rattle.root_lines.specs.Placed.{placed}
 use Rattle.root_lines.specs.declared.kept_roots.KeptRoot.{KeptRoot}
 use Rattle.root_lines.specs.declared.kept_roots.KeptRoots.{KeptRoots}
 use Rattle.root_lines.proofs.SomeFacts.{some-nil, some-one}

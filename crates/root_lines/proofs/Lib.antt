@@ -1,3 +1,4 @@
+mod EachFacts
 mod HearFacts
 mod KeepFacts
 mod LineFacts

@@ -18,7 +18,7 @@ use Rattle.root_views.specs.Roots.{Content, Term, Dist, Unread, BodyRoot, has_te
 use Rattle.root_views.specs.declared.kinds.RootKind.{RootKind}
 use Rattle.root_views.specs.declared.kinds.RootKind.TheVariants.{Stack, Dict, Mail}
 use Rattle.root_lines.specs.Inner.Hearing.{roots_of_lines}
-use Rattle.root_lines.specs.Inner.Keeping.{placed, placed_roots}
+use Rattle.root_lines.specs.Placed.{placed, placed_roots}
 
 -- ---- the roots of a line
 

@@ -1,3 +1,4 @@
 -- What only private functions cite.
+pub mod Each
 pub mod Hearing
 pub mod Keeping

@@ -1,4 +1,4 @@
--- Some of the roots of a body, and why they aren't shown.
+-- Some of the roots of a body, and why its roots weren't all heard.
 use Rattle.std.specs.Prelude.{ℕ, ◌+◌, ◌<◌, ◌^◌, List, drop, length, take, None}
 use Rattle.dump_io.specs.Dumps.{DeviceState}
 use Rattle.dump_io.specs.Faults.{Cause, fails, lacks, IsCauseOf}
@@ -30,6 +30,6 @@ abbrev pub roots_cause : RootsFault → Cause ⊥
 roots_cause Read = fails
 roots_cause Memory = lacks
 
--- why roots aren't shown: the device failed; memory may be lacking at any time
+-- why the roots weren't all heard: the device failed; memory may be lacking at any time
 abbrev pub IsRootsCauseOf : DeviceState → DeviceState → RootsFault → Type 0
 IsRootsCauseOf before after fault = IsCauseOf None before after (roots_cause fault)

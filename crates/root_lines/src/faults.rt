@@ -1,12 +1,12 @@
-// Why the roots of a body aren't shown.
+// Why the roots of a body weren't all heard.
 use std::alloc::AllocError;
 
-/// Why the roots of a body aren't shown.
+/// Why the roots of a body weren't all heard.
 #[derive(Debug, Drop)]
 pub enum RootsFault {
     /// The device failed.
     Read,
-    /// There was no memory for the roots that are shown.
+    /// There was no memory for a line, or for what is kept of the roots.
     Memory,
 }
 

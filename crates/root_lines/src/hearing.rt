@@ -1,7 +1,7 @@
 // Hearing the roots of lines.
 ghost use Rattle.std.specs.Prelude.{◌≡◌, ◌+◌, ◌-◌, ◌<◌, ◌≤◌, ◌^◌, ◌||◌, nat_le, drop, length, OnOk};
 ghost use Rattle.body_lines.specs.Lines.{lines_at};
-ghost use Rattle.root_lines.specs.Inner.Keeping.{placed_roots};
+ghost use Rattle.root_lines.specs.Placed.{placed_roots};
 ghost use Rattle.root_lines.specs.Inner.Hearing.{roots_of_lines, IsReady, Takes};
 
 use crate::counting::root_count;

@@ -3,7 +3,8 @@ ghost use Rattle.std.specs.Prelude.{◌≡◌, ◌+◌, ◌-◌, ◌<◌, ◌&&�
 ghost use Rattle.root_views.specs.Kinds.{roots_in};
 ghost use Rattle.root_views.specs.Seen.{root};
 ghost use Rattle.root_lines.specs.Shown.{some_of};
-ghost use Rattle.root_lines.specs.Inner.Keeping.{all_counted_from, kept_all, placed_roots, AreKept, HasLine, Keeps};
+ghost use Rattle.root_lines.specs.Inner.Keeping.{all_counted_from, kept_all, AreKept, HasLine, Keeps};
+ghost use Rattle.root_lines.specs.Placed.{placed_roots};
 
 use crate::kept_roots::{KeptRoot, KeptRoots};
 use root_views::{Root, RootKind};

@@ -1,18 +1,24 @@
-//! Some of the roots of a body of any size, and how many there are in all.
+//! The roots of a body of any size.
 //!
-//! [`ShownRoots::load`] reads a body once, in pieces of at most 65,536 bytes, whatever its length, counts its roots, and
-//! keeps those from a place on, at most so many, with the lines in which they stand. Of the others nothing is kept.
+//! [`hear_roots`] reads a body once, in pieces of at most 65,536 bytes, whatever its length, and lets an [`EachRoot`] hear
+//! its roots one by one; none of them is kept. [`ShownRoots::load`] reads in the same pieces, counts the roots, and keeps
+//! those from a place on, at most so many, with the lines in which they stand.
 //!
 //! ```text
-//! let mail = ShownRoots::load(alloc, &mut dumps, section.body, section.end, RootKind::Mail, 40, 10)?;
-//! for i in 0..mail.len() {
-//!     let root = mail.root(i); // from the 41st root on, root.at bytes behind section.body
+//! let mut buffer = Vec::new(alloc);
+//! hear_roots(&mut dumps, stack.body, stack.end, RootKind::Stack, &mut buffer, &mut each)?;
+//! hear_roots(&mut dumps, mail.body, mail.end, RootKind::Mail, &mut buffer, &mut each)?;
+//!
+//! let shown = ShownRoots::load(alloc, &mut dumps, mail.body, mail.end, RootKind::Mail, 40, 10)?;
+//! for i in 0..shown.len() {
+//!     let root = shown.root(i); // from the 41st root on, root.at bytes behind mail.body
 //! }
-//! let all = mail.count();
+//! let all = shown.count();
 //! ```
 #![tactic(auto)]
 
 mod counting;
+mod each_root;
 mod faults;
 mod hearing;
 mod keeping;
@@ -20,5 +26,6 @@ mod kept_roots;
 mod root_sink;
 mod shown_roots;
 
+pub use each_root::{EachRoot, hear_roots};
 pub use faults::RootsFault;
 pub use shown_roots::ShownRoots;

@@ -5,7 +5,7 @@ ghost use Rattle.dump_io.specs.Dumps.{size_of, IfTold, IsOpen, ReadsAtMost};
 ghost use Rattle.root_views.specs.Kinds.{roots_in};
 ghost use Rattle.root_views.specs.Seen.{root};
 ghost use Rattle.root_lines.specs.Shown.{shown_roots, IsPlaced, IsRootsCauseOf};
-ghost use Rattle.root_lines.specs.Inner.Keeping.{placed_roots};
+ghost use Rattle.root_lines.specs.Placed.{placed_roots};
 ghost use Rattle.root_lines.specs.Inner.Hearing.{IsReady, Took};
 
 use crate::faults::RootsFault;
@@ -19,7 +19,7 @@ use std::alloc::Global;
 use std::marker::Model;
 
 // Counts the roots of the body between two offsets of the open file, and keeps those from a place on, at most so many.
-fn hear_roots<D: Dumps>(
+fn take_roots<D: Dumps>(
     alloc: Global,
     dumps: &mut D,
     from: u64,
@@ -103,7 +103,7 @@ impl ShownRoots {
             roots ≡ shown_roots kind first most (between from upto dump))) }
         ensures places { IfOk result (λ roots. All (IsPlaced from) roots.shown) }
     {
-        let sink = hear_roots(alloc, dumps, from, upto, kind, first, most)?;
+        let sink = take_roots(alloc, dumps, from, upto, kind, first, most)?;
         let RootSink {
             first: _,
             most: _,

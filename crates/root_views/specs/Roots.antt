@@ -17,6 +17,11 @@ pub data Content : Type 0 where
   Dist : List ℕ → Content
   Unread : Content
 
+-- the element of a root, if it is a term
+abbrev pub term_in : Content → List Element
+term_in (Term e) = e ∷ []
+term_in content = []
+
 -- where a root stands in the body, its label, and what it is
 pub record BodyRoot : Type 0 where
   pub at : ℕ

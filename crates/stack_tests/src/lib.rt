@@ -1,4 +1,4 @@
-//! Tests of the crates that gather stacks and tell of them, and of the one that shows some of the roots of a body.
+//! Tests of the crates that gather stacks and tell of them, and of the one that hears the roots of a body.
 //!
 //! They are separate from what they test, which would otherwise be proved once more together with them.
 #![tactic(auto)]

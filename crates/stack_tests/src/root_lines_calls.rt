@@ -2,7 +2,7 @@ ghost use Rattle.std.specs.Prelude.{◌≤◌};
 ghost use Rattle.dump_io.specs.Dumps.{size_of, IsOpen};
 
 use dump_io::{Dumps, MemDumps};
-use root_lines::{RootsFault, ShownRoots};
+use root_lines::{EachRoot, RootsFault, ShownRoots, hear_roots};
 use root_views::{Root, RootKind, What};
 use std::alloc::{AllocError, Global};
 use std::test::Fail;
@@ -191,6 +191,113 @@ fn a_failure_of_the_device_is_told(rt: HostRuntime) -> Result<(), Fail> {
     for (call, text) in [(2, "failed"), (3, "failed"), (4, "0 e ?\nroots 1\n")] {
         let found = drawn(alloc, &body, RootKind::Dict, 0, 1, &[], &[call])?;
         assert_eq!(rt; found.as_slice(), text.as_bytes());
+    }
+    Ok(())
+}
+
+// Draws each root that it hears.
+#[derive(Drop)]
+struct Drawing {
+    out: Vec<u8>,
+}
+
+impl EachRoot for Drawing {
+    ghost ready = { λ _. Unit {0} };
+
+    ghost hears = { λ _ _ _. Unit {0} };
+
+    fn root(&mut self, found: &Root<'_>) -> Result<(), AllocError> {
+        draw_root(&mut self.out, found)
+    }
+}
+
+// The roots of a stack and of the mailbox behind it, each of which is heard.
+fn heard_between<D: Dumps>(
+    alloc: Global,
+    dumps: &mut D,
+    from: u64,
+    middle: u64,
+    upto: u64,
+) -> Result<Vec<u8>, RootsFault>
+    requires open { IsOpen (D.state dumps.old).now }
+    requires within { upto ≤ size_of (D.state dumps.old).now }
+    requires stack { from ≤ middle }
+    requires mail { middle ≤ upto }
+{
+    let mut buffer = Vec::new(alloc);
+    let mut drawing = Drawing {
+        out: Vec::new(alloc),
+    };
+    hear_roots(
+        dumps,
+        from,
+        middle,
+        RootKind::Stack,
+        &mut buffer,
+        &mut drawing,
+    )?;
+    hear_roots(
+        dumps,
+        middle,
+        upto,
+        RootKind::Mail,
+        &mut buffer,
+        &mut drawing,
+    )?;
+    Ok(drawing.out)
+}
+
+// The same for two bodies in a file, from a device that cuts its reads and fails at some calls.
+fn heard(
+    alloc: Global,
+    stack: &[u8],
+    mail: &[u8],
+    cuts: &[usize],
+    fails: &[u64],
+) -> Result<Vec<u8>, Fail> {
+    let mut file = Vec::from_slice(alloc, HEAD)?;
+    file.extend_from_slice(stack)?;
+    let middle = file.len() as u64;
+    file.extend_from_slice(mail)?;
+    let mut dumps = MemDumps::holding(alloc, "S", &file, cuts, fails)?;
+    let size = dumps.open_dump("S")?;
+    let middle = middle.min(size);
+    let from = (HEAD.len() as u64).min(middle);
+    let text = match heard_between(alloc, &mut dumps, from, middle, size) {
+        Ok(text) => text,
+        Err(RootsFault::Read) => Vec::from_slice(alloc, b"failed")?,
+        Err(RootsFault::Memory) => Vec::from_slice(alloc, b"lacking")?,
+    };
+    Ok(text)
+}
+
+#[test]
+fn each_root_is_heard_with_its_offset_in_the_file(rt: HostRuntime) -> Result<(), Fail> {
+    let alloc = rt.alloc();
+    let told: &[u8] = b"16 y0 H10\n24 y1 # Catch 0x40\n40  ?\n42 y2 N\n\
+        46 m H40\n50 t N\n52 m D D4:AAAAAA==\n64 t I7\n69 m ?\n71 m A1:a\n76 t N\n";
+    for cuts in [&[][..], &[1], &[7, 3]] {
+        let text = heard(alloc, STACK, MAIL, cuts, &[])?;
+        assert_eq!(rt; text.as_slice(), told);
+    }
+    Ok(())
+}
+
+#[test]
+fn roots_behind_the_first_piece_are_heard(rt: HostRuntime) -> Result<(), Fail> {
+    let alloc = rt.alloc();
+    let mut mail = vec![in alloc; b'\n'; 70_000]?;
+    mail.extend_from_slice(b"H1:N\n")?;
+    let told: &[u8] = b"16 y0 N\n70021 m H1\n70024 t N\n";
+    // The first call opens the file, the next reads the stack, and two read the mailbox.
+    for (call, text) in [
+        (2, &b"failed"[..]),
+        (3, b"failed"),
+        (4, b"failed"),
+        (5, told),
+    ] {
+        let found = heard(alloc, b"y0:N\n", &mail, &[], &[call])?;
+        assert_eq!(rt; found.as_slice(), text);
     }
     Ok(())
 }

@@ -6,7 +6,8 @@ use Rattle.root_views.specs.Roots.{BodyRoot}
 use Rattle.root_views.specs.declared.kinds.RootKind.{RootKind}
 use Rattle.root_lines.specs.declared.root_sink.RootSink.{RootSink}
 use Rattle.root_lines.specs.Shown.{some_of}
-use Rattle.root_lines.specs.Inner.Keeping.{kept_all, placed_roots, AreKept}
+use Rattle.root_lines.specs.Inner.Keeping.{kept_all, AreKept}
+use Rattle.root_lines.specs.Placed.{placed_roots}
 
 -- the roots of lines, with their offsets in the file
 abbrev pub roots_of_lines : RootKind → List Line → List BodyRoot

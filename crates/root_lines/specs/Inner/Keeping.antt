@@ -1,19 +1,11 @@
 -- The roots that are kept, with their lines.
-use Rattle.std.specs.Prelude.{◌≡◌, ℕ, ◌+◌, ◌-◌, ◌<◌, ◌≤◌, ◌^◌, List, [], ◌++◌, length, map, slice_index_or, All}
+use Rattle.std.specs.Prelude.{◌≡◌, ℕ, ◌-◌, ◌<◌, ◌≤◌, ◌^◌, List, [], ◌++◌, length, map, slice_index_or, All}
 use Rattle.std.specs.List.{between}
 use Rattle.root_views.specs.Kinds.{roots_in}
 use Rattle.root_views.specs.Roots.{BodyRoot, Unread}
 use Rattle.root_views.specs.declared.kinds.RootKind.{RootKind}
 use Rattle.root_lines.specs.declared.kept_roots.KeptRoot.{KeptRoot}
 use Rattle.root_lines.specs.declared.kept_roots.KeptRoots.{KeptRoots}
-
--- the root with its offset counted from so many bytes before
-abbrev pub placed : ℕ → BodyRoot → BodyRoot
-placed at root = record root { at = at + root.at }
-
--- the roots of bytes that stand at an offset of the file, with their offsets there
-abbrev pub placed_roots : RootKind → ℕ → List ℕ → List BodyRoot
-placed_roots kind at bytes = map (placed at) (roots_in kind bytes)
 
 -- the root with its offset in the file counted from another offset there
 abbrev pub counted_from : ℕ → BodyRoot → BodyRoot

@@ -1,7 +1,7 @@
 use Rattle.std.proofs.Common.{refl}
 use Rattle.std.specs.List.{between}
 use Rattle.root_lines.proofs.HearFacts.{body-took}
-use Rattle.root_lines.proofs.shown_roots.hear_roots.Goals as goal
+use Rattle.root_lines.proofs.shown_roots.take_roots.Goals as goal
 
 pub returns-in-Ok-clause-roots : goal.returns-in-Ok-clause-roots
 returns-in-Ok-clause-roots g c = λ dump is.
