@@ -21,11 +21,11 @@ spread-more sep (p ∷ ps) zero part is = let same : p ≡ part = cc in ap (λ q
 spread-more sep (p ∷ ps) (suc i) part is = grind (arith, spread-more sep ps i part is)
 
 -- there is room for six parts
-pub length-pieces : (sep : Piece) (parts pieces : List Piece) (i : ℕ) → pieces ≡ spread sep (take i parts) ++ replicate (12 - 2 * i) sep
-    → i ≤ length parts → length parts ≤ 6 → length pieces ≡ 12
+pub length-pieces : (sep : Piece) (parts pieces : List Piece) (i : ℕ) → pieces ≡ spread sep (take i parts) ++ replicate (16 - 2 * i) sep
+    → i ≤ length parts → length parts ≤ 8 → length pieces ≡ 16
 length-pieces sep parts pieces i are within few =
     let front = spread sep (take i parts) in
-    omega (arith, ap length are, length-append front (replicate (12 - 2 * i) sep), length-spread sep (take i parts), length-take-le i parts within, length-replicate (12 - 2 * i) sep, few)
+    omega (arith, ap length are, length-append front (replicate (16 - 2 * i) sep), length-spread sep (take i parts), length-take-le i parts within, length-replicate (16 - 2 * i) sep, few)
 
 -- so a piece that is put anywhere leaves this many
 pub length-front : (pieces : List Piece) (n at : ℕ) (piece : Piece) → n ≤ length pieces → n ≡ length (take n (slice_set pieces at piece))

@@ -6,7 +6,7 @@ ghost use Rattle.report_lines.specs.Lines.{count_line, line_of, total_line};
 
 use dump_io::{Failed, Piece, Sink, put_pieces};
 
-/// Writes a line of one to six parts, with the same bytes between each two of them. Returns
+/// Writes a line of one to eight parts, with the same bytes between each two of them. Returns
 /// `Failed` only if the sink's count of faults rose; a proper prefix of the line was written then.
 pub fn put_line<'x, K: Sink>(
     sink: &mut K,
@@ -14,12 +14,12 @@ pub fn put_line<'x, K: Sink>(
     parts: &[Piece<'x>],
 ) -> Result<(), Failed>
     requires some { 0 < length parts.now }
-    requires few { length parts.now ≤ 6 }
+    requires few { length parts.now ≤ 8 }
     ensures { Puts (K.state sink.old) (K.state sink.new)
         (line_of between.now (map piece_text parts.now)) result }
 {
     // Each part has a piece behind it, and that of the last one ends the line.
-    let mut pieces = [Piece::Bytes(between); 12];
+    let mut pieces = [Piece::Bytes(between); 16];
     let mut end = 0;
     for part in parts {
         pieces[end] = *part;

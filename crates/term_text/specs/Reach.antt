@@ -3,15 +3,10 @@ use Rattle.std.specs.Prelude.{ℕ, ◌-◌, Bool, List, [], ◌∷◌, ◌++◌,
 use Rattle.std.specs.List.{flat_map}
 use Rattle.dump_io.specs.Numbers.{hexadecimal}
 use Rattle.term_forms.specs.Elements.{Element}
-use Rattle.root_views.specs.Roots.{BodyRoot, Content, Term}
+use Rattle.root_views.specs.Roots.{BodyRoot, term_in}
 use Rattle.heap_cells.specs.HeapMap.{HeapMap}
 use Rattle.heap_reach.specs.Unreached.{count_below, unreached_of}
 use Rattle.report_lines.specs.Lines.{line_of, word_space}
-
--- the element of a root, if it is a term
-abbrev pub term_in : Content → List Element
-term_in (Term e) = e ∷ []
-term_in content = []
 
 -- the elements of the roots that are terms
 abbrev pub root_elements : List BodyRoot → List Element

@@ -15,7 +15,8 @@ use heap_cells::{CellIx, Heap, Kind};
 use report_lines::{put_count_line, put_line, put_total_line};
 use term_forms::shapes::Form;
 
-fn kind_word(kind: Option<Kind>) -> &'static [u8]
+/// The word for a kind of cells, as in the report of `cells`; a cell without a kind is `malformed`.
+pub fn kind_word(kind: Option<Kind>) -> &'static [u8]
     ensures { result.now ≡ cell_word kind }
 {
     match kind {

@@ -16,7 +16,7 @@ mod reach_report;
 mod root_report;
 
 pub use binary_report::put_binary;
-pub use cell_report::put_cells;
+pub use cell_report::{kind_word, put_cells};
 pub use ext_report::put_ext;
 pub use reach_report::{add_roots, put_reach};
 pub use root_report::{put_roots, put_shown_roots, put_term};

@@ -3,12 +3,13 @@ ghost use Rattle.std.specs.Prelude.{◌≡◌, ◌+◌, ◌≤◌, List, length}
 ghost use Rattle.std.specs.List.{flat_map};
 ghost use Rattle.dump_io.specs.Sinks.{Puts};
 ghost use Rattle.root_views.specs.Kinds.{roots_in};
+ghost use Rattle.root_views.specs.Roots.{term_in};
 ghost use Rattle.root_views.specs.Seen.{content};
 ghost use Rattle.term_forms.specs.Elements.{Element};
 ghost use Rattle.heap_reach.specs.Reached.{is_in};
 ghost use Rattle.heap_reach.specs.Rounds.{reached_by, IsReachOf, AddsRoots};
 ghost use Rattle.heap_reach.specs.Unreached.{count_below, one_if, unreached_of};
-ghost use Rattle.term_text.specs.Reach.{reach_report, term_in, root_elements, totals_line, unreached_line};
+ghost use Rattle.term_text.specs.Reach.{reach_report, root_elements, totals_line, unreached_line};
 
 use dump_io::{Failed, Piece, Sink};
 use heap_cells::Heap;

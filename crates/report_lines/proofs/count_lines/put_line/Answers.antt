@@ -14,11 +14,11 @@ loop-part-preserved g c =
     let parts = c.args.parts.now in
     let i = c.loop-part.part-index in
     let so_far = c.loop-part.invariant in
-    let room : 12 - 2 * i ≡ suc (suc (12 - 2 * (i + 1))) = omega (arith, c.requires.few, c.loop-part-test.true) in (
+    let room : 16 - 2 * i ≡ suc (suc (16 - 2 * (i + 1))) = omega (arith, c.requires.few, c.loop-part-test.true) in (
       so_far.0,
       so_far.1,
       omega (arith, so_far.2),
-      set-spread so_far.0 parts c.loop-part.pieces i c.loop-part.end (12 - 2 * (i + 1)) _
+      set-spread so_far.0 parts c.loop-part.pieces i c.loop-part.end (16 - 2 * (i + 1)) _
           (so_far.3 ∙ ap (λ n. spread so_far.0 (take i parts) ++ replicate n so_far.0) room) so_far.2 c.loop-part-test.true
           (slice_get-get_or parts i _ c.loop-part-test.true),
     )
@@ -36,5 +36,5 @@ returns g c =
     let so_far = c.loop-part.invariant in
     let all : take i parts ≡ parts = take_all i parts c.loop-part-test.false in
     Puts-as (text-pieces c.args.between.now so_far.0 _ parts c.loop-part.pieces _ c.loop-part.end so_far.1
-    (so_far.3 ∙ ap (λ ps. spread so_far.0 ps ++ replicate (12 - 2 * i) so_far.0) all)
+    (so_far.3 ∙ ap (λ ps. spread so_far.0 ps ++ replicate (16 - 2 * i) so_far.0) all)
     (omega (arith, so_far.2, c.loop-part-test.false, c.loop-part.auto.part-index-end)) c.requires.some refl) c.put_pieces.ensures

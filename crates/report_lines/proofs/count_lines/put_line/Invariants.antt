@@ -8,4 +8,4 @@ use Rattle.report_lines.proofs.count_lines.put_line.Given as goal
 abbrev pub invariant-loop-part : goal.invariant-loop-part
 invariant-loop-part g l =
     (gap : Piece) × (piece_text gap ≡ l.between) × (l.end ≡ 2 * l.part-index)
-    × (l.pieces ≡ spread gap (take l.part-index l.parts) ++ replicate (12 - 2 * l.part-index) gap)
+    × (l.pieces ≡ spread gap (take l.part-index l.parts) ++ replicate (16 - 2 * l.part-index) gap)

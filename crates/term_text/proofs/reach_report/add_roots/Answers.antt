@@ -1,8 +1,9 @@
 use Rattle.std.proofs.Common.{◌++◌, sym, ◌∙◌, ap, subst}
 use Rattle.std.proofs.lemmas.List.{append_assoc}
+use Rattle.root_views.specs.Roots.{term_in}
 use Rattle.root_views.specs.Seen.{root}
 use Rattle.heap_reach.specs.Rounds.{IsReachOf}
-use Rattle.term_text.specs.Reach.{term_in, root_elements}
+use Rattle.term_text.specs.Reach.{root_elements}
 use Rattle.term_text.proofs.reach_report.add_roots.Goals as goal
 
 pub loop-found-preserved : goal.loop-found-preserved

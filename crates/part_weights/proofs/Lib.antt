@@ -1,0 +1,3 @@
+pub mod HearFacts
+pub mod HeldFacts
+pub mod ShareFacts

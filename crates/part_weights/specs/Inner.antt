@@ -1,0 +1,4 @@
+-- What only private functions cite.
+pub mod Hearing
+pub mod Held
+pub mod Shown

@@ -1,0 +1,5 @@
+pub mod Inner
+pub mod Loading
+pub mod Roots
+pub mod Shown
+pub mod Weights
