@@ -50,6 +50,8 @@ try() {
     case $3 in
     "FILE" | "FILE [N]") tell "$1" "$2" ;;
     "FILE PID") tell "$1" "$2" "<0.1.0>" ;;
+    "FILE PID [N]") tell "$1" "$2" "<0.1.0>" 3 ;;
+    "FILE PID N ADDR") tell "$1" "$2" "<0.1.0>" 3 10 ;;
     "FILE PID [NODES] [marked]") tell "$1" "$2" "<0.1.0>" 1 ;;
     "FILE PID ADDR"*) tell "$1" "$2" "<0.1.0>" 10 ;;
     "FILE PID KIND"*) tell "$1" "$2" "<0.1.0>" mail 0 1000 1 ;;

@@ -3,7 +3,8 @@
 # C loop and grep; then `edump procs`, `edump field` and `edump triage` on a dump of 1 GiB with 200,000 processes, beside `edump index` and
 # a program in C that only reads the same, and `edump stacks` beside `edump procs`; then the load of heaps, beside the reading
 # of their lines through `heap_line` and `form`, `edump term` beside a program in C that writes the same, and the walk of a
-# term; then `edump peek` of ten messages beside a program in C that looks for each line's address, and beside `edump mail`;
+# term; then `edump peek` of ten messages beside a program in C that looks for each line's address, and beside `edump mail`, and
+# `edump weigh` beside `edump reach` or, of a heap of 4 GiB, beside `edump peek`;
 # then the previews of binaries, and `edump binaries` beside `edump index` and a program in C that reads the same; then an external term, read and written;
 # then `edump audit` beside `edump procs`, and `edump audit-json` beside `edump audit`; and then `edump redact` of a dump of
 # 1 GiB beside `cat`, each into a file that isn't there before. Each command runs in turn for a number of rounds; the script
@@ -139,21 +140,29 @@ for shape in "list 1000000 0" "list 10000000 1" "tuples 1000000"; do
 done
 rm -f "$folder/out" "$folder/plain"
 
-# Ten messages of a heap that is loaded, and of one of 4 GiB that isn't.
-for cells in 10000000 100000000; do
+# Ten messages of heaps that are loaded, and of one of 4 GiB that isn't, and which of them holds how much.
+for cells in 1000000 10000000 100000000; do
     rm -f "$folder"/*.times
     "$bench" messages "$dump" "$cells" || exit 1
     sync "$dump"
     for _ in $(seq "$rounds"); do
         round addresses /dev/null "$bench" addresses "$dump"
         round peek /dev/null "$edump" peek "$dump" "<0.1.0>" mail 0 10
+        round weigh /dev/null "$edump" weigh "$dump" "<0.1.0>"
         [ "$cells" -gt 10000000 ] && continue
         round mail /dev/null "$edump" mail "$dump" "<0.1.0>"
+        round reach /dev/null "$edump" reach "$dump" "<0.1.0>"
     done
     echo "a heap of $cells cells, ten messages, $(wc -c <"$dump") bytes:"
     tell addresses "the addresses" addresses itself
     tell peek "edump peek" addresses "a program in C that only looks for addresses"
-    [ "$cells" -gt 10000000 ] || tell mail "edump mail" peek "edump peek"
+    if [ "$cells" -gt 10000000 ]; then
+        tell weigh "edump weigh" peek "edump peek"
+        continue
+    fi
+    tell mail "edump mail" peek "edump peek"
+    tell reach "edump reach" mail "edump mail"
+    tell weigh "edump weigh" reach "edump reach"
 done
 
 # References to binaries, over few and over many sections.

@@ -2,7 +2,7 @@
 ghost use Rattle.std.specs.Prelude.{◌≡◌, ◌<◌, ℕ, Bool, [], List, map, option_map};
 ghost use Rattle.std.specs.Option.{IfSome};
 ghost use Rattle.std.specs.String.{string_bytes};
-ghost use Rattle.command_words.specs.Command.{Ask, audit, audit_json, audit_query, binary, command, ext_query, full_of, holders, on, peek_query, peek_term, plain_query, process_query, roots_query, shown_command, shown_query, some_roots_query, stacks, term, term_query, triage, word_command, word_query, IsAskInRange, IsInRange};
+ghost use Rattle.command_words.specs.Command.{Ask, audit, audit_json, audit_query, binary, command, ext_query, full_of, holders, on, peek_query, peek_term, plain_query, process_query, roots_query, shown_command, shown_query, some_roots_query, stacks, term, term_query, triage, weigh_query, word_command, word_query, IsAskInRange, IsInRange};
 ghost use Rattle.command_words.specs.Ranges.{number_upto};
 ghost use Rattle.dump_io.specs.Numbers.{hex_number};
 
@@ -13,10 +13,11 @@ use dump_io::{dec_u64, hex_u64};
 use root_views::RootKind;
 use table_sections::TableKind;
 
-// How many rows of each table `triage` shows, and how many groups `stacks`, if the words have no number.
+// How many rows of each table `triage` shows, how many groups `stacks`
+// and how many parts `weigh`, if the words have no number.
 const USUAL_ROWS: u32 = 10;
 
-// The most rows, groups or roots for which a number in the words may ask.
+// The most rows, groups, parts or roots for which a number in the words may ask.
 const MOST_ROWS: u32 = 1_000;
 
 /// A command with its words.
@@ -97,6 +98,18 @@ pub enum Query<'a> {
     /// `reach FILE PID`: which cells of a process's heap its roots don't reach, and how many they do reach.
     Reach {
         pid: &'a str,
+    },
+    /// `weigh FILE PID [N]`: which of the cells to which a process's roots refer alone hold
+    /// how much of its heap, at most N of them, whatever the size of the heap.
+    Weigh {
+        pid: &'a str,
+        count: u32,
+    },
+    /// `weigh FILE PID N ADDR`: the same of the cells to which the elements of the cell at an address refer.
+    WeighCell {
+        pid: &'a str,
+        count: u32,
+        addr: u64,
     },
     /// `cells FILE PID`: what is on a process's heap: each cell with its address, its kind and its size.
     Cells {
@@ -268,6 +281,7 @@ fn process_query<'a>(name: &str, word: &'a str, words: &[String]) -> Option<Quer
         "mail" => roots_query(RootKind::Mail, word, words),
         "term" => term_query(word, words),
         "peek" => peek_query(word, words),
+        "weigh" => weigh_query(word, words),
         "ext" => ext_query(word, words),
         "audit" => audit_query(word, words),
         "audit-json" => audit_json_query(word, words),
@@ -371,6 +385,29 @@ fn peek_query<'a>(pid: &'a str, words: &[String]) -> Option<Query<'a>>
         "dict" => some_roots_query(RootKind::Dict, pid, rest),
         "mail" => some_roots_query(RootKind::Mail, pid, rest),
         _ => peek_term_query(pid, words),
+    }
+}
+
+fn weigh_query<'a>(pid: &'a str, words: &[String]) -> Option<Query<'a>>
+    ensures reads { option_map shown_query result
+        ≡ weigh_query pid.now (map string_bytes words.now) }
+    ensures range { IfSome result (λ query. IsAskInRange (shown_query query)) }
+{
+    match words {
+        [] => Some(Query::Weigh {
+            pid,
+            count: USUAL_ROWS,
+        }),
+        [count] => {
+            let count = number_upto(count.as_str(), MOST_ROWS)?;
+            Some(Query::Weigh { pid, count })
+        }
+        [count, addr] => {
+            let count = number_upto(count.as_str(), MOST_ROWS)?;
+            let addr = hex_u64(addr.as_bytes())?;
+            Some(Query::WeighCell { pid, count, addr })
+        }
+        _ => None,
     }
 }
 

@@ -33,10 +33,10 @@ use Rattle.term_unfold.specs.DumpWalks.{previews_in, walk_of}
 use Rattle.term_unfold.specs.Walks.{Walk, new_walk}
 use Rattle.root_views.specs.declared.kinds.RootKind.{RootKind}
 use Rattle.root_views.specs.Kinds.{roots_tag}
-use Rattle.root_views.specs.Sections.{root_section}
+use Rattle.root_views.specs.Sections.{root_bodies, root_section}
 use Rattle.command_words.specs.Command.{cells, ext}
 use Rattle.heap_cells.specs.DumpHeaps.{heap_map, heap_weight}
-use Rattle.dump_command.specs.Meaning.{Meaning, Part, Rooted, meaning, never, no_body, no_process, on_heap, part_in, root_bodies}
+use Rattle.dump_command.specs.Meaning.{Meaning, Part, Rooted, meaning, never, no_body, no_process, on_heap, part_in}
 use Rattle.dump_command.specs.Report.{large_refusal, too_large}
 use Rattle.dump_command.specs.Terms.{base_of, binary_count, dense_cause, external_at, no_external, root_terms, too_dense}
 use Rattle.dump_command.specs.Inner.Stops.{stop_of_body, stop_of_heap, stop_of_large, stop_of_previews, Judges}

@@ -9,3 +9,4 @@ pub mod Reading
 pub mod Redacting
 pub mod Runs
 pub mod TriageLoads
+pub mod WeightLoads

@@ -31,9 +31,9 @@ use Rattle.root_lines.specs.declared.faults.RootsFault.TheVariants as roots_faul
 use Rattle.root_views.specs.Kinds.{roots_in}
 use Rattle.root_views.specs.Sections.{root_section}
 use Rattle.root_views.specs.declared.kinds.RootKind.{RootKind}
-use Rattle.root_views.specs.Roots.{BodyRoot, Content, Term, Info, Dist, Unread}
+use Rattle.root_views.specs.Roots.{BodyRoot, Content, Term, Info, Dist, Unread, term_in}
 use Rattle.term_forms.specs.Elements.{Element}
-use Rattle.term_text.specs.Reach.{root_elements, term_in}
+use Rattle.term_text.specs.Reach.{root_elements}
 use Rattle.term_text.specs.Roots.{answer_over, content_text, root_lines, shown_report, some_roots_report}
 use Rattle.term_unfold.specs.DumpWalks.{walk_of}
 use Rattle.term_unfold.specs.Parts.{answer_in, has_cell}

@@ -1,7 +1,7 @@
 -- What each question to a dump means, in one row: what it reports, which bodies
 -- it loads for that, why it is refused, and how much it takes.
 use Rattle.std.specs.Prelude.{ℕ, ◌+◌, ◌*◌, Bool, List, [], ◌∷◌, ◌++◌, length, Option, None, Some, codes, is_some, unwrap_or, if◌then◌else◌}
-use Rattle.std.specs.Option.{option_or, option_to_list}
+use Rattle.std.specs.Option.{option_map_or, option_or, option_to_list}
 use Rattle.dump_io.specs.Limits.{Numbers}
 use Rattle.dump_sections.specs.Bodies.{at_place, body_in, body_of}
 use Rattle.dump_sections.specs.Index.{Contents, index_of, sections_in}
@@ -16,8 +16,7 @@ use Rattle.report_text.specs.Links.{links_report}
 use Rattle.report_text.specs.Reports.{index_report, info_report}
 use Rattle.report_text.specs.Tables.{fields_report, procs_report, rows_report, values_report}
 use Rattle.root_views.specs.Kinds.{roots_in}
-use Rattle.root_views.specs.Sections.{root_section}
-use Rattle.root_views.specs.declared.kinds.RootKind.TheVariants.{Stack, Dict, Mail}
+use Rattle.root_views.specs.Sections.{root_bodies, root_section}
 use Rattle.process_table.specs.Fields.{field_table}
 use Rattle.process_table.specs.Processes.{Process, process_table}
 use Rattle.process_table.specs.Records.{record_sections}
@@ -45,10 +44,12 @@ use Rattle.audit_bodies.specs.Mailboxes.{audited_sections}
 use Rattle.audit_text.specs.Findings.{audit_report}
 use Rattle.dump_audit.specs.Findings.{Audit, findings}
 use Rattle.dump_audit.specs.declared.finding.Finding.{Finding}
+use Rattle.part_weights.specs.Weights.{address_weighing, root_weighing}
+use Rattle.weight_text.specs.Weights.{weights_report}
 use Rattle.json_report.specs.Trees.{audit_tree, json_text}
 use Rattle.dump_redact.specs.Redacted.{redacted}
 use Rattle.dump_redact.specs.Refusals.{heap_sections}
-use Rattle.command_words.specs.Command.{Ask, index, info, procs, proc, memory, field, table, roots, term, peek_term, peek_roots, ext, reach, cells, binary, binaries, holders, triage, stacks, links, redact, audit, audit_json}
+use Rattle.command_words.specs.Command.{Ask, index, info, procs, proc, memory, field, table, roots, term, peek_term, peek_roots, ext, reach, weigh, weigh_cell, cells, binary, binaries, holders, triage, stacks, links, redact, audit, audit_json}
 use Rattle.dump_command.specs.Terms.{bad_binary, base_of, binary_bytes, binary_cause, binary_count, external_at, no_address, no_external, root_terms, too_dense}
 use Rattle.dump_command.specs.Triage.{Told, triage_over}
 
@@ -65,10 +66,6 @@ process_section pid sections = first_named (codes "proc") pid sections
 -- the first section on memory, if there is one
 abbrev pub memory_section : List Section → Option Section
 memory_section sections = first_tagged (codes "memory") sections
-
--- the stack, the dictionary and the mailbox of a process
-abbrev pub root_bodies : List ℕ → List Section → List Section
-root_bodies pid sections = (option_to_list (root_section Stack pid sections) ++ option_to_list (root_section Dict pid sections)) ++ option_to_list (root_section Mail pid sections)
 
 -- the first section, the first one on memory, those of the processes and those of the ETS tables
 abbrev pub triage_sections : List Section → List Section
@@ -245,20 +242,29 @@ of_heap pid before refuses what show = on_heap pid before refuses (λ bytes. wha
 abbrev pub of_walk : {A : Type 0} → List ℕ → (List Section → List Section) → (HeapMap → Option Refusal) → (List ℕ → Walk → A) → (A → List ℕ) → Meaning
 of_walk pid before refuses what show = on_heap pid before refuses (λ bytes. what bytes (walk_of pid bytes)) show (λ bytes. 128 * binary_count pid bytes)
 
--- one that shows terms of that heap whatever its size, and of some of its lines alone: it is refused only if the
--- process isn't there, or for what this says of the heap. Beside these bodies and the heap it takes the lines, 16
--- bytes for each of as many bytes as a section's body may have and four more, and 128 for each reference to a binary
-abbrev pub of_part : List ℕ → (List Section → List Section) → (HeapMap → Option Refusal) → (List ℕ → Walk → List ℕ) → Meaning
-of_part pid before refuses text = record {
-  What = List ℕ;
-  what = λ bytes. text bytes (walk_of pid bytes);
-  show = λ text. text;
+-- one that goes over that heap whatever its size, and over these bodies: it is refused
+-- only if the process isn't there, or for what this says of the heap
+abbrev pub of_any_size : {A : Type 0} → List ℕ → (List Section → List Section) → (HeapMap → Option Refusal) → (List ℕ → A) → (A → List ℕ) → (Numbers → List ℕ → ℕ) → Meaning
+of_any_size {A} pid before refuses what show more = record {
+  What = A;
+  what = what;
+  show = show;
   found = None;
   absent = no_process pid;
   bodies = no_body;
   held = λ limits bytes. refuses (heap_map pid bytes);
-  takes = λ limits bytes. bodies_length (before (sections bytes) ++ heap_bodies pid (sections bytes)) + (16 * (limits.section + 4) + 128 * binary_count pid bytes);
+  takes = λ limits bytes. bodies_length (before (sections bytes) ++ heap_bodies pid (sections bytes)) + more limits bytes;
 }
+
+-- one that shows terms of it by some of its lines alone: it also takes these lines, 16 bytes for each of
+-- as many bytes as a section's body may have and four more, and 128 for each reference to a binary
+abbrev pub of_part : List ℕ → (List Section → List Section) → (HeapMap → Option Refusal) → (List ℕ → Walk → List ℕ) → Meaning
+of_part pid before refuses text =
+    of_any_size pid before refuses (λ bytes. text bytes (walk_of pid bytes)) (λ text. text) (λ limits bytes. 16 * (limits.section + 4) + 128 * binary_count pid bytes)
+
+-- one that weighs its parts
+abbrev pub of_weights : {A : Type 0} → List ℕ → (List Section → List Section) → (HeapMap → Option Refusal) → (List ℕ → A) → (A → List ℕ) → Meaning
+of_weights pid before refuses what show = of_any_size pid before refuses what show (λ limits bytes. 0)
 
 -- ---- the questions
 
@@ -294,6 +300,9 @@ meaning (peek_roots kind pid first count nodes marked) =
 meaning (ext pid addr) = of_heap pid no_body (no_external addr) (λ bytes heap. unwrap_or (external_at addr heap) []) ext_report
 meaning (reach pid) =
     of_heap {A = Entered} pid (root_bodies pid) never (λ bytes heap. record { heap = heap; terms = root_terms pid bytes }) (λ e. reach_report e.heap (reached_by e.heap.cells e.terms))
+meaning (weigh pid most) = of_weights pid (root_bodies pid) never (λ bytes. root_weighing bytes (index_of bytes) pid) (weights_report most)
+meaning (weigh_cell pid most addr) =
+    of_weights pid no_body (no_address addr) (λ bytes. address_weighing bytes (index_of bytes) pid addr) (λ found. option_map_or (weights_report most) found [])
 meaning (cells pid) = of_heap pid no_body never (λ bytes heap. heap) cells_report
 meaning (binary addr) =
     record (of_bodies (λ ss. option_to_list (binary_section addr ss)) (binary_bytes addr) (binary_report addr)) {

@@ -27,6 +27,7 @@ mod tables;
 mod term;
 mod triage;
 mod trial;
+mod weigh;
 
 use crate::report::run_report;
 use crate::stop::Stop;
@@ -57,6 +58,7 @@ use tables::Table;
 use term::Term;
 use triage::Triage;
 use trial::run_trial;
+use weigh::{Weigh, WeighCell};
 
 /// Runs a command from a device to the sink of its report, and returns its status.
 pub(crate) fn run_command<D: Dumps, K: Sink>(
@@ -171,6 +173,21 @@ fn run_query<D: Dumps, K: Sink>(
         Query::Reach { pid } => {
             let pid = pid.as_bytes();
             run_report(alloc, file, &Reach { pid }, limits, dumps, out)
+        }
+        Query::Weigh { pid, count } => {
+            let pid = pid.as_bytes();
+            run_report(alloc, file, &Weigh { pid, count }, limits, dumps, out)
+        }
+        Query::WeighCell { pid, count, addr } => {
+            let pid = pid.as_bytes();
+            run_report(
+                alloc,
+                file,
+                &WeighCell { pid, count, addr },
+                limits,
+                dumps,
+                out,
+            )
         }
         Query::Cells { pid } => {
             let pid = pid.as_bytes();

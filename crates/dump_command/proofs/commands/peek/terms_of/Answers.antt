@@ -1,6 +1,6 @@
 use Rattle.std.proofs.Common.{◌++◌, sym, ◌∙◌, ap}
 use Rattle.root_views.specs.Seen.{content}
-use Rattle.term_text.specs.Reach.{term_in}
+use Rattle.root_views.specs.Roots.{term_in}
 use Rattle.dump_command.proofs.PartLoads.{elements-more}
 use Rattle.dump_command.proofs.commands.peek.terms_of.Goals as goal
 

@@ -5,7 +5,8 @@ use Rattle.heap_cells.specs.DumpHeaps.{heap_map}
 use Rattle.term_forms.specs.Elements.{Element}
 use Rattle.heap_cells.specs.HeapMap.{HeapMap}
 use Rattle.dump_command.specs.Inner.Loads.{terms_loaded, HoldsRoots}
-use Rattle.dump_command.specs.Meaning.{Entered, never, root_bodies}
+use Rattle.root_views.specs.Sections.{root_bodies}
+use Rattle.dump_command.specs.Meaning.{Entered, never}
 use Rattle.dump_command.proofs.HeapLoads.{roots-at, small-before, terms-told, HasRead-heap, IsHalted-heap, StopsFor-last, Takes-heap}
 use Rattle.dump_command.proofs.Reading.{IsHalted-later, ReadsAtMost-same, ReadsFor-halted}
 use Rattle.dump_command.proofs.commands.reach.ReachReport.read.Goals as goal
