@@ -98,6 +98,54 @@ all-kept held own few all = record {
     whole : (lines : List HeapLine) → IsHeld lines held → first_lines [] lines ≡ lines
     whole lines is = ap (first_lines []) (sym (take-length lines)) ∙ all-first lines (length lines) (each lines is) (omega arith) ∙ take-length lines
 
+-- ---- those that are kept have different addresses
+
+or-right : (b c : Bool) → (b || c) ≡ false → c ≡ false
+or-right true c none = absurd (Rattle.std.proofs.lemmas.Bool.true≢false none)
+or-right false c none = none
+
+or-fewer : (b c d : Bool) → (c ≡ false → d ≡ false) → (b || c) ≡ false → (b || d) ≡ false
+or-fewer true c d fewer none = none
+or-fewer false c d fewer none = fewer none
+
+-- where none passes none does of fewer
+any-fewer : (p : ℕ → Bool) (xs ys : List ℕ) (y : ℕ) → list_any p ((xs ++ y ∷ []) ++ ys) ≡ false → list_any p (xs ++ ys) ≡ false
+any-fewer p [] ys y none = or-right (p y) (list_any p ys) none
+any-fewer p (x ∷ xs) ys y none = or-fewer (p x) (list_any p ((xs ++ y ∷ []) ++ ys)) (list_any p (xs ++ ys)) (any-fewer p xs ys y) none
+
+-- the address of the line with number n is none of those seen, and isn't that of a line before it
+abbrev IsNew : List ℕ → List HeapLine → ℕ → Type 0
+IsNew seen lines n = is_seen (seen ++ map line_address (take n lines)) (line_at lines n) ≡ false
+
+new-unless : (seen : List ℕ) (line : HeapLine) (later : List HeapLine) (b : Bool) → is_seen seen line ≡ b → ((k : ℕ) → k < length later → IsNew (seen ++ line.cell.address ∷ []) later k)
+    → (n : ℕ) → n < length (cond b later (line ∷ later)) → IsNew seen (cond b later (line ∷ later)) n
+new-unless seen line later true is each n inside =
+    any-fewer (λ address. address == (line_at later n).cell.address) seen (map line_address (take n later)) line.cell.address (each n inside)
+new-unless seen line later false is each zero inside = ap (λ l. is_seen l line) (append-nil seen) ∙ is
+new-unless seen line later false is each (suc n) inside =
+    ap (λ l. is_seen l (line_at later n)) (sym (append_assoc seen (line.cell.address ∷ []) (map line_address (take n later)))) ∙ each n (omega (arith, inside))
+
+each-new : (seen : List ℕ) (lines : List HeapLine) (n : ℕ) → n < length (first_lines seen lines) → IsNew seen (first_lines seen lines) n
+each-new seen [] n inside = absurd (omega (arith, inside))
+each-new seen (line ∷ lines) n inside =
+    let seen' = seen ++ line.cell.address ∷ [] in
+    new-unless seen line (first_lines seen' lines) (is_seen seen line) refl (each-new seen' lines) n inside
+
+pub kept-distinct : (held : Held) (kept : Settled) (own : ℕ) → HoldsLines held → AreKept held own kept → AreAllFirst kept.held.parts.items
+kept-distinct held kept own holds are = record {
+  each = λ n inside.
+      let within : n < length lines = omega (arith, inside, lines-count lines kept.held is) in
+      ap (λ l. is_first l n) is.parts ∙ sym (not-not (is_first (parts_of 0 lines) n)) ∙ ap not (sym (seen-first lines n within) ∙ each-new [] holds.lines n within);
+}
+  where
+    lines : List HeapLine
+    lines = first_lines [] holds.lines
+
+    is : IsHeld lines kept.held
+    is = are.held_is holds.lines holds.held_is
+
+-- ---- how many are kept
+
 cond-fewer : (b : Bool) (some all : List HeapLine) (x : HeapLine) → length some ≤ length all → length (cond b some (x ∷ some)) ≤ length (cond b all (x ∷ all))
 cond-fewer true some all x fewer = fewer
 cond-fewer false some all x fewer = omega (arith, fewer)

@@ -1,13 +1,15 @@
 -- Resolving elements one after another.
-use Rattle.std.proofs.Common.{◌≡◌, ℕ, zero, suc, ◌+◌, ◌<◌, ◌≤◌, List, [], ◌∷◌, ◌++◌, length, get_or, set, take, drop, map, Option, refl, sym, ◌∙◌, ap, subst, arith, add-one, drop-cons, append_assoc, length-append}
+use Rattle.std.proofs.Common.{◌≡◌, ℕ, zero, suc, ◌+◌, ◌<◌, ◌≤◌, List, [], ◌∷◌, ◌++◌, length, get_or, set, take, drop, map, Option, Some, refl, sym, ◌∙◌, ap, subst, arith, add-one, drop-cons, append_assoc, length-append}
 use Rattle.std.proofs.lemmas.List.{append-nil, length-map, length-take, map-append, take_all, take_more}
 use Rattle.cell_records.specs.declared.cells.Kind.{Kind}
 use Rattle.heap_skeleton.specs.declared.held.CellPart.{CellPart}
 use Rattle.heap_skeleton.specs.declared.leads.Lead.{Lead}
 use Rattle.heap_skeleton.specs.declared.leads.Lead.TheVariants as lead
 use Rattle.heap_skeleton.specs.Inner.Leads.{mark, marks, nowhere, reference, references}
-use Rattle.heap_skeleton.specs.Inner.Order.{resolved}
-use Rattle.heap_skeleton.specs.Inner.Resolving.{HasAddress, IsResolving}
+use Rattle.heap_skeleton.specs.Inner.Order.{part_with, resolved, AreAllFirst}
+use Rattle.heap_skeleton.specs.Inner.Resolving.{HasAddress, IsResolving, StandsAt}
+use Rattle.heap_skeleton.proofs.FirstFacts.{passes-first}
+use Rattle.heap_skeleton.proofs.OrderFacts.{part-first}
 
 -- ---- a place behind others
 
@@ -22,6 +24,14 @@ set-there [] ys y v zero is = refl
 set-there [] ys y v (suc i) is = absurd (omega (arith, is))
 set-there (x ∷ xs) ys y v zero is = absurd (omega (arith, is))
 set-there (x ∷ xs) ys y v (suc i) is = ap (λ l. x ∷ l) (set-there xs ys y v i (omega (arith, is)))
+
+-- ---- the cell with an address
+
+-- where no two parts have the same address the one that has it is the first
+pub stands-first : (parts : List CellPart) (address number : ℕ) → AreAllFirst parts → StandsAt parts number address → part_with parts address ≡ Some number
+stands-first parts address number all stands =
+    part-first parts address number stands.within stands.address_is
+    (λ m before same. passes-first parts number stands.within (all.each number stands.within) m before (same ∙ sym stands.address_is))
 
 -- ---- the next element
 

@@ -2,7 +2,7 @@
 ghost use Rattle.std.specs.Prelude.{◌≤◌, length, IfOk};
 ghost use Rattle.heap_skeleton.specs.Inner.Held.{IsSmall};
 ghost use Rattle.heap_skeleton.specs.Inner.Keeping.{HoldsLines, AreKept};
-ghost use Rattle.heap_skeleton.specs.Inner.Order.{IsOrder};
+ghost use Rattle.heap_skeleton.specs.Inner.Order.{AreAllFirst, IsOrder};
 
 use crate::firsts::{are_apart, firsts_of};
 use crate::held::Held;
@@ -33,6 +33,7 @@ pub(crate) fn settle(alloc: Global, held: Held, own: u32) -> Result<Ordered, All
     ensures small { IfOk result (λ found. IsSmall found.settled.held) }
     ensures own { IfOk result (λ found. found.settled.own ≤ length found.settled.held.parts.items) }
     ensures kept { IfOk result (λ found. AreKept held own found.settled) }
+    ensures distinct { IfOk result (λ found. AreAllFirst found.settled.held.parts.items) }
     ensures order { IfOk result (λ found. IsOrder found.settled.held.parts.items found.order.items) }
 {
     let order = order_of(alloc, &held.parts)?;

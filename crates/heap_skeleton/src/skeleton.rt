@@ -10,7 +10,7 @@ ghost use Rattle.heap_skeleton.specs.Skeletons.{skeleton_for};
 ghost use Rattle.heap_skeleton.specs.Inner.Held.{HeapLine, IsHeld, IsSmall};
 ghost use Rattle.heap_skeleton.specs.Inner.Keeping.{HoldsLines};
 ghost use Rattle.heap_skeleton.specs.Inner.Leads.{cell_for};
-ghost use Rattle.heap_skeleton.specs.Inner.Order.{IsOrder};
+ghost use Rattle.heap_skeleton.specs.Inner.Order.{AreAllFirst, IsOrder};
 ghost use Rattle.heap_skeleton.specs.Inner.Resolving.{AreResolved};
 ghost use Rattle.heap_skeleton.specs.Inner.Shown.{skeleton_with, AreLaid, IsSpanOf};
 
@@ -86,6 +86,7 @@ fn resolve_leads(
 ) -> Vec<u32>
     requires few { length parts.now < 2 ^ 32 }
     requires order { IsOrder parts.now order.now }
+    requires distinct { AreAllFirst parts.now }
     ensures { AreResolved parts.now kinds.now leads result.items }
 {
     let Leads {
@@ -104,6 +105,7 @@ fn skeleton_of(ordered: Ordered) -> Skeleton
     requires small { IsSmall ordered.settled.held }
     requires own { ordered.settled.own ≤ length ordered.settled.held.parts.items }
     requires order { IsOrder ordered.settled.held.parts.items ordered.order.items }
+    requires distinct { AreAllFirst ordered.settled.held.parts.items }
     ensures { (lines : List HeapLine) → IsHeld lines ordered.settled.held
         → result ≡ skeleton_with ordered.settled.own lines }
 {

@@ -1,17 +1,22 @@
 -- Resolving the addresses of elements.
-use Rattle.std.specs.Prelude.{◌≡◌, ℕ, ◌+◌, List, [], ◌∷◌, ◌++◌, map, take, drop, Option, None, Some}
+use Rattle.std.specs.Prelude.{◌≡◌, ℕ, ◌+◌, ◌<◌, List, length, [], ◌∷◌, ◌++◌, map, take, drop, Option, None, Some}
 use Rattle.std.specs.Borrow.{Bor}
 use Rattle.cell_records.specs.declared.cells.Kind.{Kind}
 use Rattle.heap_skeleton.specs.declared.held.CellPart.{CellPart}
 use Rattle.heap_skeleton.specs.declared.leads.Lead.{Lead}
 use Rattle.heap_skeleton.specs.declared.leads.Leads.{Leads}
 use Rattle.heap_skeleton.specs.Inner.Leads.{mark, marks, reference, references}
-use Rattle.heap_skeleton.specs.Inner.Order.{resolved}
+use Rattle.heap_skeleton.specs.Inner.Order.{address_in, resolved}
 
 -- the element is kept as this mark and this address
 pub record HasAddress (l : Lead) (marked address : ℕ) : Type 0 where
   pub mark_is : mark l ≡ marked
   pub address_is : reference l ≡ address ∷ []
+
+-- there is a part with this number, and it has this address
+pub record StandsAt (parts : List CellPart) (number address : ℕ) : Type 0 where
+  pub within : number < length parts
+  pub address_is : address_in parts number ≡ address
 
 -- the first i elements are resolved, and the addresses of the others are left
 pub record IsResolving (parts : List CellPart) (kinds : List (Option Kind)) (leads : List Lead) (i : ℕ) (numbers left : List ℕ) : Type 0 where
