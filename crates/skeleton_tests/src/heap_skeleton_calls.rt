@@ -11,7 +11,7 @@ use std::process::Abort;
 use std::test::Fail;
 
 // The dump of a process with these lines as its heap and as the literals, on a device that fails these calls.
-fn device(
+pub(crate) fn device(
     alloc: Global,
     version: &str,
     heap: &str,

@@ -1,7 +1,9 @@
-//! Tests of the skeletons of heaps.
+//! Tests of the skeletons of heaps, and of what is read again by them.
 //!
 //! They are separate from what they test, which would otherwise be proved once more together with them.
 #![tactic(auto)]
 
 #[cfg(test)]
 mod heap_skeleton_calls;
+#[cfg(test)]
+mod tuple_fronts_calls;

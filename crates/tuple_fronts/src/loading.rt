@@ -1,0 +1,156 @@
+// Reading the lines of cells.
+ghost use Rattle.std.specs.Prelude.{◌≡◌, ◌+◌, ◌-◌, ◌<◌, ◌≤◌, None, length, map, OnOk, IfOk, IfErr, IfSome};
+ghost use Rattle.dump_io.specs.Dumps.{size_of, IsOpen, ReadsAtMost};
+ghost use Rattle.dump_sections.specs.Bodies.{body_size, section_in};
+ghost use Rattle.dump_sections.specs.Index.{IsBuiltOver};
+ghost use Rattle.heap_cells.specs.Loading.{enc_of};
+ghost use Rattle.tuple_fronts.specs.Loading.{IsFrontsCauseOf};
+ghost use Rattle.tuple_fronts.specs.Inner.Kept.{Keeps};
+ghost use Rattle.std.specs.List.Sorted.{IsStrictlyIncreasing};
+ghost use Rattle.tuple_fronts.specs.Inner.Hearing.{HasCells, HearsBetween, HearsSection, IsSplitAt, KeepsSection, KeepsSections};
+
+use crate::faults::FrontsFault;
+use crate::front_sink::FrontSink;
+use crate::kept::Kept;
+use crate::runs::cells_behind;
+use body_lines::{WholeLinesFault, hear_whole_lines};
+use cell_words::Weighed;
+use dump_io::Dumps;
+use dump_sections::Index;
+use heap_cells::enc_of;
+use heap_skeleton::Skeleton;
+use std::alloc::{AllocError, Global};
+
+// Hears the lines between two offsets of the open file.
+fn hear_lines<D: Dumps>(
+    dumps: &mut D,
+    from: u64,
+    upto: u64,
+    buffer: &mut Vec<u8>,
+    sink: &mut FrontSink<'_>,
+) -> Result<(), FrontsFault>
+    requires open { IsOpen (D.state dumps.old).now }
+    requires within { upto ≤ size_of (D.state dumps.old).now }
+    requires ordered { from ≤ upto }
+    requires cells { HasCells sink.old.skeleton.now sink.old.cells.now }
+    ensures reads { ReadsAtMost (D.state dumps.old) (D.state dumps.new) (upto - from) }
+    ensures fault { IfErr result (IsFrontsCauseOf (D.state dumps.old) (D.state dumps.new)) }
+    ensures hears { OnOk result (HearsBetween sink.old sink.new (D.state dumps.old).now from upto) }
+{
+    match hear_whole_lines(dumps, from, upto, buffer, sink) {
+        Ok(()) => Ok(()),
+        Err(WholeLinesFault::Read) => Err(FrontsFault::Read),
+        Err(WholeLinesFault::Memory) => Err(FrontsFault::Memory),
+        Err(WholeLinesFault::Stopped(_)) => Err(FrontsFault::Memory),
+    }
+}
+
+// Hears the lines of the section at a place. A missing section counts as empty.
+fn hear_section<D: Dumps>(
+    dumps: &mut D,
+    index: &Index,
+    place: Option<usize>,
+    buffer: &mut Vec<u8>,
+    sink: &mut FrontSink<'_>,
+) -> Result<(), FrontsFault>
+    requires over { IsBuiltOver (D.state dumps.old).now index.now }
+    requires place { IfSome place (λ i. i < length index.now.headers) }
+    requires cells { HasCells sink.old.skeleton.now sink.old.cells.now }
+    ensures reads { ReadsAtMost (D.state dumps.old) (D.state dumps.new)
+        (body_size (section_in index.now place)) }
+    ensures fault { IfErr result (IsFrontsCauseOf (D.state dumps.old) (D.state dumps.new)) }
+    ensures hears { OnOk result (HearsSection sink.old sink.new
+        (D.state dumps.old).now (section_in index.now place)) }
+{
+    let Some(i) = place else {
+        return Ok(());
+    };
+    let section = index.section(i);
+    hear_lines(dumps, section.body, section.end, buffer, sink)
+}
+
+// Keeps empty fronts of cells whose lines weren't found.
+fn keep_none(kept: &mut Kept, cells: &[u32]) -> Result<(), AllocError>
+    ensures { OnOk result (Keeps kept.old kept.new (map (λ cell. None) cells.now)) }
+{
+    for _cell in cells {
+        kept.end_front()?;
+    }
+    Ok(())
+}
+
+// Keeps the fronts of cells whose lines are in the section at a place.
+pub(crate) fn keep_section<D: Dumps>(
+    dumps: &mut D,
+    index: &Index,
+    place: Option<usize>,
+    skeleton: &Skeleton,
+    cells: &[u32],
+    buffer: &mut Vec<u8>,
+    kept: Kept,
+) -> Result<Kept, FrontsFault>
+    requires over { IsBuiltOver (D.state dumps.old).now index.now }
+    requires place { IfSome place (λ i. i < length index.now.headers) }
+    requires cells { HasCells skeleton.now cells.now }
+    ensures reads { ReadsAtMost (D.state dumps.old) (D.state dumps.new)
+        (body_size (section_in index.now place)) }
+    ensures fault { IfErr result (IsFrontsCauseOf (D.state dumps.old) (D.state dumps.new)) }
+    ensures keeps { IfOk result (KeepsSection skeleton.now (enc_of index.now.version)
+        (D.state dumps.old).now (section_in index.now place) cells.now kept) }
+{
+    let mut sink = FrontSink {
+        skeleton,
+        cells,
+        enc: enc_of(index.version()),
+        kept,
+    };
+    hear_section(dumps, index, place, buffer, &mut sink)?;
+    let FrontSink {
+        cells: left,
+        mut kept,
+        ..
+    } = sink;
+    keep_none(&mut kept, left)?;
+    Ok(kept)
+}
+
+// How many of these cells are a process's own, which come first.
+fn own_count(cells: &[u32], own: u32) -> usize
+    requires { IsStrictlyIncreasing cells.now }
+    ensures split { IsSplitAt own cells.now result }
+    ensures within { result ≤ length cells.now }
+{
+    cells.partition_point(|n| *n < own)
+}
+
+// The fronts of cells whose lines are in the sections with a heap and with the literals.
+pub(crate) fn keep_fronts<D: Dumps>(
+    alloc: Global,
+    dumps: &mut D,
+    index: &Index,
+    heap: Option<usize>,
+    literals: Option<usize>,
+    skeleton: &Skeleton,
+    cells: &[u32],
+) -> Result<Kept, FrontsFault>
+    requires over { IsBuiltOver (D.state dumps.old).now index.now }
+    requires heap { IfSome heap (λ i. i < length index.now.headers) }
+    requires literals { IfSome literals (λ i. i < length index.now.headers) }
+    requires cells { HasCells skeleton.now cells.now }
+    requires ascending { IsStrictlyIncreasing cells.now }
+    ensures reads { ReadsAtMost (D.state dumps.old) (D.state dumps.new)
+        (body_size (section_in index.now heap) + body_size (section_in index.now literals)) }
+    ensures fault { IfErr result (IsFrontsCauseOf (D.state dumps.old) (D.state dumps.new)) }
+    ensures keeps { IfOk result (KeepsSections skeleton.now (enc_of index.now.version)
+        (D.state dumps.old).now (section_in index.now heap) (section_in index.now literals) cells.now) }
+{
+    let count = own_count(cells, skeleton.own());
+    let own = &cells[..count];
+    let others = cells_behind(cells, count);
+    let mut buffer = Vec::new(alloc);
+    let none = Kept::new(alloc);
+    let kept = keep_section(dumps, index, heap, skeleton, own, &mut buffer, none)?;
+    let mut kept = keep_section(dumps, index, literals, skeleton, others, &mut buffer, kept)?;
+    kept.shrink();
+    Ok(kept)
+}
