@@ -1,0 +1,19 @@
+-- Messages with the shapes of the cells to which they refer.
+use Rattle.std.specs.Prelude.{ℕ, List, [], map, slice_index_or}
+use Rattle.std.specs.Option.{option_map_or}
+use Rattle.message_shapes.specs.Messages.{Message}
+use Rattle.message_shapes.specs.Inner.Telling.{Origin, OfCell, OfText, Told}
+use Rattle.message_shapes.specs.Inner.Tuples.{place_of}
+
+-- the shape of what refers to one of these cells, which have these shapes, or has its own
+abbrev pub shape_with : List ℕ → List (List ℕ) → Origin → List ℕ
+shape_with cells shapes (OfCell cell) = option_map_or (λ i. slice_index_or shapes i []) (place_of cells cell) []
+shape_with cells shapes (OfText text) = text
+
+-- a message
+abbrev pub message_with : List ℕ → List (List ℕ) → Told → Message
+message_with cells shapes told = record { at = told.at; shape = shape_with cells shapes told.source }
+
+-- all messages
+abbrev pub messages_with : List ℕ → List (List ℕ) → List Told → List Message
+messages_with cells shapes all = map (message_with cells shapes) all

@@ -1,0 +1,49 @@
+-- The tuples whose first elements are known.
+use Rattle.std.specs.Prelude.{ℕ, ◌==◌, List, [], ◌∷◌, take, flat_map, position, slice_index_or, Bool, true, false, Option, Some, if◌then◌else◌}
+use Rattle.std.specs.Option.{option_map_or}
+use Rattle.cell_graphs.specs.Graphs.{places_at}
+use Rattle.cell_parts.specs.Kinds.{cell_kind}
+use Rattle.cell_records.specs.declared.cells.Kind.{Kind}
+use Rattle.cell_records.specs.declared.cells.Kind.TheVariants as kind
+use Rattle.heap_skeleton.specs.Skeletons.{SkeletonMap}
+use Rattle.term_forms.specs.Elements.{Element}
+
+-- the place of a number in a list
+abbrev pub place_of : List ℕ → ℕ → Option ℕ
+place_of numbers n = position (λ m. m == n) numbers
+
+-- cells, and of each the first elements
+pub record TupleMap : Type 0 where
+  pub cells : List ℕ
+  pub fronts : List (List Element)
+
+-- the first elements of a cell; of one that isn't among them none
+abbrev pub front_at : TupleMap → ℕ → List Element
+front_at tuples cell = option_map_or (λ i. slice_index_or tuples.fronts i []) (place_of tuples.cells cell) []
+
+-- ---- which are needed
+
+-- a kind is that of tuples
+abbrev pub is_tuple_kind : Option Kind → Bool
+is_tuple_kind (Some kind.Tuple) = true
+is_tuple_kind other = false
+
+-- a cell is a tuple
+abbrev pub is_tuple : SkeletonMap → ℕ → Bool
+is_tuple s cell = is_tuple_kind (cell_kind s.kinds cell)
+
+-- a cell, if it is a tuple
+abbrev pub tuple_or_none : SkeletonMap → ℕ → List ℕ
+tuple_or_none s cell = if is_tuple s cell then cell ∷ [] else []
+
+-- the cell to which a place leads, if it is a tuple
+abbrev pub lead_tuple : SkeletonMap → Option ℕ → List ℕ
+lead_tuple s lead = option_map_or (tuple_or_none s) lead []
+
+-- a cell to which a message refers, if it is a tuple, and those of its first 8 elements that are
+abbrev pub needed_at : SkeletonMap → ℕ → List ℕ
+needed_at s cell = if is_tuple s cell then cell ∷ flat_map (lead_tuple s) (take 8 (places_at s.leads cell)) else []
+
+-- those of several cells
+abbrev pub needed : SkeletonMap → List ℕ → List ℕ
+needed s cells = flat_map (needed_at s) cells

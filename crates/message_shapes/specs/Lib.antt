@@ -1,0 +1,4 @@
+pub mod Inner
+pub mod Loading
+pub mod Messages
+pub mod Shapes

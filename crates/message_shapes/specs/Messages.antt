@@ -1,0 +1,73 @@
+-- The messages of a mailbox, and their shapes. Offsets are of the file.
+use Rattle.std.specs.Prelude.{ℕ, List, [], map, filter, slice_index_or, Option}
+use Rattle.dump_sections.specs.Bodies.{body_in}
+use Rattle.dump_sections.specs.Index.{Contents, sections_in}
+use Rattle.dump_sections.specs.Sections.{Section}
+use Rattle.heap_cells.specs.Cells.{Cell}
+use Rattle.heap_cells.specs.Loading.{heap_section, literals_section}
+use Rattle.heap_skeleton.specs.Skeletons.{body_start, heap_in}
+use Rattle.root_lines.specs.Placed.{placed_roots}
+use Rattle.root_views.specs.Roots.{BodyRoot, is_message}
+use Rattle.root_views.specs.Sections.{root_section}
+use Rattle.root_views.specs.declared.kinds.RootKind.TheVariants.{Mail}
+use Rattle.size_order.specs.Sorting.{most_first}
+use Rattle.text_groups.specs.Groups.{Item, groups}
+use Rattle.text_groups.specs.declared.text_group.TextGroup.{TextGroup}
+use Rattle.message_shapes.specs.Shapes.{message_shape}
+
+-- a message: the offset of its line, and its shape
+pub record Message : Type 0 where
+  pub at : ℕ
+  pub shape : List ℕ
+
+-- the message at a place; past the last one, one at 0 without a shape
+abbrev pub message_at : List Message → ℕ → Message
+message_at messages i = slice_index_or messages i (record { at = 0; shape = [] })
+
+-- that of a root that is one
+abbrev pub message_of : List Cell → BodyRoot → Message
+message_of cells root = record { at = root.at; shape = message_shape cells root.content }
+
+-- those of the roots of a mailbox; tokens are none
+abbrev pub messages_of : List Cell → List BodyRoot → List Message
+messages_of cells roots = map (message_of cells) (filter is_message roots)
+
+-- ---- which of them have the same shape
+
+-- a message as one of those that are grouped
+abbrev pub item_of : Message → Item
+item_of message = record { text = message.shape; weight = 0 }
+
+-- the groups of messages that have the same shape, the largest first, of equal ones that whose first message comes first
+abbrev pub shape_groups : List Message → List TextGroup
+shape_groups messages = most_first (λ group. group.count) (groups (map item_of messages))
+
+-- messages, and their groups
+pub record ShapeMap : Type 0 where
+  pub messages : List Message
+  pub groups : List TextGroup
+
+-- messages with their groups
+abbrev pub grouped_by_shape : List Message → ShapeMap
+grouped_by_shape messages = record { messages = messages; groups = shape_groups messages }
+
+-- ---- those of a process
+
+-- the roots in a section of a dump that is a mailbox; a missing section has none
+abbrev pub roots_in_mail : List ℕ → Option Section → List BodyRoot
+roots_in_mail dump found = placed_roots Mail (body_start found) (body_in dump found)
+
+-- the roots of the mailbox of the process with this pid
+abbrev pub mail_roots : List ℕ → Contents → List ℕ → List BodyRoot
+mail_roots dump index pid = roots_in_mail dump (root_section Mail pid (sections_in index))
+
+-- the cells of its heap, followed by those of the literals
+abbrev pub mail_cells : List ℕ → Contents → List ℕ → List Cell
+mail_cells dump index pid =
+    let sections = sections_in index in
+    let heap = heap_in dump index (heap_section pid sections) (literals_section sections) in
+    heap.cells
+
+-- its messages, with their groups
+abbrev pub mail_shapes : List ℕ → Contents → List ℕ → ShapeMap
+mail_shapes dump index pid = grouped_by_shape (messages_of (mail_cells dump index pid) (mail_roots dump index pid))

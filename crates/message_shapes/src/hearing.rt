@@ -1,0 +1,185 @@
+// Hearing the messages of a mailbox.
+ghost use Rattle.std.specs.Prelude.{◌≡◌, ◌-◌, ◌<◌, ◌≤◌, ◌++◌, [], ◌∷◌, length, codes, IfErr, IfOk, IfSome, OnOk};
+ghost use Rattle.std.specs.Str.{bytes_eq};
+ghost use Rattle.dump_io.specs.Dumps.{size_of, IfTold, IsOpen, ReadsAtMost};
+ghost use Rattle.dump_sections.specs.Bodies.{body_size, section_in};
+ghost use Rattle.dump_sections.specs.Index.{sections_in, IsBuiltOver};
+ghost use Rattle.term_forms.specs.Seen.{element};
+ghost use Rattle.root_lines.specs.Shown.{IsRootsCauseOf};
+ghost use Rattle.root_views.specs.Seen.{content};
+ghost use Rattle.root_views.specs.Sections.{root_section};
+ghost use Rattle.root_views.specs.declared.kinds.RootKind.TheVariants.{Mail};
+ghost use Rattle.message_shapes.specs.Messages.{mail_roots};
+ghost use Rattle.message_shapes.specs.Inner.Hearing.{IsReady, Tells, TellsBetween, TellsSection};
+ghost use Rattle.message_shapes.specs.Inner.Telling.{content_origin, element_origin, plain_shape, roots_told, AreCells, OfText};
+
+use crate::heard::Heard;
+use crate::words::push_plain;
+use dump_io::Dumps;
+use dump_sections::Index;
+use heap_skeleton::Skeleton;
+use root_lines::{EachRoot, RootsFault, hear_roots};
+use root_views::{Root, RootKind, What};
+use std::alloc::{AllocError, Global};
+use term_forms::shapes::Elem;
+
+// Keeps the messages that it hears.
+#[derive(Drop)]
+struct MailSink<'a> {
+    alloc: Global,
+    skeleton: &'a Skeleton,
+    heard: Heard,
+}
+
+// Whether this is the label of a message, and not that of its token.
+fn is_message(label: &[u8]) -> bool
+    ensures { result ≡ bytes_eq label.now (codes "m") }
+{
+    label == b"m".as_slice()
+}
+
+// Keeps a message of which the element leads to no cell.
+fn hear_plain(alloc: Global, heard: &mut Heard, at: u64, e: &Elem<'_>) -> Result<(), AllocError>
+    ensures { OnOk result (heard.new ≡ heard.old
+        ++ record { at = at; source = OfText (plain_shape (element e.now)) } ∷ []) }
+{
+    let mut text = Vec::new(alloc);
+    push_plain(alloc, &mut text, e)?;
+    heard.push_text(at, &text)
+}
+
+// Keeps a message that is a term.
+fn hear_term(
+    alloc: Global,
+    heard: &mut Heard,
+    skeleton: &Skeleton,
+    at: u64,
+    e: &Elem<'_>,
+) -> Result<(), AllocError>
+    requires { AreCells (length skeleton.now.leads) heard.old }
+    ensures cells { OnOk result (AreCells (length skeleton.now.leads) heard.new) }
+    ensures heard { OnOk result (heard.new ≡ heard.old
+        ++ record { at = at; source = element_origin skeleton.now.addresses (element e.now) } ∷ []) }
+{
+    if let Elem::Ref(address) = e {
+        if let Some(cell) = skeleton.find(*address) {
+            return heard.push_cell(at, cell);
+        }
+    }
+    hear_plain(alloc, heard, at, e)
+}
+
+// Keeps a message.
+fn hear_message(
+    alloc: Global,
+    heard: &mut Heard,
+    skeleton: &Skeleton,
+    at: u64,
+    what: &What<'_>,
+) -> Result<(), AllocError>
+    requires { AreCells (length skeleton.now.leads) heard.old }
+    ensures cells { OnOk result (AreCells (length skeleton.now.leads) heard.new) }
+    ensures heard { OnOk result (heard.new ≡ heard.old
+        ++ record { at = at; source = content_origin skeleton.now.addresses (content what.now) } ∷ []) }
+{
+    match what {
+        What::Term(e) => hear_term(alloc, heard, skeleton, at, e),
+        What::Dist(_) => heard.push_text(at, b"distribution()"),
+        What::Info(_) | What::Unread => heard.push_text(at, b"?"),
+    }
+}
+
+impl EachRoot for MailSink<'_> {
+    ghost ready = { IsReady };
+
+    ghost hears = { Tells };
+
+    fn root(&mut self, found: &Root<'_>) -> Result<(), AllocError> {
+        if is_message(found.label) {
+            hear_message(
+                self.alloc,
+                &mut self.heard,
+                self.skeleton,
+                found.at as u64,
+                &found.what,
+            )?;
+        }
+        Ok(())
+    }
+}
+
+// Hears the roots between two offsets of the open file.
+fn hear_between<D: Dumps>(
+    dumps: &mut D,
+    from: u64,
+    upto: u64,
+    buffer: &mut Vec<u8>,
+    sink: &mut MailSink<'_>,
+) -> Result<(), RootsFault>
+    requires open { IsOpen (D.state dumps.old).now }
+    requires within { upto ≤ size_of (D.state dumps.old).now }
+    requires ordered { from ≤ upto }
+    requires ready { IsReady sink.old }
+    ensures reads { ReadsAtMost (D.state dumps.old) (D.state dumps.new) (upto - from) }
+    ensures fault { IfErr result (IsRootsCauseOf (D.state dumps.old) (D.state dumps.new)) }
+    ensures ready { OnOk result (IsReady sink.new) }
+    ensures tells { OnOk result (TellsBetween (D.state dumps.old).now from upto sink.old sink.new) }
+{
+    hear_roots(dumps, from, upto, RootKind::Mail, buffer, sink)?;
+    Ok(())
+}
+
+// Hears the roots in the section at `place`. A missing section has none.
+fn hear_section<D: Dumps>(
+    dumps: &mut D,
+    index: &Index,
+    place: Option<usize>,
+    buffer: &mut Vec<u8>,
+    sink: &mut MailSink<'_>,
+) -> Result<(), RootsFault>
+    requires over { IsBuiltOver (D.state dumps.old).now index.now }
+    requires place { IfSome place (λ i. i < length index.now.headers) }
+    requires ready { IsReady sink.old }
+    ensures reads { ReadsAtMost (D.state dumps.old) (D.state dumps.new)
+        (body_size (section_in index.now place)) }
+    ensures fault { IfErr result (IsRootsCauseOf (D.state dumps.old) (D.state dumps.new)) }
+    ensures ready { OnOk result (IsReady sink.new) }
+    ensures tells { OnOk result (TellsSection (D.state dumps.old).now
+        (section_in index.now place) sink.old sink.new) }
+{
+    match place {
+        Some(i) => {
+            let section = index.section(i);
+            hear_between(dumps, section.body, section.end, buffer, sink)
+        }
+        None => hear_between(dumps, 0, 0, buffer, sink),
+    }
+}
+
+/// Reads the mailbox of a process once and in pieces, and returns its messages, given the skeleton of the heap.
+pub(crate) fn hear_mail<D: Dumps>(
+    alloc: Global,
+    dumps: &mut D,
+    index: &Index,
+    pid: &[u8],
+    skeleton: &Skeleton,
+) -> Result<Heard, RootsFault>
+    requires { IsBuiltOver (D.state dumps.old).now index.now }
+    ensures reads { ReadsAtMost (D.state dumps.old) (D.state dumps.new)
+        (body_size (root_section Mail pid.now (sections_in index.now))) }
+    ensures fault { IfErr result (IsRootsCauseOf (D.state dumps.old) (D.state dumps.new)) }
+    ensures cells { IfOk result (AreCells (length skeleton.now.leads)) }
+    ensures heard { IfOk result (λ heard. IfTold (D.state dumps.old).now (λ dump.
+        heard ≡ roots_told skeleton.now.addresses (mail_roots dump index.now pid.now))) }
+{
+    let mut buffer = Vec::new(alloc);
+    let mut sink = MailSink {
+        alloc,
+        skeleton,
+        heard: Heard::new(alloc),
+    };
+    let place = index.first(RootKind::Mail.tag(), Some(pid));
+    hear_section(dumps, index, place, &mut buffer, &mut sink)?;
+    let MailSink { heard, .. } = sink;
+    Ok(heard)
+}

@@ -1,0 +1,34 @@
+//! The shapes of the messages in a mailbox, whatever its size and that of the heap.
+//!
+//! The *shape* of a message says what kind of term it is, and of a tuple the kinds of its first 8 elements, as in
+//! `{'$gen_cast',{put,_,_}}` or `{event,integer(),list(),map()}` (`specs/Shapes.antt`). [`MailShapes::load`] hears the
+//! messages one by one, looks at each cell to which one refers once, and groups the messages by their shapes, the
+//! largest group first.
+//!
+//! Of the heap its skeleton is kept (`heap_skeleton`), and of the tuples that are looked into the first elements
+//! (`tuple_fronts`), for which the heap is read once more.
+//!
+//! ```text
+//! let shapes = MailShapes::load(alloc, &mut dumps, &index, b"<0.1.0>")?;
+//! for group in shapes.groups() {
+//!     let shape = shapes.shape(group.first); // group.count messages have this shape
+//!     let at = shapes.at(group.first); // where the first of them stands
+//! }
+//! ```
+#![tactic(auto)]
+
+mod cell_set;
+mod cell_texts;
+mod distinct_texts;
+mod faults;
+mod heard;
+mod hearing;
+mod messages;
+mod needed;
+mod shapes;
+mod texts;
+mod tuples;
+mod words;
+
+pub use faults::ShapesFault;
+pub use shapes::MailShapes;

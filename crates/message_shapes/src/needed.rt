@@ -1,0 +1,104 @@
+// Which tuples are looked into.
+ghost use Rattle.std.specs.Prelude.{◌≡◌, ℕ, ◌<◌, ◌++◌, All, Contains, length, min, take, flat_map, IfOk, IfSome, OnOk};
+ghost use Rattle.std.specs.List.Sorted.{IsStrictlyIncreasing};
+ghost use Rattle.cell_graphs.specs.Graphs.{places_at, LeadsWithin};
+ghost use Rattle.message_shapes.specs.Inner.Telling.{origin_cells, AreCells, told_cells};
+ghost use Rattle.message_shapes.specs.Inner.Tuples.{is_tuple, lead_tuple, needed, needed_at, tuple_or_none};
+
+use crate::cell_set::CellSet;
+use crate::heard::{Heard, Source};
+use cell_graphs::CellGraph;
+use cell_parts::Kinded;
+use heap_skeleton::{Kind, Skeleton};
+use std::alloc::{AllocError, Global};
+
+// How many elements of a tuple are shown.
+const SHOWN: usize = 8;
+
+// Whether a cell is a tuple.
+pub(crate) fn is_tuple(skeleton: &Skeleton, cell: u32) -> bool
+    requires { cell < length skeleton.now.leads }
+    ensures { result ≡ is_tuple skeleton.now cell }
+{
+    matches!(Kinded::kind(skeleton, cell), Some(Kind::Tuple))
+}
+
+// Appends the cell to which a place leads, if it is a tuple.
+fn add_lead(skeleton: &Skeleton, cells: &mut Vec<u32>, lead: Option<u32>) -> Result<(), AllocError>
+    requires { IfSome lead (λ n. n < length skeleton.now.leads) }
+    ensures { OnOk result (cells.new.items ≡ cells.old.items ++ lead_tuple skeleton.now lead) }
+{
+    if let Some(cell) = lead {
+        if is_tuple(skeleton, cell) {
+            cells.push(cell)?;
+        }
+    }
+    Ok(())
+}
+
+// How many elements are shown of so many.
+fn shown_of(all: usize) -> usize
+    ensures { result ≡ min all 8 }
+{
+    if all < SHOWN { all } else { SHOWN }
+}
+
+// Appends the tuples among those to which the first places of a cell lead.
+fn add_leads(skeleton: &Skeleton, cells: &mut Vec<u32>, cell: u32) -> Result<(), AllocError>
+    requires cell { cell < length skeleton.now.leads }
+    requires within { LeadsWithin skeleton.now.leads }
+    ensures { OnOk result (cells.new.items ≡ cells.old.items
+        ++ flat_map (lead_tuple skeleton.now) (take 8 (places_at skeleton.now.leads cell))) }
+{
+    for place in 0..shown_of(skeleton.places(cell)) {
+        add_lead(skeleton, cells, skeleton.lead(cell, place))?;
+    }
+    Ok(())
+}
+
+// Appends a cell to which a message refers, if it is a tuple, and the tuples among its first elements.
+fn add_needed(skeleton: &Skeleton, cells: &mut Vec<u32>, cell: u32) -> Result<(), AllocError>
+    requires cell { cell < length skeleton.now.leads }
+    requires within { LeadsWithin skeleton.now.leads }
+    ensures { OnOk result (cells.new.items ≡ cells.old.items ++ needed_at skeleton.now cell) }
+{
+    if !is_tuple(skeleton, cell) {
+        return Ok(());
+    }
+    cells.push(cell)?;
+    add_leads(skeleton, cells, cell)
+}
+
+/// The tuples that are looked into for the shapes of messages that refer to these cells.
+pub(crate) fn needed_cells(
+    alloc: Global,
+    skeleton: &Skeleton,
+    subjects: &CellSet,
+) -> Result<CellSet, AllocError>
+    requires within { LeadsWithin skeleton.now.leads }
+    requires subjects { All (λ n. n < length skeleton.now.leads) subjects.now }
+    ensures all { IfOk result (λ cells. (n : ℕ) → Contains (needed skeleton.now subjects.now) n → Contains cells n) }
+    ensures ascending { IfOk result IsStrictlyIncreasing }
+    ensures within { IfOk result (λ cells. All (λ n. n < length skeleton.now.leads) cells) }
+{
+    let mut cells = Vec::new(alloc);
+    for cell in subjects.numbers() {
+        add_needed(skeleton, &mut cells, *cell)?;
+    }
+    Ok(CellSet::of(cells))
+}
+
+/// The cells to which messages refer.
+pub(crate) fn subject_cells(alloc: Global, heard: &Heard) -> Result<CellSet, AllocError>
+    ensures all { IfOk result (λ cells. (n : ℕ) → Contains (told_cells heard.now) n → Contains cells n) }
+    ensures ascending { IfOk result IsStrictlyIncreasing }
+    ensures within { (size : ℕ) → AreCells size heard.now → IfOk result (λ cells. All (λ n. n < size) cells) }
+{
+    let mut cells = Vec::new(alloc);
+    for i in 0..heard.len() {
+        if let Source::Cell(cell) = heard.source(i) {
+            cells.push(cell)?;
+        }
+    }
+    Ok(CellSet::of(cells))
+}

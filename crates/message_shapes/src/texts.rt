@@ -1,0 +1,90 @@
+// Texts in one pool.
+ghost use Rattle.std.specs.Prelude.{◌≡◌, ◌<◌, ◌≤◌, ◌++◌, [], ◌∷◌, length, slice_get, slice_range, Some, IfOk, if◌then◌else◌};
+ghost use Rattle.std.specs.Result.{is_ok};
+
+use std::alloc::{AllocError, Global};
+use std::marker::Model;
+
+// Where a text stands in the pool.
+#[derive(Clone, Copy)]
+pub(crate) struct Span {
+    pub from: u32,
+    pub upto: u32,
+}
+
+/// Texts, one behind the other. Contracts see the list of them.
+#[derive(Drop)]
+pub(crate) struct Texts {
+    pool: Vec<u8>,
+    spans: Vec<Span>,
+}
+
+impl Model for Texts {
+    ghost use Rattle.std.specs.Prelude.{ℕ, List};
+    ghost use Rattle.message_shapes.specs.Inner.Texts.{shown_texts, AreWithin};
+
+    ghost Value = { List (List ℕ) };
+
+    ghost view = { λ t. shown_texts t.pool.items t.spans.items };
+
+    ghost invariant = { λ t. AreWithin t.pool.items t.spans.items };
+}
+
+// A place in the pool, if it is kept in so few bits.
+fn small(size: usize) -> Result<u32, AllocError>
+    ensures { IfOk result (λ small. small ≡ size) }
+{
+    match u32::try_from(size) {
+        Ok(small) => Ok(small),
+        Err(_) => Err(AllocError),
+    }
+}
+
+// The part of the pool between two places.
+fn part_of(pool: &[u8], from: usize, upto: usize) -> &[u8]
+    requires ordered { from ≤ upto }
+    requires within { upto ≤ length pool.now }
+    ensures { result.now ≡ slice_range pool.now from upto }
+{
+    &pool[from..upto]
+}
+
+impl Texts {
+    /// No texts.
+    pub(crate) fn new(alloc: Global) -> Texts
+        ensures { result ≡ [] }
+    {
+        Texts {
+            pool: Vec::new(alloc),
+            spans: Vec::new(alloc),
+        }
+    }
+
+    /// How many texts there are.
+    pub(crate) fn len(&self) -> usize
+        ensures { result ≡ length self.now }
+    {
+        self.spans.len()
+    }
+
+    /// Appends a text. Together they have less than 4 GiB; more is answered as want of memory.
+    pub(crate) fn push(&mut self, text: &[u8]) -> Result<(), AllocError>
+        ensures { self.new ≡ (if is_ok result then self.old ++ text.now ∷ [] else self.old) }
+    {
+        self.spans.reserve(1)?;
+        let from = small(self.pool.len())?;
+        let upto = small(self.pool.len().saturating_add(text.len()))?;
+        self.pool.extend_from_slice(text)?;
+        self.spans.push_reserved(Span { from, upto });
+        Ok(())
+    }
+
+    /// The text at a place.
+    pub(crate) fn get(&self, i: usize) -> &[u8]
+        requires { i < length self.now }
+        ensures { slice_get self.now i ≡ Some result.now }
+    {
+        let span = self.spans[i];
+        part_of(&self.pool, span.from as usize, span.upto as usize)
+    }
+}
