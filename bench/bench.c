@@ -119,12 +119,12 @@ static int write_list(const char *name, long cells, int shuffled) {
     return end_dump(f);
 }
 
-// Lists of a hundred cells, in lines of 40 bytes, and ten messages that refer to some of them.
-static int write_messages(const char *name, long cells) {
+// Lists of a hundred cells, in lines of 40 bytes, and messages that refer to some of them.
+static int write_messages(const char *name, long cells, long messages) {
     FILE *f = fopen(name, "w");
     if (!f) return 1;
     fprintf(f, "=erl_crash_dump:0.5\n=proc:<0.1.0>\nState: Waiting\n=proc_messages:<0.1.0>\n");
-    for (long i = 0; i < 10; i++) fprintf(f, "H%lX:N\n", address(cells / 1000 * i * 100, 0));
+    for (long i = 0; i < messages; i++) fprintf(f, "H%lX:N\n", address(cells / 100 * i / messages * 100, 0));
     fprintf(f, "=proc_heap:<0.1.0>\n");
     for (long i = 0; i < cells; i++) {
         if (i % 100 < 99) fprintf(f, "%012lX:lI%010ld|H%012lX\n", address(i, 0), i, address(i + 1, 0));
@@ -387,7 +387,7 @@ int main(int count, char **words) {
     if (count == 5 && !strcmp(words[1], "procs")) return write_processes(words[2], atol(words[3]), atol(words[4]));
     if (count == 4 && !strcmp(words[1], "stacks")) return write_stacks(words[2], atol(words[3]));
     if (count == 5 && !strcmp(words[1], "list")) return write_list(words[2], atol(words[3]), atoi(words[4]));
-    if (count == 4 && !strcmp(words[1], "messages")) return write_messages(words[2], atol(words[3]));
+    if (count == 5 && !strcmp(words[1], "messages")) return write_messages(words[2], atol(words[3]), atol(words[4]));
     if (count == 4 && !strcmp(words[1], "tuples")) return write_tuples(words[2], atol(words[3]));
     if (count == 4 && !strcmp(words[1], "graph")) return write_graph(words[2], atol(words[3]));
     if (count == 5 && !strcmp(words[1], "binaries")) return write_binaries(words[2], atol(words[3]), atol(words[4]));

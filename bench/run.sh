@@ -4,7 +4,7 @@
 # a program in C that only reads the same, and `edump stacks` beside `edump procs`; then the load of heaps, beside the reading
 # of their lines through `heap_line` and `form`, `edump term` beside a program in C that writes the same, and the walk of a
 # term; then `edump peek` of ten messages beside a program in C that looks for each line's address, and beside `edump mail`, and
-# `edump weigh` beside `edump reach` or, of a heap of 4 GiB, beside `edump peek`;
+# `edump weigh` beside `edump reach` or, of a heap of 4 GiB, beside `edump peek`, and `edump shapes` beside `edump weigh`;
 # then the previews of binaries, and `edump binaries` beside `edump index` and a program in C that reads the same; then an external term, read and written;
 # then `edump audit` beside `edump procs`, and `edump audit-json` beside `edump audit`; and then `edump redact` of a dump of
 # 1 GiB beside `cat`, each into a file that isn't there before. Each command runs in turn for a number of rounds; the script
@@ -143,7 +143,7 @@ rm -f "$folder/out" "$folder/plain"
 # Ten messages of heaps that are loaded, and of one of 4 GiB that isn't, and which of them holds how much.
 for cells in 1000000 10000000 100000000; do
     rm -f "$folder"/*.times
-    "$bench" messages "$dump" "$cells" || exit 1
+    "$bench" messages "$dump" "$cells" 10 || exit 1
     sync "$dump"
     for _ in $(seq "$rounds"); do
         round addresses /dev/null "$bench" addresses "$dump"
@@ -164,6 +164,18 @@ for cells in 1000000 10000000 100000000; do
     tell reach "edump reach" mail "edump mail"
     tell weigh "edump weigh" reach "edump reach"
 done
+
+# A million messages of such a heap: what kinds of them there are, and which holds how much.
+rm -f "$folder"/*.times
+"$bench" messages "$dump" 100000000 1000000 || exit 1
+sync "$dump"
+for _ in $(seq "$rounds"); do
+    round weigh /dev/null "$edump" weigh "$dump" "<0.1.0>"
+    round shapes /dev/null "$edump" shapes "$dump" "<0.1.0>"
+done
+echo "a heap of 100000000 cells, a million messages, $(wc -c <"$dump") bytes:"
+tell weigh "edump weigh" weigh itself
+tell shapes "edump shapes" weigh "edump weigh"
 
 # References to binaries, over few and over many sections.
 for sections in 10000 100000; do

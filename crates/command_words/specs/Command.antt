@@ -10,7 +10,7 @@ use Rattle.table_sections.specs.declared.kinds.TableKind.TheVariants as kinds
 use Rattle.command_words.specs.declared.words.Cmd.{Cmd}
 use Rattle.command_words.specs.declared.words.Cmd.TheVariants.{On, Make, Trial}
 use Rattle.command_words.specs.declared.words.Query.{Query}
-use Rattle.command_words.specs.declared.words.Query.TheVariants.{Index, Info, Procs, Proc, Memory, Field, Table, Roots, Term, PeekTerm, PeekRoots, Ext, Reach, Weigh, WeighCell, Cells, Binary, Binaries, Holders, Triage, Stacks, Links, Redact, Audit, AuditJson}
+use Rattle.command_words.specs.declared.words.Query.TheVariants.{Index, Info, Procs, Proc, Memory, Field, Table, Roots, Term, PeekTerm, PeekRoots, Ext, Reach, Shapes, Weigh, WeighCell, Cells, Binary, Binaries, Holders, Triage, Stacks, Links, Redact, Audit, AuditJson}
 use Rattle.command_words.specs.Budgets.{budget_of}
 use Rattle.command_words.specs.Ranges.{number_upto}
 
@@ -37,6 +37,8 @@ pub data Ask : Type 0 where
   ext : List ℕ → ℕ → Ask
   -- what the roots of the process with this pid reach
   reach : List ℕ → Ask
+  -- what kinds of messages the process with this pid has in its mailbox, at most this many of them
+  shapes : List ℕ → ℕ → Ask
   -- what each of the cells alone holds to which the roots of the process with this pid refer, at most this many of them
   weigh : List ℕ → ℕ → Ask
   -- the same of the cells to which the elements of the cell at this address refer
@@ -85,6 +87,7 @@ shown_query (PeekTerm pid addr nodes marked) = peek_term pid.now addr nodes mark
 shown_query (PeekRoots kind pid first count nodes marked) = peek_roots kind pid.now first count nodes marked
 shown_query (Ext pid addr) = ext pid.now addr
 shown_query (Reach pid) = reach pid.now
+shown_query (Shapes pid count) = shapes pid.now count
 shown_query (Weigh pid count) = weigh pid.now count
 shown_query (WeighCell pid count addr) = weigh_cell pid.now count addr
 shown_query (Cells pid) = cells pid.now
@@ -153,6 +156,12 @@ abbrev pub ext_query : List ℕ → List (List ℕ) → Option Ask
 ext_query pid (addr ∷ []) = option_map (ext pid) (hex_number addr)
 ext_query pid words = None
 
+-- kinds of messages, at most 10 or a number of them from 1 to 1,000
+abbrev pub shapes_query : List ℕ → List (List ℕ) → Option Ask
+shapes_query pid [] = Some (shapes pid 10)
+shapes_query pid (count ∷ []) = option_map (shapes pid) (number_upto 1000 count)
+shapes_query pid words = None
+
 -- what parts of a heap hold: those of a process, at most 10 or a number of them
 -- from 1 to 1,000, or of the cell at an address, which is in hex
 abbrev pub weigh_query : List ℕ → List (List ℕ) → Option Ask
@@ -179,10 +188,11 @@ process_query name word words =
     else (if bytes_eq name (codes "mail") then roots_query bodies.Mail word words
     else (if bytes_eq name (codes "term") then term_query term word words
     else (if bytes_eq name (codes "peek") then peek_query word words
+    else (if bytes_eq name (codes "shapes") then shapes_query word words
     else (if bytes_eq name (codes "weigh") then weigh_query word words
     else (if bytes_eq name (codes "ext") then ext_query word words
     else (if bytes_eq name (codes "audit") then audit_query audit word words
-    else (if bytes_eq name (codes "audit-json") then audit_query audit_json word words else None))))))))
+    else (if bytes_eq name (codes "audit-json") then audit_query audit_json word words else None)))))))))
 
 -- what a command asks with another word
 abbrev pub word_query : List ℕ → List ℕ → Option Ask
@@ -228,6 +238,7 @@ IsAskInRange (roots kind pid nodes marked) = 0 < nodes
 IsAskInRange (term pid addr nodes marked) = 0 < nodes
 IsAskInRange (peek_term pid addr nodes marked) = 0 < nodes
 IsAskInRange (peek_roots kind pid first count nodes marked) = (0 < nodes) × (1 ≤ count) × (count ≤ 1000)
+IsAskInRange (shapes pid count) = (1 ≤ count) × (count ≤ 1000)
 IsAskInRange (weigh pid count) = (1 ≤ count) × (count ≤ 1000)
 IsAskInRange (weigh_cell pid count addr) = (1 ≤ count) × (count ≤ 1000)
 IsAskInRange (triage count) = (1 ≤ count) × (count ≤ 1000)

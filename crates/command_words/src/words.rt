@@ -2,7 +2,7 @@
 ghost use Rattle.std.specs.Prelude.{◌≡◌, ◌<◌, ℕ, Bool, [], List, map, option_map};
 ghost use Rattle.std.specs.Option.{IfSome};
 ghost use Rattle.std.specs.String.{string_bytes};
-ghost use Rattle.command_words.specs.Command.{Ask, audit, audit_json, audit_query, binary, command, ext_query, full_of, holders, on, peek_query, peek_term, plain_query, process_query, roots_query, shown_command, shown_query, some_roots_query, stacks, term, term_query, triage, weigh_query, word_command, word_query, IsAskInRange, IsInRange};
+ghost use Rattle.command_words.specs.Command.{Ask, audit, audit_json, audit_query, binary, command, ext_query, full_of, holders, on, peek_query, peek_term, plain_query, process_query, roots_query, shapes_query, shown_command, shown_query, some_roots_query, stacks, term, term_query, triage, weigh_query, word_command, word_query, IsAskInRange, IsInRange};
 ghost use Rattle.command_words.specs.Ranges.{number_upto};
 ghost use Rattle.dump_io.specs.Numbers.{hex_number};
 
@@ -13,11 +13,11 @@ use dump_io::{dec_u64, hex_u64};
 use root_views::RootKind;
 use table_sections::TableKind;
 
-// How many rows of each table `triage` shows, how many groups `stacks`
-// and how many parts `weigh`, if the words have no number.
+// How many rows of each table `triage` shows, how many groups `stacks`, how many
+// kinds of messages `shapes` and how many parts `weigh`, if the words have no number.
 const USUAL_ROWS: u32 = 10;
 
-// The most rows, groups, parts or roots for which a number in the words may ask.
+// The most rows, groups, kinds, parts or roots for which a number in the words may ask.
 const MOST_ROWS: u32 = 1_000;
 
 /// A command with its words.
@@ -98,6 +98,12 @@ pub enum Query<'a> {
     /// `reach FILE PID`: which cells of a process's heap its roots don't reach, and how many they do reach.
     Reach {
         pid: &'a str,
+    },
+    /// `shapes FILE PID [N]`: what kinds of messages are in a process's mailbox, at most
+    /// N of them, the most frequent first, whatever the sizes of the mailbox and of the heap.
+    Shapes {
+        pid: &'a str,
+        count: u32,
     },
     /// `weigh FILE PID [N]`: which of the cells to which a process's roots refer alone hold
     /// how much of its heap, at most N of them, whatever the size of the heap.
@@ -281,6 +287,7 @@ fn process_query<'a>(name: &str, word: &'a str, words: &[String]) -> Option<Quer
         "mail" => roots_query(RootKind::Mail, word, words),
         "term" => term_query(word, words),
         "peek" => peek_query(word, words),
+        "shapes" => shapes_query(word, words),
         "weigh" => weigh_query(word, words),
         "ext" => ext_query(word, words),
         "audit" => audit_query(word, words),
@@ -385,6 +392,24 @@ fn peek_query<'a>(pid: &'a str, words: &[String]) -> Option<Query<'a>>
         "dict" => some_roots_query(RootKind::Dict, pid, rest),
         "mail" => some_roots_query(RootKind::Mail, pid, rest),
         _ => peek_term_query(pid, words),
+    }
+}
+
+fn shapes_query<'a>(pid: &'a str, words: &[String]) -> Option<Query<'a>>
+    ensures reads { option_map shown_query result
+        ≡ shapes_query pid.now (map string_bytes words.now) }
+    ensures range { IfSome result (λ query. IsAskInRange (shown_query query)) }
+{
+    match words {
+        [] => Some(Query::Shapes {
+            pid,
+            count: USUAL_ROWS,
+        }),
+        [count] => {
+            let count = number_upto(count.as_str(), MOST_ROWS)?;
+            Some(Query::Shapes { pid, count })
+        }
+        _ => None,
     }
 }
 

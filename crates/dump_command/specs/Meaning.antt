@@ -17,6 +17,7 @@ use Rattle.report_text.specs.Reports.{index_report, info_report}
 use Rattle.report_text.specs.Tables.{fields_report, procs_report, rows_report, values_report}
 use Rattle.root_views.specs.Kinds.{roots_in}
 use Rattle.root_views.specs.Sections.{root_bodies, root_section}
+use Rattle.root_views.specs.declared.kinds.RootKind.TheVariants.{Mail}
 use Rattle.process_table.specs.Fields.{field_table}
 use Rattle.process_table.specs.Processes.{Process, process_table}
 use Rattle.process_table.specs.Records.{record_sections}
@@ -44,12 +45,14 @@ use Rattle.audit_bodies.specs.Mailboxes.{audited_sections}
 use Rattle.audit_text.specs.Findings.{audit_report}
 use Rattle.dump_audit.specs.Findings.{Audit, findings}
 use Rattle.dump_audit.specs.declared.finding.Finding.{Finding}
+use Rattle.message_shapes.specs.Messages.{mail_shapes}
+use Rattle.shape_text.specs.Shapes.{shapes_report}
 use Rattle.part_weights.specs.Weights.{address_weighing, root_weighing}
 use Rattle.weight_text.specs.Weights.{weights_report}
 use Rattle.json_report.specs.Trees.{audit_tree, json_text}
 use Rattle.dump_redact.specs.Redacted.{redacted}
 use Rattle.dump_redact.specs.Refusals.{heap_sections}
-use Rattle.command_words.specs.Command.{Ask, index, info, procs, proc, memory, field, table, roots, term, peek_term, peek_roots, ext, reach, weigh, weigh_cell, cells, binary, binaries, holders, triage, stacks, links, redact, audit, audit_json}
+use Rattle.command_words.specs.Command.{Ask, index, info, procs, proc, memory, field, table, roots, term, peek_term, peek_roots, ext, reach, shapes, weigh, weigh_cell, cells, binary, binaries, holders, triage, stacks, links, redact, audit, audit_json}
 use Rattle.dump_command.specs.Terms.{bad_binary, base_of, binary_bytes, binary_cause, binary_count, external_at, no_address, no_external, root_terms, too_dense}
 use Rattle.dump_command.specs.Triage.{Told, triage_over}
 
@@ -300,6 +303,8 @@ meaning (peek_roots kind pid first count nodes marked) =
 meaning (ext pid addr) = of_heap pid no_body (no_external addr) (λ bytes heap. unwrap_or (external_at addr heap) []) ext_report
 meaning (reach pid) =
     of_heap {A = Entered} pid (root_bodies pid) never (λ bytes heap. record { heap = heap; terms = root_terms pid bytes }) (λ e. reach_report e.heap (reached_by e.heap.cells e.terms))
+meaning (shapes pid most) =
+    of_any_size pid (λ ss. option_to_list (root_section Mail pid ss)) never (λ bytes. mail_shapes bytes (index_of bytes) pid) (shapes_report most) (λ limits bytes. bodies_length (heap_bodies pid (sections bytes)))
 meaning (weigh pid most) = of_weights pid (root_bodies pid) never (λ bytes. root_weighing bytes (index_of bytes) pid) (weights_report most)
 meaning (weigh_cell pid most addr) =
     of_weights pid no_body (no_address addr) (λ bytes. address_weighing bytes (index_of bytes) pid addr) (λ found. option_map_or (weights_report most) found [])

@@ -21,6 +21,7 @@ mod procs;
 mod reach;
 mod redact;
 mod roots;
+mod shapes;
 mod stacks;
 mod subjects;
 mod tables;
@@ -52,6 +53,7 @@ use procs::ProcessTable;
 use reach::Reach;
 use redact::run_redact;
 use roots::Roots;
+use shapes::Shapes;
 use stacks::StackGroups;
 use std::alloc::Global;
 use tables::Table;
@@ -173,6 +175,10 @@ fn run_query<D: Dumps, K: Sink>(
         Query::Reach { pid } => {
             let pid = pid.as_bytes();
             run_report(alloc, file, &Reach { pid }, limits, dumps, out)
+        }
+        Query::Shapes { pid, count } => {
+            let pid = pid.as_bytes();
+            run_report(alloc, file, &Shapes { pid, count }, limits, dumps, out)
         }
         Query::Weigh { pid, count } => {
             let pid = pid.as_bytes();

@@ -1,6 +1,6 @@
 // Why a command ended without its whole report.
 ghost use Rattle.std.specs.Prelude.{◌≡◌};
-ghost use Rattle.dump_command.specs.Inner.Stops.{or_stop, stop_of_opening, stop_of_body, stop_of_large, stop_of_heap, stop_of_previews, stop_of_table, stop_of_part, stop_of_roots, stop_of_weights, stop_of_holders, stop_of_stacks, stop_of_redact, stop_of_json};
+ghost use Rattle.dump_command.specs.Inner.Stops.{or_stop, stop_of_opening, stop_of_body, stop_of_large, stop_of_heap, stop_of_previews, stop_of_table, stop_of_part, stop_of_roots, stop_of_shapes, stop_of_weights, stop_of_holders, stop_of_stacks, stop_of_redact, stop_of_json};
 
 use binary_holders::HolderFault;
 use binary_refs::PreviewFault;
@@ -11,6 +11,7 @@ use heap_cells::HeapFault;
 use heap_lines::TableFault;
 use heap_parts::PartFault;
 use json_report::JsonFault;
+use message_shapes::ShapesFault;
 use part_weights::WeightsFault;
 use process_stacks::StackFault;
 use report_text::Refusal;
@@ -129,6 +130,17 @@ impl From<RootsFault> for Stop {
         match fault {
             RootsFault::Read => Stop::NotRead,
             RootsFault::Memory => Stop::NoMemory,
+        }
+    }
+}
+
+impl From<ShapesFault> for Stop {
+    ghost from_gives = { λ fault stop. stop ≡ stop_of_shapes fault };
+
+    fn from(fault: ShapesFault) -> Stop {
+        match fault {
+            ShapesFault::Read => Stop::NotRead,
+            ShapesFault::Memory => Stop::NoMemory,
         }
     }
 }

@@ -11,6 +11,7 @@ use Rattle.heap_lines.specs.declared.faults.TableFault.TheVariants as table_faul
 use Rattle.heap_parts.specs.declared.faults.PartFault.TheVariants as part_faults
 use Rattle.root_lines.specs.declared.faults.RootsFault.TheVariants as roots_faults
 use Rattle.part_weights.specs.declared.faults.WeightsFault.TheVariants as weights_faults
+use Rattle.message_shapes.specs.declared.faults.ShapesFault.TheVariants as shapes_faults
 use Rattle.std.specs.Prelude.{◌≡◌, ℕ, Result, Ok, Err, Option, None, Some}
 use Rattle.dump_sections.specs.declared.bodies.BodyFault.{BodyFault}
 use Rattle.dump_sections.specs.declared.bodies.LargeSection.{LargeSection}
@@ -28,6 +29,7 @@ use Rattle.heap_lines.specs.declared.faults.TableFault.{TableFault}
 use Rattle.heap_parts.specs.declared.faults.PartFault.{PartFault}
 use Rattle.root_lines.specs.declared.faults.RootsFault.{RootsFault}
 use Rattle.part_weights.specs.declared.faults.WeightsFault.{WeightsFault}
+use Rattle.message_shapes.specs.declared.faults.ShapesFault.{ShapesFault}
 use Rattle.report_text.specs.declared.refusals.Refusal.{Refusal}
 use Rattle.dump_command.specs.Report.{large_refusal}
 use Rattle.dump_command.specs.Run.{EndsTold}
@@ -128,6 +130,11 @@ stop_of_roots roots_faults.Memory = NoMemory
 abbrev pub stop_of_weights : WeightsFault → Stop
 stop_of_weights weights_faults.Read = NotRead
 stop_of_weights weights_faults.Memory = NoMemory
+
+-- the stop of a command for which the shapes of messages aren't found
+abbrev pub stop_of_shapes : ShapesFault → Stop
+stop_of_shapes shapes_faults.Read = NotRead
+stop_of_shapes shapes_faults.Memory = NoMemory
 
 -- if there is no cause of a refusal, the command goes on, and otherwise
 -- it is refused for that cause; memory may be lacking at any time

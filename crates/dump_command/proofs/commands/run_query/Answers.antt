@@ -1,5 +1,5 @@
 use Rattle.std.proofs.Common.{sym, ◌∙◌, ap}
-use Rattle.command_words.specs.Command.{shown_query, cells, ext, field, peek_roots, peek_term, proc, reach, roots, term, weigh, weigh_cell}
+use Rattle.command_words.specs.Command.{shown_query, cells, ext, field, peek_roots, peek_term, proc, reach, roots, shapes, term, weigh, weigh_cell}
 use Rattle.dump_command.proofs.Runs.{runs-asked}
 use Rattle.dump_command.proofs.commands.run_query.Goals as goal
 
@@ -45,6 +45,9 @@ returns-in-Ext g c = runs-asked (ap shown_query c.in-Ext.is ∙ ap (λ p. ext p 
 
 pub returns-in-Reach : goal.returns-in-Reach
 returns-in-Reach g c = runs-asked (ap shown_query c.in-Reach.is ∙ ap reach (sym c.as_bytes-pid-in-Reach.ensures.value)) c.run_report-in-Reach.ensures
+
+pub returns-in-Shapes : goal.returns-in-Shapes
+returns-in-Shapes g c = runs-asked (ap shown_query c.in-Shapes.is ∙ ap (λ p. shapes p c.in-Shapes.count) (sym c.as_bytes-pid-in-Shapes.ensures.value)) c.run_report-in-Shapes.ensures
 
 pub returns-in-Weigh : goal.returns-in-Weigh
 returns-in-Weigh g c = runs-asked (ap shown_query c.in-Weigh.is ∙ ap (λ p. weigh p c.in-Weigh.count) (sym c.as_bytes-pid-in-Weigh.ensures.value)) c.run_report-in-Weigh.ensures
