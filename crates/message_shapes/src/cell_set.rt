@@ -31,6 +31,7 @@ impl CellSet {
     {
         numbers.sort_unstable();
         numbers.dedup();
+        numbers.shrink_to_fit();
         CellSet { sorted: numbers }
     }
 

@@ -89,6 +89,13 @@ impl Heard {
         Ok(())
     }
 
+    /// Gives back what the list has grown to hold beyond these messages.
+    pub(crate) fn shrink(&mut self)
+        ensures { self.new ≡ self.old }
+    {
+        self.found.shrink_to_fit();
+    }
+
     /// The offset of the message at a place.
     pub(crate) fn at(&self, i: usize) -> u64
         requires { i < length self.now }

@@ -180,6 +180,7 @@ pub(crate) fn hear_mail<D: Dumps>(
     };
     let place = index.first(RootKind::Mail.tag(), Some(pid));
     hear_section(dumps, index, place, &mut buffer, &mut sink)?;
-    let MailSink { heard, .. } = sink;
+    let MailSink { mut heard, .. } = sink;
+    heard.shrink();
     Ok(heard)
 }
