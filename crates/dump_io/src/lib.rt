@@ -43,7 +43,7 @@ pub use file::DumpFile;
 pub use held_dump::HeldDump;
 pub use hex::{HexText, hex_digit, hex_pair, put_hex, put_hex_bytes};
 pub use limits::Limits;
-pub use lines::{line_len, line_text, lines_are_one, text_before_lf};
+pub use lines::{bytes_from, line_len, line_text, lines_are_one, text_before_lf};
 pub use mem_dumps::MemDumps;
 pub use mem_sink::MemSink;
 pub use numbers::{dec_u64, hex_front, hex_u64, is_digits, put_dec};

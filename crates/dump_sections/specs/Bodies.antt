@@ -1,5 +1,5 @@
 -- Sections by their places, and their bodies.
-use Rattle.std.specs.Prelude.{◌≡◌, ℕ, ◌-◌, ◌≤◌, List, [], length, slice_get, Option, Some, unwrap_or, option_map}
+use Rattle.std.specs.Prelude.{◌≡◌, ℕ, ◌-◌, ◌<◌, ◌≤◌, List, [], length, slice_get, IfSome, Option, Some, unwrap_or, option_map}
 use Rattle.std.specs.List.{between}
 use Rattle.std.specs.Option.{option_map_or}
 use Rattle.dump_io.specs.Dumps.{Now, closed, told, sized}
@@ -19,6 +19,10 @@ section_at index i = at_place (sections_in index) i
 abbrev pub section_in : Contents → Option ℕ → Option Section
 section_in index place = option_map (section_at index) place
 
+-- a place is that of a section of an index, if there is one
+abbrev pub IsPlaceIn : Contents → Option ℕ → Type 0
+IsPlaceIn index place = IfSome place (λ i. i < length index.headers)
+
 -- how many bytes the body of a section has
 abbrev pub body_length : Section → ℕ
 body_length section = section.end - section.body
@@ -26,6 +30,10 @@ body_length section = section.end - section.body
 -- the body of a section in the bytes of a dump
 abbrev pub body_of : List ℕ → Section → List ℕ
 body_of dump section = between section.body section.end dump
+
+-- where the body of a section that may be missing begins in the file
+abbrev pub body_start : Option Section → ℕ
+body_start found = option_map_or (λ s. s.body) found 0
 
 -- how many bytes the body has of a section that may be missing, which counts as empty
 abbrev pub body_size : Option Section → ℕ

@@ -1,9 +1,11 @@
 // The index of a dump.
-ghost use Rattle.std.specs.Prelude.{◌≡◌, ◌+◌, ◌<◌, ◌≤◌, length, slice_get, Some, All};
+ghost use Rattle.std.specs.Prelude.{◌≡◌, ℕ, ◌+◌, ◌-◌, ◌<◌, ◌≤◌, List, length, slice_get, Some, All};
+ghost use Rattle.std.specs.List.{between};
 ghost use Rattle.std.specs.Option.{option_copied};
+ghost use Rattle.dump_io.specs.Dumps.{Now, size_of};
 ghost use Rattle.dump_io.specs.Limits.{usual};
-ghost use Rattle.dump_sections.specs.Bodies.{section_at};
-ghost use Rattle.dump_sections.specs.Index.{Contents, AreBounded, HasShortLine, sections_in, dump_state, IsLastPlace};
+ghost use Rattle.dump_sections.specs.Bodies.{body_in, body_size, body_start, section_at, section_in, IsPlaceIn};
+ghost use Rattle.dump_sections.specs.Index.{Contents, AreBounded, HasShortLine, IsBuiltOver, sections_in, dump_state, IsLastPlace};
 ghost use Rattle.dump_sections.specs.Sections.{sections_of, end_at, tag_of, id_of};
 ghost use Rattle.dump_sections.specs.Shown.{shown_extent, shown_section};
 ghost use Rattle.dump_sections.specs.Tiling.{Tile};
@@ -197,5 +199,23 @@ impl Index {
             tag,
             id,
         }
+    }
+
+    /// The offsets in the file at which the body of the section at a place, from 0, begins and
+    /// ends. A section that is missing counts as an empty one at the beginning of the file.
+    pub fn body_at(&self, place: Option<usize>) -> (u64, u64)
+        requires { IsPlaceIn self.now place }
+        ensures start { result.0 ≡ body_start (section_in self.now place) }
+        ensures ordered { result.0 ≤ result.1 }
+        ensures size { result.1 - result.0 ≡ body_size (section_in self.now place) }
+        ensures body { (dump : List ℕ) → between result.0 result.1 dump
+            ≡ body_in dump (section_in self.now place) }
+        ensures within { (now : Now) → IsBuiltOver now self.now → result.1 ≤ size_of now }
+    {
+        let Some(i) = place else {
+            return (0, 0);
+        };
+        let section = self.extent(i);
+        (section.body, section.end)
     }
 }

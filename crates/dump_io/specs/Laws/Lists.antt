@@ -1,8 +1,10 @@
 -- Lists in general: elements that pass a test, what stands at a place, and a list that more follows.
-use Rattle.std.proofs.Common.{◌≡◌, ℕ, ◌+◌, ◌<◌, ◌≤◌, Bool, true, false, cond, ltb, not, List, [], ◌∷◌, ◌++◌, length, map, get_or, slice_get, None, Some, refl, sym, ◌∙◌, ap, subst, length-drop, arith}
-use Rattle.std.specs.Prelude.{All, IfSome, ◌||◌, drop, filter, nat_lt, take, unwrap_or}
-use Rattle.std.specs.List.{between, list_all, list_any, position, position_or_len}
-use Rattle.std.proofs.lemmas.Bool.{lt-ltb, le-ltb, and_parts, and_from}
+use Rattle.std.proofs.Common.{◌≡◌, ℕ, zero, suc, ◌+◌, ◌-◌, ◌<◌, ◌≤◌, Bool, true, false, cond, ltb, not, List, [], ◌∷◌, ◌++◌, length, map, get_or, slice_get, Option, None, Some, refl, sym, ◌∙◌, ap, subst, length-drop, arith}
+use Rattle.std.specs.Prelude.{All, IfSome, ◌||◌, drop, filter, nat_lt, replicate, slice_range, take, unwrap_or}
+use Rattle.std.specs.List.{AllByRecursion, between, cons_option, enumerate_from, filter_map, list_all, list_any, position, position_or_len}
+use Rattle.std.specs.Option.{option_to_list}
+use Rattle.std.proofs.Math.Seq.{drop-append_seam, take-length}
+use Rattle.std.proofs.lemmas.Bool.{lt-ltb, le-ltb, and_parts, and_from, or_parts}
 use Rattle.std.proofs.lemmas.List.{drop-append-le, take-append-le, length-map, take_more, drop_more}
 use Rattle.std.proofs.lemmas.List.Elements.{All-nil, All-cons, All-head, All-tail}
 use Rattle.std.proofs.lemmas.List.Sums.{position_or_len_is}
@@ -86,3 +88,55 @@ drop-at xs i x is = drop_more xs i x (slice_get_within xs i x is) ∙ ap (λ y. 
 -- a part of a list stays when more follows the list
 pub between-grown : {X : Type 0} (xs more : List X) (from upto : ℕ) → from ≤ upto → upto ≤ length xs → between from upto (xs ++ more) ≡ between from upto xs
 between-grown xs more from upto ordered within = grind (arith, drop-append-le, take-append-le, length-drop)
+
+-- what follows a list, as a part of both
+pub range-last : {X : Type 0} (xs more : List X) → slice_range (xs ++ more) (length xs) (length xs + length more) ≡ more
+range-last xs more =
+    let size : length xs + length more - length xs ≡ length more = omega arith in
+    ap (take (length xs + length more - length xs)) (drop-append_seam xs more) ∙ ap (λ n. take n more) size ∙ take-length more
+
+-- the element at a place, and what is behind it
+pub drop-next : {X : Type 0} (xs : List X) (i : ℕ) (x : X) (rest : List X) → drop i xs ≡ x ∷ rest → (slice_get xs i ≡ Some x) × (drop (suc i) xs ≡ rest)
+drop-next [] zero x rest is = let no : [] ≡ x ∷ rest = is in cc
+drop-next [] (suc i) x rest is = let no : [] ≡ x ∷ rest = is in cc
+drop-next (y ∷ ys) zero x rest is = let same : y ∷ ys ≡ x ∷ rest = is in let first : y ≡ x = cc in let later : ys ≡ rest = cc in (ap Some first, later)
+drop-next (y ∷ ys) (suc i) x rest is = drop-next ys i x rest is
+
+-- the numbered elements, with one more
+pub enumerate-push : {X : Type 0} (n : ℕ) (xs : List X) (x : X) → enumerate_from n (xs ++ x ∷ []) ≡ enumerate_from n xs ++ (n + length xs, x) ∷ []
+enumerate-push n [] x = let here : n ≡ n + 0 = omega arith in ap (λ m. (m, x) ∷ []) here
+enumerate-push n (y ∷ xs) x =
+    let there : n + 1 + length xs ≡ n + length (y ∷ xs) = omega arith in
+    ap (λ l. (n, y) ∷ l) (enumerate-push (n + 1) xs x ∙ ap (λ m. enumerate_from (n + 1) xs ++ (m, x) ∷ []) there)
+
+-- the numbered element at a place
+pub enumerate-at : {X : Type 0} (n : ℕ) (xs : List X) (i : ℕ) (x : X) → slice_get xs i ≡ Some x → slice_get (enumerate_from n xs) i ≡ Some (n + i, x)
+enumerate-at n [] i x is = cc
+enumerate-at n (y ∷ xs) zero x is = grind arith
+enumerate-at n (y ∷ xs) (suc i) x is = grind (arith, enumerate-at (n + 1) xs i x is)
+
+-- what is made of one element
+pub filter_map-one : {X Y : Type 0} (h : X → Option Y) (x : X) → filter_map h (x ∷ []) ≡ option_to_list (h x)
+filter_map-one {Y = Y} h x = of (h x)
+  where
+    of : (o : Option Y) → cons_option o [] ≡ option_to_list o
+    of None = refl
+    of (Some y) = refl
+
+-- if none passes, each fails
+pub none_passes : {X : Type 0} (p : X → Bool) (xs : List X) → list_any p xs ≡ false → AllByRecursion (λ y. p y ≡ false) xs
+none_passes p [] none = tt
+none_passes p (x ∷ xs) none = let parts = or_parts (p x) (list_any p xs) none in (parts.0, none_passes p xs parts.1)
+
+-- a list of tests none of which was passed
+pub none-on : (size n : ℕ) → get_or (replicate size false) n false ≡ false
+none-on zero zero = refl
+none-on zero (suc n) = refl
+none-on (suc size) zero = refl
+none-on (suc size) (suc n) = none-on size n
+
+-- two tests that imply each other
+pub same-bools : (x y : Bool) → (x ≡ true → y ≡ true) → (y ≡ true → x ≡ true) → x ≡ y
+same-bools true y one other = sym (one refl)
+same-bools false true one other = other refl
+same-bools false false one other = refl
